@@ -1,0 +1,10 @@
+pub mod KeyLemmas
+pub mod Maps
+pub mod MapLaws
+pub mod Odd
+pub mod Retired
+pub mod GatherLemmas
+pub mod PlacesLemmas
+pub mod StackLemmas
+pub mod ContentLemmas
+pub mod StepLemmas

@@ -1,0 +1,79 @@
+-- What a primary map holds now.
+use Rattle.std.specs.Prelude.{◌≡◌, ℕ, ◌+◌, ◌-◌, ◌^◌, ◌<◌, ◌≤◌, Option, Some, Bool, true, List, ◌∷◌, length, ◌⊎◌}
+use Rattle.std.specs.Ordering.{nat_cmp}
+use Rattle.std.specs.FinMap as map
+use Rattle.std.specs.FinSet as set
+use Rattle.slotmap_core.specs.Key.{Key, IsKey, is_last, key_cmp}
+
+pub record Content (V : Type 0) : Type 0 where
+  pub live : map.FinMap key_cmp V
+  pub detached : set.FinSet key_cmp
+  -- the last key of each place that is used up
+  pub retired : set.FinSet key_cmp
+  -- the version that the next key at each vacant index will have
+  pub next : map.FinMap nat_cmp ℕ
+  -- the key that the next insert answers
+  pub offer : Key
+  -- the vacant indices, last freed first, where the map keeps them so
+  pub stack : Option (List ℕ)
+  -- so many inserts aren't refused for memory
+  pub room : ℕ
+  -- the number that `capacity` answers
+  pub capacity : ℕ
+
+-- the number of places that a map has at most
+abbrev pub most : ℕ
+most = 2 ^ 32 - 2
+
+module _ {V : Type 0} where
+  -- the number of places that no insert can take: those of live, detached and retired keys
+  abbrev pub used : Content V → ℕ
+  used c = map.len c.live + set.len c.detached + set.len c.retired
+
+  abbrev pub places : Content V → ℕ
+  places c = used c + map.len c.next
+
+  abbrev pub IsLive : Content V → Key → Type 0
+  IsLive c k = map.contains_key c.live k ≡ true
+
+  abbrev pub IsDetached : Content V → Key → Type 0
+  IsDetached c k = set.contains c.detached k ≡ true
+
+  abbrev pub IsRetired : Content V → Key → Type 0
+  IsRetired c k = set.contains c.retired k ≡ true
+
+  abbrev pub IsVacant : Content V → ℕ → Type 0
+  IsVacant c i = map.contains_key c.next i ≡ true
+
+  -- live or detached
+  abbrev pub Stands : Content V → Key → Type 0
+  Stands c k = IsLive c k ⊎ IsDetached c k
+
+  -- live, detached or retired: k has a place that no insert can take
+  abbrev pub Uses : Content V → Key → Type 0
+  Uses c k = Stands c k ⊎ IsRetired c k
+
+  -- the stack has each vacant index once, and its top is the index of the offer
+  pub record IsStack (c : Content V) (stack : List ℕ) : Type 0 where
+    pub lists : (i : ℕ) → set.contains (set.from_list {R = nat_cmp} stack) i ≡ map.contains_key c.next i
+    pub once : length stack ≡ map.len c.next
+    pub top : used c < most → (i : ℕ) (rest : List ℕ) → stack ≡ i ∷ rest → c.offer.index ≡ i
+
+  -- what holds of every content; a map that reuses its places has room for as many inserts as places are vacant
+  pub record IsContent (reuses : Bool) (c : Content V) : Type 0 where
+    pub keys : (k : Key) → Uses c k → IsKey k
+    pub vacancies : (i v : ℕ) → map.get c.next i ≡ Some v → IsKey (record { index = i; version = v })
+    pub last : (k : Key) → IsRetired c k → is_last k ≡ true
+    -- each index from 1 to `places` belongs to exactly one of the four
+    pub within : (k : Key) → Uses c k → (1 ≤ k.index) × (k.index ≤ places c)
+    pub vacant : (i : ℕ) → IsVacant c i → (1 ≤ i) × (i ≤ places c)
+    pub apart : (a b : Key) → Uses c a → Uses c b → a.index ≡ b.index → a ≡ b
+    pub live_or_detached : (k : Key) → IsLive c k → IsDetached c k → ⊥
+    pub stands_or_retired : (k : Key) → Stands c k → IsRetired c k → ⊥
+    pub used_or_vacant : (k : Key) → Uses c k → IsVacant c k.index → ⊥
+    pub limit : places c ≤ most
+    pub offers : used c < most → (map.get c.next c.offer.index ≡ Some c.offer.version) ⊎ ((map.len c.next ≡ 0) × (c.offer.index ≡ places c + 1) × (c.offer.version ≡ 1))
+    pub stacked : (stack : List ℕ) → c.stack ≡ Some stack → IsStack c stack
+    pub room_fits : c.room + used c ≤ most
+    pub reused : reuses ≡ true → map.len c.next ≤ c.room
+    pub capacity_fits : map.len c.live ≤ c.capacity

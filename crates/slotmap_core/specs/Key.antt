@@ -1,0 +1,59 @@
+-- A key: an index and an odd version.
+use Rattle.std.specs.Prelude.{◌≡◌, ℕ, ◌+◌, ◌-◌, ◌*◌, ◌/◌, ◌%◌, ◌^◌, ◌<◌, Bool, List, nat_eq, nat_le, ◌&&◌, ◌↔◌, IsTrue, if◌then◌else◌}
+use Rattle.std.specs.declared.cmp.Ordering.{Ordering}
+use Rattle.std.specs.Ordering.{ordering_then, nat_cmp}
+use Rattle.std.proofs.Common.{rules}
+use Rattle.std.specs.Hash as fed
+
+pub record Key : Type 0 where
+  pub index : ℕ
+  pub version : ℕ
+
+-- by index, and then by version
+abbrev pub key_cmp : Key → Key → Ordering
+key_cmp a b = ordering_then (nat_cmp a.index b.index) (nat_cmp a.version b.version)
+
+-- both parts are numbers of 32 bits, the version is odd, and the greatest index has one key alone
+pub record IsKey (k : Key) : Type 0 where
+  pub index_fits : k.index < 2 ^ 32
+  pub version_fits : k.version < 2 ^ 32
+  pub odd : k.version % 2 ≡ 1
+  pub one_null : k.index ≡ 2 ^ 32 - 1 → k.version ≡ 1
+
+abbrev pub null_key : Key
+null_key = record { index = 2 ^ 32 - 1; version = 1 }
+
+-- the greatest version: no key follows it at its index
+abbrev pub last_version : ℕ
+last_version = 2 ^ 32 - 1
+
+abbrev pub is_last : Key → Bool
+is_last k = nat_eq k.version last_version
+
+-- the version of the key after k at its index, where k isn't the last one there
+abbrev pub next_version : Key → ℕ
+next_version k = k.version + 2
+
+-- a key as one number of 64 bits
+abbrev pub ffi : Key → ℕ
+ffi k = k.version * 2 ^ 32 + k.index
+
+-- the odd one of a pair of versions
+abbrev pub made_odd : ℕ → ℕ
+made_odd v = v / 2 * 2 + 1
+
+-- the key of an index and a version: the greatest index has version 1 alone
+abbrev pub key_from : ℕ → ℕ → Key
+key_from index version = record { index = index; version = if nat_eq index (2 ^ 32 - 1) then 1 else made_odd version }
+
+-- whether version a is older than b: versions go round, and from b on, a lies in the half that ends before b
+abbrev pub is_older : ℕ → ℕ → Bool
+is_older a b = nat_le (2 ^ 31) ((a + 2 ^ 32 - b) % 2 ^ 32)
+
+-- what a hash reads of a key: its one number
+abbrev pub hashed : Key → List (List ℕ)
+hashed k = fed.u64 (ffi k)
+
+-- two keys are equal where both of their parts are
+pub same_keys : (a b : Key) → IsTrue (nat_eq a.index b.index && nat_eq a.version b.version) ↔ a ≡ b
+same_keys a b = search rules

@@ -1,0 +1,102 @@
+-- Laws of the replies to a list of commands.
+use Rattle.std.specs.Prelude.{◌≡◌, ◌≢◌, ℕ, ◌<◌, List, [], ◌∷◌, ◌++◌, length, Option, Some, None, Ok, ⊤, ◌⊎◌}
+use Rattle.std.specs.List.{IsDistinct, AllByRecursion, AllZip}
+use Rattle.std.specs.Ordering.{eq_by_cmp}
+use Rattle.slotmap_core.specs.Key.{Key, key_cmp}
+use Rattle.slotmap_core.specs.Lifo.{IsBasic, answers, no_places}
+use Rattle.slotmap_core.specs.declared.commands.Command.{Command}
+use Rattle.slotmap_core.specs.declared.commands.Command.TheVariants as command
+use Rattle.slotmap_core.specs.declared.commands.DetachCommand.{DetachCommand}
+use Rattle.slotmap_core.specs.declared.commands.DetachCommand.TheVariants as detaching
+use Rattle.slotmap_core.specs.declared.commands.Reply.{Reply}
+use Rattle.slotmap_core.specs.declared.commands.Reply.TheVariants as reply
+
+module _ {K V R E : Type 0} (data_of : K → Key) where
+  -- the key that a reply answers, if it does
+  abbrev pub told : Reply K V R E → List Key
+  told (reply.Key k) = data_of k ∷ []
+  told _ = []
+
+  -- the keys that the replies answer, in order
+  abbrev pub keys_told : List (Reply K V R E) → List Key
+  keys_told [] = []
+  keys_told (r ∷ rs) = told r ++ keys_told rs
+
+  -- no key is answered twice
+  abbrev pub NoKeyTwice : List (Reply K V R E) → Type 0
+  NoKeyTwice replies = IsDistinct (eq_by_cmp key_cmp) (keys_told replies)
+
+-- once Remove of a key answered a value, Get of it answers none; of makes a command of the list from a plain one
+abbrev pub RemovedForGood : {K V R E C : Type 0} → (Command K V → C) → List C → List (Reply K V R E) → Type 0
+RemovedForGood {K} {V} {R} {E} {C} of commands replies =
+    (before between after : List C) (told_before told_between told_after : List (Reply K V R E)) (key : K) (v : V) (looked : Option R)
+    → length before ≡ length told_before → length between ≡ length told_between
+    → commands ≡ before ++ of (command.Remove key) ∷ (between ++ of (command.Get key) ∷ after)
+    → replies ≡ told_before ++ reply.Taken (Some v) ∷ (told_between ++ reply.Looked looked ∷ told_after)
+    → looked ≡ None
+
+-- the command inserts
+abbrev pub Grows : {K V : Type 0} → Command K V → Type 0
+Grows (command.Insert v) = ⊤
+Grows command.InsertWith = ⊤
+Grows _ = ⊥
+
+-- the command inserts or reattaches
+abbrev pub DetachGrows : {K V : Type 0} → DetachCommand K V → Type 0
+DetachGrows (detaching.Plain c) = Grows c
+DetachGrows (detaching.Reattach k v) = ⊤
+DetachGrows (detaching.Detach k) = ⊥
+
+-- the reply refuses for want of places or of memory
+abbrev pub IsRefusal : {K V R E : Type 0} → Reply K V R E → Type 0
+IsRefusal (reply.Full back) = ⊤
+IsRefusal (reply.Memory back) = ⊤
+IsRefusal _ = ⊥
+
+-- once Reserve of n is done, none of the next n commands is refused where it inserts or reattaches
+abbrev pub ReserveHolds : {K V R E C : Type 0} → (Command K V → C) → (C → Type 0) → List C → List (Reply K V R E) → Type 0
+ReserveHolds {K} {V} {R} {E} {C} of Grows commands replies =
+    (before between after : List C) (told_before told_between told_after : List (Reply K V R E)) (n : ℕ) (c : C) (answer : Reply K V R E)
+    → length before ≡ length told_before → length between ≡ length told_between
+    → length between < n → Grows c
+    → commands ≡ before ++ of (command.Reserve n) ∷ (between ++ c ∷ after)
+    → replies ≡ told_before ++ reply.Done ∷ (told_between ++ answer ∷ told_after)
+    → IsRefusal answer → ⊥
+
+-- the command, so answered, doesn't reattach k
+abbrev pub Spares : {K V R E : Type 0} → (K → Key) → Key → DetachCommand K V → Reply K V R E → Type 0
+Spares data_of k (detaching.Reattach other v) reply.Done = data_of other ≢ k
+Spares data_of k _ _ = ⊤
+
+module _ {K V R E : Type 0} (data_of : K → Key) where
+  -- once Detach of a key answered a value, no later reply answers that key
+  abbrev pub DetachedNotReissued : List (DetachCommand K V) → List (Reply K V R E) → Type 0
+  DetachedNotReissued commands replies =
+      (before after : List (DetachCommand K V)) (told_before told_after : List (Reply K V R E)) (key : K) (v : V)
+      → length before ≡ length told_before
+      → commands ≡ before ++ detaching.Detach key ∷ after
+      → replies ≡ told_before ++ reply.Taken (Some v) ∷ told_after
+      → AllByRecursion (λ other. other ≢ data_of key) (keys_told data_of told_after)
+
+  -- once Detach of a key answered a value, and until a Reattach of it is done, a Reattach of it is done, or refused for memory with its value back
+  abbrev pub DetachedReattaches : List (DetachCommand K V) → List (Reply K V R E) → Type 0
+  DetachedReattaches commands replies =
+      (before between after : List (DetachCommand K V)) (told_before told_between told_after : List (Reply K V R E)) (key : K) (v w : V) (answer : Reply K V R E)
+      → length before ≡ length told_before → length between ≡ length told_between
+      → AllZip (Spares data_of (data_of key)) between told_between
+      → commands ≡ before ++ detaching.Detach key ∷ (between ++ detaching.Reattach key w ∷ after)
+      → replies ≡ told_before ++ reply.Taken (Some v) ∷ (told_between ++ answer ∷ told_after)
+      → (answer ≡ reply.Done) ⊎ (answer ≡ reply.Memory (Some w))
+
+-- once Reattach of a key and a value is done, Replace of that key answers that value
+abbrev pub ReattachBinds : {K V R E : Type 0} → List (DetachCommand K V) → List (Reply K V R E) → Type 0
+ReattachBinds {K} {V} {R} {E} commands replies =
+    (before after : List (DetachCommand K V)) (told_before told_after : List (Reply K V R E)) (key : K) (w u : V) (answer : Reply K V R E)
+    → length before ≡ length told_before
+    → commands ≡ before ++ detaching.Reattach key w ∷ detaching.Plain (command.Replace key u) ∷ after
+    → replies ≡ told_before ++ reply.Done ∷ answer ∷ told_after
+    → answer ≡ reply.Put (Ok w)
+
+-- the inserts of such a list, where none is refused, answer the keys of the machine that uses the place freed last first
+abbrev pub LastFreedFirst : {K V R E : Type 0} → (K → Key) → List (DetachCommand K V) → List (Reply K V R E) → Type 0
+LastFreedFirst data_of commands replies = AllByRecursion IsBasic commands → AllByRecursion (λ answer. IsRefusal answer → ⊥) replies → keys_told data_of replies ≡ answers data_of no_places commands

@@ -1,0 +1,125 @@
+-- The steps of the primary maps' machine: which replies may come to a command, and what state they leave.
+use Rattle.std.specs.Prelude.{◌≡◌, ◌≢◌, ℕ, ◌+◌, ◌<◌, ◌≤◌, Some, None, Bool, true, false, Ok, Err, if◌then◌else◌, map as list_map}
+use Rattle.std.specs.FinMap as map
+use Rattle.std.specs.FinSet as set
+use Rattle.slotmap_core.specs.Key.{Key}
+use Rattle.slotmap_core.specs.Content.{most}
+use Rattle.slotmap_core.specs.Listing.{IsListing, IsKeyListing}
+use Rattle.slotmap_core.specs.Machine.{State, Fresh, used, bound, without, with_value, emptied, with_promise, set_aside, put_back}
+use Rattle.slotmap_core.specs.Given.{Given}
+use Rattle.slotmap_core.specs.declared.commands.Command.{Command}
+use Rattle.slotmap_core.specs.declared.commands.Command.TheVariants as command
+use Rattle.slotmap_core.specs.declared.commands.DetachCommand.{DetachCommand}
+use Rattle.slotmap_core.specs.declared.commands.DetachCommand.TheVariants as detaching
+use Rattle.slotmap_core.specs.declared.commands.Reply.{Reply}
+use Rattle.slotmap_core.specs.declared.commands.Reply.TheVariants as reply
+
+-- no place is left
+pub record IsFull {V : Type 0} (s : State V) : Type 0 where
+  pub at_limit : used s ≡ most
+  pub not_promised : s.promised ≡ 0
+
+module _ {K V R E : Type 0} (given : Given K V R E) where
+  -- an insert may be refused for memory
+  pub record MayLack (s : State V) : Type 0 where
+    pub below_limit : used s ≢ most
+    pub not_promised : s.promised ≡ 0
+    pub at_peak : given.reuses ≡ true → used s ≡ s.peak
+
+  abbrev pub StepInsert : State V → V → Reply K V R E → State V → Type 0
+  StepInsert old v (reply.Key k) new = (used old ≢ most) × Fresh old (given.data_of k) × (new ≡ bound old (given.data_of k) v)
+  StepInsert old v (reply.Full back) new = IsFull old × (back ≡ Some v) × (new ≡ old)
+  StepInsert old v (reply.Memory back) new = MayLack old × (back ≡ Some v) × (new ≡ old)
+  StepInsert old v _ new = ⊥
+
+  abbrev pub StepInsertWith : State V → Reply K V R E → State V → Type 0
+  StepInsertWith old (reply.Key k) new = (used old ≢ most) × Fresh old (given.data_of k) × ((v : V) × given.makes k (Ok v) × (new ≡ bound old (given.data_of k) v))
+  StepInsertWith old (reply.Full back) new = IsFull old × (back ≡ None) × (new ≡ old)
+  StepInsertWith old (reply.Memory back) new = MayLack old × (back ≡ None) × (new ≡ old)
+  StepInsertWith old (reply.Failed e) new = (used old ≢ most) × ((k : K) × Fresh old (given.data_of k) × given.makes k (Err e)) × (new ≡ old)
+  StepInsertWith old _ new = ⊥
+
+  abbrev pub StepReserve : State V → ℕ → Reply K V R E → State V → Type 0
+  StepReserve old n reply.Done new = (used old + n ≤ most) × (new ≡ with_promise old n)
+  StepReserve old n reply.TooGreat new = (most < used old + n) × (new ≡ old)
+  StepReserve old n (reply.Memory back) new = (used old + n ≤ most) × (back ≡ None) × (new ≡ old)
+  StepReserve old n _ new = ⊥
+
+  abbrev pub StepGet : State V → Key → Reply K V R E → State V → Type 0
+  StepGet old k (reply.Looked None) new = (map.get old.live k ≡ None) × (new ≡ old)
+  StepGet old k (reply.Looked (Some r)) new = ((v : V) × (map.get old.live k ≡ Some v) × given.looks v r) × (new ≡ old)
+  StepGet old k _ new = ⊥
+
+  abbrev pub StepContains : State V → Key → Reply K V R E → State V → Type 0
+  StepContains old k (reply.Flag is) new = (is ≡ map.contains_key old.live k) × (new ≡ old)
+  StepContains old k _ new = ⊥
+
+  abbrev pub StepLen : State V → Reply K V R E → State V → Type 0
+  StepLen old (reply.Len n) new = (n ≡ map.len old.live) × (new ≡ old)
+  StepLen old _ new = ⊥
+
+  abbrev pub StepReplace : State V → Key → V → Reply K V R E → State V → Type 0
+  StepReplace old k v (reply.Put (Ok before)) new = (map.get old.live k ≡ Some before) × (new ≡ with_value old k v)
+  StepReplace old k v (reply.Put (Err back)) new = (map.get old.live k ≡ None) × (back ≡ v) × (new ≡ old)
+  StepReplace old k v _ new = ⊥
+
+  abbrev pub StepRemove : State V → Key → Reply K V R E → State V → Type 0
+  StepRemove old k (reply.Taken (Some v)) new = (map.get old.live k ≡ Some v) × (new ≡ without old k)
+  StepRemove old k (reply.Taken None) new = (map.get old.live k ≡ None) × (new ≡ old)
+  StepRemove old k _ new = ⊥
+
+  abbrev pub StepDetach : State V → Key → Reply K V R E → State V → Type 0
+  StepDetach old k (reply.Taken (Some v)) new = (map.get old.live k ≡ Some v) × (new ≡ set_aside old k)
+  StepDetach old k (reply.Taken None) new = (map.get old.live k ≡ None) × (new ≡ old)
+  StepDetach old k _ new = ⊥
+
+  abbrev pub StepReattach : State V → Key → V → Reply K V R E → State V → Type 0
+  StepReattach old k v reply.Done new = (set.contains old.detached k ≡ true) × (new ≡ put_back old k v)
+  StepReattach old k v (reply.NotDetached back) new = (set.contains old.detached k ≡ false) × (back ≡ v) × (new ≡ old)
+  StepReattach old k v (reply.Memory back) new = (set.contains old.detached k ≡ true) × (old.promised ≡ 0) × (back ≡ Some v) × (new ≡ old)
+  StepReattach old k v _ new = ⊥
+
+  -- of each live pair the closure answers whether it stays, and with what value
+  pub record Retains (old new : State V) : Type 0 where
+    pub each : (k : Key) (v : V) → map.get old.live k ≡ Some v → (key : K) × (w : V) × (stays : Bool) × (given.data_of key ≡ k) × given.keeps key v w stays × (map.get new.live k ≡ (if stays then Some w else None))
+    pub no_more : (k : Key) → map.get old.live k ≡ None → map.get new.live k ≡ None
+    pub rest : new ≡ record old { live = new.live }
+
+  abbrev pub StepRetain : State V → Reply K V R E → State V → Type 0
+  StepRetain old reply.Done new = Retains old new
+  StepRetain old _ new = ⊥
+
+  abbrev pub StepClear : State V → Reply K V R E → State V → Type 0
+  StepClear old reply.Done new = new ≡ emptied old
+  StepClear old _ new = ⊥
+
+  abbrev pub StepDrain : State V → Reply K V R E → State V → Type 0
+  StepDrain old (reply.Drained pairs) new = IsListing old.live (list_map (λ p. (given.data_of p.0, p.1)) pairs.items) × (new ≡ emptied old)
+  StepDrain old (reply.Memory back) new = (back ≡ None) × (new ≡ old)
+  StepDrain old _ new = ⊥
+
+  abbrev pub StepKeys : State V → Reply K V R E → State V → Type 0
+  StepKeys old (reply.Keys keys) new = IsKeyListing old.live (list_map given.data_of keys.items) × (new ≡ old)
+  StepKeys old (reply.Memory back) new = (back ≡ None) × (new ≡ old)
+  StepKeys old _ new = ⊥
+
+  -- from old, the machine may give this reply to the command and go on to new
+  abbrev pub Step : State V → Command K V → Reply K V R E → State V → Type 0
+  Step old (command.Insert v) r new = StepInsert old v r new
+  Step old command.InsertWith r new = StepInsertWith old r new
+  Step old (command.Get k) r new = StepGet old (given.data_of k) r new
+  Step old (command.Contains k) r new = StepContains old (given.data_of k) r new
+  Step old (command.Replace k v) r new = StepReplace old (given.data_of k) v r new
+  Step old (command.Remove k) r new = StepRemove old (given.data_of k) r new
+  Step old command.Retain r new = StepRetain old r new
+  Step old command.Clear r new = StepClear old r new
+  Step old command.Drain r new = StepDrain old r new
+  Step old command.Keys r new = StepKeys old r new
+  Step old command.Len r new = StepLen old r new
+  Step old (command.Reserve n) r new = StepReserve old n r new
+
+  -- the same for the maps whose keys can be detached
+  abbrev pub DetachStep : State V → DetachCommand K V → Reply K V R E → State V → Type 0
+  DetachStep old (detaching.Plain c) r new = Step old c r new
+  DetachStep old (detaching.Detach k) r new = StepDetach old (given.data_of k) r new
+  DetachStep old (detaching.Reattach k v) r new = StepReattach old (given.data_of k) v r new
