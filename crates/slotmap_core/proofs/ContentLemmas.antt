@@ -1,16 +1,18 @@
 -- What places and a stack that are well hold, as a content of a primary map.
-use Rattle.std.proofs.Common.{◌≡◌, ◌⊎◌, inl, inr, ℕ, ◌+◌, ◌≤◌, Bool, true, false, cond, nat_eq, ◌||◌, ◌==◌, List, [], ◌∷◌, length, slice_get, Option, None, Some, is_some, refl, sym, ap, subst, ◌∙◌, arith, eqb-true, eq-eqb}
+use Rattle.std.proofs.Common.{◌≡◌, ◌⊎◌, inl, inr, ℕ, ◌+◌, ◌≤◌, Bool, true, false, cond, nat_eq, ◌||◌, ◌==◌, List, [], ◌∷◌, length, slice_get, Option, None, Some, is_some, refl, sym, ap, subst, ◌∙◌, arith, eqb-true, eq-eqb, ⊎_elim}
 use Rattle.std.specs.List.{list_any}
 use Rattle.std.proofs.lemmas.Option.{slice_get_within, same_Some}
 use Rattle.std.specs.FinMap as map
 use Rattle.std.specs.FinSet as set
 use Rattle.slotmap_core.specs.Key.{Key, last_version}
-use Rattle.slotmap_core.specs.Content.{IsContent, IsStack, Uses, places}
+use Rattle.slotmap_core.specs.Content.{Content, IsContent, IsStack, IsLive, Stands, Uses, places}
+use Rattle.slotmap_core.specs.Transition.{with_value}
 use Rattle.slotmap_core.specs.Places.{Place, Live, Detached, Vacant, Retired, live, detached, next, live_value, is_kept}
 use Rattle.slotmap_core.specs.StackMap.{StackMap, content, offer, IsOn, IsVersion, HasVersion, IsStacked}
 use Rattle.slotmap_core.proofs.PlacesLemmas.{key, get-live, contains-detached, retired_at, get-next_at, vacant_at, total}
 use Rattle.slotmap_core.proofs.StackLemmas.{not_first}
-use Rattle.slotmap_core.proofs.Maps.{same_bool}
+use Rattle.slotmap_core.proofs.Maps.{same_bool, in_after_insert, still_in}
+use Rattle.slotmap_core.proofs.KeyLemmas.{keys_total, exact_keys}
 
 some_is : {A : Type 0} (o : Option A) → is_some o ≡ true → (x : A) × (o ≡ Some x)
 some_is None is = absurd (cc)
@@ -162,3 +164,39 @@ module _ {V : Type 0} (m : StackMap V) (stacked : IsStacked m.places m.vacant) w
         once = ap length (sym is) ∙ stacked.counted;
         top = λ below i rest starts. ap (λ vs. (offer m.places vs).index) (is ∙ starts);
       }
+
+-- another value under a live key keeps a content well
+module _ {V : Type 0} (reuses : Bool) (c : Content V) (well : IsContent reuses c) (k : Key) (is_live : IsLive c k) (w : V) where
+  same_live : (q : Key) → map.contains_key (map.insert c.live k w) q ≡ map.contains_key c.live q
+  same_live q = same_bool _ _ (λ h. ⊎_elim (λ e. subst (IsLive c) (sym e) is_live) (λ g. g.1) (in_after_insert keys_total exact_keys c.live k w q h)) (λ h. still_in keys_total exact_keys c.live k w q h)
+
+  same_len : map.len (map.insert c.live k w) ≡ map.len c.live
+  same_len = map.len-insert keys_total c.live k w ∙ ap (λ b. cond b (map.len c.live) (map.len c.live + 1)) is_live
+
+  live_before : (q : Key) → IsLive (with_value c k w) q → IsLive c q
+  live_before q h = sym (same_live q) ∙ h
+
+  stands_before : (q : Key) → Stands (with_value c k w) q → Stands c q
+  stands_before q = λ h. ⊎_elim (λ g. inl (live_before q g)) (λ g. inr g) h
+
+  uses_before : (q : Key) → Uses (with_value c k w) q → Uses c q
+  uses_before q = λ h. ⊎_elim (λ g. inl (stands_before q g)) (λ g. inr g) h
+
+  pub IsContent-with_value : IsContent reuses (with_value c k w)
+  IsContent-with_value = record {
+    keys = λ q h. well.keys q (uses_before q h);
+    vacancies = well.vacancies;
+    last = well.last;
+    within = λ q h. rw same_len (well.within q (uses_before q h));
+    vacant = λ i h. rw same_len (well.vacant i h);
+    apart = λ a b ha hb e. well.apart a b (uses_before a ha) (uses_before b hb) e;
+    live_or_detached = λ q h g. well.live_or_detached q (live_before q h) g;
+    stands_or_retired = λ q h g. well.stands_or_retired q (stands_before q h) g;
+    used_or_vacant = λ q h g. well.used_or_vacant q (uses_before q h) g;
+    limit = rw same_len well.limit;
+    offers = rw same_len well.offers;
+    stacked = λ stack e. let old = well.stacked stack e in record { lists = old.lists; once = old.once; top = rw same_len old.top };
+    room_fits = rw same_len well.room_fits;
+    reused = well.reused;
+    capacity_fits = rw same_len well.capacity_fits;
+  }

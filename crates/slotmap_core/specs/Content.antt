@@ -1,9 +1,10 @@
 -- What a primary map holds now.
-use Rattle.std.specs.Prelude.{◌≡◌, ℕ, ◌+◌, ◌-◌, ◌^◌, ◌<◌, ◌≤◌, Option, Some, Bool, true, List, ◌∷◌, length, ◌⊎◌}
+use Rattle.std.specs.Prelude.{◌≡◌, ℕ, ◌+◌, ◌-◌, ◌^◌, ◌<◌, ◌≤◌, refl, Option, Some, Bool, true, List, ◌∷◌, length, ◌⊎◌}
 use Rattle.std.specs.Ordering.{nat_cmp}
 use Rattle.std.specs.FinMap as map
 use Rattle.std.specs.FinSet as set
-use Rattle.slotmap_core.specs.Key.{Key, IsKey, is_last, key_cmp}
+use Rattle.std.specs.Coded.{Coded, code_by, coded×, coded_ℕ, coded_option, coded_list}
+use Rattle.slotmap_core.specs.Key.{Key, IsKey, is_last, key_cmp, coded_key}
 
 pub record Content (V : Type 0) : Type 0 where
   pub live : map.FinMap key_cmp V
@@ -20,6 +21,16 @@ pub record Content (V : Type 0) : Type 0 where
   pub room : ℕ
   -- the number that `capacity` answers
   pub capacity : ℕ
+
+-- by which a proof tells two contents apart
+abbrev pub content_code : {V : Type 0} → Coded V → Coded (Content V)
+content_code {V} code =
+    code_by
+    (map.FinMap key_cmp V × (set.FinSet key_cmp × (set.FinSet key_cmp × (map.FinMap nat_cmp ℕ × (Key × (Option (List ℕ) × (ℕ × ℕ)))))))
+    (coded× (map.code coded_key code) (coded× (set.code coded_key) (coded× (set.code coded_key) (coded× (map.code coded_ℕ coded_ℕ) (coded× coded_key (coded× (coded_option (coded_list coded_ℕ)) (coded× coded_ℕ coded_ℕ)))))))
+    (λ c. (c.live, (c.detached, (c.retired, (c.next, (c.offer, (c.stack, (c.room, c.capacity))))))))
+    (λ p. record { live = p.0; detached = p.1.0; retired = p.1.1.0; next = p.1.1.1.0; offer = p.1.1.1.1.0; stack = p.1.1.1.1.1.0; room = p.1.1.1.1.1.1.0; capacity = p.1.1.1.1.1.1.1 })
+    (λ _. refl)
 
 -- the number of places that a map has at most
 abbrev pub most : ℕ

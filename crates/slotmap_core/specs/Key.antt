@@ -1,9 +1,10 @@
 -- A key: an index and an odd version.
-use Rattle.std.specs.Prelude.{◌≡◌, ℕ, ◌+◌, ◌-◌, ◌*◌, ◌/◌, ◌%◌, ◌^◌, ◌<◌, Bool, List, nat_eq, nat_le, ◌&&◌, ◌↔◌, IsTrue, if◌then◌else◌}
+use Rattle.std.specs.Prelude.{◌≡◌, ℕ, ◌+◌, ◌-◌, ◌*◌, ◌/◌, ◌%◌, ◌^◌, ◌<◌, refl, Bool, List, nat_eq, nat_le, ◌&&◌, ◌↔◌, IsTrue, if◌then◌else◌}
 use Rattle.std.specs.declared.cmp.Ordering.{Ordering}
 use Rattle.std.specs.Ordering.{ordering_then, nat_cmp}
 use Rattle.std.proofs.Common.{rules}
 use Rattle.std.specs.Hash as fed
+use Rattle.std.specs.Coded.{Coded, code_by, coded×, coded_ℕ}
 
 pub record Key : Type 0 where
   pub index : ℕ
@@ -12,6 +13,10 @@ pub record Key : Type 0 where
 -- by index, and then by version
 abbrev pub key_cmp : Key → Key → Ordering
 key_cmp a b = ordering_then (nat_cmp a.index b.index) (nat_cmp a.version b.version)
+
+-- by which a proof tells two keys apart
+abbrev pub coded_key : Coded Key
+coded_key = code_by (ℕ × ℕ) (coded× coded_ℕ coded_ℕ) (λ k. (k.index, k.version)) (λ p. record { index = p.0; version = p.1 }) (λ _. refl)
 
 -- both parts are numbers of 32 bits, the version is odd, and the greatest index has one key alone
 pub record IsKey (k : Key) : Type 0 where

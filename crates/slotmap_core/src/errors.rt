@@ -90,6 +90,16 @@ impl From<AllocError> for OutOfMemory {
     }
 }
 
+impl From<AllocError> for ReserveError {
+    ghost use Rattle.slotmap_core.specs.declared.errors.ReserveError.TheVariants as reserve;
+
+    ghost from_gives = { λ _ error. error ≡ reserve.Memory };
+
+    fn from(_error: AllocError) -> ReserveError {
+        ReserveError::Memory
+    }
+}
+
 impl From<AllocError> for JsonError {
     ghost from_gives = { λ _ error. error ≡ Memory };
 

@@ -1,0 +1,16 @@
+-- What a slot map ends as, where a `&mut` to one of its values is returned.
+use Rattle.std.specs.Prelude.{Option}
+use Rattle.std.specs.Borrow.{Lends, LendsIf, Fml, RattleType, MutBor}
+use Rattle.slotmap_core.specs.Key.{Key}
+use Rattle.slotmap_core.specs.Content.{Content}
+use Rattle.slotmap_core.specs.Transition.{with_value}
+use Rattle.slotmap_basic.specs.contracts.SlotMap.{the_row}
+
+module _ (K V : RattleType) (m : MutBor (Content V.Denot)) (k : Key) where
+  -- once the borrow r ends, the key has the last value written through r
+  abbrev pub lends_value : MutBor V.Denot → Fml
+  lends_value r = Lends (the_row K V) V m r (with_value m.now k)
+
+  -- the same where r is a reference, and at `None` the map stays as it is
+  abbrev pub lends_get : Option (MutBor V.Denot) → Fml
+  lends_get r = LendsIf (the_row K V) V m r (with_value m.now k) m.now
