@@ -1,0 +1,116 @@
+//! Look-ups: which keys are live, and their values.
+
+ghost use Rattle.std.specs.Prelude.{◌≡◌, ◌↔◌, IfOk, OnOk, OnErr, IfErr, IfNone, IfSome, option_copied, Some, true, false};
+ghost use Rattle.std.specs.FinMap as map;
+ghost use Rattle.std.specs.Borrow.{sem};
+ghost use Rattle.std.specs.Option.{option_copied_mut};
+ghost use Rattle.slotmap_core.specs.Content.{IsContent, IsLive};
+ghost use Rattle.slotmap_core.specs.Transition.{with_value};
+
+use crate::SlotMap;
+use slotmap_core::keys::Key;
+use std::mem;
+use std::ops::{Index, IndexMut};
+
+impl<K: Key, V: Drop> SlotMap<K, V> {
+    ghost use Rattle.slotmap_basic.specs.Lends.{lends_get, lends_value};
+
+    // The place of a key that is live.
+    pub(crate) fn live_index(&self, key: K) -> Option<usize>
+        ensures live { IfSome result (λ index. IsLive self.now (K.data_of key) × (index ≡ (K.data_of key).index)) }
+        ensures absent { IfNone result (map.contains_key self.now.live (K.data_of key) ≡ false) }
+    {
+        let key = key.data();
+        let index = key.idx() as usize;
+        if *self.versions.get(index)? == key.version() {
+            Some(index)
+        } else {
+            None
+        }
+    }
+
+    /// Whether this key is live.
+    pub fn contains_key(&self, key: K) -> bool
+        ensures { result ≡ map.contains_key self.now.live (K.data_of key) }
+    {
+        self.live_index(key).is_some()
+    }
+
+    /// The value of a live key.
+    pub fn get(&self, key: K) -> Option<&V>
+        ensures { option_copied result ≡ map.get self.now.live (K.data_of key) }
+    {
+        let index = self.live_index(key)?;
+        self.values[index].as_ref()
+    }
+
+    /// The value of a key that is live.
+    pub fn get_unchecked(&self, key: K) -> &V
+        requires { IsLive self.now (K.data_of key) }
+        ensures { map.get self.now.live (K.data_of key) ≡ Some result.now }
+    {
+        let index = key.data().idx() as usize;
+        self.values[index].as_ref().unwrap()
+    }
+
+    /// The value of a live key, for writing.
+    pub fn get_mut(&mut self, key: K) -> Option<&mut V>
+        ensures* writes_back { sem 𝓛 (lends_get K.row V.row self.entry (K.data_of key) result) }
+        ensures value { option_copied_mut result ≡ map.get self.old.live (K.data_of key) }
+    {
+        if self.contains_key(key) {
+            Some(self.get_unchecked_mut(key))
+        } else {
+            None
+        }
+    }
+
+    /// The value of a key that is live, for writing.
+    pub fn get_unchecked_mut(&mut self, key: K) -> &mut V
+        requires { IsLive self.old (K.data_of key) }
+        ensures* writes_back { sem 𝓛 (lends_value K.row V.row self.entry (K.data_of key) result) }
+        ensures value { map.get self.old.live (K.data_of key) ≡ Some result.now }
+    {
+        let index = key.data().idx() as usize;
+        self.values[index].as_mut().unwrap()
+    }
+
+    /// Sets the value of a live key and answers the one before, or hands the value back.
+    pub fn replace(&mut self, key: K, value: V) -> Result<V, V>
+        ensures ok { IfOk result (λ before. map.get self.old.live (K.data_of key) ≡ Some before) }
+        ensures replaces { OnOk result (self.new ≡ with_value self.old (K.data_of key) value) }
+        ensures err { IfErr result (λ back. ¬ (IsLive self.old (K.data_of key)) × (back ≡ value)) }
+        ensures unchanged { OnErr result (self.new ≡ self.old) }
+        ensures valid { IsContent true self.new }
+    {
+        let _ = &self.num_elems;
+        match self.get_mut(key) {
+            Some(place) => Ok(mem::replace(place, value)),
+            None => Err(value),
+        }
+    }
+}
+
+impl<K: Key, V: Drop> Index<K> for SlotMap<K, V> {
+    type Output = V;
+
+    ghost can_index = { λ m key. IsLive m (K.data_of key) };
+
+    ghost index_gives = { λ m key value. map.get m.live (K.data_of key) ≡ Some value };
+
+    fn index(&self, key: K) -> &V {
+        self.get_unchecked(key)
+    }
+}
+
+impl<K: Key, V: Drop> IndexMut<K> for SlotMap<K, V> {
+    ghost use Rattle.slotmap_basic.specs.Lends.{lends_value};
+
+    fn index_mut(&mut self, key: K) -> &mut V
+        requires { IsLive self.old (K.data_of key) }
+        ensures* writes_back { sem 𝓛 (lends_value K.row V.row self.entry (K.data_of key) result) }
+        ensures value { map.get self.old.live (K.data_of key) ≡ Some result.now }
+    {
+        self.get_unchecked_mut(key)
+    }
+}

@@ -1,0 +1,67 @@
+//! Removals, and what a walk over the places does.
+
+ghost use Rattle.std.specs.Prelude.{◌≡◌, ◌+◌, ◌≤◌, OnSome, IfNone, IfSome, true, false};
+ghost use Rattle.std.specs.FinMap as map;
+ghost use Rattle.slotmap_core.specs.Key.{Key as KeyOf};
+ghost use Rattle.slotmap_core.specs.Content.{IsContent, IsLive, places};
+ghost use Rattle.slotmap_core.specs.Transition.{Removes};
+
+use crate::{Link, SlotMap};
+use slotmap_core::keys::{Key, KeyData};
+
+impl<K: Key, V: Drop> SlotMap<K, V> {
+    /// Takes a live key's value out, and frees its place.
+    pub fn remove(&mut self, key: K) -> Option<V>
+        ensures value { result ≡ map.get self.old.live (K.data_of key) }
+        ensures removes { OnSome result (Removes self.old (K.data_of key) self.new) }
+        ensures absent { IfNone result (self.new ≡ self.old) }
+        ensures capacity { self.new.capacity ≡ self.old.capacity }
+        ensures valid { IsContent true self.new }
+    {
+        let _ = &self.num_elems;
+        let index = self.live_index(key)?;
+        let version = key.data().version();
+        let value = self.values[index].take();
+        self.versions[index] = version.wrapping_add(1);
+        self.num_elems -= 1;
+        if version == u32::MAX {
+            return value;
+        }
+        self.links[index] = Link::Free(self.free_head);
+        self.free_head = index as u32;
+        self.num_free += 1;
+        value
+    }
+
+    // How many places there are, with the sentinel.
+    pub(crate) fn num_places(&self) -> usize
+        ensures count { result ≡ places self.now + 1 }
+        ensures valid { IsContent true self.now }
+    {
+        self.versions.len()
+    }
+
+    // The live key at this index.
+    pub(crate) fn key_at(&self, index: usize) -> Option<K>
+        requires { index ≤ places self.now }
+        ensures live { IfSome result (λ key. IsLive self.now (K.data_of key) × ((K.data_of key).index ≡ index)) }
+        ensures none { IfNone result ((key : KeyOf) → key.index ≡ index → map.contains_key self.now.live key ≡ false) }
+    {
+        let version = self.versions[index];
+        if version % 2 == 1 {
+            Some(K::from(KeyData::new(index as u32, version)))
+        } else {
+            None
+        }
+    }
+
+    // Takes a live key out, and drops its value.
+    pub(crate) fn evict(&mut self, key: K)
+        requires { IsLive self.old (K.data_of key) }
+        ensures removes { Removes self.old (K.data_of key) self.new }
+        ensures capacity { self.new.capacity ≡ self.old.capacity }
+        ensures valid { IsContent true self.new }
+    {
+        let _ = self.remove(key).unwrap();
+    }
+}
