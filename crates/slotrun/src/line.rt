@@ -1,0 +1,78 @@
+//! The lines of a script.
+
+use slotmap_core::commands::{Command, DetachCommand};
+use slotmap_core::keys::{DefaultKey, KeyData};
+
+/// What a line asks for.
+#[derive(Drop)]
+pub enum Line {
+    Insert(i32),
+    Get(DefaultKey),
+    Remove(DefaultKey),
+    Detach(DefaultKey),
+    Reattach(DefaultKey, i32),
+    Len,
+    Keys,
+    Clear,
+}
+
+impl Line {
+    /// Reads a line of UTF-8.
+    pub fn from_bytes(bytes: &[u8]) -> Option<Line> {
+        Line::parse(str::from_utf8(bytes).ok()?)
+    }
+
+    // Reads a line: its words, parted by one space, and nothing before or after them.
+    fn parse(text: &str) -> Option<Line> {
+        let mut words = text.split(' ');
+        let line = match words.next()? {
+            "insert" => Line::Insert(number(words.next()?)?),
+            "get" => Line::Get(key(words.next()?)?),
+            "remove" => Line::Remove(key(words.next()?)?),
+            "detach" => Line::Detach(key(words.next()?)?),
+            "reattach" => {
+                let key = key(words.next()?)?;
+                Line::Reattach(key, number(words.next()?)?)
+            }
+            "len" => Line::Len,
+            "keys" => Line::Keys,
+            "clear" => Line::Clear,
+            _ => return None,
+        };
+        match words.next() {
+            Some(_) => None,
+            None => Some(line),
+        }
+    }
+
+    /// The command that this line gives to a run.
+    pub fn command(self) -> DetachCommand<DefaultKey, i32> {
+        match self {
+            Line::Insert(value) => DetachCommand::Plain(Command::Insert(value)),
+            Line::Get(key) => DetachCommand::Plain(Command::Get(key)),
+            Line::Remove(key) => DetachCommand::Plain(Command::Remove(key)),
+            Line::Detach(key) => DetachCommand::Detach(key),
+            Line::Reattach(key, value) => DetachCommand::Reattach(key, value),
+            Line::Len => DetachCommand::Plain(Command::Len),
+            Line::Keys => DetachCommand::Plain(Command::Keys),
+            Line::Clear => DetachCommand::Plain(Command::Clear),
+        }
+    }
+}
+
+// A key as one number, of digits alone.
+fn key(word: &str) -> Option<DefaultKey> {
+    if !word.bytes().all(|byte| byte.is_ascii_digit()) {
+        return None;
+    }
+    let number = word.parse::<u64>().ok()?;
+    Some(DefaultKey::from(KeyData::from_ffi(number)))
+}
+
+// A number with no plus sign before it.
+fn number(word: &str) -> Option<i32> {
+    if word.starts_with('+') {
+        return None;
+    }
+    word.parse().ok()
+}

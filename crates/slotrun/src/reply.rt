@@ -1,0 +1,45 @@
+//! The text of replies.
+
+use slotmap_core::commands::Reply;
+use slotmap_core::errors::OutOfMemory;
+use slotmap_core::keys::{DefaultKey, Key};
+use std::io;
+use std::io::Write;
+
+/// A reply to a line.
+pub type LineReply = Reply<DefaultKey, i32, i32, OutOfMemory>;
+
+/// Writes a reply as a line of its own.
+pub fn write_reply(output: &mut impl Write, reply: &LineReply) -> io::Result<()> {
+    match reply {
+        Reply::Key(key) => writeln!(output, "key {}", key.data().as_ffi()),
+        Reply::Full(_) => writeln!(output, "full"),
+        Reply::Memory(_) => writeln!(output, "memory"),
+        Reply::Looked(found) | Reply::Taken(found) => write_found(output, *found),
+        Reply::Done => writeln!(output, "done"),
+        Reply::Keys(keys) => write_keys(output, keys),
+        Reply::Len(len) => writeln!(output, "len {len}"),
+        Reply::NotDetached(_) => writeln!(output, "not detached"),
+        // No line asks for these.
+        Reply::TooGreat
+        | Reply::Failed(_)
+        | Reply::Flag(_)
+        | Reply::Put(_)
+        | Reply::Drained(_) => Ok(()),
+    }
+}
+
+fn write_found(output: &mut impl Write, found: Option<i32>) -> io::Result<()> {
+    match found {
+        Some(value) => writeln!(output, "value {value}"),
+        None => writeln!(output, "none"),
+    }
+}
+
+fn write_keys(output: &mut impl Write, keys: &[DefaultKey]) -> io::Result<()> {
+    write!(output, "keys")?;
+    for key in keys {
+        write!(output, " {}", key.data().as_ffi())?;
+    }
+    writeln!(output)
+}

@@ -1,0 +1,118 @@
+//! Scripts of lines, and the run of one.
+
+use crate::line::Line;
+use crate::reply::{LineReply, write_reply};
+use slotmap_basic::SlotMap;
+use slotmap_core::commands::DetachCommand;
+use slotmap_core::errors::OutOfMemory;
+use slotmap_core::keys::DefaultKey;
+use slotmap_run::detaching::run_detaching_new;
+use std::alloc::{AllocFailed, Global};
+use std::io;
+use std::io::{Read, Write};
+
+// The map that a script runs on.
+type Map = SlotMap<DefaultKey, i32>;
+
+// Why a script ends early.
+#[derive(Drop)]
+enum Stop {
+    // The words name no kind of map.
+    Usage,
+    // The script wasn't read, or memory was refused.
+    NoScript,
+    // A line isn't one of a script; lines count from 1.
+    BadLine(usize),
+    // The output was refused.
+    Output,
+}
+
+impl<T: Drop> From<AllocFailed<T>> for Stop {
+    fn from(_error: AllocFailed<T>) -> Stop {
+        Stop::NoScript
+    }
+}
+
+/// Runs the script of the input on the kind of map that the words name, and answers the status to end with.
+///
+/// The one kind today is `basic`. Every line is looked at before the first is run. The status is 0 after a run, 2
+/// where the words or a line are wrong, and 3 where the script could not be read or the output written, or memory
+/// was refused.
+pub fn run_script(
+    alloc: Global,
+    words: &[String],
+    input: &mut impl Read,
+    output: &mut impl Write,
+) -> u8 {
+    match run(alloc, words, input, output) {
+        Ok(()) => 0,
+        Err(Stop::Usage) => ended(writeln!(output, "usage: slotrun basic|dense|hop"), 2),
+        Err(Stop::BadLine(number)) => ended(writeln!(output, "bad line {number}"), 2),
+        Err(Stop::NoScript) => ended(writeln!(output, "no script"), 3),
+        Err(Stop::Output) => 3,
+    }
+}
+
+// The status after a last line was written.
+fn ended(written: io::Result<()>, status: u8) -> u8 {
+    if written.is_ok() { status } else { 3 }
+}
+
+fn run(
+    alloc: Global,
+    words: &[String],
+    input: &mut impl Read,
+    output: &mut impl Write,
+) -> Result<(), Stop> {
+    let [kind] = words else {
+        return Err(Stop::Usage);
+    };
+    if kind.as_str() != "basic" {
+        return Err(Stop::Usage);
+    }
+    let mut script = Vec::new(alloc);
+    input
+        .read_to_end(&mut script)
+        .map_err(|_| Stop::NoScript)?;
+    let commands = parse_lines(alloc, &script)?;
+    let replies = answer(alloc, commands)?;
+    for reply in &replies {
+        write_reply(output, reply).map_err(|_| Stop::Output)?;
+    }
+    Ok(())
+}
+
+// The commands of a script's lines, the last of which may lack its line feed.
+fn parse_lines(
+    alloc: Global,
+    script: &[u8],
+) -> Result<Vec<DetachCommand<DefaultKey, i32>>, Stop> {
+    let mut commands = Vec::new(alloc);
+    if script.is_empty() {
+        return Ok(commands);
+    }
+    let text = script.strip_suffix(b"\n").unwrap_or(script);
+    for piece in text.split(|byte| *byte == b'\n') {
+        match Line::from_bytes(piece) {
+            Some(line) => commands.push(line.command())?,
+            None => return Err(Stop::BadLine(commands.len() + 1)),
+        }
+    }
+    Ok(commands)
+}
+
+// The replies of a new map.
+fn answer(
+    alloc: Global,
+    commands: Vec<DetachCommand<DefaultKey, i32>>,
+) -> Result<Vec<LineReply>, Stop> {
+    let look = |value: &i32| *value;
+    let keep = |_: DefaultKey, _: &mut i32| true;
+    let make = |_: DefaultKey| Err(OutOfMemory);
+    let made: Result<(Map, Vec<LineReply>), Vec<DetachCommand<DefaultKey, i32>>> =
+        run_detaching_new(alloc, commands, look, keep, make);
+    match made {
+        Ok((_, replies)) => Ok(replies),
+        Err(_) => Err(Stop::NoScript),
+    }
+}
