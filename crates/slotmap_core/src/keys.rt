@@ -4,7 +4,7 @@
 //! the version is greater than that of each earlier key of that index, so a key whose value is
 //! gone is never taken for a later one.
 
-ghost use Rattle.std.specs.Prelude.{◌≡◌, ◌≢◌, ◌↔◌, ℕ, ◌+◌, ◌-◌, ◌*◌, ◌/◌, ◌%◌, ◌^◌, ◌<◌, ◌≤◌, IsTrue, refl};
+ghost use Rattle.std.specs.Prelude.{◌≡◌, ◌↔◌, ◌/◌, ◌%◌, ◌^◌, IsTrue, refl};
 ghost use Rattle.slotmap_core.specs.Key.{Key as KeyOf, IsKey, null_key, ffi, key_from, is_older};
 
 use std::fmt;
