@@ -14,3 +14,5 @@ pub mod Law
 pub mod Gather
 pub mod Places
 pub mod StackMap
+pub mod Slots
+pub mod Json

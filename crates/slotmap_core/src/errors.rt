@@ -1,85 +1,99 @@
-//! The refusals of the maps.
+//! Why a call is refused.
+//!
+//! A refused call hands back what it was given, and leaves the map as it was.
 
 ghost use Rattle.std.specs.Prelude.{◌≡◌};
-ghost use Rattle.slotmap_core.specs.declared.errors.JsonError.TheVariants.{Memory};
+ghost use Rattle.slotmap_core.specs.declared.errors.JsonError.TheVariants.{Memory as JsonMemory};
+ghost use Rattle.slotmap_core.specs.declared.errors.SlotsError.TheVariants.{Memory as SlotsMemory};
 
 use std::alloc::{AllocError, AllocFailed};
 use thiserror::Error;
 
-/// An insert was refused.
+/// A call that answers nothing but what it makes found no memory for it.
+#[derive(Debug, Drop, Error)]
+#[error("out of memory")]
+pub struct OutOfMemory;
+
+/// A value was not inserted; it is handed back.
 #[derive(Debug, Drop)]
 pub enum InsertError<V> {
-    /// No place is left.
+    /// As many places are taken as a map can have, 4294967294.
     Full(V),
-    /// No memory is left.
+    /// No memory was left for one place more.
     Memory(V),
 }
 
-/// An insert with a closure that can't fail was refused.
+/// A closure that makes a value was not called, and nothing was inserted.
 #[derive(Debug, Drop, Error)]
 pub enum InsertWithError {
+    /// As many places are taken as a map can have, 4294967294.
     #[error("full")]
     Full,
+    /// No memory was left for one place more.
     #[error("out of memory")]
     Memory,
 }
 
-/// A reserve was refused.
-#[derive(Debug, Drop, Error)]
-pub enum ReserveError {
-    #[error("too great")]
-    TooGreat,
-    #[error("out of memory")]
-    Memory,
-}
-
-/// An insert with a closure was refused.
+/// Nothing was inserted; the closure was called only where the error is its own.
 #[derive(Debug, Drop)]
 pub enum TryInsertError<E> {
-    /// No place is left.
+    /// As many places are taken as a map can have, 4294967294.
     Full,
-    /// No memory is left.
+    /// No memory was left for one place more.
     Memory,
     /// The closure's own error.
     Closure(E),
 }
 
-/// No memory is left.
-#[derive(Debug, Drop, Error)]
-#[error("out of memory")]
-pub struct OutOfMemory;
-
-/// A key was not bound again.
+/// A key was not bound again; the value is handed back.
 #[derive(Debug, Drop)]
 pub enum ReattachError<V> {
-    /// The key isn't detached.
+    /// The key isn't detached in this map.
     NotDetached(V),
-    /// No memory is left.
+    /// No memory was left for the value.
     Memory(V),
 }
 
-/// A list of slots was refused.
+/// No room was made.
+#[derive(Debug, Drop, Error)]
+pub enum ReserveError {
+    /// More places were asked for than a map can have.
+    #[error("too great")]
+    TooGreat,
+    /// No memory was left for so much room.
+    #[error("out of memory")]
+    Memory,
+}
+
+/// A secondary map had no memory for a value, which is handed back.
+#[derive(Debug, Drop)]
+pub struct PutError<V>(pub V);
+
+/// A list of slots was not read as a map.
 #[derive(Debug, Drop, Error)]
 pub enum SlotsError {
-    /// The list is too long.
+    /// The list is as long as the limit, or longer.
     #[error("too many")]
     TooMany,
     /// The list is empty, or its first version is odd.
     #[error("first not empty")]
     FirstNotEmpty,
-    /// At this position a value stands without an odd version, or an odd version without a value.
+    /// The first position at which a value stands beside an even version, or none beside an odd
+    /// one.
     #[error("inconsistent {0}")]
     Inconsistent(usize),
+    /// No memory was left for the map.
     #[error("out of memory")]
     Memory,
 }
 
-/// JSON was refused.
+/// JSON was not read as a key, or as a list of slots.
 #[derive(Debug, Drop, Error)]
 pub enum JsonError {
     /// The JSON has another form.
     #[error("shape")]
     Shape,
+    /// No memory was left for what was read.
     #[error("out of memory")]
     Memory,
 }
@@ -100,24 +114,68 @@ impl From<AllocError> for ReserveError {
     }
 }
 
-impl From<AllocError> for JsonError {
-    ghost from_gives = { λ _ error. error ≡ Memory };
-
-    fn from(_error: AllocError) -> JsonError {
-        JsonError::Memory
-    }
-}
-
 impl<T: Drop> From<AllocFailed<T>> for OutOfMemory {
     fn from(_error: AllocFailed<T>) -> OutOfMemory {
         OutOfMemory
     }
 }
 
+impl From<AllocError> for SlotsError {
+    ghost from_gives = { λ _ error. error ≡ SlotsMemory };
+
+    fn from(_error: AllocError) -> SlotsError {
+        SlotsError::Memory
+    }
+}
+
+impl<T: Drop> From<AllocFailed<T>> for SlotsError {
+    ghost from_gives = { λ _ error. error ≡ SlotsMemory };
+
+    fn from(_error: AllocFailed<T>) -> SlotsError {
+        SlotsError::Memory
+    }
+}
+
+impl From<AllocError> for JsonError {
+    ghost from_gives = { λ _ error. error ≡ JsonMemory };
+
+    fn from(_error: AllocError) -> JsonError {
+        JsonError::Memory
+    }
+}
+
 impl<T: Drop> From<AllocFailed<T>> for JsonError {
-    ghost from_gives = { λ _ error. error ≡ Memory };
+    ghost from_gives = { λ _ error. error ≡ JsonMemory };
 
     fn from(_error: AllocFailed<T>) -> JsonError {
         JsonError::Memory
+    }
+}
+
+#[cfg(test)]
+mod tests {
+    use super::*;
+    use std::fmt::Display;
+    use std::test::Fail;
+
+    fn says<E: Display>(rt: &HostRuntime, error: &E, message: &str) -> Result<bool, Fail> {
+        let text = format!(in rt.alloc(); "{error}")?;
+        Ok(text.as_str() == message)
+    }
+
+    #[test]
+    fn messages(rt: HostRuntime) -> Result<(), Fail> {
+        assert!(rt; says(&rt, &OutOfMemory, "out of memory")?);
+        assert!(rt; says(&rt, &InsertWithError::Full, "full")?);
+        assert!(rt; says(&rt, &InsertWithError::Memory, "out of memory")?);
+        assert!(rt; says(&rt, &ReserveError::TooGreat, "too great")?);
+        assert!(rt; says(&rt, &ReserveError::Memory, "out of memory")?);
+        assert!(rt; says(&rt, &SlotsError::TooMany, "too many")?);
+        assert!(rt; says(&rt, &SlotsError::FirstNotEmpty, "first not empty")?);
+        assert!(rt; says(&rt, &SlotsError::Inconsistent(3), "inconsistent 3")?);
+        assert!(rt; says(&rt, &SlotsError::Memory, "out of memory")?);
+        assert!(rt; says(&rt, &JsonError::Shape, "shape")?);
+        assert!(rt; says(&rt, &JsonError::Memory, "out of memory")?);
+        Ok(())
     }
 }

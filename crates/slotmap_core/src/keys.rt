@@ -1,13 +1,26 @@
-//! Keys: an index and an odd version.
+//! Keys: an index, and a version that tells the keys of one index apart.
+//!
+//! A map hands out a key for each value that it takes. The index says where the value stands, and
+//! the version is greater than that of each earlier key of that index, so a key whose value is
+//! gone is never taken for a later one.
 
-ghost use Rattle.std.specs.Prelude.{◌≡◌, ◌≢◌, ◌↔◌, ℕ, ◌+◌, ◌-◌, ◌*◌, ◌/◌, ◌%◌, ◌^◌, ◌<◌, ◌≤◌, IsTrue, refl};
+ghost use Rattle.std.specs.Prelude.{◌≡◌, ◌↔◌, ◌/◌, ◌%◌, ◌^◌, IsTrue, refl};
 ghost use Rattle.slotmap_core.specs.Key.{Key as KeyOf, IsKey, null_key, ffi, key_from, is_older};
 
 use std::fmt;
 use std::hash::{Hash, Hasher};
 use std::marker::Model;
 
-/// The index and the version of a key.
+mod node_key;
+
+pub use node_key::NodeKey;
+
+/// What every key type wraps: an index and an odd version, both of 32 bits.
+///
+/// There is one null key, of index 4294967295 and version 1; no other key has that index. Keys are
+/// ordered by index and then by version, and hashed as the one number that `as_ffi` gives. The
+/// debug text is `null`, or the index, `v` and the version, as in `2v3`. The default is the null
+/// key.
 #[derive(Clone, Copy, PartialEq, Eq, PartialOrd, Ord)]
 pub struct KeyData {
     idx: u32,
@@ -27,14 +40,22 @@ impl Model for KeyData {
 }
 
 impl KeyData {
-    /// The data of an index and a version, which is made odd. The greatest index has version 1 alone.
+    /// The key data of an index and a version. Constant time.
+    ///
+    /// An even version is raised to the odd one after it. The greatest index gives the null key,
+    /// whatever the version. It is `from_ffi` of `version * 2^32 + idx`.
+    ///
+    /// ```
+    /// assert_eq!(KeyData::new(2, 4), KeyData::new(2, 5));
+    /// assert_eq!(KeyData::new(4294967295, 9), KeyData::default());
+    /// ```
     #[tactic(auto, using(crate::proofs::Odd::or_one))]
     pub fn new(idx: u32, version: u32) -> KeyData
         ensures value { result ≡ key_from idx version }
         ensures valid { IsKey result }
     {
         if idx == u32::MAX {
-            return KeyData { idx, version: 1 };
+            return KeyData::default();
         }
         KeyData {
             idx,
@@ -42,7 +63,7 @@ impl KeyData {
         }
     }
 
-    /// The index.
+    /// The index. Constant time.
     pub fn idx(self) -> u32
         ensures value { result ≡ self.index }
         ensures valid { IsKey self }
@@ -50,7 +71,7 @@ impl KeyData {
         self.idx
     }
 
-    /// The version, which is odd.
+    /// The version, which is odd. Constant time.
     pub fn version(self) -> u32
         ensures value { result ≡ self.version }
         ensures valid { IsKey self }
@@ -58,7 +79,14 @@ impl KeyData {
         self.version
     }
 
-    /// The key as one number, which `from_ffi` reads.
+    /// The key as one number, `version * 2^32 + idx`, for code in other languages. Constant time.
+    ///
+    /// `from_ffi` gives the key back.
+    ///
+    /// ```
+    /// assert_eq!(KeyData::new(1, 3).as_ffi(), 12884901889);
+    /// assert_eq!(KeyData::default().as_ffi(), 8589934591);
+    /// ```
     pub fn as_ffi(self) -> u64
         ensures value { result ≡ ffi self }
         ensures valid { IsKey self }
@@ -66,7 +94,16 @@ impl KeyData {
         u64::from(self.version) << 32 | u64::from(self.idx)
     }
 
-    /// The key of a number: its low half is the index, its high half made odd is the version.
+    /// The key of a number, as `as_ffi` gives it. Constant time.
+    ///
+    /// Every number is read: its low 32 bits are the index, and its high 32 bits, with the lowest
+    /// bit set, are the version. Where the index is 4294967295 the version becomes 1, so there is
+    /// one null key; Rust keeps the version there, and its null keys can differ.
+    ///
+    /// ```
+    /// assert_eq!(KeyData::from_ffi(12884901889), KeyData::new(1, 3));
+    /// assert_eq!(KeyData::from_ffi(17179869183), KeyData::default());
+    /// ```
     pub fn from_ffi(value: u64) -> KeyData
         ensures value { result ≡ key_from (value % 2 ^ 32) (value / 2 ^ 32) }
         ensures round_trip { (k : KeyOf) → IsKey k → value ≡ ffi k → result ≡ k }
@@ -74,18 +111,18 @@ impl KeyData {
     {
         KeyData::new((value & 0xffff_ffff) as u32, (value >> 32) as u32)
     }
-
-    fn null() -> KeyData
-        ensures { result ≡ null_key }
-    {
-        KeyData {
-            idx: u32::MAX,
-            version: 1,
-        }
-    }
 }
 
-/// Whether version a is older than b, where versions go round.
+/// Whether version `a` is older than version `b`, where the versions of 32 bits go round: whether
+/// `(a - b) mod 2^32` is at least 2^31. Constant time.
+///
+/// At a distance of exactly 2^31 each of the two is older than the other.
+///
+/// ```
+/// assert!(is_older_version(1, 3));
+/// assert!(is_older_version(4294967295, 0));
+/// assert!(!is_older_version(3, 3));
+/// ```
 pub fn is_older_version(a: u32, b: u32) -> bool
     ensures { result ≡ is_older a b }
 {
@@ -96,7 +133,10 @@ impl Default for KeyData {
     ghost is_default = { λ k. k ≡ null_key };
 
     fn default() -> KeyData {
-        KeyData::null()
+        KeyData {
+            idx: u32::MAX,
+            version: 1,
+        }
     }
 }
 
@@ -124,7 +164,15 @@ impl fmt::Debug for KeyData {
     }
 }
 
-/// A key of a map: a wrapper around its data.
+/// A type of keys: a wrapper around `KeyData` and nothing more.
+///
+/// A program may have one key type for each of its maps, so that the keys of one map aren't handed
+/// to another by mistake. `DefaultKey` serves where one type is enough, and `NodeKey` is written
+/// out as the pattern to copy for further types.
+///
+/// A key type is as its data in every way: `K::from(key.data()) == key`, `K::from(data).data() ==
+/// data`, two keys are equal, in order and hashed as their data are, and the default is the null
+/// key. Each key type proves this.
 pub trait Key: From<KeyData> + Copy + Default + Eq + Ord + Hash + fmt::Debug {
     ghost use Rattle.slotmap_core.specs.Key.{Key, IsKey, key_cmp, hashed, null_key};
 
@@ -134,15 +182,24 @@ pub trait Key: From<KeyData> + Copy + Default + Eq + Ord + Hash + fmt::Debug {
     /// The key of data.
     ghost of_data: { Key → Self };
 
-    /// The null key.
+    /// The null key, which is in no map. It is the default, too. Constant time.
     fn null() -> Self
         ensures { data_of result ≡ null_key };
 
-    /// Whether this is the null key.
+    /// Whether this is the null key. Constant time.
+    ///
+    /// ```
+    /// assert!(DefaultKey::null().is_null());
+    /// assert!(!DefaultKey::from(KeyData::new(1, 1)).is_null());
+    /// ```
     fn is_null(&self) -> bool
         ensures { IsTrue result ↔ data_of self.now ≡ null_key };
 
-    /// The data of this key.
+    /// The data of this key, of which `from` makes the key again. Constant time.
+    ///
+    /// ```
+    /// assert_eq!(DefaultKey::from(key.data()), key);
+    /// ```
     fn data(&self) -> KeyData
         ensures value { result ≡ data_of self.now }
         ensures valid { IsKey result };
@@ -164,7 +221,12 @@ pub trait Key: From<KeyData> + Copy + Default + Eq + Ord + Hash + fmt::Debug {
     ghost hash_by_data: { (k : Self) → Self.hash_input k ≡ hashed (data_of k) };
 }
 
-/// The usual key type.
+/// The key type of a map that names no other.
+///
+/// ```
+/// let mut map = SlotMap::new(alloc)?;
+/// let key: DefaultKey = map.insert("a")?;
+/// ```
 #[derive(Clone, Copy, PartialEq, Eq, PartialOrd, Ord, Hash, Debug)]
 pub struct DefaultKey(KeyData);
 
@@ -190,7 +252,7 @@ impl Default for DefaultKey {
     ghost is_default = { λ k. k ≡ null_key };
 
     fn default() -> DefaultKey {
-        DefaultKey(KeyData::null())
+        DefaultKey(KeyData::default())
     }
 }
 
@@ -200,16 +262,17 @@ impl Key for DefaultKey {
     ghost of_data = { λ d. d };
 
     fn null() -> DefaultKey {
-        DefaultKey(KeyData::null())
+        DefaultKey::default()
     }
 
     fn is_null(&self) -> bool {
-        self.0.idx == u32::MAX
+        self.0.idx() == u32::MAX
     }
 
     fn data(&self) -> KeyData {
         let data = self.0;
-        let _ = &data.idx;
+        // by what `idx` promises, the data is within its bounds
+        let _ = data.idx();
         data
     }
 
@@ -236,19 +299,26 @@ impl Key for DefaultKey {
 #[cfg(test)]
 mod tests {
     use super::*;
+    use std::collections::HashSet;
     use std::test::Fail;
 
     #[test]
-    fn nulls(rt: HostRuntime) -> Result<(), Fail> {
-        assert_eq!(rt; DefaultKey::null().data().as_ffi(), 8589934591);
+    fn numbers(rt: HostRuntime) {
+        assert_eq!(rt; KeyData::default().as_ffi(), 8589934591);
         assert!(rt; KeyData::from_ffi(17179869183) == KeyData::default());
+        assert_eq!(rt; KeyData::from_ffi(0).as_ffi(), 4294967296);
+        assert_eq!(rt; KeyData::new(0, 4).as_ffi(), 21474836480);
+        assert_eq!(rt; KeyData::new(4294967295, 9).as_ffi(), 8589934591);
+    }
+
+    #[test]
+    fn debug_texts(rt: HostRuntime) -> Result<(), Fail> {
         let null = format!(in rt.alloc(); "{:?}", KeyData::default())?;
         assert_eq!(rt; null.as_str(), "null");
         let other = format!(in rt.alloc(); "{:?}", KeyData::new(2, 3))?;
         assert_eq!(rt; other.as_str(), "2v3");
-        assert_eq!(rt; KeyData::from_ffi(0).as_ffi(), 4294967296);
-        assert_eq!(rt; KeyData::new(0, 4).as_ffi(), 21474836480);
-        assert_eq!(rt; KeyData::new(4294967295, 9).as_ffi(), 8589934591);
+        let key = format!(in rt.alloc(); "{:?}", DefaultKey::from(KeyData::new(2, 3)))?;
+        assert_eq!(rt; key.as_str(), "DefaultKey(2v3)");
         Ok(())
     }
 
@@ -259,5 +329,33 @@ mod tests {
         assert!(rt; is_older_version(0, 1 << 31));
         assert!(rt; !is_older_version(0, (1 << 31) + 1));
         assert!(rt; is_older_version(u32::MAX, 0));
+    }
+
+    fn is_as_its_data<K: Key>(rt: &HostRuntime) -> Result<bool, Fail> {
+        let null = K::null();
+        let early = K::from(KeyData::new(1, 5));
+        let late = K::from(KeyData::new(2, 3));
+        let again = K::from(late.data());
+        let mut seen = HashSet::new(rt.alloc());
+        seen.insert(late)?;
+        Ok(
+            null.is_null()
+                && null == K::default()
+                && null.data().as_ffi() == 8589934591
+                && !late.is_null()
+                && late == again
+                && late != early
+                && early < late
+                && late < null
+                && seen.contains(&again)
+                && !seen.contains(&early),
+        )
+    }
+
+    #[test]
+    fn key_types(rt: HostRuntime) -> Result<(), Fail> {
+        assert!(rt; is_as_its_data::<DefaultKey>(&rt)?);
+        assert!(rt; is_as_its_data::<NodeKey>(&rt)?);
+        Ok(())
     }
 }

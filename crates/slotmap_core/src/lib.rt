@@ -3,5 +3,7 @@
 
 pub mod commands;
 pub mod errors;
+mod json;
 pub mod keys;
 pub mod primary;
+pub mod serial;

@@ -1,0 +1,67 @@
+-- Lists that go along with one another an element further, and what one element of an array is read as.
+use Rattle.std.proofs.Common.{◌≡◌, ℕ, zero, suc, ◌+◌, ◌<◌, refl, drop-cons, add-one, List, [], ◌∷◌, ◌++◌, length, get_or, take, drop, map, Result, Ok, Err, IsOk, IfOk, Some, inr, sym, ap, ◌∙◌, subst, arith}
+use Rattle.std.proofs.lemmas.List.{take_more, map_more, map-append, take-append-drop}
+use Rattle.std.proofs.lemmas.Slice.Zip.{all_zipped_more}
+use Rattle.std.specs.List.{AllZip}
+use Rattle.serde_json.specs.Data.{Data, null, boolean, number, string, array, object, Items}
+use Rattle.serde_json.specs.Find.{as_array}
+use Rattle.serde_json.specs.View.{view, items_of, items_view}
+use Rattle.serde_json.specs.declared.value.Value.{Value}
+use Rattle.slotmap_core.specs.Json.{version_at, value_at, ok_map, slot_json, IsSlotJson, ReadsSlot, ReadsAll, HasElements, IsRefused}
+use Rattle.slotmap_core.specs.declared.errors.JsonError.{JsonError}
+use Rattle.slotmap_core.specs.declared.errors.JsonError.TheVariants.{Shape, Memory}
+use Rattle.slotmap_core.specs.declared.errors.OutOfMemory.{OutOfMemory}
+use Rattle.slotmap_core.specs.declared.serial.SlotRecord.{SlotRecord}
+
+-- one more element of xs goes with one more of ys
+pub all_zip_further : {A B : Type 0} (R : A → B → Type 0) (xs : List A) (ys : List B) (i : ℕ) (x : A) (y : B) → i < length xs → x ≡ get_or xs i x → AllZip R (take i xs) ys → R x y → AllZip R (take (i + 1) xs) (ys ++ y ∷ [])
+all_zip_further {A} {B} R xs ys i x y within read so_far here =
+    let P : List A → Type 0 = λ zs. AllZip R zs (ys ++ y ∷ []) in
+    subst P (sym (take_more xs i x within ∙ ap (λ z. take i xs ++ z ∷ []) (sym read))) (all_zipped_more R (take i xs) ys x y so_far here)
+
+-- the JSON of a slot that has a value
+pub slot_json_given : {V : Type 0} (gives : V → Data → Type 0) (slot : SlotRecord V) (v : V) (x : Data) (r : Result Value OutOfMemory) → slot.value ≡ Some v → gives v x → IfOk r (λ y. view y ≡ slot_json x slot.version) → IfOk r (λ y. IsSlotJson gives slot (view y))
+slot_json_given gives slot v x (Ok y) is given e = rw is (x, given, e)
+slot_json_given gives slot v x (Err e) is given h = tt
+
+-- the answer of an element that has a value
+pub reads_value : {V : Type 0} (reads : Data → Result V JsonError → Type 0) (d x : Data) (version : ℕ) (read : Result V JsonError) (r : Result (SlotRecord V) JsonError) → version_at d ≡ Some version → value_at d ≡ Some x → reads x read → r ≡ ok_map (λ v. record { value = Some v; version = version }) read → ReadsSlot reads d r
+reads_value reads d x version read r versioned valued reading is = rw (versioned, valued) (read, reading, is)
+
+is_array : (d : Data) (items : Items) → Some items ≡ as_array d → d ≡ array items
+is_array null items h = absurd cc
+is_array (boolean b) items h = absurd cc
+is_array (number n) items h = absurd cc
+is_array (string s) items h = absurd cc
+is_array (array ds) items h = cc
+is_array (object ms) items h = absurd cc
+
+parted : (vs : List Value) (i : ℕ) (x : Value) → i < length vs → x ≡ get_or vs i x → map view vs ≡ map view (take i vs) ++ view x ∷ map view (drop (i + 1) vs)
+parted vs i x within read =
+    let rest : drop i vs ≡ x ∷ drop (i + 1) vs = rw (add-one i) (drop-cons vs i x within ∙ ap (λ z. z ∷ drop (suc i) vs) (sym read)) in
+    ap (map view) (sym (take-append-drop i vs) ∙ ap (λ zs. take i vs ++ zs) rest) ∙ map-append view (take i vs) (x ∷ drop (i + 1) vs)
+
+-- memory was lacking, so it was asked for
+pub some_asked : {A E : Type 0} (n : ℕ) (r : Result A E) (e : E) → (n ≡ 0 → IsOk r) → r ≡ Err e → 0 < n
+some_asked zero r e succeeds is = let succeeded = succeeds refl in absurd (cc)
+some_asked (suc n) r e succeeds is = omega arith
+
+-- an array of which there is an element has elements
+pub has_elements : (d : Data) (vs : List Value) → Some (items_view vs) ≡ as_array d → 0 < length vs → HasElements d
+has_elements d [] listed some = absurd (omega arith)
+has_elements d (v ∷ vs) listed some = (view v, map view vs, is_array d (items_view (v ∷ vs)) listed)
+
+module _ {V : Type 0} (reads : Data → Result V JsonError → Type 0) where
+  -- one more element is read
+  pub reads_further : (vs : List Value) (slots : List (SlotRecord V)) (i : ℕ) (x : Value) (slot : SlotRecord V) → i < length vs → x ≡ get_or vs i x → ReadsAll reads (map view (take i vs)) slots → ReadsSlot reads (view x) (Ok slot)
+      → ReadsAll reads (map view (take (i + 1) vs)) (slots ++ slot ∷ [])
+  reads_further vs slots i x slot within read so_far here =
+      let P : List Data → Type 0 = λ ds. ReadsAll reads ds (slots ++ slot ∷ []) in
+      subst P (sym (map_more view vs i x within ∙ ap (λ v. map view (take i vs) ++ view v ∷ []) (sym read))) (all_zipped_more (λ d s. ReadsSlot reads d (Ok s)) (map view (take i vs)) slots (view x) slot so_far here)
+
+  -- an element is refused
+  pub refuses_at : (d : Data) (vs : List Value) (slots : List (SlotRecord V)) (i : ℕ) (x : Value) (e : JsonError) → Some (items_view vs) ≡ as_array d → i < length vs → x ≡ get_or vs i x → ReadsAll reads (map view (take i vs)) slots
+      → ReadsSlot reads (view x) (Err e) → IsRefused reads d e
+  refuses_at d vs slots i x Shape listed within read so_far here =
+      inr (map view (take i vs), view x, map view (drop (i + 1) vs), is_array d (items_view vs) listed ∙ ap (λ ds. array (items_of ds)) (parted vs i x within read), (slots, so_far), here)
+  refuses_at d vs slots i x Memory listed within read so_far here = has_elements d vs listed (omega arith)

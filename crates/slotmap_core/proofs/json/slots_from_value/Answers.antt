@@ -1,0 +1,29 @@
+use Rattle.std.proofs.Common.{◌≡◌, ◌+◌, ◌∙◌, Some, Err, take, map, sym, ap, subst, rules, arith}
+use Rattle.serde_json.specs.View.{view, items_view}
+use Rattle.slotmap_core.specs.Json.{ReadsJson, ReadsAll}
+use Rattle.slotmap_core.specs.declared.errors.JsonError.TheVariants.{Memory}
+use Rattle.slotmap_core.proofs.JsonLemmas.{some_asked, has_elements, reads_further, refuses_at}
+use Rattle.slotmap_core.proofs.json.slots_from_value.Goals as goal
+
+pub loop-element-preserved : goal.loop-element-preserved
+loop-element-preserved g c =
+    let reads = ReadsJson g.G.Fn c.args.g in
+    let more = reads_further reads _ _ _ c.element-item.result c.in_ok-slot_from_value.field-0 c.loop-element-test.true c.element-item.is c.loop-element.invariant c.in_ok-slot_from_value.ensures in
+    subst (ReadsAll reads (map view (take (c.loop-element.element-index + 1) c.deref-element-items.result.now))) (sym c.in_ok-push.ensures.items) more
+
+pub returns-in_err-slot_from_value-clause-err : goal.returns-in_err-slot_from_value-clause-err
+returns-in_err-slot_from_value-clause-err g c =
+    let e = c.in_err-slot_from_value.field-0.0 in
+    let refused : c.from_residual-in_err-slot_from_value.result ≡ Err e = search rules in
+    rw refused (refuses_at (ReadsJson g.G.Fn c.args.g) (view c.args.value.now) c.deref-element-items.result.now c.loop-element.slots.items c.loop-element.element-index c.element-item.result e (ap (λ vs. Some (items_view vs)) c.deref-element-items.ensures.value ∙ c.in-Some.ensures) c.loop-element-test.true c.element-item.is c.loop-element.invariant c.in_err-slot_from_value.ensures)
+
+pub returns-in_err-slots-clause-err : goal.returns-in_err-slots-clause-err
+returns-in_err-slots-clause-err g c =
+    let lacking : c.from_residual.result ≡ Err Memory = search rules in
+    let some = some_asked c.len.result c.with_capacity.result c.in_err-slots.field-0.0 c.with_capacity.ensures.succeeds c.in_err-slots.was in
+    rw lacking (has_elements (view c.args.value.now) c.in-Some.elements.now.items c.in-Some.ensures (omega arith))
+
+pub returns-in_err-push-clause-err : goal.returns-in_err-push-clause-err
+returns-in_err-push-clause-err g c =
+    let lacking : c.from_residual-in_err-push.result ≡ Err Memory = search rules in
+    rw lacking (has_elements (view c.args.value.now) c.deref-element-items.result.now (ap (λ vs. Some (items_view vs)) c.deref-element-items.ensures.value ∙ c.in-Some.ensures) (omega (arith, c.loop-element-test.true)))

@@ -1,0 +1,80 @@
+//! A second key type, in a file of its own as the pattern for further ones.
+//!
+//! To have a key type of your own, copy this file and write its name in place of `NodeKey`.
+
+ghost use Rattle.std.specs.Prelude.{◌≡◌, refl};
+ghost use Rattle.slotmap_core.specs.Key.{null_key};
+
+use crate::keys::{Key, KeyData};
+use std::marker::Model;
+
+/// A key type that is `DefaultKey` under another name, so that no key of a map under one of them
+/// is handed to a map under the other.
+#[derive(Clone, Copy, PartialEq, Eq, PartialOrd, Ord, Hash, Debug)]
+pub struct NodeKey(KeyData);
+
+impl Model for NodeKey {
+    ghost use Rattle.slotmap_core.specs.Key.{Key};
+
+    ghost Value = { Key };
+
+    ghost view = { λ k. k.0 };
+
+    ghost inverse = { λ k. record { 0 = k } };
+}
+
+impl From<KeyData> for NodeKey {
+    ghost from_gives = { λ d k. k ≡ d };
+
+    fn from(data: KeyData) -> NodeKey {
+        NodeKey(data)
+    }
+}
+
+impl Default for NodeKey {
+    ghost is_default = { λ k. k ≡ null_key };
+
+    fn default() -> NodeKey {
+        NodeKey(KeyData::default())
+    }
+}
+
+impl Key for NodeKey {
+    ghost data_of = { λ k. k };
+
+    ghost of_data = { λ d. d };
+
+    fn null() -> NodeKey {
+        NodeKey::default()
+    }
+
+    fn is_null(&self) -> bool {
+        self.0.idx() == u32::MAX
+    }
+
+    fn data(&self) -> KeyData {
+        let data = self.0;
+        // by what `idx` promises, the data is within its bounds
+        let _ = data.idx();
+        data
+    }
+
+    ghost from_data = { λ d h. refl };
+
+    ghost from_data_of = { λ k h. refl };
+
+    ghost from_gives_key = { λ d k h. h };
+
+    ghost use Rattle.slotmap_core.specs.Key.{same_keys};
+    ghost use Rattle.std.proofs.Common.{sym};
+
+    ghost clone_same = { λ a b h. sym h };
+
+    ghost default_null = { λ k h. h };
+
+    ghost eq_by_data = { same_keys };
+
+    ghost cmp_by_data = { λ a b. refl };
+
+    ghost hash_by_data = { λ k. refl };
+}

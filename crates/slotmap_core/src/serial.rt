@@ -1,0 +1,105 @@
+//! Lists of slots, in which a map is written out and read back, and their JSON.
+//!
+//! A list has one `SlotRecord` for each place of a map, from place 0 on.
+
+ghost use Rattle.std.specs.Prelude.{◌≡◌, ◌↔◌, IsTrue, IsOk, IfErr};
+ghost use Rattle.slotmap_core.specs.Slots.{IsConsistent, Accepts, Refuses};
+
+use crate::errors::SlotsError;
+pub use crate::json::{key_from_value, key_to_value, slots_from_value, slots_to_value};
+
+/// What a list says of one place: its value, if there is one, and its version.
+///
+/// In the list of a map that hands out its keys, a live key's place has its value and its odd
+/// version. Every other place has no value and an even version: where the place is vacant or its
+/// key is detached, one more than the version of the last key there; where it is used up, 0. Place
+/// 0 has no value and version 0.
+///
+/// In the list of a secondary map, a place that holds nothing has no value and version 0.
+#[derive(Debug, Drop)]
+pub struct SlotRecord<V> {
+    /// The value, where the version is odd.
+    pub value: Option<V>,
+    /// The version.
+    pub version: u32,
+}
+
+impl<V> SlotRecord<V> {
+    fn is_consistent(&self) -> bool
+        ensures { IsTrue result ↔ IsConsistent self.now }
+    {
+        self.value.is_some() == (self.version % 2 == 1)
+    }
+}
+
+/// Whether a list can be read as a map, want of memory aside, and why not.
+///
+/// It can where it isn't empty, is shorter than the limit, has an even first version, and has a
+/// value exactly where the version is odd. The limit is 4294967295 for the maps that hand out
+/// their keys, and 4294967294 for secondary maps.
+///
+/// Refusals are looked for in this order: `TooMany` where the list isn't shorter than the limit;
+/// `FirstNotEmpty` where it is empty or its first version is odd; `Inconsistent` with the least
+/// position at which a value stands beside an even version, or none beside an odd one. `Memory` is
+/// never answered. At most one pass over the list.
+///
+/// ```
+/// let list = [
+///     SlotRecord { value: None, version: 0 },
+///     SlotRecord { value: Some(7), version: 2 },
+/// ];
+/// assert!(matches!(check_slots(&list, 4294967295), Err(SlotsError::Inconsistent(1))));
+/// ```
+pub fn check_slots<V>(list: &[SlotRecord<V>], limit: usize) -> Result<(), SlotsError>
+    ensures ok { IsOk result ↔ Accepts list.now limit }
+    ensures err { IfErr result (Refuses list.now limit) }
+{
+    if list.len() >= limit {
+        return Err(SlotsError::TooMany);
+    }
+    match list.first() {
+        Some(first) if first.version % 2 == 0 => {}
+        _ => return Err(SlotsError::FirstNotEmpty),
+    }
+    for (i, slot) in list.iter().enumerate() {
+        if !slot.is_consistent() {
+            return Err(SlotsError::Inconsistent(i));
+        }
+    }
+    Ok(())
+}
+
+#[cfg(test)]
+mod tests {
+    use super::*;
+
+    fn slot(value: Option<i32>, version: u32) -> SlotRecord<i32> {
+        SlotRecord { value, version }
+    }
+
+    fn answer(list: &[SlotRecord<i32>], limit: usize) -> &'static str {
+        match check_slots(list, limit) {
+            Ok(()) => "ok",
+            Err(SlotsError::TooMany) => "too many",
+            Err(SlotsError::FirstNotEmpty) => "first not empty",
+            Err(SlotsError::Inconsistent(1)) => "inconsistent 1",
+            Err(SlotsError::Inconsistent(2)) => "inconsistent 2",
+            Err(_) => "other",
+        }
+    }
+
+    #[test]
+    fn checks_in_order(rt: HostRuntime) {
+        let odd = [slot(Some(7), 1), slot(None, 0), slot(None, 0)];
+        assert_eq!(rt; answer(&odd, 3), "too many");
+        assert_eq!(rt; answer(&odd, 4), "first not empty");
+        assert_eq!(rt; answer(&[], 0), "too many");
+        assert_eq!(rt; answer(&[], 1), "first not empty");
+        let early = [slot(None, 0), slot(Some(7), 2), slot(None, 1)];
+        assert_eq!(rt; answer(&early, 4), "inconsistent 1");
+        let late = [slot(None, 0), slot(Some(7), 1), slot(None, 3)];
+        assert_eq!(rt; answer(&late, 4), "inconsistent 2");
+        let good = [slot(None, 4), slot(Some(7), 3), slot(None, 0)];
+        assert_eq!(rt; answer(&good, 4), "ok");
+    }
+}
