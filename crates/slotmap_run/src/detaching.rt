@@ -1,0 +1,165 @@
+//! Runs of commands on the maps whose keys can be detached.
+
+ghost use Rattle.std.specs.Prelude.{◌≡◌, ◌^◌, ◌<◌, ◌≤◌, [], vec_capacity, length, IfOk, IfErr, OnErr};
+ghost use Rattle.slotmap_core.specs.Content.{IsContent};
+ghost use Rattle.slotmap_core.specs.Given.{given};
+ghost use Rattle.slotmap_core.specs.Step.{DetachStep};
+ghost use Rattle.slotmap_core.specs.Run.{Run, Unretiring};
+ghost use Rattle.slotmap_core.specs.Fit.{RunFollows, RunsAnew};
+ghost use Rattle.slotmap_run.specs.Order.{DetachServes, Orders};
+ghost use Rattle.slotmap_core.specs.declared.commands.DetachCommand.TheVariants as detaching;
+ghost use Rattle.slotmap_core.specs.Law.{DetachedNotReissued, DetachedReattaches, DetachGrows, LastFreedFirst, NoKeyTwice, ReattachBinds, RemovedForGood, ReserveHolds};
+
+use crate::primary::serve;
+use slotmap_core::errors::ReattachError;
+use slotmap_core::keys::Key;
+use slotmap_core::commands::{DetachCommand, Reply};
+use slotmap_core::primary::Detaching;
+use std::alloc::Global;
+
+/// Answers one command.
+fn serve_detaching<M, K, V, R, E, L, P, N>(
+    alloc: Global,
+    map: &mut M,
+    command: DetachCommand<K, V>,
+    look: &L,
+    keep: &P,
+    make: &N,
+) -> Reply<K, V, R, E>
+where
+    M: Detaching<K, V>,
+    K: Key,
+    V: Drop,
+    R: Drop,
+    E: Drop,
+    L: Fn(&V) -> R,
+    P: Fn(K, &mut V) -> bool,
+    N: Fn(K) -> Result<V, E>,
+    requires looks { L.IsAlwaysCallable look.now }
+    requires keeps { P.IsAlwaysCallable keep.now }
+    requires makes { N.IsAlwaysCallable make.now }
+    requires valid { IsContent M.REUSES (M.content map.old) }
+    ensures step { DetachServes (given K.data_of L.Fn look.now P.Fn keep.now N.Fn make.now M.REUSES) (M.content map.old) command result (M.content map.new) }
+    ensures valid { IsContent M.REUSES (M.content map.new) }
+{
+    match command {
+        DetachCommand::Plain(command) => serve(alloc, map, command, look, keep, make),
+        DetachCommand::Detach(key) => Reply::Taken(map.detach(key)),
+        DetachCommand::Reattach(key, value) => match map.reattach(key, value) {
+            Ok(()) => Reply::Done,
+            Err(ReattachError::NotDetached(value)) => Reply::NotDetached(value),
+            Err(ReattachError::Memory(value)) => Reply::Memory(Some(value)),
+        },
+    }
+}
+
+/// Answers the commands in order. There is room for the replies.
+fn serve_all_detaching<M, K, V, R, E, L, P, N>(
+    alloc: Global,
+    map: &mut M,
+    mut replies: Vec<Reply<K, V, R, E>>,
+    commands: Vec<DetachCommand<K, V>>,
+    look: &L,
+    keep: &P,
+    make: &N,
+) -> Vec<Reply<K, V, R, E>>
+where
+    M: Detaching<K, V>,
+    K: Key,
+    V: Drop,
+    R: Drop,
+    E: Drop,
+    L: Fn(&V) -> R,
+    P: Fn(K, &mut V) -> bool,
+    N: Fn(K) -> Result<V, E>,
+    requires looks { L.IsAlwaysCallable look.now }
+    requires keeps { P.IsAlwaysCallable keep.now }
+    requires makes { N.IsAlwaysCallable make.now }
+    requires none { replies.items ≡ [] }
+    requires room { length commands.items ≤ vec_capacity replies }
+    requires valid { IsContent M.REUSES (M.content map.old) }
+    ensures run { RunFollows (DetachStep (given K.data_of L.Fn look.now P.Fn keep.now N.Fn make.now M.REUSES)) (M.content map.old) commands.items result.items (M.content map.new) }
+    ensures orders { Run (Orders K.data_of) (M.content map.old) commands.items result.items (M.content map.new) }
+{
+    for command in commands {
+        let reply = serve_detaching(alloc, map, command, look, keep, make);
+        if replies.push(reply).is_err() {
+            unreachable!();
+        }
+    }
+    replies
+}
+
+/// Answers the commands in order, on a map that is there. Where there is no memory for the replies it hands the commands back.
+pub fn run_detaching<M, K, V, R, E, L, P, N>(
+    alloc: Global,
+    map: &mut M,
+    commands: Vec<DetachCommand<K, V>>,
+    look: L,
+    keep: P,
+    make: N,
+) -> Result<Vec<Reply<K, V, R, E>>, Vec<DetachCommand<K, V>>>
+where
+    M: Detaching<K, V>,
+    K: Key,
+    V: Drop,
+    R: Drop,
+    E: Drop,
+    L: Fn(&V) -> R + Drop,
+    P: Fn(K, &mut V) -> bool + Drop,
+    N: Fn(K) -> Result<V, E> + Drop,
+    requires looks { L.IsAlwaysCallable look }
+    requires keeps { P.IsAlwaysCallable keep }
+    requires makes { N.IsAlwaysCallable make }
+    ensures run { IfOk result (λ replies. RunFollows (DetachStep (given K.data_of L.Fn look P.Fn keep N.Fn make M.REUSES)) (M.content map.old) commands.items replies.items (M.content map.new)) }
+    ensures err { IfErr result (λ back. back ≡ commands) }
+    ensures no_key_twice { IfOk result (λ replies. NoKeyTwice K.data_of replies.items) }
+    ensures untouched { OnErr result (M.content map.new ≡ M.content map.old) }
+{
+    let Ok(replies) = Vec::with_capacity(alloc, commands.len()) else {
+        return Err(commands);
+    };
+    let _ = map.len();
+    Ok(serve_all_detaching(alloc, map, replies, commands, &look, &keep, &make))
+}
+
+/// Answers the commands in order, on a new map. Where there is no memory for the replies or the map it hands the commands back.
+pub fn run_detaching_new<M, K, V, R, E, L, P, N>(
+    alloc: Global,
+    commands: Vec<DetachCommand<K, V>>,
+    look: L,
+    keep: P,
+    make: N,
+) -> Result<(M, Vec<Reply<K, V, R, E>>), Vec<DetachCommand<K, V>>>
+where
+    M: Detaching<K, V>,
+    K: Key,
+    V: Drop,
+    R: Drop,
+    E: Drop,
+    L: Fn(&V) -> R + Drop,
+    P: Fn(K, &mut V) -> bool + Drop,
+    N: Fn(K) -> Result<V, E> + Drop,
+    requires looks { L.IsAlwaysCallable look }
+    requires keeps { P.IsAlwaysCallable keep }
+    requires makes { N.IsAlwaysCallable make }
+    ensures run { IfOk result (λ made. RunsAnew (DetachStep (given K.data_of L.Fn look P.Fn keep N.Fn make M.REUSES)) commands.items made.1.items (M.content made.0)) }
+    ensures none_retired { IfOk result (λ made. length commands.items < 2 ^ 32 → RunsAnew (Unretiring (DetachStep (given K.data_of L.Fn look P.Fn keep N.Fn make M.REUSES))) commands.items made.1.items (M.content made.0)) }
+    ensures reserve_holds { IfOk result (λ made. ReserveHolds detaching.Plain DetachGrows commands.items made.1.items) }
+    ensures no_key_twice { IfOk result (λ made. NoKeyTwice K.data_of made.1.items) }
+    ensures removed_for_good { IfOk result (λ made. RemovedForGood detaching.Plain commands.items made.1.items) }
+    ensures not_reissued { IfOk result (λ made. DetachedNotReissued K.data_of commands.items made.1.items) }
+    ensures reattaches { IfOk result (λ made. DetachedReattaches K.data_of commands.items made.1.items) }
+    ensures binds { IfOk result (λ made. ReattachBinds commands.items made.1.items) }
+    ensures last_freed_first { IfOk result (λ made. LastFreedFirst K.data_of commands.items made.1.items) }
+    ensures err { IfErr result (λ back. back ≡ commands) }
+{
+    let Ok(replies) = Vec::with_capacity(alloc, commands.len()) else {
+        return Err(commands);
+    };
+    let Ok(mut map) = M::with_key(alloc) else {
+        return Err(commands);
+    };
+    let replies = serve_all_detaching(alloc, &mut map, replies, commands, &look, &keep, &make);
+    Ok((map, replies))
+}

@@ -1,0 +1,202 @@
+//! Runs of commands on the maps that hand out their keys.
+
+ghost use Rattle.std.specs.Prelude.{◌≡◌, ◌^◌, ◌<◌, ◌≤◌, [], vec_capacity, length, IfOk, IfErr, OnErr};
+ghost use Rattle.slotmap_core.specs.Content.{IsContent};
+ghost use Rattle.slotmap_core.specs.Given.{given};
+ghost use Rattle.slotmap_core.specs.Step.{Step};
+ghost use Rattle.slotmap_core.specs.Run.{Unretiring};
+ghost use Rattle.slotmap_core.specs.Fit.{RunFollows, RunsAnew};
+ghost use Rattle.slotmap_run.specs.Order.{Serves};
+ghost use Rattle.slotmap_core.specs.Law.{Grows, NoKeyTwice, RemovedForGood, ReserveHolds};
+
+use slotmap_core::errors::{InsertError, OutOfMemory, ReserveError, TryInsertError};
+use slotmap_core::keys::Key;
+use slotmap_core::commands::{Command, Reply};
+use slotmap_core::primary::Primary;
+use std::alloc::Global;
+
+/// Answers one command.
+pub(crate) fn serve<M, K, V, R, E, L, P, N>(
+    alloc: Global,
+    map: &mut M,
+    command: Command<K, V>,
+    look: &L,
+    keep: &P,
+    make: &N,
+) -> Reply<K, V, R, E>
+where
+    M: Primary<K, V>,
+    K: Key,
+    V: Drop,
+    R: Drop,
+    E: Drop,
+    L: Fn(&V) -> R,
+    P: Fn(K, &mut V) -> bool,
+    N: Fn(K) -> Result<V, E>,
+    requires looks { L.IsAlwaysCallable look.now }
+    requires keeps { P.IsAlwaysCallable keep.now }
+    requires makes { N.IsAlwaysCallable make.now }
+    requires valid { IsContent M.REUSES (M.content map.old) }
+    ensures step { Serves (given K.data_of L.Fn look.now P.Fn keep.now N.Fn make.now M.REUSES) (M.content map.old) command result (M.content map.new) }
+    ensures valid { IsContent M.REUSES (M.content map.new) }
+{
+    match command {
+        Command::Insert(value) => match map.insert(value) {
+            Ok(key) => Reply::Key(key),
+            Err(InsertError::Full(value)) => Reply::Full(Some(value)),
+            Err(InsertError::Memory(value)) => Reply::Memory(Some(value)),
+        },
+        Command::Get(key) => match map.get(key) {
+            Some(value) => Reply::Looked(Some(look(value))),
+            None => Reply::Looked(None),
+        },
+        Command::InsertWith => match map.try_insert_with_key(
+            |key: K| -> Result<V, E>
+                requires { N.IsAlwaysCallable make.now }
+                ensures { N.post make.entry.now key result }
+            { make(key) },
+        ) {
+            Ok(key) => Reply::Key(key),
+            Err(TryInsertError::Full) => Reply::Full(None),
+            Err(TryInsertError::Memory) => Reply::Memory(None),
+            Err(TryInsertError::Closure(error)) => Reply::Failed(error),
+        },
+        Command::Contains(key) => Reply::Flag(map.contains_key(key)),
+        Command::Replace(key, value) => Reply::Put(map.replace(key, value)),
+        Command::Retain => {
+            map.retain(keep);
+            Reply::Done
+        }
+        Command::Clear => {
+            map.clear();
+            Reply::Done
+        }
+        Command::Drain => {
+            let mut pairs = Vec::new(alloc);
+            match map.drain_into(&mut pairs) {
+                Ok(()) => Reply::Drained(pairs),
+                Err(OutOfMemory) => Reply::Memory(None),
+            }
+        }
+        Command::Keys => {
+            let mut keys = Vec::new(alloc);
+            match map.keys_into(&mut keys) {
+                Ok(()) => Reply::Keys(keys),
+                Err(OutOfMemory) => Reply::Memory(None),
+            }
+        }
+        Command::Reserve(additional) => match map.reserve(additional) {
+            Ok(()) => Reply::Done,
+            Err(ReserveError::TooGreat) => Reply::TooGreat,
+            Err(ReserveError::Memory) => Reply::Memory(None),
+        },
+        Command::Remove(key) => Reply::Taken(map.remove(key)),
+        Command::Len => Reply::Len(map.len()),
+    }
+}
+
+/// Answers the commands in order. There is room for the replies.
+fn serve_all<M, K, V, R, E, L, P, N>(
+    alloc: Global,
+    map: &mut M,
+    mut replies: Vec<Reply<K, V, R, E>>,
+    commands: Vec<Command<K, V>>,
+    look: &L,
+    keep: &P,
+    make: &N,
+) -> Vec<Reply<K, V, R, E>>
+where
+    M: Primary<K, V>,
+    K: Key,
+    V: Drop,
+    R: Drop,
+    E: Drop,
+    L: Fn(&V) -> R,
+    P: Fn(K, &mut V) -> bool,
+    N: Fn(K) -> Result<V, E>,
+    requires looks { L.IsAlwaysCallable look.now }
+    requires keeps { P.IsAlwaysCallable keep.now }
+    requires makes { N.IsAlwaysCallable make.now }
+    requires none { replies.items ≡ [] }
+    requires room { length commands.items ≤ vec_capacity replies }
+    requires valid { IsContent M.REUSES (M.content map.old) }
+    ensures run { RunFollows (Step (given K.data_of L.Fn look.now P.Fn keep.now N.Fn make.now M.REUSES)) (M.content map.old) commands.items result.items (M.content map.new) }
+{
+    for command in commands {
+        let reply = serve(alloc, map, command, look, keep, make);
+        if replies.push(reply).is_err() {
+            unreachable!();
+        }
+    }
+    replies
+}
+
+/// Answers the commands in order, on a map that is there. Where there is no memory for the replies it hands the commands back.
+pub fn run<M, K, V, R, E, L, P, N>(
+    alloc: Global,
+    map: &mut M,
+    commands: Vec<Command<K, V>>,
+    look: L,
+    keep: P,
+    make: N,
+) -> Result<Vec<Reply<K, V, R, E>>, Vec<Command<K, V>>>
+where
+    M: Primary<K, V>,
+    K: Key,
+    V: Drop,
+    R: Drop,
+    E: Drop,
+    L: Fn(&V) -> R + Drop,
+    P: Fn(K, &mut V) -> bool + Drop,
+    N: Fn(K) -> Result<V, E> + Drop,
+    requires looks { L.IsAlwaysCallable look }
+    requires keeps { P.IsAlwaysCallable keep }
+    requires makes { N.IsAlwaysCallable make }
+    ensures run { IfOk result (λ replies. RunFollows (Step (given K.data_of L.Fn look P.Fn keep N.Fn make M.REUSES)) (M.content map.old) commands.items replies.items (M.content map.new)) }
+    ensures err { IfErr result (λ back. back ≡ commands) }
+    ensures no_key_twice { IfOk result (λ replies. NoKeyTwice K.data_of replies.items) }
+    ensures untouched { OnErr result (M.content map.new ≡ M.content map.old) }
+{
+    let Ok(replies) = Vec::with_capacity(alloc, commands.len()) else {
+        return Err(commands);
+    };
+    let _ = map.len();
+    Ok(serve_all(alloc, map, replies, commands, &look, &keep, &make))
+}
+
+/// Answers the commands in order, on a new map. Where there is no memory for the replies or the map it hands the commands back.
+pub fn run_new<M, K, V, R, E, L, P, N>(
+    alloc: Global,
+    commands: Vec<Command<K, V>>,
+    look: L,
+    keep: P,
+    make: N,
+) -> Result<(M, Vec<Reply<K, V, R, E>>), Vec<Command<K, V>>>
+where
+    M: Primary<K, V>,
+    K: Key,
+    V: Drop,
+    R: Drop,
+    E: Drop,
+    L: Fn(&V) -> R + Drop,
+    P: Fn(K, &mut V) -> bool + Drop,
+    N: Fn(K) -> Result<V, E> + Drop,
+    requires looks { L.IsAlwaysCallable look }
+    requires keeps { P.IsAlwaysCallable keep }
+    requires makes { N.IsAlwaysCallable make }
+    ensures run { IfOk result (λ made. RunsAnew (Step (given K.data_of L.Fn look P.Fn keep N.Fn make M.REUSES)) commands.items made.1.items (M.content made.0)) }
+    ensures none_retired { IfOk result (λ made. length commands.items < 2 ^ 32 → RunsAnew (Unretiring (Step (given K.data_of L.Fn look P.Fn keep N.Fn make M.REUSES))) commands.items made.1.items (M.content made.0)) }
+    ensures reserve_holds { IfOk result (λ made. ReserveHolds (λ command. command) Grows commands.items made.1.items) }
+    ensures no_key_twice { IfOk result (λ made. NoKeyTwice K.data_of made.1.items) }
+    ensures removed_for_good { IfOk result (λ made. RemovedForGood (λ command. command) commands.items made.1.items) }
+    ensures err { IfErr result (λ back. back ≡ commands) }
+{
+    let Ok(replies) = Vec::with_capacity(alloc, commands.len()) else {
+        return Err(commands);
+    };
+    let Ok(mut map) = M::with_key(alloc) else {
+        return Err(commands);
+    };
+    let replies = serve_all(alloc, &mut map, replies, commands, &look, &keep, &make);
+    Ok((map, replies))
+}
