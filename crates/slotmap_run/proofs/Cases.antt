@@ -1,9 +1,10 @@
 -- A step binds a fresh key, or binds none.
-use Rattle.std.proofs.Common.{◌≡◌, ℕ, ◌≤◌, arith, [], Ok, Err, Option, Some, None, true, false, ◌⊎◌, inl, inr, refl, sym, ap, is_some, ⊎_elim}
+use Rattle.std.proofs.Common.{◌≡◌, ℕ, ◌+◌, ◌≤◌, max, arith, [], Ok, Err, Option, Some, None, true, false, ◌⊎◌, inl, inr, refl, sym, ap, is_some, ⊎_elim}
 use Rattle.std.specs.FinMap as map
 use Rattle.std.specs.FinSet as set
 use Rattle.slotmap_core.specs.Key.{Key, key_cmp}
-use Rattle.slotmap_core.specs.Machine.{State, set_aside, put_back}
+use Rattle.slotmap_core.specs.Content.{most}
+use Rattle.slotmap_core.specs.Machine.{State, after_detach, after_reattach, used}
 use Rattle.slotmap_core.specs.Given.{Given}
 use Rattle.slotmap_core.specs.Step.{Step, DetachStep}
 use Rattle.slotmap_core.specs.declared.commands.Command.{Command}
@@ -12,7 +13,7 @@ use Rattle.slotmap_core.specs.declared.commands.DetachCommand.{DetachCommand}
 use Rattle.slotmap_core.specs.declared.commands.DetachCommand.TheVariants as detaching
 use Rattle.slotmap_core.specs.declared.commands.Reply.{Reply}
 use Rattle.slotmap_core.specs.declared.commands.Reply.TheVariants as reply
-use Rattle.slotmap_core.specs.Law.{told, Spares}
+use Rattle.slotmap_core.specs.Law.{reply_keys, Spares}
 use Rattle.slotmap_core.proofs.KeyLemmas.{keys_total, exact_keys}
 use Rattle.slotmap_core.proofs.Maps.{in_after_insert, in_after_remove, item_after_insert, item_after_remove, item_still, item_left}
 use Rattle.slotmap_run.proofs.Laws.{Binds, Shrinks}
@@ -29,27 +30,28 @@ record Quiet {K V R E : Type 0} (data_of : K → Key) (old new : State V) (r : R
   shrinks : Shrinks data_of old r new
   detached : new.detached ≡ old.detached
 
-module _ {K V R E : Type 0} (data_of : K → Key) (old new : State V) (r : Reply K V R E) (quiet : told data_of r ≡ []) where
+module _ {K V R E : Type 0} (data_of : K → Key) (old new : State V) (r : Reply K V R E) (quiet : reply_keys data_of r ≡ []) where
   stays : new ≡ old → Quiet data_of old new r
   stays e = record {
-    shrinks = record { tells = quiet; issued = ap (λ (s : State V). s.issued) e; held = λ k h. rw (← e) h; apart = λ a. rw e a; promised = rw e (omega arith) };
+    shrinks = record { tells = quiet; issued = ap (λ (s : State V). s.issued) e; held = λ k h. rw (← e) h; apart = λ a. rw e a; promised = rw e (omega arith); within = λ h. rw e h };
     detached = ap (λ (s : State V). s.detached) e;
   }
 
   -- the live map of old, changed, and no other part but what is promised
-  changes : (m : map.FinMap key_cmp V) (n : ℕ) → new ≡ record old { live = m; promised = n } → old.promised ≤ n → ((k : Key) → map.contains_key m k ≡ true → map.contains_key old.live k ≡ true) → Quiet data_of old new r
-  changes m n e more fewer = record {
+  changes : (m : map.FinMap key_cmp V) (n : ℕ) → new ≡ record old { live = m; promised = n } → old.promised ≤ n → (used old + old.promised ≤ most → used old + n ≤ most) → ((k : Key) → map.contains_key m k ≡ true → map.contains_key old.live k ≡ true) → Quiet data_of old new r
+  changes m n e more within fewer = record {
     shrinks = rw e (record {
       tells = quiet;
       issued = refl;
       held = λ k h. elim h [ inl g ↦ inl (fewer k g) | inr g ↦ inr g ];
       apart = λ a k h g. a k (fewer k h) g;
       promised = omega arith;
+      within = within;
     });
     detached = ap (λ (s : State V). s.detached) e;
   }
 
-  sets_aside : (k : Key) → map.contains_key old.live k ≡ true → new ≡ set_aside old k → Shrinks data_of old r new
+  sets_aside : (k : Key) → map.contains_key old.live k ≡ true → new ≡ after_detach old k → Shrinks data_of old r new
   sets_aside k is_live e = rw e (record {
     tells = quiet;
     issued = refl;
@@ -60,9 +62,10 @@ module _ {K V R E : Type 0} (data_of : K → Key) (old new : State V) (r : Reply
     apart = λ a q h g. let was = in_after_remove keys_total exact_keys old.live k q h in
         ⊎_elim (λ e. was.0 e) (λ g. a q was.1 g) (item_after_insert keys_total exact_keys old.detached k q g);
     promised = omega arith;
+    within = λ h. omega arith;
   })
 
-  puts_back : (k : Key) (v : V) → set.contains old.detached k ≡ true → new ≡ put_back old k v → Shrinks data_of old r new
+  puts_back : (k : Key) (v : V) → set.contains old.detached k ≡ true → new ≡ after_reattach old k v → Shrinks data_of old r new
   puts_back k v is_detached e = rw e (record {
     tells = quiet;
     issued = refl;
@@ -73,32 +76,33 @@ module _ {K V R E : Type 0} (data_of : K → Key) (old new : State V) (r : Reply
     apart = λ a q h g. let was = item_after_remove keys_total exact_keys old.detached k q g in
         ⊎_elim (λ e. was.0 e) (λ p. a q p.1 was.1) (in_after_insert keys_total exact_keys old.live k v q h);
     promised = omega arith;
+    within = λ h. omega arith;
   })
 
 module _ {K V R E : Type 0} (given : Given K V R E) where
   quiet_cases : (old : State V) (c : Command K V) (r : Reply K V R E) (new : State V) → Step given old c r new → Binds given.data_of old r new ⊎ Quiet given.data_of old new r
-  quiet_cases old (command.Insert v) (reply.Key k) new h = inl (record { key = given.data_of k; value = v; tells = refl; fresh = h.1; is = h.2 })
+  quiet_cases old (command.Insert v) (reply.Key k) new h = inl (record { key = given.data_of k; value = v; tells = refl; below_limit = h.0; fresh = h.1; is = h.2 })
   quiet_cases old (command.Insert v) (reply.Full b) new h = inr (stays given.data_of old new (reply.Full b) refl h.2)
   quiet_cases old (command.Insert v) (reply.Memory b) new h = inr (stays given.data_of old new (reply.Memory b) refl h.2)
-  quiet_cases old command.InsertWith (reply.Key k) new h = inl (record { key = given.data_of k; value = h.2.0; tells = refl; fresh = h.1; is = h.2.2 })
+  quiet_cases old command.InsertWith (reply.Key k) new h = inl (record { key = given.data_of k; value = h.2.0; tells = refl; below_limit = h.0; fresh = h.1; is = h.2.2 })
   quiet_cases old command.InsertWith (reply.Full b) new h = inr (stays given.data_of old new (reply.Full b) refl h.2)
   quiet_cases old command.InsertWith (reply.Memory b) new h = inr (stays given.data_of old new (reply.Memory b) refl h.2)
   quiet_cases old command.InsertWith (reply.Failed e) new h = inr (stays given.data_of old new (reply.Failed e) refl h.2)
   quiet_cases old (command.Get k) (reply.Looked None) new h = inr (stays given.data_of old new (reply.Looked None) refl h.1)
   quiet_cases old (command.Get k) (reply.Looked (Some x)) new h = inr (stays given.data_of old new (reply.Looked (Some x)) refl h.1)
   quiet_cases old (command.Contains k) (reply.Flag b) new h = inr (stays given.data_of old new (reply.Flag b) refl h.1)
-  quiet_cases old (command.Replace k v) (reply.Put (Ok b)) new h = inr (changes given.data_of old new (reply.Put (Ok b)) refl _ _ h.1 (omega arith) (λ q g. ⊎_elim (λ (e : q ≡ given.data_of k). rw e (ap is_some h.0)) (λ p. p.1) (in_after_insert keys_total exact_keys old.live (given.data_of k) v q g)))
+  quiet_cases old (command.Replace k v) (reply.Put (Ok b)) new h = inr (changes given.data_of old new (reply.Put (Ok b)) refl _ _ h.1 (omega arith) (λ w. w) (λ q g. ⊎_elim (λ (e : q ≡ given.data_of k). rw e (ap is_some h.0)) (λ p. p.1) (in_after_insert keys_total exact_keys old.live (given.data_of k) v q g)))
   quiet_cases old (command.Replace k v) (reply.Put (Err b)) new h = inr (stays given.data_of old new (reply.Put (Err b)) refl h.2)
-  quiet_cases old (command.Remove k) (reply.Taken (Some v)) new h = inr (changes given.data_of old new (reply.Taken (Some v)) refl _ _ h.1 (omega arith) (λ q g. (in_after_remove keys_total exact_keys old.live (given.data_of k) q g).1))
+  quiet_cases old (command.Remove k) (reply.Taken (Some v)) new h = inr (changes given.data_of old new (reply.Taken (Some v)) refl _ _ h.1 (omega arith) (λ w. w) (λ q g. (in_after_remove keys_total exact_keys old.live (given.data_of k) q g).1))
   quiet_cases old (command.Remove k) (reply.Taken None) new h = inr (stays given.data_of old new (reply.Taken None) refl h.1)
-  quiet_cases old command.Retain reply.Done new h = inr (changes given.data_of old new reply.Done refl _ _ h.rest (omega arith) (λ q g. of_none _ _ (h.no_more q) g))
-  quiet_cases old command.Clear reply.Done new h = inr (changes given.data_of old new reply.Done refl _ _ h (omega arith) (λ q g. absurd (none_in_empty V q g)))
-  quiet_cases old command.Drain (reply.Drained p) new h = inr (changes given.data_of old new (reply.Drained p) refl _ _ h.1 (omega arith) (λ q g. absurd (none_in_empty V q g)))
+  quiet_cases old command.Retain reply.Done new h = inr (changes given.data_of old new reply.Done refl _ _ h.rest (omega arith) (λ w. w) (λ q g. of_none _ _ (h.no_more q) g))
+  quiet_cases old command.Clear reply.Done new h = inr (changes given.data_of old new reply.Done refl _ _ h (omega arith) (λ w. w) (λ q g. absurd (none_in_empty V q g)))
+  quiet_cases old command.Drain (reply.Drained p) new h = inr (changes given.data_of old new (reply.Drained p) refl _ _ h.1 (omega arith) (λ w. w) (λ q g. absurd (none_in_empty V q g)))
   quiet_cases old command.Drain (reply.Memory b) new h = inr (stays given.data_of old new (reply.Memory b) refl h.1)
   quiet_cases old command.Keys (reply.Keys p) new h = inr (stays given.data_of old new (reply.Keys p) refl h.1)
   quiet_cases old command.Keys (reply.Memory b) new h = inr (stays given.data_of old new (reply.Memory b) refl h.1)
   quiet_cases old command.Len (reply.Len n) new h = inr (stays given.data_of old new (reply.Len n) refl h.1)
-  quiet_cases old (command.Reserve n) reply.Done new h = inr (changes given.data_of old new reply.Done refl _ _ h.1 (omega arith) (λ q g. g))
+  quiet_cases old (command.Reserve n) reply.Done new h = inr (changes given.data_of old new reply.Done refl _ _ h.1 (omega arith) (λ w. let room = h.0 in omega arith) (λ q g. g))
   quiet_cases old (command.Reserve n) reply.TooGreat new h = inr (stays given.data_of old new reply.TooGreat refl h.1)
   quiet_cases old (command.Reserve n) (reply.Memory b) new h = inr (stays given.data_of old new (reply.Memory b) refl h.2)
   quiet_cases old _ _ new h = absurd h

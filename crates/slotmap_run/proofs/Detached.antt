@@ -3,7 +3,7 @@ use Rattle.std.proofs.Common.{Ok, Err, sym, ◌≡◌, List, ◌∷◌, ◌++◌
 use Rattle.std.specs.Option.{unwrap_or}
 use Rattle.std.specs.FinMap as map
 use Rattle.std.specs.FinSet as set
-use Rattle.slotmap_core.specs.Machine.{State, IsIssued, empty}
+use Rattle.slotmap_core.specs.Machine.{State, IsIssued}
 use Rattle.slotmap_core.specs.Given.{Given}
 use Rattle.slotmap_core.specs.Step.{DetachStep}
 use Rattle.slotmap_core.specs.Run.{Run}
@@ -15,21 +15,22 @@ use Rattle.slotmap_core.specs.declared.commands.Reply.TheVariants as reply
 use Rattle.slotmap_core.specs.Law.{keys_told, DetachedNotReissued, DetachedReattaches, ReattachBinds, Spares}
 use Rattle.slotmap_core.proofs.KeyLemmas.{keys_total, exact_keys}
 use Rattle.slotmap_core.proofs.Maps.{item_inserted, get_inserted}
-use Rattle.slotmap_run.proofs.Laws.{IsGood, empty_good, good_stays, told_new, weaker}
+use Rattle.slotmap_run.proofs.Laws.{IsGood, good_stays, told_new, weaker}
 use Rattle.slotmap_run.proofs.Cases.{detach_cases, detached_stays}
 use Rattle.slotmap_run.proofs.Runs.{run_split, run_keeps, run_keeps_by}
+use Rattle.slotmap_run.proofs.Anew.{RunsWell}
 
 module _ {K V R E : Type 0} (given : Given K V R E) where
-  good_at : (cs : List (DetachCommand K V)) (rs : List (Reply K V R E)) (s : State V) → Run (DetachStep given) empty cs rs s → IsGood s
-  good_at cs rs s run = run_keeps (DetachStep given) IsGood (good_stays given.data_of (DetachStep given) (detach_cases given)) cs rs empty s run empty_good
+  good_at : (cs : List (DetachCommand K V)) (rs : List (Reply K V R E)) (s t : State V) → IsGood s → Run (DetachStep given) s cs rs t → IsGood t
+  good_at cs rs s t good run = run_keeps (DetachStep given) IsGood (good_stays given.data_of (DetachStep given) (detach_cases given)) cs rs s t run good
 
-  pub detached_not_reissued : (commands : List (DetachCommand K V)) (replies : List (Reply K V R E)) (t : State V) → Run (DetachStep given) empty commands replies t → DetachedNotReissued given.data_of commands replies
-  detached_not_reissued commands replies t run cs ds rs ss key v e is js =
-      let run : Run (DetachStep given) empty (cs ++ detaching.Detach key ∷ ds) (rs ++ reply.Taken (Some v) ∷ ss) t = rw (← is, ← js) run in
-      let first = run_split (DetachStep given) cs rs (detaching.Detach key) (reply.Taken (Some v)) ds ss empty t e run in
-      let issued : IsIssued first.0 (given.data_of key) = (good_at cs rs first.0 first.2).held_issued (given.data_of key) (inl (ap is_some first.3.0)) in
+  pub detached_not_reissued : (commands : List (DetachCommand K V)) (replies : List (Reply K V R E)) → RunsWell (DetachStep given) commands replies → DetachedNotReissued given.data_of commands replies
+  detached_not_reissued commands replies well cs ds rs ss key v e is js =
+      let run : Run (DetachStep given) well.first (cs ++ detaching.Detach key ∷ ds) (rs ++ reply.Taken (Some v) ∷ ss) well.last = rw (← is, ← js) well.run in
+      let first = run_split (DetachStep given) cs rs (detaching.Detach key) (reply.Taken (Some v)) ds ss well.first well.last e run in
+      let issued : IsIssued first.0 (given.data_of key) = (good_at cs rs well.first first.0 well.good first.2).held_issued (given.data_of key) (inl (ap is_some first.3.0)) in
       let still : IsIssued first.1 (given.data_of key) = rw first.3.1 issued in
-      weaker (λ q h e. h (rw e still)) (keys_told given.data_of ss) (told_new given.data_of (DetachStep given) (detach_cases given) ds ss first.1 t first.4).0
+      weaker (λ q h e. h (rw e still)) (keys_told given.data_of ss) (told_new given.data_of (DetachStep given) (detach_cases given) ds ss first.1 well.last first.4).0
 
   answered : (old : State V) (key : K) (w : V) (answer : Reply K V R E) (new : State V) → set.contains old.detached (given.data_of key) ≡ true → DetachStep given old (detaching.Reattach key w) answer new → (answer ≡ reply.Done) ⊎ (answer ≡ reply.Memory (Some w))
   answered old key w reply.Done new h step = inl refl
@@ -37,11 +38,11 @@ module _ {K V R E : Type 0} (given : Given K V R E) where
   answered old key w (reply.NotDetached back) new h step = let none = step.0 in absurd (cc)
   answered old key w _ new h step = absurd step
 
-  pub detached_reattaches : (commands : List (DetachCommand K V)) (replies : List (Reply K V R E)) (t : State V) → Run (DetachStep given) empty commands replies t → DetachedReattaches given.data_of commands replies
-  detached_reattaches commands replies t run cs ds es rs ss us key v w answer e f spares is js =
-      let run : Run (DetachStep given) empty (cs ++ detaching.Detach key ∷ (ds ++ detaching.Reattach key w ∷ es)) (rs ++ reply.Taken (Some v) ∷ (ss ++ answer ∷ us)) t = rw (← is, ← js) run in
-      let first = run_split (DetachStep given) cs rs (detaching.Detach key) (reply.Taken (Some v)) (ds ++ detaching.Reattach key w ∷ es) (ss ++ answer ∷ us) empty t e run in
-      let second = run_split (DetachStep given) ds ss (detaching.Reattach key w) answer es us first.1 t f first.4 in
+  pub detached_reattaches : (commands : List (DetachCommand K V)) (replies : List (Reply K V R E)) → RunsWell (DetachStep given) commands replies → DetachedReattaches given.data_of commands replies
+  detached_reattaches commands replies well cs ds es rs ss us key v w answer e f spares is js =
+      let run : Run (DetachStep given) well.first (cs ++ detaching.Detach key ∷ (ds ++ detaching.Reattach key w ∷ es)) (rs ++ reply.Taken (Some v) ∷ (ss ++ answer ∷ us)) well.last = rw (← is, ← js) well.run in
+      let first = run_split (DetachStep given) cs rs (detaching.Detach key) (reply.Taken (Some v)) (ds ++ detaching.Reattach key w ∷ es) (ss ++ answer ∷ us) well.first well.last e run in
+      let second = run_split (DetachStep given) ds ss (detaching.Reattach key w) answer es us first.1 well.last f first.4 in
       let aside : set.contains first.1.detached (given.data_of key) ≡ true = ap (λ (s : State V). set.contains s.detached (given.data_of key)) first.3.1 ∙ item_inserted keys_total exact_keys first.0.detached (given.data_of key) in
       let still = run_keeps_by (DetachStep given) (λ s. set.contains s.detached (given.data_of key) ≡ true) (Spares given.data_of (given.data_of key)) (detached_stays given (given.data_of key)) ds ss first.1 second.0 spares second.2 aside in
       answered second.0 key w answer second.1 still second.3
@@ -51,9 +52,9 @@ module _ {K V R E : Type 0} (given : Given K V R E) where
   replaces old key w u (reply.Put (Err back)) new found step = let none = step.0 in absurd (cc)
   replaces old key w u _ new found step = absurd step
 
-  pub reattach_binds : (commands : List (DetachCommand K V)) (replies : List (Reply K V R E)) (t : State V) → Run (DetachStep given) empty commands replies t → ReattachBinds commands replies
-  reattach_binds commands replies t run cs ds rs ss key w u answer e is js =
-      let run : Run (DetachStep given) empty (cs ++ detaching.Reattach key w ∷ detaching.Plain (command.Replace key u) ∷ ds) (rs ++ reply.Done ∷ answer ∷ ss) t = rw (← is, ← js) run in
-      let first = run_split (DetachStep given) cs rs (detaching.Reattach key w) reply.Done (detaching.Plain (command.Replace key u) ∷ ds) (answer ∷ ss) empty t e run in
+  pub reattach_binds : (commands : List (DetachCommand K V)) (replies : List (Reply K V R E)) → RunsWell (DetachStep given) commands replies → ReattachBinds commands replies
+  reattach_binds commands replies well cs ds rs ss key w u answer e is js =
+      let run : Run (DetachStep given) well.first (cs ++ detaching.Reattach key w ∷ detaching.Plain (command.Replace key u) ∷ ds) (rs ++ reply.Done ∷ answer ∷ ss) well.last = rw (← is, ← js) well.run in
+      let first = run_split (DetachStep given) cs rs (detaching.Reattach key w) reply.Done (detaching.Plain (command.Replace key u) ∷ ds) (answer ∷ ss) well.first well.last e run in
       let found : map.get first.1.live (given.data_of key) ≡ Some w = ap (λ (s : State V). map.get s.live (given.data_of key)) first.3.1 ∙ get_inserted keys_total exact_keys first.0.live (given.data_of key) w in
       replaces first.1 key w u answer first.4.0 found first.4.1

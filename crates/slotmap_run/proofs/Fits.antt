@@ -7,7 +7,7 @@ use Rattle.slotmap_core.specs.Key.{Key, key_cmp}
 use Rattle.slotmap_core.specs.Content.{Content, IsContent, Stands, IsRetired, used, places, most}
 use Rattle.slotmap_core.specs.Transition.{IsNew, Inserts}
 use Rattle.slotmap_core.specs.Machine as machine
-use Rattle.slotmap_core.specs.Machine.{State, IsIssued, IsHeld, Fresh, bound, without, with_value, with_promise, set_aside, put_back, retired}
+use Rattle.slotmap_core.specs.Machine.{State, IsIssued, IsHeld, Fresh, after_insert, after_remove, after_replace, after_reserve, after_detach, after_reattach, retired}
 use Rattle.slotmap_core.specs.Fit.{Fits}
 use Rattle.slotmap_core.proofs.KeyLemmas.{keys_total, exact_keys}
 use Rattle.slotmap_core.proofs.Maps.{in_after_insert, in_inserted, still_in, item_after_insert, item_inserted, item_still}
@@ -76,16 +76,16 @@ module _ {V : Type 0} (reuses : Bool) (s : State V) (old new : Content V) (ok : 
     issued_after : (q : Key) → set.contains (set.insert s.issued k) q ≡ true → (q ≡ k) ⊎ IsIssued s q
     issued_after q h = item_after_insert keys_total exact_keys s.issued k q h
 
-    held_before : (q : Key) → IsHeld (bound s k v) q → (q ≡ k) ⊎ IsHeld s q
+    held_before : (q : Key) → IsHeld (after_insert s k v) q → (q ≡ k) ⊎ IsHeld s q
     held_before q (inl h) = ⊎_elim (λ e. inl e) (λ p. inr (inl p.1)) (in_after_insert keys_total exact_keys s.live k v q h)
     held_before q (inr h) = inr (inr h)
 
-    held_still : (q : Key) → IsHeld s q → IsHeld (bound s k v) q
+    held_still : (q : Key) → IsHeld s q → IsHeld (after_insert s k v) q
     held_still q (inl h) = inl (still_in keys_total exact_keys s.live k v q h)
     held_still q (inr h) = inr h
 
-    same_retired : retired (bound s k v) ≡ old.retired
-    same_retired = retired_is (bound s k v) old.retired
+    same_retired : retired (after_insert s k v) ≡ old.retired
+    same_retired = retired_is (after_insert s k v) old.retired
         (λ q h. elim (issued_after q h.issued) [
           | inl e ↦ absurd (h.not_held (inl (rw e (in_inserted keys_total exact_keys s.live k v))))
           | inr g ↦ was_retired q (record { issued = g; last = h.last; not_held = λ held. h.not_held (held_still q held) })
@@ -99,7 +99,7 @@ module _ {V : Type 0} (reuses : Bool) (s : State V) (old new : Content V) (ok : 
           ];
         })
 
-    pub inserts_fits : Fits (bound s k v) new
+    pub inserts_fits : Fits (after_insert s k v) new
     inserts_fits = record {
       live = ap (λ (m : map.FinMap key_cmp V). map.insert m k v) fits.live ∙ sym i.live;
       detached = fits.detached ∙ sym i.detached;
@@ -151,7 +151,7 @@ module _ {V : Type 0} (reuses : Bool) (s : State V) (old new : Content V) (ok : 
     }
 
 module _ {V : Type 0} (c : Content V) (new : IsNew c) where
-  none_issued : (k : Key) → IsIssued (machine.empty {V = V}) k → ⊥
+  none_issued : (k : Key) → IsIssued (machine.empty_state {V = V}) k → ⊥
   none_issued k h = let none = set.contains-empty key_cmp k in absurd (cc)
 
   none_retired : (k : Key) → IsRetired c k → ⊥
@@ -165,11 +165,11 @@ module _ {V : Type 0} (c : Content V) (new : IsNew c) where
       let next : map.len c.next ≡ 0 = ap (λ (m : map.FinMap nat_cmp ℕ). map.len m) new.next ∙ map.len-empty nat_cmp ℕ in
       omega arith
 
-  pub new_fits : Fits machine.empty c
+  pub new_fits : Fits machine.empty_state c
   new_fits = record {
     live = sym new.live;
     detached = sym new.detached;
-    retired = retired_is machine.empty c.retired (λ k h. absurd (none_issued k h.issued)) (λ k h. absurd (none_retired k h));
+    retired = retired_is machine.empty_state c.retired (λ k h. absurd (none_issued k h.issued)) (λ k h. absurd (none_retired k h));
     peak = sym no_places;
     promised = omega arith;
     issued = λ k h. absurd (new_stands c new k h);

@@ -1,21 +1,19 @@
 -- What follows from a run of a machine alone.
-use Rattle.std.proofs.Common.{◌≡◌, ◌+◌, ◌-◌, ◌≤◌, List, [], ◌∷◌, length, true, false, ◌⊎◌, inl, inr, refl, sym, ap, ◌∙◌, subst, arith, is_some, ⊎_elim}
+use Rattle.std.proofs.Common.{◌≡◌, ◌≢◌, ◌+◌, ◌-◌, ◌≤◌, List, [], ◌∷◌, length, true, false, ◌⊎◌, inl, inr, refl, sym, ap, ◌∙◌, subst, arith, is_some, ⊎_elim}
 use Rattle.std.specs.List.{IsDistinct, AllByRecursion}
 use Rattle.std.specs.FinMap as map
 use Rattle.std.specs.FinSet as set
 use Rattle.slotmap_core.specs.Key.{Key, key_cmp}
-use Rattle.slotmap_core.specs.Machine.{State, IsIssued, IsHeld, Fresh, bound, empty, retired}
+use Rattle.slotmap_core.specs.Content.{most}
+use Rattle.slotmap_core.specs.Machine.{State, IsIssued, IsHeld, Fresh, after_insert, empty_state, retired, used}
 use Rattle.slotmap_core.specs.Run.{Run, Unretiring}
 use Rattle.slotmap_core.specs.declared.commands.Reply.{Reply}
-use Rattle.slotmap_core.specs.Law.{told, keys_told, NoKeyTwice}
+use Rattle.slotmap_core.specs.Law.{reply_keys, keys_told, NoKeyTwice}
 use Rattle.slotmap_core.proofs.KeyLemmas.{keys_total, exact_keys, tied}
 use Rattle.slotmap_core.proofs.Maps.{false_of, in_after_insert, item_inserted, item_still}
-use Rattle.slotmap_core.proofs.Retired.{spent_of_retired, retired_of_spent}
+use Rattle.slotmap_core.proofs.Retired.{spent_of_retired, retired_of_spent, retired_is}
 use Rattle.slotmap_run.proofs.Runs.{run_keeps}
-
--- no key is both live and detached
-abbrev pub IsApart : {V : Type 0} → State V → Type 0
-IsApart s = (k : Key) → map.contains_key s.live k ≡ true → set.contains s.detached k ≡ true → ⊥
+use Rattle.slotmap_run.proofs.Used.{IsApart, no_more_used, one_more_used, apart_after}
 
 pub weaker : {A : Type 0} {P Q : A → Type 0} → ((x : A) → P x → Q x) → (xs : List A) → AllByRecursion P xs → AllByRecursion Q xs
 weaker f [] h = tt
@@ -27,20 +25,30 @@ module _ {V : Type 0} where
     pub not_held : IsHeld s k → ⊥
     pub issued : IsIssued s k
 
+  -- what the empty state has, and each step keeps
   pub record IsGood (s : State V) : Type 0 where
     pub held_issued : (k : Key) → IsHeld s k → IsIssued s k
     pub apart : IsApart s
+    -- the inserts that are owed don't pass the limit
+    pub within : used s + s.promised ≤ most
 
-  pub empty_good : IsGood empty
+  pub empty_good : IsGood empty_state
   empty_good = record {
     held_issued = λ k h. elim h [
       | inl g ↦ let none : map.contains_key (map.empty {X = V} {R = key_cmp}) k ≡ false = ap is_some (map.get-empty key_cmp k) in absurd (cc)
       | inr g ↦ let none = set.contains-empty key_cmp k in absurd (cc)
     ];
     apart = λ k h g. let none = set.contains-empty key_cmp k in absurd (cc);
+    within =
+        let live : map.len (map.empty {X = V} {R = key_cmp}) ≡ 0 = map.len-empty key_cmp V in
+        let detached : set.len (set.empty {R = key_cmp}) ≡ 0 = set.len-empty key_cmp in
+        let none : retired (empty_state {V = V}) ≡ set.empty =
+            retired_is empty_state set.empty (λ k h. let none = set.contains-empty key_cmp k in let is = h.issued in absurd (cc)) (λ k h. let none = set.contains-empty key_cmp k in absurd (cc)) in
+        let retired : set.len (retired (empty_state {V = V})) ≡ 0 = ap set.len none ∙ set.len-empty key_cmp in
+        omega arith;
   }
 
-  bound_held : (s : State V) (k : Key) (v : V) (q : Key) → IsHeld (bound s k v) q → (q ≡ k) ⊎ IsHeld s q
+  bound_held : (s : State V) (k : Key) (v : V) (q : Key) → IsHeld (after_insert s k v) q → (q ≡ k) ⊎ IsHeld s q
   bound_held s k v q (inl h) = ⊎_elim (λ e. inl e) (λ p. inr (inl p.1)) (in_after_insert keys_total exact_keys s.live k v q h)
   bound_held s k v q (inr h) = inr (inr h)
 
@@ -52,17 +60,20 @@ module _ {K V R E : Type 0} (data_of : K → Key) where
   pub record Binds (old : State V) (r : Reply K V R E) (new : State V) : Type 0 where
     pub key : Key
     pub value : V
-    pub tells : told data_of r ≡ key ∷ []
+    pub tells : reply_keys data_of r ≡ key ∷ []
+    pub below_limit : used old ≢ most
     pub fresh : Fresh old key
-    pub is : new ≡ bound old key value
+    pub is : new ≡ after_insert old key value
 
   -- no key is answered, and none becomes live or detached that was neither
   pub record Shrinks (old : State V) (r : Reply K V R E) (new : State V) : Type 0 where
-    pub tells : told data_of r ≡ []
+    pub tells : reply_keys data_of r ≡ []
     pub issued : new.issued ≡ old.issued
     pub held : (k : Key) → IsHeld new k → IsHeld old k
     pub apart : IsApart old → IsApart new
     pub promised : old.promised ≤ new.promised + 1
+    -- what is newly promised doesn't pass the limit
+    pub within : used old + old.promised ≤ most → used old + new.promised ≤ most
 
   module _ {C : Type 0} (Step : State V → C → Reply K V R E → State V → Type 0)
       (cases : (old : State V) (c : C) (r : Reply K V R E) (new : State V) → Step old c r new → Binds old r new ⊎ Shrinks old r new) where
@@ -79,12 +90,14 @@ module _ {K V R E : Type 0} (data_of : K → Key) where
           | inl e ↦ rw e (item_inserted keys_total exact_keys old.issued b.key)
           | inr g ↦ item_still keys_total exact_keys old.issued b.key k (good.held_issued k g)
         ];
-        apart = λ k h g. elim (in_after_insert keys_total exact_keys old.live b.key b.value k h) [
-          | inl e ↦ b.fresh.apart k (inr g) (ap (λ (x : Key). x.index) e)
-          | inr p ↦ good.apart k p.1 g
-        ];
+        apart = apart_after old b.key b.value good.apart b.fresh;
+        within = let grows = one_more_used old b.key b.value good.apart b.fresh in let below = b.below_limit in let owed = good.within in omega arith;
       })
-      | inr s ↦ record { held_issued = λ k h. rw s.issued (good.held_issued k (s.held k h)); apart = s.apart good.apart }
+      | inr s ↦ record {
+        held_issued = λ k h. rw s.issued (good.held_issued k (s.held k h));
+        apart = s.apart good.apart;
+        within = let fewer = no_more_used old new good.apart (s.apart good.apart) s.issued s.held in let owed = s.within good.within in omega arith;
+      }
     ]
 
     pub gone_stays : (k : Key) (old : State V) (c : C) (r : Reply K V R E) (new : State V) → Step old c r new → Gone old k → Gone new k
@@ -141,7 +154,7 @@ module _ {K V R E : Type 0} (data_of : K → Key) where
         run.1,
         set.same_set keys_total exact_keys (retired run.0) set.empty (λ k. false_of _ (λ h.
             let still = run_keeps Step (λ u. set.contains (retired u) k ≡ true) (retired_stays k) cs rs run.0 t run.2 h in
-            let empty : set.contains (retired t) k ≡ false = ap (λ (d : set.FinSet key_cmp). set.contains d k) none ∙ set.contains-empty key_cmp k in absurd (cc)) ∙ sym (set.contains-empty key_cmp k)),
+            let nothing : set.contains (retired t) k ≡ false = ap (λ (d : set.FinSet key_cmp). set.contains d k) none ∙ set.contains-empty key_cmp k in absurd (cc)) ∙ sym (set.contains-empty key_cmp k)),
       ),
       unretired cs rs run.0 t run.2 none,
     )

@@ -5,7 +5,7 @@ use Rattle.std.specs.FinSet as set
 use Rattle.slotmap_core.specs.Key.{Key, is_last, key_cmp}
 use Rattle.slotmap_core.specs.Content.{Content, IsContent, IsLive}
 use Rattle.slotmap_core.specs.Transition.{Keeps, Removes, Replaces, Leaves, Detaches, Reattaches, has_left}
-use Rattle.slotmap_core.specs.Machine.{State, IsHeld, without, with_value, with_promise, set_aside, put_back, retired}
+use Rattle.slotmap_core.specs.Machine.{State, IsHeld, after_remove, after_replace, after_reserve, after_detach, after_reattach, retired}
 use Rattle.slotmap_core.specs.Fit.{Fits}
 use Rattle.slotmap_core.proofs.KeyLemmas.{keys_total, exact_keys, same_or_other}
 use Rattle.slotmap_core.proofs.Maps.{of_and, of_or, of_not, not_of, or_left, or_right, in_after_insert, in_after_remove, in_inserted, still_in, left_in, item_after_insert, item_inserted, item_still, item_after_remove, item_left}
@@ -19,64 +19,64 @@ module _ {V : Type 0} (reuses : Bool) (s : State V) (old new : Content V) (ok : 
     pub keeps_fits : Fits s new
     keeps_fits = less_fits reuses s old new ok fits s (fits.live ∙ sym k.live) (fits.detached ∙ sym k.detached) (fits.retired ∙ sym k.retired) refl refl (let room = k.room in let promised = fits.promised in omega arith) (kept_stands old new k) (kept_places reuses old new ok k) (same_vacant old new k.next)
 
-    pub promises_fits : (n : ℕ) → n ≤ new.room → Fits (with_promise s n) new
-    promises_fits n h = less_fits reuses s old new ok fits (with_promise s n) (fits.live ∙ sym k.live) (fits.detached ∙ sym k.detached) (retired_same s (with_promise s n) refl (λ q h. h) (λ q h. h) ∙ fits.retired ∙ sym k.retired) refl refl
+    pub promises_fits : (n : ℕ) → n ≤ new.room → Fits (after_reserve s n) new
+    promises_fits n h = less_fits reuses s old new ok fits (after_reserve s n) (fits.live ∙ sym k.live) (fits.detached ∙ sym k.detached) (retired_same s (after_reserve s n) refl (λ q h. h) (λ q h. h) ∙ fits.retired ∙ sym k.retired) refl refl
         (let room = k.room in let promised = fits.promised in omega arith) (kept_stands old new k) (kept_places reuses old new ok k) (same_vacant old new k.next)
 
   module _ (k : Key) (v : V) (is_live : IsLive old k) (r : Replaces old k v new) where
-    value_held : (q : Key) → IsHeld (with_value s k v) q → IsHeld s q
+    value_held : (q : Key) → IsHeld (after_replace s k v) q → IsHeld s q
     value_held q (inl h) = ⊎_elim (λ e. inl (rw fits.live (rw e is_live))) (λ p. inl p.1) (in_after_insert keys_total exact_keys s.live k v q h)
     value_held q (inr h) = inr h
 
-    held_value : (q : Key) → IsHeld s q → IsHeld (with_value s k v) q
+    held_value : (q : Key) → IsHeld s q → IsHeld (after_replace s k v) q
     held_value q (inl h) = inl (still_in keys_total exact_keys s.live k v q h)
     held_value q (inr h) = inr h
 
-    pub replaces_fits : Fits (with_value s k v) new
-    replaces_fits = less_fits reuses s old new ok fits (with_value s k v) (ap (λ (m : map.FinMap key_cmp V). map.insert m k v) fits.live ∙ sym r.live) (fits.detached ∙ sym r.detached)
-        (retired_same s (with_value s k v) refl value_held held_value ∙ fits.retired ∙ sym r.retired) refl refl (let room = r.room in let promised = fits.promised in omega arith) (replaced_stands old new k v is_live r) (replaced_places reuses old new ok k v is_live r) (same_vacant old new r.next)
+    pub replaces_fits : Fits (after_replace s k v) new
+    replaces_fits = less_fits reuses s old new ok fits (after_replace s k v) (ap (λ (m : map.FinMap key_cmp V). map.insert m k v) fits.live ∙ sym r.live) (fits.detached ∙ sym r.detached)
+        (retired_same s (after_replace s k v) refl value_held held_value ∙ fits.retired ∙ sym r.retired) refl refl (let room = r.room in let promised = fits.promised in omega arith) (replaced_stands old new k v is_live r) (replaced_places reuses old new ok k v is_live r) (same_vacant old new r.next)
 
   module _ (k : Key) (is_live : IsLive old k) (r : Detaches old k new) where
-    aside_held : (q : Key) → IsHeld (set_aside s k) q → IsHeld s q
+    aside_held : (q : Key) → IsHeld (after_detach s k) q → IsHeld s q
     aside_held q (inl h) = inl (in_after_remove keys_total exact_keys s.live k q h).1
     aside_held q (inr h) = ⊎_elim (λ e. inl (rw fits.live (rw e is_live))) (λ g. inr g) (item_after_insert keys_total exact_keys s.detached k q h)
 
-    held_aside : (q : Key) → IsHeld s q → IsHeld (set_aside s k) q
+    held_aside : (q : Key) → IsHeld s q → IsHeld (after_detach s k) q
     held_aside q (inl h) = ⊎_elim (λ e. inr (rw e (item_inserted keys_total exact_keys s.detached k))) (λ other. inl (left_in keys_total exact_keys s.live k q other h)) (same_or_other q k)
     held_aside q (inr h) = inr (item_still keys_total exact_keys s.detached k q h)
 
-    pub detaches_fits : Fits (set_aside s k) new
-    detaches_fits = less_fits reuses s old new ok fits (set_aside s k) (ap (λ (m : map.FinMap key_cmp V). map.remove m k) fits.live ∙ sym r.live) (ap (λ (d : set.FinSet key_cmp). set.insert d k) fits.detached ∙ sym r.detached)
-        (retired_same s (set_aside s k) refl aside_held held_aside ∙ fits.retired ∙ sym r.retired) refl refl (let room = r.room in let promised = fits.promised in omega arith) (detached_stands old new k is_live r) (detached_places reuses old new ok k is_live r) (same_vacant old new r.next)
+    pub detaches_fits : Fits (after_detach s k) new
+    detaches_fits = less_fits reuses s old new ok fits (after_detach s k) (ap (λ (m : map.FinMap key_cmp V). map.remove m k) fits.live ∙ sym r.live) (ap (λ (d : set.FinSet key_cmp). set.insert d k) fits.detached ∙ sym r.detached)
+        (retired_same s (after_detach s k) refl aside_held held_aside ∙ fits.retired ∙ sym r.retired) refl refl (let room = r.room in let promised = fits.promised in omega arith) (detached_stands old new k is_live r) (detached_places reuses old new ok k is_live r) (same_vacant old new r.next)
 
   module _ (k : Key) (v : V) (r : Reattaches old k v new) where
-    back_held : (q : Key) → IsHeld (put_back s k v) q → IsHeld s q
+    back_held : (q : Key) → IsHeld (after_reattach s k v) q → IsHeld s q
     back_held q (inl h) = ⊎_elim (λ e. inr (rw fits.detached (rw e r.was_detached))) (λ p. inl p.1) (in_after_insert keys_total exact_keys s.live k v q h)
     back_held q (inr h) = inr (item_after_remove keys_total exact_keys s.detached k q h).1
 
-    held_back : (q : Key) → IsHeld s q → IsHeld (put_back s k v) q
+    held_back : (q : Key) → IsHeld s q → IsHeld (after_reattach s k v) q
     held_back q (inl h) = inl (still_in keys_total exact_keys s.live k v q h)
     held_back q (inr h) = ⊎_elim (λ e. inl (rw e (in_inserted keys_total exact_keys s.live k v))) (λ other. inr (item_left keys_total exact_keys s.detached k q other h)) (same_or_other q k)
 
-    pub reattaches_fits : Fits (put_back s k v) new
-    reattaches_fits = less_fits reuses s old new ok fits (put_back s k v) (ap (λ (m : map.FinMap key_cmp V). map.insert m k v) fits.live ∙ sym r.live) (ap (λ (d : set.FinSet key_cmp). set.remove d k) fits.detached ∙ sym r.detached)
-        (retired_same s (put_back s k v) refl back_held held_back ∙ fits.retired ∙ sym r.retired) refl refl (let room = r.room in let promised = fits.promised in omega arith) (reattached_stands old new k v r) (reattached_places reuses old new ok k v r) (same_vacant old new r.next)
+    pub reattaches_fits : Fits (after_reattach s k v) new
+    reattaches_fits = less_fits reuses s old new ok fits (after_reattach s k v) (ap (λ (m : map.FinMap key_cmp V). map.insert m k v) fits.live ∙ sym r.live) (ap (λ (d : set.FinSet key_cmp). set.remove d k) fits.detached ∙ sym r.detached)
+        (retired_same s (after_reattach s k v) refl back_held held_back ∙ fits.retired ∙ sym r.retired) refl refl (let room = r.room in let promised = fits.promised in omega arith) (reattached_stands old new k v r) (reattached_places reuses old new ok k v r) (same_vacant old new r.next)
 
   module _ (k : Key) (is_live : IsLive old k) (r : Removes old k new) where
-    held_without : (q : Key) → q ≢ k → IsHeld s q → IsHeld (without s k) q
+    held_without : (q : Key) → q ≢ k → IsHeld s q → IsHeld (after_remove s k) q
     held_without q other (inl h) = inl (left_in keys_total exact_keys s.live k q other h)
     held_without q other (inr h) = inr h
 
-    without_held : (q : Key) → IsHeld (without s k) q → IsHeld s q
+    without_held : (q : Key) → IsHeld (after_remove s k) q → IsHeld s q
     without_held q (inl h) = inl (in_after_remove keys_total exact_keys s.live k q h).1
     without_held q (inr h) = inr h
 
-    k_not_held : IsHeld (without s k) k → ⊥
+    k_not_held : IsHeld (after_remove s k) k → ⊥
     k_not_held (inl h) = (in_after_remove keys_total exact_keys s.live k k h).0 refl
     k_not_held (inr h) = ok.live_or_detached k is_live (rw (← fits.detached) h)
 
-    removed_retired : retired (without s k) ≡ new.retired
-    removed_retired = retired_is (without s k) new.retired
+    removed_retired : retired (after_remove s k) ≡ new.retired
+    removed_retired = retired_is (after_remove s k) new.retired
         (λ q h. rw r.retired (elim (same_or_other q k) [
           | inl e ↦ rw e (spent_itself k old.retired (rw (← e) h.last))
           | inr other ↦ spent_still k old.retired q (was_retired reuses s old new ok fits q (record { issued = h.issued; last = h.last; not_held = λ held. h.not_held (held_without q other held) }))
@@ -86,8 +86,8 @@ module _ {V : Type 0} (reuses : Bool) (s : State V) (old new : Content V) (ok : 
           | inr g ↦ let was = was_spent reuses s old new ok fits q g in record { issued = was.issued; last = was.last; not_held = λ held. was.not_held (without_held q held) }
         ])
 
-    pub removes_fits : Fits (without s k) new
-    removes_fits = less_fits reuses s old new ok fits (without s k) (ap (λ (m : map.FinMap key_cmp V). map.remove m k) fits.live ∙ sym r.live) (fits.detached ∙ sym r.detached) removed_retired refl refl
+    pub removes_fits : Fits (after_remove s k) new
+    removes_fits = less_fits reuses s old new ok fits (after_remove s k) (ap (λ (m : map.FinMap key_cmp V). map.remove m k) fits.live ∙ sym r.live) (fits.detached ∙ sym r.detached) removed_retired refl refl
         (let room = r.room in let promised = fits.promised in omega arith) (removed_stands old new k r) (removed_places reuses old new ok k is_live r) (removed_vacant old new k is_live r)
 
   module _ (l : Leaves old new) where

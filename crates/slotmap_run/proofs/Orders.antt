@@ -13,7 +13,7 @@ use Rattle.slotmap_core.specs.Key.{Key, key_cmp}
 use Rattle.slotmap_core.specs.Content.{Content, IsContent, IsLive, used, places, most}
 use Rattle.slotmap_core.specs.Transition.{IsNew, Inserts, Keeps, Removes, Detaches, Reattaches, pushed, freed}
 use Rattle.slotmap_core.specs.Lifo as lifo
-use Rattle.slotmap_core.specs.Lifo.{Lifo, offered, top_key, places_after, inserted}
+use Rattle.slotmap_core.specs.Lifo.{Lifo, offer_of, top_key, places_after, after_insert}
 use Rattle.slotmap_core.proofs.KeyLemmas.{keys_total, exact_keys}
 use Rattle.slotmap_core.proofs.Maps.{same_bool, some_entry, in_after_insert, in_inserted, still_in, in_after_remove, left_in, item_after_insert, item_inserted, item_still, item_after_remove, item_left}
 use Rattle.slotmap_core.specs.Law.{keys_told, IsRefusal}
@@ -56,10 +56,10 @@ module _ {V : Type 0} (reuses : Bool) (old new : Content V) (ok : IsContent reus
         | inr g ↦ let none = g.0 in absurd (omega arith)
       ]
 
-  pub lifo_inserts : (k : Key) (v : V) → Inserts old k v new → (k ≡ offered l) × IsLifo (inserted l) new
+  pub lifo_inserts : (k : Key) (v : V) → Inserts old k v new → (k ≡ offer_of l) × IsLifo (after_insert l) new
   lifo_inserts k v i =
       let both = offer_by i.below_limit l.stack is.stack in
-      let same : k ≡ offered l = i.offered ∙ both.0 ∙ rw (is.next, is.places) refl in (
+      let same : k ≡ offer_of l = i.offered ∙ both.0 ∙ rw (is.next, is.places) refl in (
         same,
         rw (← same) (record {
           live = rw i.live (live_inserted l.live old.live k v is.live);
@@ -79,7 +79,7 @@ module _ {V : Type 0} (reuses : Bool) (old new : Content V) (ok : IsContent reus
     places = is.places ∙ sym (kept_places reuses old new ok k);
   }
 
-  pub lifo_removes : (k : Key) → IsLive old k → Removes old k new → IsLifo (if set.contains l.live k then lifo.removed l k else l) new
+  pub lifo_removes : (k : Key) → IsLive old k → Removes old k new → IsLifo (if set.contains l.live k then lifo.after_remove l k else l) new
   lifo_removes k is_live r = rw (is.live k ∙ is_live) (record {
     live = rw r.live (live_removed l.live old.live k is.live);
     detached = is.detached ∙ sym r.detached;
@@ -88,7 +88,7 @@ module _ {V : Type 0} (reuses : Bool) (old new : Content V) (ok : IsContent reus
     places = is.places ∙ sym (removed_places reuses old new ok k is_live r);
   })
 
-  pub lifo_detaches : (k : Key) → IsLive old k → Detaches old k new → IsLifo (if set.contains l.live k then lifo.set_aside l k else l) new
+  pub lifo_detaches : (k : Key) → IsLive old k → Detaches old k new → IsLifo (if set.contains l.live k then lifo.after_detach l k else l) new
   lifo_detaches k is_live r = rw (is.live k ∙ is_live) (record {
     live = rw r.live (live_removed l.live old.live k is.live);
     detached = ap (λ (d : set.FinSet key_cmp). set.insert d k) is.detached ∙ sym r.detached;
@@ -97,7 +97,7 @@ module _ {V : Type 0} (reuses : Bool) (old new : Content V) (ok : IsContent reus
     places = is.places ∙ sym (detached_places reuses old new ok k is_live r);
   })
 
-  pub lifo_reattaches : (k : Key) (v : V) → Reattaches old k v new → IsLifo (if set.contains l.detached k then lifo.put_back l k else l) new
+  pub lifo_reattaches : (k : Key) (v : V) → Reattaches old k v new → IsLifo (if set.contains l.detached k then lifo.after_reattach l k else l) new
   lifo_reattaches k v r = rw (ap (λ (d : set.FinSet key_cmp). set.contains d k) is.detached ∙ r.was_detached) (record {
     live = rw r.live (live_inserted l.live old.live k v is.live);
     detached = ap (λ (d : set.FinSet key_cmp). set.remove d k) is.detached ∙ sym r.detached;
@@ -131,5 +131,5 @@ module _ {K V R E : Type 0} (data_of : K → Key) where
   lifo_run l old new (c ∷ cs) [] is run basic told = absurd run
   lifo_run l old new (c ∷ cs) (r ∷ rs) is run basic told =
       let first = run.1 l is basic.0 told.0 in
-      let rest = lifo_run (lifo.serve data_of l c) run.0 new cs rs first.1 run.2 basic.1 told.1 in
+      let rest = lifo_run (lifo.after_command data_of l c) run.0 new cs rs first.1 run.2 basic.1 told.1 in
       ap (λ ks. ks ++ keys_told data_of rs) first.0 ∙ ap (λ ks. lifo.answer data_of l c ++ ks) rest

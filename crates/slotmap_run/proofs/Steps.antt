@@ -13,8 +13,8 @@ use Rattle.slotmap_core.specs.Refusal.{LacksRoom, Refuses, RefusesReattach}
 use Rattle.slotmap_core.specs.Retain.{Visit, seen, kept, CallsAt, RetainsBy}
 use Rattle.slotmap_core.specs.Given.{Given}
 use Rattle.slotmap_core.specs.Machine as machine
-use Rattle.slotmap_core.specs.Machine.{State, bound, without, with_value, with_promise, set_aside, put_back}
-use Rattle.slotmap_core.specs.Step.{IsFull, MayLack, Step, DetachStep}
+use Rattle.slotmap_core.specs.Machine.{State, after_insert, after_remove, after_replace, after_reserve, after_detach, after_reattach}
+use Rattle.slotmap_core.specs.Step.{MayLackMemory, Step, DetachStep}
 use Rattle.slotmap_core.specs.Fit.{Fits, Follows}
 use Rattle.slotmap_core.specs.declared.commands.Command.{Command}
 use Rattle.slotmap_core.specs.declared.commands.Command.TheVariants as command
@@ -67,7 +67,7 @@ module _ {K V R E : Type 0} (given : Given K V R E) (reuses : Bool) (old new : C
   pub inserts : IsContent reuses new → (key : K) (v : V) → Inserts old (given.data_of key) v new → Answers (command.Insert v) (reply.Key key)
   inserts new_ok key v i = record {
     follows = record {
-      step = λ s fits. (bound s (given.data_of key) v, (below reuses s old new ok fits i.below_limit, inserts_fresh reuses s old new ok fits (given.data_of key) v i new_ok, refl), inserts_fits reuses s old new ok fits (given.data_of key) v i new_ok);
+      step = λ s fits. (after_insert s (given.data_of key) v, (below reuses s old new ok fits i.below_limit, inserts_fresh reuses s old new ok fits (given.data_of key) v i new_ok, refl), inserts_fits reuses s old new ok fits (given.data_of key) v i new_ok);
       lasts = λ n lasts. inserts_lasts reuses old new n ok lasts (given.data_of key) v i;
     };
     orders = λ l is basic told. let both = lifo_inserts reuses old new ok l is (given.data_of key) v i in (ap (λ k. k ∷ []) both.0, both.1);
@@ -75,25 +75,18 @@ module _ {K V R E : Type 0} (given : Given K V R E) (reuses : Bool) (old new : C
 
   pub inserts_with : IsContent reuses new → (key : K) (v : V) → given.makes key (Ok v) → Inserts old (given.data_of key) v new → Answers command.InsertWith (reply.Key key)
   inserts_with new_ok key v made i = other command.InsertWith (reply.Key key) (λ b. b) (record {
-    step = λ s fits. (bound s (given.data_of key) v, (below reuses s old new ok fits i.below_limit, inserts_fresh reuses s old new ok fits (given.data_of key) v i new_ok, (v, made, refl)), inserts_fits reuses s old new ok fits (given.data_of key) v i new_ok);
+    step = λ s fits. (after_insert s (given.data_of key) v, (below reuses s old new ok fits i.below_limit, inserts_fresh reuses s old new ok fits (given.data_of key) v i new_ok, (v, made, refl)), inserts_fits reuses s old new ok fits (given.data_of key) v i new_ok);
     lasts = λ n lasts. inserts_lasts reuses old new n ok lasts (given.data_of key) v i;
   })
 
-  -- where no place is left, none is left in the machine
-  is_full : used old ≡ most → (s : State V) → Fits s old → IsFull s
-  is_full r s fits = record {
-    at_limit = used_same reuses s old new ok fits ∙ r;
-    not_promised = let promised = fits.promised in let room = ok.room_fits in omega arith;
-  }
-
   pub full : (v back : V) → Refuses old v (Full back) → Keeps old new → Answers (command.Insert v) (reply.Full (Some back))
-  full v back r keeps = refused (command.Insert v) (reply.Full (Some back)) tt (stays_by (Step given) (command.Insert v) (reply.Full (Some back)) keeps (λ s fits. (is_full r.0 s fits, ap Some r.1, refl)))
+  full v back r keeps = refused (command.Insert v) (reply.Full (Some back)) tt (stays_by (Step given) (command.Insert v) (reply.Full (Some back)) keeps (λ s fits. (used_same reuses s old new ok fits ∙ r.0, ap Some r.1, refl)))
 
   pub with_full : used old ≡ most → Keeps old new → Answers command.InsertWith (reply.Full None)
-  with_full r keeps = other command.InsertWith (reply.Full None) (λ b. b) (stays_by (Step given) command.InsertWith (reply.Full None) keeps (λ s fits. (is_full r s fits, refl, refl)))
+  with_full r keeps = other command.InsertWith (reply.Full None) (λ b. b) (stays_by (Step given) command.InsertWith (reply.Full None) keeps (λ s fits. (used_same reuses s old new ok fits ∙ r, refl, refl)))
 
   -- where memory was lacking for an insert, it may be lacking in the machine
-  may_lack : given.reuses ≡ reuses → LacksRoom old → (s : State V) → Fits s old → MayLack given s
+  may_lack : given.reuses ≡ reuses → LacksRoom old → (s : State V) → Fits s old → MayLackMemory given s
   may_lack is r s fits = let same = used_same reuses s old new ok fits in record {
     below_limit = λ e. let less = r.below_limit in omega arith;
     not_promised = let promised = fits.promised in let room = r.no_room in omega arith;
@@ -125,7 +118,7 @@ module _ {K V R E : Type 0} (given : Given K V R E) (reuses : Bool) (old new : C
   pub replaced : (key : K) (v : V) (r : Result V V) → IfOk r (λ before. map.get old.live (given.data_of key) ≡ Some before) → OnOk r (Replaces old (given.data_of key) v new)
       → IfErr r (λ back. map.contains_key old.live (given.data_of key) ≡ false × back ≡ v) → OnErr r (Keeps old new) → Answers (command.Replace key v) (reply.Put r)
   replaced key v (Ok before) found changes none keeps = other (command.Replace key v) (reply.Put (Ok before)) (λ b. b) (record {
-    step = λ s fits. (with_value s (given.data_of key) v, (rw fits.live found, refl), replaces_fits reuses s old new ok fits (given.data_of key) v (ap is_some found) changes);
+    step = λ s fits. (after_replace s (given.data_of key) v, (rw fits.live found, refl), replaces_fits reuses s old new ok fits (given.data_of key) v (ap is_some found) changes);
     lasts = λ n lasts. replaces_lasts reuses old new n ok lasts (given.data_of key) v (ap is_some found) changes;
   })
   replaced key v (Err back) found changes none keeps = stays (command.Replace key v) (reply.Put (Err back)) (λ b. b) keeps (λ s live _. (rw live (none_of _ none.0), none.1, refl))
@@ -133,7 +126,7 @@ module _ {K V R E : Type 0} (given : Given K V R E) (reuses : Bool) (old new : C
   pub removed : (key : K) (taken : Option V) → taken ≡ map.get old.live (given.data_of key) → (is_some taken ≡ true → Removes old (given.data_of key) new) → (taken ≡ None → Keeps old new) → Answers (command.Remove key) (reply.Taken taken)
   removed key (Some v) is some none = record {
     follows = record {
-      step = λ s fits. (without s (given.data_of key), (rw fits.live (sym is), refl), removes_fits reuses s old new ok fits (given.data_of key) (ap is_some (sym is)) (some refl));
+      step = λ s fits. (after_remove s (given.data_of key), (rw fits.live (sym is), refl), removes_fits reuses s old new ok fits (given.data_of key) (ap is_some (sym is)) (some refl));
       lasts = λ n lasts. removes_lasts reuses old new n ok lasts (given.data_of key) (ap is_some (sym is)) (some refl);
     };
     orders = λ l lifo basic told. (refl, lifo_removes reuses old new ok l lifo (given.data_of key) (ap is_some (sym is)) (some refl));
@@ -145,7 +138,7 @@ module _ {K V R E : Type 0} (given : Given K V R E) (reuses : Bool) (old new : C
 
   pub reserves : (m : ℕ) → used old + m ≤ most → m ≤ new.room → Keeps old new → Answers (command.Reserve m) reply.Done
   reserves m fits room keeps = other (command.Reserve m) reply.Done (λ b. b) (record {
-    step = λ s ok_fits. (with_promise s m, (let same = used_same reuses s old new ok ok_fits in omega arith, refl), promises_fits reuses s old new ok ok_fits keeps m room);
+    step = λ s ok_fits. (after_reserve s m, (let same = used_same reuses s old new ok ok_fits in omega arith, refl), promises_fits reuses s old new ok ok_fits keeps m room);
     lasts = λ n lasts. keeps_lasts reuses old new n ok lasts keeps;
   })
 
@@ -203,7 +196,7 @@ module _ {K V R E : Type 0} (given : Given K V R E) (reuses : Bool) (old new : C
   pub detached : (key : K) (taken : Option V) → taken ≡ map.get old.live (given.data_of key) → (is_some taken ≡ true → Detaches old (given.data_of key) new) → (taken ≡ None → Keeps old new) → DetachAnswers (detaching.Detach key) (reply.Taken taken)
   detached key (Some v) is some none = record {
     follows = record {
-      step = λ s fits. (set_aside s (given.data_of key), (rw fits.live (sym is), refl), detaches_fits reuses s old new ok fits (given.data_of key) (ap is_some (sym is)) (some refl));
+      step = λ s fits. (after_detach s (given.data_of key), (rw fits.live (sym is), refl), detaches_fits reuses s old new ok fits (given.data_of key) (ap is_some (sym is)) (some refl));
       lasts = λ n lasts. detaches_lasts reuses old new n ok lasts (given.data_of key) (ap is_some (sym is)) (some refl);
     };
     orders = λ l lifo basic told. (refl, lifo_detaches reuses old new ok l lifo (given.data_of key) (ap is_some (sym is)) (some refl));
@@ -216,7 +209,7 @@ module _ {K V R E : Type 0} (given : Given K V R E) (reuses : Bool) (old new : C
   pub reattaches : (key : K) (v : V) → Reattaches old (given.data_of key) v new → DetachAnswers (detaching.Reattach key v) reply.Done
   reattaches key v r = record {
     follows = record {
-      step = λ s fits. (put_back s (given.data_of key) v, (rw fits.detached r.was_detached, refl), reattaches_fits reuses s old new ok fits (given.data_of key) v r);
+      step = λ s fits. (after_reattach s (given.data_of key) v, (rw fits.detached r.was_detached, refl), reattaches_fits reuses s old new ok fits (given.data_of key) v r);
       lasts = λ n lasts. reattaches_lasts reuses old new n ok lasts (given.data_of key) v r;
     };
     orders = λ l lifo basic told. (refl, lifo_reattaches reuses old new ok l lifo (given.data_of key) v r);

@@ -5,7 +5,7 @@ ghost use Rattle.slotmap_core.specs.Content.{IsContent};
 ghost use Rattle.slotmap_core.specs.Given.{given};
 ghost use Rattle.slotmap_core.specs.Step.{DetachStep};
 ghost use Rattle.slotmap_core.specs.Run.{Run, Unretiring};
-ghost use Rattle.slotmap_core.specs.Fit.{RunFollows, RunsAnew};
+ghost use Rattle.slotmap_core.specs.Fit.{RunFollows, RunsAnew, Continues};
 ghost use Rattle.slotmap_run.specs.Order.{DetachServes, Orders};
 ghost use Rattle.slotmap_core.specs.declared.commands.DetachCommand.TheVariants as detaching;
 ghost use Rattle.slotmap_core.specs.Law.{DetachedNotReissued, DetachedReattaches, DetachGrows, LastFreedFirst, NoKeyTwice, ReattachBinds, RemovedForGood, ReserveHolds};
@@ -113,7 +113,13 @@ where
     requires makes { N.IsAlwaysCallable make }
     ensures run { IfOk result (λ replies. RunFollows (DetachStep (given K.data_of L.Fn look P.Fn keep N.Fn make M.REUSES)) (M.content map.old) commands.items replies.items (M.content map.new)) }
     ensures err { IfErr result (λ back. back ≡ commands) }
+    ensures continues { IfOk result (λ replies. Continues (DetachStep (given K.data_of L.Fn look P.Fn keep N.Fn make M.REUSES)) (M.content map.old) commands.items replies.items (M.content map.new)) }
     ensures no_key_twice { IfOk result (λ replies. NoKeyTwice K.data_of replies.items) }
+    ensures removed_for_good { IfOk result (λ replies. RemovedForGood detaching.Plain commands.items replies.items) }
+    ensures reserve_holds { IfOk result (λ replies. ReserveHolds detaching.Plain DetachGrows commands.items replies.items) }
+    ensures not_reissued { IfOk result (λ replies. DetachedNotReissued K.data_of commands.items replies.items) }
+    ensures reattaches { IfOk result (λ replies. DetachedReattaches K.data_of commands.items replies.items) }
+    ensures binds { IfOk result (λ replies. ReattachBinds commands.items replies.items) }
     ensures untouched { OnErr result (M.content map.new ≡ M.content map.old) }
 {
     let Ok(replies) = Vec::with_capacity(alloc, commands.len()) else {

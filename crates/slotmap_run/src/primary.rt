@@ -5,7 +5,7 @@ ghost use Rattle.slotmap_core.specs.Content.{IsContent};
 ghost use Rattle.slotmap_core.specs.Given.{given};
 ghost use Rattle.slotmap_core.specs.Step.{Step};
 ghost use Rattle.slotmap_core.specs.Run.{Unretiring};
-ghost use Rattle.slotmap_core.specs.Fit.{RunFollows, RunsAnew};
+ghost use Rattle.slotmap_core.specs.Fit.{RunFollows, RunsAnew, Continues};
 ghost use Rattle.slotmap_run.specs.Order.{Serves};
 ghost use Rattle.slotmap_core.specs.Law.{Grows, NoKeyTwice, RemovedForGood, ReserveHolds};
 
@@ -154,7 +154,10 @@ where
     requires makes { N.IsAlwaysCallable make }
     ensures run { IfOk result (λ replies. RunFollows (Step (given K.data_of L.Fn look P.Fn keep N.Fn make M.REUSES)) (M.content map.old) commands.items replies.items (M.content map.new)) }
     ensures err { IfErr result (λ back. back ≡ commands) }
+    ensures continues { IfOk result (λ replies. Continues (Step (given K.data_of L.Fn look P.Fn keep N.Fn make M.REUSES)) (M.content map.old) commands.items replies.items (M.content map.new)) }
     ensures no_key_twice { IfOk result (λ replies. NoKeyTwice K.data_of replies.items) }
+    ensures removed_for_good { IfOk result (λ replies. RemovedForGood (λ command. command) commands.items replies.items) }
+    ensures reserve_holds { IfOk result (λ replies. ReserveHolds (λ command. command) Grows commands.items replies.items) }
     ensures untouched { OnErr result (M.content map.new ≡ M.content map.old) }
 {
     let Ok(replies) = Vec::with_capacity(alloc, commands.len()) else {
