@@ -11,7 +11,7 @@ ghost use Rattle.slotmap_core.specs.declared.commands.DetachCommand.TheVariants 
 ghost use Rattle.slotmap_core.specs.Law.{DetachedNotReissued, DetachedReattaches, DetachGrows, LastFreedFirst, NoKeyTwice, ReattachBinds, RemovedForGood, ReserveHolds};
 
 use crate::primary::serve;
-use slotmap_core::errors::ReattachError;
+use crate::replies::reattach_reply;
 use slotmap_core::keys::Key;
 use slotmap_core::commands::{DetachCommand, Reply};
 use slotmap_core::primary::Detaching;
@@ -45,11 +45,7 @@ where
     match command {
         DetachCommand::Plain(command) => serve(alloc, map, command, look, keep, make),
         DetachCommand::Detach(key) => Reply::Taken(map.detach(key)),
-        DetachCommand::Reattach(key, value) => match map.reattach(key, value) {
-            Ok(()) => Reply::Done,
-            Err(ReattachError::NotDetached(value)) => Reply::NotDetached(value),
-            Err(ReattachError::Memory(value)) => Reply::Memory(Some(value)),
-        },
+        DetachCommand::Reattach(key, value) => reattach_reply(map.reattach(key, value)),
     }
 }
 

@@ -1,7 +1,11 @@
 //! Runs of commands on the maps that hand out their keys.
 
 ghost use Rattle.std.specs.Prelude.{◌≡◌, ◌^◌, ◌<◌, ◌≤◌, [], vec_capacity, length, IfOk, IfErr, OnErr};
+ghost use Rattle.std.specs.Prelude.{Ok};
+ghost use Rattle.std.specs.Fn.{FnReturns};
 ghost use Rattle.slotmap_core.specs.Content.{IsContent};
+ghost use Rattle.slotmap_core.specs.Transition.{Inserts, Keeps};
+ghost use Rattle.slotmap_core.specs.Refusal.{RefusesWith};
 ghost use Rattle.slotmap_core.specs.Given.{given};
 ghost use Rattle.slotmap_core.specs.Step.{Step};
 ghost use Rattle.slotmap_core.specs.Run.{Unretiring};
@@ -9,11 +13,27 @@ ghost use Rattle.slotmap_core.specs.Fit.{RunFollows, RunsAnew, Continues};
 ghost use Rattle.slotmap_run.specs.Order.{Serves};
 ghost use Rattle.slotmap_core.specs.Law.{Grows, NoKeyTwice, RemovedForGood, ReserveHolds};
 
-use slotmap_core::errors::{InsertError, OutOfMemory, ReserveError, TryInsertError};
+use crate::replies::{insert_reply, insert_with_reply, or_memory, reserve_reply};
+use slotmap_core::errors::TryInsertError;
 use slotmap_core::keys::Key;
 use slotmap_core::commands::{Command, Reply};
 use slotmap_core::primary::Primary;
 use std::alloc::Global;
+
+/// Inserts what `make` gives for the new key.
+fn insert_made<M, K, V, E, N>(map: &mut M, make: &N) -> Result<K, TryInsertError<E>>
+where
+    M: Primary<K, V>,
+    K: Key,
+    N: Fn(K) -> Result<V, E>,
+    requires makes { N.IsAlwaysCallable make.now }
+    ensures ok { IfOk result (λ key. (v : V) × FnReturns N.Fn make.now (key, tt) (Ok v) × Inserts (M.content map.old) (K.data_of key) v (M.content map.new)) }
+    ensures err { IfErr result (RefusesWith K.data_of (λ key made. FnReturns N.Fn make.now (key, tt) made) (M.content map.old)) }
+    ensures unchanged { OnErr result (Keeps (M.content map.old) (M.content map.new)) }
+    ensures valid { IsContent M.REUSES (M.content map.new) }
+{
+    map.try_insert_with_key(|key| make(key))
+}
 
 /// Answers one command.
 pub(crate) fn serve<M, K, V, R, E, L, P, N>(
@@ -41,28 +61,12 @@ where
     ensures valid { IsContent M.REUSES (M.content map.new) }
 {
     match command {
-        Command::Insert(value) => match map.insert(value) {
-            Ok(key) => Reply::Key(key),
-            Err(InsertError::Full(value)) => Reply::Full(Some(value)),
-            Err(InsertError::Memory(value)) => Reply::Memory(Some(value)),
-        },
-        Command::Get(key) => match map.get(key) {
-            Some(value) => Reply::Looked(Some(look(value))),
-            None => Reply::Looked(None),
-        },
-        Command::InsertWith => match map.try_insert_with_key(
-            |key: K| -> Result<V, E>
-                requires { N.IsAlwaysCallable make.now }
-                ensures { N.post make.entry.now key result }
-            { make(key) },
-        ) {
-            Ok(key) => Reply::Key(key),
-            Err(TryInsertError::Full) => Reply::Full(None),
-            Err(TryInsertError::Memory) => Reply::Memory(None),
-            Err(TryInsertError::Closure(error)) => Reply::Failed(error),
-        },
+        Command::Insert(value) => insert_reply(map.insert(value)),
+        Command::InsertWith => insert_with_reply(insert_made(map, make)),
+        Command::Get(key) => Reply::Looked(map.get(key).map(look)),
         Command::Contains(key) => Reply::Flag(map.contains_key(key)),
         Command::Replace(key, value) => Reply::Put(map.replace(key, value)),
+        Command::Remove(key) => Reply::Taken(map.remove(key)),
         Command::Retain => {
             map.retain(keep);
             Reply::Done
@@ -73,25 +77,16 @@ where
         }
         Command::Drain => {
             let mut pairs = Vec::new(alloc);
-            match map.drain_into(&mut pairs) {
-                Ok(()) => Reply::Drained(pairs),
-                Err(OutOfMemory) => Reply::Memory(None),
-            }
+            let drained = map.drain_into(&mut pairs);
+            or_memory(drained, Reply::Drained(pairs))
         }
         Command::Keys => {
             let mut keys = Vec::new(alloc);
-            match map.keys_into(&mut keys) {
-                Ok(()) => Reply::Keys(keys),
-                Err(OutOfMemory) => Reply::Memory(None),
-            }
+            let listed = map.keys_into(&mut keys);
+            or_memory(listed, Reply::Keys(keys))
         }
-        Command::Reserve(additional) => match map.reserve(additional) {
-            Ok(()) => Reply::Done,
-            Err(ReserveError::TooGreat) => Reply::TooGreat,
-            Err(ReserveError::Memory) => Reply::Memory(None),
-        },
-        Command::Remove(key) => Reply::Taken(map.remove(key)),
         Command::Len => Reply::Len(map.len()),
+        Command::Reserve(additional) => reserve_reply(map.reserve(additional)),
     }
 }
 
