@@ -1,5 +1,5 @@
 -- A step binds a fresh key, or binds none.
-use Rattle.std.proofs.Common.{◌≡◌, ℕ, ◌+◌, ◌≤◌, max, arith, [], Ok, Err, Option, Some, None, true, false, ◌⊎◌, inl, inr, refl, sym, ap, is_some, ⊎_elim}
+use Rattle.std.proofs.Common.{◌≡◌, ℕ, ◌+◌, ◌≤◌, arith, [], Ok, Err, Option, Some, None, true, false, ◌⊎◌, inl, inr, refl, sym, ap, is_some, ⊎_elim}
 use Rattle.std.specs.FinMap as map
 use Rattle.std.specs.FinSet as set
 use Rattle.slotmap_core.specs.Key.{Key, key_cmp}

@@ -1,5 +1,5 @@
 -- How many keys stand in a finite map and two sets together.
-use Rattle.std.proofs.Common.{◌≡◌, ℕ, zero, suc, ◌+◌, ◌≤◌, List, [], ◌∷◌, length, Option, None, Some, Bool, true, false, cond, not, ◌&&◌, ◌||◌, ◌⊎◌, inl, inr, refl, sym, ap, ◌∙◌, arith, is_some}
+use Rattle.std.proofs.Common.{◌≡◌, ℕ, zero, suc, ◌+◌, ◌≤◌, List, [], ◌∷◌, length, Option, None, Bool, true, false, cond, not, ◌&&◌, ◌||◌, ◌⊎◌, inl, inr, refl, sym, ap, ◌∙◌, arith, is_some}
 use Rattle.std.specs.Prelude.{map as list_map}
 use Rattle.std.specs.List.{list_any}
 use Rattle.std.specs.Ordering.{eq_by_cmp}
@@ -27,7 +27,7 @@ subset_by (suc n) s t h within =
     let fewer = len_item_removed keys_total exact_keys s some.0 some.1 in
     let also = len_item_removed keys_total exact_keys t some.0 (within some.0 some.1) in
     let rest = subset_by n (set.remove s some.0) (set.remove t some.0) (omega arith)
-        (λ q g. let was = item_after_remove keys_total exact_keys s some.0 q g in item_left keys_total exact_keys t some.0 q was.0 (within q was.1)) in
+    (λ q g. let was = item_after_remove keys_total exact_keys s some.0 q g in item_left keys_total exact_keys t some.0 q was.0 (within q was.1)) in
     omega arith
 
 -- a subset has no more items
@@ -52,10 +52,10 @@ len_two (suc n) s t u h is apart =
     let fewer = len_item_removed keys_total exact_keys s k some.1 in
     let also = len_item_removed keys_total exact_keys u k (is k ∙ or_left _ _ some.1) in
     let rest = len_two n (set.remove s k) t (set.remove u k) (omega arith)
-        (λ q. set.contains-remove keys_total u k q
-        ∙ one_out (eq_by_cmp key_cmp q k) (set.contains s q) (set.contains t q) (set.contains u q) (is q) (λ e. false_of _ (λ g. apart q (rw (tied keys_total exact_keys q k e) some.1) g))
-        ∙ ap (λ b. b || set.contains t q) (sym (set.contains-remove keys_total s k q)))
-        (λ q g. apart q (item_after_remove keys_total exact_keys s k q g).1) in
+    (λ q. set.contains-remove keys_total u k q
+    ∙ one_out (eq_by_cmp key_cmp q k) (set.contains s q) (set.contains t q) (set.contains u q) (is q) (λ e. false_of _ (λ g. apart q (rw (tied keys_total exact_keys q k e) some.1) g))
+    ∙ ap (λ b. b || set.contains t q) (sym (set.contains-remove keys_total s k q)))
+    (λ q g. apart q (item_after_remove keys_total exact_keys s k q g).1) in
     omega arith
 
 module _ {V : Type 0} where
@@ -84,10 +84,10 @@ module _ {V : Type 0} where
       let fewer = len_removed keys_total exact_keys m k some.1 in
       let also = len_item_removed keys_total exact_keys u k (is k ∙ or_left _ _ some.1) in
       let rest = len_with n (map.remove m k) t (set.remove u k) (omega arith)
-          (λ q. set.contains-remove keys_total u k q
-          ∙ one_out (eq_by_cmp key_cmp q k) (map.contains_key m q) (set.contains t q) (set.contains u q) (is q) (λ e. false_of _ (λ g. apart q (rw (tied keys_total exact_keys q k e) some.1) g))
-          ∙ ap (λ b. b || set.contains t q) (sym (ap is_some (map.get-remove keys_total m k q) ∙ is_some-cond (eq_by_cmp key_cmp q k) (map.get m q))))
-          (λ q g. apart q (in_after_remove keys_total exact_keys m k q g).1) in
+      (λ q. set.contains-remove keys_total u k q
+      ∙ one_out (eq_by_cmp key_cmp q k) (map.contains_key m q) (set.contains t q) (set.contains u q) (is q) (λ e. false_of _ (λ g. apart q (rw (tied keys_total exact_keys q k e) some.1) g))
+      ∙ ap (λ b. b || set.contains t q) (sym (ap is_some (map.get-remove keys_total m k q) ∙ is_some-cond (eq_by_cmp key_cmp q k) (map.get m q))))
+      (λ q g. apart q (in_after_remove keys_total exact_keys m k q g).1) in
       omega arith
 
   -- the keys of a map and two sets

@@ -50,10 +50,10 @@ module _ {V : Type 0} (reuses : Bool) (s : State V) (old new : Content V) (ok : 
     pub offer_fresh : Fresh s old.offer
     offer_fresh = record {
       is_key = elim (ok.offers room) [
-          | inl g ↦ ok.vacancies old.offer.index old.offer.version g
-          | inr g ↦ let limit = room in let index = g.1 in let version = g.2 in let none = g.0 in
-              record { index_fits = omega arith; version_fits = omega arith; odd = omega arith; one_null = λ e. version }
-        ];
+        | inl g ↦ ok.vacancies old.offer.index old.offer.version g
+        | inr g ↦ let limit = room in let index = g.1 in let version = g.2 in let none = g.0 in
+            record { index_fits = omega arith; version_fits = omega arith; odd = omega arith; one_null = λ e. version }
+      ];
       positive = elim (ok.offers room) [ inl g ↦ (ok.vacant old.offer.index (vacant_of reuses old new ok room g)).0 | inr g ↦ omega arith ];
       reuses = let same : machine.used s ≡ used old = used_same in let peak = fits.peak in elim (ok.offers room) [
         | inl g ↦ let w = ok.vacant old.offer.index (vacant_of reuses old new ok room g) in omega arith

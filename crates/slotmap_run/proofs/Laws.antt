@@ -43,7 +43,7 @@ module _ {V : Type 0} where
         let live : map.len (map.empty {X = V} {R = key_cmp}) ≡ 0 = map.len-empty key_cmp V in
         let detached : set.len (set.empty {R = key_cmp}) ≡ 0 = set.len-empty key_cmp in
         let none : retired (empty_state {V = V}) ≡ set.empty =
-            retired_is empty_state set.empty (λ k h. let none = set.contains-empty key_cmp k in let is = h.issued in absurd (cc)) (λ k h. let none = set.contains-empty key_cmp k in absurd (cc)) in
+        retired_is empty_state set.empty (λ k h. let none = set.contains-empty key_cmp k in let is = h.issued in absurd (cc)) (λ k h. let none = set.contains-empty key_cmp k in absurd (cc)) in
         let retired : set.len (retired (empty_state {V = V})) ≡ 0 = ap set.len none ∙ set.len-empty key_cmp in
         omega arith;
   }

@@ -1,5 +1,5 @@
 -- Each content has a state that fits it.
-use Rattle.std.proofs.Common.{◌≡◌, Bool, inl, inr, refl, sym, ap, ◌≤◌, ◌+◌, arith, is_some}
+use Rattle.std.proofs.Common.{Bool, inl, inr, refl, sym, ap, arith, is_some}
 use Rattle.slotmap_core.specs.Key.{Key}
 use Rattle.slotmap_core.specs.Content.{Content, IsContent, Uses, places}
 use Rattle.slotmap_core.specs.Machine.{State, IsIssued}

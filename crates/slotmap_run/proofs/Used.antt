@@ -1,9 +1,9 @@
 -- How the number of live, detached and retired keys changes.
-use Rattle.std.proofs.Common.{◌≡◌, ◌+◌, ◌≤◌, Bool, true, false, cond, ◌⊎◌, inl, inr, refl, sym, ap, ◌∙◌, arith}
+use Rattle.std.proofs.Common.{◌≡◌, ◌+◌, ◌≤◌, true, false, cond, ◌⊎◌, inl, inr, refl, ap, arith}
 use Rattle.std.specs.FinMap as map
 use Rattle.std.specs.FinSet as set
 use Rattle.slotmap_core.specs.Key.{Key, key_cmp}
-use Rattle.slotmap_core.specs.Machine.{State, IsIssued, IsHeld, Fresh, after_insert, retired, used}
+use Rattle.slotmap_core.specs.Machine.{State, IsHeld, Fresh, after_insert, retired, used}
 use Rattle.slotmap_core.proofs.KeyLemmas.{exact_keys, keys_total}
 use Rattle.slotmap_core.proofs.Maps.{in_after_insert, still_in, item_after_insert, item_inserted, item_still}
 use Rattle.slotmap_core.proofs.Retired.{spent_of_retired, retired_of_spent}
@@ -60,20 +60,20 @@ module _ {V : Type 0} where
         let before = len-used_keys s apart in
         let now = len-used_keys (after_insert s k v) apart_after in
         let fewer = len-subset (used_keys (after_insert s k v)) (set.insert (used_keys s) k) (λ q h.
-            elim (among_all (map.insert s.live k v) s.detached (retired (after_insert s k v)) q h) [
-              | inl held ↦ elim held [
-                | inl g ↦ elim (in_after_insert keys_total exact_keys s.live k v q g) [
-                  | inl e ↦ rw e (item_inserted keys_total exact_keys (used_keys s) k)
-                  | inr p ↦ item_still keys_total exact_keys (used_keys s) k q (all_among s.live s.detached (retired s) q (inl (inl p.1)))
-                ]
-                | inr g ↦ item_still keys_total exact_keys (used_keys s) k q (all_among s.live s.detached (retired s) q (inl (inr g)))
-              ]
-              | inr g ↦ let spent = spent_of_retired (after_insert s k v) q g in elim (item_after_insert keys_total exact_keys s.issued k q spent.issued) [
-                | inl e ↦ rw e (item_inserted keys_total exact_keys (used_keys s) k)
-                | inr was ↦ item_still keys_total exact_keys (used_keys s) k q
-                    (all_among s.live s.detached (retired s) q (inr (retired_of_spent s q (record { issued = was; last = spent.last; not_held = λ held. spent.not_held (held_still q held) }))))
-              ]
-            ]) in
+        elim (among_all (map.insert s.live k v) s.detached (retired (after_insert s k v)) q h) [
+          | inl held ↦ elim held [
+            | inl g ↦ elim (in_after_insert keys_total exact_keys s.live k v q g) [
+              | inl e ↦ rw e (item_inserted keys_total exact_keys (used_keys s) k)
+              | inr p ↦ item_still keys_total exact_keys (used_keys s) k q (all_among s.live s.detached (retired s) q (inl (inl p.1)))
+            ]
+            | inr g ↦ item_still keys_total exact_keys (used_keys s) k q (all_among s.live s.detached (retired s) q (inl (inr g)))
+          ]
+          | inr g ↦ let spent = spent_of_retired (after_insert s k v) q g in elim (item_after_insert keys_total exact_keys s.issued k q spent.issued) [
+            | inl e ↦ rw e (item_inserted keys_total exact_keys (used_keys s) k)
+            | inr was ↦ item_still keys_total exact_keys (used_keys s) k q
+                (all_among s.live s.detached (retired s) q (inr (retired_of_spent s q (record { issued = was; last = spent.last; not_held = λ held. spent.not_held (held_still q held) }))))
+          ]
+        ]) in
         let grows = set.len-insert keys_total (used_keys s) k in
         elim (set.contains (used_keys s) k) as (λ b. set.len (set.insert (used_keys s) k) ≡ cond b (set.len (used_keys s)) (set.len (used_keys s) + 1) → used (after_insert s k v) ≤ used s + 1) [
           | true ↦ λ g. omega arith
