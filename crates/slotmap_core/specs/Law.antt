@@ -1,4 +1,4 @@
--- Laws of the replies to a list of commands.
+-- Laws of the replies to a list of commands. The reply to a command stands at its position: where the lists of both are cut at one length, the parts belong together.
 use Rattle.std.specs.Prelude.{◌≡◌, ◌≢◌, ℕ, ◌<◌, List, [], ◌∷◌, ◌++◌, length, Option, Some, None, Ok, ⊤, ◌⊎◌}
 use Rattle.std.specs.List.{IsDistinct, AllByRecursion, AllZip}
 use Rattle.std.specs.Ordering.{eq_by_cmp}
@@ -12,21 +12,21 @@ use Rattle.slotmap_core.specs.declared.commands.Reply.{Reply}
 use Rattle.slotmap_core.specs.declared.commands.Reply.TheVariants as reply
 
 module _ {K V R E : Type 0} (data_of : K → Key) where
-  -- the key that a reply answers, if it does
-  abbrev pub told : Reply K V R E → List Key
-  told (reply.Key k) = data_of k ∷ []
-  told _ = []
+  -- the key that an insert's reply answers; other replies answer none
+  abbrev pub reply_keys : Reply K V R E → List Key
+  reply_keys (reply.Key k) = data_of k ∷ []
+  reply_keys _ = []
 
-  -- the keys that the replies answer, in order
+  -- the keys that inserts were answered, in order
   abbrev pub keys_told : List (Reply K V R E) → List Key
   keys_told [] = []
-  keys_told (r ∷ rs) = told r ++ keys_told rs
+  keys_told (r ∷ rs) = reply_keys r ++ keys_told rs
 
-  -- no key is answered twice
+  -- no two inserts were answered one key
   abbrev pub NoKeyTwice : List (Reply K V R E) → Type 0
   NoKeyTwice replies = IsDistinct (eq_by_cmp key_cmp) (keys_told replies)
 
--- once Remove of a key answered a value, Get of it answers none; of makes a command of the list from a plain one
+-- Once a Remove of a key answered a value, each later Get of it answers none. `of` makes a command of the list from a plain one
 abbrev pub RemovedForGood : {K V R E C : Type 0} → (Command K V → C) → List C → List (Reply K V R E) → Type 0
 RemovedForGood {K} {V} {R} {E} {C} of commands replies =
     (before between after : List C) (told_before told_between told_after : List (Reply K V R E)) (key : K) (v : V) (looked : Option R)
@@ -53,7 +53,7 @@ IsRefusal (reply.Full back) = ⊤
 IsRefusal (reply.Memory back) = ⊤
 IsRefusal _ = ⊥
 
--- once Reserve of n is done, none of the next n commands is refused where it inserts or reattaches
+-- Once a Reserve of n is done, each of the next n commands that grows is answered no refusal, whatever the others do
 abbrev pub ReserveHolds : {K V R E C : Type 0} → (Command K V → C) → (C → Type 0) → List C → List (Reply K V R E) → Type 0
 ReserveHolds {K} {V} {R} {E} {C} of Grows commands replies =
     (before between after : List C) (told_before told_between told_after : List (Reply K V R E)) (n : ℕ) (c : C) (answer : Reply K V R E)
@@ -63,13 +63,13 @@ ReserveHolds {K} {V} {R} {E} {C} of Grows commands replies =
     → replies ≡ told_before ++ reply.Done ∷ (told_between ++ answer ∷ told_after)
     → IsRefusal answer → ⊥
 
--- the command, so answered, doesn't reattach k
+-- the command isn't a Reattach of k that is done
 abbrev pub Spares : {K V R E : Type 0} → (K → Key) → Key → DetachCommand K V → Reply K V R E → Type 0
 Spares data_of k (detaching.Reattach other v) reply.Done = data_of other ≢ k
 Spares data_of k _ _ = ⊤
 
 module _ {K V R E : Type 0} (data_of : K → Key) where
-  -- once Detach of a key answered a value, no later reply answers that key
+  -- once a Detach of a key answered a value, no later insert answers that key
   abbrev pub DetachedNotReissued : List (DetachCommand K V) → List (Reply K V R E) → Type 0
   DetachedNotReissued commands replies =
       (before after : List (DetachCommand K V)) (told_before told_after : List (Reply K V R E)) (key : K) (v : V)
@@ -78,7 +78,7 @@ module _ {K V R E : Type 0} (data_of : K → Key) where
       → replies ≡ told_before ++ reply.Taken (Some v) ∷ told_after
       → AllByRecursion (λ other. other ≢ data_of key) (keys_told data_of told_after)
 
-  -- once Detach of a key answered a value, and until a Reattach of it is done, a Reattach of it is done, or refused for memory with its value back
+  -- once a Detach of a key answered a value, and until a Reattach of it is done, each Reattach of it is done, or refused for memory with its value back
   abbrev pub DetachedReattaches : List (DetachCommand K V) → List (Reply K V R E) → Type 0
   DetachedReattaches commands replies =
       (before between after : List (DetachCommand K V)) (told_before told_between told_after : List (Reply K V R E)) (key : K) (v w : V) (answer : Reply K V R E)
@@ -88,7 +88,7 @@ module _ {K V R E : Type 0} (data_of : K → Key) where
       → replies ≡ told_before ++ reply.Taken (Some v) ∷ (told_between ++ answer ∷ told_after)
       → (answer ≡ reply.Done) ⊎ (answer ≡ reply.Memory (Some w))
 
--- once Reattach of a key and a value is done, Replace of that key answers that value
+-- once a Reattach of a key to a value is done, a Replace of that key right after it answers that value
 abbrev pub ReattachBinds : {K V R E : Type 0} → List (DetachCommand K V) → List (Reply K V R E) → Type 0
 ReattachBinds {K} {V} {R} {E} commands replies =
     (before after : List (DetachCommand K V)) (told_before told_after : List (Reply K V R E)) (key : K) (w u : V) (answer : Reply K V R E)
@@ -97,6 +97,6 @@ ReattachBinds {K} {V} {R} {E} commands replies =
     → replies ≡ told_before ++ reply.Done ∷ answer ∷ told_after
     → answer ≡ reply.Put (Ok w)
 
--- the inserts of such a list, where none is refused, answer the keys of the machine that uses the place freed last first
+-- Where all commands insert, remove, detach or reattach, and none is refused, the inserts answer the keys of the machine that uses the place freed last first
 abbrev pub LastFreedFirst : {K V R E : Type 0} → (K → Key) → List (DetachCommand K V) → List (Reply K V R E) → Type 0
 LastFreedFirst data_of commands replies = AllByRecursion IsBasic commands → AllByRecursion (λ answer. IsRefusal answer → ⊥) replies → keys_told data_of replies ≡ answers data_of no_places commands

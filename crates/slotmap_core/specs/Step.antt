@@ -1,11 +1,11 @@
--- The steps of the primary maps' machine: which replies may come to a command, and what state they leave.
+-- The steps of the machine: which replies may come to a command, and what state each leaves. No reply comes but those that are named.
 use Rattle.std.specs.Prelude.{◌≡◌, ◌≢◌, ℕ, ◌+◌, ◌<◌, ◌≤◌, Some, None, Bool, true, false, Ok, Err, if◌then◌else◌, map as list_map}
 use Rattle.std.specs.FinMap as map
 use Rattle.std.specs.FinSet as set
 use Rattle.slotmap_core.specs.Key.{Key}
 use Rattle.slotmap_core.specs.Content.{most}
 use Rattle.slotmap_core.specs.Listing.{IsListing, IsKeyListing}
-use Rattle.slotmap_core.specs.Machine.{State, Fresh, used, bound, without, with_value, emptied, with_promise, set_aside, put_back}
+use Rattle.slotmap_core.specs.Machine.{State, Fresh, used, after_insert, after_remove, after_replace, after_clear, after_reserve, after_detach, after_reattach}
 use Rattle.slotmap_core.specs.Given.{Given}
 use Rattle.slotmap_core.specs.declared.commands.Command.{Command}
 use Rattle.slotmap_core.specs.declared.commands.Command.TheVariants as command
@@ -14,90 +14,103 @@ use Rattle.slotmap_core.specs.declared.commands.DetachCommand.TheVariants as det
 use Rattle.slotmap_core.specs.declared.commands.Reply.{Reply}
 use Rattle.slotmap_core.specs.declared.commands.Reply.TheVariants as reply
 
--- no place is left
-pub record IsFull {V : Type 0} (s : State V) : Type 0 where
-  pub at_limit : used s ≡ most
-  pub not_promised : s.promised ≡ 0
-
 module _ {K V R E : Type 0} (given : Given K V R E) where
   -- an insert may be refused for memory
-  pub record MayLack (s : State V) : Type 0 where
+  pub record MayLackMemory (s : State V) : Type 0 where
+    -- places are left
     pub below_limit : used s ≢ most
+    -- no insert is owed
     pub not_promised : s.promised ≡ 0
+    -- where old places take no memory, no old one is vacant
     pub at_peak : given.reuses ≡ true → used s ≡ s.peak
 
+  -- a fresh key is answered and bound to v; `Full` comes exactly where no place is left, and has v; `Memory` has v
   abbrev pub StepInsert : State V → V → Reply K V R E → State V → Type 0
-  StepInsert old v (reply.Key k) new = (used old ≢ most) × Fresh old (given.data_of k) × (new ≡ bound old (given.data_of k) v)
-  StepInsert old v (reply.Full back) new = IsFull old × (back ≡ Some v) × (new ≡ old)
-  StepInsert old v (reply.Memory back) new = MayLack old × (back ≡ Some v) × (new ≡ old)
+  StepInsert old v (reply.Key k) new = (used old ≢ most) × Fresh old (given.data_of k) × (new ≡ after_insert old (given.data_of k) v)
+  StepInsert old v (reply.Full back) new = (used old ≡ most) × (back ≡ Some v) × (new ≡ old)
+  StepInsert old v (reply.Memory back) new = MayLackMemory old × (back ≡ Some v) × (new ≡ old)
   StepInsert old v _ new = ⊥
 
+  -- the same with a value that `make` may give for the key; or the error that it may give for a fresh one
   abbrev pub StepInsertWith : State V → Reply K V R E → State V → Type 0
-  StepInsertWith old (reply.Key k) new = (used old ≢ most) × Fresh old (given.data_of k) × ((v : V) × given.makes k (Ok v) × (new ≡ bound old (given.data_of k) v))
-  StepInsertWith old (reply.Full back) new = IsFull old × (back ≡ None) × (new ≡ old)
-  StepInsertWith old (reply.Memory back) new = MayLack old × (back ≡ None) × (new ≡ old)
+  StepInsertWith old (reply.Key k) new = (used old ≢ most) × Fresh old (given.data_of k) × ((v : V) × given.makes k (Ok v) × (new ≡ after_insert old (given.data_of k) v))
+  StepInsertWith old (reply.Full back) new = (used old ≡ most) × (back ≡ None) × (new ≡ old)
+  StepInsertWith old (reply.Memory back) new = MayLackMemory old × (back ≡ None) × (new ≡ old)
   StepInsertWith old (reply.Failed e) new = (used old ≢ most) × ((k : K) × Fresh old (given.data_of k) × given.makes k (Err e)) × (new ≡ old)
   StepInsertWith old _ new = ⊥
 
+  -- `TooGreat` comes exactly where n more keys would pass the limit; `Done` promises n inserts or reattaches
   abbrev pub StepReserve : State V → ℕ → Reply K V R E → State V → Type 0
-  StepReserve old n reply.Done new = (used old + n ≤ most) × (new ≡ with_promise old n)
+  StepReserve old n reply.Done new = (used old + n ≤ most) × (new ≡ after_reserve old n)
   StepReserve old n reply.TooGreat new = (most < used old + n) × (new ≡ old)
   StepReserve old n (reply.Memory back) new = (used old + n ≤ most) × (back ≡ None) × (new ≡ old)
   StepReserve old n _ new = ⊥
 
+  -- what `look` may answer at k's value, exactly where k is live
   abbrev pub StepGet : State V → Key → Reply K V R E → State V → Type 0
   StepGet old k (reply.Looked None) new = (map.get old.live k ≡ None) × (new ≡ old)
   StepGet old k (reply.Looked (Some r)) new = ((v : V) × (map.get old.live k ≡ Some v) × given.looks v r) × (new ≡ old)
   StepGet old k _ new = ⊥
 
+  -- whether k is live
   abbrev pub StepContains : State V → Key → Reply K V R E → State V → Type 0
   StepContains old k (reply.Flag is) new = (is ≡ map.contains_key old.live k) × (new ≡ old)
   StepContains old k _ new = ⊥
 
+  -- the number of live keys
   abbrev pub StepLen : State V → Reply K V R E → State V → Type 0
   StepLen old (reply.Len n) new = (n ≡ map.len old.live) × (new ≡ old)
   StepLen old _ new = ⊥
 
+  -- where k is live, its value comes out and v is bound; else v comes back
   abbrev pub StepReplace : State V → Key → V → Reply K V R E → State V → Type 0
-  StepReplace old k v (reply.Put (Ok before)) new = (map.get old.live k ≡ Some before) × (new ≡ with_value old k v)
+  StepReplace old k v (reply.Put (Ok before)) new = (map.get old.live k ≡ Some before) × (new ≡ after_replace old k v)
   StepReplace old k v (reply.Put (Err back)) new = (map.get old.live k ≡ None) × (back ≡ v) × (new ≡ old)
   StepReplace old k v _ new = ⊥
 
+  -- where k is live, its value comes out and k is live no longer; else none
   abbrev pub StepRemove : State V → Key → Reply K V R E → State V → Type 0
-  StepRemove old k (reply.Taken (Some v)) new = (map.get old.live k ≡ Some v) × (new ≡ without old k)
+  StepRemove old k (reply.Taken (Some v)) new = (map.get old.live k ≡ Some v) × (new ≡ after_remove old k)
   StepRemove old k (reply.Taken None) new = (map.get old.live k ≡ None) × (new ≡ old)
   StepRemove old k _ new = ⊥
 
+  -- where k is live, its value comes out and k is detached; else none
   abbrev pub StepDetach : State V → Key → Reply K V R E → State V → Type 0
-  StepDetach old k (reply.Taken (Some v)) new = (map.get old.live k ≡ Some v) × (new ≡ set_aside old k)
+  StepDetach old k (reply.Taken (Some v)) new = (map.get old.live k ≡ Some v) × (new ≡ after_detach old k)
   StepDetach old k (reply.Taken None) new = (map.get old.live k ≡ None) × (new ≡ old)
   StepDetach old k _ new = ⊥
 
+  -- where k is detached, it is bound to v, or `Memory` has v, which comes only where no reattach is owed; else `NotDetached` has v
   abbrev pub StepReattach : State V → Key → V → Reply K V R E → State V → Type 0
-  StepReattach old k v reply.Done new = (set.contains old.detached k ≡ true) × (new ≡ put_back old k v)
+  StepReattach old k v reply.Done new = (set.contains old.detached k ≡ true) × (new ≡ after_reattach old k v)
   StepReattach old k v (reply.NotDetached back) new = (set.contains old.detached k ≡ false) × (back ≡ v) × (new ≡ old)
   StepReattach old k v (reply.Memory back) new = (set.contains old.detached k ≡ true) × (old.promised ≡ 0) × (back ≡ Some v) × (new ≡ old)
   StepReattach old k v _ new = ⊥
 
-  -- of each live pair the closure answers whether it stays, and with what value
+  -- for each live key and its value there is a value that `keep` may leave and an answer that it may give, and by that answer the key stays with that value, or is live no longer
   pub record Retains (old new : State V) : Type 0 where
     pub each : (k : Key) (v : V) → map.get old.live k ≡ Some v → (key : K) × (w : V) × (stays : Bool) × (given.data_of key ≡ k) × given.keeps key v w stays × (map.get new.live k ≡ (if stays then Some w else None))
+    -- no other key becomes live
     pub no_more : (k : Key) → map.get old.live k ≡ None → map.get new.live k ≡ None
+    -- the rest of the state is as before
     pub rest : new ≡ record old { live = new.live }
 
   abbrev pub StepRetain : State V → Reply K V R E → State V → Type 0
   StepRetain old reply.Done new = Retains old new
   StepRetain old _ new = ⊥
 
+  -- no key is live any longer
   abbrev pub StepClear : State V → Reply K V R E → State V → Type 0
-  StepClear old reply.Done new = new ≡ emptied old
+  StepClear old reply.Done new = new ≡ after_clear old
   StepClear old _ new = ⊥
 
+  -- each live key comes out with its value, once, and none is live any longer
   abbrev pub StepDrain : State V → Reply K V R E → State V → Type 0
-  StepDrain old (reply.Drained pairs) new = IsListing old.live (list_map (λ p. (given.data_of p.0, p.1)) pairs.items) × (new ≡ emptied old)
+  StepDrain old (reply.Drained pairs) new = IsListing old.live (list_map (λ p. (given.data_of p.0, p.1)) pairs.items) × (new ≡ after_clear old)
   StepDrain old (reply.Memory back) new = (back ≡ None) × (new ≡ old)
   StepDrain old _ new = ⊥
 
+  -- each live key is answered, once
   abbrev pub StepKeys : State V → Reply K V R E → State V → Type 0
   StepKeys old (reply.Keys keys) new = IsKeyListing old.live (list_map given.data_of keys.items) × (new ≡ old)
   StepKeys old (reply.Memory back) new = (back ≡ None) × (new ≡ old)

@@ -1,0 +1,276 @@
+-- What the calls of a map promise is a step of the machine.
+use Rattle.std.proofs.Common.{◌≡◌, ℕ, ◌+◌, ◌<◌, ◌≤◌, List, [], ◌∷◌, ◌++◌, Vec, Global, Result, Ok, Err, IfOk, OnOk, IfErr, OnErr, Option, Some, None, Bool, true, false, cond, refl, sym, ap, ◌∙◌, subst, arith, is_some}
+use Rattle.std.specs.Prelude.{map as list_map, MatchOption, IsSomeAnd, option_copied}
+use Rattle.std.specs.Fn.{Mut}
+use Rattle.std.specs.Borrow.{Bor, MutBor}
+use Rattle.std.specs.FinMap as map
+use Rattle.std.specs.FinSet as set
+use Rattle.slotmap_core.specs.Key.{Key, key_cmp}
+use Rattle.slotmap_core.specs.Content.{Content, IsContent, used, most}
+use Rattle.slotmap_core.specs.Listing.{IsListing, IsKeyListing}
+use Rattle.slotmap_core.specs.Transition.{Inserts, Keeps, Removes, Replaces, Leaves, Detaches, Reattaches}
+use Rattle.slotmap_core.specs.Refusal.{LacksRoom, Refuses, RefusesWith, RefusesCapacity, RefusesReattach}
+use Rattle.slotmap_core.specs.Retain.{Visit, seen, kept, CallsAt, RetainsBy}
+use Rattle.slotmap_core.specs.Given.{Given}
+use Rattle.slotmap_core.specs.Machine as machine
+use Rattle.slotmap_core.specs.Machine.{State, after_insert, after_remove, after_replace, after_reserve, after_detach, after_reattach}
+use Rattle.slotmap_core.specs.Step.{MayLackMemory, Step, DetachStep}
+use Rattle.slotmap_core.specs.Fit.{Fits, Follows}
+use Rattle.slotmap_core.specs.declared.commands.Command.{Command}
+use Rattle.slotmap_core.specs.declared.commands.Command.TheVariants as command
+use Rattle.slotmap_core.specs.declared.commands.DetachCommand.{DetachCommand}
+use Rattle.slotmap_core.specs.declared.commands.DetachCommand.TheVariants as detaching
+use Rattle.slotmap_core.specs.declared.commands.Reply.{Reply}
+use Rattle.slotmap_core.specs.declared.commands.Reply.TheVariants as reply
+use Rattle.slotmap_core.specs.declared.errors.InsertError.{InsertError}
+use Rattle.slotmap_core.specs.declared.errors.InsertError.TheVariants.{Full, Memory}
+use Rattle.slotmap_core.specs.declared.errors.TryInsertError.{TryInsertError}
+use Rattle.slotmap_core.specs.declared.errors.TryInsertError.TheVariants as with_key
+use Rattle.slotmap_core.specs.declared.errors.ReserveError.{ReserveError}
+use Rattle.slotmap_core.specs.declared.errors.ReserveError.TheVariants as capacity
+use Rattle.slotmap_core.specs.declared.errors.ReattachError.{ReattachError}
+use Rattle.slotmap_core.specs.declared.errors.ReattachError.TheVariants as again
+use Rattle.slotmap_core.specs.declared.errors.OutOfMemory.{OutOfMemory}
+use Rattle.slotmap_core.proofs.KeyLemmas.{keys_total}
+use Rattle.slotmap_core.proofs.Maps.{none_of, false_of}
+use Rattle.slotmap_run.proofs.Fits.{used_same, below, offer_fresh, inserts_fresh, inserts_fits}
+use Rattle.slotmap_run.proofs.Moves.{keeps_fits, promises_fits, replaces_fits, detaches_fits, reattaches_fits, removes_fits, leaves_fits}
+use Rattle.slotmap_run.proofs.Lasts.{inserts_lasts, keeps_lasts, replaces_lasts, detaches_lasts, reattaches_lasts, removes_lasts, leaves_lasts}
+use Rattle.slotmap_core.specs.Lifo.{IsBasic}
+use Rattle.slotmap_core.specs.Law.{IsRefusal}
+use Rattle.slotmap_run.specs.Order.{Serves, DetachServes}
+use Rattle.slotmap_run.specs.Replies.{insert_reply_of, insert_with_reply_of, reserve_reply_of, reattach_reply_of}
+use Rattle.slotmap_run.proofs.Orders.{lifo_inserts, lifo_keeps, lifo_removes, lifo_detaches, lifo_reattaches}
+use Rattle.slotmap_run.proofs.Retains.{unseen, decided}
+
+pub keeps_itself : {V : Type 0} (c : Content V) → Keeps c c
+keeps_itself c = record { live = refl; detached = refl; retired = refl; next = refl; offer = refl; stack = refl; room = omega arith }
+
+module _ {K V R E : Type 0} (given : Given K V R E) (reuses : Bool) (old new : Content V) (ok : IsContent reuses old) where
+  abbrev Answers : Command K V → Reply K V R E → Type 0
+  Answers command reply = Serves given old command reply new
+
+  abbrev DetachAnswers : DetachCommand K V → Reply K V R E → Type 0
+  DetachAnswers command reply = DetachServes given old command reply new
+
+  -- a command that isn't of the machine of the place freed last
+  other : (c : Command K V) (r : Reply K V R E) → (IsBasic (detaching.Plain c) → ⊥) → Follows (Step given) old c r new → Answers c r
+  other c r not_basic follows = record { follows = follows; orders = λ l is basic told. absurd (not_basic basic) }
+
+  -- a refused one
+  refused : (c : Command K V) (r : Reply K V R E) → IsRefusal r → Follows (Step given) old c r new → Answers c r
+  refused c r is follows = record { follows = follows; orders = λ l lifo basic told. absurd (told is) }
+
+  -- a call that keeps the content is a step that stays
+  module _ {C : Type 0} (Machine : State V → C → Reply K V R E → State V → Type 0) (c : C) (r : Reply K V R E) where
+    stays_by : Keeps old new → ((s : State V) → Fits s old → Machine s c r s) → Follows Machine old c r new
+    stays_by keeps step = record {
+      step = λ s fits. (s, step s fits, keeps_fits reuses s old new ok fits keeps);
+      lasts = λ n lasts. keeps_lasts reuses old new n ok lasts keeps;
+    }
+
+  stays : (c : Command K V) (r : Reply K V R E) → (IsBasic (detaching.Plain c) → ⊥) → Keeps old new → ((s : State V) → s.live ≡ old.live → machine.used s ≡ used old → Step given s c r s) → Answers c r
+  stays c r not_basic keeps step = other c r not_basic (stays_by (Step given) c r keeps (λ s fits. step s fits.live (used_same reuses s old new ok fits)))
+
+  inserts : IsContent reuses new → (key : K) (v : V) → Inserts old (given.data_of key) v new → Answers (command.Insert v) (reply.Key key)
+  inserts new_ok key v i = record {
+    follows = record {
+      step = λ s fits. (after_insert s (given.data_of key) v, (below reuses s old new ok fits i.below_limit, inserts_fresh reuses s old new ok fits (given.data_of key) v i new_ok, refl), inserts_fits reuses s old new ok fits (given.data_of key) v i new_ok);
+      lasts = λ n lasts. inserts_lasts reuses old new n ok lasts (given.data_of key) v i;
+    };
+    orders = λ l is basic told. let both = lifo_inserts reuses old new ok l is (given.data_of key) v i in (ap (λ k. k ∷ []) both.0, both.1);
+  }
+
+  inserts_with : IsContent reuses new → (key : K) (v : V) → given.makes key (Ok v) → Inserts old (given.data_of key) v new → Answers command.InsertWith (reply.Key key)
+  inserts_with new_ok key v made i = other command.InsertWith (reply.Key key) (λ b. b) (record {
+    step = λ s fits. (after_insert s (given.data_of key) v, (below reuses s old new ok fits i.below_limit, inserts_fresh reuses s old new ok fits (given.data_of key) v i new_ok, (v, made, refl)), inserts_fits reuses s old new ok fits (given.data_of key) v i new_ok);
+    lasts = λ n lasts. inserts_lasts reuses old new n ok lasts (given.data_of key) v i;
+  })
+
+  full : (v back : V) → Refuses old v (Full back) → Keeps old new → Answers (command.Insert v) (reply.Full (Some back))
+  full v back r keeps = refused (command.Insert v) (reply.Full (Some back)) tt (stays_by (Step given) (command.Insert v) (reply.Full (Some back)) keeps (λ s fits. (used_same reuses s old new ok fits ∙ r.0, ap Some r.1, refl)))
+
+  with_full : used old ≡ most → Keeps old new → Answers command.InsertWith (reply.Full None)
+  with_full r keeps = other command.InsertWith (reply.Full None) (λ b. b) (stays_by (Step given) command.InsertWith (reply.Full None) keeps (λ s fits. (used_same reuses s old new ok fits ∙ r, refl, refl)))
+
+  -- where memory was lacking for an insert, it may be lacking in the machine
+  may_lack : given.reuses ≡ reuses → LacksRoom old → (s : State V) → Fits s old → MayLackMemory given s
+  may_lack is r s fits = let same = used_same reuses s old new ok fits in record {
+    below_limit = λ e. let less = r.below_limit in omega arith;
+    not_promised = let promised = fits.promised in let room = r.no_room in omega arith;
+    at_peak = λ h. let none = ok.reused (sym is ∙ h) in let room = r.no_room in let peak = fits.peak in omega arith;
+  }
+
+  no_memory : given.reuses ≡ reuses → (v back : V) → Refuses old v (Memory back) → Keeps old new → Answers (command.Insert v) (reply.Memory (Some back))
+  no_memory is v back r keeps = refused (command.Insert v) (reply.Memory (Some back)) tt (stays_by (Step given) (command.Insert v) (reply.Memory (Some back)) keeps (λ s fits. (may_lack is r.0 s fits, ap Some r.1, refl)))
+
+  with_no_memory : given.reuses ≡ reuses → LacksRoom old → Keeps old new → Answers command.InsertWith (reply.Memory None)
+  with_no_memory is r keeps = other command.InsertWith (reply.Memory None) (λ b. b) (stays_by (Step given) command.InsertWith (reply.Memory None) keeps (λ s fits. (may_lack is r s fits, refl, refl)))
+
+  -- whatever an insert answers
+  pub inserted : given.reuses ≡ reuses → IsContent reuses new → (v : V) (r : Result K (InsertError V)) → IfOk r (λ key. Inserts old (given.data_of key) v new) → IfErr r (Refuses old v) → OnErr r (Keeps old new) → Answers (command.Insert v) (insert_reply_of r)
+  inserted is new_ok v (Ok key) ok err keeps = inserts new_ok key v ok
+  inserted is new_ok v (Err (Full back)) ok err keeps = full v back err keeps
+  inserted is new_ok v (Err (Memory back)) ok err keeps = no_memory is v back err keeps
+
+  with_failed : (e : E) → (used old < most) × ((k : K) × (given.data_of k ≡ old.offer) × given.makes k (Err e)) → Keeps old new → Answers command.InsertWith (reply.Failed e)
+  with_failed e r keeps = other command.InsertWith (reply.Failed e) (λ b. b) (stays_by (Step given) command.InsertWith (reply.Failed e) keeps
+      (λ s fits. (below reuses s old new ok fits r.0, (r.1.0, rw r.1.1 (offer_fresh reuses s old new ok fits r.0), r.1.2), refl)))
+
+  -- whatever an insert of what `make` gives answers
+  pub inserted_with : given.reuses ≡ reuses → IsContent reuses new → (r : Result K (TryInsertError E))
+      → IfOk r (λ key. (v : V) × given.makes key (Ok v) × Inserts old (given.data_of key) v new) → IfErr r (RefusesWith given.data_of given.makes old) → OnErr r (Keeps old new) → Answers command.InsertWith (insert_with_reply_of r)
+  inserted_with is new_ok (Ok key) ok err keeps = inserts_with new_ok key ok.0 ok.1 ok.2
+  inserted_with is new_ok (Err with_key.Full) ok err keeps = with_full err keeps
+  inserted_with is new_ok (Err with_key.Memory) ok err keeps = with_no_memory is err keeps
+  inserted_with is new_ok (Err (with_key.Closure e)) ok err keeps = with_failed e err keeps
+
+  looks : (key : K) (v : V) (r : R) → Keeps old new → Some v ≡ map.get old.live (given.data_of key) → given.looks v r → Answers (command.Get key) (reply.Looked (Some r))
+  looks key v r keeps found seen = stays (command.Get key) (reply.Looked (Some r)) (λ b. b) keeps (λ s live same. ((v, rw live (sym found), seen), refl))
+
+  looks_none : (key : K) → Keeps old new → None ≡ map.get old.live (given.data_of key) → Answers (command.Get key) (reply.Looked None)
+  looks_none key keeps none = stays (command.Get key) (reply.Looked None) (λ b. b) keeps (λ s live same. (rw live (sym none), refl))
+
+  -- whatever a look-up finds, where what is shown of it may be told
+  pub looked : (key : K) (found : Option (Bor V)) (told : Option R) (P : Bor V → R → Type 0) → ((x : Bor V) (r : R) → P x r → given.looks x.now r) → Keeps old new
+      → option_copied found ≡ map.get old.live (given.data_of key) → MatchOption found (told ≡ None) (λ x. IsSomeAnd told (P x)) → Answers (command.Get key) (reply.Looked told)
+  looked key None told P says keeps is shown = rw shown (looks_none key keeps is)
+  looked key (Some x) (Some r) P says keeps is shown = looks key x.now r keeps is (says x r shown)
+  looked key (Some x) None P says keeps is shown = absurd shown
+
+  pub contains : (key : K) (is : Bool) → Keeps old new → is ≡ map.contains_key old.live (given.data_of key) → Answers (command.Contains key) (reply.Flag is)
+  contains key is keeps found = stays (command.Contains key) (reply.Flag is) (λ b. b) keeps (λ s live same. (rw live found, refl))
+
+  pub counts : (n : ℕ) → Keeps old new → n ≡ map.len old.live → Answers command.Len (reply.Len n)
+  counts n keeps is = stays command.Len (reply.Len n) (λ b. b) keeps (λ s live same. (rw live is, refl))
+
+  pub replaced : (key : K) (v : V) (r : Result V V) → IfOk r (λ before. map.get old.live (given.data_of key) ≡ Some before) → OnOk r (Replaces old (given.data_of key) v new)
+      → IfErr r (λ back. map.contains_key old.live (given.data_of key) ≡ false × back ≡ v) → OnErr r (Keeps old new) → Answers (command.Replace key v) (reply.Put r)
+  replaced key v (Ok before) found changes none keeps = other (command.Replace key v) (reply.Put (Ok before)) (λ b. b) (record {
+    step = λ s fits. (after_replace s (given.data_of key) v, (rw fits.live found, refl), replaces_fits reuses s old new ok fits (given.data_of key) v (ap is_some found) changes);
+    lasts = λ n lasts. replaces_lasts reuses old new n ok lasts (given.data_of key) v (ap is_some found) changes;
+  })
+  replaced key v (Err back) found changes none keeps = stays (command.Replace key v) (reply.Put (Err back)) (λ b. b) keeps (λ s live _. (rw live (none_of _ none.0), none.1, refl))
+
+  pub removed : (key : K) (taken : Option V) → taken ≡ map.get old.live (given.data_of key) → (is_some taken ≡ true → Removes old (given.data_of key) new) → (taken ≡ None → Keeps old new) → Answers (command.Remove key) (reply.Taken taken)
+  removed key (Some v) is some none = record {
+    follows = record {
+      step = λ s fits. (after_remove s (given.data_of key), (rw fits.live (sym is), refl), removes_fits reuses s old new ok fits (given.data_of key) (ap is_some (sym is)) (some refl));
+      lasts = λ n lasts. removes_lasts reuses old new n ok lasts (given.data_of key) (ap is_some (sym is)) (some refl);
+    };
+    orders = λ l lifo basic told. (refl, lifo_removes reuses old new ok l lifo (given.data_of key) (ap is_some (sym is)) (some refl));
+  }
+  removed key None is some none = record {
+    follows = stays_by (Step given) (command.Remove key) (reply.Taken None) (none refl) (λ s fits. (rw fits.live (sym is), refl));
+    orders = λ l lifo basic told. (refl, rw (lifo.live (given.data_of key) ∙ ap is_some (sym is)) (lifo_keeps reuses old new ok l lifo (none refl)));
+  }
+
+  reserves : (m : ℕ) → used old + m ≤ most → m ≤ new.room → Keeps old new → Answers (command.Reserve m) reply.Done
+  reserves m fits room keeps = other (command.Reserve m) reply.Done (λ b. b) (record {
+    step = λ s ok_fits. (after_reserve s m, (let same = used_same reuses s old new ok ok_fits in omega arith, refl), promises_fits reuses s old new ok ok_fits keeps m room);
+    lasts = λ n lasts. keeps_lasts reuses old new n ok lasts keeps;
+  })
+
+  too_great : (m : ℕ) → most < used old + m → Keeps old new → Answers (command.Reserve m) reply.TooGreat
+  too_great m great keeps = stays (command.Reserve m) reply.TooGreat (λ b. b) keeps (λ s live same. (omega arith, refl))
+
+  reserves_no_memory : (m : ℕ) → used old + m ≤ most → Keeps old new → Answers (command.Reserve m) (reply.Memory None)
+  reserves_no_memory m fits keeps = stays (command.Reserve m) (reply.Memory None) (λ b. b) keeps (λ s live same. (omega arith, refl, refl))
+
+  -- whatever a reserve answers
+  pub reserved : (m : ℕ) (r : Result (Unit {0}) ReserveError) → OnOk r (m ≤ new.room) → OnOk r (used old + m ≤ most) → IfErr r (RefusesCapacity (used old + m)) → Keeps old new → Answers (command.Reserve m) (reserve_reply_of r)
+  reserved m (Ok done) room fits err keeps = reserves m fits room keeps
+  reserved m (Err capacity.TooGreat) room fits err keeps = too_great m err keeps
+  reserved m (Err capacity.Memory) room fits err keeps = reserves_no_memory m err keeps
+
+  -- some keys leave, and nothing else of the state changes
+  leaves : (c : Command K V) (r : Reply K V R E) → (IsBasic (detaching.Plain c) → ⊥) → Leaves old new → ((s : State V) → s.live ≡ old.live → Step given s c r (record s { live = new.live })) → Answers c r
+  leaves c r not_basic l step = other c r not_basic (record {
+    step = λ s fits. (record s { live = new.live }, step s fits.live, leaves_fits reuses s old new ok fits l);
+    lasts = λ n lasts. leaves_lasts reuses old new n ok lasts l;
+  })
+
+  pub clears : new.live ≡ map.empty → Leaves old new → Answers command.Clear reply.Done
+  clears empty l = leaves command.Clear reply.Done (λ b. b) l (λ s live. ap (λ (m : map.FinMap key_cmp V). record s { live = m }) empty)
+
+  -- whatever a drain into a new vector answers
+  pub drained : (done : Result (Unit {0}) OutOfMemory) (first out : Vec (K × V) Global) (r : Reply K V R E) → first.items ≡ [] → OnOk done (r ≡ reply.Drained out) → OnErr done (r ≡ reply.Memory None)
+      → OnOk done ((pairs : List (K × V)) × (out.items ≡ first.items ++ pairs) × IsListing old.live (list_map (λ p. (given.data_of p.0, p.1)) pairs)) → OnOk done (new.live ≡ map.empty) → OnOk done (Leaves old new) → OnErr done (Keeps old new)
+      → Answers command.Drain r
+  drained (Ok done) first out r none told refusal all empty l keeps =
+      let is : out.items ≡ all.0 = all.1 ∙ ap (λ front. front ++ all.0) none in
+      rw told (leaves command.Drain (reply.Drained out) (λ b. b) l (λ s live. (rw (is, live) all.2, ap (λ (m : map.FinMap key_cmp V). record s { live = m }) empty)))
+  drained (Err e) first out r none told refusal all empty l keeps = rw refusal (stays command.Drain (reply.Memory None) (λ b. b) keeps (λ s live same. (refl, refl)))
+
+  -- whatever listing the keys in a new vector answers
+  pub listed : (done : Result (Unit {0}) OutOfMemory) (first out : Vec K Global) (r : Reply K V R E) → first.items ≡ [] → OnOk done (r ≡ reply.Keys out) → OnErr done (r ≡ reply.Memory None)
+      → OnOk done ((keys : List K) × (out.items ≡ first.items ++ keys) × IsKeyListing old.live (list_map given.data_of keys)) → Keeps old new → Answers command.Keys r
+  listed (Ok done) first out r none told refusal all keeps =
+      let is : out.items ≡ all.0 = all.1 ∙ ap (λ front. front ++ all.0) none in
+      rw told (stays command.Keys (reply.Keys out) (λ b. b) keeps (λ s live same. (rw (is, live) all.2, refl)))
+  listed (Err e) first out r none told refusal all keeps = rw refusal (stays command.Keys (reply.Memory None) (λ b. b) keeps (λ s live same. (refl, refl)))
+
+  module _ {F : Type 0} (g : Mut F (K × (MutBor V × Unit {0})) (Bool × (MutBor V × Unit {0}))) (f : F) (Is : F → Type 0) (says : (f : F) (x : Visit K V) (f' : F) → Is f → CallsAt g f x f' → Is f' × given.keeps x.key x.before x.after x.stays) (is : Is f) (r : RetainsBy g given.data_of f old.live new.live) where
+    was_seen : (q : Key) → map.get old.live q ≡ map.find key_cmp q (seen given.data_of r.visits)
+    was_seen q = ap (λ (m : map.FinMap key_cmp V). map.get m q) (sym r.listed.all) ∙ map.get-from_entries keys_total (seen given.data_of r.visits) q
+
+    is_kept : (q : Key) → map.get new.live q ≡ map.find key_cmp q (kept given.data_of r.visits)
+    is_kept q = ap (λ (m : map.FinMap key_cmp V). map.get m q) r.stay ∙ map.get-from_entries keys_total (kept given.data_of r.visits) q
+
+    each : (q : Key) (v : V) → map.get old.live q ≡ Some v → (key : K) × (w : V) × (stays : Bool) × (given.data_of key ≡ q) × given.keeps key v w stays × (map.get new.live q ≡ cond stays (Some w) None)
+    each q v found =
+        let d = decided given.data_of (CallsAt g) (λ x. given.keeps x.key x.before x.after x.stays) Is says r.visits f r.last is r.calls (r.listed.once ∙ sym (ap map.len r.listed.all)) q v (sym (was_seen q) ∙ found) in
+        (d.0.key, d.0.after, d.0.stays, d.1, subst (λ (b : V). given.keeps d.0.key b d.0.after d.0.stays) d.2 d.3, is_kept q ∙ d.4)
+
+    pub retains : Leaves old new → Answers command.Retain reply.Done
+    retains l = leaves command.Retain reply.Done (λ b. b) l (λ s live. record {
+      each = λ q v found. each q v (rw (← live) found);
+      no_more = λ q none. is_kept q ∙ unseen given.data_of r.visits q (sym (was_seen q) ∙ rw (← live) none);
+      rest = refl;
+    })
+
+  -- a step of the plain machine is one of the machine that detaches
+  pub plain : (c : Command K V) (r : Reply K V R E) → Answers c r → DetachAnswers (detaching.Plain c) r
+  plain c r f = record { follows = record { step = f.follows.step; lasts = f.follows.lasts }; orders = f.orders }
+
+  pub detached : (key : K) (taken : Option V) → taken ≡ map.get old.live (given.data_of key) → (is_some taken ≡ true → Detaches old (given.data_of key) new) → (taken ≡ None → Keeps old new) → DetachAnswers (detaching.Detach key) (reply.Taken taken)
+  detached key (Some v) is some none = record {
+    follows = record {
+      step = λ s fits. (after_detach s (given.data_of key), (rw fits.live (sym is), refl), detaches_fits reuses s old new ok fits (given.data_of key) (ap is_some (sym is)) (some refl));
+      lasts = λ n lasts. detaches_lasts reuses old new n ok lasts (given.data_of key) (ap is_some (sym is)) (some refl);
+    };
+    orders = λ l lifo basic told. (refl, lifo_detaches reuses old new ok l lifo (given.data_of key) (ap is_some (sym is)) (some refl));
+  }
+  detached key None is some none = record {
+    follows = stays_by (DetachStep given) (detaching.Detach key) (reply.Taken None) (none refl) (λ s fits. (rw fits.live (sym is), refl));
+    orders = λ l lifo basic told. (refl, rw (lifo.live (given.data_of key) ∙ ap is_some (sym is)) (lifo_keeps reuses old new ok l lifo (none refl)));
+  }
+
+  reattaches : (key : K) (v : V) → Reattaches old (given.data_of key) v new → DetachAnswers (detaching.Reattach key v) reply.Done
+  reattaches key v r = record {
+    follows = record {
+      step = λ s fits. (after_reattach s (given.data_of key) v, (rw fits.detached r.was_detached, refl), reattaches_fits reuses s old new ok fits (given.data_of key) v r);
+      lasts = λ n lasts. reattaches_lasts reuses old new n ok lasts (given.data_of key) v r;
+    };
+    orders = λ l lifo basic told. (refl, lifo_reattaches reuses old new ok l lifo (given.data_of key) v r);
+  }
+
+  not_detached : (key : K) (v back : V) → RefusesReattach old (given.data_of key) v (again.NotDetached back) → Keeps old new → DetachAnswers (detaching.Reattach key v) (reply.NotDetached back)
+  not_detached key v back r keeps = record {
+    follows = stays_by (DetachStep given) (detaching.Reattach key v) (reply.NotDetached back) keeps (λ s fits. (rw fits.detached (false_of _ r.0), r.1, refl));
+    orders = λ l lifo basic told. (refl, rw (ap (λ (d : set.FinSet key_cmp). set.contains d (given.data_of key)) lifo.detached ∙ false_of _ r.0) (lifo_keeps reuses old new ok l lifo keeps));
+  }
+
+  reattaches_no_memory : (key : K) (v back : V) → RefusesReattach old (given.data_of key) v (again.Memory back) → Keeps old new → DetachAnswers (detaching.Reattach key v) (reply.Memory (Some back))
+  reattaches_no_memory key v back r keeps = record {
+    follows = stays_by (DetachStep given) (detaching.Reattach key v) (reply.Memory (Some back)) keeps
+        (λ s fits. (rw fits.detached r.0, (let promised = fits.promised in let room = r.1 in omega arith), ap Some r.2, refl));
+    orders = λ l lifo basic told. absurd (told tt);
+  }
+
+  -- whatever a reattach answers
+  pub reattached : (key : K) (v : V) (r : Result (Unit {0}) (ReattachError V)) → OnOk r (Reattaches old (given.data_of key) v new) → IfErr r (RefusesReattach old (given.data_of key) v) → OnErr r (Keeps old new)
+      → DetachAnswers (detaching.Reattach key v) (reattach_reply_of r)
+  reattached key v (Ok done) ok err keeps = reattaches key v ok
+  reattached key v (Err (again.NotDetached back)) ok err keeps = not_detached key v back err keeps
+  reattached key v (Err (again.Memory back)) ok err keeps = reattaches_no_memory key v back err keeps
