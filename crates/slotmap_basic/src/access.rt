@@ -17,7 +17,8 @@ impl<K: Key, V: Drop> SlotMap<K, V> {
 
     // The place of a key that is live.
     pub(crate) fn live_index(&self, key: K) -> Option<usize>
-        ensures live { IfSome result (λ index. IsLive self.now (K.data_of key) × (index ≡ (K.data_of key).index)) }
+        ensures live { IfSome result (λ index.
+            IsLive self.now (K.data_of key) × (index ≡ (K.data_of key).index)) }
         ensures absent { IfNone result (map.contains_key self.now.live (K.data_of key) ≡ false) }
     {
         let key = key.data();
@@ -29,14 +30,17 @@ impl<K: Key, V: Drop> SlotMap<K, V> {
         }
     }
 
-    /// Whether this key is live.
+    /// Whether this key is live. Constant time.
+    ///
+    /// A detached key isn't, nor is the null key, nor a key of another map, as long as this map has
+    /// no live key of the same index and version.
     pub fn contains_key(&self, key: K) -> bool
         ensures { result ≡ map.contains_key self.now.live (K.data_of key) }
     {
         self.live_index(key).is_some()
     }
 
-    /// The value of a live key.
+    /// The value of a live key, or none where the key isn't live. Constant time.
     pub fn get(&self, key: K) -> Option<&V>
         ensures { option_copied result ≡ map.get self.now.live (K.data_of key) }
     {
@@ -44,7 +48,9 @@ impl<K: Key, V: Drop> SlotMap<K, V> {
         self.values[index].as_ref()
     }
 
-    /// The value of a key that is live.
+    /// The value of a key that is live. Constant time, with no look-up.
+    ///
+    /// The caller has to know that the key is live; so the call is safe, where Rust's is `unsafe`.
     pub fn get_unchecked(&self, key: K) -> &V
         requires { IsLive self.now (K.data_of key) }
         ensures { map.get self.now.live (K.data_of key) ≡ Some result.now }
@@ -53,7 +59,10 @@ impl<K: Key, V: Drop> SlotMap<K, V> {
         self.values[index].as_ref().unwrap()
     }
 
-    /// The value of a live key, for writing.
+    /// The value of a live key for writing, or none where the key isn't live. Constant time.
+    ///
+    /// Once the reference ends, the key has the last value written through it, and all else is as
+    /// before.
     pub fn get_mut(&mut self, key: K) -> Option<&mut V>
         ensures* writes_back { sem 𝓛 (lends_get K.row V.row self.entry (K.data_of key) result) }
         ensures value { option_copied_mut result ≡ map.get self.old.live (K.data_of key) }
@@ -65,7 +74,9 @@ impl<K: Key, V: Drop> SlotMap<K, V> {
         }
     }
 
-    /// The value of a key that is live, for writing.
+    /// The value of a key that is live, for writing. Constant time, with no look-up.
+    ///
+    /// The caller has to know that the key is live; so the call is safe, where Rust's is `unsafe`.
     pub fn get_unchecked_mut(&mut self, key: K) -> &mut V
         requires { IsLive self.old (K.data_of key) }
         ensures* writes_back { sem 𝓛 (lends_value K.row V.row self.entry (K.data_of key) result) }
@@ -75,7 +86,8 @@ impl<K: Key, V: Drop> SlotMap<K, V> {
         self.values[index].as_mut().unwrap()
     }
 
-    /// Sets the value of a live key and answers the one before, or hands the value back.
+    /// Sets the value of a live key and answers the value before; where the key isn't live, hands
+    /// the value back and changes nothing. Constant time. Rust lacks this call.
     pub fn replace(&mut self, key: K, value: V) -> Result<V, V>
         ensures ok { IfOk result (λ before. map.get self.old.live (K.data_of key) ≡ Some before) }
         ensures replaces { OnOk result (self.new ≡ with_value self.old (K.data_of key) value) }

@@ -5,14 +5,26 @@ ghost use Rattle.std.specs.FinMap as map;
 ghost use Rattle.std.specs.FinSet as set;
 ghost use Rattle.slotmap_core.specs.Content.{IsContent, IsDetached};
 ghost use Rattle.slotmap_core.specs.Transition.{Detaches, Reattaches};
-ghost use Rattle.slotmap_core.specs.Refusal.{RefusesReattach};
 
 use crate::{Link, SlotMap};
 use slotmap_core::errors::ReattachError;
 use slotmap_core::keys::Key;
 
 impl<K: Key, V: Drop> SlotMap<K, V> {
-    /// Takes a live key's value out, and keeps its place for the key.
+    /// Takes a live key's value out and keeps its place for the key, or answers none where the key
+    /// isn't live. Constant time.
+    ///
+    /// The key is detached: it finds nothing, and no insert uses its place, until `reattach` binds
+    /// it again. `clear`, `drain` and `retain` leave it so. Detaching retires no place. Takes no
+    /// memory.
+    ///
+    /// ```
+    /// let key = map.insert(5).ok()?;
+    /// assert_eq!(map.detach(key), Some(5));
+    /// assert!(map.get(key).is_none());
+    /// assert!(map.reattach(key, 6).is_ok());
+    /// assert_eq!(map.get(key), Some(&6));
+    /// ```
     pub fn detach(&mut self, key: K) -> Option<V>
         ensures value { result ≡ map.get self.old.live (K.data_of key) }
         ensures detaches { OnSome result (Detaches self.old (K.data_of key) self.new) }
@@ -32,7 +44,8 @@ impl<K: Key, V: Drop> SlotMap<K, V> {
 
     // The place of a key that is detached.
     fn detached_index(&self, key: K) -> Option<usize>
-        ensures detached { IfSome result (λ index. IsDetached self.now (K.data_of key) × (index ≡ (K.data_of key).index)) }
+        ensures detached { IfSome result (λ index.
+            IsDetached self.now (K.data_of key) × (index ≡ (K.data_of key).index)) }
         ensures absent { IfNone result (set.contains self.now.detached (K.data_of key) ≡ false) }
     {
         let key = key.data();
@@ -49,10 +62,14 @@ impl<K: Key, V: Drop> SlotMap<K, V> {
         }
     }
 
-    /// Binds a detached key again.
+    /// Binds a detached key to a value again. Constant time.
+    ///
+    /// `NotDetached`, with the value back and nothing changed, exactly where the key isn't detached;
+    /// Rust panics there. Takes no memory, so `Memory` is never answered.
     pub fn reattach(&mut self, key: K, value: V) -> Result<(), ReattachError<V>>
         ensures ok { OnOk result (Reattaches self.old (K.data_of key) value self.new) }
-        ensures err { IfErr result (λ error. RefusesReattach self.old (K.data_of key) value error) }
+        ensures err { IfErr result (λ error. (error ≡ ReattachError.NotDetached value)
+            × (IsDetached self.old (K.data_of key) → ⊥)) }
         ensures unchanged { OnErr result (self.new ≡ self.old) }
         ensures capacity { self.new.capacity ≡ self.old.capacity }
         ensures valid { IsContent true self.new }

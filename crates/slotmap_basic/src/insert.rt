@@ -1,6 +1,6 @@
 //! Inserts: new keys.
 
-ghost use Rattle.std.specs.Prelude.{◌≡◌, ◌+◌, ◌<◌, ◌≤◌, IfOk, OnErr, IfErr, Ok, true};
+ghost use Rattle.std.specs.Prelude.{◌≡◌, ◌+◌, ◌<◌, ◌≤◌, IfOk, OnErr, IfErr, IsOk, Ok, Err, true};
 ghost use Rattle.std.specs.FinMap as map;
 ghost use Rattle.slotmap_core.specs.Content.{IsContent};
 ghost use Rattle.slotmap_core.specs.Transition.{Keeps, Inserts};
@@ -49,13 +49,29 @@ impl<K: Key, V: Drop> SlotMap<K, V> {
         }
     }
 
-    /// Stores a value under a new key.
+    /// Stores a value under a new key, and answers the key. Constant time where no vector moves.
+    ///
+    /// The place that was freed last is used, with no memory asked for; where none is vacant a new
+    /// place is made. `Full` exactly where 4294967294 keys are live, detached or retired, else
+    /// `Memory` where a new place was refused; both hand the value back, and the map holds what it
+    /// held. In Rust this panics.
+    ///
+    /// ```
+    /// let first = map.insert(5).ok()?;
+    /// map.remove(first);
+    /// let second = map.insert(6).ok()?;
+    /// assert_eq!(second.data().idx(), first.data().idx());
+    /// assert!(second != first);
+    /// ```
     pub fn insert(&mut self, value: V) -> Result<K, InsertError<V>>
         ensures ok { IfOk result (λ key. Inserts self.old (K.data_of key) value self.new) }
         ensures err { IfErr result (λ error. Refuses self.old value error) }
 
         ensures unchanged { OnErr result (Keeps self.old self.new) }
         ensures grows { self.old.capacity ≤ self.new.capacity }
+
+        // Where a place is vacant nothing is asked for.
+        ensures reuses { 0 < map.len self.old.next → IsOk result }
         ensures valid { IsContent true self.new }
     {
         match self.reserve(1) {
@@ -68,16 +84,30 @@ impl<K: Key, V: Drop> SlotMap<K, V> {
         Ok(key)
     }
 
-    /// Stores the value that the closure gives for the new key.
+    /// Stores the value that the closure gives for the new key, and answers the key. Costs as
+    /// `insert`.
+    ///
+    /// There is room before the closure is called, once and on the key that will be answered. On
+    /// `Full` and `Memory`, which come as at `insert`, the closure is dropped uncalled.
+    ///
+    /// ```
+    /// let key = map.insert_with_key(|key: DefaultKey| key.data().as_ffi())?;
+    /// assert_eq!(map.get(key), Some(&key.data().as_ffi()));
+    /// ```
     pub fn insert_with_key<F: FnOnce(K) -> V>(&mut self, f: F) -> Result<K, InsertWithError>
     where
         F: Drop,
         requires { (key : K) → K.data_of key ≡ self.old.offer → F.pre f key }
-        ensures ok { IfOk result (λ key. (v : V) × F.post f key v × Inserts self.old (K.data_of key) v self.new) }
+
+        ensures ok { IfOk result (λ key. (v : V) × F.post f key v
+            × Inserts self.old (K.data_of key) v self.new) }
         ensures err { IfErr result (RefusesInsert self.old) }
 
         ensures unchanged { OnErr result (Keeps self.old self.new) }
         ensures grows { self.old.capacity ≤ self.new.capacity }
+
+        // Where a place is vacant nothing is asked for.
+        ensures reuses { 0 < map.len self.old.next → IsOk result }
         ensures valid { IsContent true self.new }
     {
         match self.reserve(1) {
@@ -91,7 +121,11 @@ impl<K: Key, V: Drop> SlotMap<K, V> {
         Ok(key)
     }
 
-    /// Stores the value that the closure gives for the new key, if it gives one.
+    /// Stores the value that the closure gives for the new key, and answers the key. Costs as
+    /// `insert`.
+    ///
+    /// As `insert_with_key`; and where the closure answers an error nothing changes, the error is
+    /// handed on in `Closure`, and the next insert answers the key that the closure saw.
     pub fn try_insert_with_key<F: FnOnce(K) -> Result<V, E>, E>(
         &mut self,
         f: F,
@@ -99,11 +133,16 @@ impl<K: Key, V: Drop> SlotMap<K, V> {
     where
         F: Drop,
         requires { (key : K) → K.data_of key ≡ self.old.offer → F.pre f key }
-        ensures ok { IfOk result (λ key. (v : V) × F.post f key (Ok v) × Inserts self.old (K.data_of key) v self.new) }
+
+        ensures ok { IfOk result (λ key. (v : V) × F.post f key (Ok v)
+            × Inserts self.old (K.data_of key) v self.new) }
         ensures err { IfErr result (λ error. RefusesWith K.data_of (F.post f) self.old error) }
 
         ensures unchanged { OnErr result (Keeps self.old self.new) }
         ensures grows { self.old.capacity ≤ self.new.capacity }
+
+        // Where a place is vacant nothing is asked for.
+        ensures reuses { result ≡ Err TryInsertError.Memory → map.len self.old.next ≡ 0 }
         ensures valid { IsContent true self.new }
     {
         match self.reserve(1) {

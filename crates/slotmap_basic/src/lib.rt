@@ -1,7 +1,12 @@
 //! `SlotMap`: values under keys that the map hands out, each key once.
+//!
+//! Clauses see a map as its content (`Content` of the core): the live keys with their values, the
+//! detached keys, the retired ones, the version that the next key at each vacant index will have,
+//! the key that the next insert answers, the vacant indices with the last freed first, the room and
+//! the capacity.
 #![tactic(auto)]
 
-ghost use Rattle.std.specs.Prelude.{◌≡◌, ◌+◌, ◌≤◌, ◌↔◌, IsTrue, IfOk, OnOk, IfErr, IsOk, true};
+ghost use Rattle.std.specs.Prelude.{◌≡◌, [], Some, ◌+◌, ◌≤◌, ◌↔◌, IsTrue, IfOk, OnOk, IfErr, IsOk, true};
 ghost use Rattle.std.specs.FinMap as map;
 ghost use Rattle.slotmap_core.specs.Content.{IsContent, used, most};
 ghost use Rattle.slotmap_core.specs.Transition.{IsNew, Keeps};
@@ -19,8 +24,21 @@ use std::marker::{Model, PhantomData};
 
 /// Values under keys that the map hands out.
 ///
-/// A key is live from the insert that answered it until its value is removed. Its place is then used again, under a
-/// newer key, so a key that was removed is never found again.
+/// An insert answers a new key, and the key is live until its value is removed. Its place is then
+/// used again, the place that was freed last first, under a newer key: so a key that was removed is
+/// never found again, and no key is handed out twice. A key of the last version that is removed
+/// retires its place, which no insert uses from then on; in Rust its versions start again.
+///
+/// A live key can be detached: its value is taken out, and its place is kept until the key is bound
+/// again by `reattach`. At most 4294967294 keys can be live or detached or have retired places.
+///
+/// ```
+/// let mut map: SlotMap<DefaultKey, u32> = SlotMap::new(alloc)?;
+/// let key = map.insert(5).ok()?;
+/// assert_eq!(map.get(key), Some(&5));
+/// assert_eq!(map.remove(key), Some(5));
+/// assert!(!map.contains_key(key));
+/// ```
 #[derive(Drop)]
 pub struct SlotMap<K, V> {
     // Place i is made of the i-th elements of these three. Place 0 is the sentinel.
@@ -66,18 +84,24 @@ impl<K, V> Model for SlotMap<K, V> {
 const MOST_PLACES: usize = 4294967294;
 
 impl<V: Drop> SlotMap<DefaultKey, V> {
-    /// An empty map.
+    /// An empty map with the default key type. Takes memory for the sentinel's place.
+    ///
+    /// `Memory` where that was refused.
     pub fn new(alloc: Global) -> Result<Self, ReserveError>
         ensures starts { IfOk result IsNew }
+        ensures stack { IfOk result (λ made. made.stack ≡ Some []) }
         ensures err { IfErr result (λ error. error ≡ ReserveError.Memory) }
         ensures valid { IfOk result (IsContent true) }
     {
         SlotMap::with_key(alloc)
     }
 
-    /// An empty map with room for `capacity` keys.
+    /// An empty map with the default key type, and with room for `capacity` keys.
+    ///
+    /// `TooGreat` exactly where that is over 4294967294, else `Memory` where memory was refused.
     pub fn with_capacity(alloc: Global, capacity: usize) -> Result<Self, ReserveError>
         ensures starts { IfOk result IsNew }
+        ensures stack { IfOk result (λ made. made.stack ≡ Some []) }
         ensures room { IfOk result (λ made. capacity ≤ made.room) }
         ensures capacity { IfOk result (λ made. capacity ≤ made.capacity) }
         ensures err { IfErr result (RefusesCapacity capacity) }
@@ -88,18 +112,24 @@ impl<V: Drop> SlotMap<DefaultKey, V> {
 }
 
 impl<K: Key, V: Drop> SlotMap<K, V> {
-    /// An empty map.
+    /// An empty map. Takes memory for the sentinel's place.
+    ///
+    /// `Memory` where that was refused.
     pub fn with_key(alloc: Global) -> Result<Self, ReserveError>
         ensures starts { IfOk result IsNew }
+        ensures stack { IfOk result (λ made. made.stack ≡ Some []) }
         ensures err { IfErr result (λ error. error ≡ ReserveError.Memory) }
         ensures valid { IfOk result (IsContent true) }
     {
         SlotMap::with_capacity_and_key(alloc, 0)
     }
 
-    /// An empty map with room for `capacity` keys.
+    /// An empty map with room for `capacity` keys: so many inserts that follow aren't refused.
+    ///
+    /// `TooGreat` exactly where that is over 4294967294, else `Memory` where memory was refused.
     pub fn with_capacity_and_key(alloc: Global, capacity: usize) -> Result<Self, ReserveError>
         ensures starts { IfOk result IsNew }
+        ensures stack { IfOk result (λ made. made.stack ≡ Some []) }
         ensures room { IfOk result (λ made. capacity ≤ made.room) }
         ensures capacity { IfOk result (λ made. capacity ≤ made.capacity) }
         ensures err { IfErr result (RefusesCapacity capacity) }
@@ -125,7 +155,7 @@ impl<K: Key, V: Drop> SlotMap<K, V> {
         })
     }
 
-    /// The number of live keys.
+    /// The number of live keys. Constant time.
     pub fn len(&self) -> usize
         ensures value { result ≡ map.len self.now.live }
         ensures valid { IsContent true self.now }
@@ -133,14 +163,15 @@ impl<K: Key, V: Drop> SlotMap<K, V> {
         self.num_elems as usize
     }
 
-    /// Whether no key is live.
+    /// Whether no key is live. Constant time.
     pub fn is_empty(&self) -> bool
         ensures { IsTrue result ↔ (map.len self.now.live ≡ 0) }
     {
         self.len() == 0
     }
 
-    /// How many keys fit with no allocation.
+    /// How many places the map has memory for, live, detached, vacant and retired ones together.
+    /// Constant time.
     pub fn capacity(&self) -> usize
         ensures { result ≡ self.now.capacity }
     {
@@ -158,18 +189,31 @@ impl<K: Key, V: Drop> SlotMap<K, V> {
         self.versions.len() - 1 - self.num_free as usize
     }
 
-    /// Makes room for `additional` more keys.
+    /// Makes room for `additional` more keys: so many inserts and reattaches that follow aren't
+    /// refused.
+    ///
+    /// `TooGreat` exactly where the live, detached and retired keys with `additional` are more than
+    /// 4294967294, else `Memory` where memory was refused; either changes nothing but the capacity.
+    /// Where there is room already nothing is asked for. Rust counts detached places as free.
+    ///
+    /// Linear in the number of places where the vectors move, else constant time.
     pub fn reserve(&mut self, additional: usize) -> Result<(), ReserveError>
         ensures room { OnOk result (additional ≤ self.new.room) }
         ensures capacity { OnOk result (map.len self.old.live + additional ≤ self.new.capacity) }
+
+        // What is over the limit is refused as such, and nothing else is.
         ensures fits { OnOk result (used self.old + additional ≤ most) }
         ensures err { IfErr result (RefusesCapacity (used self.old + additional)) }
 
+        // Whatever is answered, the map holds what it held.
         ensures keeps { Keeps self.old self.new }
         ensures grows { self.old.capacity ≤ self.new.capacity }
 
+        // With room for so many nothing is asked for.
         ensures succeeds { additional ≤ self.old.room → IsOk result }
         ensures had_room { additional ≤ self.old.room → self.new ≡ self.old }
+        ensures reuses { additional ≤ map.len self.old.next → IsOk result }
+
         ensures valid { IsContent true self.new }
     {
         let taken = self.taken();
@@ -186,10 +230,11 @@ impl<K: Key, V: Drop> SlotMap<K, V> {
         Ok(())
     }
 
-    /// The same as `reserve`.
+    /// The same as `reserve`, which answers a `Result` here too.
     pub fn try_reserve(&mut self, additional: usize) -> Result<(), ReserveError>
         ensures room { OnOk result (additional ≤ self.new.room) }
         ensures capacity { OnOk result (map.len self.old.live + additional ≤ self.new.capacity) }
+
         ensures fits { OnOk result (used self.old + additional ≤ most) }
         ensures err { IfErr result (RefusesCapacity (used self.old + additional)) }
 
@@ -198,6 +243,7 @@ impl<K: Key, V: Drop> SlotMap<K, V> {
 
         ensures succeeds { additional ≤ self.old.room → IsOk result }
         ensures had_room { additional ≤ self.old.room → self.new ≡ self.old }
+        ensures reuses { additional ≤ map.len self.old.next → IsOk result }
         ensures valid { IsContent true self.new }
     {
         self.reserve(additional)

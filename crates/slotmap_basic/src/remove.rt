@@ -10,7 +10,10 @@ use crate::{Link, SlotMap};
 use slotmap_core::keys::{Key, KeyData};
 
 impl<K: Key, V: Drop> SlotMap<K, V> {
-    /// Takes a live key's value out, and frees its place.
+    /// Takes a live key's value out, or answers none where the key isn't live. Constant time.
+    ///
+    /// The place is the first that an insert uses from then on, under a newer key; after the last
+    /// key of a place, of version 4294967295, the place is retired. Takes no memory.
     pub fn remove(&mut self, key: K) -> Option<V>
         ensures value { result ≡ map.get self.old.live (K.data_of key) }
         ensures removes { OnSome result (Removes self.old (K.data_of key) self.new) }
@@ -44,8 +47,10 @@ impl<K: Key, V: Drop> SlotMap<K, V> {
     // The live key at this index.
     pub(crate) fn key_at(&self, index: usize) -> Option<K>
         requires { index ≤ places self.now }
-        ensures live { IfSome result (λ key. IsLive self.now (K.data_of key) × ((K.data_of key).index ≡ index)) }
-        ensures none { IfNone result ((key : KeyOf) → key.index ≡ index → map.contains_key self.now.live key ≡ false) }
+        ensures live { IfSome result (λ key.
+            IsLive self.now (K.data_of key) × ((K.data_of key).index ≡ index)) }
+        ensures none { IfNone result ((key : KeyOf) →
+            key.index ≡ index → map.contains_key self.now.live key ≡ false) }
     {
         let version = self.versions[index];
         if version % 2 == 1 {

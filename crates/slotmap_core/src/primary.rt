@@ -1,8 +1,11 @@
 //! What the maps that hand out their keys have in common.
+//!
+//! A clause here sees a map by its content alone: the live keys with their values, the detached and
+//! the retired keys, the version that the next key at each vacant index will have, the key that the
+//! next insert answers, and for how many more keys there is room.
 
-ghost use Rattle.std.specs.Prelude.{◌≡◌, ◌≢◌, ◌↔◌, ℕ, ◌+◌, ◌-◌, ◌*◌, ◌/◌, ◌%◌, ◌^◌, ◌<◌, ◌≤◌, IsTrue, IfOk, IfErr, OnErr, OnOk, MatchOption, IsSome, MatchResult, option_copied, Bool, false, Ok, Some, List, ◌++◌, map as list_map};
+ghost use Rattle.std.specs.Prelude.{◌≡◌, ◌↔◌, ◌+◌, ◌≤◌, IsTrue, IfOk, IfErr, OnErr, OnOk, IsSome, option_copied, Bool, true, false, Ok, Some, List, ◌++◌, map as list_map};
 ghost use Rattle.std.specs.FinMap as map;
-ghost use Rattle.std.specs.FinSet as set;
 ghost use Rattle.slotmap_core.specs.Content.{Content, IsContent, used, most};
 ghost use Rattle.slotmap_core.specs.Transition.{IsNew, Inserts, Keeps, Removes, Replaces, Detaches, Reattaches, Leaves};
 ghost use Rattle.slotmap_core.specs.Listing.{IsListing, IsKeyListing};
@@ -16,57 +19,76 @@ use crate::keys::Key;
 use std::alloc::Global;
 
 /// A map that hands out its keys.
+///
+/// Each call changes the content as one of the transitions of the definitions says, for every key,
+/// and says when it is refused and that it then keeps what the map holds.
 pub trait Primary<K: Key, V>: Sized {
     /// Whether an insert into a vacant place takes no memory.
     const REUSES: bool;
 
     ghost REUSES: { Bool };
 
-    /// What the map holds now.
+    // Whether the map uses the place that was freed last first; its content then has a stack.
+    ghost STACKED: { Bool };
+
+    // What the map holds now.
     ghost content: { Self → Content V };
 
+    /// An empty map.
     fn with_key(alloc: Global) -> Result<Self, ReserveError>
         ensures starts { IfOk result (λ m. IsNew (content m)) }
+        ensures stacked { IfOk result (λ m. STACKED ≡ true → IsSome (content m).stack) }
         ensures err { IfErr result (RefusesCapacity 0) }
         ensures valid { IfOk result (λ m. IsContent REUSES (content m)) };
 
-    /// A new map with room for so many keys.
+    /// An empty map with room for so many keys.
     fn with_capacity_and_key(alloc: Global, capacity: usize) -> Result<Self, ReserveError>
         ensures starts { IfOk result (λ m. IsNew (content m)) }
+        ensures stacked { IfOk result (λ m. STACKED ≡ true → IsSome (content m).stack) }
+
         ensures room { IfOk result (λ m. capacity ≤ (content m).room) }
         ensures capacity { IfOk result (λ m. capacity ≤ (content m).capacity) }
         ensures err { IfErr result (RefusesCapacity capacity) }
         ensures valid { IfOk result (λ m. IsContent REUSES (content m)) };
 
+    /// The number of live keys.
     fn len(&self) -> usize
         ensures value { result ≡ map.len (content self.now).live }
         ensures valid { IsContent REUSES (content self.now) };
 
+    /// Whether no key is live.
     fn is_empty(&self) -> bool
         ensures { IsTrue result ↔ map.len (content self.now).live ≡ 0 };
 
+    /// For how many places there is memory.
     fn capacity(&self) -> usize
         ensures { result ≡ (content self.now).capacity };
 
+    /// Whether this key is live.
     fn contains_key(&self, key: K) -> bool
         ensures { result ≡ map.contains_key (content self.now).live (K.data_of key) };
 
+    /// The value of a live key.
     fn get(&self, key: K) -> Option<&V>
         ensures { option_copied result ≡ map.get (content self.now).live (K.data_of key) };
 
+    /// Stores a value under a new key.
     fn insert(&mut self, value: V) -> Result<K, InsertError<V>>
-        ensures ok { IfOk result (λ key. Inserts (content self.old) (K.data_of key) value (content self.new)) }
+        ensures ok { IfOk result (λ key.
+            Inserts (content self.old) (K.data_of key) value (content self.new)) }
         ensures err { IfErr result (λ error. Refuses (content self.old) value error) }
         ensures unchanged { OnErr result (Keeps (content self.old) (content self.new)) }
         ensures valid { IsContent REUSES (content self.new) };
 
+    /// Takes a live key's value out, and frees its place, or retires it after its last key.
     fn remove(&mut self, key: K) -> Option<V>
         ensures value { result ≡ map.get (content self.old).live (K.data_of key) }
-        ensures some { IsSome result → Removes (content self.old) (K.data_of key) (content self.new) }
+        ensures some { IsSome result →
+            Removes (content self.old) (K.data_of key) (content self.new) }
         ensures none { result ≡ None → Keeps (content self.old) (content self.new) }
         ensures valid { IsContent REUSES (content self.new) };
 
-    /// Calls f on the key that will be answered, once there is room.
+    /// Stores the value that the closure gives for the new key, once there is room.
     fn try_insert_with_key<E, F: FnOnce(K) -> Result<V, E>>(
         &mut self,
         f: F,
@@ -74,8 +96,11 @@ pub trait Primary<K: Key, V>: Sized {
     where
         F: Drop,
         requires { F.IsAlwaysCallable f }
-        ensures ok { IfOk result (λ key. (v : V) × F.post f key (Ok v) × Inserts (content self.old) (K.data_of key) v (content self.new)) }
-        ensures err { IfErr result (λ error. RefusesWith K.data_of (F.post f) (content self.old) error) }
+
+        ensures ok { IfOk result (λ key. (v : V) × F.post f key (Ok v)
+            × Inserts (content self.old) (K.data_of key) v (content self.new)) }
+        ensures err { IfErr result (λ error.
+            RefusesWith K.data_of (F.post f) (content self.old) error) }
         ensures unchanged { OnErr result (Keeps (content self.old) (content self.new)) }
         ensures valid { IsContent REUSES (content self.new) };
 
@@ -84,23 +109,29 @@ pub trait Primary<K: Key, V>: Sized {
     where
         F: Drop,
         requires { F.IsAlwaysCallable f }
-        ensures ok { IfOk result (λ key. (v : V) × F.post f key v × Inserts (content self.old) (K.data_of key) v (content self.new)) }
+
+        ensures ok { IfOk result (λ key. (v : V) × F.post f key v
+            × Inserts (content self.old) (K.data_of key) v (content self.new)) }
         ensures err { IfErr result (RefusesInsert (content self.old)) }
         ensures unchanged { OnErr result (Keeps (content self.old) (content self.new)) }
         ensures valid { IsContent REUSES (content self.new) };
 
     /// Sets the value of a live key and answers the one before, or hands the value back.
     fn replace(&mut self, key: K, value: V) -> Result<V, V>
-        ensures ok { IfOk result (λ before. map.get (content self.old).live (K.data_of key) ≡ Some before) }
-        ensures replaces { OnOk result (Replaces (content self.old) (K.data_of key) value (content self.new)) }
-        ensures err { IfErr result (λ back. map.contains_key (content self.old).live (K.data_of key) ≡ false × back ≡ value) }
+        ensures ok { IfOk result (λ before.
+            map.get (content self.old).live (K.data_of key) ≡ Some before) }
+        ensures replaces { OnOk result
+            (Replaces (content self.old) (K.data_of key) value (content self.new)) }
+        ensures err { IfErr result (λ back.
+            map.contains_key (content self.old).live (K.data_of key) ≡ false × back ≡ value) }
         ensures unchanged { OnErr result (Keeps (content self.old) (content self.new)) }
         ensures valid { IsContent REUSES (content self.new) };
 
     /// Makes room for so many more keys.
     fn reserve(&mut self, additional: usize) -> Result<(), ReserveError>
         ensures room { OnOk result (additional ≤ (content self.new).room) }
-        ensures capacity { OnOk result (map.len (content self.old).live + additional ≤ (content self.new).capacity) }
+        ensures capacity { OnOk result
+            (map.len (content self.old).live + additional ≤ (content self.new).capacity) }
         ensures fits { OnOk result (used (content self.old) + additional ≤ most) }
         ensures err { IfErr result (RefusesCapacity (used (content self.old) + additional)) }
         ensures keeps { Keeps (content self.old) (content self.new) }
@@ -109,23 +140,26 @@ pub trait Primary<K: Key, V>: Sized {
     /// The same as `reserve`.
     fn try_reserve(&mut self, additional: usize) -> Result<(), ReserveError>
         ensures room { OnOk result (additional ≤ (content self.new).room) }
-        ensures capacity { OnOk result (map.len (content self.old).live + additional ≤ (content self.new).capacity) }
+        ensures capacity { OnOk result
+            (map.len (content self.old).live + additional ≤ (content self.new).capacity) }
         ensures fits { OnOk result (used (content self.old) + additional ≤ most) }
         ensures err { IfErr result (RefusesCapacity (used (content self.old) + additional)) }
         ensures keeps { Keeps (content self.old) (content self.new) }
         ensures valid { IsContent REUSES (content self.new) };
 
-    /// Calls f once at each live key and its value, which stay where it answers true.
+    /// Calls the closure once at each live key and its value, which stay where it answers true.
     fn retain<F: FnMut(K, &mut V) -> bool>(&mut self, f: F)
     where
         F: Drop,
         V: Drop,
         requires { F.IsAlwaysCallable f }
-        ensures retained { RetainsBy F.FnMut K.data_of f (content self.old).live (content self.new).live }
+
+        ensures retained { RetainsBy F.FnMut K.data_of f
+            (content self.old).live (content self.new).live }
         ensures leaves { Leaves (content self.old) (content self.new) }
         ensures valid { IsContent REUSES (content self.new) };
 
-    /// Drops every value.
+    /// Drops the value of every live key.
     fn clear(&mut self)
     where
         V: Drop,
@@ -133,35 +167,46 @@ pub trait Primary<K: Key, V>: Sized {
         ensures leaves { Leaves (content self.old) (content self.new) }
         ensures valid { IsContent REUSES (content self.new) };
 
-    /// Appends every key and its value, which leave the map.
+    /// Appends every live key and its value to `out`, and takes them out of the map. Room for all is
+    /// asked for first; a refusal changes neither.
     fn drain_into(&mut self, out: &mut Vec<(K, V)>) -> Result<(), OutOfMemory>
-        ensures listed { OnOk result ((pairs : List (K × V)) × (out.new.items ≡ out.old.items ++ pairs) × IsListing (content self.old).live (list_map (λ p. (K.data_of p.0, p.1)) pairs)) }
+        ensures listed { OnOk result ((pairs : List (K × V))
+            × (out.new.items ≡ out.old.items ++ pairs)
+            × IsListing (content self.old).live (list_map (λ p. (K.data_of p.0, p.1)) pairs)) }
         ensures empty { OnOk result ((content self.new).live ≡ map.empty) }
         ensures leaves { OnOk result (Leaves (content self.old) (content self.new)) }
+
         ensures err { OnErr result (out.new.items ≡ out.old.items) }
         ensures unchanged { OnErr result (Keeps (content self.old) (content self.new)) }
         ensures valid { IsContent REUSES (content self.new) };
 
-    /// Appends every live key.
+    /// Appends every live key to `out`. Room for all is asked for first; a refusal changes nothing.
     fn keys_into(&self, out: &mut Vec<K>) -> Result<(), OutOfMemory>
-        ensures listed { OnOk result ((keys : List K) × (out.new.items ≡ out.old.items ++ keys) × IsKeyListing (content self.now).live (list_map K.data_of keys)) }
+        ensures listed { OnOk result ((keys : List K)
+            × (out.new.items ≡ out.old.items ++ keys)
+            × IsKeyListing (content self.now).live (list_map K.data_of keys)) }
         ensures err { OnErr result (out.new.items ≡ out.old.items) };
 }
 
-/// A map whose keys can be detached: the value is out, and the key can be bound again.
+/// A map whose keys can be detached: the value is out, the place is kept, and the key can be bound
+/// again. Such a map uses the place that was freed last first.
 pub trait Detaching<K: Key, V>: Primary<K, V> {
+    /// Takes a live key's value out, and keeps its place for the key.
     fn detach(&mut self, key: K) -> Option<V>
         ensures value { result ≡ map.get (Self.content self.old).live (K.data_of key) }
-        ensures some { IsSome result → Detaches (Self.content self.old) (K.data_of key) (Self.content self.new) }
+        ensures some { IsSome result →
+            Detaches (Self.content self.old) (K.data_of key) (Self.content self.new) }
         ensures none { result ≡ None → Keeps (Self.content self.old) (Self.content self.new) }
         ensures valid { IsContent Self.REUSES (Self.content self.new) };
 
+    /// Binds a detached key to a value again.
     fn reattach(&mut self, key: K, value: V) -> Result<(), ReattachError<V>>
-        ensures ok { OnOk result (Reattaches (Self.content self.old) (K.data_of key) value (Self.content self.new)) }
-        ensures err { IfErr result (λ error. RefusesReattach (Self.content self.old) (K.data_of key) value error) }
+        ensures ok { OnOk result
+            (Reattaches (Self.content self.old) (K.data_of key) value (Self.content self.new)) }
+        ensures err { IfErr result (λ error.
+            RefusesReattach (Self.content self.old) (K.data_of key) value error) }
         ensures unchanged { OnErr result (Keeps (Self.content self.old) (Self.content self.new)) }
         ensures valid { IsContent Self.REUSES (Self.content self.new) };
 
-    // the map uses the place freed last first
-    ghost stacked: { (m : Self) → IsSome (Self.content m).stack };
+    ghost last_freed_first: { Self.STACKED ≡ true };
 }

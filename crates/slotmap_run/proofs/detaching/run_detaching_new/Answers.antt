@@ -47,4 +47,4 @@ returns-clause-binds g c =
 pub returns-clause-last_freed_first : goal.returns-clause-last_freed_first
 returns-clause-last_freed_first g c = λ basic told.
     let start = c.in-Ok-with_key.ensures in
-    lifo_run g.K.Key.data_of no_places _ _ c.args.commands.items c.serve_all_detaching-replies.result.items (lifo_new _ _ start.valid start.starts (g.met.M.Detaching.stacked _)) c.serve_all_detaching-replies.ensures.orders basic told
+    lifo_run g.K.Key.data_of no_places _ _ c.args.commands.items c.serve_all_detaching-replies.result.items (lifo_new _ _ start.valid start.starts (start.stacked g.met.M.Detaching.last_freed_first)) c.serve_all_detaching-replies.ensures.orders basic told
