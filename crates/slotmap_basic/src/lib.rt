@@ -1,6 +1,10 @@
 //! `SlotMap`: values under keys that the map hands out, each key once.
 #![tactic(auto)]
 
+mod iter;
+
+pub use iter::{Iter, Keys, Values};
+
 ghost use Rattle.std.specs.Prelude.{◌≡◌, ◌+◌, ◌<◌, ◌≤◌, ◌↔◌, IsTrue, IfOk, OnOk, OnErr, IfErr, OnSome, IfNone, IsSome, IsOk, IfSome, option_copied, Some, Ok, true, false};
 ghost use Rattle.std.specs.FinMap as map;
 ghost use Rattle.std.specs.FinSet as set;

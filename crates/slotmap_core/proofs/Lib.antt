@@ -8,3 +8,4 @@ pub mod PlacesLemmas
 pub mod StackLemmas
 pub mod ContentLemmas
 pub mod StepLemmas
+pub mod WalkLemmas
