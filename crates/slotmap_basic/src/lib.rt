@@ -1,8 +1,11 @@
 //! `SlotMap`: values under keys that the map hands out, each key once.
 #![tactic(auto)]
 
+mod clone;
+mod into_iter;
 mod iter;
 
+pub use into_iter::IntoIter;
 pub use iter::{Iter, Keys, Values};
 
 ghost use Rattle.std.specs.Prelude.{◌≡◌, ◌+◌, ◌<◌, ◌≤◌, ◌↔◌, IsTrue, IfOk, OnOk, OnErr, IfErr, OnSome, IfNone, IsSome, IsOk, IfSome, option_copied, Some, Ok, true, false};

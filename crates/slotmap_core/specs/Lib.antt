@@ -14,3 +14,4 @@ pub mod Law
 pub mod Gather
 pub mod Places
 pub mod StackMap
+pub mod Copy
