@@ -2,6 +2,7 @@
 #![tactic(auto)]
 
 mod clone;
+mod disjoint;
 mod into_iter;
 mod iter;
 

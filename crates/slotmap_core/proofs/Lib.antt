@@ -9,3 +9,4 @@ pub mod StackLemmas
 pub mod ContentLemmas
 pub mod StepLemmas
 pub mod WalkLemmas
+pub mod DisjointLemmas

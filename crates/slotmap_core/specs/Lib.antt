@@ -15,3 +15,4 @@ pub mod Gather
 pub mod Places
 pub mod StackMap
 pub mod Copy
+pub mod Disjoint
