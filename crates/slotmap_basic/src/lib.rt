@@ -13,10 +13,16 @@ ghost use Rattle.slotmap_core.specs.Transition.{IsNew, Keeps};
 ghost use Rattle.slotmap_core.specs.Refusal.{RefusesCapacity};
 
 mod access;
+mod clone;
 mod detach;
+mod disjoint;
 mod insert;
+mod into_iter;
+mod iter;
 mod remove;
 
+pub use into_iter::IntoIter;
+pub use iter::{Iter, Keys, Values};
 use slotmap_core::errors::ReserveError;
 use slotmap_core::keys::{DefaultKey, Key};
 use std::alloc::Global;

@@ -9,3 +9,5 @@ pub mod StackLemmas
 pub mod ContentLemmas
 pub mod StepLemmas
 pub mod JsonLemmas
+pub mod WalkLemmas
+pub mod DisjointLemmas

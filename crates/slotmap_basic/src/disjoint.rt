@@ -1,0 +1,59 @@
+//! Several values at once.
+ghost use Rattle.std.specs.Prelude.{◌≡◌, ◌↔◌, IsTrue, IsOk, IfOk, OnOk, OnErr, IfErr, Some, true, map as map_list};
+ghost use Rattle.std.specs.FinMap as map;
+ghost use Rattle.slotmap_core.specs.Content.{IsContent, IsLive};
+ghost use Rattle.slotmap_core.specs.Transition.{with_value};
+ghost use Rattle.slotmap_core.specs.Disjoint.{CanReplace, AreValuesOf, with_values};
+
+use super::SlotMap;
+use slotmap_core::keys::Key;
+use std::mem;
+
+impl<K: Key, V: Drop> SlotMap<K, V> {
+    /// Puts each value under its key and answers the ones before, or hands the values back.
+    pub fn replace_disjoint<const N: usize>(
+        &mut self,
+        keys: [K; N],
+        mut values: [V; N],
+    ) -> Result<[V; N], [V; N]>
+        ensures which { IsOk result ↔ CanReplace self.old (map_list K.data_of keys) }
+        ensures put { OnOk result (self.new ≡ with_values self.old (map_list K.data_of keys) values) }
+        ensures taken { IfOk result (AreValuesOf self.old (map_list K.data_of keys)) }
+
+        ensures refused { OnErr result (self.new ≡ self.old) }
+        ensures returned { IfErr result (λ given. given ≡ values) }
+        ensures valid { IsContent true self.new }
+    {
+        if !self.can_replace(&keys) {
+            return Err(values);
+        }
+        for i in 0..N {
+            self.exchange(keys[i], &mut values[i]);
+        }
+        Ok(values)
+    }
+
+    // Whether each key is live, and no two are equal.
+    fn can_replace(&self, keys: &[K]) -> bool
+        ensures which { IsTrue result ↔ CanReplace self.now (map_list K.data_of keys.now) }
+        ensures valid { IsContent true self.now }
+    {
+        let _ = &self.num_elems;
+        for i in 0..keys.len() {
+            let key = keys[i];
+            if !self.contains_key(key) || keys[..i].contains(&key) {
+                return false;
+            }
+        }
+        true
+    }
+
+    // Exchanges the value of a live key for another.
+    fn exchange(&mut self, key: K, value: &mut V)
+        requires { IsLive self.old (K.data_of key) }
+        ensures put { self.new ≡ with_value self.old (K.data_of key) value.old }
+        ensures taken { map.get self.old.live (K.data_of key) ≡ Some value.new }
+    {
+        mem::swap(self.get_unchecked_mut(key), value);
+    }
+}

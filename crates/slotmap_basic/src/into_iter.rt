@@ -1,0 +1,117 @@
+//! The walk that takes a map apart.
+ghost use Rattle.std.specs.Prelude.{◌≡◌, ◌≤◌, length, Some, IfSome, IfOk};
+ghost use Rattle.std.specs.Iterator.{YieldsFirstBy, item_count, at_most, UpTo};
+ghost use Rattle.std.specs.FinMap as map;
+ghost use Rattle.slotmap_core.specs.Listing.{IsListing};
+
+use super::SlotMap;
+use slotmap_core::keys::{Key, KeyData};
+use std::alloc::AllocError;
+use std::marker::{Model, PhantomData};
+
+/// A walk over the keys and values of a map, by value, seen as the list of those that are still to come.
+#[derive(Drop)]
+pub struct IntoIter<K, V> {
+    versions: Vec<u32>,
+    values: Vec<Option<V>>,
+    // The place that comes next.
+    index: usize,
+    // How many values are still to come.
+    left: usize,
+    keys: PhantomData<K>,
+}
+
+impl<K, V> Model for IntoIter<K, V> {
+    ghost use Rattle.std.specs.Prelude.{List};
+    ghost use Rattle.slotmap_core.specs.Key.{Key};
+    ghost use Rattle.slotmap_basic.specs.Walk.{pairs_left, IsWalk};
+
+    ghost Value = { List (Key × V) };
+
+    ghost view = { λ it. pairs_left it.index it.versions.items it.values.items };
+
+    ghost invariant = { λ it. IsWalk it.versions.items it.values.items it.index it.left };
+}
+
+impl<K, V> IntoIter<K, V> {
+    /// How many pairs are still to come.
+    pub fn len(&self) -> usize
+        ensures { result ≡ length self.now }
+    {
+        self.left
+    }
+}
+
+impl<K, V: Clone> IntoIter<K, V> {
+    /// A second walk over what is still to come.
+    pub fn clone(&self) -> Result<Self, AllocError>
+        requires { (x y : V) → V.is_clone x y → y ≡ x }
+        ensures { IfOk result (λ copy. copy ≡ self.now) }
+    {
+        Ok(IntoIter {
+            versions: self.versions.clone()?,
+            values: self.values.clone()?,
+            index: self.index,
+            left: self.left,
+            keys: PhantomData,
+        })
+    }
+}
+
+impl<K: Key, V: Drop> Iterator for IntoIter<K, V> {
+    type Item = (K, V);
+
+    ghost next_gives = { YieldsFirstBy (λ item. (K.data_of item.0, item.1)) (λ rest. rest) };
+
+    ghost remaining = { item_count (λ rest. rest) };
+
+    fn next(&mut self) -> Option<(K, V)> {
+        while self.left > 0 {
+            let index = self.index;
+            let version = self.versions[index];
+            self.index += 1;
+            if version % 2 == 1 {
+                self.left -= 1;
+                let key = K::from(KeyData::new(index as u32, version));
+                let value = self.values[index].take().unwrap();
+                return Some((key, value));
+            }
+        }
+        None
+    }
+
+    fn size_hint(&self) -> (usize, Option<usize>)
+        ensures lower { result.0 ≤ length self.now }
+        ensures upper { IfSome result.1 (UpTo (at_most (length self.now))) }
+        ensures exact { result ≡ (length self.now, Some (length self.now)) }
+    {
+        (self.left, Some(self.left))
+    }
+}
+
+impl<K: Key, V: Drop> IntoIterator for SlotMap<K, V> {
+    type Item = (K, V);
+
+    type IntoIter = IntoIter<K, V>;
+
+    ghost into_iter_gives = { λ m it. IsListing m.live it × (it ≡ map.entries m.live) };
+
+    fn into_iter(self) -> IntoIter<K, V> {
+        let SlotMap {
+            versions,
+            links: _,
+            values,
+            free_head: _,
+            num_free: _,
+            num_elems,
+            keys: _,
+        } = self;
+        IntoIter {
+            versions,
+            values,
+            index: 0,
+            left: num_elems as usize,
+            keys: PhantomData,
+        }
+    }
+}

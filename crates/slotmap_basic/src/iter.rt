@@ -1,0 +1,249 @@
+//! Walks over the keys and values of a map, by rising index.
+ghost use Rattle.std.specs.Prelude.{◌≡◌, ◌≤◌, length, Some, IfSome, ⊤};
+ghost use Rattle.std.specs.Iterator.{YieldsFirstBy, item_count, at_most, UpTo};
+ghost use Rattle.std.specs.FinMap as map;
+ghost use Rattle.slotmap_core.specs.Listing.{IsListing, IsKeyListing, IsValueListing};
+
+use super::SlotMap;
+use slotmap_core::keys::{Key, KeyData};
+use std::alloc::AllocError;
+use std::marker::{Model, PhantomData};
+
+/// A walk over the keys and values of a map, seen as the list of those that are still to come.
+#[derive(Drop)]
+pub struct Iter<'a, K, V> {
+    versions: &'a [u32],
+    values: &'a [Option<V>],
+    // The place that comes next.
+    index: usize,
+    // How many values are still to come.
+    left: usize,
+    keys: PhantomData<K>,
+}
+
+impl<'a, K, V> Model for Iter<'a, K, V> {
+    ghost use Rattle.std.specs.Prelude.{List};
+    ghost use Rattle.slotmap_core.specs.Key.{Key};
+    ghost use Rattle.slotmap_basic.specs.Walk.{pairs_left, IsWalk};
+
+    ghost Value = { List (Key × V) };
+
+    ghost view = { λ it. pairs_left it.index it.versions.now it.values.now };
+
+    ghost invariant = { λ it. IsWalk it.versions.now it.values.now it.index it.left };
+}
+
+impl<'a, K, V> Iter<'a, K, V> {
+    /// How many pairs are still to come.
+    pub fn len(&self) -> usize
+        ensures { result ≡ length self.now }
+    {
+        self.left
+    }
+}
+
+impl<'a, K, V> Clone for Iter<'a, K, V> {
+    ghost is_clone = { λ it copy. copy ≡ it };
+
+    ghost is_infallible = { λ _. ⊤ };
+
+    fn clone(&self) -> Result<Self, AllocError> {
+        Ok(Iter {
+            versions: self.versions,
+            values: self.values,
+            index: self.index,
+            left: self.left,
+            keys: PhantomData,
+        })
+    }
+}
+
+impl<'a, K: Key, V> Iterator for Iter<'a, K, V> {
+    type Item = (K, &'a V);
+
+    ghost next_gives = { YieldsFirstBy (λ item. (K.data_of item.0, item.1.now)) (λ rest. rest) };
+
+    ghost remaining = { item_count (λ rest. rest) };
+
+    fn next(&mut self) -> Option<(K, &'a V)> {
+        while self.left > 0 {
+            let index = self.index;
+            let version = self.versions[index];
+            self.index += 1;
+            if version % 2 == 1 {
+                self.left -= 1;
+                let key = K::from(KeyData::new(index as u32, version));
+                let value = self.values[index].as_ref().unwrap();
+                return Some((key, value));
+            }
+        }
+        None
+    }
+
+    fn size_hint(&self) -> (usize, Option<usize>)
+        ensures lower { result.0 ≤ length self.now }
+        ensures upper { IfSome result.1 (UpTo (at_most (length self.now))) }
+        ensures exact { result ≡ (length self.now, Some (length self.now)) }
+    {
+        (self.left, Some(self.left))
+    }
+}
+
+/// A walk over the keys of a map, seen as the list of those that are still to come.
+#[derive(Drop)]
+pub struct Keys<'a, K, V> {
+    pairs: Iter<'a, K, V>,
+}
+
+impl<'a, K, V> Model for Keys<'a, K, V> {
+    ghost use Rattle.std.specs.Prelude.{List, map};
+    ghost use Rattle.slotmap_core.specs.Key.{Key};
+
+    ghost Value = { List Key };
+
+    ghost view = { λ it. map (λ pair. pair.0) it.pairs };
+}
+
+impl<'a, K, V> Keys<'a, K, V> {
+    /// How many keys are still to come.
+    pub fn len(&self) -> usize
+        ensures { result ≡ length self.now }
+    {
+        self.pairs.len()
+    }
+}
+
+impl<'a, K, V> Clone for Keys<'a, K, V> {
+    ghost is_clone = { λ it copy. copy ≡ it };
+
+    ghost is_infallible = { λ _. ⊤ };
+
+    fn clone(&self) -> Result<Self, AllocError> {
+        Ok(Keys {
+            pairs: self.pairs.clone()?,
+        })
+    }
+}
+
+impl<'a, K: Key, V> Iterator for Keys<'a, K, V> {
+    type Item = K;
+
+    ghost next_gives = { YieldsFirstBy K.data_of (λ rest. rest) };
+
+    ghost remaining = { item_count (λ rest. rest) };
+
+    fn next(&mut self) -> Option<K> {
+        let (key, _) = self.pairs.next()?;
+        Some(key)
+    }
+
+    fn size_hint(&self) -> (usize, Option<usize>)
+        ensures lower { result.0 ≤ length self.now }
+        ensures upper { IfSome result.1 (UpTo (at_most (length self.now))) }
+        ensures exact { result ≡ (length self.now, Some (length self.now)) }
+    {
+        let len = self.len();
+        (len, Some(len))
+    }
+}
+
+/// A walk over the values of a map, seen as the list of those that are still to come.
+#[derive(Drop)]
+pub struct Values<'a, K, V> {
+    pairs: Iter<'a, K, V>,
+}
+
+impl<'a, K, V> Model for Values<'a, K, V> {
+    ghost use Rattle.std.specs.Prelude.{List, map};
+
+    ghost Value = { List V };
+
+    ghost view = { λ it. map (λ pair. pair.1) it.pairs };
+}
+
+impl<'a, K, V> Values<'a, K, V> {
+    /// How many values are still to come.
+    pub fn len(&self) -> usize
+        ensures { result ≡ length self.now }
+    {
+        self.pairs.len()
+    }
+}
+
+impl<'a, K, V> Clone for Values<'a, K, V> {
+    ghost is_clone = { λ it copy. copy ≡ it };
+
+    ghost is_infallible = { λ _. ⊤ };
+
+    fn clone(&self) -> Result<Self, AllocError> {
+        Ok(Values {
+            pairs: self.pairs.clone()?,
+        })
+    }
+}
+
+impl<'a, K: Key, V> Iterator for Values<'a, K, V> {
+    type Item = &'a V;
+
+    ghost next_gives = { YieldsFirstBy (λ item. item.now) (λ rest. rest) };
+
+    ghost remaining = { item_count (λ rest. rest) };
+
+    fn next(&mut self) -> Option<&'a V> {
+        let (_, value) = self.pairs.next()?;
+        Some(value)
+    }
+
+    fn size_hint(&self) -> (usize, Option<usize>)
+        ensures lower { result.0 ≤ length self.now }
+        ensures upper { IfSome result.1 (UpTo (at_most (length self.now))) }
+        ensures exact { result ≡ (length self.now, Some (length self.now)) }
+    {
+        let len = self.len();
+        (len, Some(len))
+    }
+}
+
+impl<K: Key, V> SlotMap<K, V> {
+    /// The live keys and their values.
+    pub fn iter(&self) -> Iter<'_, K, V>
+        ensures listing { IsListing self.now.live result }
+        ensures in_order { result ≡ map.entries self.now.live }
+    {
+        Iter {
+            versions: self.versions.as_slice(),
+            values: self.values.as_slice(),
+            index: 0,
+            left: self.num_elems as usize,
+            keys: PhantomData,
+        }
+    }
+
+    /// The live keys.
+    pub fn keys(&self) -> Keys<'_, K, V>
+        ensures listing { IsKeyListing self.now.live result }
+        ensures in_order { result ≡ map.keys self.now.live }
+    {
+        Keys { pairs: self.iter() }
+    }
+
+    /// The values of the live keys.
+    pub fn values(&self) -> Values<'_, K, V>
+        ensures listing { IsValueListing self.now.live result }
+        ensures in_order { result ≡ map.values self.now.live }
+    {
+        Values { pairs: self.iter() }
+    }
+}
+
+impl<'a, K: Key, V> IntoIterator for &'a SlotMap<K, V> {
+    type Item = (K, &'a V);
+
+    type IntoIter = Iter<'a, K, V>;
+
+    ghost into_iter_gives = { λ m it. IsListing m.now.live it × (it ≡ map.entries m.now.live) };
+
+    fn into_iter(self) -> Iter<'a, K, V> {
+        self.iter()
+    }
+}
