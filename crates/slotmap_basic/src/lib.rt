@@ -11,6 +11,8 @@ ghost use Rattle.slotmap_core.specs.Content.{IsContent, IsLive, IsDetached, used
 ghost use Rattle.slotmap_core.specs.Transition.{IsNew, Keeps, Inserts, Removes, Replaces, Detaches, Reattaches, with_value};
 ghost use Rattle.slotmap_core.specs.Refusal.{Refuses, RefusesInsert, RefusesWith, RefusesReattach, RefusesCapacity};
 
+mod retain;
+
 use slotmap_core::errors::{
     InsertError, InsertWithError, ReattachError, ReserveError, TryInsertError,
 };

@@ -8,3 +8,9 @@ pub mod PlacesLemmas
 pub mod StackLemmas
 pub mod ContentLemmas
 pub mod StepLemmas
+pub mod ListingLemmas
+pub mod LeaveLemmas
+pub mod OrderLemmas
+pub mod IndexLemmas
+pub mod VisitLemmas
+pub mod SweepLemmas
