@@ -19,7 +19,9 @@ mod disjoint;
 mod insert;
 mod into_iter;
 mod iter;
+mod primary;
 mod remove;
+mod retain;
 
 pub use into_iter::IntoIter;
 pub use iter::{Iter, Keys, Values};

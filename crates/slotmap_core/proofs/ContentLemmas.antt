@@ -14,7 +14,7 @@ use Rattle.slotmap_core.proofs.StackLemmas.{not_first}
 use Rattle.slotmap_core.proofs.Maps.{same_bool, in_after_insert, still_in}
 use Rattle.slotmap_core.proofs.KeyLemmas.{keys_total, exact_keys}
 
-some_is : {A : Type 0} (o : Option A) → is_some o ≡ true → (x : A) × (o ≡ Some x)
+pub some_is : {A : Type 0} (o : Option A) → is_some o ≡ true → (x : A) × (o ≡ Some x)
 some_is None is = absurd (cc)
 some_is (Some x) is = (x, refl)
 

@@ -11,3 +11,9 @@ pub mod StepLemmas
 pub mod JsonLemmas
 pub mod WalkLemmas
 pub mod DisjointLemmas
+pub mod ListingLemmas
+pub mod LeaveLemmas
+pub mod OrderLemmas
+pub mod IndexLemmas
+pub mod VisitLemmas
+pub mod SweepLemmas

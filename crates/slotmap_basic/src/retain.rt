@@ -1,0 +1,108 @@
+//! The calls that go over all live keys of a map, by ascending index.
+
+ghost use Rattle.std.specs.Prelude.{◌≡◌, ◌≤◌, ◌++◌, OnOk, OnErr, true, List, map as list_map};
+ghost use Rattle.std.specs.FinMap as map;
+ghost use Rattle.slotmap_core.specs.Content.{IsContent};
+ghost use Rattle.slotmap_core.specs.Transition.{Leaves, FreesByIndex};
+ghost use Rattle.slotmap_core.specs.Listing.{IsListing, IsKeyListing, NoneBelow};
+ghost use Rattle.slotmap_core.specs.Retain.{RetainsBy};
+
+use crate::SlotMap;
+use slotmap_core::errors::OutOfMemory;
+use slotmap_core::keys::Key;
+
+impl<K: Key, V: Drop> SlotMap<K, V> {
+    /// Calls `f` once at each live key and its value, and removes the keys at which it answers `false`.
+    ///
+    /// What `f` writes to a value that stays is kept. The keys are visited by ascending index, and detached keys aren't
+    /// visited. It goes over all places of the map once.
+    pub fn retain<F: FnMut(K, &mut V) -> bool>(&mut self, mut f: F)
+    where
+        F: Drop,
+        requires { F.IsAlwaysCallable f }
+        ensures retained { RetainsBy F.FnMut K.data_of f self.old.live self.new.live }
+        ensures leaves { Leaves self.old self.new }
+        ensures order { FreesByIndex self.old self.new }
+        ensures capacity { self.new.capacity ≡ self.old.capacity }
+        ensures valid { IsContent true self.new }
+    {
+        for index in 0..self.num_places() {
+            if let Some(key) = self.key_at(index) {
+                if !f(key, self.get_unchecked_mut(key)) {
+                    self.evict(key);
+                }
+            }
+        }
+    }
+
+    /// Removes every key, and drops its value.
+    ///
+    /// The places stay, and are used again under newer keys. Detached keys stay detached. It goes over all places of the
+    /// map once.
+    pub fn clear(&mut self)
+        ensures empty { self.new.live ≡ map.empty }
+        ensures leaves { Leaves self.old self.new }
+        ensures order { FreesByIndex self.old self.new }
+        ensures capacity { self.new.capacity ≡ self.old.capacity }
+        ensures valid { IsContent true self.new }
+    {
+        self.clear_from(0);
+    }
+
+    // Removes the keys from this index on.
+    pub(crate) fn clear_from(&mut self, start: usize)
+        ensures empty { NoneBelow self.old.live start → self.new.live ≡ map.empty }
+        ensures leaves { Leaves self.old self.new }
+        ensures order { FreesByIndex self.old self.new }
+        ensures capacity { self.new.capacity ≡ self.old.capacity }
+        ensures valid { IsContent true self.new }
+    {
+        for index in start..self.num_places() {
+            if let Some(key) = self.key_at(index) {
+                self.evict(key);
+            }
+        }
+    }
+
+    /// Appends every live key to `out`, by ascending index.
+    ///
+    /// It first asks for all the room that it needs, and is refused where there is no memory for it. It goes over all
+    /// places of the map once.
+    pub fn keys_into(&self, out: &mut Vec<K>) -> Result<(), OutOfMemory>
+        ensures listed { OnOk result ((keys : List K) × (out.new.items ≡ out.old.items ++ keys) × IsKeyListing self.now.live (list_map K.data_of keys)) }
+        ensures err { OnErr result (out.new.items ≡ out.old.items) }
+    {
+        out.reserve(self.len())?;
+        for index in 0..self.num_places() {
+            if let Some(key) = self.key_at(index) {
+                out.push_reserved(key);
+            }
+        }
+        Ok(())
+    }
+
+    /// Moves every live key with its value to the end of `out`, by ascending index.
+    ///
+    /// The keys are removed, as `remove` does. It first asks for all the room that it needs; where there is no memory for
+    /// it, it is refused, and the map and `out` stay as they are. It goes over all places of the map once.
+    pub fn drain_into(&mut self, out: &mut Vec<(K, V)>) -> Result<(), OutOfMemory>
+        ensures listed { OnOk result ((pairs : List (K × V)) × (out.new.items ≡ out.old.items ++ pairs) × IsListing self.old.live (list_map (λ p. (K.data_of p.0, p.1)) pairs)) }
+        ensures empty { OnOk result (self.new.live ≡ map.empty) }
+        ensures leaves { OnOk result (Leaves self.old self.new) }
+        ensures order { OnOk result (FreesByIndex self.old self.new) }
+
+        ensures err { OnErr result (out.new.items ≡ out.old.items) }
+        ensures unchanged { OnErr result (self.new ≡ self.old) }
+        ensures capacity { self.new.capacity ≡ self.old.capacity }
+        ensures valid { IsContent true self.new }
+    {
+        out.reserve(self.len())?;
+        for index in 0..self.num_places() {
+            if let Some(key) = self.key_at(index) {
+                let value = self.remove(key).unwrap();
+                out.push_reserved((key, value));
+            }
+        }
+        Ok(())
+    }
+}
