@@ -1,6 +1,5 @@
 //! The lines of a script.
 
-use slotmap_core::commands::{Command, DetachCommand};
 use slotmap_core::keys::{DefaultKey, KeyData};
 
 /// What a line asks for.
@@ -42,20 +41,6 @@ impl Line {
         match words.next() {
             Some(_) => None,
             None => Some(line),
-        }
-    }
-
-    /// The command that this line gives to a run.
-    pub fn command(self) -> DetachCommand<DefaultKey, i32> {
-        match self {
-            Line::Insert(value) => DetachCommand::Plain(Command::Insert(value)),
-            Line::Get(key) => DetachCommand::Plain(Command::Get(key)),
-            Line::Remove(key) => DetachCommand::Plain(Command::Remove(key)),
-            Line::Detach(key) => DetachCommand::Detach(key),
-            Line::Reattach(key, value) => DetachCommand::Reattach(key, value),
-            Line::Len => DetachCommand::Plain(Command::Len),
-            Line::Keys => DetachCommand::Plain(Command::Keys),
-            Line::Clear => DetachCommand::Plain(Command::Clear),
         }
     }
 }

@@ -4,13 +4,12 @@
 mod line;
 mod reply;
 mod script;
+mod store;
 
 pub use script::run_script;
-
-use std::env;
-use std::io;
 use std::io::{ErrorKind, Write};
 use std::process::ExitCode;
+use std::{env, io};
 
 // The words after the program's name.
 fn words(rt: &HostRuntime) -> io::Result<Vec<String>> {

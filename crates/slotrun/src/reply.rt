@@ -21,11 +21,8 @@ pub fn write_reply(output: &mut impl Write, reply: &LineReply) -> io::Result<()>
         Reply::Len(len) => writeln!(output, "len {len}"),
         Reply::NotDetached(_) => writeln!(output, "not detached"),
         // No line asks for these.
-        Reply::TooGreat
-        | Reply::Failed(_)
-        | Reply::Flag(_)
-        | Reply::Put(_)
-        | Reply::Drained(_) => Ok(()),
+        Reply::TooGreat | Reply::Failed(_) | Reply::Flag(_) | Reply::Put(_) | Reply::Drained(_) =>
+            Ok(()),
     }
 }
 

@@ -1,18 +1,13 @@
 //! Scripts of lines, and the run of one.
 
 use crate::line::Line;
-use crate::reply::{LineReply, write_reply};
+use crate::reply::write_reply;
+use crate::store::Store;
 use slotmap_basic::SlotMap;
-use slotmap_core::commands::DetachCommand;
-use slotmap_core::errors::OutOfMemory;
 use slotmap_core::keys::DefaultKey;
-use slotmap_run::detaching::run_detaching_new;
 use std::alloc::{AllocFailed, Global};
 use std::io;
 use std::io::{Read, Write};
-
-// The map that a script runs on.
-type Map = SlotMap<DefaultKey, i32>;
 
 // Why a script ends early.
 #[derive(Drop)]
@@ -71,48 +66,43 @@ fn run(
         return Err(Stop::Usage);
     }
     let mut script = Vec::new(alloc);
-    input
-        .read_to_end(&mut script)
-        .map_err(|_| Stop::NoScript)?;
-    let commands = parse_lines(alloc, &script)?;
-    let replies = answer(alloc, commands)?;
-    for reply in &replies {
-        write_reply(output, reply).map_err(|_| Stop::Output)?;
-    }
-    Ok(())
+    input.read_to_end(&mut script).map_err(|_| Stop::NoScript)?;
+    let lines = parse_lines(alloc, &script)?;
+    run_lines::<SlotMap<DefaultKey, i32>>(alloc, lines, output)
 }
 
-// The commands of a script's lines, the last of which may lack its line feed.
-fn parse_lines(
-    alloc: Global,
-    script: &[u8],
-) -> Result<Vec<DetachCommand<DefaultKey, i32>>, Stop> {
-    let mut commands = Vec::new(alloc);
+// The lines of a script, the last of which may lack its line feed.
+fn parse_lines(alloc: Global, script: &[u8]) -> Result<Vec<Line>, Stop> {
+    let mut lines = Vec::new(alloc);
     if script.is_empty() {
-        return Ok(commands);
+        return Ok(lines);
     }
     let text = script.strip_suffix(b"\n").unwrap_or(script);
     for piece in text.split(|byte| *byte == b'\n') {
         match Line::from_bytes(piece) {
-            Some(line) => commands.push(line.command())?,
-            None => return Err(Stop::BadLine(commands.len() + 1)),
+            Some(line) => lines.push(line)?,
+            None => return Err(Stop::BadLine(lines.len() + 1)),
         }
     }
-    Ok(commands)
+    Ok(lines)
 }
 
-// The replies of a new map.
-fn answer(
+// Hands the commands of the lines to one run, and prints its replies.
+fn run_lines<M: Store>(
     alloc: Global,
-    commands: Vec<DetachCommand<DefaultKey, i32>>,
-) -> Result<Vec<LineReply>, Stop> {
-    let look = |value: &i32| *value;
-    let keep = |_: DefaultKey, _: &mut i32| true;
-    let make = |_: DefaultKey| Err(OutOfMemory);
-    let made: Result<(Map, Vec<LineReply>), Vec<DetachCommand<DefaultKey, i32>>> =
-        run_detaching_new(alloc, commands, look, keep, make);
-    match made {
-        Ok((_, replies)) => Ok(replies),
-        Err(_) => Err(Stop::NoScript),
+    lines: Vec<Line>,
+    output: &mut impl Write,
+) -> Result<(), Stop> {
+    let mut map = M::start(alloc).map_err(|_| Stop::NoScript)?;
+    let mut commands = Vec::new(alloc);
+    for line in lines {
+        if let Some(command) = M::command(line) {
+            commands.push(command)?;
+        }
     }
+    let replies = map.run(alloc, commands).ok_or(Stop::NoScript)?;
+    for reply in &replies {
+        write_reply(output, reply).map_err(|_| Stop::Output)?;
+    }
+    Ok(())
 }

@@ -1,10 +1,10 @@
 //! Runs of commands.
 
 use super::{Map, key, number};
-use slotmap_core::commands::{Command, DetachCommand, Reply};
-use slotmap_core::keys::DefaultKey;
 use crate::detaching::{run_detaching, run_detaching_new};
 use crate::primary::{run, run_new};
+use slotmap_core::commands::{Command, DetachCommand, Reply};
+use slotmap_core::keys::DefaultKey;
 use std::alloc::Global;
 use std::test::Fail;
 
@@ -28,7 +28,11 @@ fn all_told(alloc: Global, replies: &Replies) -> Result<Vec<Option<u64>>, Fail> 
 
 #[test]
 fn a_closures_error_passes_no_place_over(rt: HostRuntime) -> Result<(), Fail> {
-    let commands = vec![in rt.alloc(); Command::Insert(5), Command::InsertWith, Command::Insert(6)]?;
+    let commands = vec![in rt.alloc();
+        Command::Insert(5),
+        Command::InsertWith,
+        Command::Insert(6),
+    ]?;
     let made: Result<(Map, Replies), Vec<Command<DefaultKey, u64>>> = run_new(
         rt.alloc(),
         commands,

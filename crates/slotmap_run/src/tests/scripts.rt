@@ -11,6 +11,7 @@ use std::alloc::{AllocError, Global};
 use std::test::Fail;
 
 // Writes the commands of a list.
+#[derive(Drop)]
 struct Script {
     state: u64,
 }
@@ -62,6 +63,7 @@ fn commands(alloc: Global, seed: u64) -> Result<Vec<DetachCommand<DefaultKey, u6
 }
 
 // One number for a list of replies.
+#[derive(Drop)]
 struct Digest {
     value: u64,
 }
@@ -111,14 +113,16 @@ fn replies_are_those_of_the_rust_crate(rt: HostRuntime) -> Result<(), Fail> {
     for stored in REPLIES {
         seed += 1;
         let commands = commands(rt.alloc(), seed)?;
-        let made: Result<(Map, Vec<Reply<DefaultKey, u64, u64, u64>>), Vec<DetachCommand<DefaultKey, u64>>> =
-            run_detaching_new(
-                rt.alloc(),
-                commands,
-                |value: &u64| *value,
-                |_: DefaultKey, _: &mut u64| true,
-                |_: DefaultKey| Err(0),
-            );
+        let made: Result<
+            (Map, Vec<Reply<DefaultKey, u64, u64, u64>>),
+            Vec<DetachCommand<DefaultKey, u64>>,
+        > = run_detaching_new(
+            rt.alloc(),
+            commands,
+            |value: &u64| *value,
+            |_: DefaultKey, _: &mut u64| true,
+            |_: DefaultKey| Err(0),
+        );
         let (_, replies) = made.ok().ok_or("the run was refused")?;
         let mut digest = Digest {
             value: 14695981039346656037,
