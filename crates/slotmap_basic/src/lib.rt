@@ -6,9 +6,6 @@ mod disjoint;
 mod into_iter;
 mod iter;
 
-pub use into_iter::IntoIter;
-pub use iter::{Iter, Keys, Values};
-
 ghost use Rattle.std.specs.Prelude.{◌≡◌, ◌+◌, ◌<◌, ◌≤◌, ◌↔◌, IsTrue, IfOk, OnOk, OnErr, IfErr, OnSome, IfNone, IsSome, IsOk, IfSome, option_copied, Some, Ok, true, false};
 ghost use Rattle.std.specs.FinMap as map;
 ghost use Rattle.std.specs.FinSet as set;
@@ -19,6 +16,8 @@ ghost use Rattle.slotmap_core.specs.Content.{IsContent, IsLive, IsDetached, used
 ghost use Rattle.slotmap_core.specs.Transition.{IsNew, Keeps, Inserts, Removes, Replaces, Detaches, Reattaches, with_value};
 ghost use Rattle.slotmap_core.specs.Refusal.{Refuses, RefusesInsert, RefusesWith, RefusesReattach, RefusesCapacity};
 
+pub use into_iter::IntoIter;
+pub use iter::{Iter, Keys, Values};
 use slotmap_core::errors::{
     InsertError, InsertWithError, ReattachError, ReserveError, TryInsertError,
 };

@@ -1,5 +1,5 @@
 -- How values are put under several keys, one after another.
-use Rattle.std.proofs.Common.{◌≡◌, ◌≢◌, ◌↔◌, ℕ, zero, suc, ◌+◌, ◌<◌, Bool, true, false, cond, List, [], ◌∷◌, ◌++◌, length, get_or, set, take, drop, Option, Some, is_some, map as map_list, refl, sym, ap, subst, ◌∙◌, arith}
+use Rattle.std.proofs.Common.{◌≡◌, ◌≢◌, ◌↔◌, ℕ, suc, ◌+◌, ◌<◌, Bool, true, false, cond, List, [], ◌∷◌, ◌++◌, length, get_or, set, take, drop, Some, is_some, map as map_list, refl, sym, ap, subst, ◌∙◌, arith}
 use Rattle.std.specs.Ordering.{eq_by_cmp}
 use Rattle.std.proofs.lemmas.Bool.{false_from_ne_true}
 use Rattle.std.proofs.lemmas.List.{length-set, take_more, take_more_set, take_all, drop_more, drop-set-lt, map_push, length-take-le, get_or-take, get_or_default, get_or-map, length-map}
@@ -53,8 +53,8 @@ module _ {V : Type 0} (old : Content V) (ks : List Key) (vs : List V) (now : Con
   next_value : (d : Key) → i < length ks → map.get now.live (get_or ks i d) ≡ map.get old.live (get_or ks i d)
   next_value d within =
       rw done.put (get-with_values old (take i ks) (take i vs) (get_or ks i d) (λ j e h.
-        let below : j < i = omega (arith, length-take-le i ks (omega arith)) in
-        rw get_or-take (λ same. done.can.distinct j i e below within (same ∙ get_or_default ks i d e within))))
+      let below : j < i = omega (arith, length-take-le i ks (omega arith)) in
+      rw get_or-take (λ same. done.can.distinct j i e below within (same ∙ get_or_default ks i d e within))))
 
   pub next_live : (d : Key) → i < length ks → IsLive now (get_or ks i d)
   next_live d within = ap is_some (next_value d within) ∙ done.can.live i d within
@@ -113,6 +113,6 @@ module _ {V K : Type 0} (c : Content V) (data_of : K → Key) (ks : List K) (i :
         let more : map_list data_of (take (i + 1) ks) ≡ map_list data_of (take i ks) ++ data_of k ∷ [] =
         ap (map_list data_of) (take_more ks i k within ∙ ap (λ x. take i ks ++ x ∷ []) (sym at)) ∙ map_push data_of (take i ks) k in
         rw more (CanReplace-push c (map_list data_of (take i ks)) (data_of k) can is_live (λ j d below same.
-          let under : j < length (take i ks) = omega (arith, length-map (take i ks) data_of) in
-          let found = list_any_at (λ y. eq y k) (take i ks) j k under ((by_data _ _).1 (sym (get_or-map data_of (take i ks) j k d under) ∙ same)) in
-          absurd (cc)))
+        let under : j < length (take i ks) = omega (arith, length-map (take i ks) data_of) in
+        let found = list_any_at (λ y. eq y k) (take i ks) j k under ((by_data _ _).1 (sym (get_or-map data_of (take i ks) j k d under) ∙ same)) in
+        absurd (cc)))

@@ -5,8 +5,8 @@ pub mod Odd
 pub mod Retired
 pub mod GatherLemmas
 pub mod PlacesLemmas
+pub mod WalkLemmas
 pub mod StackLemmas
 pub mod ContentLemmas
-pub mod StepLemmas
-pub mod WalkLemmas
 pub mod DisjointLemmas
+pub mod StepLemmas
