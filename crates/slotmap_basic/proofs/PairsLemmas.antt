@@ -1,16 +1,15 @@
 -- What a walk over the vectors of a slot map visits.
-use Rattle.std.proofs.Common.{◌≡◌, ℕ, zero, suc, ◌+◌, ◌-◌, ◌^◌, ◌<◌, ◌≤◌, ◌%◌, List, [], ◌∷◌, length, set, drop, slice_get, Option, Some, None, IsSome, ◌↔◌, inl, inr, refl, sym, ap, subst, ◌∙◌, arith}
+use Rattle.std.proofs.Common.{◌≡◌, ℕ, suc, ◌+◌, ◌-◌, ◌<◌, ◌≤◌, ◌%◌, List, [], ◌∷◌, length, set, drop, slice_get, Option, Some, None, IsSome, ◌↔◌, inl, inr, refl, sym, ap, subst, ◌∙◌, arith}
 use Rattle.std.proofs.lemmas.Option.{slice_get_within, slice_get_cases, same_Some, get_or_from_slice_get}
 use Rattle.std.proofs.lemmas.List.{length-set, length-drop, drop_more, drop-set-lt}
 use Rattle.std.specs.FinMap as map
-use Rattle.slotmap_core.specs.Key.{Key}
 use Rattle.slotmap_core.specs.Places.{live}
 use Rattle.slotmap_core.proofs.GatherLemmas.{slice_get-set_other}
 use Rattle.slotmap_core.proofs.PlacesLemmas.{key}
 use Rattle.slotmap_core.proofs.WalkLemmas.{entries_from, entries-live}
 use Rattle.slotmap_basic.specs.declared.Link.{Link}
 use Rattle.slotmap_basic.specs.declared.Link.TheVariants.{InUse, Free, Detached}
-use Rattle.slotmap_basic.specs.Slots.{Slots, IsAt, IsPlace, IsSound, zip_places, places_of}
+use Rattle.slotmap_basic.specs.Slots.{Slots, IsPlace, IsSound, zip_places, places_of}
 use Rattle.slotmap_basic.specs.Walk.{pairs_from, pairs_left, IsWalk}
 use Rattle.slotmap_basic.proofs.SlotLemmas.{found_at, length_places}
 

@@ -5,8 +5,10 @@ pub mod Odd
 pub mod Retired
 pub mod GatherLemmas
 pub mod PlacesLemmas
+pub mod WalkLemmas
 pub mod StackLemmas
 pub mod ContentLemmas
+<<<<<<< HEAD
 pub mod StepLemmas
 pub mod JsonLemmas
 pub mod WalkLemmas
@@ -17,3 +19,7 @@ pub mod OrderLemmas
 pub mod IndexLemmas
 pub mod VisitLemmas
 pub mod SweepLemmas
+=======
+pub mod DisjointLemmas
+pub mod StepLemmas
+>>>>>>> iter

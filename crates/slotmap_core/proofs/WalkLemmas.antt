@@ -1,5 +1,5 @@
 -- The live keys of a list of places and their values, by rising index, are the entries of the map that they make.
-use Rattle.std.proofs.Common.{◌≡◌, ℕ, ◌+◌, ◌<◌, Bool, true, false, ◌&&◌, T, List, [], ◌∷◌, length, map as map_list, Option, None, Some, is_some, refl, sym, ap, subst, ◌∙◌, arith}
+use Rattle.std.proofs.Common.{◌≡◌, ℕ, ◌+◌, ◌<◌, Bool, true, false, ◌&&◌, T, List, [], ◌∷◌, map as map_list, is_some, refl, sym, ap, subst, ◌∙◌, arith}
 use Rattle.std.proofs.lemmas.List.{length-map}
 use Rattle.std.specs.Ordering.{nat_cmp, ordering_then, is_lt}
 use Rattle.std.specs.declared.cmp.Ordering.TheVariants.{Less}
@@ -67,8 +67,8 @@ module _ {V : Type 0} where
   }
 
   -- the keys and the values of a listing list the map's
-  pub key-listing : (m : map.FinMap key_cmp V) (entries : List (Key × V)) → IsListing m entries → IsKeyListing m (map_list (λ e. e.0) entries)
-  key-listing m entries listing = record {
+  pub IsKeyListing-listing : (m : map.FinMap key_cmp V) (entries : List (Key × V)) → IsListing m entries → IsKeyListing m (map_list (λ e. e.0) entries)
+  IsKeyListing-listing m entries listing = record {
     all = λ k. set.contains-from_list keys_total (map_list (λ e. e.0) entries) k ∙ sym (is_some-find key_cmp k entries)
         ∙ sym (ap is_some (map.get-from_entries keys_total entries k)) ∙ ap (λ m. map.contains_key m k) listing.all;
     once = length-map entries (λ e. e.0) ∙ listing.once;

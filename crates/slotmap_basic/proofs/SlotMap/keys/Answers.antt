@@ -1,5 +1,5 @@
-use Rattle.slotmap_core.proofs.WalkLemmas.{key-listing}
+use Rattle.slotmap_core.proofs.WalkLemmas.{IsKeyListing-listing}
 use Rattle.slotmap_basic.proofs.SlotMap.keys.Goals as goal
 
 pub returns-clause-listing : goal.returns-clause-listing
-returns-clause-listing g c = key-listing _ _ c.iter.ensures.listing
+returns-clause-listing g c = IsKeyListing-listing _ _ c.iter.ensures.listing

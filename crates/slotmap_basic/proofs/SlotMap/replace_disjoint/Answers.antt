@@ -1,7 +1,7 @@
 use Rattle.std.proofs.Common.{◌≡◌, get_or, length, map as map_list, set, ◌+◌, sym, arith}
 use Rattle.std.proofs.lemmas.List.{get_or-map, length-map}
 use Rattle.slotmap_core.specs.Transition.{with_value}
-use Rattle.slotmap_core.proofs.DisjointLemmas.{Exchanged, Exchanged-start, Exchanged-step, Exchanged-done, next_live}
+use Rattle.slotmap_core.proofs.DisjointLemmas.{Exchanged, Exchanged-step, next_live}
 use Rattle.slotmap_basic.proofs.SlotMap.replace_disjoint.Goals as goal
 
 pub exchange-requires : goal.exchange-requires
