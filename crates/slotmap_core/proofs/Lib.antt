@@ -9,3 +9,8 @@ pub mod StackLemmas
 pub mod ContentLemmas
 pub mod StepLemmas
 pub mod JsonLemmas
+pub mod ContentsLemmas
+pub mod StartLemmas
+pub mod StartStack
+pub mod StartFits
+pub mod WrittenLemmas

@@ -16,3 +16,5 @@ pub mod Places
 pub mod StackMap
 pub mod Slots
 pub mod Json
+pub mod Contents
+pub mod Written
