@@ -23,29 +23,10 @@ mod primary;
 mod remove;
 mod retain;
 
-<<<<<<< HEAD
 pub use into_iter::IntoIter;
 pub use iter::{Iter, Keys, Values};
 use slotmap_core::errors::ReserveError;
 use slotmap_core::keys::{DefaultKey, Key};
-=======
-ghost use Rattle.std.specs.Prelude.{◌≡◌, ◌+◌, ◌<◌, ◌≤◌, ◌↔◌, IsTrue, IfOk, OnOk, OnErr, IfErr, OnSome, IfNone, IsSome, IsOk, IfSome, option_copied, Some, Ok, true, false};
-ghost use Rattle.std.specs.FinMap as map;
-ghost use Rattle.std.specs.FinSet as set;
-ghost use Rattle.std.specs.Borrow.{sem};
-ghost use Rattle.std.specs.Option.{option_copied_mut};
-ghost use Rattle.slotmap_core.specs.Key.{Key as KeyOf};
-ghost use Rattle.slotmap_core.specs.Content.{IsContent, IsLive, IsDetached, used, places, most};
-ghost use Rattle.slotmap_core.specs.Transition.{IsNew, Keeps, Inserts, Removes, Replaces, Detaches, Reattaches, with_value};
-ghost use Rattle.slotmap_core.specs.Refusal.{Refuses, RefusesInsert, RefusesWith, RefusesReattach, RefusesCapacity};
-
-pub use into_iter::IntoIter;
-pub use iter::{Iter, Keys, Values};
-use slotmap_core::errors::{
-    InsertError, InsertWithError, ReattachError, ReserveError, TryInsertError,
-};
-use slotmap_core::keys::{DefaultKey, Key, KeyData};
->>>>>>> iter
 use std::alloc::Global;
 use std::marker::{Model, PhantomData};
 

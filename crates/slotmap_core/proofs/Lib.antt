@@ -8,10 +8,8 @@ pub mod PlacesLemmas
 pub mod WalkLemmas
 pub mod StackLemmas
 pub mod ContentLemmas
-<<<<<<< HEAD
 pub mod StepLemmas
 pub mod JsonLemmas
-pub mod WalkLemmas
 pub mod DisjointLemmas
 pub mod ListingLemmas
 pub mod LeaveLemmas
@@ -19,7 +17,8 @@ pub mod OrderLemmas
 pub mod IndexLemmas
 pub mod VisitLemmas
 pub mod SweepLemmas
-=======
-pub mod DisjointLemmas
-pub mod StepLemmas
->>>>>>> iter
+pub mod ContentsLemmas
+pub mod StartLemmas
+pub mod StartStack
+pub mod StartFits
+pub mod WrittenLemmas

@@ -16,10 +16,7 @@ pub mod Law
 pub mod Gather
 pub mod Places
 pub mod StackMap
-<<<<<<< HEAD
 pub mod Slots
 pub mod Json
-pub mod Copy
-pub mod Disjoint
-=======
->>>>>>> iter
+pub mod Contents
+pub mod Written

@@ -1,5 +1,5 @@
 -- Lists of slots: for each place of a map, from place 0 on, its value, if there is one, and its version.
-use Rattle.std.specs.Prelude.{◌≡◌, ℕ, ◌%◌, ◌<◌, ◌≤◌, ◌↔◌, List, length, slice_get, Some, IsSome}
+use Rattle.std.specs.Prelude.{◌≡◌, ℕ, ◌%◌, ◌^◌, ◌<◌, ◌≤◌, ◌↔◌, List, length, slice_get, Some, IsSome}
 use Rattle.slotmap_core.specs.declared.serial.SlotRecord.{SlotRecord}
 use Rattle.slotmap_core.specs.declared.errors.SlotsError.{SlotsError}
 use Rattle.slotmap_core.specs.declared.errors.SlotsError.TheVariants.{TooMany, FirstNotEmpty, Inconsistent, Memory}
@@ -18,6 +18,11 @@ module _ {V : Type 0} where
   AllConsistentBelow slots high =
       (i : ℕ) (slot : SlotRecord V) → i < high → slice_get slots i ≡ Some slot → IsConsistent slot
 
+  -- each version before this position is a number of 32 bits
+  abbrev pub AllFitBelow : List (SlotRecord V) → ℕ → Type 0
+  AllFitBelow slots high =
+      (i : ℕ) (slot : SlotRecord V) → i < high → slice_get slots i ≡ Some slot → slot.version < 2 ^ 32
+
   -- the lists that are read as the slots of a map
   pub record Accepts (slots : List (SlotRecord V)) (limit : ℕ) : Type 0 where
     pub short : length slots < limit
@@ -35,3 +40,10 @@ module _ {V : Type 0} where
   Refuses slots limit FirstNotEmpty = (length slots < limit) × ¬ HasEmptyFirst slots
   Refuses slots limit (Inconsistent i) = (length slots < limit) × HasEmptyFirst slots × IsFirstInconsistent slots i
   Refuses slots limit Memory = ⊥
+
+  -- why a map isn't started from a list: the list is refused, or it is accepted and memory is lacking
+  abbrev pub RefusesStart : List (SlotRecord V) → ℕ → SlotsError → Type 0
+  RefusesStart slots limit TooMany = Refuses slots limit TooMany
+  RefusesStart slots limit FirstNotEmpty = Refuses slots limit FirstNotEmpty
+  RefusesStart slots limit (Inconsistent i) = Refuses slots limit (Inconsistent i)
+  RefusesStart slots limit Memory = Accepts slots limit

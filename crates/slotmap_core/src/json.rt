@@ -144,7 +144,7 @@ where
     Ok(slots)
 }
 
-fn slot_from_value<V, G: Fn(&Value) -> Result<V, JsonError>>(
+fn slot_from_value<V: Drop, G: Fn(&Value) -> Result<V, JsonError>>(
     element: &Value,
     g: &G,
 ) -> Result<SlotRecord<V>, JsonError>

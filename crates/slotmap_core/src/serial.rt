@@ -2,8 +2,8 @@
 //!
 //! A list has one `SlotRecord` for each place of a map, from place 0 on.
 
-ghost use Rattle.std.specs.Prelude.{◌≡◌, ◌↔◌, IsTrue, IsOk, IfErr};
-ghost use Rattle.slotmap_core.specs.Slots.{IsConsistent, Accepts, Refuses};
+ghost use Rattle.std.specs.Prelude.{◌≡◌, ◌↔◌, ◌^◌, ◌<◌, length, IsTrue, IsOk, IfErr, OnOk};
+ghost use Rattle.slotmap_core.specs.Slots.{IsConsistent, Accepts, AllFitBelow, Refuses};
 
 use crate::errors::SlotsError;
 pub use crate::json::{key_from_value, key_to_value, slots_from_value, slots_to_value};
@@ -26,7 +26,8 @@ pub struct SlotRecord<V> {
 
 impl<V> SlotRecord<V> {
     fn is_consistent(&self) -> bool
-        ensures { IsTrue result ↔ IsConsistent self.now }
+        ensures value { IsTrue result ↔ IsConsistent self.now }
+        ensures version_fits { self.now.version < 2 ^ 32 }
     {
         self.value.is_some() == (self.version % 2 == 1)
     }
@@ -53,6 +54,9 @@ impl<V> SlotRecord<V> {
 pub fn check_slots<V>(list: &[SlotRecord<V>], limit: usize) -> Result<(), SlotsError>
     ensures ok { IsOk result ↔ Accepts list.now limit }
     ensures err { IfErr result (Refuses list.now limit) }
+
+    // For a caller that goes on to read the list: its versions are numbers of 32 bits.
+    ensures versions_fit { OnOk result (AllFitBelow list.now (length list.now)) }
 {
     if list.len() >= limit {
         return Err(SlotsError::TooMany);

@@ -1,0 +1,56 @@
+-- The list of slots that a map is written as, and what a map holds that is read from it.
+use Rattle.std.specs.Prelude.{◌≡◌, ℕ, ◌+◌, ◌-◌, ◌%◌, ◌^◌, ◌<◌, ◌≤◌, ◌↔◌, ◌⊎◌, true, false, List, length, slice_get, map as list_map, Some, None}
+use Rattle.std.specs.FinMap as map
+use Rattle.std.specs.FinSet as set
+use Rattle.slotmap_core.specs.Key.{Key, is_last, next_version}
+use Rattle.slotmap_core.specs.Content.{Content, IsDetached, IsRetired, IsVacant, Uses, places}
+use Rattle.slotmap_core.specs.Places.{Place, Live, Detached, Vacant, Retired}
+use Rattle.slotmap_core.specs.declared.serial.SlotRecord.{SlotRecord}
+
+-- the version that follows one, in 32 bits: 0 follows the last one
+abbrev pub following_version : ℕ → ℕ
+following_version version = (version + 1) % 2 ^ 32
+
+module _ {V : Type 0} where
+  -- a slot with a value
+  abbrev pub filled_slot : ℕ → V → SlotRecord V
+  filled_slot version v = record { value = Some v; version = version }
+
+  -- a slot without one
+  abbrev pub empty_slot : ℕ → SlotRecord V
+  empty_slot version = record { value = None; version = version }
+
+  -- a map that holds c is written as this list: a slot for place 0, and one for each place from 1 on
+  pub record Writes (c : Content V) (slots : List (SlotRecord V)) : Type 0 where
+    pub all : length slots ≡ places c + 1
+    pub first : slice_get slots 0 ≡ Some (empty_slot 0)
+    pub live : (k : Key) (v : V) → map.get c.live k ≡ Some v → slice_get slots k.index ≡ Some (filled_slot k.version v)
+    pub vacant : (i next : ℕ) → map.get c.next i ≡ Some next → slice_get slots i ≡ Some (empty_slot (next - 1))
+    pub detached : (k : Key) → IsDetached c k → slice_get slots k.index ≡ Some (empty_slot (following_version k.version))
+    pub retired : (k : Key) → IsRetired c k → slice_get slots k.index ≡ Some (empty_slot 0)
+    -- each place from 1 on is one of these
+    pub each : (i : ℕ) → 1 ≤ i → i ≤ places c → IsVacant c i ⊎ ((k : Key) × (k.index ≡ i) × Uses c k)
+
+  -- new is what a map holds that is read from the list that old is written as: the live keys are the same, and each detached key has left, so its place is vacant, or retired after the last version
+  pub record Restores (old new : Content V) : Type 0 where
+    pub live : new.live ≡ old.live
+    pub detached : new.detached ≡ set.empty
+    pub retired : (k : Key) → IsRetired new k ↔ (IsRetired old k ⊎ (IsDetached old k × (is_last k ≡ true)))
+    pub next : (i v : ℕ) → map.get new.next i ≡ Some v
+        ↔ ((map.get old.next i ≡ Some v) ⊎ ((k : Key) × IsDetached old k × (is_last k ≡ false) × (k.index ≡ i) × (next_version k ≡ v)))
+    pub same_places : places new ≡ places old
+
+  -- each vacant place had a key before, so its next one isn't the first, of version 1
+  abbrev pub HadKeys : Content V → Type 0
+  HadKeys c = (i next : ℕ) → map.get c.next i ≡ Some next → 1 < next
+
+  -- the slot that a place is written as
+  abbrev pub slot_of : Place V → SlotRecord V
+  slot_of (Live version v) = filled_slot version v
+  slot_of (Detached version) = empty_slot (following_version version)
+  slot_of (Vacant next) = empty_slot (next - 1)
+  slot_of Retired = empty_slot 0
+
+  -- the slots that places are written as, in order
+  abbrev pub slots_of : List (Place V) → List (SlotRecord V)
+  slots_of places = list_map slot_of places
