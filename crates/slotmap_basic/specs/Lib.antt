@@ -1,2 +1,3 @@
 pub mod Slots
 pub mod Lends
+pub mod Drain

@@ -11,7 +11,10 @@ ghost use Rattle.slotmap_core.specs.Content.{IsContent, IsLive, IsDetached, used
 ghost use Rattle.slotmap_core.specs.Transition.{IsNew, Keeps, Inserts, Removes, Replaces, Detaches, Reattaches, with_value};
 ghost use Rattle.slotmap_core.specs.Refusal.{Refuses, RefusesInsert, RefusesWith, RefusesReattach, RefusesCapacity};
 
+mod drain;
 mod retain;
+
+pub use drain::Drain;
 
 use slotmap_core::errors::{
     InsertError, InsertWithError, ReattachError, ReserveError, TryInsertError,
