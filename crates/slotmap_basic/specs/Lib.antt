@@ -1,3 +1,4 @@
 pub mod Slots
 pub mod Lends
 pub mod Walk
+pub mod Drain

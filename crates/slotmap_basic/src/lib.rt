@@ -16,6 +16,7 @@ mod access;
 mod clone;
 mod detach;
 mod disjoint;
+mod drain;
 mod insert;
 mod into_iter;
 mod iter;
@@ -23,6 +24,7 @@ mod primary;
 mod remove;
 mod retain;
 
+pub use drain::Drain;
 pub use into_iter::IntoIter;
 pub use iter::{Iter, Keys, Values};
 use slotmap_core::errors::ReserveError;

@@ -1,7 +1,8 @@
 //! The calls that go over all live keys of a map, by ascending index.
 
-ghost use Rattle.std.specs.Prelude.{◌≡◌, ◌≤◌, ◌++◌, OnOk, OnErr, true, List, map as list_map};
+ghost use Rattle.std.specs.Prelude.{◌≡◌, ◌<◌, ◌≤◌, ◌++◌, OnOk, OnErr, true, List, map as list_map};
 ghost use Rattle.std.specs.FinMap as map;
+ghost use Rattle.slotmap_core.specs.Key.{Key as KeyOf};
 ghost use Rattle.slotmap_core.specs.Content.{IsContent};
 ghost use Rattle.slotmap_core.specs.Transition.{Leaves, FreesByIndex};
 ghost use Rattle.slotmap_core.specs.Listing.{IsListing, IsKeyListing, NoneBelow};
@@ -52,6 +53,7 @@ impl<K: Key, V: Drop> SlotMap<K, V> {
     // Removes the keys from this index on.
     pub(crate) fn clear_from(&mut self, start: usize)
         ensures empty { NoneBelow self.old.live start → self.new.live ≡ map.empty }
+        ensures stay { (k : KeyOf) → k.index < start → map.get self.new.live k ≡ map.get self.old.live k }
         ensures leaves { Leaves self.old self.new }
         ensures order { FreesByIndex self.old self.new }
         ensures capacity { self.new.capacity ≡ self.old.capacity }

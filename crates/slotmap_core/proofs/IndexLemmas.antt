@@ -88,6 +88,14 @@ module _ {V : Type 0} where
   pub NoneBelow-end : (m : map.FinMap key_cmp V) (i : ℕ) → ((q : Key) → map.contains_key m q ≡ true → q.index < i) → NoneBelow m i → m ≡ map.empty
   NoneBelow-end m i below above = none_live m (λ q there. absurd (omega (arith, below q there, above q there)))
 
+  -- another key than the one taken out
+  pub get-remove_other : (m : map.FinMap key_cmp V) (k q : Key) → q ≢ k → map.get (map.remove m k) q ≡ map.get m q
+  get-remove_other m k q other = map.get-remove keys_total m k q ∙ by (eq_by_cmp key_cmp q k) refl
+    where
+      by : (t : Bool) → eq_by_cmp key_cmp q k ≡ t → cond t None (map.get m q) ≡ map.get m q
+      by true t = absurd (other (tied keys_total exact_keys q k t))
+      by false t = refl
+
   -- no two live keys have one index
   pub alone_at : {reuses : Bool} (c : Content V) → IsContent reuses c → (k : Key) (i : ℕ) → IsLive c k → k.index ≡ i → (q : Key) → IsLive c q → q.index ≡ i → q ≡ k
   alone_at c well k i is_live at q live_q at_q = well.apart q k (inl (inl live_q)) (inl (inl is_live)) (at_q ∙ sym at)

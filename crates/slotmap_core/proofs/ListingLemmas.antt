@@ -133,6 +133,13 @@ module _ {V : Type 0} where
     once = omega (arith, listing.once, length_push es (k, v), len_removed keys_total exact_keys rest k (ap is_some found));
   }
 
+  -- an entry that was taken out before is listed first
+  pub IsListingBut-first : (m rest : map.FinMap key_cmp V) (es : List (Key × V)) (k : Key) (v : V) → map.get m k ≡ Some v → IsListingBut (map.remove m k) es rest → IsListingBut m ((k, v) ∷ es) rest
+  IsListingBut-first m rest es k v found listing = record {
+    all = ap (λ n. map.insert n k v) listing.all ∙ insert-remove m k v ∙ insert_same m k v found;
+    once = omega (arith, listing.once, len_removed keys_total exact_keys m k (ap is_some found));
+  }
+
   pub IsListingBut-done : (m : map.FinMap key_cmp V) (es : List (Key × V)) → IsListingBut m es map.empty → IsListing m es
   IsListingBut-done m es listing = record {
     all = sym (with_entries-empty es) ∙ listing.all;

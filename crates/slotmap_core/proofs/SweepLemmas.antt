@@ -3,12 +3,12 @@ use Rattle.std.proofs.Common.{◌≡◌, ℕ, ◌+◌, ◌<◌, Bool, true, refl
 use Rattle.std.specs.FinMap as map
 use Rattle.slotmap_core.specs.Key.{Key}
 use Rattle.slotmap_core.specs.Content.{Content, IsContent, IsLive}
-use Rattle.slotmap_core.specs.Transition.{Removes, Leaves, has_left, with_value, FreesByIndex}
+use Rattle.slotmap_core.specs.Transition.{Removes, Leaves, Empties, has_left, with_value, FreesByIndex}
 use Rattle.slotmap_core.proofs.KeyLemmas.{keys_total, exact_keys, same_or_other}
 use Rattle.slotmap_core.proofs.Maps.{left_in}
 use Rattle.slotmap_core.proofs.ContentLemmas.{IsContent-with_value}
-use Rattle.slotmap_core.proofs.LeaveLemmas.{was_live, is_gone, has_left_if, same_live, Leaves-refl, Leaves-trans, Leaves-with_value, Leaves-removed}
-use Rattle.slotmap_core.proofs.OrderLemmas.{FreesByIndex-start, FreesByIndex-with_value, FreesByIndex-removed}
+use Rattle.slotmap_core.proofs.LeaveLemmas.{was_live, is_gone, has_left_if, same_live, Leaves-refl, Leaves-trans, Leaves-with_value, Leaves-removes, Leaves-removed}
+use Rattle.slotmap_core.proofs.OrderLemmas.{FreesByIndex-start, FreesByIndex-with_value, FreesByIndex-removed, FreesByIndex-first}
 
 module _ {V : Type 0} where
   -- on the way to now, keys below the index have left, by ascending index
@@ -55,4 +55,13 @@ module _ {V : Type 0} where
           has_left_if old now q (was_live old new q left) (λ there. is_gone old new q left (ap (λ m. map.contains_key m q) removes.live ∙ left_in keys_total exact_keys now.live k q other there)) in
           omega (arith, swept.below q before)
     ];
+  }
+
+  -- what the rest ends as after the first key has left, the whole ends as
+  pub Empties-first : {reuses : Bool} (a b end : Content V) (k : Key) → IsContent reuses a → IsLive a k → Removes a k b → b.capacity ≡ a.capacity → ((q : Key) → IsLive b q → k.index < q.index) → Empties b end → Empties a end
+  Empties-first {reuses} a b end k well is_live removes capacity above ends = record {
+    live = ends.live;
+    leaves = Leaves-trans a b end (Leaves-removes reuses a well k is_live b removes) ends.leaves;
+    order = FreesByIndex-first a b end k is_live removes above ends.leaves.no_more ends.order;
+    capacity = ends.capacity ∙ capacity;
   }

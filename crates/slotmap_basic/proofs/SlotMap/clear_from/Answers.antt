@@ -1,11 +1,11 @@
-use Rattle.std.proofs.Common.{inl, arith}
-use Rattle.slotmap_core.proofs.IndexLemmas.{alone_at, NoneBelow-skip, NoneBelow-removed, NoneBelow-end}
+use Rattle.std.proofs.Common.{refl, ap, ◌∙◌, inl, arith}
+use Rattle.slotmap_core.proofs.IndexLemmas.{alone_at, NoneBelow-skip, NoneBelow-removed, NoneBelow-end, get-remove_other}
 use Rattle.slotmap_core.proofs.SweepLemmas.{Swept-start, Swept-on, Swept-removed}
 use Rattle.slotmap_basic.proofs.SlotMap.clear_from.Goals.{in-Some, in_default}
 use Rattle.slotmap_basic.proofs.SlotMap.clear_from.Goals as goal
 
 pub loop-index-init : goal.loop-index-init
-loop-index-init g c = record { swept = Swept-start c.args.self.now c.args.start c.num_places-index-end.ensures.valid; above = λ none. none }
+loop-index-init g c = record { swept = Swept-start c.args.self.now c.args.start c.num_places-index-end.ensures.valid; stay = λ k below. refl; above = λ none. none }
 
 pub loop-index-preserved : goal.loop-index-preserved
 loop-index-preserved g c =
@@ -17,10 +17,12 @@ loop-index-preserved g c =
           let alone = alone_at at.self at.invariant.swept.well key at.index found.0 found.1 in
           record {
             swept = rw w.self-is (Swept-removed c.args.self.now at.self w.evict.new.self at.index key at.invariant.swept found.0 found.1 w.evict.ensures.removes w.evict.ensures.capacity w.evict.ensures.valid);
+            stay = λ k below. rw (w.self-is, w.evict.ensures.removes.live) (get-remove_other at.self.live key k (λ same. omega (arith, ap (λ q. q.index) same, found.1)) ∙ at.invariant.stay k below);
             above = λ none. rw (w.self-is, w.evict.ensures.removes.live) (NoneBelow-removed at.self.live at.index key alone (at.invariant.above none));
           }
       | in_default w ↦ record {
         swept = rw w.self-is (Swept-on c.args.self.now at.self at.index at.invariant.swept);
+        stay = λ k below. rw w.self-is (at.invariant.stay k below);
         above = λ none. rw w.self-is (NoneBelow-skip at.self.live at.index w.in_default.ensures.none (at.invariant.above none));
       }
     ]

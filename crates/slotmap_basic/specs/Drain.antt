@@ -1,0 +1,45 @@
+-- What a contract sees of a `Drain`.
+use Rattle.std.specs.Prelude.{◌≡◌, List, map as list_map, Option}
+use Rattle.std.specs.Borrow.{GName}
+use Rattle.std.specs.Iterator.{Count, at_most, Yields}
+use Rattle.std.specs.FinMap as map
+use Rattle.slotmap_core.specs.Key.{Key}
+use Rattle.slotmap_core.specs.Content.{Content}
+use Rattle.slotmap_core.specs.Listing.{IsListingBut, NoneBelow}
+use Rattle.slotmap_core.specs.Transition.{TakesPair, Empties}
+use Rattle.slotmap_basic.specs.declared.drain.Drain.{Drain}
+
+module _ {K V : Type 0} where
+  -- what the map still holds
+  abbrev pub drain_map : Drain K V → Content V
+  drain_map d = d.map.now
+
+  -- the ghost name of the reference to the map
+  abbrev pub drain_lender : Drain K V → GName
+  drain_lender d = d.map.ghost_name
+
+  -- so many pairs are left
+  abbrev pub drain_count : Drain K V → Count
+  drain_count d = at_most (map.len (drain_map d).live)
+
+  -- no key at a place that was visited is live
+  abbrev pub DrainCanStep : Drain K V → Type 0
+  DrainCanStep d = NoneBelow (drain_map d).live d.index
+
+  -- old and new borrow the same map, and where new empties it, so does old
+  pub record DrainKeeps (old new : Drain K V) : Type 0 where
+    pub same_reference : drain_lender new ≡ drain_lender old
+    pub ends : (end : Content V) → Empties (drain_map new) end → Empties (drain_map old) end
+
+  module _ (data_of : K → Key) where
+    -- `next` took old to new, and answered the item
+    abbrev pub DrainSteps : Drain K V → Option (K × V) → Drain K V → Type 0
+    DrainSteps old item new = TakesPair data_of (drain_map old) item (drain_map new) × DrainKeeps old new × DrainCanStep new
+
+    -- the pairs that were taken and those that the map still holds are those that it held
+    abbrev pub DrainLists : Drain K V → List (K × V) → Drain K V → Type 0
+    DrainLists first pairs later = IsListingBut (drain_map first).live (list_map (λ p. (data_of p.0, p.1)) pairs) (drain_map later).live
+
+    -- so it is in each state that calls of `next` lead to
+    abbrev pub DrainStays : Drain K V → Type 0
+    DrainStays first = (pairs : List (K × V)) (later : Drain K V) → Yields DrainSteps first pairs later → DrainKeeps first later × DrainLists first pairs later
