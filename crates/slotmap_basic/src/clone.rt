@@ -9,7 +9,18 @@ use std::alloc::AllocError;
 use std::marker::PhantomData;
 
 impl<K: Key, V: Clone> SlotMap<K, V> {
-    /// A copy of the map, with the same keys.
+    /// A copy of the map: the same keys are live, with clones of their values, the same are detached, and both maps will
+    /// hand out the same keys.
+    ///
+    /// The caller answers for it that a clone of a value equals the value; so this is a function of its own, and no impl of
+    /// `Clone`. Where there is no memory it refuses, and what was copied by then is dropped. It copies each place of the
+    /// map. The copy has room for the keys of the vacant places, and maybe for no more.
+    ///
+    /// ```
+    /// let mut copy = map.clone()?;
+    /// copy.remove(key);
+    /// // The map still has the key.
+    /// ```
     pub fn clone(&self) -> Result<Self, AllocError>
         requires { (x y : V) → V.is_clone x y → y ≡ x }
         ensures copies { IfOk result (IsCopy self.now) }
@@ -26,7 +37,10 @@ impl<K: Key, V: Clone> SlotMap<K, V> {
         })
     }
 
-    /// Becomes a copy of another map.
+    /// Makes this map a copy of another, as [`SlotMap::clone`] does, and drops what it had.
+    ///
+    /// Keys of the map as it was are worth no more than keys of any other map. Where there is no memory it refuses, and the
+    /// map stays as it is: the copy is made first, so for a while there are both.
     pub fn clone_from(&mut self, source: &Self) -> Result<(), AllocError>
     where
         V: Drop,
@@ -36,6 +50,37 @@ impl<K: Key, V: Clone> SlotMap<K, V> {
         ensures valid { OnOk result (IsContent true self.new) }
     {
         *self = source.clone()?;
+        Ok(())
+    }
+}
+
+#[cfg(test)]
+mod tests {
+    use super::*;
+    use slotmap_core::keys::DefaultKey;
+    use std::test::Fail;
+
+    #[test]
+    fn copies(rt: HostRuntime) -> Result<(), Fail> {
+        let mut map: SlotMap<DefaultKey, u8> = SlotMap::new(rt.alloc())?;
+        let first = map.insert(10)?;
+        let second = map.insert(20)?;
+        let third = map.insert(30)?;
+        assert_eq!(rt; map.remove(second), Some(20));
+        assert_eq!(rt; map.detach(third), Some(30));
+
+        let mut copy = map.clone()?;
+        assert_eq!(rt; copy.len(), 1);
+        assert_eq!(rt; copy.remove(first), Some(10));
+        assert_eq!(rt; map.get(first), Some(&10));
+        assert!(rt; copy.reattach(third, 31).is_ok());
+
+        let next = map.insert(40)?;
+        copy.clone_from(&map)?;
+        assert_eq!(rt; copy.get(first), Some(&10));
+        assert_eq!(rt; copy.get(next), Some(&40));
+        assert!(rt; !copy.contains_key(third));
+        assert_eq!(rt; copy.insert(50)?, map.insert(60)?);
         Ok(())
     }
 }

@@ -10,7 +10,16 @@ use slotmap_core::keys::Key;
 use std::mem;
 
 impl<K: Key, V: Drop> SlotMap<K, V> {
-    /// Puts each value under its key and answers the ones before, or hands the values back.
+    /// Gives each key the value at its place, and answers the values that the keys had.
+    ///
+    /// Where one of the keys is not live, or two are equal, it hands the values back, and the map stays as it is. It takes
+    /// no memory, and its time does not depend on the size of the map: it looks up each key, and compares each two.
+    ///
+    /// ```
+    /// if let Ok([old_a, old_b]) = map.replace_disjoint([a, b], [1, 2]) {
+    ///     // Both were live, and a is not b.
+    /// }
+    /// ```
     pub fn replace_disjoint<const N: usize>(
         &mut self,
         keys: [K; N],
@@ -55,5 +64,28 @@ impl<K: Key, V: Drop> SlotMap<K, V> {
         ensures taken { map.get self.old.live (K.data_of key) ≡ Some value.new }
     {
         mem::swap(self.get_unchecked_mut(key), value);
+    }
+}
+
+#[cfg(test)]
+mod tests {
+    use super::*;
+    use slotmap_core::keys::DefaultKey;
+    use std::test::Fail;
+
+    #[test]
+    fn replaces(rt: HostRuntime) -> Result<(), Fail> {
+        let mut map: SlotMap<DefaultKey, u8> = SlotMap::new(rt.alloc())?;
+        let first = map.insert(10)?;
+        let second = map.insert(20)?;
+        let third = map.insert(30)?;
+        assert_eq!(rt; map.remove(second), Some(20));
+
+        assert_eq!(rt; map.replace_disjoint([first, third], [1, 3]), Ok([10, 30]));
+        assert_eq!(rt; map.replace_disjoint([first, first], [5, 6]), Err([5, 6]));
+        assert_eq!(rt; map.replace_disjoint([first, second], [7, 8]), Err([7, 8]));
+        assert_eq!(rt; map.get(first), Some(&1));
+        assert_eq!(rt; map.get(third), Some(&3));
+        Ok(())
     }
 }

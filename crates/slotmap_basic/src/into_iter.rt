@@ -9,7 +9,11 @@ use slotmap_core::keys::{Key, KeyData};
 use std::alloc::AllocError;
 use std::marker::{Model, PhantomData};
 
-/// A walk over the keys and values of a map, by value, seen as the list of those that are still to come.
+/// A walk over the live keys of a map and their values, by value and by rising index: what a `for` over a map takes.
+///
+/// A contract sees it as the list of the pairs that are still to come. At its end it stays there. A full walk reads the
+/// version of each place once, up to the last live one, and takes no memory. Values that it has not handed out are
+/// dropped with it.
 #[derive(Drop)]
 pub struct IntoIter<K, V> {
     versions: Vec<u32>,
@@ -34,7 +38,7 @@ impl<K, V> Model for IntoIter<K, V> {
 }
 
 impl<K, V> IntoIter<K, V> {
-    /// How many pairs are still to come.
+    /// How many pairs are still to come, in constant time.
     pub fn len(&self) -> usize
         ensures { result ≡ length self.now }
     {
@@ -43,7 +47,10 @@ impl<K, V> IntoIter<K, V> {
 }
 
 impl<K, V: Clone> IntoIter<K, V> {
-    /// A second walk over what is still to come.
+    /// A second walk over the pairs that are still to come, with clones of the values.
+    ///
+    /// The caller answers for it that a clone of a value equals the value. Where there is no memory it refuses, and the
+    /// walk stays as it is. It copies each place of the map.
     pub fn clone(&self) -> Result<Self, AllocError>
         requires { (x y : V) → V.is_clone x y → y ≡ x }
         ensures { IfOk result (λ copy. copy ≡ self.now) }
@@ -113,5 +120,30 @@ impl<K: Key, V: Drop> IntoIterator for SlotMap<K, V> {
             left: num_elems as usize,
             keys: PhantomData,
         }
+    }
+}
+
+#[cfg(test)]
+mod tests {
+    use super::*;
+    use slotmap_core::keys::DefaultKey;
+    use std::test::Fail;
+
+    #[test]
+    fn walks(rt: HostRuntime) -> Result<(), Fail> {
+        let mut map: SlotMap<DefaultKey, u8> = SlotMap::new(rt.alloc())?;
+        let first = map.insert(10)?;
+        let second = map.insert(20)?;
+        let third = map.insert(30)?;
+        assert_eq!(rt; map.remove(second), Some(20));
+
+        let mut pairs = map.into_iter();
+        assert_eq!(rt; pairs.next(), Some((first, 10)));
+        let mut again = pairs.clone()?;
+        assert_eq!(rt; pairs.next(), Some((third, 30)));
+        assert_eq!(rt; pairs.next(), None);
+        assert_eq!(rt; again.len(), 1);
+        assert_eq!(rt; again.next(), Some((third, 30)));
+        Ok(())
     }
 }

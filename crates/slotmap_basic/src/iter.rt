@@ -9,7 +9,10 @@ use slotmap_core::keys::{Key, KeyData};
 use std::alloc::AllocError;
 use std::marker::{Model, PhantomData};
 
-/// A walk over the keys and values of a map, seen as the list of those that are still to come.
+/// A walk over the live keys of a map and their values, by rising index: see [`SlotMap::iter`].
+///
+/// A contract sees it as the list of the pairs that are still to come. At its end it stays there. A clone of it walks over
+/// the same pairs, and takes no memory.
 #[derive(Drop)]
 pub struct Iter<'a, K, V> {
     versions: &'a [u32],
@@ -34,7 +37,7 @@ impl<'a, K, V> Model for Iter<'a, K, V> {
 }
 
 impl<'a, K, V> Iter<'a, K, V> {
-    /// How many pairs are still to come.
+    /// How many pairs are still to come, in constant time.
     pub fn len(&self) -> usize
         ensures { result ≡ length self.now }
     {
@@ -89,7 +92,10 @@ impl<'a, K: Key, V> Iterator for Iter<'a, K, V> {
     }
 }
 
-/// A walk over the keys of a map, seen as the list of those that are still to come.
+/// A walk over the live keys of a map, by rising index: see [`SlotMap::keys`].
+///
+/// A contract sees it as the list of the keys that are still to come. At its end it stays there. A clone of it walks over
+/// the same keys, and takes no memory.
 #[derive(Drop)]
 pub struct Keys<'a, K, V> {
     pairs: Iter<'a, K, V>,
@@ -105,7 +111,7 @@ impl<'a, K, V> Model for Keys<'a, K, V> {
 }
 
 impl<'a, K, V> Keys<'a, K, V> {
-    /// How many keys are still to come.
+    /// How many keys are still to come, in constant time.
     pub fn len(&self) -> usize
         ensures { result ≡ length self.now }
     {
@@ -147,7 +153,10 @@ impl<'a, K: Key, V> Iterator for Keys<'a, K, V> {
     }
 }
 
-/// A walk over the values of a map, seen as the list of those that are still to come.
+/// A walk over the values of a map, by rising index of their keys: see [`SlotMap::values`].
+///
+/// A contract sees it as the list of the values that are still to come. At its end it stays there. A clone of it walks over
+/// the same values, and takes no memory.
 #[derive(Drop)]
 pub struct Values<'a, K, V> {
     pairs: Iter<'a, K, V>,
@@ -162,7 +171,7 @@ impl<'a, K, V> Model for Values<'a, K, V> {
 }
 
 impl<'a, K, V> Values<'a, K, V> {
-    /// How many values are still to come.
+    /// How many values are still to come, in constant time.
     pub fn len(&self) -> usize
         ensures { result ≡ length self.now }
     {
@@ -205,7 +214,19 @@ impl<'a, K: Key, V> Iterator for Values<'a, K, V> {
 }
 
 impl<K: Key, V> SlotMap<K, V> {
-    /// The live keys and their values.
+    /// A walk over the live keys and their values, by rising index.
+    ///
+    /// It is made in constant time. A full walk reads the version of each place once, up to the last live one, and takes no
+    /// memory. No walk lends the values for writing: call `retain` with a closure that writes and answers true.
+    ///
+    /// ```
+    /// for (key, value) in map.iter() {
+    ///     if *value > most {
+    ///         most = *value;
+    ///         best = key;
+    ///     }
+    /// }
+    /// ```
     pub fn iter(&self) -> Iter<'_, K, V>
         ensures listing { IsListing self.now.live result }
         ensures in_order { result ≡ map.entries self.now.live }
@@ -219,7 +240,9 @@ impl<K: Key, V> SlotMap<K, V> {
         }
     }
 
-    /// The live keys.
+    /// A walk over the live keys, by rising index.
+    ///
+    /// It costs the same as [`SlotMap::iter`].
     pub fn keys(&self) -> Keys<'_, K, V>
         ensures listing { IsKeyListing self.now.live result }
         ensures in_order { result ≡ map.keys self.now.live }
@@ -227,7 +250,10 @@ impl<K: Key, V> SlotMap<K, V> {
         Keys { pairs: self.iter() }
     }
 
-    /// The values of the live keys.
+    /// A walk over the values of the live keys, by rising index of their keys.
+    ///
+    /// It costs the same as [`SlotMap::iter`]. No walk lends the values for writing: call `retain` with a closure that
+    /// writes and answers true.
     pub fn values(&self) -> Values<'_, K, V>
         ensures listing { IsValueListing self.now.live result }
         ensures in_order { result ≡ map.values self.now.live }
@@ -245,5 +271,43 @@ impl<'a, K: Key, V> IntoIterator for &'a SlotMap<K, V> {
 
     fn into_iter(self) -> Iter<'a, K, V> {
         self.iter()
+    }
+}
+
+#[cfg(test)]
+mod tests {
+    use super::*;
+    use slotmap_core::keys::DefaultKey;
+    use std::test::Fail;
+
+    #[test]
+    fn walks(rt: HostRuntime) -> Result<(), Fail> {
+        let mut map: SlotMap<DefaultKey, u8> = SlotMap::new(rt.alloc())?;
+        let first = map.insert(10)?;
+        let second = map.insert(20)?;
+        let third = map.insert(30)?;
+        assert_eq!(rt; map.remove(second), Some(20));
+
+        let mut pairs = map.iter();
+        let mut again = pairs.clone()?;
+        assert_eq!(rt; pairs.next(), Some((first, &10)));
+        assert_eq!(rt; pairs.next(), Some((third, &30)));
+        assert_eq!(rt; pairs.next(), None);
+        assert_eq!(rt; again.next(), Some((first, &10)));
+        assert_eq!(rt; again.len(), 1);
+
+        let mut keys = map.keys();
+        assert_eq!(rt; keys.next(), Some(first));
+        assert_eq!(rt; keys.size_hint(), (1, Some(1)));
+        let mut values = map.values();
+        assert_eq!(rt; values.next(), Some(&10));
+        assert_eq!(rt; values.next(), Some(&30));
+
+        let mut last = 0;
+        for (_, value) in &map {
+            last = *value;
+        }
+        assert_eq!(rt; last, 30);
+        Ok(())
     }
 }

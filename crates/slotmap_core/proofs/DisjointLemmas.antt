@@ -45,9 +45,6 @@ module _ {V : Type 0} where
     pub rest : drop i ws ≡ drop i vs
     pub well : IsContent true now
 
-  pub Exchanged-start : (old : Content V) (ks : List Key) (vs : List V) → CanReplace old ks → IsContent true old → Exchanged old ks vs old vs 0
-  Exchanged-start old ks vs can well = record { can = can; long = refl; put = refl; taken = refl; rest = refl; well = well }
-
 module _ {V : Type 0} (old : Content V) (ks : List Key) (vs : List V) (now : Content V) (ws : List V) (i : ℕ) (done : Exchanged old ks vs now ws i) where
   -- the next key still has its old value
   next_value : (d : Key) → i < length ks → map.get now.live (get_or ks i d) ≡ map.get old.live (get_or ks i d)
@@ -78,12 +75,6 @@ module _ {V : Type 0} (old : Content V) (ks : List Key) (vs : List V) (now : Con
     where
       first : (x y : V) (xs ys : List V) → x ∷ xs ≡ y ∷ ys → x ≡ y
       first x y xs ys e = cc
-
-  pub Exchanged-done : length ks ≡ i → length vs ≡ i → (now ≡ with_values old ks vs) × AreValuesOf old ks ws
-  Exchanged-done e f = (
-    done.put ∙ ap (λ xs. with_values old xs (take i vs)) (take_all i ks (omega arith)) ∙ ap (with_values old ks) (take_all i vs (omega arith)),
-    ap (map_list (map.get old.live)) (sym (take_all i ks (omega arith))) ∙ done.taken ∙ ap (map_list Some) (take_all i ws (omega (arith, done.long))),
-  )
 
 -- a look at keys of any type, one after another
 module _ {V K : Type 0} (c : Content V) (data_of : K → Key) (ks : List K) (i : ℕ) (k : K) (within : i < length ks) (at : k ≡ get_or ks i k) where
