@@ -122,28 +122,3 @@ impl<K: Key, V: Drop> IntoIterator for SlotMap<K, V> {
         }
     }
 }
-
-#[cfg(test)]
-mod tests {
-    use super::*;
-    use slotmap_core::keys::DefaultKey;
-    use std::test::Fail;
-
-    #[test]
-    fn walks(rt: HostRuntime) -> Result<(), Fail> {
-        let mut map: SlotMap<DefaultKey, u8> = SlotMap::new(rt.alloc())?;
-        let first = map.insert(10)?;
-        let second = map.insert(20)?;
-        let third = map.insert(30)?;
-        assert_eq!(rt; map.remove(second), Some(20));
-
-        let mut pairs = map.into_iter();
-        assert_eq!(rt; pairs.next(), Some((first, 10)));
-        let mut again = pairs.clone()?;
-        assert_eq!(rt; pairs.next(), Some((third, 30)));
-        assert_eq!(rt; pairs.next(), None);
-        assert_eq!(rt; again.len(), 1);
-        assert_eq!(rt; again.next(), Some((third, 30)));
-        Ok(())
-    }
-}
