@@ -2,6 +2,7 @@
 //! and from the Rust crate, never from this port's own answers.
 
 mod drains;
+mod drops;
 mod keys;
 mod maps;
 mod runs;
