@@ -39,8 +39,8 @@ impl<K: Key, V: Clone> SlotMap<K, V> {
 
     /// Makes this map a copy of another, as [`SlotMap::clone`] does, and drops what it had.
     ///
-    /// Keys of the map as it was are worth no more than keys of any other map. Where there is no memory it refuses, and the
-    /// map stays as it is: the copy is made first, so for a while there are both.
+    /// A key that this map has handed out before may then stand for another value. Where there is no memory it refuses, and
+    /// the map stays as it is: the copy is made first, so for a while there are both.
     pub fn clone_from(&mut self, source: &Self) -> Result<(), AllocError>
     where
         V: Drop,

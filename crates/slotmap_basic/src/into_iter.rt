@@ -9,7 +9,7 @@ use slotmap_core::keys::{Key, KeyData};
 use std::alloc::AllocError;
 use std::marker::{Model, PhantomData};
 
-/// A walk over the live keys of a map and their values, by value and by rising index: what a `for` over a map takes.
+/// A walk over the live keys of a map and their values, by value and by ascending index: what a `for` over a map takes.
 ///
 /// A contract sees it as the list of the pairs that are still to come. At its end it stays there. A full walk reads the
 /// version of each place once, up to the last live one, and takes no memory. Values that it has not handed out are
