@@ -35,6 +35,11 @@ once_pushed [] i once new = (λ on. on, tt)
 once_pushed (x ∷ xs) i once new =
     (λ on. elim (on_pushed xs i x on) [ inl same ↦ new (inl (sym same)) | inr rest ↦ once.0 rest ], once_pushed xs i once.1 (λ on. new (inr on)))
 
+-- the stack with the index of one slot more, if it is vacant, on top
+abbrev pub stacked_on : Option (ℕ × ℕ) → List ℕ → List ℕ
+stacked_on None is = is
+stacked_on (Some e) is = e.0 ∷ is
+
 module _ {V : Type 0} where
   -- the vacant indices of slots of which the first has index i
   abbrev stack_from : ℕ → List (SlotRecord V) → List ℕ
@@ -105,6 +110,31 @@ module _ {V : Type 0} where
       one : (o : Option (ℕ × ℕ)) → length (add (λ is e. is ++ e.0 ∷ []) o (stack_from (i + 1) slots)) ≡ cond (is_some o) 1 0 + length (stack_from (i + 1) slots)
       one None = omega arith
       one (Some e) = omega (arith, length_push (stack_from (i + 1) slots) e.0)
+
+  pushed_from : (i : ℕ) (slots : List (SlotRecord V)) (slot : SlotRecord V) → stack_from i (slots ++ slot ∷ []) ≡ stacked_on (vacant_slot (i + length slots) slot) (stack_from i slots)
+  pushed_from i [] slot =
+      let at : i ≡ i + 0 = omega arith in
+      one (vacant_slot i slot) ∙ ap (λ k. stacked_on (vacant_slot k slot) []) at
+    where
+      one : (o : Option (ℕ × ℕ)) → add (λ is e. is ++ e.0 ∷ []) o [] ≡ stacked_on o []
+      one None = refl
+      one (Some e) = refl
+  pushed_from i (first ∷ slots) slot =
+      let at : i + 1 + length slots ≡ i + suc (length slots) = omega arith in
+      ap (add (λ is e. is ++ e.0 ∷ []) (vacant_slot i first)) (pushed_from (i + 1) slots slot ∙ ap (λ k. stacked_on (vacant_slot k slot) (stack_from (i + 1) slots)) at)
+      ∙ passed (vacant_slot i first) (vacant_slot (i + suc (length slots)) slot)
+    where
+      passed : (o p : Option (ℕ × ℕ)) → add (λ is e. is ++ e.0 ∷ []) o (stacked_on p (stack_from (i + 1) slots)) ≡ stacked_on p (add (λ is e. is ++ e.0 ∷ []) o (stack_from (i + 1) slots))
+      passed None p = refl
+      passed (Some e) None = refl
+      passed (Some e) (Some f) = refl
+
+  -- one slot more
+  pub start_stack_push : (slots : List (SlotRecord V)) (slot : SlotRecord V) → start_stack (slots ++ slot ∷ []) ≡ stacked_on (vacant_slot (length slots) slot) (start_stack slots)
+  unfolding start_stack
+  start_stack_push slots slot =
+      let at : 0 + length slots ≡ length slots = omega arith in
+      pushed_from 0 slots slot ∙ ap (λ k. stacked_on (vacant_slot k slot) (stack_from 0 slots)) at
 
   pub length-start_stack : (slots : List (SlotRecord V)) → length (start_stack slots) ≡ map.len (start_next slots)
   unfolding start_stack start_next
