@@ -92,7 +92,9 @@ fn each_command_is_answered(rt: HostRuntime) -> Result<(), Fail> {
     assert!(rt; matches!(&replies[6], Reply::Len(1)));
     assert!(rt; matches!(&replies[7], Reply::Done));
     assert!(rt; matches!(&replies[8], Reply::TooGreat));
-    assert!(rt; matches!(&replies[9], Reply::Drained(pairs) if pairs.len() == 1 && pairs[0].1 == 16));
+    assert!(rt;
+        matches!(&replies[9], Reply::Drained(pairs) if pairs.len() == 1 && pairs[0].1 == 16)
+    );
     assert!(rt; matches!(&replies[10], Reply::Taken(None)));
     assert!(rt; matches!(&replies[11], Reply::Done));
     assert!(rt; matches!(&replies[12], Reply::Key(made) if *made == key(12884901889)));
