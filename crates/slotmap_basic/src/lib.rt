@@ -15,7 +15,6 @@ mod drain;
 mod retain;
 
 pub use drain::Drain;
-
 use slotmap_core::errors::{
     InsertError, InsertWithError, ReattachError, ReserveError, TryInsertError,
 };
