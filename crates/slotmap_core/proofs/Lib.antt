@@ -17,6 +17,7 @@ pub mod OrderLemmas
 pub mod IndexLemmas
 pub mod VisitLemmas
 pub mod RetainLemmas
+pub mod AgainLemmas
 pub mod SweepLemmas
 pub mod ContentsLemmas
 pub mod StartLemmas
