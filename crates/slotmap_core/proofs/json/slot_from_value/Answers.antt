@@ -1,4 +1,4 @@
-use Rattle.std.proofs.Common.{◌≡◌, ◌∙◌, Ok, Err, Some, refl, sym, rules}
+use Rattle.std.proofs.Common.{◌≡◌, Ok, Err, Some, refl, sym, rules}
 use Rattle.std.proofs.lemmas.Fn.{says_at}
 use Rattle.serde_json.specs.View.{view}
 use Rattle.slotmap_core.specs.Json.{ReadsJson, ok_map}

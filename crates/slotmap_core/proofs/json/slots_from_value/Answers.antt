@@ -1,6 +1,6 @@
-use Rattle.std.proofs.Common.{◌≡◌, ◌+◌, ◌∙◌, Some, Err, take, map, sym, ap, subst, rules, arith}
+use Rattle.std.proofs.Common.{◌≡◌, ◌∙◌, Some, Err, ap, rules, arith}
 use Rattle.serde_json.specs.View.{view, items_view}
-use Rattle.slotmap_core.specs.Json.{ReadsJson, ReadsAll}
+use Rattle.slotmap_core.specs.Json.{ReadsJson}
 use Rattle.slotmap_core.specs.declared.errors.JsonError.TheVariants.{Memory}
 use Rattle.slotmap_core.proofs.JsonLemmas.{some_asked, has_elements, reads_further, refuses_at}
 use Rattle.slotmap_core.proofs.json.slots_from_value.Goals as goal

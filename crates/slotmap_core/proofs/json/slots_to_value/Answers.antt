@@ -1,7 +1,3 @@
-use Rattle.std.proofs.Common.{◌+◌, take, map, sym, subst, ap, ◌∙◌}
-use Rattle.std.proofs.lemmas.List.{map-append}
-use Rattle.std.specs.List.{AllZip}
-use Rattle.serde_json.specs.View.{view}
 use Rattle.slotmap_core.specs.Json.{GivesJson, IsSlotJson}
 use Rattle.slotmap_core.proofs.JsonLemmas.{goes_further}
 use Rattle.slotmap_core.proofs.json.slots_to_value.Goals as goal
