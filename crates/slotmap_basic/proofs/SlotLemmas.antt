@@ -254,7 +254,7 @@ module _ {V : Type 0} (s : Slots V) (head free elems : ℕ) (sound : IsSound s h
       IsSound-written s head free elems sound i v InUse (Some x) at ((v + 1) % 2 ^ 32) (Free head) None (i ∷ sound.stack) i (free + 1) (elems - 1)
       (IsPlace-none ((v + 1) % 2 ^ 32) (Free head) (even_after v version_is.1) (λ e. absurd (cc)))
       IsFreeList-freed (omega (arith, sound.counted)) (len_live_less (Vacant ((v + 1) % 2 ^ 32 + 1)) refl)
-      (IsStacked-freed (places_of s) sound.stack sound.stacked i v ((v + 1) % 2 ^ 32 + 1) x found (omega (arith, version_is.0, version_is.1), omega (arith, version_is.0, version_is.1)))
+      (IsStacked-freed (places_of s) sound.stack sound.stacked i v ((v + 1) % 2 ^ 32 + 1) x found (omega (arith, version_is.0, version_is.1), omega (arith, version_is.0, version_is.1)) (omega (arith, version_is.0, version_is.1)))
 
   pub after-freed : (c : ℕ) → nat_eq v last_version ≡ false → record { places = places_of (written s i ((v + 1) % 2 ^ 32) (Free head) None); vacant = walk (set s.links i (Free head)) (free + 1) i; capacity = c } ≡ removed (record { places = places_of s; vacant = walk s.links free head; capacity = c }) (key i v)
   after-freed c other =
@@ -385,6 +385,7 @@ IsSound-new V = record {
     ];
     listed = λ i on. absurd on;
     complete = λ i n positive found. absurd (omega (arith, slice_get_within (Vacant 1 ∷ []) i (Vacant n) found));
+    had_keys = λ i n positive found. absurd (omega (arith, slice_get_within (Vacant 1 ∷ []) i (Vacant n) found));
     once = tt;
     counted = sym (ap map.len (next-sentinel V 1) ∙ map.len-empty nat_cmp ℕ);
   };

@@ -143,6 +143,12 @@ module _ {V : Type 0} where
         let at = start_place_at slots i (Vacant n) positive found in
         let vacant = place_vacant at.0 (consistent_at slots limit accepted i at.0 at.1) n (sym at.2) in
         start_stack_has slots i at.0 at.1 positive vacant.0 vacant.1;
+    had_keys = λ i n positive found.
+        let at = start_place_at slots i (Vacant n) positive found in
+        let vacant = place_vacant at.0 (consistent_at slots limit accepted i at.0 at.1) n (sym at.2) in
+        let next : Vacant n ≡ Vacant (at.0.version + 1) = at.2 ∙ vacant_place at.0 (consistent_at slots limit accepted i at.0 at.1) vacant.0 vacant.1 in
+        let as_n : at.0.version + 1 ≡ n = cc in
+        subst (λ k. 1 < k) as_n (omega (arith, vacant.1));
     once = once-start_stack slots;
     counted = length-start_stack slots ∙ ap map.len (sym (next-start_places slots limit accepted));
   }

@@ -10,7 +10,7 @@ use Rattle.slotmap_core.specs.Contents.{contents, start_retired, StartsFrom}
 use Rattle.slotmap_core.specs.Places.{Place, Live, Detached, Vacant, Retired, live, detached, retired, next, retired_entry, is_kept}
 use Rattle.slotmap_core.specs.Slots.{IsConsistent, Accepts}
 use Rattle.slotmap_core.specs.StackMap.{StackMap, content, IsStacked}
-use Rattle.slotmap_core.specs.Written.{following_version, filled_slot, empty_slot, Writes, Restores, HadKeys, slot_of, slots_of}
+use Rattle.slotmap_core.specs.Written.{following_version, filled_slot, empty_slot, Writes, Restores, slot_of, slots_of}
 use Rattle.slotmap_core.specs.declared.serial.SlotRecord.{SlotRecord}
 use Rattle.slotmap_core.proofs.ContentLemmas.{live_at, kept_at}
 use Rattle.slotmap_core.proofs.ContentsLemmas.{gathers, live_in, in_contents, next_in, in_start_next, retired_in, in_start_retired}
@@ -122,7 +122,7 @@ module _ {V : Type 0} (reuses : Bool) (c : Content V) (valid : IsContent reuses 
       by i slot (AtRetired k here retired is) = subst IsConsistent (sym is) (empty_consistent 0 refl)
       by i slot (AtVacant n got is) = let odd = (valid.vacancies i n got).odd in subst IsConsistent (sym is) (empty_consistent (n - 1) (omega arith))
 
-  module _ (had_keys : HadKeys c) (read : Content V) (starts : StartsFrom slots read) where
+  module _ (read : Content V) (starts : StartsFrom slots read) where
     -- the slot of an empty place is none of a live key
     not_live : (i version : ℕ) (slot : SlotRecord V) (v : V) → slot ≡ empty_slot version → slot.value ≡ Some v → ⊥
     not_live i version slot v is valued = let wrong : ◌≡◌ {A = Option V} None (Some v) = ap (λ (s : SlotRecord V). s.value) (sym is) ∙ valued in absurd (cc)
@@ -170,7 +170,7 @@ module _ {V : Type 0} (reuses : Bool) (c : Content V) (valid : IsContent reuses 
             let same = same_key other here (is_last_key other (valid.last other is_retired)) version in
             inl (ap (set.contains c.retired) (sym same) ∙ is_retired)
         by slot (AtVacant n got is) positive spent version =
-            let later = had_keys k.index n got in
+            let later = valid.had_keys k.index n got in
             let zero_is : n - 1 ≡ 0 = ap (λ (s : SlotRecord V). s.version) (sym is) ∙ spent in
             absurd (omega arith)
 
@@ -203,13 +203,13 @@ module _ {V : Type 0} (reuses : Bool) (c : Content V) (valid : IsContent reuses 
             inr (other, is_detached, not_last other (λ e. unspent (sym same ∙ e)), here, omega (arith, valid_key.version_fits, valid_key.odd))
         by slot (AtRetired other here is_retired is) positive even unspent follows = absurd (unspent (ap (λ (s : SlotRecord V). s.version) is))
         by slot (AtVacant n got is) positive even unspent follows =
-            let later = had_keys i n got in
+            let later = valid.had_keys i n got in
             let same : n - 1 ≡ slot.version = ap (λ (s : SlotRecord V). s.version) (sym is) in
             inl (got ∙ ap Some (omega arith))
 
     where_next : (i v : ℕ) → (map.get c.next i ≡ Some v) ⊎ ((k : Key) × IsDetached c k × (is_last k ≡ false) × (k.index ≡ i) × (next_version k ≡ v)) → map.get read.next i ≡ Some v
     where_next i v (inl got) =
-        let later = had_keys i v got in
+        let later = valid.had_keys i v got in
         let odd = (valid.vacancies i v got).odd in
         let positive = (valid.vacant i (ap is_some got)).0 in
         let from : v - 1 + 1 ≡ v = omega arith in

@@ -40,10 +40,6 @@ module _ {V : Type 0} where
         ↔ ((map.get old.next i ≡ Some v) ⊎ ((k : Key) × IsDetached old k × (is_last k ≡ false) × (k.index ≡ i) × (next_version k ≡ v)))
     pub same_places : places new ≡ places old
 
-  -- each vacant place had a key before, so its next one isn't the first, of version 1
-  abbrev pub HadKeys : Content V → Type 0
-  HadKeys c = (i next : ℕ) → map.get c.next i ≡ Some next → 1 < next
-
   -- the slot that a place is written as
   abbrev pub slot_of : Place V → SlotRecord V
   slot_of (Live version v) = filled_slot version v
