@@ -35,6 +35,11 @@ once_pushed [] i once new = (λ on. on, tt)
 once_pushed (x ∷ xs) i once new =
     (λ on. elim (on_pushed xs i x on) [ inl same ↦ new (inl (sym same)) | inr rest ↦ once.0 rest ], once_pushed xs i once.1 (λ on. new (inr on)))
 
+-- the index of one slot more comes first, if it is vacant
+abbrev pub with_index : Option (ℕ × ℕ) → List ℕ → List ℕ
+with_index None is = is
+with_index (Some e) is = e.0 ∷ is
+
 module _ {V : Type 0} where
   -- the vacant indices of slots of which the first has index i
   abbrev stack_from : ℕ → List (SlotRecord V) → List ℕ
@@ -105,6 +110,27 @@ module _ {V : Type 0} where
       one : (o : Option (ℕ × ℕ)) → length (add (λ is e. is ++ e.0 ∷ []) o (stack_from (i + 1) slots)) ≡ cond (is_some o) 1 0 + length (stack_from (i + 1) slots)
       one None = omega arith
       one (Some e) = omega (arith, length_push (stack_from (i + 1) slots) e.0)
+
+  stack_push : (i : ℕ) (slots : List (SlotRecord V)) (slot : SlotRecord V) → stack_from i (slots ++ slot ∷ []) ≡ with_index (vacant_slot (i + length slots) slot) (stack_from i slots)
+  stack_push i [] slot = let at : i + 0 ≡ i = omega arith in rw at (one (vacant_slot i slot))
+    where
+      one : (o : Option (ℕ × ℕ)) → add (λ is e. is ++ e.0 ∷ []) o [] ≡ with_index o []
+      one None = refl
+      one (Some e) = refl
+  stack_push i (first ∷ slots) slot =
+      let at : i + 1 + length slots ≡ i + suc (length slots) = omega arith in
+      ap (add (λ is e. is ++ e.0 ∷ []) (vacant_slot i first)) (stack_push (i + 1) slots slot)
+      ∙ apart (vacant_slot i first) (vacant_slot (i + 1 + length slots) slot) (stack_from (i + 1) slots)
+      ∙ ap (λ k. with_index (vacant_slot k slot) (add (λ is e. is ++ e.0 ∷ []) (vacant_slot i first) (stack_from (i + 1) slots))) at
+    where
+      apart : (a b : Option (ℕ × ℕ)) (is : List ℕ) → add (λ is e. is ++ e.0 ∷ []) a (with_index b is) ≡ with_index b (add (λ is e. is ++ e.0 ∷ []) a is)
+      apart None b is = refl
+      apart (Some e) None is = refl
+      apart (Some e) (Some f) is = refl
+
+  pub start_stack-push : (slots : List (SlotRecord V)) (slot : SlotRecord V) → start_stack (slots ++ slot ∷ []) ≡ with_index (vacant_slot (length slots) slot) (start_stack slots)
+  unfolding start_stack
+  start_stack-push slots slot = let at : 0 + length slots ≡ length slots = omega arith in rw at at (stack_push 0 slots slot)
 
   pub length-start_stack : (slots : List (SlotRecord V)) → length (start_stack slots) ≡ map.len (start_next slots)
   unfolding start_stack start_next
