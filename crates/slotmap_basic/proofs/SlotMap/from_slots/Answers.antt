@@ -3,7 +3,7 @@ use Rattle.std.specs.Vec.Iter.{into_iter_items}
 use Rattle.std.proofs.lemmas.List.{length_push, nil_from_length}
 use Rattle.slotmap_core.specs.Slots.{Accepts, AllFitBelow}
 use Rattle.slotmap_core.proofs.StartFits.{starts-stack, starts-fit}
-use Rattle.slotmap_core.proofs.WrittenLemmas.{written-restores}
+use Rattle.slotmap_core.proofs.WrittenLemmas.{written-restores, written-again}
 use Rattle.slotmap_basic.proofs.SlotLemmas.{valid}
 use Rattle.slotmap_basic.proofs.ReadLemmas.{AreRead-first, AreRead-vacant, AreRead-in_use, next_consistent, taken_first, some_slots, IsSound-read, walk-read}
 use Rattle.slotmap_basic.proofs.SlotMap.from_slots.Goals.{then-is_vacant, else-is_vacant}
@@ -139,3 +139,8 @@ returns-clause-fits g c =
 
 pub returns-clause-restores : goal.returns-clause-restores
 returns-clause-restores g c = λ old well writes. written-restores true old well c.args.list.items writes _ (returns-clause-starts g c)
+
+pub returns-clause-writes_back : goal.returns-clause-writes_back
+returns-clause-writes_back g c =
+    let accepted = subst (λ l. Accepts l 4294967295) c.deref.ensures.value (c.in_ok-check_slots.ensures.ok.0 refl) in
+    λ again writes. written-again c.args.list.items 4294967295 accepted _ (returns-clause-starts g c) again writes
