@@ -1,3 +1,4 @@
 pub mod SlotLemmas
+pub mod ReadLemmas
 pub mod PairsLemmas
 pub mod DrainLemmas

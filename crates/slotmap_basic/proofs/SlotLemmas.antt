@@ -27,7 +27,7 @@ IsFreeList-set links i l [] head off linked = linked
 IsFreeList-set links i l (j ∷ js) head off linked =
     (linked.0, (linked.1.0, slice_get-set_other links i j l (λ same. off (inl (sym same))) ∙ linked.1.1, IsFreeList-set links i l js linked.1.0 (λ on. off (inr on)) linked.1.2))
 
-IsFreeList-push : (links : List Link) (l : Link) (is : List ℕ) (head : ℕ) → IsFreeList links is head → IsFreeList (links ++ l ∷ []) is head
+pub IsFreeList-push : (links : List Link) (l : Link) (is : List ℕ) (head : ℕ) → IsFreeList links is head → IsFreeList (links ++ l ∷ []) is head
 IsFreeList-push links l [] head linked = linked
 IsFreeList-push links l (j ∷ js) head linked =
     let within = slice_get_within links j _ linked.1.1 in
@@ -48,7 +48,7 @@ found_within (x ∷ xs) (suc i) within = found_within xs i (omega arith)
 -- the places
 
 module _ {V : Type 0} where
-  zip-at : (vs : List ℕ) (ls : List Link) (xs : List (Option V)) (i v : ℕ) (l : Link) (x : Option V) → slice_get vs i ≡ Some v → slice_get ls i ≡ Some l → slice_get xs i ≡ Some x → slice_get (zip_places vs ls xs) i ≡ Some (place_of v l x)
+  pub zip-at : (vs : List ℕ) (ls : List Link) (xs : List (Option V)) (i v : ℕ) (l : Link) (x : Option V) → slice_get vs i ≡ Some v → slice_get ls i ≡ Some l → slice_get xs i ≡ Some x → slice_get (zip_places vs ls xs) i ≡ Some (place_of v l x)
   zip-at [] ls xs i v l x at_v at_l at_x = absurd (cc)
   zip-at (w ∷ vs) [] xs i v l x at_v at_l at_x = absurd (cc)
   zip-at (w ∷ vs) (m ∷ ls) [] i v l x at_v at_l at_x = absurd (cc)
@@ -68,7 +68,7 @@ module _ {V : Type 0} where
   zip-set (w ∷ vs) (m ∷ ls) (y ∷ xs) zero v l x = refl
   zip-set (w ∷ vs) (m ∷ ls) (y ∷ xs) (suc i) v l x = ap (λ ps. place_of w m y ∷ ps) (zip-set vs ls xs i v l x)
 
-  zip-push : (vs : List ℕ) (ls : List Link) (xs : List (Option V)) (v : ℕ) (l : Link) (x : Option V) → length ls ≡ length vs → length xs ≡ length vs → zip_places (vs ++ v ∷ []) (ls ++ l ∷ []) (xs ++ x ∷ []) ≡ zip_places vs ls xs ++ place_of v l x ∷ []
+  pub zip-push : (vs : List ℕ) (ls : List Link) (xs : List (Option V)) (v : ℕ) (l : Link) (x : Option V) → length ls ≡ length vs → length xs ≡ length vs → zip_places (vs ++ v ∷ []) (ls ++ l ∷ []) (xs ++ x ∷ []) ≡ zip_places vs ls xs ++ place_of v l x ∷ []
   zip-push [] [] [] v l x same_l same_x = refl
   zip-push [] [] (y ∷ xs) v l x same_l same_x = absurd (omega arith)
   zip-push [] (m ∷ ls) xs v l x same_l same_x = absurd (omega arith)
@@ -161,10 +161,10 @@ pub even_after : (version : ℕ) → version % 2 ≡ 1 → ((version + 1) % 2 ^ 
 even_after version odd = omega arith
 
 module _ {V : Type 0} where
-  IsPlace-live : (v : ℕ) (x : V) → v % 2 ≡ 1 → IsPlace v InUse (Some x)
+  pub IsPlace-live : (v : ℕ) (x : V) → v % 2 ≡ 1 → IsPlace v InUse (Some x)
   IsPlace-live v x odd = record { odd = (λ _. odd, λ _. refl); in_use = λ _. refl; spent = λ _ none. absurd (cc) }
 
-  IsPlace-none : (v : ℕ) (l : Link) → v % 2 ≡ 0 → (l ≡ InUse → v ≡ 0) → IsPlace {V = V} v l None
+  pub IsPlace-none : (v : ℕ) (l : Link) → v % 2 ≡ 0 → (l ≡ InUse → v ≡ 0) → IsPlace {V = V} v l None
   IsPlace-none v l even spent = record { odd = (λ some. absurd (cc), λ odd. absurd (omega arith)); in_use = λ some. absurd (cc); spent = λ is _. spent is }
 
 module _ {V : Type 0} (s : Slots V) (head free elems : ℕ) (sound : IsSound s head free elems) (i v : ℕ) (l : Link) (x : Option V) (at : IsAt s i v l x) where
@@ -254,7 +254,7 @@ module _ {V : Type 0} (s : Slots V) (head free elems : ℕ) (sound : IsSound s h
       IsSound-written s head free elems sound i v InUse (Some x) at ((v + 1) % 2 ^ 32) (Free head) None (i ∷ sound.stack) i (free + 1) (elems - 1)
       (IsPlace-none ((v + 1) % 2 ^ 32) (Free head) (even_after v version_is.1) (λ e. absurd (cc)))
       IsFreeList-freed (omega (arith, sound.counted)) (len_live_less (Vacant ((v + 1) % 2 ^ 32 + 1)) refl)
-      (IsStacked-freed (places_of s) sound.stack sound.stacked i v ((v + 1) % 2 ^ 32 + 1) x found (omega (arith, version_is.0, version_is.1), omega (arith, version_is.0, version_is.1)))
+      (IsStacked-freed (places_of s) sound.stack sound.stacked i v ((v + 1) % 2 ^ 32 + 1) x found (omega (arith, version_is.0, version_is.1), omega (arith, version_is.0, version_is.1)) (omega (arith, version_is.0, version_is.1)))
 
   pub after-freed : (c : ℕ) → nat_eq v last_version ≡ false → record { places = places_of (written s i ((v + 1) % 2 ^ 32) (Free head) None); vacant = walk (set s.links i (Free head)) (free + 1) i; capacity = c } ≡ removed (record { places = places_of s; vacant = walk s.links free head; capacity = c }) (key i v)
   after-freed c other =
@@ -337,6 +337,13 @@ module _ {V : Type 0} (s : Slots V) (head free elems : ℕ) (sound : IsSound s h
             gives = ap (λ m. map.get m k) (sym all) ∙ get-live_place s head free elems sound k w here;
           }
 
+-- a clone of an optional value equals it, where a clone of a value does
+pub same_options : {V : Type 0} (R : Option V → Option V → Type 0) → ((w : V) → R None (Some w) → ⊥) → ((v : V) → R (Some v) None → ⊥) → ((v w : V) → R (Some v) (Some w) → w ≡ v) → (x y : Option V) → R x y → y ≡ x
+same_options R more less both None None r = refl
+same_options R more less both None (Some w) r = absurd (more w r)
+same_options R more less both (Some v) None r = absurd (less v r)
+same_options R more less both (Some v) (Some w) r = ap Some (both v w r)
+
 -- what a read of a vector gave is the element that is known to be there
 pub same_read : {X : Type 0} (xs : List X) (i : ℕ) (read known : X) → read ≡ get_or xs i read → slice_get xs i ≡ Some known → read ≡ known
 same_read xs i read known at found = at ∙ get_or_from_slice_get xs i known read found
@@ -385,10 +392,33 @@ IsSound-new V = record {
     ];
     listed = λ i on. absurd on;
     complete = λ i n positive found. absurd (omega (arith, slice_get_within (Vacant 1 ∷ []) i (Vacant n) found));
+    had_keys = λ i n positive found. absurd (omega (arith, slice_get_within (Vacant 1 ∷ []) i (Vacant n) found));
     once = tt;
     counted = sym (ap map.len (next-sentinel V 1) ∙ map.len-empty nat_cmp ℕ);
   };
 }
+
+-- one element more in each vector, at the end
+module _ {V : Type 0} (s : Slots V) (v : ℕ) (l : Link) (x : Option V) where
+  abbrev pub with_one : Slots V
+  with_one = record { versions = s.versions ++ v ∷ []; links = s.links ++ l ∷ []; values = s.values ++ x ∷ [] }
+
+  pub placed-push : length s.links ≡ length s.versions → length s.values ≡ length s.versions → ((i u : ℕ) (m : Link) (y : Option V) → IsAt s i u m y → IsPlace u m y) → IsPlace v l x
+      → (i u : ℕ) (m : Link) (y : Option V) → IsAt with_one i u m y → IsPlace u m y
+  placed-push links_length values_length placed new i u m y there = elim (cases_eq i (length s.versions)) [
+    | inl same ↦
+        let at_l : i ≡ length s.links = omega arith in
+        let at_x : i ≡ length s.values = omega arith in
+        let here_u : v ≡ u = same_Some v u (sym (slice_get_push s.versions v) ∙ ap (slice_get (s.versions ++ v ∷ [])) (sym same) ∙ there.version) in
+        let here_m : l ≡ m = same_Some l m (sym (slice_get_push s.links l) ∙ ap (slice_get (s.links ++ l ∷ [])) (sym at_l) ∙ there.link) in
+        let here_y : x ≡ y = same_Some x y (sym (slice_get_push s.values x) ∙ ap (slice_get (s.values ++ x ∷ [])) (sym at_x) ∙ there.value) in
+        subst (λ u. IsPlace u m y) here_u (subst (λ m. IsPlace v m y) here_m (subst (IsPlace v l) here_y new))
+    | inr other ↦ placed i u m y (record {
+      version = sym (slice_get_push_other s.versions v i other) ∙ there.version;
+      link = sym (slice_get_push_other s.links l i (λ e. other (e ∙ links_length))) ∙ there.link;
+      value = sym (slice_get_push_other s.values x i (λ e. other (e ∙ values_length))) ∙ there.value;
+    })
+  ]
 
 -- what the three vectors are, as a map
 abbrev pub map_of : {V : Type 0} → Slots V → ℕ → ℕ → ℕ → StackMap V
@@ -419,20 +449,7 @@ module _ {V : Type 0} (s : Slots V) (head free elems : ℕ) (sound : IsSound s h
   IsSound-pushed w fits = record {
     links_length = omega (arith, length_push s.links InUse, length_push s.versions 1, sound.links_length);
     values_length = omega (arith, length_push s.values (Some w), length_push s.versions 1, sound.values_length);
-    placed = λ j u n z there. elim (cases_eq j (length s.versions)) [
-      | inl same ↦
-          let at_l : j ≡ length s.links = omega (arith, sound.links_length) in
-          let at_x : j ≡ length s.values = omega (arith, sound.values_length) in
-          let here_u : 1 ≡ u = same_Some 1 u (sym (slice_get_push s.versions 1) ∙ ap (slice_get (s.versions ++ 1 ∷ [])) (sym same) ∙ there.version) in
-          let here_n : InUse ≡ n = same_Some InUse n (sym (slice_get_push s.links InUse) ∙ ap (slice_get (s.links ++ InUse ∷ [])) (sym at_l) ∙ there.link) in
-          let here_z : Some w ≡ z = same_Some (Some w) z (sym (slice_get_push s.values (Some w)) ∙ ap (slice_get (s.values ++ Some w ∷ [])) (sym at_x) ∙ there.value) in
-          subst (λ u. IsPlace u n z) here_u (subst (λ n. IsPlace 1 n z) here_n (subst (IsPlace 1 InUse) here_z (IsPlace-live 1 w refl)))
-      | inr other ↦ sound.placed j u n z (record {
-        version = sym (slice_get_push_other s.versions 1 j other) ∙ there.version;
-        link = sym (slice_get_push_other s.links InUse j (λ e. other (e ∙ sound.links_length))) ∙ there.link;
-        value = sym (slice_get_push_other s.values (Some w) j (λ e. other (e ∙ sound.values_length))) ∙ there.value;
-      })
-    ];
+    placed = placed-push s 1 InUse (Some w) sound.links_length sound.values_length sound.placed (IsPlace-live 1 w refl);
     stack = sound.stack;
     linked = IsFreeList-push s.links InUse sound.stack head sound.linked;
     counted = sound.counted;

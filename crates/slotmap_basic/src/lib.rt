@@ -23,6 +23,7 @@ mod iter;
 mod primary;
 mod remove;
 mod retain;
+mod slots;
 
 pub use drain::Drain;
 pub use into_iter::IntoIter;

@@ -115,6 +115,7 @@ module _ {V : Type 0} (m : StackMap V) (stacked : IsStacked m.places m.vacant) w
         let version = stacked.versions i (Vacant v) at.1 in
         let within = slice_get_within m.places i (Vacant v) at.1 in
         record { index_fits = omega (arith, stacked.fits); version_fits = version.0; odd = version.1; one_null = λ e. absurd (omega (arith, stacked.fits)) };
+    had_keys = λ i v is. let at = vacant_at m.places i v is in stacked.had_keys i v at.0 at.1;
     last = λ k is. eq-eqb k.version last_version (retired_at m.places k is).1;
     within = λ k uses.
         let at = used_at k uses in
@@ -186,6 +187,7 @@ module _ {V : Type 0} (reuses : Bool) (c : Content V) (well : IsContent reuses c
   IsContent-with_value = record {
     keys = λ q h. well.keys q (uses_before q h);
     vacancies = well.vacancies;
+    had_keys = well.had_keys;
     last = well.last;
     within = λ q h. rw same_len (well.within q (uses_before q h));
     vacant = λ i h. rw same_len (well.vacant i h);

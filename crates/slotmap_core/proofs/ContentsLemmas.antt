@@ -35,7 +35,7 @@ module _ {P K X M : Type 0} {same_key : K → K → Bool} {empty : M} {get : M �
       get-gather laws index entry fits ps q ∙ ap (look laws index entry fits q) found ∙ ap (λ o. pick laws index entry fits q o None) gives
       ∙ ap (λ b. cond b (Some x) None) (laws.itself q)
 
-vacant_split : (version : ℕ) → is_vacant_version version ≡ true → (version % 2 ≡ 0) × (version ≢ 0)
+pub vacant_split : (version : ℕ) → is_vacant_version version ≡ true → (version % 2 ≡ 0) × (version ≢ 0)
 vacant_split version is =
     let parts = of_and (version % 2 == 0) (not (version == 0)) is in
     (eqb-true (version % 2) 0 parts.0, λ e. (let zero_is : (version == 0) ≡ true = eq-eqb version 0 e in let wrong : not true ≡ true = ap not (sym zero_is) ∙ parts.1 in absurd (cc)))

@@ -12,7 +12,6 @@ use Rattle.slotmap_core.specs.Machine.{IsIssued}
 use Rattle.slotmap_core.specs.Places.{live, detached, retired, next}
 use Rattle.slotmap_core.specs.Slots.{Accepts, AllFitBelow}
 use Rattle.slotmap_core.specs.StackMap.{StackMap, content, IsStacked}
-use Rattle.slotmap_core.specs.Written.{HadKeys}
 use Rattle.slotmap_core.specs.declared.serial.SlotRecord.{SlotRecord}
 use Rattle.slotmap_core.proofs.ContentLemmas.{IsContent-stacked}
 use Rattle.slotmap_core.proofs.ContentsLemmas.{LiveSlot, live_in, in_contents, next_in, in_start_next, retired_in, in_start_retired, issued_in, in_start_issued}
@@ -20,13 +19,6 @@ use Rattle.slotmap_core.proofs.PlacesLemmas.{key, total}
 use Rattle.slotmap_core.proofs.Retired.{Spent, retired_is}
 use Rattle.slotmap_core.proofs.StartStack.{IsStacked-start_places}
 use Rattle.slotmap_core.proofs.StartLemmas.{consistent_at, length-start_places, sentinel-start_places, live-start_places, retired-start_places, next-start_places, detached-start_places}
-
--- each vacant place of such a map had a key before
-pub HadKeys-start : {V : Type 0} (slots : List (SlotRecord V)) (c : Content V) → StartsFrom slots c → HadKeys c
-HadKeys-start slots c starts i v got =
-    let at = next_in slots i v (ap (λ m. map.get m i) (sym starts.next) ∙ got) in
-    let facts = at.2 in
-    omega (arith, facts.unspent, facts.is)
 
 module _ {V : Type 0} (slots : List (SlotRecord V)) (limit : ℕ) (accepted : Accepts slots limit) where
   -- where the places are those of the slots, and the stack, if there is one, is that of the vacant ones

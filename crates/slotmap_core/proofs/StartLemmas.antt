@@ -21,10 +21,10 @@ even_of : (n : ℕ) → (n % 2 ≡ 1 → ⊥) → n % 2 ≡ 0
 even_of n other = elim (cases_eq (n % 2) 1) [ inl odd ↦ absurd (other odd) | inr differs ↦ omega arith ]
 
 module _ {V : Type 0} (slot : SlotRecord V) (consistent : IsConsistent slot) where
-  odd_of : (v : V) → slot.value ≡ Some v → slot.version % 2 ≡ 1
+  pub odd_of : (v : V) → slot.value ≡ Some v → slot.version % 2 ≡ 1
   odd_of v valued = consistent.0 (ap is_some valued)
 
-  even_where : slot.value ≡ None → slot.version % 2 ≡ 0
+  pub even_where : slot.value ≡ None → slot.version % 2 ≡ 0
   even_where none = even_of slot.version (λ odd. let some = consistent.1 odd in let wrong : false ≡ true = sym (ap is_some none) ∙ some in absurd (cc))
 
   -- what an accepted slot gives is what its place gives
@@ -136,10 +136,10 @@ module _ {V : Type 0} where
   length-start_places [] = refl
   length-start_places (first ∷ rest) = ap suc (length-map rest place_of)
 
-  -- one slot more makes one place more
-  pub start_places_push : (slots : List (SlotRecord V)) (slot : SlotRecord V) → 0 < length slots → start_places (slots ++ slot ∷ []) ≡ start_places slots ++ place_of slot ∷ []
-  start_places_push [] slot some = absurd (omega arith)
-  start_places_push (first ∷ rest) slot some = ap (λ ps. Vacant 1 ∷ ps) (map-append place_of rest (slot ∷ []))
+  -- one slot more becomes one place more
+  pub start_places-push : (slots : List (SlotRecord V)) (slot : SlotRecord V) → 0 < length slots → start_places (slots ++ slot ∷ []) ≡ start_places slots ++ place_of slot ∷ []
+  start_places-push [] slot positive = absurd (omega arith)
+  start_places-push (first ∷ rest) slot positive = ap (λ ps. Vacant 1 ∷ ps) (map-append place_of rest (slot ∷ []))
 
   -- the slot that a place is made of, and the other way round
   pub start_place_at : (slots : List (SlotRecord V)) (i : ℕ) (p : Place V) → 0 < i → slice_get (start_places slots) i ≡ Some p → (slot : SlotRecord V) × (slice_get slots i ≡ Some slot) × (p ≡ place_of slot)

@@ -35,10 +35,10 @@ once_pushed [] i once new = (λ on. on, tt)
 once_pushed (x ∷ xs) i once new =
     (λ on. elim (on_pushed xs i x on) [ inl same ↦ new (inl (sym same)) | inr rest ↦ once.0 rest ], once_pushed xs i once.1 (λ on. new (inr on)))
 
--- the stack with the index of one slot more, if it is vacant, on top
-abbrev pub stacked_on : Option (ℕ × ℕ) → List ℕ → List ℕ
-stacked_on None is = is
-stacked_on (Some e) is = e.0 ∷ is
+-- the index of one slot more comes first, if it is vacant
+abbrev pub with_index : Option (ℕ × ℕ) → List ℕ → List ℕ
+with_index None is = is
+with_index (Some e) is = e.0 ∷ is
 
 module _ {V : Type 0} where
   -- the vacant indices of slots of which the first has index i
@@ -111,30 +111,26 @@ module _ {V : Type 0} where
       one None = omega arith
       one (Some e) = omega (arith, length_push (stack_from (i + 1) slots) e.0)
 
-  pushed_from : (i : ℕ) (slots : List (SlotRecord V)) (slot : SlotRecord V) → stack_from i (slots ++ slot ∷ []) ≡ stacked_on (vacant_slot (i + length slots) slot) (stack_from i slots)
-  pushed_from i [] slot =
-      let at : i ≡ i + 0 = omega arith in
-      one (vacant_slot i slot) ∙ ap (λ k. stacked_on (vacant_slot k slot) []) at
+  stack_push : (i : ℕ) (slots : List (SlotRecord V)) (slot : SlotRecord V) → stack_from i (slots ++ slot ∷ []) ≡ with_index (vacant_slot (i + length slots) slot) (stack_from i slots)
+  stack_push i [] slot = let at : i + 0 ≡ i = omega arith in rw at (one (vacant_slot i slot))
     where
-      one : (o : Option (ℕ × ℕ)) → add (λ is e. is ++ e.0 ∷ []) o [] ≡ stacked_on o []
+      one : (o : Option (ℕ × ℕ)) → add (λ is e. is ++ e.0 ∷ []) o [] ≡ with_index o []
       one None = refl
       one (Some e) = refl
-  pushed_from i (first ∷ slots) slot =
+  stack_push i (first ∷ slots) slot =
       let at : i + 1 + length slots ≡ i + suc (length slots) = omega arith in
-      ap (add (λ is e. is ++ e.0 ∷ []) (vacant_slot i first)) (pushed_from (i + 1) slots slot ∙ ap (λ k. stacked_on (vacant_slot k slot) (stack_from (i + 1) slots)) at)
-      ∙ passed (vacant_slot i first) (vacant_slot (i + suc (length slots)) slot)
+      ap (add (λ is e. is ++ e.0 ∷ []) (vacant_slot i first)) (stack_push (i + 1) slots slot)
+      ∙ apart (vacant_slot i first) (vacant_slot (i + 1 + length slots) slot) (stack_from (i + 1) slots)
+      ∙ ap (λ k. with_index (vacant_slot k slot) (add (λ is e. is ++ e.0 ∷ []) (vacant_slot i first) (stack_from (i + 1) slots))) at
     where
-      passed : (o p : Option (ℕ × ℕ)) → add (λ is e. is ++ e.0 ∷ []) o (stacked_on p (stack_from (i + 1) slots)) ≡ stacked_on p (add (λ is e. is ++ e.0 ∷ []) o (stack_from (i + 1) slots))
-      passed None p = refl
-      passed (Some e) None = refl
-      passed (Some e) (Some f) = refl
+      apart : (a b : Option (ℕ × ℕ)) (is : List ℕ) → add (λ is e. is ++ e.0 ∷ []) a (with_index b is) ≡ with_index b (add (λ is e. is ++ e.0 ∷ []) a is)
+      apart None b is = refl
+      apart (Some e) None is = refl
+      apart (Some e) (Some f) is = refl
 
-  -- one slot more
-  pub start_stack_push : (slots : List (SlotRecord V)) (slot : SlotRecord V) → start_stack (slots ++ slot ∷ []) ≡ stacked_on (vacant_slot (length slots) slot) (start_stack slots)
+  pub start_stack-push : (slots : List (SlotRecord V)) (slot : SlotRecord V) → start_stack (slots ++ slot ∷ []) ≡ with_index (vacant_slot (length slots) slot) (start_stack slots)
   unfolding start_stack
-  start_stack_push slots slot =
-      let at : 0 + length slots ≡ length slots = omega arith in
-      pushed_from 0 slots slot ∙ ap (λ k. stacked_on (vacant_slot k slot) (stack_from 0 slots)) at
+  start_stack-push slots slot = let at : 0 + length slots ≡ length slots = omega arith in rw at at (stack_push 0 slots slot)
 
   pub length-start_stack : (slots : List (SlotRecord V)) → length (start_stack slots) ≡ map.len (start_next slots)
   unfolding start_stack start_next
@@ -173,6 +169,12 @@ module _ {V : Type 0} where
         let at = start_place_at slots i (Vacant n) positive found in
         let vacant = place_vacant at.0 (consistent_at slots limit accepted i at.0 at.1) n (sym at.2) in
         start_stack_has slots i at.0 at.1 positive vacant.0 vacant.1;
+    had_keys = λ i n positive found.
+        let at = start_place_at slots i (Vacant n) positive found in
+        let vacant = place_vacant at.0 (consistent_at slots limit accepted i at.0 at.1) n (sym at.2) in
+        let next : Vacant n ≡ Vacant (at.0.version + 1) = at.2 ∙ vacant_place at.0 (consistent_at slots limit accepted i at.0 at.1) vacant.0 vacant.1 in
+        let as_n : at.0.version + 1 ≡ n = cc in
+        subst (λ k. 1 < k) as_n (omega (arith, vacant.1));
     once = once-start_stack slots;
     counted = length-start_stack slots ∙ ap map.len (sym (next-start_places slots limit accepted));
   }

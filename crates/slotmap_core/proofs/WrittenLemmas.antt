@@ -1,7 +1,8 @@
 -- The list that a map is written as: from its places, whether it is accepted, and what is read from it.
-use Rattle.std.proofs.Common.{◌≡◌, ◌≢◌, ◌⊎◌, inl, inr, ℕ, zero, suc, ◌+◌, ◌-◌, ◌%◌, ◌<◌, ◌≤◌, Bool, true, false, List, length, slice_get, Option, None, Some, option_map, is_some, refl, sym, ap, subst, get_or, ◌∙◌, arith, eqb-true, eq-eqb}
+use Rattle.std.proofs.Common.{◌≡◌, ◌≢◌, ◌⊎◌, inl, inr, ℕ, zero, suc, ◌+◌, ◌-◌, ◌%◌, ◌<◌, ◌≤◌, Bool, true, false, List, [], ◌∷◌, length, slice_get, Option, None, Some, option_map, is_some, refl, sym, ap, subst, get_or, ◌∙◌, arith, eqb-true, eq-eqb}
+use Rattle.std.proofs.lemmas.Bool.{cases_eq}
 use Rattle.std.proofs.lemmas.List.{length-map}
-use Rattle.std.proofs.lemmas.Option.{slice_get-map, slice_get_within, slice_get-get_or, same_Some}
+use Rattle.std.proofs.lemmas.Option.{slice_get-map, slice_get_past, slice_get_within, slice_get-get_or, same_Some}
 use Rattle.std.specs.FinMap as map
 use Rattle.std.specs.FinSet as set
 use Rattle.slotmap_core.specs.Key.{Key, is_last, last_version, next_version}
@@ -10,12 +11,13 @@ use Rattle.slotmap_core.specs.Contents.{contents, start_retired, StartsFrom}
 use Rattle.slotmap_core.specs.Places.{Place, Live, Detached, Vacant, Retired, live, detached, retired, next, retired_entry, is_kept}
 use Rattle.slotmap_core.specs.Slots.{IsConsistent, Accepts}
 use Rattle.slotmap_core.specs.StackMap.{StackMap, content, IsStacked}
-use Rattle.slotmap_core.specs.Written.{following_version, filled_slot, empty_slot, Writes, Restores, HadKeys, slot_of, slots_of}
+use Rattle.slotmap_core.specs.Written.{following_version, filled_slot, empty_slot, Writes, Restores, slot_of, slots_of, read_slots}
 use Rattle.slotmap_core.specs.declared.serial.SlotRecord.{SlotRecord}
 use Rattle.slotmap_core.proofs.ContentLemmas.{live_at, kept_at}
 use Rattle.slotmap_core.proofs.ContentsLemmas.{gathers, live_in, in_contents, next_in, in_start_next, retired_in, in_start_retired}
 use Rattle.slotmap_core.proofs.KeyLemmas.{exact_keys, keys_total}
 use Rattle.slotmap_core.proofs.MapLaws.{detached_laws, is_marked}
+use Rattle.slotmap_core.proofs.StartLemmas.{consistent_at, odd_of, even_where}
 use Rattle.slotmap_core.proofs.PlacesLemmas.{key, get-live_at, get-next_at, vacant_at, retired_at, contains-detached, total}
 
 some_of : {A : Type 0} (o : Option A) → is_some o ≡ true → (x : A) × (o ≡ Some x)
@@ -122,7 +124,7 @@ module _ {V : Type 0} (reuses : Bool) (c : Content V) (valid : IsContent reuses 
       by i slot (AtRetired k here retired is) = subst IsConsistent (sym is) (empty_consistent 0 refl)
       by i slot (AtVacant n got is) = let odd = (valid.vacancies i n got).odd in subst IsConsistent (sym is) (empty_consistent (n - 1) (omega arith))
 
-  module _ (had_keys : HadKeys c) (read : Content V) (starts : StartsFrom slots read) where
+  module _ (read : Content V) (starts : StartsFrom slots read) where
     -- the slot of an empty place is none of a live key
     not_live : (i version : ℕ) (slot : SlotRecord V) (v : V) → slot ≡ empty_slot version → slot.value ≡ Some v → ⊥
     not_live i version slot v is valued = let wrong : ◌≡◌ {A = Option V} None (Some v) = ap (λ (s : SlotRecord V). s.value) (sym is) ∙ valued in absurd (cc)
@@ -170,7 +172,7 @@ module _ {V : Type 0} (reuses : Bool) (c : Content V) (valid : IsContent reuses 
             let same = same_key other here (is_last_key other (valid.last other is_retired)) version in
             inl (ap (set.contains c.retired) (sym same) ∙ is_retired)
         by slot (AtVacant n got is) positive spent version =
-            let later = had_keys k.index n got in
+            let later = valid.had_keys k.index n got in
             let zero_is : n - 1 ≡ 0 = ap (λ (s : SlotRecord V). s.version) (sym is) ∙ spent in
             absurd (omega arith)
 
@@ -203,13 +205,13 @@ module _ {V : Type 0} (reuses : Bool) (c : Content V) (valid : IsContent reuses 
             inr (other, is_detached, not_last other (λ e. unspent (sym same ∙ e)), here, omega (arith, valid_key.version_fits, valid_key.odd))
         by slot (AtRetired other here is_retired is) positive even unspent follows = absurd (unspent (ap (λ (s : SlotRecord V). s.version) is))
         by slot (AtVacant n got is) positive even unspent follows =
-            let later = had_keys i n got in
+            let later = valid.had_keys i n got in
             let same : n - 1 ≡ slot.version = ap (λ (s : SlotRecord V). s.version) (sym is) in
             inl (got ∙ ap Some (omega arith))
 
     where_next : (i v : ℕ) → (map.get c.next i ≡ Some v) ⊎ ((k : Key) × IsDetached c k × (is_last k ≡ false) × (k.index ≡ i) × (next_version k ≡ v)) → map.get read.next i ≡ Some v
     where_next i v (inl got) =
-        let later = had_keys i v got in
+        let later = valid.had_keys i v got in
         let odd = (valid.vacancies i v got).odd in
         let positive = (valid.vacant i (ap is_some got)).0 in
         let from : v - 1 + 1 ≡ v = omega arith in
@@ -241,3 +243,58 @@ module _ {V : Type 0} (reuses : Bool) (c : Content V) (valid : IsContent reuses 
       next = λ i v. (next_where i v, where_next i v);
       same_places = omega (arith, starts.places, writes.all);
     }
+
+-- an index at which a list has no element is past its end
+past_end : {X : Type 0} (xs : List X) (i : ℕ) → slice_get xs i ≡ None → length xs ≤ i
+past_end [] i none = omega arith
+past_end (x ∷ xs) zero none = absurd (cc)
+past_end (x ∷ xs) (suc i) none = omega (arith, past_end xs i none)
+
+-- lists that have the same element at each index are equal
+same_list : {X : Type 0} (xs ys : List X) → ((i : ℕ) → slice_get xs i ≡ slice_get ys i) → xs ≡ ys
+same_list [] [] alike = refl
+same_list [] (y ∷ ys) alike = let wrong = alike 0 in absurd (cc)
+same_list (x ∷ xs) [] alike = let wrong = alike 0 in absurd (cc)
+same_list (x ∷ xs) (y ∷ ys) alike =
+    let first = same_Some x y (alike 0) in
+    ap (λ z. z ∷ xs) first ∙ ap (λ zs. y ∷ zs) (same_list xs ys (λ i. alike (suc i)))
+
+-- a map that was read from a list is written as that list again, the first version apart
+module _ {V : Type 0} (slots : List (SlotRecord V)) (limit : ℕ) (accepted : Accepts slots limit) (read : Content V) (starts : StartsFrom slots read) (again : List (SlotRecord V)) (writes : Writes read again) where
+  slot_again : (i : ℕ) (slot : SlotRecord V) → 0 < i → slice_get slots i ≡ Some slot → slice_get again i ≡ Some slot
+  slot_again i slot positive found = by slot.value refl
+    where
+      consistent : IsConsistent slot
+      consistent = consistent_at slots limit accepted i slot found
+
+      with_value : (o : Option V) → slot.value ≡ o → ◌≡◌ {A = SlotRecord V} (record { value = o; version = slot.version }) slot
+      with_value o valued = ap (λ o. record { value = o; version = slot.version }) (sym valued)
+
+      by : (o : Option V) → slot.value ≡ o → slice_get again i ≡ Some slot
+      by (Some v) valued =
+          let got = ap (λ m. map.get m (key i slot.version)) starts.live ∙ in_contents slots i slot v found (odd_of slot consistent v valued) valued in
+          writes.live (key i slot.version) v got ∙ ap Some (with_value (Some v) valued)
+      by None valued = elim (cases_eq slot.version 0) [
+        | inl spent ↦
+            let retired = ap (λ s. set.contains s (key i last_version)) starts.retired ∙ in_start_retired slots i slot found positive spent in
+            writes.retired (key i last_version) retired ∙ ap (λ n. Some (empty_slot n)) (sym spent) ∙ ap Some (with_value None valued)
+        | inr unspent ↦
+            let got = ap (λ m. map.get m i) starts.next ∙ in_start_next slots i slot found positive (even_where slot consistent valued) unspent in
+            let before : slot.version + 1 - 1 ≡ slot.version = omega arith in
+            writes.vacant i (slot.version + 1) got ∙ ap (λ n. Some (empty_slot n)) before ∙ ap Some (with_value None valued)
+      ]
+
+  pub written-again : again ≡ read_slots slots
+  written-again = by slots refl
+    where
+      by : (whole : List (SlotRecord V)) → slots ≡ whole → again ≡ read_slots whole
+      by [] is = let found = accepted.first_empty.1 in absurd (cc)
+      by (first ∷ rest) is = same_list again (empty_slot 0 ∷ rest) at
+        where
+          at : (i : ℕ) → slice_get again i ≡ slice_get (empty_slot 0 ∷ rest) i
+          at zero = writes.first
+          at (suc i) = there (slice_get rest i) refl
+            where
+              there : (o : Option (SlotRecord V)) → slice_get rest i ≡ o → slice_get again (suc i) ≡ o
+              there (Some slot) found = slot_again (suc i) slot (omega arith) (ap (λ xs. slice_get xs (suc i)) is ∙ found)
+              there None none = slice_get_past again (suc i) (omega (arith, writes.all, starts.places, ap length is, past_end rest i none))

@@ -74,6 +74,8 @@ module _ {V : Type 0} where
   pub record IsContent (reuses : Bool) (c : Content V) : Type 0 where
     pub keys : (k : Key) → Uses c k → IsKey k
     pub vacancies : (i v : ℕ) → map.get c.next i ≡ Some v → IsKey (record { index = i; version = v })
+    -- a vacant place had a key before, so its next one isn't the first, of version 1
+    pub had_keys : (i v : ℕ) → map.get c.next i ≡ Some v → 1 < v
     pub last : (k : Key) → IsRetired c k → is_last k ≡ true
     -- each index from 1 to `places` belongs to exactly one of the four
     pub within : (k : Key) → Uses c k → (1 ≤ k.index) × (k.index ≤ places c)

@@ -1,5 +1,5 @@
 -- The list of slots that a map is written as, and what a map holds that is read from it.
-use Rattle.std.specs.Prelude.{◌≡◌, ℕ, ◌+◌, ◌-◌, ◌%◌, ◌^◌, ◌<◌, ◌≤◌, ◌↔◌, ◌⊎◌, true, false, List, length, slice_get, map as list_map, Some, None}
+use Rattle.std.specs.Prelude.{◌≡◌, ℕ, ◌+◌, ◌-◌, ◌%◌, ◌^◌, ◌<◌, ◌≤◌, ◌↔◌, ◌⊎◌, true, false, List, [], ◌∷◌, length, slice_get, map as list_map, Some, None}
 use Rattle.std.specs.FinMap as map
 use Rattle.std.specs.FinSet as set
 use Rattle.slotmap_core.specs.Key.{Key, is_last, next_version}
@@ -40,10 +40,6 @@ module _ {V : Type 0} where
         ↔ ((map.get old.next i ≡ Some v) ⊎ ((k : Key) × IsDetached old k × (is_last k ≡ false) × (k.index ≡ i) × (next_version k ≡ v)))
     pub same_places : places new ≡ places old
 
-  -- each vacant place had a key before, so its next one isn't the first, of version 1
-  abbrev pub HadKeys : Content V → Type 0
-  HadKeys c = (i next : ℕ) → map.get c.next i ≡ Some next → 1 < next
-
   -- the slot that a place is written as
   abbrev pub slot_of : Place V → SlotRecord V
   slot_of (Live version v) = filled_slot version v
@@ -54,3 +50,12 @@ module _ {V : Type 0} where
   -- the slots that places are written as, in order
   abbrev pub slots_of : List (Place V) → List (SlotRecord V)
   slots_of places = list_map slot_of places
+
+  -- the slots that a list is read as: the first version is read as 0
+  abbrev pub read_slots : List (SlotRecord V) → List (SlotRecord V)
+  read_slots [] = []
+  read_slots (first ∷ rest) = empty_slot 0 ∷ rest
+
+  -- whenever a map that holds c is written as a list, it is this one
+  abbrev pub WritesAlone : Content V → List (SlotRecord V) → Type 0
+  WritesAlone c slots = (again : List (SlotRecord V)) → Writes c again → again ≡ slots

@@ -1,14 +1,7 @@
 use Rattle.std.proofs.Common.{◌≡◌, Option, None, Some, refl, ap, arith}
 use Rattle.std.proofs.lemmas.List.Elements.{same_from_all_zip}
-use Rattle.slotmap_basic.proofs.SlotLemmas.{valid}
+use Rattle.slotmap_basic.proofs.SlotLemmas.{valid, same_options}
 use Rattle.slotmap_basic.proofs.SlotMap.clone.Goals as goal
-
--- a clone of an optional value equals it, where a clone of a value does
-same_options : {V : Type 0} (R : Option V → Option V → Type 0) → ((w : V) → R None (Some w) → ⊥) → ((v : V) → R (Some v) None → ⊥) → ((v w : V) → R (Some v) (Some w) → w ≡ v) → (x y : Option V) → R x y → y ≡ x
-same_options R more less both None None r = refl
-same_options R more less both None (Some w) r = absurd (more w r)
-same_options R more less both (Some v) None r = absurd (less v r)
-same_options R more less both (Some v) (Some w) r = ap Some (both v w r)
 
 pub invariant_of-result : goal.invariant_of-result
 invariant_of-result g c =
