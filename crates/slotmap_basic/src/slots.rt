@@ -15,7 +15,7 @@ use std::alloc::Global;
 use std::marker::PhantomData;
 
 // A list that is read as a map is shorter.
-const LIMIT: usize = 4294967294;
+const LIMIT: usize = 4294967295;
 
 // Whether a place of this version is vacant.
 fn is_vacant(version: u32) -> bool

@@ -5,6 +5,7 @@ mod callers;
 mod drains;
 mod drops;
 mod keys;
+mod lists;
 mod maps;
 mod runs;
 mod scripts;
