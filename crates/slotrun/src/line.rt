@@ -1,10 +1,11 @@
 //! The lines of a script.
 
 use slotmap_core::keys::{DefaultKey, KeyData};
+use std::alloc::{AllocError, Global};
 
 /// What a line asks for.
 #[derive(Drop)]
-pub enum Line<'a> {
+pub enum Line {
     Insert(i32),
     Get(DefaultKey),
     Remove(DefaultKey),
@@ -16,22 +17,24 @@ pub enum Line<'a> {
     /// Print the map's list of slots.
     Slots,
     /// Read the map anew from this text, which isn't looked at yet.
-    Load(&'a str),
+    Load(String),
 }
 
-impl<'a> Line<'a> {
-    /// Reads a line of UTF-8.
-    pub fn from_bytes(bytes: &'a [u8]) -> Option<Line<'a>> {
-        let text = str::from_utf8(bytes).ok()?;
+impl Line {
+    /// Reads a line of UTF-8; none where it isn't one of a script.
+    pub fn from_bytes(alloc: Global, bytes: &[u8]) -> Result<Option<Line>, AllocError> {
+        let Ok(text) = str::from_utf8(bytes) else {
+            return Ok(None);
+        };
         match text.strip_prefix("load ") {
-            Some("") => None,
-            Some(list) => Some(Line::Load(list)),
-            None => Line::parse(text),
+            Some("") => Ok(None),
+            Some(list) => Ok(Some(Line::Load(String::from_str(alloc, list)?))),
+            None => Ok(Line::parse(text)),
         }
     }
 
     // Reads a line: its words, parted by one space, and nothing before or after them.
-    fn parse(text: &str) -> Option<Line<'a>> {
+    fn parse(text: &str) -> Option<Line> {
         let mut words = text.split(' ');
         let line = match words.next()? {
             "insert" => Line::Insert(number(words.next()?)?),

@@ -7,7 +7,7 @@ use crate::store::Store;
 use slotmap_basic::SlotMap;
 use slotmap_core::errors::OutOfMemory;
 use slotmap_core::keys::DefaultKey;
-use std::alloc::{AllocFailed, Global};
+use std::alloc::{AllocError, AllocFailed, Global};
 use std::io::{Read, Write};
 use std::{io, mem};
 
@@ -22,6 +22,12 @@ enum Stop {
     BadLine(usize),
     // The output was refused.
     Output,
+}
+
+impl From<AllocError> for Stop {
+    fn from(_error: AllocError) -> Stop {
+        Stop::NoScript
+    }
 }
 
 impl<T: Drop> From<AllocFailed<T>> for Stop {
@@ -74,14 +80,14 @@ fn run(
 }
 
 // The lines of a script, the last of which may lack its line feed.
-fn parse_lines<'a>(alloc: Global, script: &'a [u8]) -> Result<Vec<Line<'a>>, Stop> {
+fn parse_lines(alloc: Global, script: &[u8]) -> Result<Vec<Line>, Stop> {
     let mut lines = Vec::new(alloc);
     if script.is_empty() {
         return Ok(lines);
     }
     let text = script.strip_suffix(b"\n").unwrap_or(script);
     for piece in text.split(|byte| *byte == b'\n') {
-        match Line::from_bytes(piece) {
+        match Line::from_bytes(alloc, piece)? {
             Some(line) => lines.push(line)?,
             None => return Err(Stop::BadLine(lines.len() + 1)),
         }
@@ -107,7 +113,7 @@ fn run_lines<M: Store>(
             Line::Load(text) => {
                 let commands = mem::replace(&mut stretch, Vec::new(alloc));
                 run_stretch(alloc, &mut map, commands, output)?;
-                load(alloc, &mut map, text, output)?;
+                load(alloc, &mut map, text.as_str(), output)?;
             }
             line => {
                 if let Some(command) = M::command(line) {
