@@ -51,7 +51,6 @@ fn find_key<K: Key>(store: &SlotMap<K, u64>, wanted: u64) -> Option<K>
     None
 }
 
-
 // Takes one pair out, and drops the others.
 fn take_one<K: Key>(store: &mut SlotMap<K, u64>) -> Option<(K, u64)>
     ensures found { IfSome result (λ pair. map.get store.old.live (K.data_of pair.0) ≡ Some pair.1) }
@@ -91,7 +90,10 @@ fn clear_values<K: Key>(store: &mut SlotMap<K, u64>)
 }
 
 // Inserts a value, and removes its key again.
-fn push_pop<K: Key>(store: &mut SlotMap<K, u64>, value: u64) -> Result<Option<u64>, InsertError<u64>>
+fn push_pop<K: Key>(
+    store: &mut SlotMap<K, u64>,
+    value: u64,
+) -> Result<Option<u64>, InsertError<u64>>
     ensures ok { IfOk result (λ back. back ≡ Some value) }
     ensures err { IfErr result (λ error. Refuses store.old value error) }
     ensures live { store.new.live ≡ store.old.live }
