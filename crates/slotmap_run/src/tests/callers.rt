@@ -11,7 +11,7 @@ ghost use Rattle.slotmap_core.specs.Refusal.{Refuses};
 use super::{Map, key, put};
 use slotmap_basic::SlotMap;
 use slotmap_core::errors::InsertError;
-use slotmap_core::keys::{DefaultKey, Key};
+use slotmap_core::keys::Key;
 use std::test::Fail;
 
 // Sets the value of a key, and answers whether the key is live.
@@ -130,16 +130,6 @@ fn a_value_is_set_where_the_key_is_live(rt: HostRuntime) -> Result<(), Fail> {
     assert_eq!(rt; map.get(first).copied(), Some(5));
     assert!(rt; map.get(second).is_none());
     assert_eq!(rt; map.len(), 1);
-    Ok(())
-}
-
-#[test]
-fn one_is_added_to_a_value(rt: HostRuntime) -> Result<(), Fail> {
-    let mut map = SlotMap::<DefaultKey, u64>::with_key(rt.alloc())?;
-    if let Ok(first) = map.insert(4) {
-        add_one(&mut map, first);
-        assert_eq!(rt; map.get(first).copied(), Some(5));
-    }
     Ok(())
 }
 
