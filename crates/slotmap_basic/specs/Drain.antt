@@ -26,20 +26,23 @@ module _ {K V : Type 0} where
   abbrev pub DrainCanStep : Drain K V → Type 0
   DrainCanStep d = NoneBelow (drain_map d).live d.index
 
-  -- old and new borrow the same map, and where new empties it, so does old
-  pub record DrainKeeps (old new : Drain K V) : Type 0 where
-    pub same_reference : drain_lender new ≡ drain_lender old
-    pub ends : (end : Content V) → Empties (drain_map new) end → Empties (drain_map old) end
+  -- old and new borrow the same map, and as what new ends, once every key has left, old ends too
+  abbrev pub DrainKeeps : Drain K V → Drain K V → Type 0
+  DrainKeeps old new = (drain_lender new ≡ drain_lender old)
+      × ((end : Content V) → Empties (drain_map new) end → Empties (drain_map old) end)
 
   module _ (data_of : K → Key) where
     -- `next` took old to new, and answered the item
     abbrev pub DrainSteps : Drain K V → Option (K × V) → Drain K V → Type 0
-    DrainSteps old item new = TakesPair data_of (drain_map old) item (drain_map new) × DrainKeeps old new × DrainCanStep new
+    DrainSteps old item new = TakesPair data_of (drain_map old) item (drain_map new)
+        × DrainKeeps old new × DrainCanStep new
 
-    -- the pairs that were taken and those that the map still holds are those that it held
-    abbrev pub DrainLists : Drain K V → List (K × V) → Drain K V → Type 0
-    DrainLists first pairs later = IsListingBut (drain_map first).live (list_map (λ p. (data_of p.0, p.1)) pairs) (drain_map later).live
+    -- each state that calls of `next` lead to keeps what the first keeps
+    abbrev pub DrainKeepsAlong : Drain K V → Type 0
+    DrainKeepsAlong first = (pairs : List (K × V)) (later : Drain K V) → Yields DrainSteps first pairs later
+        → DrainKeeps first later
 
-    -- so it is in each state that calls of `next` lead to
-    abbrev pub DrainStays : Drain K V → Type 0
-    DrainStays first = (pairs : List (K × V)) (later : Drain K V) → Yields DrainSteps first pairs later → DrainKeeps first later × DrainLists first pairs later
+    -- the pairs that calls of `next` give, and those that the map still holds then, are those that it held
+    abbrev pub DrainLists : Drain K V → Type 0
+    DrainLists first = (pairs : List (K × V)) (later : Drain K V) → Yields DrainSteps first pairs later
+        → IsListingBut (drain_map first).live (list_map (λ p. (data_of p.0, p.1)) pairs) (drain_map later).live

@@ -39,8 +39,8 @@ impl<K: Key, V: Clone> SlotMap<K, V> {
 
     /// Makes this map a copy of another, as [`SlotMap::clone`] does, and drops what it had.
     ///
-    /// Keys of the map as it was are worth no more than keys of any other map. Where there is no memory it refuses, and the
-    /// map stays as it is: the copy is made first, so for a while there are both.
+    /// A key that this map has handed out before may then stand for another value. Where there is no memory it refuses, and
+    /// the map stays as it is: the copy is made first, so for a while there are both.
     pub fn clone_from(&mut self, source: &Self) -> Result<(), AllocError>
     where
         V: Drop,
@@ -50,37 +50,6 @@ impl<K: Key, V: Clone> SlotMap<K, V> {
         ensures valid { OnOk result (IsContent true self.new) }
     {
         *self = source.clone()?;
-        Ok(())
-    }
-}
-
-#[cfg(test)]
-mod tests {
-    use super::*;
-    use slotmap_core::keys::DefaultKey;
-    use std::test::Fail;
-
-    #[test]
-    fn copies(rt: HostRuntime) -> Result<(), Fail> {
-        let mut map: SlotMap<DefaultKey, u8> = SlotMap::new(rt.alloc())?;
-        let first = map.insert(10)?;
-        let second = map.insert(20)?;
-        let third = map.insert(30)?;
-        assert_eq!(rt; map.remove(second), Some(20));
-        assert_eq!(rt; map.detach(third), Some(30));
-
-        let mut copy = map.clone()?;
-        assert_eq!(rt; copy.len(), 1);
-        assert_eq!(rt; copy.remove(first), Some(10));
-        assert_eq!(rt; map.get(first), Some(&10));
-        assert!(rt; copy.reattach(third, 31).is_ok());
-
-        let next = map.insert(40)?;
-        copy.clone_from(&map)?;
-        assert_eq!(rt; copy.get(first), Some(&10));
-        assert_eq!(rt; copy.get(next), Some(&40));
-        assert!(rt; !copy.contains_key(third));
-        assert_eq!(rt; copy.insert(50)?, map.insert(60)?);
         Ok(())
     }
 }

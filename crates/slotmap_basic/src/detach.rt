@@ -30,6 +30,7 @@ impl<K: Key, V: Drop> SlotMap<K, V> {
         ensures detaches { OnSome result (Detaches self.old (K.data_of key) self.new) }
         ensures absent { IfNone result (self.new ≡ self.old) }
         ensures capacity { self.new.capacity ≡ self.old.capacity }
+        ensures was_valid { IsContent true self.old }
         ensures valid { IsContent true self.new }
     {
         let _ = &self.num_elems;
@@ -72,6 +73,7 @@ impl<K: Key, V: Drop> SlotMap<K, V> {
             × (IsDetached self.old (K.data_of key) → ⊥)) }
         ensures unchanged { OnErr result (self.new ≡ self.old) }
         ensures capacity { self.new.capacity ≡ self.old.capacity }
+        ensures was_valid { IsContent true self.old }
         ensures valid { IsContent true self.new }
     {
         let Some(index) = self.detached_index(key) else {

@@ -66,26 +66,3 @@ impl<K: Key, V: Drop> SlotMap<K, V> {
         mem::swap(self.get_unchecked_mut(key), value);
     }
 }
-
-#[cfg(test)]
-mod tests {
-    use super::*;
-    use slotmap_core::keys::DefaultKey;
-    use std::test::Fail;
-
-    #[test]
-    fn replaces(rt: HostRuntime) -> Result<(), Fail> {
-        let mut map: SlotMap<DefaultKey, u8> = SlotMap::new(rt.alloc())?;
-        let first = map.insert(10)?;
-        let second = map.insert(20)?;
-        let third = map.insert(30)?;
-        assert_eq!(rt; map.remove(second), Some(20));
-
-        assert_eq!(rt; map.replace_disjoint([first, third], [1, 3]), Ok([10, 30]));
-        assert_eq!(rt; map.replace_disjoint([first, first], [5, 6]), Err([5, 6]));
-        assert_eq!(rt; map.replace_disjoint([first, second], [7, 8]), Err([7, 8]));
-        assert_eq!(rt; map.get(first), Some(&1));
-        assert_eq!(rt; map.get(third), Some(&3));
-        Ok(())
-    }
-}

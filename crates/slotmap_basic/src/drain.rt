@@ -9,9 +9,9 @@ use crate::SlotMap;
 use slotmap_core::keys::Key;
 use std::iter::FusedIterator;
 
-/// A walk that takes the pairs out of a [`SlotMap`], by ascending index. Once it is dropped, the map is empty.
+/// A walk that takes the pairs out of a map, by ascending index. Once it is dropped, no key of the map is live.
 ///
-/// It is made by [`SlotMap::drain`].
+/// `SlotMap::drain` makes it. Its drop goes on from where the walk stands.
 pub struct Drain<'a, K: Key, V> {
     map: &'a mut SlotMap<K, V>,
     // The first place that is still to be visited.
@@ -21,7 +21,6 @@ pub struct Drain<'a, K: Key, V> {
 impl<'a, K: Key, V: Drop> Drop for Drain<'a, K, V> {
     ghost use Rattle.slotmap_basic.specs.Drain.{drain_map, DrainCanStep};
 
-    // The pairs that are left are removed from where the walk stands.
     fn drop(self)
         ensures ends { DrainCanStep self.entry → Empties (drain_map self.entry) self.exit.0.now }
         ensures valid { IsContent true self.exit.0.now }
@@ -73,17 +72,25 @@ impl<'a, K: Key, V: Drop> ExactSizeIterator for Drain<'a, K, V> {
 impl<'a, K: Key, V: Drop> FusedIterator for Drain<'a, K, V> {}
 
 impl<K: Key, V: Drop> SlotMap<K, V> {
-    ghost use Rattle.slotmap_basic.specs.Drain.{drain_map, drain_lender, DrainCanStep, DrainStays};
+    ghost use Rattle.slotmap_basic.specs.Drain.{drain_map, drain_lender, DrainCanStep, DrainKeepsAlong, DrainLists};
 
-    /// Takes the pairs out, by ascending index.
+    /// Takes the live keys with their values out, by ascending index.
     ///
-    /// Each key is removed as it comes, as `remove` does. Once the walk is dropped, after however many steps, every key is
-    /// removed. Detached keys stay detached. It goes over all places of the map once.
+    /// Each key is removed as it comes, as `remove` does: its place is used again, under a newer key. The walk may be
+    /// dropped at any step, and then the keys that are left are removed too. Detached keys stay detached. All steps and
+    /// the drop together go over all places of the map once.
+    ///
+    /// ```
+    /// for (key, value) in map.drain() {
+    ///     println!(rt; "{key:?}: {value}")?;
+    /// }
+    /// ```
     pub fn drain(&mut self) -> Drain<'_, K, V>
         ensures map { drain_map result ≡ self.old }
         ensures same_reference { drain_lender result ≡ self.entry.ghost_name }
         ensures ready { DrainCanStep result }
-        ensures stays { DrainStays K.data_of result }
+        ensures stays { DrainKeepsAlong K.data_of result }
+        ensures lists { DrainLists K.data_of result }
     {
         Drain {
             map: self,

@@ -72,6 +72,8 @@ impl<K: Key, V: Drop> SlotMap<K, V> {
 
         // Where a place is vacant nothing is asked for.
         ensures reuses { 0 < map.len self.old.next → IsOk result }
+
+        ensures was_valid { IsContent true self.old }
         ensures valid { IsContent true self.new }
     {
         match self.reserve(1) {
@@ -108,6 +110,8 @@ impl<K: Key, V: Drop> SlotMap<K, V> {
 
         // Where a place is vacant nothing is asked for.
         ensures reuses { 0 < map.len self.old.next → IsOk result }
+
+        ensures was_valid { IsContent true self.old }
         ensures valid { IsContent true self.new }
     {
         match self.reserve(1) {
@@ -143,6 +147,8 @@ impl<K: Key, V: Drop> SlotMap<K, V> {
 
         // Where a place is vacant nothing is asked for.
         ensures reuses { result ≡ Err TryInsertError.Memory → map.len self.old.next ≡ 0 }
+
+        ensures was_valid { IsContent true self.old }
         ensures valid { IsContent true self.new }
     {
         match self.reserve(1) {

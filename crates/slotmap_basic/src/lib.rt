@@ -225,6 +225,7 @@ impl<K: Key, V: Drop> SlotMap<K, V> {
         ensures had_room { additional ≤ self.old.room → self.new ≡ self.old }
         ensures reuses { additional ≤ map.len self.old.next → IsOk result }
 
+        ensures was_valid { IsContent true self.old }
         ensures valid { IsContent true self.new }
     {
         let taken = self.taken();

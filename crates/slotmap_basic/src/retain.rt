@@ -15,8 +15,12 @@ use slotmap_core::keys::Key;
 impl<K: Key, V: Drop> SlotMap<K, V> {
     /// Calls `f` once at each live key and its value, and removes the keys at which it answers `false`.
     ///
-    /// What `f` writes to a value that stays is kept. The keys are visited by ascending index, and detached keys aren't
-    /// visited. It goes over all places of the map once.
+    /// What `f` writes to a value that stays is kept. The keys are visited by ascending index. Detached keys aren't
+    /// visited, and stay detached. It goes over all places of the map once.
+    ///
+    /// ```
+    /// map.retain(|_, value| *value % 2 == 0);
+    /// ```
     pub fn retain<F: FnMut(K, &mut V) -> bool>(&mut self, mut f: F)
     where
         F: Drop,
@@ -36,10 +40,10 @@ impl<K: Key, V: Drop> SlotMap<K, V> {
         }
     }
 
-    /// Removes every key, and drops its value.
+    /// Removes every live key, and drops its value.
     ///
-    /// The places stay, and are used again under newer keys. Detached keys stay detached. It goes over all places of the
-    /// map once.
+    /// The places are used again, under newer keys, and the room stays. Detached keys stay detached. It goes over all
+    /// places of the map once.
     pub fn clear(&mut self)
         ensures empty { self.new.live ≡ map.empty }
         ensures leaves { Leaves self.old self.new }
@@ -68,8 +72,8 @@ impl<K: Key, V: Drop> SlotMap<K, V> {
 
     /// Appends every live key to `out`, by ascending index.
     ///
-    /// It first asks for all the room that it needs, and is refused where there is no memory for it. It goes over all
-    /// places of the map once.
+    /// It first asks for all the room that it needs. Where there is no memory for it, it is refused, and `out` stays as it
+    /// is. It goes over all places of the map once.
     pub fn keys_into(&self, out: &mut Vec<K>) -> Result<(), OutOfMemory>
         ensures listed { OnOk result ((keys : List K) × (out.new.items ≡ out.old.items ++ keys) × IsKeyListing self.now.live (list_map K.data_of keys)) }
         ensures err { OnErr result (out.new.items ≡ out.old.items) }
@@ -83,10 +87,11 @@ impl<K: Key, V: Drop> SlotMap<K, V> {
         Ok(())
     }
 
-    /// Moves every live key with its value to the end of `out`, by ascending index.
+    /// Takes every live key with its value out, and appends them to `out`, by ascending index.
     ///
-    /// The keys are removed, as `remove` does. It first asks for all the room that it needs; where there is no memory for
-    /// it, it is refused, and the map and `out` stay as they are. It goes over all places of the map once.
+    /// The keys are removed as `remove` does, and detached keys stay detached. It first asks for all the room that it
+    /// needs. Where there is no memory for it, it is refused, and the map and `out` stay as they are. It goes over all
+    /// places of the map once.
     pub fn drain_into(&mut self, out: &mut Vec<(K, V)>) -> Result<(), OutOfMemory>
         ensures listed { OnOk result ((pairs : List (K × V)) × (out.new.items ≡ out.old.items ++ pairs) × IsListing self.old.live (list_map (λ p. (K.data_of p.0, p.1)) pairs)) }
         ensures empty { OnOk result (self.new.live ≡ map.empty) }

@@ -1,5 +1,5 @@
 -- Lists that go along with one another an element further, and what one element of an array is read as.
-use Rattle.std.proofs.Common.{◌≡◌, ℕ, zero, suc, ◌+◌, ◌<◌, refl, drop-cons, add-one, List, [], ◌∷◌, ◌++◌, length, get_or, take, drop, map, Result, Ok, Err, IsOk, IfOk, Some, inr, sym, ap, ◌∙◌, subst, arith}
+use Rattle.std.proofs.Common.{◌≡◌, ℕ, zero, suc, ◌+◌, ◌<◌, refl, drop-cons, add-one, List, [], ◌∷◌, ◌++◌, length, get_or, take, drop, map, Result, Ok, Err, IsOk, IfOk, Option, Some, inr, sym, ap, ◌∙◌, subst, arith}
 use Rattle.std.proofs.lemmas.List.{take_more, map_more, map-append, take-append-drop}
 use Rattle.std.proofs.lemmas.Slice.Zip.{all_zipped_more}
 use Rattle.std.specs.List.{AllZip}
@@ -13,11 +13,13 @@ use Rattle.slotmap_core.specs.declared.errors.JsonError.TheVariants.{Shape, Memo
 use Rattle.slotmap_core.specs.declared.errors.OutOfMemory.{OutOfMemory}
 use Rattle.slotmap_core.specs.declared.serial.SlotRecord.{SlotRecord}
 
--- one more element of xs goes with one more of ys
-pub all_zip_further : {A B : Type 0} (R : A → B → Type 0) (xs : List A) (ys : List B) (i : ℕ) (x : A) (y : B) → i < length xs → x ≡ get_or xs i x → AllZip R (take i xs) ys → R x y → AllZip R (take (i + 1) xs) (ys ++ y ∷ [])
-all_zip_further {A} {B} R xs ys i x y within read so_far here =
-    let P : List A → Type 0 = λ zs. AllZip R zs (ys ++ y ∷ []) in
-    subst P (sym (take_more xs i x within ∙ ap (λ z. take i xs ++ z ∷ []) (sym read))) (all_zipped_more R (take i xs) ys x y so_far here)
+-- one more of xs goes with one more value
+pub goes_further : {A : Type 0} (R : A → Data → Type 0) (xs : List A) (before after : List Value) (i : ℕ) (x : A) (y : Value) → i < length xs → x ≡ get_or xs i x → AllZip R (take i xs) (map view before) → R x (view y)
+    → after ≡ before ++ y ∷ [] → AllZip R (take (i + 1) xs) (map view after)
+goes_further {A} R xs before after i x y within read so_far here pushed =
+    let P : List A → Type 0 = λ zs. AllZip R zs (map view before ++ view y ∷ []) in
+    let more = subst P (sym (take_more xs i x within ∙ ap (λ z. take i xs ++ z ∷ []) (sym read))) (all_zipped_more R (take i xs) (map view before) x (view y) so_far here) in
+    subst (AllZip R (take (i + 1) xs)) (sym (ap (map view) pushed ∙ map-append view before (y ∷ []))) more
 
 -- the JSON of a slot that has a value
 pub slot_json_given : {V : Type 0} (gives : V → Data → Type 0) (slot : SlotRecord V) (v : V) (x : Data) (r : Result Value OutOfMemory) → slot.value ≡ Some v → gives v x → IfOk r (λ y. view y ≡ slot_json x slot.version) → IfOk r (λ y. IsSlotJson gives slot (view y))
@@ -25,8 +27,8 @@ slot_json_given gives slot v x (Ok y) is given e = rw is (x, given, e)
 slot_json_given gives slot v x (Err e) is given h = tt
 
 -- the answer of an element that has a value
-pub reads_value : {V : Type 0} (reads : Data → Result V JsonError → Type 0) (d x : Data) (version : ℕ) (read : Result V JsonError) (r : Result (SlotRecord V) JsonError) → version_at d ≡ Some version → value_at d ≡ Some x → reads x read → r ≡ ok_map (λ v. record { value = Some v; version = version }) read → ReadsSlot reads d r
-reads_value reads d x version read r versioned valued reading is = rw (versioned, valued) (read, reading, is)
+pub reads_value : {V : Type 0} (reads : Data → Result V JsonError → Type 0) (d x : Data) (version : ℕ) (read : Result V JsonError) (r : Result (SlotRecord V) JsonError) (u : Option ℕ) → u ≡ version_at d → u ≡ Some version → value_at d ≡ Some x → reads x read → r ≡ ok_map (λ v. record { value = Some v; version = version }) read → ReadsSlot reads d r
+reads_value reads d x version read r u looked versioned valued reading is = rw (sym looked ∙ versioned, valued) (read, reading, is)
 
 is_array : (d : Data) (items : Items) → Some items ≡ as_array d → d ≡ array items
 is_array null items h = absurd cc
@@ -53,11 +55,12 @@ has_elements d (v ∷ vs) listed some = (view v, map view vs, is_array d (items_
 
 module _ {V : Type 0} (reads : Data → Result V JsonError → Type 0) where
   -- one more element is read
-  pub reads_further : (vs : List Value) (slots : List (SlotRecord V)) (i : ℕ) (x : Value) (slot : SlotRecord V) → i < length vs → x ≡ get_or vs i x → ReadsAll reads (map view (take i vs)) slots → ReadsSlot reads (view x) (Ok slot)
-      → ReadsAll reads (map view (take (i + 1) vs)) (slots ++ slot ∷ [])
-  reads_further vs slots i x slot within read so_far here =
+  pub reads_further : (vs : List Value) (slots after : List (SlotRecord V)) (i : ℕ) (x : Value) (slot : SlotRecord V) → i < length vs → x ≡ get_or vs i x → ReadsAll reads (map view (take i vs)) slots → ReadsSlot reads (view x) (Ok slot)
+      → after ≡ slots ++ slot ∷ [] → ReadsAll reads (map view (take (i + 1) vs)) after
+  reads_further vs slots after i x slot within read so_far here pushed =
       let P : List Data → Type 0 = λ ds. ReadsAll reads ds (slots ++ slot ∷ []) in
-      subst P (sym (map_more view vs i x within ∙ ap (λ v. map view (take i vs) ++ view v ∷ []) (sym read))) (all_zipped_more (λ d s. ReadsSlot reads d (Ok s)) (map view (take i vs)) slots (view x) slot so_far here)
+      let more = subst P (sym (map_more view vs i x within ∙ ap (λ v. map view (take i vs) ++ view v ∷ []) (sym read))) (all_zipped_more (λ d s. ReadsSlot reads d (Ok s)) (map view (take i vs)) slots (view x) slot so_far here) in
+      subst (ReadsAll reads (map view (take (i + 1) vs))) (sym pushed) more
 
   -- an element is refused
   pub refuses_at : (d : Data) (vs : List Value) (slots : List (SlotRecord V)) (i : ℕ) (x : Value) (e : JsonError) → Some (items_view vs) ≡ as_array d → i < length vs → x ≡ get_or vs i x → ReadsAll reads (map view (take i vs)) slots

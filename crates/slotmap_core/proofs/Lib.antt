@@ -16,6 +16,8 @@ pub mod LeaveLemmas
 pub mod OrderLemmas
 pub mod IndexLemmas
 pub mod VisitLemmas
+pub mod RetainLemmas
+pub mod AgainLemmas
 pub mod SweepLemmas
 pub mod ContentsLemmas
 pub mod StartLemmas

@@ -1,5 +1,5 @@
 -- Listings that grow an entry at a time, and what a listing says of each key.
-use Rattle.std.proofs.Common.{◌≡◌, ℕ, zero, suc, ◌+◌, ◌<◌, ◌≤◌, Bool, true, false, cond, List, [], ◌∷◌, ◌++◌, length, get_or, map as list_map, Option, Some, None, is_some, true≢false, Contains, refl, sym, ap, subst, ◌∙◌, arith}
+use Rattle.std.proofs.Common.{◌≡◌, ℕ, zero, suc, ◌+◌, ◌<◌, ◌≤◌, Bool, true, false, cond, List, [], ◌∷◌, ◌++◌, length, get_or, map as list_map, Option, Some, None, is_some, true≢false, All, Contains, refl, sym, ap, subst, ◌∙◌, arith}
 use Rattle.std.specs.Option.{option_or}
 use Rattle.std.specs.Ordering.{eq_by_cmp}
 use Rattle.std.specs.FinMap as map
@@ -57,6 +57,13 @@ module _ {V : Type 0} where
       by q true t = sym found ∙ ap (map.get m) (sym (tied keys_total exact_keys q k t))
       by q false t = refl
 
+  pub remove_absent : (m : map.FinMap key_cmp V) (k : Key) → map.contains_key m k ≡ false → map.remove m k ≡ m
+  remove_absent m k none = map.same_map keys_total exact_keys _ _ (λ q. map.get-remove keys_total m k q ∙ by q (eq_by_cmp key_cmp q k) refl)
+    where
+      by : (q : Key) (b : Bool) → eq_by_cmp key_cmp q k ≡ b → cond b None (map.get m q) ≡ map.get m q
+      by q true t = sym (ap (map.get m) (tied keys_total exact_keys q k t) ∙ none_of (map.get m k) none)
+      by q false t = refl
+
   -- an entry whose key isn't in the list may be put in, or taken out, before the list
   pub insert-with_entries : (m : map.FinMap key_cmp V) (es : List (Key × V)) (k : Key) (w : V) → find key_cmp k es ≡ None → map.insert (with_entries m es) k w ≡ with_entries (map.insert m k w) es
   insert-with_entries m es k w none = map.same_map keys_total exact_keys _ _ (λ q.
@@ -87,7 +94,7 @@ module _ {V : Type 0} where
       by false is rest = omega arith
 
   -- no key stands twice, if the list makes the map so much longer
-  fresh_first : (m : map.FinMap key_cmp V) (e : Key × V) (es : List (Key × V)) → length (e ∷ es) + map.len m ≡ map.len (with_entries m (e ∷ es)) → (map.contains_key (with_entries m es) e.0 ≡ false) × (length es + map.len m ≡ map.len (with_entries m es))
+  pub fresh_first : (m : map.FinMap key_cmp V) (e : Key × V) (es : List (Key × V)) → length (e ∷ es) + map.len m ≡ map.len (with_entries m (e ∷ es)) → (map.contains_key (with_entries m es) e.0 ≡ false) × (length es + map.len m ≡ map.len (with_entries m es))
   fresh_first m e es once = by (map.contains_key (with_entries m es) e.0) refl (map.len-insert keys_total (with_entries m es) e.0 e.1)
     where
       by : (b : Bool) → map.contains_key (with_entries m es) e.0 ≡ b → map.len (with_entries m (e ∷ es)) ≡ cond b (map.len (with_entries m es)) (map.len (with_entries m es) + 1) → (map.contains_key (with_entries m es) e.0 ≡ false) × (length es + map.len m ≡ map.len (with_entries m es))
@@ -193,9 +200,11 @@ module _ {V : Type 0} where
       by false t fresh found = found
 
   -- what stands in a listing is a live key with its value
-  pub live_if_listed : (m : map.FinMap key_cmp V) (es : List (Key × V)) (k : Key) (v : V) → IsListing m es → Contains es (k, v) → map.get m k ≡ Some v
-  live_if_listed m es k v listing there =
+  pub all_live : (m : map.FinMap key_cmp V) (es : List (Key × V)) → IsListing m es → All (λ e. map.get m e.0 ≡ Some e.1) es
+  all_live m es listing i d within =
       let all = IsListingBut-listing m es listing in
-      let found = found_at es there.0 (k, v) (all.once ∙ ap map.len (sym all.all)) there.1 in
-      ap (λ n. map.get n k) (sym listing.all) ∙ map.get-from_entries keys_total es k
-      ∙ subst (λ (p : Key × V). find key_cmp p.0 es ≡ Some p.1) there.2 found
+      ap (λ n. map.get n (get_or es i d).0) (sym listing.all) ∙ map.get-from_entries keys_total es (get_or es i d).0
+      ∙ found_at es i d (all.once ∙ ap map.len (sym all.all)) within
+
+  pub live_if_listed : (m : map.FinMap key_cmp V) (es : List (Key × V)) (k : Key) (v : V) → IsListing m es → Contains es (k, v) → map.get m k ≡ Some v
+  live_if_listed m es k v listing there = subst (λ (p : Key × V). map.get m p.0 ≡ Some p.1) there.2 (all_live m es listing there.0 (k, v) there.1)

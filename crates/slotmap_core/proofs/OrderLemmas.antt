@@ -144,10 +144,10 @@ module _ {V : Type 0} where
       put_in = map.same_map keys_total exact_keys _ _ (λ q.
           get-retained a.live (λ q. not (map.contains_key c.live q)) q ∙ by q (eq_by_cmp key_cmp q k) refl
           ∙ sym (map.get-insert keys_total (map.retain_keys b.live (λ q. not (map.contains_key c.live q))) k value.0 q
-              ∙ ap (cond (eq_by_cmp key_cmp q k) (Some value.0)) (get-retained b.live (λ q. not (map.contains_key c.live q)) q ∙ ap (λ o. cond (not (map.contains_key c.live q)) o None) (after q))))
+          ∙ ap (cond (eq_by_cmp key_cmp q k) (Some value.0)) (get-retained b.live (λ q. not (map.contains_key c.live q)) q ∙ ap (λ o. cond (not (map.contains_key c.live q)) o None) (after q))))
 
       one_more : keys_left a c ≡ k ∷ keys_left b c
       one_more =
           let m = map.retain_keys b.live (λ q. not (map.contains_key c.live q)) in
           ap (λ n. map.keys n) put_in ∙ ap (λ es. list_map (λ (e : Key × V). e.0) es)
-              (map.entries-insert keys_total m k value.0 ∙ put_first k value.0 (map.entries m) (λ q there. lesser k q (above q (was_live b c q (listed_left b c q there)))))
+          (map.entries-insert keys_total m k value.0 ∙ put_first k value.0 (map.entries m) (λ q there. lesser k q (above q (was_live b c q (listed_left b c q there)))))

@@ -33,7 +33,7 @@ module _ {K V : Type 0} (data_of : K → Key) where
       by false = refl
 
   -- a key that no call saw isn't kept
-  unkept : (k : Key) (xs : List (Visit K V)) → find key_cmp k (seen data_of xs) ≡ None → find key_cmp k (kept data_of xs) ≡ None
+  pub unkept : (k : Key) (xs : List (Visit K V)) → find key_cmp k (seen data_of xs) ≡ None → find key_cmp k (kept data_of xs) ≡ None
   unkept k [] none = refl
   unkept k (x ∷ xs) none = by (unkept k xs) (eq_by_cmp key_cmp k (data_of x.key)) refl x.stays none
     where

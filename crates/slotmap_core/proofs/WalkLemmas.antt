@@ -1,4 +1,4 @@
--- The live keys of a list of places and their values, by rising index, are the entries of the map that they make.
+-- The live keys of a list of places and their values, by ascending index, are the entries of the map that they make.
 use Rattle.std.proofs.Common.{◌≡◌, ℕ, ◌+◌, ◌<◌, Bool, true, false, ◌&&◌, T, List, [], ◌∷◌, map as map_list, is_some, refl, sym, ap, subst, ◌∙◌, arith}
 use Rattle.std.proofs.lemmas.List.{length-map}
 use Rattle.std.specs.Ordering.{nat_cmp, ordering_then, is_lt}
@@ -55,7 +55,7 @@ module _ {V : Type 0} where
       ap map.entries (map.same_map keys_total exact_keys (map.from_entries es) (map.from_sorted es) (λ q. map.get-from_entries keys_total es q ∙ sym (map.get-from_sorted key_cmp es q sorted)))
       ∙ map.entries-from_sorted key_cmp es sorted
 
-  -- by rising index they are the entries in the keys' order
+  -- by ascending index they are the entries in the keys' order
   pub entries-live : (ps : List (Place V)) → map.entries (live ps) ≡ entries_from 0 ps
   entries-live ps = ap map.entries (sym (from_entries-live ps)) ∙ entries-from_entries (entries_from 0 ps) (in_order 0 ps)
 

@@ -1,4 +1,5 @@
--- Laws of the replies to a list of commands. The reply to a command stands at its position: where the lists of both are cut at one length, the parts belong together.
+-- Laws of the replies to a list of commands. The reply to a command stands at its position in the list: where
+-- commands and replies before it are equally many, it is the next one's.
 use Rattle.std.specs.Prelude.{◌≡◌, ◌≢◌, ℕ, ◌<◌, List, [], ◌∷◌, ◌++◌, length, Option, Some, None, Ok, ⊤, ◌⊎◌}
 use Rattle.std.specs.List.{IsDistinct, AllByRecursion, AllZip}
 use Rattle.std.specs.Ordering.{eq_by_cmp}
@@ -26,7 +27,8 @@ module _ {K V R E : Type 0} (data_of : K → Key) where
   abbrev pub NoKeyTwice : List (Reply K V R E) → Type 0
   NoKeyTwice replies = IsDistinct (eq_by_cmp key_cmp) (keys_told replies)
 
--- Once a Remove of a key answered a value, each later Get of it answers none. `of` makes a command of the list from a plain one
+-- Once a Remove of a key answered a value, each later Get of that key answers none. (`of` makes a command of the
+-- list from a plain one)
 abbrev pub RemovedForGood : {K V R E C : Type 0} → (Command K V → C) → List C → List (Reply K V R E) → Type 0
 RemovedForGood {K} {V} {R} {E} {C} of commands replies =
     (before between after : List C) (told_before told_between told_after : List (Reply K V R E)) (key : K) (v : V) (looked : Option R)
@@ -78,7 +80,8 @@ module _ {K V R E : Type 0} (data_of : K → Key) where
       → replies ≡ told_before ++ reply.Taken (Some v) ∷ told_after
       → AllByRecursion (λ other. other ≢ data_of key) (keys_told data_of told_after)
 
-  -- once a Detach of a key answered a value, and until a Reattach of it is done, each Reattach of it is done, or refused for memory with its value back
+  -- once a Detach of a key answered a value, and until a Reattach of that key is done, each Reattach of it is
+  -- done, or refused for memory with its value back
   abbrev pub DetachedReattaches : List (DetachCommand K V) → List (Reply K V R E) → Type 0
   DetachedReattaches commands replies =
       (before between after : List (DetachCommand K V)) (told_before told_between told_after : List (Reply K V R E)) (key : K) (v w : V) (answer : Reply K V R E)
@@ -97,6 +100,7 @@ ReattachBinds {K} {V} {R} {E} commands replies =
     → replies ≡ told_before ++ reply.Done ∷ answer ∷ told_after
     → answer ≡ reply.Put (Ok w)
 
--- Where all commands insert, remove, detach or reattach, and none is refused, the inserts answer the keys of the machine that uses the place freed last first
+-- Where all commands are Insert, Remove, Detach or Reattach, and none is refused for want of places or memory,
+-- the inserts answer the keys of the machine that uses the place freed last first
 abbrev pub LastFreedFirst : {K V R E : Type 0} → (K → Key) → List (DetachCommand K V) → List (Reply K V R E) → Type 0
 LastFreedFirst data_of commands replies = AllByRecursion IsBasic commands → AllByRecursion (λ answer. IsRefusal answer → ⊥) replies → keys_told data_of replies ≡ answers data_of no_places commands

@@ -1,4 +1,5 @@
--- The machine of the maps that use the place freed last first. Each command decides its next state, and so the keys that inserts answer.
+-- The machine of the maps that use the place freed last first. The commands alone decide its states, and the
+-- keys that inserts answer.
 use Rattle.std.specs.Prelude.{ℕ, ◌+◌, List, [], ◌∷◌, ◌++◌, drop, if◌then◌else◌, ⊤}
 use Rattle.std.specs.Option.{unwrap_or}
 use Rattle.std.specs.Ordering.{nat_cmp}

@@ -1,4 +1,5 @@
--- The steps of the machine: which replies may come to a command, and what state each leaves. No reply comes but those that are named.
+-- The steps of the machine: which replies may come to a command, and what state each leaves.
+-- No reply comes but those that are named.
 use Rattle.std.specs.Prelude.{◌≡◌, ◌≢◌, ℕ, ◌+◌, ◌<◌, ◌≤◌, Some, None, Bool, true, false, Ok, Err, if◌then◌else◌, map as list_map}
 use Rattle.std.specs.FinMap as map
 use Rattle.std.specs.FinSet as set
@@ -24,14 +25,14 @@ module _ {K V R E : Type 0} (given : Given K V R E) where
     -- where old places take no memory, no old one is vacant
     pub at_peak : given.reuses ≡ true → used s ≡ s.peak
 
-  -- a fresh key is answered and bound to v; `Full` comes exactly where no place is left, and has v; `Memory` has v
+  -- a fresh key is answered, and bound to v; `Full` comes exactly where no place is left; both refusals have v
   abbrev pub StepInsert : State V → V → Reply K V R E → State V → Type 0
   StepInsert old v (reply.Key k) new = (used old ≢ most) × Fresh old (given.data_of k) × (new ≡ after_insert old (given.data_of k) v)
   StepInsert old v (reply.Full back) new = (used old ≡ most) × (back ≡ Some v) × (new ≡ old)
   StepInsert old v (reply.Memory back) new = MayLackMemory old × (back ≡ Some v) × (new ≡ old)
   StepInsert old v _ new = ⊥
 
-  -- the same with a value that `make` may give for the key; or the error that it may give for a fresh one
+  -- the same with a value that `make` may give for the key; or an error that it may give for a fresh key
   abbrev pub StepInsertWith : State V → Reply K V R E → State V → Type 0
   StepInsertWith old (reply.Key k) new = (used old ≢ most) × Fresh old (given.data_of k) × ((v : V) × given.makes k (Ok v) × (new ≡ after_insert old (given.data_of k) v))
   StepInsertWith old (reply.Full back) new = (used old ≡ most) × (back ≡ None) × (new ≡ old)
@@ -80,14 +81,15 @@ module _ {K V R E : Type 0} (given : Given K V R E) where
   StepDetach old k (reply.Taken None) new = (map.get old.live k ≡ None) × (new ≡ old)
   StepDetach old k _ new = ⊥
 
-  -- where k is detached, it is bound to v, or `Memory` has v, which comes only where no reattach is owed; else `NotDetached` has v
+  -- where k is detached, it is bound to v, or `Memory` has v, but only where no reattach is owed; else
+  -- `NotDetached` has v
   abbrev pub StepReattach : State V → Key → V → Reply K V R E → State V → Type 0
   StepReattach old k v reply.Done new = (set.contains old.detached k ≡ true) × (new ≡ after_reattach old k v)
   StepReattach old k v (reply.NotDetached back) new = (set.contains old.detached k ≡ false) × (back ≡ v) × (new ≡ old)
   StepReattach old k v (reply.Memory back) new = (set.contains old.detached k ≡ true) × (old.promised ≡ 0) × (back ≡ Some v) × (new ≡ old)
   StepReattach old k v _ new = ⊥
 
-  -- for each live key and its value there is a value that `keep` may leave and an answer that it may give, and by that answer the key stays with that value, or is live no longer
+  -- at each live key `keep` leaves a value and answers whether the key stays: it has that value, or is live no longer
   pub record Retains (old new : State V) : Type 0 where
     pub each : (k : Key) (v : V) → map.get old.live k ≡ Some v → (key : K) × (w : V) × (stays : Bool) × (given.data_of key ≡ k) × given.keeps key v w stays × (map.get new.live k ≡ (if stays then Some w else None))
     -- no other key becomes live
@@ -95,6 +97,7 @@ module _ {K V R E : Type 0} (given : Given K V R E) where
     -- the rest of the state is as before
     pub rest : new ≡ record old { live = new.live }
 
+  -- `keep` decides of each live key
   abbrev pub StepRetain : State V → Reply K V R E → State V → Type 0
   StepRetain old reply.Done new = Retains old new
   StepRetain old _ new = ⊥

@@ -9,7 +9,7 @@ ghost use Rattle.slotmap_core.specs.declared.errors.SlotsError.TheVariants.{Memo
 use std::alloc::{AllocError, AllocFailed};
 use thiserror::Error;
 
-/// A call that answers nothing but what it makes found no memory for it.
+/// No memory was left for what a call makes.
 #[derive(Debug, Drop, Error)]
 #[error("out of memory")]
 pub struct OutOfMemory;

@@ -10,10 +10,12 @@ pub use crate::json::{key_from_value, key_to_value, slots_from_value, slots_to_v
 
 /// What a list says of one place: its value, if there is one, and its version.
 ///
-/// In the list of a map that hands out its keys, a live key's place has its value and its odd
-/// version. Every other place has no value and an even version: where the place is vacant or its
-/// key is detached, one more than the version of the last key there; where it is used up, 0. Place
-/// 0 has no value and version 0.
+/// In the list of a map that hands out its keys, the place of a live key has its value and its odd
+/// version. Every other place from 1 on has no value and an even version: one more than the version
+/// of its last key, and 0 after the last version, 4294967295. So an even version other than 0 is
+/// read as a vacant place, whose next key has the version after it, and 0 as a place that is used
+/// up. A detached key is written as if it had left, and isn't detached in the map that is read.
+/// Place 0 has no value and version 0, and any even version there is read as 0.
 ///
 /// In the list of a secondary map, a place that holds nothing has no value and version 0.
 #[derive(Debug, Drop)]

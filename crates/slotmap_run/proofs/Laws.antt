@@ -19,6 +19,17 @@ pub weaker : {A : Type 0} {P Q : A → Type 0} → ((x : A) → P x → Q x) →
 weaker f [] h = tt
 weaker f (x ∷ xs) h = (f x h.0, weaker f xs h.1)
 
+no_key : (k : Key) → set.contains (set.empty {R = key_cmp}) k ≡ true → ⊥
+no_key k h = let none = set.contains-empty key_cmp k in absurd (cc)
+
+none_used : (V : Type 0) → used (empty_state {V = V}) ≡ 0
+none_used V =
+    let live : map.len (map.empty {X = V} {R = key_cmp}) ≡ 0 = map.len-empty key_cmp V in
+    let detached : set.len (set.empty {R = key_cmp}) ≡ 0 = set.len-empty key_cmp in
+    let none : retired (empty_state {V = V}) ≡ set.empty = retired_is empty_state set.empty (λ k h. absurd (no_key k h.issued)) (λ k h. absurd (no_key k h)) in
+    let lost : set.len (retired (empty_state {V = V})) ≡ 0 = ap set.len none ∙ set.len-empty key_cmp in
+    omega arith
+
 module _ {V : Type 0} where
   -- k was answered, and is neither live nor detached
   pub record Gone (s : State V) (k : Key) : Type 0 where
@@ -36,16 +47,10 @@ module _ {V : Type 0} where
   empty_good = record {
     held_issued = λ k h. elim h [
       | inl g ↦ let none : map.contains_key (map.empty {X = V} {R = key_cmp}) k ≡ false = ap is_some (map.get-empty key_cmp k) in absurd (cc)
-      | inr g ↦ let none = set.contains-empty key_cmp k in absurd (cc)
+      | inr g ↦ absurd (no_key k g)
     ];
-    apart = λ k h g. let none = set.contains-empty key_cmp k in absurd (cc);
-    within =
-        let live : map.len (map.empty {X = V} {R = key_cmp}) ≡ 0 = map.len-empty key_cmp V in
-        let detached : set.len (set.empty {R = key_cmp}) ≡ 0 = set.len-empty key_cmp in
-        let none : retired (empty_state {V = V}) ≡ set.empty =
-        retired_is empty_state set.empty (λ k h. let none = set.contains-empty key_cmp k in let is = h.issued in absurd (cc)) (λ k h. let none = set.contains-empty key_cmp k in absurd (cc)) in
-        let retired : set.len (retired (empty_state {V = V})) ≡ 0 = ap set.len none ∙ set.len-empty key_cmp in
-        omega arith;
+    apart = λ k h g. no_key k g;
+    within = let none = none_used V in omega arith;
   }
 
   bound_held : (s : State V) (k : Key) (v : V) (q : Key) → IsHeld (after_insert s k v) q → (q ≡ k) ⊎ IsHeld s q

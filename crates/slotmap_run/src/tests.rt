@@ -1,7 +1,11 @@
 //! Tests of the maps and of runs on them. Expected values come from the worked examples of the crate's description
 //! and from the Rust crate, never from this port's own answers.
 
+mod callers;
+mod drains;
+mod drops;
 mod keys;
+mod lists;
 mod maps;
 mod runs;
 mod scripts;

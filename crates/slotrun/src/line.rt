@@ -4,7 +4,7 @@ use slotmap_core::keys::{DefaultKey, KeyData};
 
 /// What a line asks for.
 #[derive(Drop)]
-pub enum Line {
+pub enum Line<'a> {
     Insert(i32),
     Get(DefaultKey),
     Remove(DefaultKey),
@@ -13,16 +13,25 @@ pub enum Line {
     Len,
     Keys,
     Clear,
+    /// Print the map's list of slots.
+    Slots,
+    /// Read the map anew from this text, which isn't looked at yet.
+    Load(&'a str),
 }
 
-impl Line {
+impl<'a> Line<'a> {
     /// Reads a line of UTF-8.
-    pub fn from_bytes(bytes: &[u8]) -> Option<Line> {
-        Line::parse(str::from_utf8(bytes).ok()?)
+    pub fn from_bytes(bytes: &'a [u8]) -> Option<Line<'a>> {
+        let text = str::from_utf8(bytes).ok()?;
+        match text.strip_prefix("load ") {
+            Some("") => None,
+            Some(list) => Some(Line::Load(list)),
+            None => Line::parse(text),
+        }
     }
 
     // Reads a line: its words, parted by one space, and nothing before or after them.
-    fn parse(text: &str) -> Option<Line> {
+    fn parse(text: &str) -> Option<Line<'a>> {
         let mut words = text.split(' ');
         let line = match words.next()? {
             "insert" => Line::Insert(number(words.next()?)?),
@@ -36,6 +45,7 @@ impl Line {
             "len" => Line::Len,
             "keys" => Line::Keys,
             "clear" => Line::Clear,
+            "slots" => Line::Slots,
             _ => return None,
         };
         match words.next() {

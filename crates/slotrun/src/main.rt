@@ -2,6 +2,7 @@
 #![tactic(auto)]
 
 mod line;
+mod list;
 mod reply;
 mod script;
 mod store;

@@ -1,13 +1,15 @@
 //! Scripts of lines, and the run of one.
 
 use crate::line::Line;
+use crate::list::{read_map, slots_text, write_refusal};
 use crate::reply::write_reply;
 use crate::store::Store;
 use slotmap_basic::SlotMap;
+use slotmap_core::errors::OutOfMemory;
 use slotmap_core::keys::DefaultKey;
 use std::alloc::{AllocFailed, Global};
-use std::io;
 use std::io::{Read, Write};
+use std::{io, mem};
 
 // Why a script ends early.
 #[derive(Drop)]
@@ -72,7 +74,7 @@ fn run(
 }
 
 // The lines of a script, the last of which may lack its line feed.
-fn parse_lines(alloc: Global, script: &[u8]) -> Result<Vec<Line>, Stop> {
+fn parse_lines<'a>(alloc: Global, script: &'a [u8]) -> Result<Vec<Line<'a>>, Stop> {
     let mut lines = Vec::new(alloc);
     if script.is_empty() {
         return Ok(lines);
@@ -87,22 +89,71 @@ fn parse_lines(alloc: Global, script: &[u8]) -> Result<Vec<Line>, Stop> {
     Ok(lines)
 }
 
-// Hands the commands of the lines to one run, and prints its replies.
+// Hands each stretch of commands to a run, and prints or reads the list of slots between them.
 fn run_lines<M: Store>(
     alloc: Global,
     lines: Vec<Line>,
     output: &mut impl Write,
 ) -> Result<(), Stop> {
     let mut map = M::start(alloc).map_err(|_| Stop::NoScript)?;
-    let mut commands = Vec::new(alloc);
+    let mut stretch = Vec::new(alloc);
     for line in lines {
-        if let Some(command) = M::command(line) {
-            commands.push(command)?;
+        match line {
+            Line::Slots => {
+                let commands = mem::replace(&mut stretch, Vec::new(alloc));
+                run_stretch(alloc, &mut map, commands, output)?;
+                write_slots(alloc, &map, output)?;
+            }
+            Line::Load(text) => {
+                let commands = mem::replace(&mut stretch, Vec::new(alloc));
+                run_stretch(alloc, &mut map, commands, output)?;
+                load(alloc, &mut map, text, output)?;
+            }
+            line => {
+                if let Some(command) = M::command(line) {
+                    stretch.push(command)?;
+                }
+            }
         }
     }
+    run_stretch(alloc, &mut map, stretch, output)
+}
+
+// Runs the commands, and prints their replies.
+fn run_stretch<M: Store>(
+    alloc: Global,
+    map: &mut M,
+    commands: Vec<M::Command>,
+    output: &mut impl Write,
+) -> Result<(), Stop> {
     let replies = map.run(alloc, commands).ok_or(Stop::NoScript)?;
     for reply in &replies {
         write_reply(output, reply).map_err(|_| Stop::Output)?;
     }
     Ok(())
+}
+
+fn write_slots<M: Store>(alloc: Global, map: &M, output: &mut impl Write) -> Result<(), Stop> {
+    let written = match slots_text(alloc, map) {
+        Ok(text) => writeln!(output, "{text}"),
+        Err(OutOfMemory) => writeln!(output, "memory"),
+    };
+    written.map_err(|_| Stop::Output)
+}
+
+// Puts the map of the text in the old one's place; after a refusal the old one stays.
+fn load<M: Store>(
+    alloc: Global,
+    map: &mut M,
+    text: &str,
+    output: &mut impl Write,
+) -> Result<(), Stop> {
+    let written = match read_map(alloc, text) {
+        Ok(read) => {
+            *map = read;
+            writeln!(output, "done")
+        }
+        Err(error) => write_refusal(output, &error),
+    };
+    written.map_err(|_| Stop::Output)
 }

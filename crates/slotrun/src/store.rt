@@ -4,8 +4,9 @@ use crate::line::Line;
 use crate::reply::LineReply;
 use slotmap_basic::SlotMap;
 use slotmap_core::commands::{Command, DetachCommand};
-use slotmap_core::errors::{OutOfMemory, ReserveError};
+use slotmap_core::errors::{OutOfMemory, ReserveError, SlotsError};
 use slotmap_core::keys::DefaultKey;
+use slotmap_core::serial::SlotRecord;
 use slotmap_run::detaching::run_detaching;
 use std::alloc::Global;
 
@@ -16,6 +17,12 @@ pub trait Store: Sized + Drop {
 
     /// A new map.
     fn start(alloc: Global) -> Result<Self, ReserveError>;
+
+    /// The map that a list of slots gives.
+    fn from_slots(alloc: Global, list: Vec<SlotRecord<i32>>) -> Result<Self, SlotsError>;
+
+    /// The list of the map's slots.
+    fn to_slots(&self) -> Result<Vec<SlotRecord<i32>>, OutOfMemory>;
 
     /// The command of a line, if this map has one for it.
     fn command(line: Line) -> Option<Self::Command>;
@@ -29,6 +36,14 @@ impl Store for SlotMap<DefaultKey, i32> {
 
     fn start(alloc: Global) -> Result<Self, ReserveError> {
         SlotMap::with_key(alloc)
+    }
+
+    fn from_slots(alloc: Global, list: Vec<SlotRecord<i32>>) -> Result<Self, SlotsError> {
+        SlotMap::from_slots(alloc, list)
+    }
+
+    fn to_slots(&self) -> Result<Vec<SlotRecord<i32>>, OutOfMemory> {
+        SlotMap::to_slots(self)
     }
 
     fn command(line: Line) -> Option<DetachCommand<DefaultKey, i32>> {
@@ -60,6 +75,6 @@ fn plain(line: Line) -> Option<Command<DefaultKey, i32>> {
         Line::Len => Some(Command::Len),
         Line::Keys => Some(Command::Keys),
         Line::Clear => Some(Command::Clear),
-        Line::Detach(_) | Line::Reattach(..) => None,
+        Line::Detach(_) | Line::Reattach(..) | Line::Slots | Line::Load(_) => None,
     }
 }

@@ -32,6 +32,14 @@ fn scripts(rt: HostRuntime) -> Result<(), Fail> {
             "key 4294967297\nkey 4294967298\nkeys 4294967297 4294967298\ndone\nkeys\nlen 0\n",
         ),
         (
+            "insert 5\ninsert 6\nremove 4294967298\ninsert 7\nget 4294967298\nkeys\nslots\n",
+            "key 4294967297\nkey 4294967298\nvalue 6\nkey 12884901890\nnone\nkeys 4294967297 12884901890\n[{\"value\":null,\"version\":0},{\"value\":5,\"version\":1},{\"value\":7,\"version\":3}]\n",
+        ),
+        (
+            "load [{\"value\":null,\"version\":0},{\"value\":7,\"version\":4294967295}]\nremove 18446744069414584321\ninsert 8\nslots\nload []\nload [{\"version\":0},{\"version\":1}]\nload x\nlen\n",
+            "done\nvalue 7\nkey 4294967298\n[{\"value\":null,\"version\":0},{\"value\":null,\"version\":0},{\"value\":8,\"version\":1}]\nfirst not empty\ninconsistent 1\nshape\nlen 1\n",
+        ),
+        (
             "insert -0\nget 018446744073709551615\n",
             "key 4294967297\nnone\n",
         ),

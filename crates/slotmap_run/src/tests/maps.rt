@@ -230,3 +230,19 @@ fn walks_give_each_pair_once_and_stay_at_the_end(rt: HostRuntime) -> Result<(), 
     assert_eq!(rt; owned.len(), 3);
     Ok(())
 }
+
+#[test]
+fn a_clone_keeps_detached_keys(rt: HostRuntime) -> Result<(), Fail> {
+    let mut map = Map::new(rt.alloc())?;
+    let first = key(put(&mut map, 1)?);
+    let second = key(put(&mut map, 2)?);
+    assert_eq!(rt; map.detach(second), Some(2));
+    let mut copy = map.clone()?;
+    assert_eq!(rt; copy.remove(first), Some(1));
+    assert_eq!(rt; map.get(first).copied(), Some(1));
+    assert!(rt; copy.reattach(second, 3).is_ok());
+    assert!(rt; !map.contains_key(second));
+    assert_eq!(rt; put(&mut copy, 4)?, 12884901889);
+    assert_eq!(rt; put(&mut map, 4)?, 4294967299);
+    Ok(())
+}

@@ -1,5 +1,8 @@
-use Rattle.slotmap_basic.proofs.DrainLemmas.{stays}
+use Rattle.slotmap_basic.proofs.DrainLemmas.{Drain-keeps_along, Drain-lists}
 use Rattle.slotmap_basic.proofs.SlotMap.drain.Goals as goal
 
 pub returns-clause-stays : goal.returns-clause-stays
-returns-clause-stays g c = stays g.K.Key.data_of _
+returns-clause-stays g c = Drain-keeps_along g.K.Key.data_of _
+
+pub returns-clause-lists : goal.returns-clause-lists
+returns-clause-lists g c = Drain-lists g.K.Key.data_of _

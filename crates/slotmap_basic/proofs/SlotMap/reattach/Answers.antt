@@ -43,3 +43,13 @@ pub returns-clause-valid : goal.returns-clause-valid
 returns-clause-valid g c =
     let m = c.self.inside in
     valid _ _ _ _ (invariant_of-self g c) _ _ _ (omega (arith, m.versions.ok.0, m.versions.ok.1, length-set {A = ℕ})) (omega (arith, m.links.ok.0, m.links.ok.1, length-set {A = Link})) (omega (arith, m.values.ok.0, m.values.ok.1, length-set m.values.items c.in-Some.index (Some c.args.value)))
+
+pub returns-in_default-clause-was_valid : goal.returns-in_default-clause-was_valid
+returns-in_default-clause-was_valid g c =
+    let m = c.self.inside in
+    rw (← c.self.view_is) (valid _ _ _ _ c.self.invariant _ _ _ (omega (arith, m.versions.ok.0, m.versions.ok.1)) (omega (arith, m.links.ok.0, m.links.ok.1)) (omega (arith, m.values.ok.0, m.values.ok.1)))
+
+pub returns-clause-was_valid : goal.returns-clause-was_valid
+returns-clause-was_valid g c =
+    let m = c.self.inside in
+    rw (← c.self.view_is) (valid _ _ _ _ c.self.invariant _ _ _ (omega (arith, m.versions.ok.0, m.versions.ok.1)) (omega (arith, m.links.ok.0, m.links.ok.1)) (omega (arith, m.values.ok.0, m.values.ok.1)))

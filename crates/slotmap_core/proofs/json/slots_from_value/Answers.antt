@@ -1,15 +1,13 @@
-use Rattle.std.proofs.Common.{◌≡◌, ◌+◌, ◌∙◌, Some, Err, take, map, sym, ap, subst, rules, arith}
+use Rattle.std.proofs.Common.{◌≡◌, ◌∙◌, Some, Err, ap, rules, arith}
 use Rattle.serde_json.specs.View.{view, items_view}
-use Rattle.slotmap_core.specs.Json.{ReadsJson, ReadsAll}
+use Rattle.slotmap_core.specs.Json.{ReadsJson}
 use Rattle.slotmap_core.specs.declared.errors.JsonError.TheVariants.{Memory}
 use Rattle.slotmap_core.proofs.JsonLemmas.{some_asked, has_elements, reads_further, refuses_at}
 use Rattle.slotmap_core.proofs.json.slots_from_value.Goals as goal
 
 pub loop-element-preserved : goal.loop-element-preserved
 loop-element-preserved g c =
-    let reads = ReadsJson g.G.Fn c.args.g in
-    let more = reads_further reads _ _ _ c.element-item.result c.in_ok-slot_from_value.field-0 c.loop-element-test.true c.element-item.is c.loop-element.invariant c.in_ok-slot_from_value.ensures in
-    subst (ReadsAll reads (map view (take (c.loop-element.element-index + 1) c.deref-element-items.result.now))) (sym c.in_ok-push.ensures.items) more
+    reads_further (ReadsJson g.G.Fn c.args.g) c.deref-element-items.result.now c.loop-element.slots.items _ c.loop-element.element-index c.element-item.result c.in_ok-slot_from_value.field-0 c.loop-element-test.true c.element-item.is c.loop-element.invariant c.in_ok-slot_from_value.ensures c.in_ok-push.ensures.items
 
 pub returns-in_err-slot_from_value-clause-err : goal.returns-in_err-slot_from_value-clause-err
 returns-in_err-slot_from_value-clause-err g c =

@@ -1,11 +1,10 @@
-use Rattle.std.proofs.Common.{◌≡◌, ◌+◌, Some, refl, sym, ap, ◌∙◌, subst, inl, arith}
+use Rattle.std.proofs.Common.{◌+◌, refl, sym, ap, ◌∙◌, inl, arith}
 use Rattle.std.specs.FinMap as map
 use Rattle.slotmap_core.specs.Listing.{NoneBelow}
 use Rattle.slotmap_core.proofs.KeyLemmas.{keys_total, exact_keys}
 use Rattle.slotmap_core.proofs.Maps.{len_removed}
 use Rattle.slotmap_core.proofs.IndexLemmas.{alone_at, NoneBelow-removed, NoneBelow-end}
 use Rattle.slotmap_core.proofs.SweepLemmas.{Empties-first}
-use Rattle.slotmap_basic.proofs.DrainLemmas.{DrainKeeps-refl}
 use Rattle.slotmap_basic.proofs.drain.DrainIterator.next.Goals as goal
 
 pub returns-in-Some-clause-steps : goal.returns-in-Some-clause-steps
@@ -19,7 +18,7 @@ returns-in-Some-clause-steps g c =
     let later : NoneBelow c.remove.new.self.live (at.index + 1) = rw removes.live (NoneBelow-removed now.live at.index key (alone_at now well key at.index found.0 found.1) c.loop-self.invariant.ready) in
     rw (← c.loop-self.invariant.same) (
       (sym c.remove.ensures.value ∙ c.unwrap-value.ensures, removes),
-      record { same_reference = refl; ends = λ end empties. Empties-first now c.remove.new.self end key well found.0 removes c.remove.ensures.capacity (λ q there. omega (arith, later q there, found.1)) empties },
+      (refl, λ end empties. Empties-first now c.remove.new.self end key well found.0 removes c.remove.ensures.capacity (λ q there. omega (arith, later q there, found.1)) empties),
       later,
     )
 
@@ -42,4 +41,4 @@ returns-clause-steps g c =
     let at = c.loop-self.self in
     let now = at.map.now in
     let none = NoneBelow-end now.live at.index (λ q there. omega (arith, (c.num_places.ensures.valid.within q (inl (inl there))).1, c.num_places.ensures.count)) c.loop-self.invariant.ready in
-    rw (← c.loop-self.invariant.same) ((none, refl), record { same_reference = refl; ends = λ end empties. empties }, c.loop-self.invariant.ready)
+    rw (← c.loop-self.invariant.same) ((none, refl), (refl, λ end empties. empties), c.loop-self.invariant.ready)

@@ -1,0 +1,24 @@
+//! Containers that hand out their own keys: all names in one place.
+//!
+//! [`SlotMap`] stores values under keys that it makes; its walks stand in [`basic`]. Keys, errors, lists of slots and the
+//! traits of the maps come from `slotmap_core`, runs of commands from `slotmap_run`.
+#![tactic(auto)]
+
+/// The walks of [`SlotMap`].
+pub mod basic {
+    pub use slotmap_basic::{Drain, IntoIter, Iter, Keys, SlotMap, Values};
+}
+
+pub use slotmap_basic::SlotMap;
+pub use slotmap_core::commands::{Command, DetachCommand, Reply};
+pub use slotmap_core::errors::{
+    InsertError, InsertWithError, JsonError, OutOfMemory, PutError, ReattachError, ReserveError,
+    SlotsError, TryInsertError,
+};
+pub use slotmap_core::keys::{DefaultKey, Key, KeyData, NodeKey, is_older_version};
+pub use slotmap_core::primary::{Detaching, Primary};
+pub use slotmap_core::serial::{
+    SlotRecord, check_slots, key_from_value, key_to_value, slots_from_value, slots_to_value,
+};
+pub use slotmap_run::detaching::{run_detaching, run_detaching_new};
+pub use slotmap_run::primary::{run, run_new};
