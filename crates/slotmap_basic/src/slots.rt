@@ -35,7 +35,7 @@ fn slot_of<V: Clone>(value: &Option<V>, version: u32) -> Result<SlotRecord<V>, O
 }
 
 impl<K: Key, V: Drop> SlotMap<K, V> {
-    /// The map written as a list: a slot for each place, from place 0 on, with a clone of its value.
+    /// The map written as a list of slots, one for each place, with clones of the values.
     ///
     /// A live key's place has its value and its odd version. Every other place has no value and an
     /// even version: where the place is vacant or its key is detached, one more than the version of
