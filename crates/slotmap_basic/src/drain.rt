@@ -76,9 +76,9 @@ impl<K: Key, V: Drop> SlotMap<K, V> {
 
     /// Takes the live keys with their values out, by ascending index.
     ///
-    /// Each key is removed as it comes, as `remove` does: its place is used again, under a newer key. The walk may be
-    /// dropped at any step, and then the keys that are left are removed too. Detached keys stay detached. All steps and
-    /// the drop together go over all places of the map once.
+    /// Each key is removed as it comes, as `remove` does. The walk may be dropped at any step, and then the keys that are
+    /// left are removed too. Detached keys stay detached. All steps and the drop together go over all places of the map
+    /// once.
     ///
     /// ```
     /// for (key, value) in map.drain() {

@@ -42,8 +42,8 @@ impl<K: Key, V: Drop> SlotMap<K, V> {
 
     /// Removes every live key, and drops its value.
     ///
-    /// The places are used again, under newer keys, and the room stays. Detached keys stay detached. It goes over all
-    /// places of the map once.
+    /// The keys are removed as `remove` does, and the capacity stays. Detached keys stay detached. It goes over all places
+    /// of the map once.
     pub fn clear(&mut self)
         ensures empty { self.new.live ≡ map.empty }
         ensures leaves { Leaves self.old self.new }
