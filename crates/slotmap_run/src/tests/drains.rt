@@ -8,9 +8,9 @@ fn a_drained_map_uses_its_places_again(rt: HostRuntime) -> Result<(), Fail> {
     let mut map = Map::new(rt.alloc())?;
     put(&mut map, 1)?;
     put(&mut map, 2)?;
-    let mut seen = 0;
+    let mut seen: u64 = 0;
     for (_, value) in map.drain() {
-        seen = seen * 10 + value;
+        seen = seen.wrapping_mul(10).wrapping_add(value);
     }
     assert_eq!(rt; seen, 12);
     assert_eq!(rt; put(&mut map, 3)?, 12884901890);

@@ -37,9 +37,9 @@ fn each_value_is_dropped_once(rt: HostRuntime) -> Result<(), Fail> {
         let made = map.insert(Counted { drops: &drops });
         keys.push(made.ok().ok_or("an insert was refused")?)?;
     }
-    for position in 0..1000 {
+    for (position, key) in keys.iter().enumerate() {
         if position % 2 == 0 {
-            map.remove(keys[position]);
+            map.remove(*key);
         }
     }
     assert_eq!(rt; drops.get(), 500);

