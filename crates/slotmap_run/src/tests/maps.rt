@@ -40,6 +40,8 @@ fn values_are_written_in_place(rt: HostRuntime) -> Result<(), Fail> {
     }
     if map.contains_key(second) {
         map[second] = 22;
+    }
+    if map.contains_key(second) {
         assert_eq!(rt; map[second], 22);
     }
     if map.contains_key(second) {
