@@ -1,4 +1,5 @@
 pub mod SlotLemmas
+pub mod WellFormed
 pub mod ReadLemmas
 pub mod PairsLemmas
 pub mod DrainLemmas

@@ -20,6 +20,7 @@ impl<K: Key, V: Drop> SlotMap<K, V> {
         ensures live { IfSome result (λ index.
             IsLive self.now (K.data_of key) × (index ≡ (K.data_of key).index)) }
         ensures absent { IfNone result (map.contains_key self.now.live (K.data_of key) ≡ false) }
+        ensures valid { IsContent true self.now }
     {
         let key = key.data();
         let index = key.idx() as usize;
@@ -35,14 +36,16 @@ impl<K: Key, V: Drop> SlotMap<K, V> {
     /// A detached key isn't, nor is the null key, nor a key of another map, as long as this map has
     /// no live key of the same index and version.
     pub fn contains_key(&self, key: K) -> bool
-        ensures { result ≡ map.contains_key self.now.live (K.data_of key) }
+        ensures value { result ≡ map.contains_key self.now.live (K.data_of key) }
+        ensures valid { IsContent true self.now }
     {
         self.live_index(key).is_some()
     }
 
     /// The value of a live key, or none where the key isn't live. Constant time.
     pub fn get(&self, key: K) -> Option<&V>
-        ensures { option_copied result ≡ map.get self.now.live (K.data_of key) }
+        ensures value { option_copied result ≡ map.get self.now.live (K.data_of key) }
+        ensures valid { IsContent true self.now }
     {
         let index = self.live_index(key)?;
         self.values[index].as_ref()
@@ -93,6 +96,7 @@ impl<K: Key, V: Drop> SlotMap<K, V> {
         ensures replaces { OnOk result (self.new ≡ with_value self.old (K.data_of key) value) }
         ensures err { IfErr result (λ back. ¬ (IsLive self.old (K.data_of key)) × (back ≡ value)) }
         ensures unchanged { OnErr result (self.new ≡ self.old) }
+        ensures was_valid { IsContent true self.old }
         ensures valid { IsContent true self.new }
     {
         let _ = &self.num_elems;

@@ -65,8 +65,8 @@ impl<K: Key, V: Drop> SlotMap<K, V> {
 
     /// Binds a detached key to a value again. Constant time.
     ///
-    /// `NotDetached`, with the value back and nothing changed, exactly where the key isn't detached;
-    /// Rust panics there. Takes no memory, so `Memory` is never answered.
+    /// `NotDetached`, with the value back and nothing changed, exactly where the key isn't
+    /// detached; Rust panics there. Takes no memory, so `Memory` is never answered.
     pub fn reattach(&mut self, key: K, value: V) -> Result<(), ReattachError<V>>
         ensures ok { OnOk result (Reattaches self.old (K.data_of key) value self.new) }
         ensures err { IfErr result (λ error. (error ≡ ReattachError.NotDetached value)

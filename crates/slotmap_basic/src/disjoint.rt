@@ -1,19 +1,21 @@
 //! Several values at once.
+
 ghost use Rattle.std.specs.Prelude.{◌≡◌, ◌↔◌, IsTrue, IsOk, IfOk, OnOk, OnErr, IfErr, Some, true, map as map_list};
 ghost use Rattle.std.specs.FinMap as map;
 ghost use Rattle.slotmap_core.specs.Content.{IsContent, IsLive};
 ghost use Rattle.slotmap_core.specs.Transition.{with_value};
 ghost use Rattle.slotmap_core.specs.Disjoint.{CanReplace, AreValuesOf, with_values};
 
-use super::SlotMap;
+use crate::SlotMap;
 use slotmap_core::keys::Key;
 use std::mem;
 
 impl<K: Key, V: Drop> SlotMap<K, V> {
     /// Gives each key the value at its place, and answers the values that the keys had.
     ///
-    /// Where one of the keys is not live, or two are equal, it hands the values back, and the map stays as it is. It takes
-    /// no memory, and its time does not depend on the size of the map: it looks up each key, and compares each two.
+    /// Where one of the keys is not live, or two are equal, it hands the values back, and the map
+    /// stays as it is. It takes no memory, and its time does not depend on the size of the map: it
+    /// looks up each key, and compares each two.
     ///
     /// ```
     /// if let Ok([old_a, old_b]) = map.replace_disjoint([a, b], [1, 2]) {

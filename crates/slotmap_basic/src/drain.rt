@@ -9,7 +9,8 @@ use crate::SlotMap;
 use slotmap_core::keys::Key;
 use std::iter::FusedIterator;
 
-/// A walk that takes the pairs out of a map, by ascending index. Once it is dropped, no key of the map is live.
+/// A walk that takes the pairs out of a map, by ascending index. Once it is dropped, no key of the
+/// map is live.
 ///
 /// `SlotMap::drain` makes it. Its drop goes on from where the walk stands.
 pub struct Drain<'a, K: Key, V> {
@@ -46,8 +47,7 @@ impl<'a, K: Key, V: Drop> Iterator for Drain<'a, K, V> {
             let index = self.index;
             self.index += 1;
             if let Some(key) = self.map.key_at(index) {
-                let value = self.map.remove(key).unwrap();
-                return Some((key, value));
+                return Some((key, self.map.take_live(key)));
             }
         }
         None
@@ -76,9 +76,9 @@ impl<K: Key, V: Drop> SlotMap<K, V> {
 
     /// Takes the live keys with their values out, by ascending index.
     ///
-    /// Each key is removed as it comes, as `remove` does. The walk may be dropped at any step, and then the keys that are
-    /// left are removed too. Detached keys stay detached. All steps and the drop together go over all places of the map
-    /// once.
+    /// Each key is removed as it comes, as `remove` does. The walk may be dropped at any step, and
+    /// then the keys that are left are removed too. Detached keys stay detached. All steps and the
+    /// drop together go over all places of the map once.
     ///
     /// ```
     /// for (key, value) in map.drain() {
@@ -91,7 +91,9 @@ impl<K: Key, V: Drop> SlotMap<K, V> {
         ensures ready { DrainCanStep result }
         ensures stays { DrainKeepsAlong K.data_of result }
         ensures lists { DrainLists K.data_of result }
+        ensures was_valid { IsContent true self.old }
     {
+        let _ = &self.num_elems;
         Drain {
             map: self,
             index: 0,

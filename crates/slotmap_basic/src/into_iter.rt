@@ -1,19 +1,21 @@
 //! The walk that takes a map apart.
+
 ghost use Rattle.std.specs.Prelude.{◌≡◌, ◌≤◌, length, Some, IfSome, IfOk};
 ghost use Rattle.std.specs.Iterator.{YieldsFirstBy, item_count, at_most, UpTo};
 ghost use Rattle.std.specs.FinMap as map;
 ghost use Rattle.slotmap_core.specs.Listing.{IsListing};
 
-use super::SlotMap;
+use crate::SlotMap;
 use slotmap_core::keys::{Key, KeyData};
 use std::alloc::AllocError;
 use std::marker::{Model, PhantomData};
 
-/// A walk over the live keys of a map and their values, by value and by ascending index: what a `for` over a map takes.
+/// A walk over the live keys of a map and their values, by value and by ascending index: what a
+/// `for` over a map takes.
 ///
-/// A contract sees it as the list of the pairs that are still to come. At its end it stays there. A full walk reads the
-/// version of each place once, up to the last live one, and takes no memory. Values that it has not handed out are
-/// dropped with it.
+/// A contract sees it as the list of the pairs that are still to come. At its end it stays there. A
+/// full walk reads the version of each place once, up to the last live one, and takes no memory.
+/// Values that it has not handed out are dropped with it.
 #[derive(Drop)]
 pub struct IntoIter<K, V> {
     versions: Vec<u32>,
@@ -49,8 +51,8 @@ impl<K, V> IntoIter<K, V> {
 impl<K, V: Clone> IntoIter<K, V> {
     /// A second walk over the pairs that are still to come, with clones of the values.
     ///
-    /// The caller answers for it that a clone of a value equals the value. Where there is no memory it refuses, and the
-    /// walk stays as it is. It copies each place of the map.
+    /// The caller answers for it that a clone of a value equals the value. Where there is no memory
+    /// it refuses, and the walk stays as it is. It copies each place of the map.
     pub fn clone(&self) -> Result<Self, AllocError>
         requires { (x y : V) → V.is_clone x y → y ≡ x }
         ensures { IfOk result (λ copy. copy ≡ self.now) }

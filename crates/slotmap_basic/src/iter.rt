@@ -1,18 +1,19 @@
 //! Walks over the keys and values of a map, by ascending index.
+
 ghost use Rattle.std.specs.Prelude.{◌≡◌, ◌≤◌, length, Some, IfSome, ⊤};
 ghost use Rattle.std.specs.Iterator.{YieldsFirstBy, item_count, at_most, UpTo};
 ghost use Rattle.std.specs.FinMap as map;
 ghost use Rattle.slotmap_core.specs.Listing.{IsListing, IsKeyListing, IsValueListing};
 
-use super::SlotMap;
+use crate::SlotMap;
 use slotmap_core::keys::{Key, KeyData};
 use std::alloc::AllocError;
 use std::marker::{Model, PhantomData};
 
 /// A walk over the live keys of a map and their values, by ascending index: see [`SlotMap::iter`].
 ///
-/// A contract sees it as the list of the pairs that are still to come. At its end it stays there. A clone of it walks over
-/// the same pairs, and takes no memory.
+/// A contract sees it as the list of the pairs that are still to come. At its end it stays there. A
+/// clone of it walks over the same pairs, and takes no memory.
 #[derive(Drop)]
 pub struct Iter<'a, K, V> {
     versions: &'a [u32],
@@ -94,8 +95,8 @@ impl<'a, K: Key, V> Iterator for Iter<'a, K, V> {
 
 /// A walk over the live keys of a map, by ascending index: see [`SlotMap::keys`].
 ///
-/// A contract sees it as the list of the keys that are still to come. At its end it stays there. A clone of it walks over
-/// the same keys, and takes no memory.
+/// A contract sees it as the list of the keys that are still to come. At its end it stays there. A
+/// clone of it walks over the same keys, and takes no memory.
 #[derive(Drop)]
 pub struct Keys<'a, K, V> {
     pairs: Iter<'a, K, V>,
@@ -155,8 +156,8 @@ impl<'a, K: Key, V> Iterator for Keys<'a, K, V> {
 
 /// A walk over the values of a map, by ascending index of their keys: see [`SlotMap::values`].
 ///
-/// A contract sees it as the list of the values that are still to come. At its end it stays there. A clone of it walks over
-/// the same values, and takes no memory.
+/// A contract sees it as the list of the values that are still to come. At its end it stays there.
+/// A clone of it walks over the same values, and takes no memory.
 #[derive(Drop)]
 pub struct Values<'a, K, V> {
     pairs: Iter<'a, K, V>,
@@ -216,8 +217,9 @@ impl<'a, K: Key, V> Iterator for Values<'a, K, V> {
 impl<K: Key, V> SlotMap<K, V> {
     /// A walk over the live keys and their values, by ascending index.
     ///
-    /// It is made in constant time. A full walk reads the version of each place once, up to the last live one, and takes no
-    /// memory. No walk lends the values for writing: call `retain` with a closure that writes and answers true.
+    /// It is made in constant time. A full walk reads the version of each place once, up to the
+    /// last live one, and takes no memory. No walk lends the values for writing: call `retain` with
+    /// a closure that writes and answers true.
     ///
     /// ```
     /// for (key, value) in map.iter() {
@@ -252,8 +254,8 @@ impl<K: Key, V> SlotMap<K, V> {
 
     /// A walk over the values of the live keys, by ascending index of their keys.
     ///
-    /// It costs the same as [`SlotMap::iter`]. No walk lends the values for writing: call `retain` with a closure that
-    /// writes and answers true.
+    /// It costs the same as [`SlotMap::iter`]. No walk lends the values for writing: call `retain`
+    /// with a closure that writes and answers true.
     pub fn values(&self) -> Values<'_, K, V>
         ensures listing { IsValueListing self.now.live result }
         ensures in_order { result ≡ map.values self.now.live }

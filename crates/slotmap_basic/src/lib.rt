@@ -256,6 +256,7 @@ impl<K: Key, V: Drop> SlotMap<K, V> {
         ensures succeeds { additional ≤ self.old.room → IsOk result }
         ensures had_room { additional ≤ self.old.room → self.new ≡ self.old }
         ensures reuses { additional ≤ map.len self.old.next → IsOk result }
+        ensures was_valid { IsContent true self.old }
         ensures valid { IsContent true self.new }
     {
         self.reserve(additional)

@@ -1,6 +1,6 @@
 //! Removals, and what a walk over the places does.
 
-ghost use Rattle.std.specs.Prelude.{◌≡◌, ◌+◌, ◌≤◌, OnSome, IfNone, IfSome, true, false};
+ghost use Rattle.std.specs.Prelude.{◌≡◌, ◌+◌, ◌≤◌, OnSome, IfNone, IfSome, Some, true, false};
 ghost use Rattle.std.specs.FinMap as map;
 ghost use Rattle.slotmap_core.specs.Key.{Key as KeyOf};
 ghost use Rattle.slotmap_core.specs.Content.{IsContent, IsLive, places};
@@ -19,12 +19,29 @@ impl<K: Key, V: Drop> SlotMap<K, V> {
         ensures removes { OnSome result (Removes self.old (K.data_of key) self.new) }
         ensures absent { IfNone result (self.new ≡ self.old) }
         ensures capacity { self.new.capacity ≡ self.old.capacity }
+        ensures was_valid { IsContent true self.old }
         ensures valid { IsContent true self.new }
     {
-        let _ = &self.num_elems;
-        let index = self.live_index(key)?;
-        let version = key.data().version();
-        let value = self.values[index].take();
+        if self.contains_key(key) {
+            Some(self.take_live(key))
+        } else {
+            None
+        }
+    }
+
+    // Takes the value of a live key out, with no look-up.
+    pub(crate) fn take_live(&mut self, key: K) -> V
+        requires { IsLive self.old (K.data_of key) }
+        ensures value { map.get self.old.live (K.data_of key) ≡ Some result }
+        ensures removes { Removes self.old (K.data_of key) self.new }
+        ensures capacity { self.new.capacity ≡ self.old.capacity }
+        ensures was_valid { IsContent true self.old }
+        ensures valid { IsContent true self.new }
+    {
+        let data = key.data();
+        let index = data.idx() as usize;
+        let version = data.version();
+        let value = self.values[index].take().unwrap();
         self.versions[index] = version.wrapping_add(1);
         self.num_elems -= 1;
         if version == u32::MAX {
@@ -58,15 +75,5 @@ impl<K: Key, V: Drop> SlotMap<K, V> {
         } else {
             None
         }
-    }
-
-    // Takes a live key out, and drops its value.
-    pub(crate) fn evict(&mut self, key: K)
-        requires { IsLive self.old (K.data_of key) }
-        ensures removes { Removes self.old (K.data_of key) self.new }
-        ensures capacity { self.new.capacity ≡ self.old.capacity }
-        ensures valid { IsContent true self.new }
-    {
-        let _ = self.remove(key).unwrap();
     }
 }

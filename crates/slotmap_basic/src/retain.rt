@@ -13,10 +13,11 @@ use slotmap_core::errors::OutOfMemory;
 use slotmap_core::keys::Key;
 
 impl<K: Key, V: Drop> SlotMap<K, V> {
-    /// Calls `f` once at each live key and its value, and removes the keys at which it answers `false`.
+    /// Calls `f` once at each live key and its value, and removes the keys at which it answers
+    /// `false`.
     ///
-    /// What `f` writes to a value that stays is kept. The keys are visited by ascending index. Detached keys aren't
-    /// visited, and stay detached. It goes over all places of the map once.
+    /// What `f` writes to a value that stays is kept. The keys are visited by ascending index.
+    /// Detached keys aren't visited, and stay detached. It goes over all places of the map once.
     ///
     /// ```
     /// map.retain(|_, value| *value % 2 == 0);
@@ -29,12 +30,13 @@ impl<K: Key, V: Drop> SlotMap<K, V> {
         ensures leaves { Leaves self.old self.new }
         ensures order { FreesByIndex self.old self.new }
         ensures capacity { self.new.capacity ≡ self.old.capacity }
+        ensures was_valid { IsContent true self.old }
         ensures valid { IsContent true self.new }
     {
         for index in 0..self.num_places() {
             if let Some(key) = self.key_at(index) {
                 if !f(key, self.get_unchecked_mut(key)) {
-                    self.evict(key);
+                    self.take_live(key);
                 }
             }
         }
@@ -42,13 +44,14 @@ impl<K: Key, V: Drop> SlotMap<K, V> {
 
     /// Removes every live key, and drops its value.
     ///
-    /// The keys are removed as `remove` does, and the capacity stays. Detached keys stay detached. It goes over all places
-    /// of the map once.
+    /// The keys are removed as `remove` does, and the capacity stays. Detached keys stay detached.
+    /// It goes over all places of the map once.
     pub fn clear(&mut self)
         ensures empty { self.new.live ≡ map.empty }
         ensures leaves { Leaves self.old self.new }
         ensures order { FreesByIndex self.old self.new }
         ensures capacity { self.new.capacity ≡ self.old.capacity }
+        ensures was_valid { IsContent true self.old }
         ensures valid { IsContent true self.new }
     {
         self.clear_from(0);
@@ -61,19 +64,20 @@ impl<K: Key, V: Drop> SlotMap<K, V> {
         ensures leaves { Leaves self.old self.new }
         ensures order { FreesByIndex self.old self.new }
         ensures capacity { self.new.capacity ≡ self.old.capacity }
+        ensures was_valid { IsContent true self.old }
         ensures valid { IsContent true self.new }
     {
         for index in start..self.num_places() {
             if let Some(key) = self.key_at(index) {
-                self.evict(key);
+                self.take_live(key);
             }
         }
     }
 
     /// Appends every live key to `out`, by ascending index.
     ///
-    /// It first asks for all the room that it needs. Where there is no memory for it, it is refused, and `out` stays as it
-    /// is. It goes over all places of the map once.
+    /// It first asks for all the room that it needs. Where there is no memory for it, it is
+    /// refused, and `out` stays as it is. It goes over all places of the map once.
     pub fn keys_into(&self, out: &mut Vec<K>) -> Result<(), OutOfMemory>
         ensures listed { OnOk result ((keys : List K) × (out.new.items ≡ out.old.items ++ keys) × IsKeyListing self.now.live (list_map K.data_of keys)) }
         ensures err { OnErr result (out.new.items ≡ out.old.items) }
@@ -89,9 +93,9 @@ impl<K: Key, V: Drop> SlotMap<K, V> {
 
     /// Takes every live key with its value out, and appends them to `out`, by ascending index.
     ///
-    /// The keys are removed as `remove` does, and detached keys stay detached. It first asks for all the room that it
-    /// needs. Where there is no memory for it, it is refused, and the map and `out` stay as they are. It goes over all
-    /// places of the map once.
+    /// The keys are removed as `remove` does, and detached keys stay detached. It first asks for
+    /// all the room that it needs. Where there is no memory for it, it is refused, and the map and
+    /// `out` stay as they are. It goes over all places of the map once.
     pub fn drain_into(&mut self, out: &mut Vec<(K, V)>) -> Result<(), OutOfMemory>
         ensures listed { OnOk result ((pairs : List (K × V)) × (out.new.items ≡ out.old.items ++ pairs) × IsListing self.old.live (list_map (λ p. (K.data_of p.0, p.1)) pairs)) }
         ensures empty { OnOk result (self.new.live ≡ map.empty) }
@@ -101,12 +105,13 @@ impl<K: Key, V: Drop> SlotMap<K, V> {
         ensures err { OnErr result (out.new.items ≡ out.old.items) }
         ensures unchanged { OnErr result (self.new ≡ self.old) }
         ensures capacity { self.new.capacity ≡ self.old.capacity }
+        ensures was_valid { IsContent true self.old }
         ensures valid { IsContent true self.new }
     {
         out.reserve(self.len())?;
         for index in 0..self.num_places() {
             if let Some(key) = self.key_at(index) {
-                let value = self.remove(key).unwrap();
+                let value = self.take_live(key);
                 out.push_reserved((key, value));
             }
         }

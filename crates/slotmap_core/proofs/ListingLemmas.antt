@@ -5,7 +5,7 @@ use Rattle.std.specs.Ordering.{eq_by_cmp}
 use Rattle.std.specs.FinMap as map
 use Rattle.std.specs.FinMap.Entries.{find, is_some-find}
 use Rattle.std.specs.FinSet as set
-use Rattle.std.proofs.lemmas.List.{length_push}
+use Rattle.std.proofs.lemmas.List.{length_push, length-map}
 use Rattle.slotmap_core.specs.Key.{Key, key_cmp}
 use Rattle.slotmap_core.specs.Listing.{IsListing, IsKeyListing, IsListingBut, with_entries}
 use Rattle.slotmap_core.proofs.KeyLemmas.{keys_total, exact_keys, tied, itself}
@@ -164,12 +164,8 @@ module _ {V : Type 0} where
   IsKeyListing-listing m es listing = record {
     all = λ k. set.contains-from_list keys_total (list_map (λ e. e.0) es) k ∙ sym (is_some-find key_cmp k es)
         ∙ ap is_some (sym (map.get-from_entries keys_total es k)) ∙ ap (λ n. map.contains_key n k) listing.all;
-    once = same_length es ∙ listing.once;
+    once = length-map es (λ e. e.0) ∙ listing.once;
   }
-    where
-      same_length : (es : List (Key × V)) → length (list_map (λ e. e.0) es) ≡ length es
-      same_length [] = refl
-      same_length (e ∷ es) = ap suc (same_length es)
 
   contained : (es : List (Key × V)) (k : Key) (v : V) → find key_cmp k es ≡ Some v → Contains es (k, v)
   contained [] k v found = absurd (cc)

@@ -1,18 +1,17 @@
 -- What the live, detached and next keys of a list of places are, and how a change of one place changes them.
-use Rattle.std.proofs.Common.{◌≡◌, ◌≢◌, ℕ, zero, suc, ◌+◌, ◌<◌, ◌≤◌, Bool, true, false, cond, not, ◌||◌, ◌&&◌, ◌==◌, Ordering, List, [], ◌∷◌, ◌++◌, length, set, slice_get, Option, None, Some, is_some, refl, sym, ap, ◌∙◌, arith, nat_cmp, is_eq, eqb-true, eq-eqb}
+use Rattle.std.proofs.Common.{◌≡◌, ◌≢◌, ℕ, zero, suc, ◌+◌, ◌<◌, ◌≤◌, true, cond, List, [], ◌∷◌, ◌++◌, length, set, slice_get, Option, None, Some, is_some, refl, sym, ap, ◌∙◌, arith, nat_cmp, eqb-true, eq-eqb}
 use Rattle.std.proofs.lemmas.Option.{slice_get_past}
 use Rattle.std.proofs.lemmas.Cmp.{nat_cmp_total}
-use Rattle.std.specs.Ordering.{eq_by_cmp, ordering_then}
-use Rattle.std.specs.Cmp.{IsTotalOrder, Equal-is, tied_itself, unsigned_tied, nat_eq_equiv}
+use Rattle.std.specs.Ordering.{eq_by_cmp}
 use Rattle.std.specs.FinMap as map
 use Rattle.std.specs.FinSet as set
-use Rattle.slotmap_core.specs.Key.{Key, key_cmp, last_version, is_last, next_version}
+use Rattle.slotmap_core.specs.Key.{Key, key_cmp, last_version}
 use Rattle.slotmap_core.specs.Gather.{gather}
 use Rattle.slotmap_core.specs.Places.{Place, Live, Detached, Vacant, Retired, live_entry, detached_entry, retired_entry, next_entry, live, detached, retired, next, live_value, is_kept}
 use Rattle.std.proofs.lemmas.Map.Lookups.{exact_unsigned}
-use Rattle.slotmap_core.proofs.KeyLemmas.{exact_keys, keys_total, itself}
-use Rattle.slotmap_core.proofs.MapLaws.{live_laws, detached_laws, next_laws, mark, is_marked, remove_absent, key_tie}
-use Rattle.slotmap_core.proofs.GatherLemmas.{IsFinite, look, get-gather, len-add, gather-set_put, gather-set_remove, gather-set_same, gather-push_put, gather-push_same, len-set, len-push, pick}
+use Rattle.slotmap_core.proofs.KeyLemmas.{itself}
+use Rattle.slotmap_core.proofs.MapLaws.{live_laws, detached_laws, next_laws, is_marked, remove_absent, key_tie}
+use Rattle.slotmap_core.proofs.GatherLemmas.{look, get-gather, len-add, gather-set_put, gather-set_remove, gather-set_same, gather-push_put, gather-push_same, len-set, len-push, pick}
 
 abbrev pub key : ℕ → ℕ → Key
 key i version = record { index = i; version = version }

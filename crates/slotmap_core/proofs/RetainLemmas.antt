@@ -1,5 +1,5 @@
 -- What `retain` leaves of each entry, by what each call of its closure does.
-use Rattle.std.proofs.Common.{◌≡◌, ℕ, ◌+◌, Bool, true, false, cond, List, [], ◌∷◌, length, Option, Some, None, refl, sym, ap, ◌∙◌}
+use Rattle.std.proofs.Common.{◌≡◌, ℕ, suc, ◌+◌, Bool, true, false, cond, List, [], ◌∷◌, length, Option, Some, None, is_some, refl, sym, ap, subst, ◌∙◌, arith}
 use Rattle.std.specs.Fn.{Mut, Called}
 use Rattle.std.specs.Borrow.{MutBor}
 use Rattle.std.specs.List.{FoldsTo}
@@ -11,7 +11,7 @@ use Rattle.slotmap_core.specs.Key.{Key, key_cmp}
 use Rattle.slotmap_core.specs.Listing.{with_entries}
 use Rattle.slotmap_core.specs.Retain.{Visit, CallsAt, RetainsBy, seen, kept}
 use Rattle.slotmap_core.proofs.KeyLemmas.{keys_total, exact_keys, tied}
-use Rattle.slotmap_core.proofs.Maps.{none_of}
+use Rattle.slotmap_core.proofs.Maps.{none_of, len_inserted}
 use Rattle.slotmap_core.proofs.ListingLemmas.{with_entries-empty, fresh_first, IsListingBut-listing}
 use Rattle.slotmap_core.proofs.VisitLemmas.{unkept}
 
@@ -80,3 +80,59 @@ module _ {F K V : Type 0} (g : Mut F (K × (MutBor V × Unit {0})) (Bool × (Mut
       by (Some v) found =
           let there = retained_at Holds (λ x. left_by x ≡ left (data_of x.key) x.before) does holds ran k v found in
           there.4 ∙ there.1 ∙ ap (λ q. left q there.0.before) there.2 ∙ ap (left k) there.3
+
+  -- where each call leaves the value, so does the whole walk
+  pub retained_unwritten : ((f f' : F) (key : K) (shown after : MutBor V) (stays : Bool) → Called g f (key, (shown, tt)) (stays, (after, tt)) f' → after.now ≡ shown.now)
+      → {f : F} {old new : map.FinMap key_cmp V} → RetainsBy g data_of f old new → (k : Key) → map.contains_key new k ≡ true → map.get new k ≡ map.get old k
+  retained_unwritten same {f} {old} {new} ran k there = by (map.get old k) refl
+    where
+      does : (f f' : F) (x : Visit K V) → Unit {0} → CallsAt g f x f' → Unit {0} × (x.after ≡ x.before)
+      does f f' x holds call = (tt, sym call.leaves ∙ same f f' x.key call.shown call.left x.stays call.called ∙ call.shows)
+
+      stayed : (s : Bool) (after before : V) → after ≡ before → is_some (cond s (Some after) None) ≡ true → cond s (Some after) None ≡ Some before
+      stayed true after before is some = ap Some is
+      stayed false after before is some = absurd (cc)
+
+      by : (o : Option V) → map.get old k ≡ o → map.get new k ≡ o
+      by None none = retained_none ran k none
+      by (Some v) found =
+          let at = retained_at (λ f. Unit {0}) (λ x. x.after ≡ x.before) does tt ran k v found in
+          at.4 ∙ stayed at.0.stays at.0.after v (at.1 ∙ at.3) (ap is_some (sym at.4) ∙ there)
+
+  -- how many calls there were, and how many of the entries stay
+  stay_once : (xs : List (Visit K V)) → length (seen data_of xs) + map.len (map.empty {X = V} {R = key_cmp}) ≡ map.len (with_entries map.empty (seen data_of xs)) → map.len (map.from_entries {R = key_cmp} (kept data_of xs)) ≡ length (kept data_of xs)
+  stay_once [] once = map.len-empty key_cmp V
+  stay_once (x ∷ xs) once =
+      let first = fresh_first map.empty (data_of x.key, x.before) (seen data_of xs) once in
+      let none = unkept data_of (data_of x.key) xs (unlisted_if_absent (seen data_of xs) (data_of x.key) first.0) in
+      by x.stays (ap is_some (map.get-from_entries keys_total (kept data_of xs) (data_of x.key) ∙ none)) (stay_once xs first.1)
+    where
+      by : (s : Bool) → map.contains_key (map.from_entries {R = key_cmp} (kept data_of xs)) (data_of x.key) ≡ false → map.len (map.from_entries {R = key_cmp} (kept data_of xs)) ≡ length (kept data_of xs)
+          → map.len (map.from_entries {R = key_cmp} (cond s ((data_of x.key, x.after) ∷ kept data_of xs) (kept data_of xs))) ≡ length (cond s ((data_of x.key, x.after) ∷ kept data_of xs) (kept data_of xs))
+      by true absent rest = len_inserted keys_total exact_keys (map.from_entries (kept data_of xs)) (data_of x.key) x.after absent ∙ omega (arith, rest)
+      by false absent rest = rest
+
+  module _ (Holds : (calls stay : ℕ) → F → Type 0) (each : (calls stay : ℕ) (f f' : F) (key : K) (shown after : MutBor V) (stays : Bool) → Holds calls stay f → Called g f (key, (shown, tt)) (stays, (after, tt)) f' → Holds (calls + 1) (stay + cond stays 1 0) f') where
+    along : (calls stay : ℕ) (f last : F) (xs : List (Visit K V)) → Holds calls stay f → FoldsTo (CallsAt g) f xs last → Holds (calls + length xs) (stay + length (kept data_of xs)) last
+    along calls stay f last [] holds ran = subst (λ f. Holds (calls + 0) (stay + 0) f) ran (subst (λ n. Holds n (stay + 0) f) (omega arith) (subst (λ n. Holds calls n f) (omega arith) holds))
+    along calls stay f last (x ∷ xs) holds ran =
+        let later = along (calls + 1) (stay + cond x.stays 1 0) ran.0 last xs (each calls stay f ran.0 x.key ran.1.shown ran.1.left x.stays holds ran.1.called) ran.2 in
+        subst (λ n. Holds (calls + length (x ∷ xs)) n last) (by x.stays) (subst (λ n. Holds n (stay + cond x.stays 1 0 + length (kept data_of xs)) last) (omega arith) later)
+      where
+        by : (s : Bool) → stay + cond s 1 0 + length (kept data_of xs) ≡ stay + length (cond s ((data_of x.key, x.after) ∷ kept data_of xs) (kept data_of xs))
+        by true = omega arith
+        by false = omega arith
+
+  -- what the calls keep true of their number, of the number of entries that stay, and of the closure's state, holds after the walk
+  pub retained_counted : (Holds : (calls stay : ℕ) → F → Type 0)
+      → ((calls stay : ℕ) (f f' : F) (key : K) (shown after : MutBor V) (stays : Bool) → Holds calls stay f → Called g f (key, (shown, tt)) (stays, (after, tt)) f' → Holds (calls + 1) (stay + cond stays 1 0) f')
+      → {f : F} {old new : map.FinMap key_cmp V} → Holds 0 0 f → RetainsBy g data_of f old new → (last : F) × Holds (map.len old) (map.len new) last
+  retained_counted Holds each {f} {old} {new} holds ran =
+      let all = IsListingBut-listing old (seen data_of ran.visits) ran.listed in
+      let calls : 0 + length ran.visits ≡ map.len old = omega (arith, seen_len ran.visits, ran.listed.once) in
+      let stay : 0 + length (kept data_of ran.visits) ≡ map.len new = omega (arith, ap map.len ran.stay, stay_once ran.visits (all.once ∙ ap map.len (sym all.all))) in
+      (ran.last, subst (λ n. Holds n (map.len new) ran.last) calls (subst (λ n. Holds (0 + length ran.visits) n ran.last) stay (along Holds each 0 0 f ran.last ran.visits holds ran.calls)))
+    where
+      seen_len : (xs : List (Visit K V)) → length (seen data_of xs) ≡ length xs
+      seen_len [] = refl
+      seen_len (x ∷ xs) = ap suc (seen_len xs)

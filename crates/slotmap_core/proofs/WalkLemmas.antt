@@ -1,15 +1,13 @@
 -- The live keys of a list of places and their values, by ascending index, are the entries of the map that they make.
-use Rattle.std.proofs.Common.{◌≡◌, ℕ, ◌+◌, ◌<◌, Bool, true, false, ◌&&◌, T, List, [], ◌∷◌, map as map_list, is_some, refl, sym, ap, subst, ◌∙◌, arith}
-use Rattle.std.proofs.lemmas.List.{length-map}
+use Rattle.std.proofs.Common.{◌≡◌, ℕ, ◌+◌, ◌<◌, Bool, true, false, ◌&&◌, T, List, [], ◌∷◌, refl, sym, ap, subst, ◌∙◌, arith}
 use Rattle.std.specs.Ordering.{nat_cmp, ordering_then, is_lt}
 use Rattle.std.specs.declared.cmp.Ordering.TheVariants.{Less}
 use Rattle.std.specs.Cmp.{nat_cmp_is}
 use Rattle.std.specs.FinMap as map
-use Rattle.std.specs.FinSet as set
-use Rattle.std.specs.FinMap.Entries.{below_all, is_sorted, is_some-find}
+use Rattle.std.specs.FinMap.Entries.{below_all, is_sorted}
 use Rattle.slotmap_core.specs.Key.{Key, key_cmp}
 use Rattle.slotmap_core.specs.Gather.{gather}
-use Rattle.slotmap_core.specs.Listing.{IsListing, IsKeyListing}
+use Rattle.slotmap_core.specs.Listing.{IsListing}
 use Rattle.slotmap_core.specs.Places.{Place, Live, Detached, Vacant, Retired, live_entry, live}
 use Rattle.slotmap_core.proofs.KeyLemmas.{keys_total, exact_keys}
 
@@ -64,12 +62,4 @@ module _ {V : Type 0} where
   listing-entries m = record {
     all = map.same_map keys_total exact_keys (map.from_entries (map.entries m)) m (λ q. map.get-from_entries keys_total (map.entries m) q ∙ sym (map.get-entries m q));
     once = sym (map.len-entries m);
-  }
-
-  -- the keys and the values of a listing list the map's
-  pub IsKeyListing-listing : (m : map.FinMap key_cmp V) (entries : List (Key × V)) → IsListing m entries → IsKeyListing m (map_list (λ e. e.0) entries)
-  IsKeyListing-listing m entries listing = record {
-    all = λ k. set.contains-from_list keys_total (map_list (λ e. e.0) entries) k ∙ sym (is_some-find key_cmp k entries)
-        ∙ sym (ap is_some (map.get-from_entries keys_total entries k)) ∙ ap (λ m. map.contains_key m k) listing.all;
-    once = length-map entries (λ e. e.0) ∙ listing.once;
   }

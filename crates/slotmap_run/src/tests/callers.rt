@@ -1,6 +1,6 @@
 //! Callers of `SlotMap`: what follows from its clauses alone.
 
-ghost use Rattle.std.specs.Prelude.{◌≡◌, ℕ, ◌+◌, ◌%◌, ◌==◌, ◌<◌, ◌^◌, IsTrue, IfSome, IfNone, OnSome, IfOk, IfErr, Some, None, false, if◌then◌else◌};
+ghost use Rattle.std.specs.Prelude.{◌≡◌, ℕ, ◌+◌, ◌%◌, ◌==◌, ◌<◌, ◌^◌, IsTrue, IfSome, IfNone, OnSome, IfOk, IfErr, Some, None, false, min, if◌then◌else◌};
 ghost use Rattle.std.specs.Option.{option_and_then, option_map};
 ghost use Rattle.std.specs.FinMap as map;
 ghost use Rattle.slotmap_core.specs.Key.{Key as KeyOf};
@@ -78,6 +78,23 @@ fn keep_even<K: Key>(store: &mut SlotMap<K, u64>)
     store.retain(|_, value| *value % 2 == 0);
 }
 
+// Keeps so many entries at most: the closure counts those that it keeps.
+fn keep_first(store: &mut Map, most: usize)
+    ensures count { map.len store.new.live ≡ min most (map.len store.old.live) }
+    ensures kept { (k : KeyOf) → IsLive store.new k → map.get store.new.live k ≡ map.get store.old.live k }
+    ensures leaves { Leaves store.old store.new }
+{
+    let mut kept: usize = 0;
+    store.retain(|_, _| {
+        if kept < most {
+            kept += 1;
+            true
+        } else {
+            false
+        }
+    });
+}
+
 // Sets each value to 0.
 fn clear_values<K: Key>(store: &mut SlotMap<K, u64>)
     ensures values { (k : KeyOf) → map.get store.new.live k ≡ option_map (λ _. 0) (map.get store.old.live k) }
@@ -134,6 +151,19 @@ fn a_value_is_set_where_the_key_is_live(rt: HostRuntime) -> Result<(), Fail> {
 }
 
 #[test]
+fn a_value_grows_in_its_place(rt: HostRuntime) -> Result<(), Fail> {
+    let mut map = Map::new(rt.alloc())?;
+    let first = key(put(&mut map, 7)?);
+    let second = key(put(&mut map, 8)?);
+    if map.get(first).copied() == Some(7) {
+        add_one(&mut map, first);
+    }
+    assert_eq!(rt; map.get(first).copied(), Some(8));
+    assert_eq!(rt; map.get(second).copied(), Some(8));
+    Ok(())
+}
+
+#[test]
 fn a_value_is_found_by_a_walk(rt: HostRuntime) -> Result<(), Fail> {
     let mut map = Map::new(rt.alloc())?;
     put(&mut map, 7)?;
@@ -168,6 +198,21 @@ fn retain_keeps_even_values_and_writes_them(rt: HostRuntime) -> Result<(), Fail>
     clear_values(&mut map);
     assert_eq!(rt; map.get(second).copied(), Some(0));
     assert_eq!(rt; map.len(), 1);
+    Ok(())
+}
+
+#[test]
+fn retain_keeps_as_many_as_its_closure_counts(rt: HostRuntime) -> Result<(), Fail> {
+    let mut map = Map::new(rt.alloc())?;
+    for value in 0..5 {
+        put(&mut map, value)?;
+    }
+    keep_first(&mut map, 7);
+    assert_eq!(rt; map.len(), 5);
+    keep_first(&mut map, 3);
+    assert_eq!(rt; map.len(), 3);
+    keep_first(&mut map, 0);
+    assert!(rt; map.is_empty());
     Ok(())
 }
 

@@ -16,9 +16,9 @@ loop-index-preserved g c =
           let found = w.in-Some.ensures.live in
           let alone = alone_at at.self at.invariant.swept.well key at.index found.0 found.1 in
           record {
-            swept = rw w.self-is (Swept-removed c.args.self.now at.self w.evict.new.self at.index key at.invariant.swept found.0 found.1 w.evict.ensures.removes w.evict.ensures.capacity w.evict.ensures.valid);
-            stay = λ k below. rw (w.self-is, w.evict.ensures.removes.live) (get-remove_other at.self.live key k (λ same. omega (arith, ap (λ q. q.index) same, found.1)) ∙ at.invariant.stay k below);
-            above = λ none. rw (w.self-is, w.evict.ensures.removes.live) (NoneBelow-removed at.self.live at.index key alone (at.invariant.above none));
+            swept = rw w.self-is (Swept-removed c.args.self.now at.self w.take_live.new.self at.index key at.invariant.swept found.0 found.1 w.take_live.ensures.removes w.take_live.ensures.capacity w.take_live.ensures.valid);
+            stay = λ k below. rw (w.self-is, w.take_live.ensures.removes.live) (get-remove_other at.self.live key k (λ same. omega (arith, ap (λ q. q.index) same, found.1)) ∙ at.invariant.stay k below);
+            above = λ none. rw (w.self-is, w.take_live.ensures.removes.live) (NoneBelow-removed at.self.live at.index key alone (at.invariant.above none));
           }
       | in_default w ↦ record {
         swept = rw w.self-is (Swept-on c.args.self.now at.self at.index at.invariant.swept);

@@ -1,4 +1,4 @@
-use Rattle.std.proofs.Common.{◌≡◌, Option, None, Some, refl, ap, arith}
+use Rattle.std.proofs.Common.{◌≡◌, refl, arith}
 use Rattle.std.proofs.lemmas.List.Elements.{same_from_all_zip}
 use Rattle.slotmap_basic.proofs.SlotLemmas.{valid, same_options}
 use Rattle.slotmap_basic.proofs.SlotMap.clone.Goals as goal

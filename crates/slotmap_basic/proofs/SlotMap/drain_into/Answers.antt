@@ -1,4 +1,4 @@
-use Rattle.std.proofs.Common.{◌≡◌, Some, [], ◌∷◌, ◌++◌, map as list_map, sym, ap, subst, ◌∙◌, inl, append_assoc, append-nil, arith}
+use Rattle.std.proofs.Common.{[], ◌∷◌, ◌++◌, map as list_map, sym, ap, subst, ◌∙◌, inl, append_assoc, append-nil, arith}
 use Rattle.std.specs.FinMap as map
 use Rattle.std.proofs.lemmas.List.{map-append}
 use Rattle.slotmap_core.specs.Listing.{IsListingBut}
@@ -31,14 +31,13 @@ loop-index-preserved g c =
     elim c.match-key_at.branch [
       | in-Some w ↦
           let key = g.K.Key.data_of w.in-Some.key in
-          let value = w.unwrap-value.result in
+          let value = w.take_live-value.result in
           let found = w.in-Some.ensures.live in
           let alone = alone_at at.self at.invariant.swept.well key at.index found.0 found.1 in
-          let here : map.get at.self.live key ≡ Some value = sym w.remove.ensures.value ∙ w.unwrap-value.ensures in
-          let removes = rw w.unwrap-value.ensures at w.remove.ensures.removes in
-          let listed = IsListingBut-take c.args.self.now.live (list_map (λ p. (g.K.Key.data_of p.0, p.1)) at.invariant.pairs) at.self.live key value at.invariant.listed here in
+          let removes = w.take_live-value.ensures.removes in
+          let listed = IsListingBut-take c.args.self.now.live (list_map (λ p. (g.K.Key.data_of p.0, p.1)) at.invariant.pairs) at.self.live key value at.invariant.listed w.take_live-value.ensures.value in
           record {
-            swept = rw w.self-is (Swept-removed c.args.self.now at.self w.remove.new.self at.index key at.invariant.swept found.0 found.1 removes w.remove.ensures.capacity w.remove.ensures.valid);
+            swept = rw w.self-is (Swept-removed c.args.self.now at.self w.take_live-value.new.self at.index key at.invariant.swept found.0 found.1 removes w.take_live-value.ensures.capacity w.take_live-value.ensures.valid);
             above = rw (w.self-is, removes.live) (NoneBelow-removed at.self.live at.index key alone at.invariant.above);
             pairs = at.invariant.pairs ++ (w.in-Some.key, value) ∷ [];
             pushed = ap (λ v. v.items) w.out-is ∙ w.push_reserved.ensures.items ∙ ap (λ xs. xs ++ (w.in-Some.key, value) ∷ []) at.invariant.pushed

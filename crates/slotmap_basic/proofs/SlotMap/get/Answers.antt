@@ -7,7 +7,7 @@ index-requires g c =
     let found = present _ _ _ _ c.self.invariant _ (ap (λ m. m.live) c.self.view_is) _ _ _ c.in_ok-index.ensures.live.1 refl c.in_ok-index.ensures.live.0 in
     omega (arith, values_within _ _ _ _ c.self.invariant _ _ _ _ found.there, c.self.inside.values.ok.0)
 
-pub returns : goal.returns
-returns g c =
+pub returns-clause-value : goal.returns-clause-value
+returns-clause-value g c =
     let found = present _ _ _ _ c.self.invariant _ (ap (λ m. m.live) c.self.view_is) _ _ _ c.in_ok-index.ensures.live.1 refl c.in_ok-index.ensures.live.0 in
     c.as_ref.ensures.value ∙ same_read c.self.inside.values.items c.in_ok-index.index _ _ c.index.ensures found.there.value ∙ sym found.gives

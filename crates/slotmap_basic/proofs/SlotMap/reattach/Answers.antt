@@ -2,12 +2,11 @@ use Rattle.std.proofs.Common.{ℕ, Some, refl, ap, ◌∙◌, arith}
 use Rattle.std.proofs.lemmas.List.{length-set}
 use Rattle.slotmap_basic.specs.declared.Link.{Link}
 use Rattle.slotmap_basic.proofs.SlotLemmas.{present_kept, valid, places_fit, index_within, links_within, values_within, elems_below, IsSound-reattached, after-reattached, reattaches-slots}
+use Rattle.slotmap_basic.proofs.WellFormed.{well_formed}
 use Rattle.slotmap_basic.proofs.SlotMap.reattach.Goals as goal
 
 pub returns-in_default-clause-valid : goal.returns-in_default-clause-valid
-returns-in_default-clause-valid g c =
-    let m = c.self.inside in
-    rw (← c.self.view_is) (valid _ _ _ _ c.self.invariant _ _ _ (omega (arith, m.versions.ok.0, m.versions.ok.1)) (omega (arith, m.links.ok.0, m.links.ok.1)) (omega (arith, m.values.ok.0, m.values.ok.1)))
+returns-in_default-clause-valid g c = well_formed c.self.inside _ c.self.view_is c.self.invariant
 
 pub index_mut-requires : goal.index_mut-requires
 index_mut-requires g c =
@@ -45,11 +44,7 @@ returns-clause-valid g c =
     valid _ _ _ _ (invariant_of-self g c) _ _ _ (omega (arith, m.versions.ok.0, m.versions.ok.1, length-set {A = ℕ})) (omega (arith, m.links.ok.0, m.links.ok.1, length-set {A = Link})) (omega (arith, m.values.ok.0, m.values.ok.1, length-set m.values.items c.in-Some.index (Some c.args.value)))
 
 pub returns-in_default-clause-was_valid : goal.returns-in_default-clause-was_valid
-returns-in_default-clause-was_valid g c =
-    let m = c.self.inside in
-    rw (← c.self.view_is) (valid _ _ _ _ c.self.invariant _ _ _ (omega (arith, m.versions.ok.0, m.versions.ok.1)) (omega (arith, m.links.ok.0, m.links.ok.1)) (omega (arith, m.values.ok.0, m.values.ok.1)))
+returns-in_default-clause-was_valid g c = well_formed c.self.inside _ c.self.view_is c.self.invariant
 
 pub returns-clause-was_valid : goal.returns-clause-was_valid
-returns-clause-was_valid g c =
-    let m = c.self.inside in
-    rw (← c.self.view_is) (valid _ _ _ _ c.self.invariant _ _ _ (omega (arith, m.versions.ok.0, m.versions.ok.1)) (omega (arith, m.links.ok.0, m.links.ok.1)) (omega (arith, m.values.ok.0, m.values.ok.1)))
+returns-clause-was_valid g c = well_formed c.self.inside _ c.self.view_is c.self.invariant

@@ -15,8 +15,8 @@ loop-index-init g c =
     let well = c.num_places-index-end.ensures.valid in
     record { callable = c.requires; swept = Swept-start c.args.self.now 0 well; visits = []; calls = refl; visited = Visits-from_start g.K.Key.data_of c.args.self.now well }
 
-pub evict-requires : goal.evict-requires
-evict-requires g c =
+pub take_live-requires : goal.take_live-requires
+take_live-requires g c =
     let key = g.K.Key.data_of c.in-Some.key in
     let found = c.in-Some.ensures.live in
     same_live c.loop-index.self key c.f.new.arg3 found.0 key ∙ found.0
@@ -34,11 +34,11 @@ loop-index-preserved g c =
           let written = Swept-written old at.self at.index key visit.after at.invariant.swept found.0 in
           let still = same_live at.self key visit.after found.0 key ∙ found.0 in
           let live : c.match-key_at.self.live ≡ cond visit.stays (map.insert at.self.live key visit.after) (map.remove at.self.live key) =
-          ap (λ m. m.live) w.self-is ∙ w.evict.ensures.removes.live ∙ remove-insert at.self.live key visit.after
+          ap (λ m. m.live) w.self-is ∙ w.take_live.ensures.removes.live ∙ remove-insert at.self.live key visit.after
           ∙ ap (λ b. cond b (map.insert at.self.live key visit.after) (map.remove at.self.live key)) (sym w.if-not-f.true) in
           record {
             callable = rw w.f-is (search of_calls);
-            swept = rw w.self-is (Swept-removed old (with_value at.self key visit.after) w.evict.new.self at.index key written still found.1 w.evict.ensures.removes w.evict.ensures.capacity w.evict.ensures.valid);
+            swept = rw w.self-is (Swept-removed old (with_value at.self key visit.after) w.take_live.new.self at.index key written still found.1 w.take_live.ensures.removes w.take_live.ensures.capacity w.take_live.ensures.valid);
             visits = at.invariant.visits ++ visit ∷ [];
             calls = rw w.f-is (FoldsTo-push (CallsAt g.F.FnMut) c.args.f at.invariant.visits at.f visit w.f.new.self at.invariant.calls (CallsAt-called g.F.FnMut w.f.ensures));
             visited = rw live (Visits-at g.K.Key.data_of old well at.invariant.visits at.index at.self.live visit at.invariant.visited found.1 w.get_unchecked_mut.ensures.value);

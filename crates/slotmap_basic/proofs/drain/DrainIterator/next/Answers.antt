@@ -1,4 +1,4 @@
-use Rattle.std.proofs.Common.{◌+◌, refl, sym, ap, ◌∙◌, inl, arith}
+use Rattle.std.proofs.Common.{◌+◌, refl, ap, inl, arith}
 use Rattle.std.specs.FinMap as map
 use Rattle.slotmap_core.specs.Listing.{NoneBelow}
 use Rattle.slotmap_core.proofs.KeyLemmas.{keys_total, exact_keys}
@@ -14,11 +14,11 @@ returns-in-Some-clause-steps g c =
     let key = g.K.Key.data_of c.in-Some.key in
     let found = c.in-Some.ensures.live in
     let well = c.num_places.ensures.valid in
-    let removes = rw c.unwrap-value.ensures at c.remove.ensures.removes in
-    let later : NoneBelow c.remove.new.self.live (at.index + 1) = rw removes.live (NoneBelow-removed now.live at.index key (alone_at now well key at.index found.0 found.1) c.loop-self.invariant.ready) in
+    let removes = c.take_live.ensures.removes in
+    let later : NoneBelow c.take_live.new.self.live (at.index + 1) = rw removes.live (NoneBelow-removed now.live at.index key (alone_at now well key at.index found.0 found.1) c.loop-self.invariant.ready) in
     rw (← c.loop-self.invariant.same) (
-      (sym c.remove.ensures.value ∙ c.unwrap-value.ensures, removes),
-      (refl, λ end empties. Empties-first now c.remove.new.self end key well found.0 removes c.remove.ensures.capacity (λ q there. omega (arith, later q there, found.1)) empties),
+      (c.take_live.ensures.value, removes),
+      (refl, λ end empties. Empties-first now c.take_live.new.self end key well found.0 removes c.take_live.ensures.capacity (λ q there. omega (arith, later q there, found.1)) empties),
       later,
     )
 
@@ -28,8 +28,8 @@ returns-in-Some-clause-goes g c =
     let now = at.map.now in
     let key = g.K.Key.data_of c.in-Some.key in
     let found = c.in-Some.ensures.live in
-    let removes = rw c.unwrap-value.ensures at c.remove.ensures.removes in
-    let later : NoneBelow c.remove.new.self.live (at.index + 1) = rw removes.live (NoneBelow-removed now.live at.index key (alone_at now c.num_places.ensures.valid key at.index found.0 found.1) c.loop-self.invariant.ready) in
+    let removes = c.take_live.ensures.removes in
+    let later : NoneBelow c.take_live.new.self.live (at.index + 1) = rw removes.live (NoneBelow-removed now.live at.index key (alone_at now c.num_places.ensures.valid key at.index found.0 found.1) c.loop-self.invariant.ready) in
     record {
       on = λ finite. (later, finite, rw (← c.loop-self.invariant.same) (omega (arith, ap map.len removes.live, len_removed keys_total exact_keys now.live key found.0)));
       keeps = later;
