@@ -11,7 +11,7 @@ use Rattle.slotmap_core.specs.Places.{Place, Live, Detached, Vacant, Retired, li
 use Rattle.slotmap_core.specs.StackMap.{StackMap, content, offer, IsOn, IsVersion, HasVersion, IsStacked}
 use Rattle.slotmap_core.proofs.PlacesLemmas.{key, get-live, contains-detached, retired_at, get-next_at, vacant_at, total}
 use Rattle.slotmap_core.proofs.StackLemmas.{not_first}
-use Rattle.slotmap_core.proofs.Maps.{same_bool, in_after_insert, still_in}
+use Rattle.slotmap_core.proofs.Maps.{same_bool, or_right, in_after_insert, still_in}
 use Rattle.slotmap_core.proofs.KeyLemmas.{keys_total, exact_keys}
 
 pub some_is : {A : Type 0} (o : Option A) → is_some o ≡ true → (x : A) × (o ≡ Some x)
@@ -24,10 +24,6 @@ on_list (v ∷ vs) i on = elim on [
   | inl same ↦ ap (λ b. b || list_any (λ y. nat_eq y i) vs) (eq-eqb v i (sym same))
   | inr rest ↦ or_right (nat_eq v i) (list_any (λ y. nat_eq y i) vs) (on_list vs i rest)
 ]
-  where
-    or_right : (a b : Bool) → b ≡ true → (a || b) ≡ true
-    or_right true b e = refl
-    or_right false b e = e
 
 on_by_list : (vs : List ℕ) (i : ℕ) → list_any (λ y. nat_eq y i) vs ≡ true → IsOn vs i
 on_by_list [] i is = absurd (cc)

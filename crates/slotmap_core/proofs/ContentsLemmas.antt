@@ -9,9 +9,7 @@ use Rattle.slotmap_core.specs.declared.serial.SlotRecord.{SlotRecord}
 use Rattle.slotmap_core.proofs.GatherLemmas.{IsFinite, pick, look, get-gather}
 use Rattle.slotmap_core.proofs.MapLaws.{live_laws, detached_laws, next_laws, is_marked}
 use Rattle.slotmap_core.proofs.Maps.{of_and}
-
-abbrev pub key : ℕ → ℕ → Key
-key i version = record { index = i; version = version }
+use Rattle.slotmap_core.proofs.PlacesLemmas.{key}
 
 -- the element behind what a gathered map has at a key, and the other way round
 module _ {P K X M : Type 0} {same_key : K → K → Bool} {empty : M} {get : M → K → Option X} {put : M → K × X → M} {remove : M → K → M} {len : M → ℕ} (laws : IsFinite same_key empty get put remove len) (index : K → ℕ) (entry : ℕ → P → Option (K × X)) (fits : (i : ℕ) (p : P) (e : K × X) → entry i p ≡ Some e → index e.0 ≡ i) where

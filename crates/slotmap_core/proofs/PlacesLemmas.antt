@@ -41,7 +41,7 @@ module _ {V : Type 0} where
   detached_fits i (Vacant n) e is = absurd (cc)
   detached_fits i Retired e is = absurd (cc)
 
-  retired_fits : (i : ℕ) (p : Place V) (e : Key × Unit {0}) → retired_entry i p ≡ Some e → e.0.index ≡ i
+  pub retired_fits : (i : ℕ) (p : Place V) (e : Key × Unit {0}) → retired_entry i p ≡ Some e → e.0.index ≡ i
   retired_fits i (Live version value) e is = absurd (cc)
   retired_fits i (Detached version) e is = absurd (cc)
   retired_fits i (Vacant n) e is = absurd (cc)

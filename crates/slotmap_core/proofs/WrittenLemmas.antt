@@ -18,7 +18,7 @@ use Rattle.slotmap_core.proofs.ContentsLemmas.{gathers, live_in, in_contents, ne
 use Rattle.slotmap_core.proofs.KeyLemmas.{exact_keys, keys_total}
 use Rattle.slotmap_core.proofs.MapLaws.{detached_laws, is_marked}
 use Rattle.slotmap_core.proofs.StartLemmas.{consistent_at, odd_of, even_where}
-use Rattle.slotmap_core.proofs.PlacesLemmas.{key, get-live_at, get-next_at, vacant_at, retired_at, contains-detached, total}
+use Rattle.slotmap_core.proofs.PlacesLemmas.{key, get-live_at, get-next_at, vacant_at, retired_at, contains-detached, total, retired_fits}
 
 some_of : {A : Type 0} (o : Option A) → is_some o ≡ true → (x : A) × (o ≡ Some x)
 some_of None is = absurd (cc)
@@ -31,16 +31,10 @@ same_option None (Some x) f g = g x refl
 same_option (Some x) b f g = sym (f x refl)
 
 module _ {V : Type 0} where
-  retired_index : (i : ℕ) (p : Place V) (e : Key × Unit {0}) → retired_entry i p ≡ Some e → e.0.index ≡ i
-  retired_index i (Live version value) e is = absurd (cc)
-  retired_index i (Detached version) e is = absurd (cc)
-  retired_index i (Vacant n) e is = absurd (cc)
-  retired_index i Retired e is = let same : ◌≡◌ {A = Key × Unit {0}} (key i last_version, tt) e = cc in sym (ap (λ e. e.0.index) same)
-
   -- the last key of a place that is used up is retired
   pub retired_there : (ps : List (Place V)) (i : ℕ) → slice_get ps i ≡ Some Retired → set.contains (retired ps) (key i last_version) ≡ true
   unfolding retired
-  retired_there ps i found = sym (is_marked _) ∙ ap is_some (gathers detached_laws (λ k. k.index) retired_entry retired_index ps (key i last_version) tt Retired found refl)
+  retired_there ps i found = sym (is_marked _) ∙ ap is_some (gathers detached_laws (λ k. k.index) retired_entry retired_fits ps (key i last_version) tt Retired found refl)
 
 -- the slots that places are written as, in a map that holds what those places say
 module _ {V : Type 0} (ps : List (Place V)) (c : Content V) (is_live : c.live ≡ live ps) (is_detached : c.detached ≡ detached ps) (is_retired : c.retired ≡ retired ps) (is_next : c.next ≡ next ps) (sentinel : slice_get ps 0 ≡ Some (Vacant 1)) where

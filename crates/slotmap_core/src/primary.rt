@@ -21,7 +21,8 @@ use std::alloc::Global;
 /// A map that hands out its keys.
 ///
 /// Each call changes the content as one of the transitions of the definitions says, for every key,
-/// and says when it is refused and that it then keeps what the map holds.
+/// and says when it is refused and that it then keeps what the map holds. Calls on one key take
+/// constant time, where no vector moves; what a call costs beyond that is said by the map.
 pub trait Primary<K: Key, V>: Sized {
     /// Whether an insert into a vacant place takes no memory.
     const REUSES: bool;
@@ -34,14 +35,16 @@ pub trait Primary<K: Key, V>: Sized {
     // What the map holds now.
     ghost content: { Self → Content V };
 
-    /// An empty map.
+    /// An empty map. `Memory` where the memory for it was refused.
     fn with_key(alloc: Global) -> Result<Self, ReserveError>
         ensures starts { IfOk result (λ m. IsNew (content m)) }
         ensures stacked { IfOk result (λ m. STACKED ≡ true → IsSome (content m).stack) }
         ensures err { IfErr result (RefusesCapacity 0) }
         ensures valid { IfOk result (λ m. IsContent REUSES (content m)) };
 
-    /// An empty map with room for so many keys.
+    /// An empty map with room for so many keys: so many inserts that follow aren't refused.
+    ///
+    /// `TooGreat` exactly where that is over 4294967294, else `Memory` where memory was refused.
     fn with_capacity_and_key(alloc: Global, capacity: usize) -> Result<Self, ReserveError>
         ensures starts { IfOk result (λ m. IsNew (content m)) }
         ensures stacked { IfOk result (λ m. STACKED ≡ true → IsSome (content m).stack) }
@@ -60,19 +63,22 @@ pub trait Primary<K: Key, V>: Sized {
     fn is_empty(&self) -> bool
         ensures { IsTrue result ↔ map.len (content self.now).live ≡ 0 };
 
-    /// For how many places there is memory.
+    /// For how many places there is memory, live, detached, vacant and retired ones together.
     fn capacity(&self) -> usize
         ensures { result ≡ (content self.now).capacity };
 
-    /// Whether this key is live.
+    /// Whether this key is live; one that was removed or detached isn't, nor is the null key.
     fn contains_key(&self, key: K) -> bool
         ensures { result ≡ map.contains_key (content self.now).live (K.data_of key) };
 
-    /// The value of a live key.
+    /// The value of a live key, or none where the key isn't live.
     fn get(&self, key: K) -> Option<&V>
         ensures { option_copied result ≡ map.get (content self.now).live (K.data_of key) };
 
-    /// Stores a value under a new key.
+    /// Stores a value under a new key, and answers the key.
+    ///
+    /// `Full` exactly where 4294967294 keys are live, detached or retired, else `Memory` where the
+    /// memory for it was refused; both hand the value back.
     fn insert(&mut self, value: V) -> Result<K, InsertError<V>>
         ensures ok { IfOk result (λ key.
             Inserts (content self.old) (K.data_of key) value (content self.new)) }
@@ -80,7 +86,8 @@ pub trait Primary<K: Key, V>: Sized {
         ensures unchanged { OnErr result (Keeps (content self.old) (content self.new)) }
         ensures valid { IsContent REUSES (content self.new) };
 
-    /// Takes a live key's value out, and frees its place, or retires it after its last key.
+    /// Takes a live key's value out, and frees its place, or retires it after its last key. None
+    /// where the key isn't live. Takes no memory.
     fn remove(&mut self, key: K) -> Option<V>
         ensures value { result ≡ map.get (content self.old).live (K.data_of key) }
         ensures some { IsSome result →
@@ -88,7 +95,12 @@ pub trait Primary<K: Key, V>: Sized {
         ensures none { result ≡ None → Keeps (content self.old) (content self.new) }
         ensures valid { IsContent REUSES (content self.new) };
 
-    /// Stores the value that the closure gives for the new key, once there is room.
+    /// Stores the value that the closure gives for the new key, once there is room, and answers the
+    /// key.
+    ///
+    /// Where the closure answers an error nothing changes, and the error is handed on in `Closure`;
+    /// the next insert offers the same key. On `Full` and `Memory`, which come as at `insert`, the
+    /// closure is dropped uncalled.
     fn try_insert_with_key<E, F: FnOnce(K) -> Result<V, E>>(
         &mut self,
         f: F,
@@ -104,7 +116,7 @@ pub trait Primary<K: Key, V>: Sized {
         ensures unchanged { OnErr result (Keeps (content self.old) (content self.new)) }
         ensures valid { IsContent REUSES (content self.new) };
 
-    /// The same with a closure that can't fail.
+    /// The same with a closure that gives a value always.
     fn insert_with_key<F: FnOnce(K) -> V>(&mut self, f: F) -> Result<K, InsertWithError>
     where
         F: Drop,
@@ -116,7 +128,8 @@ pub trait Primary<K: Key, V>: Sized {
         ensures unchanged { OnErr result (Keeps (content self.old) (content self.new)) }
         ensures valid { IsContent REUSES (content self.new) };
 
-    /// Sets the value of a live key and answers the one before, or hands the value back.
+    /// Sets the value of a live key and answers the one before; where the key isn't live, hands the
+    /// value back. Takes no memory.
     fn replace(&mut self, key: K, value: V) -> Result<V, V>
         ensures ok { IfOk result (λ before.
             map.get (content self.old).live (K.data_of key) ≡ Some before) }
@@ -127,7 +140,10 @@ pub trait Primary<K: Key, V>: Sized {
         ensures unchanged { OnErr result (Keeps (content self.old) (content self.new)) }
         ensures valid { IsContent REUSES (content self.new) };
 
-    /// Makes room for so many more keys.
+    /// Makes room for so many more keys: so many inserts and reattaches that follow aren't refused.
+    ///
+    /// `TooGreat` exactly where the live, detached and retired keys with `additional` are more than
+    /// 4294967294, else `Memory` where memory was refused; either changes nothing but the capacity.
     fn reserve(&mut self, additional: usize) -> Result<(), ReserveError>
         ensures room { OnOk result (additional ≤ (content self.new).room) }
         ensures capacity { OnOk result
@@ -147,7 +163,8 @@ pub trait Primary<K: Key, V>: Sized {
         ensures keeps { Keeps (content self.old) (content self.new) }
         ensures valid { IsContent REUSES (content self.new) };
 
-    /// Calls the closure once at each live key and its value, which stay where it answers true.
+    /// Calls the closure once at each live key and its value, which stay where it answers true, with
+    /// what it wrote to the value. At most linear in the number of places. Takes no memory.
     fn retain<F: FnMut(K, &mut V) -> bool>(&mut self, f: F)
     where
         F: Drop,
@@ -159,7 +176,8 @@ pub trait Primary<K: Key, V>: Sized {
         ensures leaves { Leaves (content self.old) (content self.new) }
         ensures valid { IsContent REUSES (content self.new) };
 
-    /// Drops the value of every live key.
+    /// Removes every live key, and drops its value. At most linear in the number of places. Takes no
+    /// memory.
     fn clear(&mut self)
     where
         V: Drop,
@@ -168,7 +186,7 @@ pub trait Primary<K: Key, V>: Sized {
         ensures valid { IsContent REUSES (content self.new) };
 
     /// Appends every live key and its value to `out`, and takes them out of the map. Room for all is
-    /// asked for first; a refusal changes neither.
+    /// asked for first; a refusal changes neither. At most linear in the number of places.
     fn drain_into(&mut self, out: &mut Vec<(K, V)>) -> Result<(), OutOfMemory>
         ensures listed { OnOk result ((pairs : List (K × V))
             × (out.new.items ≡ out.old.items ++ pairs)
@@ -181,6 +199,7 @@ pub trait Primary<K: Key, V>: Sized {
         ensures valid { IsContent REUSES (content self.new) };
 
     /// Appends every live key to `out`. Room for all is asked for first; a refusal changes nothing.
+    /// At most linear in the number of places.
     fn keys_into(&self, out: &mut Vec<K>) -> Result<(), OutOfMemory>
         ensures listed { OnOk result ((keys : List K)
             × (out.new.items ≡ out.old.items ++ keys)
@@ -191,7 +210,8 @@ pub trait Primary<K: Key, V>: Sized {
 /// A map whose keys can be detached: the value is out, the place is kept, and the key can be bound
 /// again. Such a map uses the place that was freed last first.
 pub trait Detaching<K: Key, V>: Primary<K, V> {
-    /// Takes a live key's value out, and keeps its place for the key.
+    /// Takes a live key's value out, and keeps its place for the key: no insert answers it. None
+    /// where the key isn't live. Takes no memory.
     fn detach(&mut self, key: K) -> Option<V>
         ensures value { result ≡ map.get (Self.content self.old).live (K.data_of key) }
         ensures some { IsSome result →
@@ -200,6 +220,9 @@ pub trait Detaching<K: Key, V>: Primary<K, V> {
         ensures valid { IsContent Self.REUSES (Self.content self.new) };
 
     /// Binds a detached key to a value again.
+    ///
+    /// `NotDetached` exactly where the key isn't detached, else `Memory` where there is no room for
+    /// the value; both hand the value back.
     fn reattach(&mut self, key: K, value: V) -> Result<(), ReattachError<V>>
         ensures ok { OnOk result
             (Reattaches (Self.content self.old) (K.data_of key) value (Self.content self.new)) }

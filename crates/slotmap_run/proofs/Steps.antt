@@ -10,7 +10,7 @@ use Rattle.slotmap_core.specs.Content.{Content, IsContent, used, most}
 use Rattle.slotmap_core.specs.Listing.{IsListing, IsKeyListing}
 use Rattle.slotmap_core.specs.Transition.{Inserts, Keeps, Removes, Replaces, Leaves, Detaches, Reattaches}
 use Rattle.slotmap_core.specs.Refusal.{LacksRoom, Refuses, RefusesWith, RefusesCapacity, RefusesReattach}
-use Rattle.slotmap_core.specs.Retain.{Visit, seen, kept, CallsAt, RetainsBy}
+use Rattle.slotmap_core.specs.Retain.{Visit, seen, CallsAt, RetainsBy}
 use Rattle.slotmap_core.specs.Given.{Given}
 use Rattle.slotmap_core.specs.Machine as machine
 use Rattle.slotmap_core.specs.Machine.{State, after_insert, after_remove, after_replace, after_reserve, after_detach, after_reattach}
@@ -31,8 +31,8 @@ use Rattle.slotmap_core.specs.declared.errors.ReserveError.TheVariants as capaci
 use Rattle.slotmap_core.specs.declared.errors.ReattachError.{ReattachError}
 use Rattle.slotmap_core.specs.declared.errors.ReattachError.TheVariants as again
 use Rattle.slotmap_core.specs.declared.errors.OutOfMemory.{OutOfMemory}
-use Rattle.slotmap_core.proofs.KeyLemmas.{keys_total}
 use Rattle.slotmap_core.proofs.Maps.{none_of, false_of}
+use Rattle.slotmap_core.proofs.RetainLemmas.{retained_none, retained_at}
 use Rattle.slotmap_run.proofs.Fits.{used_same, below, offer_fresh, inserts_fresh, inserts_fits}
 use Rattle.slotmap_run.proofs.Moves.{keeps_fits, promises_fits, replaces_fits, detaches_fits, reattaches_fits, removes_fits, leaves_fits}
 use Rattle.slotmap_run.proofs.Lasts.{inserts_lasts, keeps_lasts, replaces_lasts, detaches_lasts, reattaches_lasts, removes_lasts, leaves_lasts}
@@ -41,7 +41,6 @@ use Rattle.slotmap_core.specs.Law.{IsRefusal}
 use Rattle.slotmap_run.specs.Order.{Serves, DetachServes}
 use Rattle.slotmap_run.specs.Replies.{insert_reply_of, insert_with_reply_of, reserve_reply_of, reattach_reply_of}
 use Rattle.slotmap_run.proofs.Orders.{lifo_inserts, lifo_keeps, lifo_removes, lifo_detaches, lifo_reattaches}
-use Rattle.slotmap_run.proofs.Retains.{unseen, decided}
 
 pub keeps_itself : {V : Type 0} (c : Content V) → Keeps c c
 keeps_itself c = record { live = refl; detached = refl; retired = refl; next = refl; offer = refl; stack = refl; room = omega arith }
@@ -211,21 +210,15 @@ module _ {K V R E : Type 0} (given : Given K V R E) (reuses : Bool) (old new : C
   listed (Err e) first out r none told refusal all keeps = rw refusal (stays command.Keys (reply.Memory None) (λ b. b) keeps (λ s live same. (refl, refl)))
 
   module _ {F : Type 0} (g : Mut F (K × (MutBor V × Unit {0})) (Bool × (MutBor V × Unit {0}))) (f : F) (Is : F → Type 0) (says : (f : F) (x : Visit K V) (f' : F) → Is f → CallsAt g f x f' → Is f' × given.keeps x.key x.before x.after x.stays) (is : Is f) (r : RetainsBy g given.data_of f old.live new.live) where
-    was_seen : (q : Key) → map.get old.live q ≡ map.find key_cmp q (seen given.data_of r.visits)
-    was_seen q = ap (λ (m : map.FinMap key_cmp V). map.get m q) (sym r.listed.all) ∙ map.get-from_entries keys_total (seen given.data_of r.visits) q
-
-    is_kept : (q : Key) → map.get new.live q ≡ map.find key_cmp q (kept given.data_of r.visits)
-    is_kept q = ap (λ (m : map.FinMap key_cmp V). map.get m q) r.stay ∙ map.get-from_entries keys_total (kept given.data_of r.visits) q
-
     each : (q : Key) (v : V) → map.get old.live q ≡ Some v → (key : K) × (w : V) × (stays : Bool) × (given.data_of key ≡ q) × given.keeps key v w stays × (map.get new.live q ≡ cond stays (Some w) None)
     each q v found =
-        let d = decided given.data_of (CallsAt g) (λ x. given.keeps x.key x.before x.after x.stays) Is says r.visits f r.last is r.calls (r.listed.once ∙ sym (ap map.len r.listed.all)) q v (sym (was_seen q) ∙ found) in
-        (d.0.key, d.0.after, d.0.stays, d.1, subst (λ (b : V). given.keeps d.0.key b d.0.after d.0.stays) d.2 d.3, is_kept q ∙ d.4)
+        let at = retained_at g given.data_of Is (λ x. given.keeps x.key x.before x.after x.stays) (λ f f' x. says f x f') is r q v found in
+        (at.0.key, at.0.after, at.0.stays, at.2, subst (λ (b : V). given.keeps at.0.key b at.0.after at.0.stays) at.3 at.1, at.4)
 
     pub retains : Leaves old new → Answers command.Retain reply.Done
     retains l = leaves command.Retain reply.Done (λ b. b) l (λ s live. record {
       each = λ q v found. each q v (rw (← live) found);
-      no_more = λ q none. is_kept q ∙ unseen given.data_of r.visits q (sym (was_seen q) ∙ rw (← live) none);
+      no_more = λ q none. retained_none g given.data_of r q (rw (← live) none);
       rest = refl;
     })
 

@@ -211,6 +211,8 @@ fn retain_keeps_as_many_as_its_closure_counts(rt: HostRuntime) -> Result<(), Fai
     assert_eq!(rt; map.len(), 5);
     keep_first(&mut map, 3);
     assert_eq!(rt; map.len(), 3);
+    assert!(rt; find_key(&map, 2).is_some());
+    assert!(rt; find_key(&map, 3).is_none());
     keep_first(&mut map, 0);
     assert!(rt; map.is_empty());
     Ok(())
