@@ -7,8 +7,9 @@ use Rattle.slotmap_core.specs.Key.{Key, key_cmp}
 use Rattle.slotmap_core.specs.Content.{Content, IsContent, IsLive, Uses, used, most}
 use Rattle.slotmap_core.specs.Transition.{Inserts, Removes, Detaches, Reattaches}
 use Rattle.slotmap_core.proofs.KeyLemmas.{keys_total, exact_keys, tied}
-use Rattle.slotmap_core.proofs.Maps.{false_of}
-use Rattle.slotmap_core.proofs.ListingLemmas.{insert-remove, remove-insert, remove_absent}
+use Rattle.slotmap_core.proofs.Maps.{false_of, none_of}
+use Rattle.slotmap_core.proofs.ListingLemmas.{insert-remove, remove-insert}
+use Rattle.slotmap_core.proofs.MapLaws.{remove_absent}
 
 remove-insert_item : (s : set.FinSet key_cmp) (k : Key) → set.contains s k ≡ false → set.remove (set.insert s k) k ≡ s
 remove-insert_item s k none = set.same_set keys_total exact_keys _ _ (λ q.
@@ -31,7 +32,7 @@ module _ {V : Type 0} {reuses : Bool} (old : Content V) (well : IsContent reuses
     pub live_removed_again : Inserts old k v mid → Removes mid k new → new.live ≡ old.live
     live_removed_again inserts removes =
         let absent = false_of (map.contains_key old.live k) (λ there. offer_unused inserts.below_limit (inl (inl (sym (ap (map.contains_key old.live) inserts.offered) ∙ there)))) in
-        removes.live ∙ ap (λ m. map.remove m k) inserts.live ∙ remove-insert old.live k v ∙ remove_absent old.live k absent
+        removes.live ∙ ap (λ m. map.remove m k) inserts.live ∙ remove-insert old.live k v ∙ remove_absent keys_total exact_keys old.live k (none_of (map.get old.live k) absent)
 
     -- a key that is detached and bound again
     pub live_bound_again : Detaches old k mid → Reattaches mid k v new → new.live ≡ map.insert old.live k v

@@ -11,8 +11,9 @@ use Rattle.slotmap_core.specs.Places.{Place, Live, Detached, Vacant, Retired, li
 use Rattle.slotmap_core.specs.StackMap.{StackMap, content, offer, IsOn, IsVersion, HasVersion, IsStacked}
 use Rattle.slotmap_core.proofs.PlacesLemmas.{key, get-live, contains-detached, retired_at, get-next_at, vacant_at, total}
 use Rattle.slotmap_core.proofs.StackLemmas.{not_first}
-use Rattle.slotmap_core.proofs.Maps.{same_bool, or_right, in_after_insert, still_in}
-use Rattle.slotmap_core.proofs.KeyLemmas.{keys_total, exact_keys}
+use Rattle.slotmap_core.proofs.Maps.{same_bool, or_right}
+use Rattle.slotmap_core.proofs.KeyLemmas.{keys_total}
+use Rattle.slotmap_core.proofs.LeaveLemmas.{same_live}
 
 pub some_is : {A : Type 0} (o : Option A) → is_some o ≡ true → (x : A) × (o ≡ Some x)
 some_is None is = absurd (cc)
@@ -164,14 +165,11 @@ module _ {V : Type 0} (m : StackMap V) (stacked : IsStacked m.places m.vacant) w
 
 -- another value under a live key keeps a content well
 module _ {V : Type 0} (reuses : Bool) (c : Content V) (well : IsContent reuses c) (k : Key) (is_live : IsLive c k) (w : V) where
-  same_live : (q : Key) → map.contains_key (map.insert c.live k w) q ≡ map.contains_key c.live q
-  same_live q = same_bool _ _ (λ h. ⊎_elim (λ e. subst (IsLive c) (sym e) is_live) (λ g. g.1) (in_after_insert keys_total exact_keys c.live k w q h)) (λ h. still_in keys_total exact_keys c.live k w q h)
-
   same_len : map.len (map.insert c.live k w) ≡ map.len c.live
   same_len = map.len-insert keys_total c.live k w ∙ ap (λ b. cond b (map.len c.live) (map.len c.live + 1)) is_live
 
   live_before : (q : Key) → IsLive (with_value c k w) q → IsLive c q
-  live_before q h = sym (same_live q) ∙ h
+  live_before q h = sym (same_live c k w is_live q) ∙ h
 
   stands_before : (q : Key) → Stands (with_value c k w) q → Stands c q
   stands_before q = λ h. ⊎_elim (λ g. inl (live_before q g)) (λ g. inr g) h

@@ -57,13 +57,6 @@ module _ {V : Type 0} where
       by q true t = sym found ∙ ap (map.get m) (sym (tied keys_total exact_keys q k t))
       by q false t = refl
 
-  pub remove_absent : (m : map.FinMap key_cmp V) (k : Key) → map.contains_key m k ≡ false → map.remove m k ≡ m
-  remove_absent m k none = map.same_map keys_total exact_keys _ _ (λ q. map.get-remove keys_total m k q ∙ by q (eq_by_cmp key_cmp q k) refl)
-    where
-      by : (q : Key) (b : Bool) → eq_by_cmp key_cmp q k ≡ b → cond b None (map.get m q) ≡ map.get m q
-      by q true t = sym (ap (map.get m) (tied keys_total exact_keys q k t) ∙ none_of (map.get m k) none)
-      by q false t = refl
-
   -- an entry whose key isn't in the list may be put in, or taken out, before the list
   pub insert-with_entries : (m : map.FinMap key_cmp V) (es : List (Key × V)) (k : Key) (w : V) → find key_cmp k es ≡ None → map.insert (with_entries m es) k w ≡ with_entries (map.insert m k w) es
   insert-with_entries m es k w none = map.same_map keys_total exact_keys _ _ (λ q.
