@@ -69,6 +69,7 @@ impl<K: Key, V: Drop> SlotMap<K, V> {
     pub fn get_mut(&mut self, key: K) -> Option<&mut V>
         ensures* writes_back { sem 𝓛 (lends_get K.row V.row self.entry (K.data_of key) result) }
         ensures value { option_copied_mut result ≡ map.get self.old.live (K.data_of key) }
+        ensures was_valid { IsContent true self.old }
     {
         if self.contains_key(key) {
             Some(self.get_unchecked_mut(key))
@@ -84,6 +85,7 @@ impl<K: Key, V: Drop> SlotMap<K, V> {
         requires { IsLive self.old (K.data_of key) }
         ensures* writes_back { sem 𝓛 (lends_value K.row V.row self.entry (K.data_of key) result) }
         ensures value { map.get self.old.live (K.data_of key) ≡ Some result.now }
+        ensures was_valid { IsContent true self.old }
     {
         let index = key.data().idx() as usize;
         self.values[index].as_mut().unwrap()
@@ -99,7 +101,6 @@ impl<K: Key, V: Drop> SlotMap<K, V> {
         ensures was_valid { IsContent true self.old }
         ensures valid { IsContent true self.new }
     {
-        let _ = &self.num_elems;
         match self.get_mut(key) {
             Some(place) => Ok(mem::replace(place, value)),
             None => Err(value),
@@ -126,6 +127,7 @@ impl<K: Key, V: Drop> IndexMut<K> for SlotMap<K, V> {
         requires { IsLive self.old (K.data_of key) }
         ensures* writes_back { sem 𝓛 (lends_value K.row V.row self.entry (K.data_of key) result) }
         ensures value { map.get self.old.live (K.data_of key) ≡ Some result.now }
+        ensures was_valid { IsContent true self.old }
     {
         self.get_unchecked_mut(key)
     }

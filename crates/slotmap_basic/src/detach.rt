@@ -33,7 +33,6 @@ impl<K: Key, V: Drop> SlotMap<K, V> {
         ensures was_valid { IsContent true self.old }
         ensures valid { IsContent true self.new }
     {
-        let _ = &self.num_elems;
         let index = self.live_index(key)?;
         let version = key.data().version();
         let value = self.values[index].take();

@@ -33,6 +33,7 @@ impl<K: Key, V: Drop> SlotMap<K, V> {
 
         ensures refused { OnErr result (self.new ≡ self.old) }
         ensures returned { IfErr result (λ given. given ≡ values) }
+        ensures was_valid { IsContent true self.old }
         ensures valid { IsContent true self.new }
     {
         if !self.can_replace(&keys) {
@@ -49,6 +50,7 @@ impl<K: Key, V: Drop> SlotMap<K, V> {
         ensures which { IsTrue result ↔ CanReplace self.now (map_list K.data_of keys.now) }
         ensures valid { IsContent true self.now }
     {
+        // Where there is no key the map is looked at too, for the clause `valid`.
         let _ = &self.num_elems;
         for i in 0..keys.len() {
             let key = keys[i];

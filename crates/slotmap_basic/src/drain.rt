@@ -93,6 +93,7 @@ impl<K: Key, V: Drop> SlotMap<K, V> {
         ensures lists { DrainLists K.data_of result }
         ensures was_valid { IsContent true self.old }
     {
+        // The map is looked at for the clause `was_valid`.
         let _ = &self.num_elems;
         Drain {
             map: self,

@@ -2,11 +2,7 @@ use Rattle.std.proofs.Common.{ℕ, sym, ap, ◌∙◌, arith}
 use Rattle.std.proofs.lemmas.List.{length-set}
 use Rattle.slotmap_basic.specs.declared.Link.{Link}
 use Rattle.slotmap_basic.proofs.SlotLemmas.{present, valid, index_within, links_within, values_within, same_read, elems_positive, on_some, not_none, IsSound-detached, after-detached, detaches-slots}
-use Rattle.slotmap_basic.proofs.WellFormed.{well_formed}
 use Rattle.slotmap_basic.proofs.SlotMap.detach.Goals as goal
-
-pub returns-in_err-index-clause-valid : goal.returns-in_err-index-clause-valid
-returns-in_err-index-clause-valid g c = well_formed c.self.inside _ c.self.view_is c.self.invariant
 
 pub index_mut-requires : goal.index_mut-requires
 index_mut-requires g c =
@@ -54,9 +50,3 @@ pub returns-clause-valid : goal.returns-clause-valid
 returns-clause-valid g c =
     let m = c.self.inside in
     valid _ _ _ _ (invariant_of-self g c) _ _ _ (omega (arith, m.versions.ok.0, m.versions.ok.1, length-set {A = ℕ})) (omega (arith, m.links.ok.0, m.links.ok.1, length-set {A = Link})) (omega (arith, m.values.ok.0, m.values.ok.1, length-set m.values.items c.in_ok-index.index c.take-value.new.self))
-
-pub returns-in_err-index-clause-was_valid : goal.returns-in_err-index-clause-was_valid
-returns-in_err-index-clause-was_valid g c = well_formed c.self.inside _ c.self.view_is c.self.invariant
-
-pub returns-clause-was_valid : goal.returns-clause-was_valid
-returns-clause-was_valid g c = well_formed c.self.inside _ c.self.view_is c.self.invariant
