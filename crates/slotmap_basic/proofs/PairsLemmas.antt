@@ -1,6 +1,6 @@
 -- What a walk over the vectors of a slot map visits.
-use Rattle.std.proofs.Common.{◌≡◌, ℕ, suc, ◌+◌, ◌-◌, ◌<◌, ◌≤◌, ◌%◌, List, [], ◌∷◌, length, set, drop, slice_get, Option, Some, None, IsSome, ◌↔◌, inl, inr, refl, sym, ap, subst, ◌∙◌, arith}
-use Rattle.std.proofs.lemmas.Option.{slice_get_within, slice_get_cases, same_Some, get_or_from_slice_get}
+use Rattle.std.proofs.Common.{◌≡◌, ℕ, suc, ◌+◌, ◌-◌, ◌<◌, ◌≤◌, ◌%◌, List, [], ◌∷◌, length, set, drop, slice_get, Option, Some, None, IsSome, ◌↔◌, refl, sym, ap, subst, ◌∙◌, arith}
+use Rattle.std.proofs.lemmas.Option.{slice_get_within, same_Some, get_or_from_slice_get}
 use Rattle.std.proofs.lemmas.List.{length-set, length-drop, drop_more, drop-set-lt}
 use Rattle.std.specs.FinMap as map
 use Rattle.slotmap_core.specs.Places.{live}
@@ -11,7 +11,7 @@ use Rattle.slotmap_basic.specs.declared.Link.{Link}
 use Rattle.slotmap_basic.specs.declared.Link.TheVariants.{InUse, Free, Detached}
 use Rattle.slotmap_basic.specs.Slots.{Slots, IsPlace, IsSound, zip_places, places_of}
 use Rattle.slotmap_basic.specs.Walk.{pairs_from, pairs_left, IsWalk}
-use Rattle.slotmap_basic.proofs.SlotLemmas.{found_at, length_places}
+use Rattle.slotmap_basic.proofs.SlotLemmas.{found_within, found_at, length_places}
 
 module _ {V : Type 0} where
   -- the pairs are the entries of the places
@@ -50,12 +50,6 @@ module _ {V : Type 0} (s : Slots V) (head free elems : ℕ) (sound : IsSound s h
 drop-found : {X : Type 0} (xs : List X) (i : ℕ) (x : X) → slice_get xs i ≡ Some x → drop i xs ≡ x ∷ drop (i + 1) xs
 drop-found xs i x found = drop_more xs i x (slice_get_within xs i x found) ∙ ap (λ y. y ∷ drop (i + 1) xs) (get_or_from_slice_get xs i x x found)
 
-there_is : {X : Type 0} (xs : List X) (i : ℕ) → i < length xs → (x : X) × (slice_get xs i ≡ Some x)
-there_is xs i within = elim (slice_get_cases xs i).1 [
-  | inl found ↦ (found.0, found.2)
-  | inr past ↦ absurd (omega (arith, past.0))
-]
-
 module _ {V : Type 0} where
   length-pairs : (i : ℕ) (vs : List ℕ) (xs : List (Option V)) → length (pairs_from i vs xs) ≤ length vs
   length-pairs i [] xs = omega arith
@@ -85,7 +79,7 @@ module _ {V : Type 0} (vs : List ℕ) (xs : List (Option V)) (i left : ℕ) (wal
   -- a place with an even version is passed over
   pub pass : (v : ℕ) → slice_get vs i ≡ Some v → (v % 2 ≡ 1 → ⊥) → IsWalk vs xs (i + 1) left × (pairs_left (i + 1) vs xs ≡ pairs_left i vs xs)
   pass v at_v even =
-      let there = there_is xs i (omega (arith, slice_get_within vs i v at_v, walk.values_length)) in
+      let there = found_within xs i (omega (arith, slice_get_within vs i v at_v, walk.values_length)) in
       let same = sym (left-found v there.0 at_v there.1 ∙ by there.0 (walk.placed i v there.0 (omega arith) at_v there.1)) in
       (later left (walk.counted ∙ ap length (sym same)), same)
     where

@@ -40,7 +40,7 @@ walk-is links (j ∷ js) head linked =
     let next_is : link_next (slice_get links head) ≡ linked.1.0 = ap (λ h. link_next (slice_get links h)) linked.0 ∙ ap link_next linked.1.1 in
     rw (next_is, walk-is links js linked.1.0 linked.1.2) (ap (λ h. h ∷ js) linked.0)
 
-found_within : {X : Type 0} (xs : List X) (i : ℕ) → i < length xs → (x : X) × (slice_get xs i ≡ Some x)
+pub found_within : {X : Type 0} (xs : List X) (i : ℕ) → i < length xs → (x : X) × (slice_get xs i ≡ Some x)
 found_within [] i within = absurd (omega arith)
 found_within (x ∷ xs) zero within = (x, refl)
 found_within (x ∷ xs) (suc i) within = found_within xs i (omega arith)

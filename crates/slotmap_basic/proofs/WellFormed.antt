@@ -9,9 +9,9 @@ use Rattle.slotmap_basic.proofs.SlotLemmas.{valid}
 pub well_formed : {K V : Type 0} (m : Inside K V) (now : Content V)
     → content (record {
       places = places_of (record { versions = m.versions.items; links = m.links.items; values = m.values.items });
-      vacant = walk m.links.items m.num_free m.free_head;
+      vacant = walk m.links.items m.vacant_count m.first_vacant;
       capacity = min (vec_capacity m.versions) (min (vec_capacity m.links) (vec_capacity m.values)) - 1;
     }) ≡ now
-    → IsSound (record { versions = m.versions.items; links = m.links.items; values = m.values.items }) m.free_head m.num_free m.num_elems
+    → IsSound (record { versions = m.versions.items; links = m.links.items; values = m.values.items }) m.first_vacant m.vacant_count m.live_count
     → IsContent true now
 well_formed m now view sound = subst (IsContent true) view (valid _ _ _ _ sound _ _ _ (omega (arith, m.versions.ok.0, m.versions.ok.1)) (omega (arith, m.links.ok.0, m.links.ok.1)) (omega (arith, m.values.ok.0, m.values.ok.1)))

@@ -115,6 +115,8 @@ impl<K: Key, V: Drop> Index<K> for SlotMap<K, V> {
 
     ghost index_gives = { λ m key value. map.get m.live (K.data_of key) ≡ Some value };
 
+    /// The value of a key that is live, which the caller shows; in Rust a dead key panics. Constant
+    /// time, with no look-up.
     fn index(&self, key: K) -> &V {
         self.get_unchecked(key)
     }
@@ -123,6 +125,8 @@ impl<K: Key, V: Drop> Index<K> for SlotMap<K, V> {
 impl<K: Key, V: Drop> IndexMut<K> for SlotMap<K, V> {
     ghost use Rattle.slotmap_basic.specs.Lends.{lends_value};
 
+    /// The value of a key that is live, which the caller shows, for writing; in Rust a dead key
+    /// panics. Constant time, with no look-up.
     fn index_mut(&mut self, key: K) -> &mut V
         requires { IsLive self.old (K.data_of key) }
         ensures* writes_back { sem 𝓛 (lends_value K.row V.row self.entry (K.data_of key) result) }

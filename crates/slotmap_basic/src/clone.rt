@@ -19,7 +19,7 @@ impl<K: Key, V: Clone> SlotMap<K, V> {
     /// vacant places, and maybe for no more.
     ///
     /// ```
-    /// let mut copy = map.clone()?;
+    /// let mut copy = map.clone().ok()?;
     /// copy.remove(key);
     /// // The map still has the key.
     /// ```
@@ -32,9 +32,9 @@ impl<K: Key, V: Clone> SlotMap<K, V> {
             versions: self.versions.clone()?,
             links: self.links.clone()?,
             values: self.values.clone()?,
-            free_head: self.free_head,
-            num_free: self.num_free,
-            num_elems: self.num_elems,
+            first_vacant: self.first_vacant,
+            vacant_count: self.vacant_count,
+            live_count: self.live_count,
             keys: PhantomData,
         })
     }
@@ -43,7 +43,7 @@ impl<K: Key, V: Clone> SlotMap<K, V> {
     ///
     /// A key that this map has handed out before may then stand for another value. Where there is
     /// no memory it refuses, and the map stays as it is: the copy is made first, so for a while
-    /// there are both.
+    /// there are both. It copies each place of the source.
     pub fn clone_from(&mut self, source: &Self) -> Result<(), AllocError>
     where
         V: Drop,

@@ -38,7 +38,7 @@ impl<K: Key, V: Drop> SlotMap<K, V> {
         let value = self.values[index].take();
         self.versions[index] = version.wrapping_add(1);
         self.links[index] = Link::Detached;
-        self.num_elems -= 1;
+        self.live_count -= 1;
         value
     }
 
@@ -81,7 +81,7 @@ impl<K: Key, V: Drop> SlotMap<K, V> {
         self.versions[index] = key.data().version();
         self.links[index] = Link::InUse;
         self.values[index] = Some(value);
-        self.num_elems += 1;
+        self.live_count += 1;
         Ok(())
     }
 }

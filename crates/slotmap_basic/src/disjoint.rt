@@ -15,7 +15,8 @@ impl<K: Key, V: Drop> SlotMap<K, V> {
     ///
     /// Where one of the keys is not live, or two are equal, it hands the values back, and the map
     /// stays as it is. It takes no memory, and its time does not depend on the size of the map: it
-    /// looks up each key, and compares each two.
+    /// looks up each key, and compares each two. In Rust `get_disjoint_mut` lends the values
+    /// instead.
     ///
     /// ```
     /// if let Ok([old_a, old_b]) = map.replace_disjoint([a, b], [1, 2]) {
@@ -51,7 +52,7 @@ impl<K: Key, V: Drop> SlotMap<K, V> {
         ensures valid { IsContent true self.now }
     {
         // Where there is no key the map is looked at too, for the clause `valid`.
-        let _ = &self.num_elems;
+        let _ = &self.live_count;
         for i in 0..keys.len() {
             let key = keys[i];
             if !self.contains_key(key) || keys[..i].contains(&key) {

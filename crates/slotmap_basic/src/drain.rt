@@ -43,7 +43,7 @@ impl<'a, K: Key, V: Drop> Iterator for Drain<'a, K, V> {
     ghost remaining = { drain_count };
 
     fn next(&mut self) -> Option<(K, V)> {
-        while self.index < self.map.num_places() {
+        while self.index < self.map.place_count() {
             let index = self.index;
             self.index += 1;
             if let Some(key) = self.map.key_at(index) {
@@ -94,7 +94,7 @@ impl<K: Key, V: Drop> SlotMap<K, V> {
         ensures was_valid { IsContent true self.old }
     {
         // The map is looked at for the clause `was_valid`.
-        let _ = &self.num_elems;
+        let _ = &self.live_count;
         Drain {
             map: self,
             index: 0,

@@ -16,10 +16,10 @@ impl<K: Key, V: Drop> SlotMap<K, V> {
         requires { 0 < self.now.room }
         ensures { result ≡ self.now.offer }
     {
-        if self.num_free == 0 {
+        if self.vacant_count == 0 {
             return KeyData::new(self.versions.len() as u32, 1);
         }
-        KeyData::new(self.free_head, self.versions[self.free_head as usize] + 1)
+        KeyData::new(self.first_vacant, self.versions[self.first_vacant as usize] + 1)
     }
 
     // Binds the next key to a value.
@@ -29,21 +29,21 @@ impl<K: Key, V: Drop> SlotMap<K, V> {
         ensures capacity { self.new.capacity ≡ self.old.capacity }
         ensures valid { IsContent true self.new }
     {
-        self.num_elems += 1;
-        if self.num_free == 0 {
+        self.live_count += 1;
+        if self.vacant_count == 0 {
             self.versions.push_reserved(1);
             self.links.push_reserved(Link::InUse);
             self.values.push_reserved(Some(value));
             return;
         }
-        let index = self.free_head;
+        let index = self.first_vacant;
         match self.links[index as usize] {
             Link::Free(next) => {
                 self.versions[index as usize] += 1;
                 self.links[index as usize] = Link::InUse;
                 self.values[index as usize] = Some(value);
-                self.free_head = next;
-                self.num_free -= 1;
+                self.first_vacant = next;
+                self.vacant_count -= 1;
             }
             _ => unreachable!(),
         }
@@ -54,7 +54,7 @@ impl<K: Key, V: Drop> SlotMap<K, V> {
     /// The place that was freed last is used, with no memory asked for; where none is vacant a new
     /// place is made. `Full` exactly where 4294967294 keys are live, detached or retired, else
     /// `Memory` where a new place was refused; both hand the value back, and the map holds what it
-    /// held. In Rust this panics.
+    /// held. In Rust a full map panics, and want of memory aborts.
     ///
     /// ```
     /// let first = map.insert(5).ok()?;
@@ -89,11 +89,12 @@ impl<K: Key, V: Drop> SlotMap<K, V> {
     /// Stores the value that the closure gives for the new key, and answers the key. Costs as
     /// `insert`.
     ///
-    /// There is room before the closure is called, once and on the key that will be answered. On
-    /// `Full` and `Memory`, which come as at `insert`, the closure is dropped uncalled.
+    /// There is room before the closure is called, once and on the key that will be answered; in
+    /// Rust the closure runs before the vectors grow. On `Full` and `Memory`, which come as at
+    /// `insert`, the closure is dropped uncalled.
     ///
     /// ```
-    /// let key = map.insert_with_key(|key: DefaultKey| key.data().as_ffi())?;
+    /// let key = map.insert_with_key(|key: DefaultKey| key.data().as_ffi()).ok()?;
     /// assert_eq!(map.get(key), Some(&key.data().as_ffi()));
     /// ```
     pub fn insert_with_key<F: FnOnce(K) -> V>(&mut self, f: F) -> Result<K, InsertWithError>

@@ -110,16 +110,16 @@ impl<K: Key, V: Drop> IntoIterator for SlotMap<K, V> {
             versions,
             links: _,
             values,
-            free_head: _,
-            num_free: _,
-            num_elems,
+            first_vacant: _,
+            vacant_count: _,
+            live_count,
             keys: _,
         } = self;
         IntoIter {
             versions,
             values,
             index: 0,
-            left: num_elems as usize,
+            left: live_count as usize,
             keys: PhantomData,
         }
     }

@@ -237,7 +237,7 @@ impl<K: Key, V> SlotMap<K, V> {
             versions: self.versions.as_slice(),
             values: self.values.as_slice(),
             index: 0,
-            left: self.num_elems as usize,
+            left: self.live_count as usize,
             keys: PhantomData,
         }
     }

@@ -44,7 +44,7 @@ use std::marker::{Model, PhantomData};
 /// again by `reattach`. At most 4294967294 keys can be live or detached or have retired places.
 ///
 /// ```
-/// let mut map: SlotMap<DefaultKey, u32> = SlotMap::new(alloc)?;
+/// let mut map: SlotMap<DefaultKey, u32> = SlotMap::new(alloc).ok()?;
 /// let key = map.insert(5).ok()?;
 /// assert_eq!(map.get(key), Some(&5));
 /// assert_eq!(map.remove(key), Some(5));
@@ -57,9 +57,9 @@ pub struct SlotMap<K, V> {
     links: Vec<Link>,
     values: Vec<Option<V>>,
     // The first place of the free list, or 0 where there is none.
-    free_head: u32,
-    num_free: u32,
-    num_elems: u32,
+    first_vacant: u32,
+    vacant_count: u32,
+    live_count: u32,
     keys: PhantomData<K>,
 }
 
@@ -84,11 +84,11 @@ impl<K, V> Model for SlotMap<K, V> {
 
     ghost view = { λ m. content (record {
       places = places_of (record { versions = m.versions.items; links = m.links.items; values = m.values.items });
-      vacant = walk m.links.items m.num_free m.free_head;
+      vacant = walk m.links.items m.vacant_count m.first_vacant;
       capacity = min (vec_capacity m.versions) (min (vec_capacity m.links) (vec_capacity m.values)) - 1;
     }) };
 
-    ghost invariant = { λ m. IsSound (record { versions = m.versions.items; links = m.links.items; values = m.values.items }) m.free_head m.num_free m.num_elems };
+    ghost invariant = { λ m. IsSound (record { versions = m.versions.items; links = m.links.items; values = m.values.items }) m.first_vacant m.vacant_count m.live_count };
 }
 
 // As many places fit beside the sentinel.
@@ -159,9 +159,9 @@ impl<K: Key, V: Drop> SlotMap<K, V> {
             versions,
             links,
             values,
-            free_head: 0,
-            num_free: 0,
-            num_elems: 0,
+            first_vacant: 0,
+            vacant_count: 0,
+            live_count: 0,
             keys: PhantomData,
         })
     }
@@ -171,7 +171,7 @@ impl<K: Key, V: Drop> SlotMap<K, V> {
         ensures value { result ≡ map.len self.now.live }
         ensures valid { IsContent true self.now }
     {
-        self.num_elems as usize
+        self.live_count as usize
     }
 
     /// Whether no key is live. Constant time.
@@ -197,7 +197,7 @@ impl<K: Key, V: Drop> SlotMap<K, V> {
         ensures fits { result ≤ self.now.capacity }
         ensures valid { IsContent true self.now }
     {
-        self.versions.len() - 1 - self.num_free as usize
+        self.versions.len() - 1 - self.vacant_count as usize
     }
 
     /// Makes room for `additional` more keys: so many inserts and reattaches that follow aren't
@@ -235,7 +235,7 @@ impl<K: Key, V: Drop> SlotMap<K, V> {
         if additional <= self.capacity() - taken {
             return Ok(());
         }
-        let missing = additional - self.num_free as usize;
+        let missing = additional - self.vacant_count as usize;
         self.versions.reserve(missing)?;
         self.links.reserve(missing)?;
         self.values.reserve(missing)?;

@@ -13,7 +13,8 @@ impl<K: Key, V: Drop> SlotMap<K, V> {
     /// Takes a live key's value out, or answers none where the key isn't live. Constant time.
     ///
     /// The place is the first that an insert uses from then on, under a newer key; after the last
-    /// key of a place, of version 4294967295, the place is retired. Takes no memory.
+    /// key of a place, of version 4294967295, the place is retired, where in Rust its versions
+    /// start again. Takes no memory.
     pub fn remove(&mut self, key: K) -> Option<V>
         ensures value { result ≡ map.get self.old.live (K.data_of key) }
         ensures removes { OnSome result (Removes self.old (K.data_of key) self.new) }
@@ -43,18 +44,18 @@ impl<K: Key, V: Drop> SlotMap<K, V> {
         let version = data.version();
         let value = self.values[index].take().unwrap();
         self.versions[index] = version.wrapping_add(1);
-        self.num_elems -= 1;
+        self.live_count -= 1;
         if version == u32::MAX {
             return value;
         }
-        self.links[index] = Link::Free(self.free_head);
-        self.free_head = index as u32;
-        self.num_free += 1;
+        self.links[index] = Link::Free(self.first_vacant);
+        self.first_vacant = index as u32;
+        self.vacant_count += 1;
         value
     }
 
     // How many places there are, with the sentinel.
-    pub(crate) fn num_places(&self) -> usize
+    pub(crate) fn place_count(&self) -> usize
         ensures count { result ≡ places self.now + 1 }
         ensures valid { IsContent true self.now }
     {

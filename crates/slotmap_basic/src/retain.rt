@@ -33,7 +33,7 @@ impl<K: Key, V: Drop> SlotMap<K, V> {
         ensures was_valid { IsContent true self.old }
         ensures valid { IsContent true self.new }
     {
-        for index in 0..self.num_places() {
+        for index in 0..self.place_count() {
             if let Some(key) = self.key_at(index) {
                 if !f(key, self.get_unchecked_mut(key)) {
                     self.take_live(key);
@@ -67,7 +67,7 @@ impl<K: Key, V: Drop> SlotMap<K, V> {
         ensures was_valid { IsContent true self.old }
         ensures valid { IsContent true self.new }
     {
-        for index in start..self.num_places() {
+        for index in start..self.place_count() {
             if let Some(key) = self.key_at(index) {
                 self.take_live(key);
             }
@@ -77,13 +77,14 @@ impl<K: Key, V: Drop> SlotMap<K, V> {
     /// Appends every live key to `out`, by ascending index.
     ///
     /// It first asks for all the room that it needs. Where there is no memory for it, it is
-    /// refused, and `out` stays as it is. It goes over all places of the map once.
+    /// refused, and `out` stays as it is. It goes over all places of the map once. Rust lacks this
+    /// call.
     pub fn keys_into(&self, out: &mut Vec<K>) -> Result<(), OutOfMemory>
         ensures listed { OnOk result ((keys : List K) × (out.new.items ≡ out.old.items ++ keys) × IsKeyListing self.now.live (list_map K.data_of keys)) }
         ensures err { OnErr result (out.new.items ≡ out.old.items) }
     {
         out.reserve(self.len())?;
-        for index in 0..self.num_places() {
+        for index in 0..self.place_count() {
             if let Some(key) = self.key_at(index) {
                 out.push_reserved(key);
             }
@@ -95,7 +96,7 @@ impl<K: Key, V: Drop> SlotMap<K, V> {
     ///
     /// The keys are removed as `remove` does, and detached keys stay detached. It first asks for
     /// all the room that it needs. Where there is no memory for it, it is refused, and the map and
-    /// `out` stay as they are. It goes over all places of the map once.
+    /// `out` stay as they are. It goes over all places of the map once. Rust lacks this call.
     pub fn drain_into(&mut self, out: &mut Vec<(K, V)>) -> Result<(), OutOfMemory>
         ensures listed { OnOk result ((pairs : List (K × V)) × (out.new.items ≡ out.old.items ++ pairs) × IsListing self.old.live (list_map (λ p. (K.data_of p.0, p.1)) pairs)) }
         ensures empty { OnOk result (self.new.live ≡ map.empty) }
@@ -109,7 +110,7 @@ impl<K: Key, V: Drop> SlotMap<K, V> {
         ensures valid { IsContent true self.new }
     {
         out.reserve(self.len())?;
-        for index in 0..self.num_places() {
+        for index in 0..self.place_count() {
             if let Some(key) = self.key_at(index) {
                 let value = self.take_live(key);
                 out.push_reserved((key, value));

@@ -50,7 +50,7 @@ impl<K: Key, V: Drop> SlotMap<K, V> {
     ///
     /// ```
     /// let key = map.insert(7).ok()?;
-    /// let list = map.to_slots()?;
+    /// let list = map.to_slots().ok()?;
     /// assert_eq!(list[key.data().idx() as usize].value, Some(7));
     /// assert_eq!(list[key.data().idx() as usize].version, key.data().version());
     /// ```
@@ -86,10 +86,10 @@ impl<K: Key, V: Drop> SlotMap<K, V> {
     ///
     /// ```
     /// let mut list = Vec::new(alloc);
-    /// list.push(SlotRecord { value: None, version: 0 })?;
-    /// list.push(SlotRecord { value: Some(7), version: 3 })?;
-    /// list.push(SlotRecord { value: None, version: 2 })?;
-    /// let mut map: SlotMap<DefaultKey, u32> = SlotMap::from_slots(alloc, list)?;
+    /// list.push(SlotRecord { value: None, version: 0 }).ok()?;
+    /// list.push(SlotRecord { value: Some(7), version: 3 }).ok()?;
+    /// list.push(SlotRecord { value: None, version: 2 }).ok()?;
+    /// let mut map: SlotMap<DefaultKey, u32> = SlotMap::from_slots(alloc, list).ok()?;
     /// assert_eq!(map.get(DefaultKey::from(KeyData::new(1, 3))), Some(&7));
     /// assert_eq!(map.insert(8).ok()?, DefaultKey::from(KeyData::new(2, 3)));
     /// ```
@@ -122,18 +122,18 @@ impl<K: Key, V: Drop> SlotMap<K, V> {
         versions.push_reserved(0);
         links.push_reserved(Link::Free(0));
         values.push_reserved(None);
-        let mut free_head = 0;
-        let mut num_free = 0;
-        let mut num_elems = 0;
+        let mut first_vacant = 0;
+        let mut vacant_count = 0;
+        let mut live_count = 0;
         for slot in slots {
             if is_vacant(slot.version) {
-                links.push_reserved(Link::Free(free_head));
-                free_head = versions.len() as u32;
-                num_free += 1;
+                links.push_reserved(Link::Free(first_vacant));
+                first_vacant = versions.len() as u32;
+                vacant_count += 1;
             } else {
                 links.push_reserved(Link::InUse);
             }
-            num_elems += slot.version % 2;
+            live_count += slot.version % 2;
             versions.push_reserved(slot.version);
             values.push_reserved(slot.value);
         }
@@ -141,9 +141,9 @@ impl<K: Key, V: Drop> SlotMap<K, V> {
             versions,
             links,
             values,
-            free_head,
-            num_free,
-            num_elems,
+            first_vacant,
+            vacant_count,
+            live_count,
             keys: PhantomData,
         })
     }

@@ -13,16 +13,12 @@ use Rattle.slotmap_core.specs.Slots.{IsConsistent, Accepts}
 use Rattle.slotmap_core.specs.StackMap.{StackMap, content, IsStacked}
 use Rattle.slotmap_core.specs.Written.{following_version, filled_slot, empty_slot, Writes, Restores, slot_of, slots_of, read_slots}
 use Rattle.slotmap_core.specs.declared.serial.SlotRecord.{SlotRecord}
-use Rattle.slotmap_core.proofs.ContentLemmas.{live_at, kept_at}
+use Rattle.slotmap_core.proofs.ContentLemmas.{live_at, kept_at, some_is}
 use Rattle.slotmap_core.proofs.ContentsLemmas.{gathers, live_in, in_contents, next_in, in_start_next, retired_in, in_start_retired}
 use Rattle.slotmap_core.proofs.KeyLemmas.{exact_keys, keys_total}
 use Rattle.slotmap_core.proofs.MapLaws.{detached_laws, is_marked}
 use Rattle.slotmap_core.proofs.StartLemmas.{consistent_at, odd_of, even_where}
 use Rattle.slotmap_core.proofs.PlacesLemmas.{key, get-live_at, get-next_at, vacant_at, retired_at, contains-detached, total, retired_fits}
-
-some_of : {A : Type 0} (o : Option A) → is_some o ≡ true → (x : A) × (o ≡ Some x)
-some_of None is = absurd (cc)
-some_of (Some x) is = (x, refl)
 
 -- two options are equal where what one of them has the other has too
 same_option : {A : Type 0} (a b : Option A) → ((x : A) → a ≡ Some x → b ≡ Some x) → ((x : A) → b ≡ Some x → a ≡ Some x) → a ≡ b
@@ -87,7 +83,7 @@ module _ {V : Type 0} (reuses : Bool) (c : Content V) (valid : IsContent reuses 
   stands_for zero slot found = AtFirst refl (same_Some slot (empty_slot 0) (sym found ∙ writes.first))
   stands_for (suc i) slot found =
       elim (writes.each (suc i) (omega arith) (omega (arith, slice_get_within slots (suc i) slot found, writes.all))) [
-        | inl vacant ↦ let at = some_of (map.get c.next (suc i)) vacant in AtVacant at.0 at.1 (same_Some slot (empty_slot (at.0 - 1)) (sym found ∙ writes.vacant (suc i) at.0 at.1))
+        | inl vacant ↦ let at = some_is (map.get c.next (suc i)) vacant in AtVacant at.0 at.1 (same_Some slot (empty_slot (at.0 - 1)) (sym found ∙ writes.vacant (suc i) at.0 at.1))
         | inr key ↦ of_key key.0 key.1 key.2
       ]
     where
@@ -95,7 +91,7 @@ module _ {V : Type 0} (reuses : Bool) (c : Content V) (valid : IsContent reuses 
       of_key k here uses =
           let found_here : slice_get slots k.index ≡ Some slot = ap (slice_get slots) here ∙ found in
           elim uses [
-            | inl (inl is) ↦ let at = some_of (map.get c.live k) is in AtLive k at.0 here at.1 (same_Some slot (filled_slot k.version at.0) (sym found_here ∙ writes.live k at.0 at.1))
+            | inl (inl is) ↦ let at = some_is (map.get c.live k) is in AtLive k at.0 here at.1 (same_Some slot (filled_slot k.version at.0) (sym found_here ∙ writes.live k at.0 at.1))
             | inl (inr is) ↦ AtDetached k here is (same_Some slot (empty_slot (following_version k.version)) (sym found_here ∙ writes.detached k is))
             | inr is ↦ AtRetired k here is (same_Some slot (empty_slot 0) (sym found_here ∙ writes.retired k is))
           ]

@@ -1,6 +1,7 @@
 //! Why a call is refused.
 //!
-//! A refused call hands back what it was given, and leaves the map as it was.
+//! A refused call leaves what the map holds as it was. A value that was to be stored comes back in
+//! the error; a closure or a list is dropped.
 
 ghost use Rattle.std.specs.Prelude.{◌≡◌};
 ghost use Rattle.slotmap_core.specs.declared.errors.JsonError.TheVariants.{Memory as JsonMemory};

@@ -1,8 +1,8 @@
 //! Keys: an index, and a version that tells the keys of one index apart.
 //!
 //! A map hands out a key for each value that it takes. The index says where the value stands, and
-//! the version is greater than that of each earlier key of that index, so a key whose value is
-//! gone is never taken for a later one.
+//! the version is greater than that of each earlier key of that index, so a key whose value is gone
+//! is never taken for a later one.
 
 ghost use Rattle.std.specs.Prelude.{◌≡◌, ◌↔◌, ◌/◌, ◌%◌, ◌^◌, IsTrue, refl};
 ghost use Rattle.slotmap_core.specs.Key.{Key as KeyOf, IsKey, null_key, ffi, key_from, is_older};
@@ -43,7 +43,7 @@ impl KeyData {
     /// The key data of an index and a version. Constant time.
     ///
     /// An even version is raised to the odd one after it. The greatest index gives the null key,
-    /// whatever the version. It is `from_ffi` of `version * 2^32 + idx`.
+    /// whatever the version. It is `from_ffi` of `version * 2^32 + idx`. Rust lacks this call.
     ///
     /// ```
     /// assert_eq!(KeyData::new(2, 4), KeyData::new(2, 5));
@@ -63,7 +63,7 @@ impl KeyData {
         }
     }
 
-    /// The index. Constant time.
+    /// The index. Constant time. Rust lacks this call.
     pub fn idx(self) -> u32
         ensures value { result ≡ self.index }
         ensures valid { IsKey self }
@@ -71,7 +71,7 @@ impl KeyData {
         self.idx
     }
 
-    /// The version, which is odd. Constant time.
+    /// The version, which is odd. Constant time. Rust lacks this call.
     pub fn version(self) -> u32
         ensures value { result ≡ self.version }
         ensures valid { IsKey self }

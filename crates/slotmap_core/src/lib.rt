@@ -1,4 +1,4 @@
-//! Keys, models and contracts that the slot maps share.
+//! Keys, errors, commands, the traits of the maps, lists of slots and their JSON.
 #![tactic(auto)]
 
 pub mod commands;

@@ -1,5 +1,5 @@
-//! Tests of the maps and of runs on them. Expected values come from the worked examples of the crate's description
-//! and from the Rust crate, never from this port's own answers.
+//! Tests of the maps and of runs on them. Expected values were worked out by hand or come from the
+//! Rust crate, never from this port's own answers.
 
 mod callers;
 mod drains;

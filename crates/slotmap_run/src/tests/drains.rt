@@ -38,6 +38,26 @@ fn a_drain_that_is_dropped_early_empties_the_map(rt: HostRuntime) -> Result<(), 
 }
 
 #[test]
+fn drain_into_appends_the_pairs_by_ascending_index(rt: HostRuntime) -> Result<(), Fail> {
+    let mut map = Map::new(rt.alloc())?;
+    for value in 1..4 {
+        put(&mut map, value)?;
+    }
+    let mut pairs = Vec::new(rt.alloc());
+    map.drain_into(&mut pairs)
+        .ok()
+        .ok_or("the drain was refused")?;
+    assert!(rt; map.is_empty());
+    let mut seen: u64 = 0;
+    for (key, value) in pairs {
+        assert_eq!(rt; number(key), value.wrapping_add(4294967296));
+        seen = seen.wrapping_mul(10).wrapping_add(value);
+    }
+    assert_eq!(rt; seen, 123);
+    Ok(())
+}
+
+#[test]
 fn clear_and_drain_keep_the_memory(rt: HostRuntime) -> Result<(), Fail> {
     let mut map = Map::with_capacity(rt.alloc(), 8)?;
     put(&mut map, 1)?;

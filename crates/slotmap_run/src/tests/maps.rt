@@ -117,7 +117,7 @@ fn several_values_are_replaced_or_none(rt: HostRuntime) -> Result<(), Fail> {
 }
 
 #[test]
-fn retain_counts_its_calls(rt: HostRuntime) -> Result<(), Fail> {
+fn retain_goes_by_ascending_index_and_keeps_what_is_written(rt: HostRuntime) -> Result<(), Fail> {
     let mut map = Map::new(rt.alloc())?;
     for value in 1..6 {
         put(&mut map, value)?;

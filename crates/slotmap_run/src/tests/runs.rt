@@ -70,7 +70,7 @@ fn a_closures_error_passes_no_place_over(rt: HostRuntime) -> Result<(), Fail> {
     Ok(())
 }
 
-// The commands of a run that every map serves, one of each kind, on a map that holds one key.
+// Commands of every kind but `InsertWith`, for a run on an empty map.
 fn one_of_each(alloc: Global) -> Result<Vec<Command<DefaultKey, u64>>, Fail> {
     let first = key(4294967297);
     Ok(vec![in alloc;

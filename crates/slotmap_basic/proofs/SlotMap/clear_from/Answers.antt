@@ -5,7 +5,7 @@ use Rattle.slotmap_basic.proofs.SlotMap.clear_from.Goals.{in-Some, in_default}
 use Rattle.slotmap_basic.proofs.SlotMap.clear_from.Goals as goal
 
 pub loop-index-init : goal.loop-index-init
-loop-index-init g c = record { swept = Swept-start c.args.self.now c.args.start c.num_places-index-end.ensures.valid; stay = λ k below. refl; above = λ none. none }
+loop-index-init g c = record { swept = Swept-start c.args.self.now c.args.start c.place_count-index-end.ensures.valid; stay = λ k below. refl; above = λ none. none }
 
 pub loop-index-preserved : goal.loop-index-preserved
 loop-index-preserved g c =
@@ -31,4 +31,4 @@ pub returns-clause-empty : goal.returns-clause-empty
 returns-clause-empty g c = λ none.
     let at = c.loop-index in
     let swept = at.invariant.swept in
-    NoneBelow-end at.self.live at.index (λ q there. omega (arith, (swept.well.within q (inl (inl there))).1, swept.leaves.same_places, c.num_places-index-end.ensures.count)) (at.invariant.above none)
+    NoneBelow-end at.self.live at.index (λ q there. omega (arith, (swept.well.within q (inl (inl there))).1, swept.leaves.same_places, c.place_count-index-end.ensures.count)) (at.invariant.above none)

@@ -12,7 +12,7 @@ use Rattle.slotmap_basic.proofs.SlotMap.drain_into.Goals as goal
 
 pub loop-index-init : goal.loop-index-init
 loop-index-init g c = record {
-  swept = Swept-start c.args.self.now 0 c.num_places-index-end.ensures.valid;
+  swept = Swept-start c.args.self.now 0 c.place_count-index-end.ensures.valid;
   above = λ q there. omega arith;
   pairs = [];
   pushed = c.reserve.ensures.items ∙ sym (append-nil c.args.out.now.items);
@@ -59,7 +59,7 @@ pub returns-clause-empty : goal.returns-clause-empty
 returns-clause-empty g c =
     let at = c.loop-index in
     let swept = at.invariant.swept in
-    NoneBelow-end at.self.live at.index (λ q there. omega (arith, (swept.well.within q (inl (inl there))).1, swept.leaves.same_places, c.num_places-index-end.ensures.count)) at.invariant.above
+    NoneBelow-end at.self.live at.index (λ q there. omega (arith, (swept.well.within q (inl (inl there))).1, swept.leaves.same_places, c.place_count-index-end.ensures.count)) at.invariant.above
 
 pub returns-clause-listed : goal.returns-clause-listed
 returns-clause-listed g c =

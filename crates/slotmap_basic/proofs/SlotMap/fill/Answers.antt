@@ -45,51 +45,51 @@ returns-then-self-eq0-clause-valid g c =
 pub index-requires : goal.index-requires
 index-requires g c =
     let t = top _ _ _ _ c.self.invariant (omega arith) in
-    omega (arith, slice_get_within c.self.inside.links.items c.self.inside.free_head _ t.there.link, c.self.inside.links.ok.0)
+    omega (arith, slice_get_within c.self.inside.links.items c.self.inside.first_vacant _ t.there.link, c.self.inside.links.ok.0)
 
 pub index_mut-requires : goal.index_mut-requires
 index_mut-requires g c =
     let t = top _ _ _ _ c.self.invariant (omega arith) in
-    omega (arith, slice_get_within c.self.inside.versions.items c.self.inside.free_head _ t.there.version, c.self.inside.versions.ok.0)
+    omega (arith, slice_get_within c.self.inside.versions.items c.self.inside.first_vacant _ t.there.version, c.self.inside.versions.ok.0)
 
 pub overflow_add-index_mut : goal.overflow_add-index_mut
 overflow_add-index_mut g c =
     let t = top _ _ _ _ c.self.invariant (omega arith) in
-    let version = same_read c.self.inside.versions.items c.self.inside.free_head _ _ c.index_mut.ensures.value t.there.version in
+    let version = same_read c.self.inside.versions.items c.self.inside.first_vacant _ _ c.index_mut.ensures.value t.there.version in
     let fits = top_version _ _ _ _ c.self.invariant t in
     omega (arith, fits.0)
 
 pub index_mut-requires-in-Free : goal.index_mut-requires-in-Free
 index_mut-requires-in-Free g c =
     let t = top _ _ _ _ c.self.invariant (omega arith) in
-    omega (arith, slice_get_within c.self.inside.links.items c.self.inside.free_head _ t.there.link, c.self.inside.links.ok.0)
+    omega (arith, slice_get_within c.self.inside.links.items c.self.inside.first_vacant _ t.there.link, c.self.inside.links.ok.0)
 
 pub index_mut-requires-in-Free-2 : goal.index_mut-requires-in-Free-2
 index_mut-requires-in-Free-2 g c =
     let t = top _ _ _ _ c.self.invariant (omega arith) in
-    omega (arith, slice_get_within c.self.inside.values.items c.self.inside.free_head _ t.there.value, c.self.inside.values.ok.0)
+    omega (arith, slice_get_within c.self.inside.values.items c.self.inside.first_vacant _ t.there.value, c.self.inside.values.ok.0)
 
 pub invariant_of-self-in-Free : goal.invariant_of-self-in-Free
 invariant_of-self-in-Free g c =
     let t = top _ _ _ _ c.self.invariant (omega arith) in
-    let next = same_next _ _ (sym c.in-Free.is ∙ same_read c.self.inside.links.items c.self.inside.free_head _ _ c.index.ensures t.there.link) in
-    let version = same_read c.self.inside.versions.items c.self.inside.free_head _ _ c.index_mut.ensures.value t.there.version in
+    let next = same_next _ _ (sym c.in-Free.is ∙ same_read c.self.inside.links.items c.self.inside.first_vacant _ _ c.index.ensures t.there.link) in
+    let version = same_read c.self.inside.versions.items c.self.inside.first_vacant _ _ c.index_mut.ensures.value t.there.version in
     rw (next, version) (IsSound-filled _ _ _ _ c.self.invariant t c.args.value)
 
 pub unreachable-requires : goal.unreachable-requires
 unreachable-requires g c =
     let t = top _ _ _ _ c.self.invariant (omega arith) in
-    c.in_default.not-Free _ (same_read c.self.inside.links.items c.self.inside.free_head _ _ c.index.ensures t.there.link)
+    c.in_default.not-Free _ (same_read c.self.inside.links.items c.self.inside.first_vacant _ _ c.index.ensures t.there.link)
 
 pub returns-clause-inserts : goal.returns-clause-inserts
 returns-clause-inserts g c =
     let t = top _ _ _ _ c.self.invariant (omega arith) in
-    let next = same_next _ _ (sym c.in-Free.is ∙ same_read c.self.inside.links.items c.self.inside.free_head _ _ c.index.ensures t.there.link) in
-    let version = same_read c.self.inside.versions.items c.self.inside.free_head _ _ c.index_mut.ensures.value t.there.version in
+    let next = same_next _ _ (sym c.in-Free.is ∙ same_read c.self.inside.links.items c.self.inside.first_vacant _ _ c.index.ensures t.there.link) in
+    let version = same_read c.self.inside.versions.items c.self.inside.first_vacant _ _ c.index_mut.ensures.value t.there.version in
     let room = has_room _ _ _ _ c.self.invariant _ _ _ (subst (λ m. 0 < m.room) (sym c.self.view_is) c.requires) in
     rw (← c.self.view_is, next, version) (inserts-slots _ _ _ _ c.self.invariant c.args.value _ _ room.0 (after-filled _ _ _ _ c.self.invariant t c.args.value _))
 
 pub returns-clause-valid : goal.returns-clause-valid
 returns-clause-valid g c =
     let m = c.self.inside in
-    valid _ _ _ _ (invariant_of-self-in-Free g c) _ _ _ (omega (arith, m.versions.ok.0, m.versions.ok.1, length-set {A = ℕ})) (omega (arith, m.links.ok.0, m.links.ok.1, length-set {A = Link})) (omega (arith, m.values.ok.0, m.values.ok.1, length-set m.values.items m.free_head (Some c.args.value)))
+    valid _ _ _ _ (invariant_of-self-in-Free g c) _ _ _ (omega (arith, m.versions.ok.0, m.versions.ok.1, length-set {A = ℕ})) (omega (arith, m.links.ok.0, m.links.ok.1, length-set {A = Link})) (omega (arith, m.values.ok.0, m.values.ok.1, length-set m.values.items m.first_vacant (Some c.args.value)))

@@ -32,22 +32,22 @@ loop-slot-init g c =
 pub push_reserved-requires-then-is_vacant : goal.push_reserved-requires-then-is_vacant
 push_reserved-requires-then-is_vacant g c = omega (arith, c.loop-slot.invariant.room_links, c.in-Some.ensures.steps.1)
 
-pub overflow_cast-free_head : goal.overflow_cast-free_head
-overflow_cast-free_head g c =
+pub overflow_cast-first_vacant : goal.overflow_cast-first_vacant
+overflow_cast-first_vacant g c =
     let before = c.loop-slot.invariant in
     let accepted = subst (λ l. Accepts l 4294967295) c.deref.ensures.value (c.in_ok-check_slots.ensures.ok.0 refl) in
-    omega (arith, accepted.short, before.counted, before.read.count, c.len-free_head.ensures, c.loop-slot.versions.ok.0)
+    omega (arith, accepted.short, before.counted, before.read.count, c.len-first_vacant.ensures, c.loop-slot.versions.ok.0)
 
-pub overflow_add-num_free : goal.overflow_add-num_free
-overflow_add-num_free g c =
+pub overflow_add-vacant_count : goal.overflow_add-vacant_count
+overflow_add-vacant_count g c =
     let accepted = subst (λ l. Accepts l 4294967295) c.deref.ensures.value (c.in_ok-check_slots.ensures.ok.0 refl) in
     omega (arith, accepted.short, c.loop-slot.invariant.counted, c.loop-slot.invariant.few_free)
 
 pub push_reserved-requires-else-is_vacant : goal.push_reserved-requires-else-is_vacant
 push_reserved-requires-else-is_vacant g c = omega (arith, c.loop-slot.invariant.room_links, c.in-Some.ensures.steps.1)
 
-pub overflow_add-num_elems : goal.overflow_add-num_elems
-overflow_add-num_elems g c =
+pub overflow_add-live_count : goal.overflow_add-live_count
+overflow_add-live_count g c =
     let accepted = subst (λ l. Accepts l 4294967295) c.deref.ensures.value (c.in_ok-check_slots.ensures.ok.0 refl) in
     omega (arith, accepted.short, c.loop-slot.invariant.counted, c.loop-slot.invariant.few_elems)
 
@@ -73,14 +73,14 @@ loop-slot-preserved g c =
     elim c.if-is_vacant.branch [
       | then-is_vacant w ↦
           let links = w.push_reserved-then-is_vacant.ensures in
-          let head : c.if-is_vacant.free_head ≡ length at.versions.items = w.free_head-is ∙ w.len-free_head.ensures ∙ at.versions.ok.0 in
+          let head : c.if-is_vacant.first_vacant ≡ length at.versions.items = w.first_vacant-is ∙ w.len-first_vacant.ensures ∙ at.versions.ok.0 in
           record {
             first = before.first;
             all = ap (λ xs. before.first ∷ xs) (append_assoc at.yielded (slot ∷ []) rest) ∙ whole;
             left = omega (arith, before.left, steps.1, shrinks);
             counted = omega (arith, before.counted, steps.1, length_push at.yielded slot);
-            read = rw (versions.items, values.items, w.links-is, links.items, head, w.num_free-is) (AreRead-vacant (before.first ∷ at.yielded) _ _ _ _ before.read slot consistent (omega arith) (sym c.is_vacant.ensures ∙ w.if-is_vacant.true));
-            few_free = omega (arith, before.few_free, w.num_free-is, length_push at.yielded slot);
+            read = rw (versions.items, values.items, w.links-is, links.items, head, w.vacant_count-is) (AreRead-vacant (before.first ∷ at.yielded) _ _ _ _ before.read slot consistent (omega arith) (sym c.is_vacant.ensures ∙ w.if-is_vacant.true));
+            few_free = omega (arith, before.few_free, w.vacant_count-is, length_push at.yielded slot);
             few_elems = omega (arith, before.few_elems, length_push at.yielded slot);
             room_versions = omega (arith, before.room_versions, steps.1, versions.len, versions.capacity);
             room_links = rw w.links-is (omega (arith, before.room_links, steps.1, links.len, links.capacity));
@@ -93,8 +93,8 @@ loop-slot-preserved g c =
             all = ap (λ xs. before.first ∷ xs) (append_assoc at.yielded (slot ∷ []) rest) ∙ whole;
             left = omega (arith, before.left, steps.1, shrinks);
             counted = omega (arith, before.counted, steps.1, length_push at.yielded slot);
-            read = rw (versions.items, values.items, w.links-is, links.items, w.free_head-is, w.num_free-is) (AreRead-in_use (before.first ∷ at.yielded) _ _ _ _ before.read slot consistent (omega arith) (sym c.is_vacant.ensures ∙ w.if-is_vacant.false));
-            few_free = omega (arith, before.few_free, w.num_free-is, length_push at.yielded slot);
+            read = rw (versions.items, values.items, w.links-is, links.items, w.first_vacant-is, w.vacant_count-is) (AreRead-in_use (before.first ∷ at.yielded) _ _ _ _ before.read slot consistent (omega arith) (sym c.is_vacant.ensures ∙ w.if-is_vacant.false));
+            few_free = omega (arith, before.few_free, w.vacant_count-is, length_push at.yielded slot);
             few_elems = omega (arith, before.few_elems, length_push at.yielded slot);
             room_versions = omega (arith, before.room_versions, steps.1, versions.len, versions.capacity);
             room_links = rw w.links-is (omega (arith, before.room_links, steps.1, links.len, links.capacity));

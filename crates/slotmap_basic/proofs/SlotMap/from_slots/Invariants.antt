@@ -11,9 +11,9 @@ invariant-loop-slot g l = record {
   all : first ∷ l.yielded ++ into_iter_items l.slot-iterator ≡ l.fn.list.items;
   left : into_iter_len l.slot-iterator ≡ length (into_iter_items l.slot-iterator);
   counted : length l.yielded + into_iter_len l.slot-iterator + 1 ≡ length l.fn.list.items;
-  read : AreRead (first ∷ l.yielded) (record { versions = l.versions.items; links = l.links.items; values = l.values.items }) l.free_head l.num_free l.num_elems;
-  few_free : l.num_free ≤ length l.yielded;
-  few_elems : l.num_elems ≤ length l.yielded;
+  read : AreRead (first ∷ l.yielded) (record { versions = l.versions.items; links = l.links.items; values = l.values.items }) l.first_vacant l.vacant_count l.live_count;
+  few_free : l.vacant_count ≤ length l.yielded;
+  few_elems : l.live_count ≤ length l.yielded;
   room_versions : vec_len l.versions + into_iter_len l.slot-iterator ≤ vec_capacity l.versions;
   room_links : vec_len l.links + into_iter_len l.slot-iterator ≤ vec_capacity l.links;
   room_values : vec_len l.values + into_iter_len l.slot-iterator ≤ vec_capacity l.values;

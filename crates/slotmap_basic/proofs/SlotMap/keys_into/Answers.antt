@@ -41,7 +41,7 @@ loop-index-preserved g c =
           let found = w.in-Some.ensures.live in
           let value = some_is (map.get m key) found.0 in
           let here : map.get (from_index at.index m) key ≡ Some value.0 = get_from at.index m key (omega (arith, found.1)) ∙ value.1 in
-          let next = from_index-take at.index m key found.1 (alone_at c.args.self.now c.num_places-index-end.ensures.valid key at.index found.0 found.1) in
+          let next = from_index-take at.index m key found.1 (alone_at c.args.self.now c.place_count-index-end.ensures.valid key at.index found.0 found.1) in
           let listed = IsListingBut-take m at.invariant.entries (from_index at.index m) key value.0 at.invariant.listed here in
           record {
             keys = at.invariant.keys ++ w.in-Some.key ∷ [];
@@ -67,7 +67,7 @@ pub returns-clause-listed : goal.returns-clause-listed
 returns-clause-listed g c =
     let at = c.loop-index in
     let m = c.args.self.now.live in
-    let counted = c.num_places-index-end.ensures in
+    let counted = c.place_count-index-end.ensures in
     let none = from_index-end at.index m (λ q there. omega (arith, (counted.valid.within q (inl (inl there))).1, counted.count)) in
     let all = IsKeyListing-listing m at.invariant.entries (IsListingBut-done m at.invariant.entries (subst (IsListingBut m at.invariant.entries) none at.invariant.listed)) in
     (at.invariant.keys, at.invariant.pushed, subst (IsKeyListing m) at.invariant.names all)

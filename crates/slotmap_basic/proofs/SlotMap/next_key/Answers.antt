@@ -18,17 +18,17 @@ returns-then-self-eq0 g c =
 pub index-requires : goal.index-requires
 index-requires g c =
     let t = top _ _ _ _ c.self.invariant (omega arith) in
-    omega (arith, slice_get_within c.self.inside.versions.items c.self.inside.free_head _ t.there.version, c.self.inside.versions.ok.0)
+    omega (arith, slice_get_within c.self.inside.versions.items c.self.inside.first_vacant _ t.there.version, c.self.inside.versions.ok.0)
 
 pub overflow_add-index : goal.overflow_add-index
 overflow_add-index g c =
     let t = top _ _ _ _ c.self.invariant (omega arith) in
-    let version = same_read c.self.inside.versions.items c.self.inside.free_head _ _ c.index.ensures t.there.version in
+    let version = same_read c.self.inside.versions.items c.self.inside.first_vacant _ _ c.index.ensures t.there.version in
     omega (arith, (top_version _ _ _ _ c.self.invariant t).0)
 
 pub returns : goal.returns
 returns g c =
     let t = top _ _ _ _ c.self.invariant (omega arith) in
-    let version = same_read c.self.inside.versions.items c.self.inside.free_head _ _ c.index.ensures t.there.version in
-    c.new-2.ensures.value ∙ ap (λ v. key_from c.self.inside.free_head (v + 1)) version
-    ∙ key_from-odd c.self.inside.free_head (t.version + 1) (omega (arith, places_fit _ _ _ _ c.self.invariant, slice_get_within c.self.inside.versions.items c.self.inside.free_head _ t.there.version)) (top_version _ _ _ _ c.self.invariant t).1 ∙ sym (ap (λ m. m.offer) (sym c.self.view_is) ∙ offer-top _ _ _ _ c.self.invariant t)
+    let version = same_read c.self.inside.versions.items c.self.inside.first_vacant _ _ c.index.ensures t.there.version in
+    c.new-2.ensures.value ∙ ap (λ v. key_from c.self.inside.first_vacant (v + 1)) version
+    ∙ key_from-odd c.self.inside.first_vacant (t.version + 1) (omega (arith, places_fit _ _ _ _ c.self.invariant, slice_get_within c.self.inside.versions.items c.self.inside.first_vacant _ t.there.version)) (top_version _ _ _ _ c.self.invariant t).1 ∙ sym (ap (λ m. m.offer) (sym c.self.view_is) ∙ offer-top _ _ _ _ c.self.invariant t)

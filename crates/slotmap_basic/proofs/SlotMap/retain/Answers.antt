@@ -12,7 +12,7 @@ use Rattle.slotmap_basic.proofs.SlotMap.retain.Goals as goal
 
 pub loop-index-init : goal.loop-index-init
 loop-index-init g c =
-    let well = c.num_places-index-end.ensures.valid in
+    let well = c.place_count-index-end.ensures.valid in
     record { callable = c.requires; swept = Swept-start c.args.self.now 0 well; visits = []; calls = refl; visited = Visits-from_start g.K.Key.data_of c.args.self.now well }
 
 pub take_live-requires : goal.take_live-requires
@@ -25,7 +25,7 @@ pub loop-index-preserved : goal.loop-index-preserved
 loop-index-preserved g c =
     let at = c.loop-index in
     let old = c.args.self.now in
-    let well = c.num_places-index-end.ensures.valid in
+    let well = c.place_count-index-end.ensures.valid in
     elim c.match-key_at.branch [
       | in-Some+then-not-f w ↦
           let key = g.K.Key.data_of w.in-Some.key in
@@ -70,7 +70,7 @@ pub returns-clause-retained : goal.returns-clause-retained
 returns-clause-retained g c =
     let at = c.loop-index in
     let old = c.args.self.now in
-    let counted = c.num_places-index-end.ensures in
+    let counted = c.place_count-index-end.ensures in
     let visited = Visits-to_end g.K.Key.data_of old counted.valid at.invariant.visits at.index at.self.live at.invariant.visited (omega (arith, counted.count)) in
     record {
       visits = at.invariant.visits;

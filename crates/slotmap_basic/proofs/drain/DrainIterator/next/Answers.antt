@@ -13,7 +13,7 @@ returns-in-Some-clause-steps g c =
     let now = at.map.now in
     let key = g.K.Key.data_of c.in-Some.key in
     let found = c.in-Some.ensures.live in
-    let well = c.num_places.ensures.valid in
+    let well = c.place_count.ensures.valid in
     let removes = c.take_live.ensures.removes in
     let later : NoneBelow c.take_live.new.self.live (at.index + 1) = rw removes.live (NoneBelow-removed now.live at.index key (alone_at now well key at.index found.0 found.1) c.loop-self.invariant.ready) in
     rw (← c.loop-self.invariant.same) (
@@ -29,7 +29,7 @@ returns-in-Some-clause-goes g c =
     let key = g.K.Key.data_of c.in-Some.key in
     let found = c.in-Some.ensures.live in
     let removes = c.take_live.ensures.removes in
-    let later : NoneBelow c.take_live.new.self.live (at.index + 1) = rw removes.live (NoneBelow-removed now.live at.index key (alone_at now c.num_places.ensures.valid key at.index found.0 found.1) c.loop-self.invariant.ready) in
+    let later : NoneBelow c.take_live.new.self.live (at.index + 1) = rw removes.live (NoneBelow-removed now.live at.index key (alone_at now c.place_count.ensures.valid key at.index found.0 found.1) c.loop-self.invariant.ready) in
     record {
       on = λ finite. (later, finite, rw (← c.loop-self.invariant.same) (omega (arith, ap map.len removes.live, len_removed keys_total exact_keys now.live key found.0)));
       keeps = later;
@@ -40,5 +40,5 @@ pub returns-clause-steps : goal.returns-clause-steps
 returns-clause-steps g c =
     let at = c.loop-self.self in
     let now = at.map.now in
-    let none = NoneBelow-end now.live at.index (λ q there. omega (arith, (c.num_places.ensures.valid.within q (inl (inl there))).1, c.num_places.ensures.count)) c.loop-self.invariant.ready in
+    let none = NoneBelow-end now.live at.index (λ q there. omega (arith, (c.place_count.ensures.valid.within q (inl (inl there))).1, c.place_count.ensures.count)) c.loop-self.invariant.ready in
     rw (← c.loop-self.invariant.same) ((none, refl), (refl, λ end empties. empties), c.loop-self.invariant.ready)

@@ -1,7 +1,7 @@
 use Rattle.std.proofs.Common.{arith}
 use Rattle.slotmap_basic.proofs.SlotLemmas.{count_places}
 use Rattle.slotmap_basic.proofs.WellFormed.{well_formed}
-use Rattle.slotmap_basic.proofs.SlotMap.num_places.Goals as goal
+use Rattle.slotmap_basic.proofs.SlotMap.place_count.Goals as goal
 
 pub returns-clause-count : goal.returns-clause-count
 returns-clause-count g c =
