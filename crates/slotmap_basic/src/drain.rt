@@ -89,8 +89,11 @@ impl<K: Key, V: Drop> SlotMap<K, V> {
         ensures map { drain_map result ≡ self.old }
         ensures same_reference { drain_lender result ≡ self.entry.ghost_name }
         ensures ready { DrainCanStep result }
+
+        // Laws of the steps, for callers that walk on.
         ensures stays { DrainKeepsAlong K.data_of result }
         ensures lists { DrainLists K.data_of result }
+
         ensures was_valid { IsContent true self.old }
     {
         // The map is looked at for the clause `was_valid`.

@@ -19,7 +19,10 @@ impl<K: Key, V: Drop> SlotMap<K, V> {
         if self.vacant_count == 0 {
             return KeyData::new(self.versions.len() as u32, 1);
         }
-        KeyData::new(self.first_vacant, self.versions[self.first_vacant as usize] + 1)
+        KeyData::new(
+            self.first_vacant,
+            self.versions[self.first_vacant as usize] + 1,
+        )
     }
 
     // Binds the next key to a value.

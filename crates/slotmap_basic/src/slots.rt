@@ -2,7 +2,7 @@
 
 ghost use Rattle.std.specs.Prelude.{◌≡◌, ◌<◌, ◌^◌, IfOk, IsOk, IfErr, true, Some, List};
 ghost use Rattle.slotmap_core.specs.Content.{Content, IsContent};
-ghost use Rattle.slotmap_core.specs.Contents.{is_vacant_version, start_stack, StartsFrom, start_state};
+ghost use Rattle.slotmap_core.specs.Contents.{contents, is_vacant_version, start_stack, StartsFrom, start_state};
 ghost use Rattle.slotmap_core.specs.Fit.{Fits};
 ghost use Rattle.slotmap_core.specs.Slots.{Accepts, RefusesStart};
 ghost use Rattle.slotmap_core.specs.Written.{Writes, WritesAlone, Restores, read_slots};
@@ -59,7 +59,8 @@ impl<K: Key, V: Drop> SlotMap<K, V> {
         V: Clone,
         // A clone has to equal its value.
         requires { (x y : V) → V.is_clone x y → y ≡ x }
-        ensures { IfOk result (λ slots. Writes self.now slots.items) }
+        ensures writes { IfOk result (λ slots. Writes self.now slots.items) }
+        ensures contents { IfOk result (λ slots. contents slots.items ≡ self.now.live) }
     {
         let mut slots = Vec::with_capacity(*self.versions.allocator(), self.versions.len())?;
         for index in 0..self.versions.len() {

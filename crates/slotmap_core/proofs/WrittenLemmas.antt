@@ -114,28 +114,32 @@ module _ {V : Type 0} (reuses : Bool) (c : Content V) (valid : IsContent reuses 
       by i slot (AtRetired k here retired is) = subst IsConsistent (sym is) (empty_consistent 0 refl)
       by i slot (AtVacant n got is) = let odd = (valid.vacancies i n got).odd in subst IsConsistent (sym is) (empty_consistent (n - 1) (omega arith))
 
+  -- the slot of an empty place is none of a live key
+  not_live : (i version : ℕ) (slot : SlotRecord V) (v : V) → slot ≡ empty_slot version → slot.value ≡ Some v → ⊥
+  not_live i version slot v is valued = let wrong : ◌≡◌ {A = Option V} None (Some v) = ap (λ (s : SlotRecord V). s.value) (sym is) ∙ valued in absurd (cc)
+
+  live_stays : (k : Key) (v : V) → map.get (contents slots) k ≡ Some v → map.get c.live k ≡ Some v
+  live_stays k v got = let at = live_in slots k v got in by at.0 (stands_for k.index at.0 at.1) at.2.value (ap (λ q. q.version) at.2.is)
+    where
+      by : (slot : SlotRecord V) → StandsFor c k.index slot → slot.value ≡ Some v → k.version ≡ slot.version → map.get c.live k ≡ Some v
+      by slot (AtFirst here is) valued version = absurd (not_live k.index 0 slot v is valued)
+      by slot (AtLive other w here got_other is) valued version =
+          let value : w ≡ v = same_Some w v (ap (λ (s : SlotRecord V). s.value) (sym is) ∙ valued) in
+          let same_version : other.version ≡ k.version = ap (λ (s : SlotRecord V). s.version) (sym is) ∙ sym version in
+          let same : other ≡ k = ap (λ i. key i other.version) here ∙ ap (key k.index) same_version in
+          ap (map.get c.live) (sym same) ∙ got_other ∙ ap Some value
+      by slot (AtDetached other here is_detached is) valued version = absurd (not_live k.index (following_version other.version) slot v is valued)
+      by slot (AtRetired other here is_retired is) valued version = absurd (not_live k.index 0 slot v is valued)
+      by slot (AtVacant n got_next is) valued version = absurd (not_live k.index (n - 1) slot v is valued)
+
+  live_returns : (k : Key) (v : V) → map.get c.live k ≡ Some v → map.get (contents slots) k ≡ Some v
+  live_returns k v got = in_contents slots k.index (filled_slot k.version v) v (writes.live k v got) (valid.keys k (inl (inl (ap is_some got)))).odd refl
+
+  -- its contents are the live keys with their values
+  pub written-contents : contents slots ≡ c.live
+  written-contents = map.same_map keys_total exact_keys (contents slots) c.live (λ k. same_option (map.get (contents slots) k) (map.get c.live k) (live_stays k) (live_returns k))
+
   module _ (read : Content V) (starts : StartsFrom slots read) where
-    -- the slot of an empty place is none of a live key
-    not_live : (i version : ℕ) (slot : SlotRecord V) (v : V) → slot ≡ empty_slot version → slot.value ≡ Some v → ⊥
-    not_live i version slot v is valued = let wrong : ◌≡◌ {A = Option V} None (Some v) = ap (λ (s : SlotRecord V). s.value) (sym is) ∙ valued in absurd (cc)
-
-    live_stays : (k : Key) (v : V) → map.get (contents slots) k ≡ Some v → map.get c.live k ≡ Some v
-    live_stays k v got = let at = live_in slots k v got in by at.0 (stands_for k.index at.0 at.1) at.2.value (ap (λ q. q.version) at.2.is)
-      where
-        by : (slot : SlotRecord V) → StandsFor c k.index slot → slot.value ≡ Some v → k.version ≡ slot.version → map.get c.live k ≡ Some v
-        by slot (AtFirst here is) valued version = absurd (not_live k.index 0 slot v is valued)
-        by slot (AtLive other w here got_other is) valued version =
-            let value : w ≡ v = same_Some w v (ap (λ (s : SlotRecord V). s.value) (sym is) ∙ valued) in
-            let same_version : other.version ≡ k.version = ap (λ (s : SlotRecord V). s.version) (sym is) ∙ sym version in
-            let same : other ≡ k = ap (λ i. key i other.version) here ∙ ap (key k.index) same_version in
-            ap (map.get c.live) (sym same) ∙ got_other ∙ ap Some value
-        by slot (AtDetached other here is_detached is) valued version = absurd (not_live k.index (following_version other.version) slot v is valued)
-        by slot (AtRetired other here is_retired is) valued version = absurd (not_live k.index 0 slot v is valued)
-        by slot (AtVacant n got_next is) valued version = absurd (not_live k.index (n - 1) slot v is valued)
-
-    live_returns : (k : Key) (v : V) → map.get c.live k ≡ Some v → map.get (contents slots) k ≡ Some v
-    live_returns k v got = in_contents slots k.index (filled_slot k.version v) v (writes.live k v got) (valid.keys k (inl (inl (ap is_some got)))).odd refl
-
     is_last_key : (k : Key) → is_last k ≡ true → k.version ≡ last_version
     is_last_key k last = eqb-true k.version last_version last
 
@@ -219,7 +223,7 @@ module _ {V : Type 0} (reuses : Bool) (c : Content V) (valid : IsContent reuses 
     -- a map that is read from such a list has the same live keys, and the detached ones have left
     pub written-restores : Restores c read
     written-restores = record {
-      live = starts.live ∙ map.same_map keys_total exact_keys (contents slots) c.live (λ k. same_option (map.get (contents slots) k) (map.get c.live k) (live_stays k) (live_returns k));
+      live = starts.live ∙ written-contents;
       detached = starts.detached;
       retired = λ k. (
         retired_where k,

@@ -17,9 +17,9 @@ pub record Content (V : Type 0) : Type 0 where
   pub offer : Key
   -- the vacant indices, last freed first, where the map keeps them so
   pub stack : Option (List ℕ)
-  -- so many inserts aren't refused for memory
+  -- so many inserts and reattaches aren't refused for memory
   pub room : ℕ
-  -- the number that `capacity` answers
+  -- for so many places there is memory
   pub capacity : ℕ
 
 -- by which a proof tells two contents apart

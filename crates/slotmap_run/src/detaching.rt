@@ -2,10 +2,11 @@
 
 ghost use Rattle.std.specs.Prelude.{◌≡◌, ◌^◌, ◌<◌, ◌≤◌, [], vec_capacity, length, IfOk, IfErr, OnErr};
 ghost use Rattle.slotmap_core.specs.Content.{IsContent};
+ghost use Rattle.slotmap_core.specs.Machine.{State};
 ghost use Rattle.slotmap_core.specs.Given.{given};
 ghost use Rattle.slotmap_core.specs.Step.{DetachStep};
 ghost use Rattle.slotmap_core.specs.Run.{Run, Unretiring};
-ghost use Rattle.slotmap_core.specs.Fit.{RunFollows, RunsAnew, Continues};
+ghost use Rattle.slotmap_core.specs.Fit.{Fits, RunFollows, RunsAnew, Continues};
 ghost use Rattle.slotmap_core.specs.Law.{DetachedNotReissued, DetachedReattaches, DetachGrows, LastFreedFirst, NoKeyTwice, ReattachBinds, RemovedForGood, ReserveHolds};
 ghost use Rattle.slotmap_core.specs.declared.commands.DetachCommand.TheVariants as detaching;
 ghost use Rattle.slotmap_run.specs.Order.{DetachServes, Orders};
@@ -122,6 +123,7 @@ where
     requires makes { N.IsAlwaysCallable make }
 
     // Replies and content are a run of the machine, and go on where an earlier run ended.
+    ensures starts { IfOk result (λ _. (state : State V) × Fits state (M.content map.old)) }
     ensures run { let what = given K.data_of L.Fn look P.Fn keep N.Fn make M.REUSES in
         IfOk result (λ replies. RunFollows (DetachStep what)
         (M.content map.old) commands.items replies.items (M.content map.new)) }

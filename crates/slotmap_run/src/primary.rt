@@ -5,10 +5,11 @@ ghost use Rattle.std.specs.Fn.{FnReturns};
 ghost use Rattle.slotmap_core.specs.Content.{IsContent};
 ghost use Rattle.slotmap_core.specs.Transition.{Inserts, Keeps};
 ghost use Rattle.slotmap_core.specs.Refusal.{RefusesWith};
+ghost use Rattle.slotmap_core.specs.Machine.{State};
 ghost use Rattle.slotmap_core.specs.Given.{given};
 ghost use Rattle.slotmap_core.specs.Step.{Step};
 ghost use Rattle.slotmap_core.specs.Run.{Unretiring};
-ghost use Rattle.slotmap_core.specs.Fit.{RunFollows, RunsAnew, Continues};
+ghost use Rattle.slotmap_core.specs.Fit.{Fits, RunFollows, RunsAnew, Continues};
 ghost use Rattle.slotmap_core.specs.Law.{Grows, NoKeyTwice, RemovedForGood, ReserveHolds};
 ghost use Rattle.slotmap_run.specs.Order.{Serves};
 
@@ -176,6 +177,7 @@ where
     requires makes { N.IsAlwaysCallable make }
 
     // Replies and content are a run of the machine, and go on where an earlier run ended.
+    ensures starts { IfOk result (λ _. (state : State V) × Fits state (M.content map.old)) }
     ensures run { let what = given K.data_of L.Fn look P.Fn keep N.Fn make M.REUSES in
         IfOk result (λ replies. RunFollows (Step what)
         (M.content map.old) commands.items replies.items (M.content map.new)) }

@@ -91,6 +91,10 @@ fn usage(rt: HostRuntime) -> Result<(), Fail> {
     let mut input: &[u8] = b"len\n";
     let status = run_script(rt.alloc(), &[], &mut input, &mut output);
     assert_eq!(rt; status, 2);
+    assert_eq!(rt;
+        output.as_slice(),
+        b"usage: slotrun basic|dense|hop\n".as_slice()
+    );
     Ok(())
 }
 

@@ -4,6 +4,8 @@ use super::{Map, key, number, put};
 use slotmap_basic::SlotMap;
 use slotmap_core::errors::{ReattachError, ReserveError, TryInsertError};
 use slotmap_core::keys::{DefaultKey, NodeKey};
+use slotmap_core::primary::Primary;
+use std::alloc::Global;
 use std::test::Fail;
 
 #[test]
@@ -261,5 +263,29 @@ fn a_clone_keeps_detached_keys(rt: HostRuntime) -> Result<(), Fail> {
     assert!(rt; !map.contains_key(second));
     assert_eq!(rt; put(&mut copy, 4)?, 12884901889);
     assert_eq!(rt; put(&mut map, 4)?, 4294967299);
+    Ok(())
+}
+
+// What an insert answers and stores, in any map of the trait with ample memory.
+fn insert_made<M>(alloc: Global) -> Result<(u64, Option<u64>), Fail>
+where
+    M: Primary<DefaultKey, u64> + Drop,
+{
+    let mut map = M::with_capacity_and_key(alloc, 4)
+        .ok()
+        .ok_or("a map was refused")?;
+    map.try_reserve(4).ok().ok_or("room was refused")?;
+    let key = map
+        .insert_with_key(|key| number(key))
+        .ok()
+        .ok_or("an insert was refused")?;
+    Ok((number(key), map.get(key).copied()))
+}
+
+#[test]
+fn calls_of_the_trait_succeed_with_ample_memory(rt: HostRuntime) -> Result<(), Fail> {
+    let (key, value) = insert_made::<Map>(rt.alloc())?;
+    assert_eq!(rt; key, 4294967297);
+    assert_eq!(rt; value, Some(4294967297));
     Ok(())
 }

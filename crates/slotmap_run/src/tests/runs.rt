@@ -70,6 +70,24 @@ fn a_closures_error_passes_no_place_over(rt: HostRuntime) -> Result<(), Fail> {
     Ok(())
 }
 
+#[test]
+fn a_value_is_made_for_its_key(rt: HostRuntime) -> Result<(), Fail> {
+    let first = key(4294967297);
+    let commands = vec![in rt.alloc(); Command::InsertWith, Command::Get(first)]?;
+    let made: Result<(Map, Replies), Vec<Command<DefaultKey, u64>>> = run_new(
+        rt.alloc(),
+        commands,
+        |value: &u64| *value,
+        |_: DefaultKey, _: &mut u64| true,
+        |key: DefaultKey| Ok(number(key)),
+    );
+    let (map, replies) = made.ok().ok_or("the run was refused")?;
+    let told = all_told(rt.alloc(), &replies)?;
+    assert!(rt; told.as_slice() == [Some(4294967297), Some(4294967297)].as_slice());
+    assert_eq!(rt; map.len(), 1);
+    Ok(())
+}
+
 // Commands of every kind but `InsertWith`, for a run on an empty map.
 fn one_of_each(alloc: Global) -> Result<Vec<Command<DefaultKey, u64>>, Fail> {
     let first = key(4294967297);

@@ -1,8 +1,9 @@
-use Rattle.std.proofs.Common.{◌<◌, length, refl, sym, arith}
+use Rattle.std.proofs.Common.{◌<◌, length, true, refl, sym, arith}
 use Rattle.std.proofs.lemmas.Option.{slice_get_read}
-use Rattle.slotmap_core.proofs.WrittenLemmas.{writes-stack}
+use Rattle.slotmap_core.proofs.WrittenLemmas.{writes-stack, written-contents}
 use Rattle.slotmap_basic.proofs.SlotLemmas.{found_at, same_read, stacked_walk}
 use Rattle.slotmap_basic.proofs.ReadLemmas.{slots-next, slots-all}
+use Rattle.slotmap_basic.proofs.WellFormed.{well_formed}
 use Rattle.slotmap_basic.proofs.SlotMap.to_slots.Goals as goal
 
 pub loop-index-init : goal.loop-index-init
@@ -29,8 +30,11 @@ loop-index-preserved g c =
       room = omega (arith, at.invariant.room, c.push_reserved.ensures.len, c.push_reserved.ensures.capacity);
     }
 
-pub returns : goal.returns
-returns g c =
+pub returns-clause-writes : goal.returns-clause-writes
+returns-clause-writes g c =
     let m = c.self.inside in
     let all = slots-all _ _ _ _ c.self.invariant c.loop-index.index (omega (arith, c.loop-index-test.false, c.len-index-end.ensures, m.versions.ok.0)) in
     rw (c.loop-index.invariant.written, all, ← c.self.view_is) (writes-stack _ (stacked_walk _ _ _ _ c.self.invariant))
+
+pub returns-clause-contents : goal.returns-clause-contents
+returns-clause-contents g c = written-contents true _ (well_formed c.self.inside _ c.self.view_is c.self.invariant) _ (returns-clause-writes g c)
