@@ -18,6 +18,11 @@ pub mod IndexLemmas
 pub mod VisitLemmas
 pub mod RetainLemmas
 pub mod AgainLemmas
+pub mod PlaceCount
+pub mod Standing
+pub mod SpentLemmas
+pub mod Callers
+pub mod Walks
 pub mod SweepLemmas
 pub mod ContentsLemmas
 pub mod StartLemmas

@@ -2,6 +2,7 @@ pub mod Key
 pub mod Content
 pub mod Listing
 pub mod Transition
+pub mod Spent
 pub mod Copy
 pub mod Disjoint
 pub mod Refusal

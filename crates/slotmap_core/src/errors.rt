@@ -8,6 +8,7 @@ ghost use Rattle.slotmap_core.specs.declared.errors.JsonError.TheVariants.{Memor
 ghost use Rattle.slotmap_core.specs.declared.errors.SlotsError.TheVariants.{Memory as SlotsMemory};
 
 use std::alloc::{AllocError, AllocFailed};
+use std::fmt::Display;
 use thiserror::Error;
 
 /// No memory was left for what a call makes.
@@ -16,11 +17,13 @@ use thiserror::Error;
 pub struct OutOfMemory;
 
 /// A value was not inserted; it is handed back.
-#[derive(Debug, Drop)]
+#[derive(Debug, Drop, Error)]
 pub enum InsertError<V> {
     /// As many places are taken as a map can have, 4294967294.
+    #[error("full")]
     Full(V),
     /// No memory was left for one place more.
+    #[error("out of memory")]
     Memory(V),
 }
 
@@ -36,22 +39,28 @@ pub enum InsertWithError {
 }
 
 /// Nothing was inserted; the closure was called only where the error is its own.
-#[derive(Debug, Drop)]
+#[derive(Debug, Drop, Error)]
+#[error_bound(E: Display)]
 pub enum TryInsertError<E> {
     /// As many places are taken as a map can have, 4294967294.
+    #[error("full")]
     Full,
     /// No memory was left for one place more.
+    #[error("out of memory")]
     Memory,
-    /// The closure's own error.
+    /// The closure's own error, whose message is shown.
+    #[error("{0}")]
     Closure(E),
 }
 
 /// A key was not bound again; the value is handed back.
-#[derive(Debug, Drop)]
+#[derive(Debug, Drop, Error)]
 pub enum ReattachError<V> {
     /// The key isn't detached in this map.
+    #[error("not detached")]
     NotDetached(V),
     /// No memory was left for the value.
+    #[error("out of memory")]
     Memory(V),
 }
 
@@ -67,7 +76,8 @@ pub enum ReserveError {
 }
 
 /// A secondary map had no memory for a value, which is handed back.
-#[derive(Debug, Drop)]
+#[derive(Debug, Drop, Error)]
+#[error("out of memory")]
 pub struct PutError<V>(pub V);
 
 /// A list of slots was not read as a map.
@@ -156,10 +166,10 @@ impl<T: Drop> From<AllocFailed<T>> for JsonError {
 #[cfg(test)]
 mod tests {
     use super::*;
-    use std::fmt::Display;
+    use std::error::Error;
     use std::test::Fail;
 
-    fn says<E: Display>(rt: &HostRuntime, error: &E, message: &str) -> Result<bool, Fail> {
+    fn says<E: Error + Display>(rt: &HostRuntime, error: &E, message: &str) -> Result<bool, Fail> {
         let text = format!(in rt.alloc(); "{error}")?;
         Ok(text.as_str() == message)
     }
@@ -167,8 +177,19 @@ mod tests {
     #[test]
     fn messages(rt: HostRuntime) -> Result<(), Fail> {
         assert!(rt; says(&rt, &OutOfMemory, "out of memory")?);
+        assert!(rt; says(&rt, &InsertError::Full(5), "full")?);
+        assert!(rt; says(&rt, &InsertError::Memory(5), "out of memory")?);
         assert!(rt; says(&rt, &InsertWithError::Full, "full")?);
         assert!(rt; says(&rt, &InsertWithError::Memory, "out of memory")?);
+        let refused: TryInsertError<SlotsError> = TryInsertError::Full;
+        assert!(rt; says(&rt, &refused, "full")?);
+        let refused: TryInsertError<SlotsError> = TryInsertError::Memory;
+        assert!(rt; says(&rt, &refused, "out of memory")?);
+        let refused = TryInsertError::Closure(SlotsError::Inconsistent(3));
+        assert!(rt; says(&rt, &refused, "inconsistent 3")?);
+        assert!(rt; says(&rt, &ReattachError::NotDetached(5), "not detached")?);
+        assert!(rt; says(&rt, &ReattachError::Memory(5), "out of memory")?);
+        assert!(rt; says(&rt, &PutError(5), "out of memory")?);
         assert!(rt; says(&rt, &ReserveError::TooGreat, "too great")?);
         assert!(rt; says(&rt, &ReserveError::Memory, "out of memory")?);
         assert!(rt; says(&rt, &SlotsError::TooMany, "too many")?);

@@ -1,0 +1,52 @@
+-- What a caller of a map needs, in one list for `using`.
+use Rattle.std.proofs.Common.{◌≡◌, ◌≢◌, ◌+◌, Bool, false, cond, inl, None, Some, is_some, sym, ap, ◌∙◌}
+use Rattle.std.specs.Ordering.{eq_by_cmp}
+use Rattle.std.specs.FinMap as map
+use Rattle.slotmap_core.specs.Key.{Key, key_cmp}
+use Rattle.slotmap_core.specs.Content.{Content, IsContent}
+use Rattle.slotmap_core.specs.Transition.{Inserts, Removes}
+use Rattle.slotmap_core.proofs.AgainLemmas.{offer_unused}
+use Rattle.slotmap_core.proofs.KeyLemmas.{keys_total, exact_keys, tied, itself}
+use Rattle.slotmap_core.proofs.MapLaws.{remove_absent}
+use Rattle.slotmap_core.proofs.Maps.{get_inserted, false_of, len_inserted, len_removed}
+
+differ : (q k : Key) → q ≢ k → eq_by_cmp key_cmp q k ≡ false
+differ q k other = false_of (eq_by_cmp key_cmp q k) (λ t. other (tied keys_total exact_keys q k t))
+
+module _ {V : Type 0} where
+  -- what a map of keys has after a change
+  pub get_empty : (k : Key) → map.get (map.empty {X = V} {R = key_cmp}) k ≡ None
+  get_empty k = map.get-empty key_cmp k
+
+  pub get-insert_here : (m : map.FinMap key_cmp V) (k : Key) (v : V) → map.get (map.insert m k v) k ≡ Some v
+  get-insert_here m k v = get_inserted keys_total exact_keys m k v
+
+  pub get-insert_other : (m : map.FinMap key_cmp V) (k : Key) (v : V) (q : Key) → q ≢ k → map.get (map.insert m k v) q ≡ map.get m q
+  get-insert_other m k v q other = map.get-insert keys_total m k v q ∙ ap (λ b. cond b (Some v) (map.get m q)) (differ q k other)
+
+  pub get-remove_here : (m : map.FinMap key_cmp V) (k : Key) → map.get (map.remove m k) k ≡ None
+  get-remove_here m k = map.get-remove keys_total m k k ∙ ap (λ b. cond b None (map.get m k)) (itself keys_total exact_keys k)
+
+  pub get-remove_other : (m : map.FinMap key_cmp V) (k q : Key) → q ≢ k → map.get (map.remove m k) q ≡ map.get m q
+  get-remove_other m k q other = map.get-remove keys_total m k q ∙ ap (λ b. cond b None (map.get m q)) (differ q k other)
+
+  pub remove_stale : (m : map.FinMap key_cmp V) (k : Key) → map.get m k ≡ None → map.remove m k ≡ m
+  remove_stale m k none = remove_absent keys_total exact_keys m k none
+
+  -- how many keys it has then
+  pub len-insert_live : (m : map.FinMap key_cmp V) (k : Key) (v w : V) → map.get m k ≡ Some w → map.len (map.insert m k v) ≡ map.len m
+  len-insert_live m k v w there = map.len-insert keys_total m k v ∙ ap (λ o. cond (is_some o) (map.len m) (map.len m + 1)) there
+
+  module _ (reuses : Bool) (old : Content V) (k : Key) (v : V) (new : Content V) where
+    -- the key that an insert answers was not live
+    pub inserted_fresh : IsContent reuses old → Inserts old k v new → map.contains_key old.live k ≡ false
+    inserted_fresh well inserts = false_of (map.contains_key old.live k) (λ there.
+        offer_unused old well inserts.below_limit (inl (inl (sym (ap (map.contains_key old.live) inserts.offered) ∙ there))))
+
+    pub inserted_len : IsContent reuses old → Inserts old k v new → map.len new.live ≡ map.len old.live + 1
+    inserted_len well inserts = ap map.len inserts.live ∙ len_inserted keys_total exact_keys old.live k v (inserted_fresh well inserts)
+
+  pub removed_len : (old : Content V) (k : Key) (v : V) (new : Content V) → map.get old.live k ≡ Some v → Removes old k new → map.len new.live + 1 ≡ map.len old.live
+  removed_len old k v new found removes = ap (λ (m : map.FinMap key_cmp V). map.len m + 1) removes.live ∙ len_removed keys_total exact_keys old.live k (ap is_some found)
+
+pub ruleset keys = (get_empty, get-insert_here, get-insert_other, get-remove_here, get-remove_other, remove_stale, len-insert_live, inserted_fresh, inserted_len, removed_len)
