@@ -1,6 +1,6 @@
 -- Laws of the replies to a list of commands. The reply to a command stands at its position in the list: where
 -- commands and replies before it are equally many, it is the next one's.
-use Rattle.std.specs.Prelude.{◌≡◌, ◌≢◌, ℕ, ◌<◌, List, [], ◌∷◌, ◌++◌, length, Option, Some, None, Ok, ⊤, ◌⊎◌}
+use Rattle.std.specs.Prelude.{◌≡◌, ◌≢◌, ℕ, ◌<◌, List, [], ◌∷◌, ◌++◌, length, Bool, false, Option, Some, None, Ok, ⊤, ◌⊎◌}
 use Rattle.std.specs.List.{IsDistinct, AllByRecursion, AllZip}
 use Rattle.std.specs.Ordering.{eq_by_cmp}
 use Rattle.slotmap_core.specs.Key.{Key, key_cmp}
@@ -81,15 +81,15 @@ module _ {K V R E : Type 0} (data_of : K → Key) where
       → AllByRecursion (λ other. other ≢ data_of key) (keys_told data_of told_after)
 
   -- once a Detach of a key answered a value, and until a Reattach of that key is done, each Reattach of it is
-  -- done, or refused for memory with its value back
-  abbrev pub DetachedReattaches : List (DetachCommand K V) → List (Reply K V R E) → Type 0
-  DetachedReattaches commands replies =
+  -- done; or, where old places may take memory, refused for memory with its value back
+  abbrev pub DetachedReattaches : Bool → List (DetachCommand K V) → List (Reply K V R E) → Type 0
+  DetachedReattaches reuses commands replies =
       (before between after : List (DetachCommand K V)) (told_before told_between told_after : List (Reply K V R E)) (key : K) (v w : V) (answer : Reply K V R E)
       → length before ≡ length told_before → length between ≡ length told_between
       → AllZip (Spares data_of (data_of key)) between told_between
       → commands ≡ before ++ detaching.Detach key ∷ (between ++ detaching.Reattach key w ∷ after)
       → replies ≡ told_before ++ reply.Taken (Some v) ∷ (told_between ++ answer ∷ told_after)
-      → (answer ≡ reply.Done) ⊎ (answer ≡ reply.Memory (Some w))
+      → (answer ≡ reply.Done) ⊎ ((reuses ≡ false) × (answer ≡ reply.Memory (Some w)))
 
 -- once a Reattach of a key to a value is done, a Replace of that key right after it answers that value
 abbrev pub ReattachBinds : {K V R E : Type 0} → List (DetachCommand K V) → List (Reply K V R E) → Type 0

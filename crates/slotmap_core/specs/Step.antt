@@ -25,6 +25,15 @@ module _ {K V R E : Type 0} (given : Given K V R E) where
     -- where old places take no memory, no old one is vacant
     pub at_peak : given.reuses ≡ true → used s ≡ s.peak
 
+  -- a reserve of n may be refused for memory
+  pub record MayLackRoom (s : State V) (n : ℕ) : Type 0 where
+    -- so many places are left
+    pub within_limit : used s + n ≤ most
+    -- fewer inserts and reattaches are owed
+    pub beyond_promise : s.promised < n
+    -- where old places take no memory, fewer old ones are vacant
+    pub beyond_peak : given.reuses ≡ true → s.peak < used s + n
+
   -- a fresh key is answered, and bound to v; `Full` comes exactly where no place is left; both refusals have v
   abbrev pub StepInsert : State V → V → Reply K V R E → State V → Type 0
   StepInsert old v (reply.Key k) new = (used old ≢ most) × Fresh old (given.data_of k) × (new ≡ after_insert old (given.data_of k) v)
@@ -44,7 +53,7 @@ module _ {K V R E : Type 0} (given : Given K V R E) where
   abbrev pub StepReserve : State V → ℕ → Reply K V R E → State V → Type 0
   StepReserve old n reply.Done new = (used old + n ≤ most) × (new ≡ after_reserve old n)
   StepReserve old n reply.TooGreat new = (most < used old + n) × (new ≡ old)
-  StepReserve old n (reply.Memory back) new = (used old + n ≤ most) × (back ≡ None) × (new ≡ old)
+  StepReserve old n (reply.Memory back) new = MayLackRoom old n × (back ≡ None) × (new ≡ old)
   StepReserve old n _ new = ⊥
 
   -- what `look` may answer at k's value, exactly where k is live
@@ -81,12 +90,12 @@ module _ {K V R E : Type 0} (given : Given K V R E) where
   StepDetach old k (reply.Taken None) new = (map.get old.live k ≡ None) × (new ≡ old)
   StepDetach old k _ new = ⊥
 
-  -- where k is detached, it is bound to v, or `Memory` has v, but only where no reattach is owed; else
-  -- `NotDetached` has v
+  -- where k is detached, it is bound to v, or `Memory` has v, but only where old places may take memory and no
+  -- reattach is owed; else `NotDetached` has v
   abbrev pub StepReattach : State V → Key → V → Reply K V R E → State V → Type 0
   StepReattach old k v reply.Done new = (set.contains old.detached k ≡ true) × (new ≡ after_reattach old k v)
   StepReattach old k v (reply.NotDetached back) new = (set.contains old.detached k ≡ false) × (back ≡ v) × (new ≡ old)
-  StepReattach old k v (reply.Memory back) new = (set.contains old.detached k ≡ true) × (old.promised ≡ 0) × (back ≡ Some v) × (new ≡ old)
+  StepReattach old k v (reply.Memory back) new = (given.reuses ≡ false) × (set.contains old.detached k ≡ true) × (old.promised ≡ 0) × (back ≡ Some v) × (new ≡ old)
   StepReattach old k v _ new = ⊥
 
   -- at each live key `keep` leaves a value and answers whether the key stays: it has that value, or is live no longer

@@ -4,7 +4,7 @@
 //! the retired keys, the version that the next key at each vacant index will have, the key that the
 //! next insert answers, and for how many more keys there is room.
 
-ghost use Rattle.std.specs.Prelude.{◌≡◌, ◌↔◌, ◌+◌, ◌≤◌, IsTrue, IfOk, IfErr, OnErr, OnOk, IsSome, option_copied, Bool, true, false, Ok, Some, List, ◌++◌, map as list_map};
+ghost use Rattle.std.specs.Prelude.{◌≡◌, ◌↔◌, ◌+◌, ◌≤◌, IsTrue, IfOk, IfErr, OnErr, OnOk, IsOk, IsSome, option_copied, Bool, true, false, Ok, Some, List, ◌++◌, map as list_map};
 ghost use Rattle.std.specs.FinMap as map;
 ghost use Rattle.slotmap_core.specs.Content.{Content, IsContent, used, most};
 ghost use Rattle.slotmap_core.specs.Transition.{IsNew, Inserts, Keeps, Removes, Replaces, Detaches, Reattaches, Leaves};
@@ -24,7 +24,7 @@ use std::alloc::Global;
 /// and says when it is refused and that it then keeps what the map holds. Calls on one key take
 /// constant time, where no vector moves; what a call costs beyond that is said by the map.
 pub trait Primary<K: Key, V>: Sized {
-    /// Whether an insert into a vacant place takes no memory.
+    /// Whether an insert into a vacant place takes no memory, nor a reattach of a detached key.
     const REUSES: bool;
 
     ghost REUSES: { Bool };
@@ -144,6 +144,7 @@ pub trait Primary<K: Key, V>: Sized {
     ///
     /// `TooGreat` exactly where the live, detached and retired keys with `additional` are more than
     /// 4294967294, else `Memory` where memory was refused; either changes nothing but the capacity.
+    /// Where there is room already nothing is asked for.
     fn reserve(&mut self, additional: usize) -> Result<(), ReserveError>
         ensures room { OnOk result (additional ≤ (content self.new).room) }
         ensures capacity { OnOk result
@@ -151,6 +152,14 @@ pub trait Primary<K: Key, V>: Sized {
         ensures fits { OnOk result (used (content self.old) + additional ≤ most) }
         ensures err { IfErr result (RefusesCapacity (used (content self.old) + additional)) }
         ensures keeps { Keeps (content self.old) (content self.new) }
+
+        // With room for so many nothing is asked for.
+        ensures succeeds { additional ≤ (content self.old).room → IsOk result }
+        ensures had_room { additional ≤ (content self.old).room →
+            content self.new ≡ content self.old }
+        ensures reuses { REUSES ≡ true →
+            additional ≤ map.len (content self.old).next → IsOk result }
+
         ensures valid { IsContent REUSES (content self.new) };
 
     /// The same as `reserve`.
@@ -161,6 +170,14 @@ pub trait Primary<K: Key, V>: Sized {
         ensures fits { OnOk result (used (content self.old) + additional ≤ most) }
         ensures err { IfErr result (RefusesCapacity (used (content self.old) + additional)) }
         ensures keeps { Keeps (content self.old) (content self.new) }
+
+        // With room for so many nothing is asked for.
+        ensures succeeds { additional ≤ (content self.old).room → IsOk result }
+        ensures had_room { additional ≤ (content self.old).room →
+            content self.new ≡ content self.old }
+        ensures reuses { REUSES ≡ true →
+            additional ≤ map.len (content self.old).next → IsOk result }
+
         ensures valid { IsContent REUSES (content self.new) };
 
     /// Calls the closure once at each live key and its value, which stay where it answers true, with
@@ -222,12 +239,12 @@ pub trait Detaching<K: Key, V>: Primary<K, V> {
     /// Binds a detached key to a value again.
     ///
     /// `NotDetached` exactly where the key isn't detached, else `Memory` where there is no room for
-    /// the value; both hand the value back.
+    /// the value, never in a map that reuses its places; both hand the value back.
     fn reattach(&mut self, key: K, value: V) -> Result<(), ReattachError<V>>
         ensures ok { OnOk result
             (Reattaches (Self.content self.old) (K.data_of key) value (Self.content self.new)) }
         ensures err { IfErr result (λ error.
-            RefusesReattach (Self.content self.old) (K.data_of key) value error) }
+            RefusesReattach Self.REUSES (Self.content self.old) (K.data_of key) value error) }
         ensures unchanged { OnErr result (Keeps (Self.content self.old) (Self.content self.new)) }
         ensures valid { IsContent Self.REUSES (Self.content self.new) };
 

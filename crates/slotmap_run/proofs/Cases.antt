@@ -121,7 +121,7 @@ module _ {K V R E : Type 0} (given : Given K V R E) where
   detached_stays k old (detaching.Detach q) (reply.Taken None) new spares h was = rw h.1 was
   detached_stays k old (detaching.Reattach q v) reply.Done new spares h was = rw (ap (λ (s : State V). s.detached) h.1) (item_left keys_total exact_keys old.detached (given.data_of q) k (λ e. spares (sym e)) was)
   detached_stays k old (detaching.Reattach q v) (reply.NotDetached b) new spares h was = rw h.2 was
-  detached_stays k old (detaching.Reattach q v) (reply.Memory b) new spares h was = rw h.3 was
+  detached_stays k old (detaching.Reattach q v) (reply.Memory b) new spares h was = rw h.4 was
   detached_stays k old _ _ new spares h was = absurd h
 
   pub detach_cases : (old : State V) (c : DetachCommand K V) (r : Reply K V R E) (new : State V) → DetachStep given old c r new → Binds given.data_of old r new ⊎ Shrinks given.data_of old r new
@@ -130,5 +130,5 @@ module _ {K V R E : Type 0} (given : Given K V R E) where
   detach_cases old (detaching.Detach k) (reply.Taken None) new h = inr (stays given.data_of old new (reply.Taken None) refl h.1).shrinks
   detach_cases old (detaching.Reattach k v) reply.Done new h = inr (puts_back given.data_of old new reply.Done refl (given.data_of k) v h.0 h.1)
   detach_cases old (detaching.Reattach k v) (reply.NotDetached b) new h = inr (stays given.data_of old new (reply.NotDetached b) refl h.2).shrinks
-  detach_cases old (detaching.Reattach k v) (reply.Memory b) new h = inr (stays given.data_of old new (reply.Memory b) refl h.3).shrinks
+  detach_cases old (detaching.Reattach k v) (reply.Memory b) new h = inr (stays given.data_of old new (reply.Memory b) refl h.4).shrinks
   detach_cases old _ _ new h = absurd h

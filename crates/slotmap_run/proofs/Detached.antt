@@ -1,5 +1,5 @@
 -- A key that was detached isn't answered again, and can be reattached.
-use Rattle.std.proofs.Common.{Ok, Err, sym, ◌≡◌, List, ◌∷◌, ◌++◌, Some, true, ◌⊎◌, inl, inr, refl, ap, ◌∙◌, is_some}
+use Rattle.std.proofs.Common.{Ok, Err, sym, ◌≡◌, List, ◌∷◌, ◌++◌, Some, true, false, ◌⊎◌, inl, inr, refl, ap, ◌∙◌, is_some}
 use Rattle.std.specs.Option.{unwrap_or}
 use Rattle.std.specs.FinMap as map
 use Rattle.std.specs.FinSet as set
@@ -32,13 +32,13 @@ module _ {K V R E : Type 0} (given : Given K V R E) where
       let still : IsIssued first.1 (given.data_of key) = rw first.3.1 issued in
       weaker (λ q h e. h (rw e still)) (keys_told given.data_of ss) (told_new given.data_of (DetachStep given) (detach_cases given) ds ss first.1 well.last first.4).0
 
-  answered : (old : State V) (key : K) (w : V) (answer : Reply K V R E) (new : State V) → set.contains old.detached (given.data_of key) ≡ true → DetachStep given old (detaching.Reattach key w) answer new → (answer ≡ reply.Done) ⊎ (answer ≡ reply.Memory (Some w))
+  answered : (old : State V) (key : K) (w : V) (answer : Reply K V R E) (new : State V) → set.contains old.detached (given.data_of key) ≡ true → DetachStep given old (detaching.Reattach key w) answer new → (answer ≡ reply.Done) ⊎ ((given.reuses ≡ false) × (answer ≡ reply.Memory (Some w)))
   answered old key w reply.Done new h step = inl refl
-  answered old key w (reply.Memory back) new h step = inr (ap reply.Memory step.2)
+  answered old key w (reply.Memory back) new h step = inr (step.0, ap reply.Memory step.3)
   answered old key w (reply.NotDetached back) new h step = let none = step.0 in absurd (cc)
   answered old key w _ new h step = absurd step
 
-  pub detached_reattaches : (commands : List (DetachCommand K V)) (replies : List (Reply K V R E)) → RunsWell (DetachStep given) commands replies → DetachedReattaches given.data_of commands replies
+  pub detached_reattaches : (commands : List (DetachCommand K V)) (replies : List (Reply K V R E)) → RunsWell (DetachStep given) commands replies → DetachedReattaches given.data_of given.reuses commands replies
   detached_reattaches commands replies well cs ds es rs ss us key v w answer e f spares is js =
       let run : Run (DetachStep given) well.first (cs ++ detaching.Detach key ∷ (ds ++ detaching.Reattach key w ∷ es)) (rs ++ reply.Taken (Some v) ∷ (ss ++ answer ∷ us)) well.last = rw (← is, ← js) well.run in
       let first = run_split (DetachStep given) cs rs (detaching.Detach key) (reply.Taken (Some v)) (ds ++ detaching.Reattach key w ∷ es) (ss ++ answer ∷ us) well.first well.last e run in

@@ -29,7 +29,7 @@ module _ {K V R E : Type 0} (given : Given K V R E) where
 
   pub detach_refused : (old : State V) (c : DetachCommand K V) (r : Reply K V R E) (new : State V) → DetachGrows c → DetachStep given old c r new → IsRefusal r → used old + old.promised ≤ most → old.promised ≡ 0
   detach_refused old (detaching.Plain c) r new g step is within = plain_refused old c r new g step is within
-  detach_refused old (detaching.Reattach k v) (reply.Memory back) new g step is within = step.1
+  detach_refused old (detaching.Reattach k v) (reply.Memory back) new g step is within = step.2
   detach_refused old (detaching.Reattach k v) (reply.Full back) new g step is within = absurd step
   detach_refused old (detaching.Reattach k v) _ new g step is within = absurd is
   detach_refused old (detaching.Detach k) r new g step is within = absurd g

@@ -32,7 +32,7 @@ module _ {K V R E : Type 0} (given : Given K V R E) where
     pub removed_for_good : RemovedForGood detaching.Plain commands replies
     pub reserve_holds : ReserveHolds detaching.Plain DetachGrows commands replies
     pub not_reissued : DetachedNotReissued given.data_of commands replies
-    pub reattaches : DetachedReattaches given.data_of commands replies
+    pub reattaches : DetachedReattaches given.data_of given.reuses commands replies
     pub binds : ReattachBinds commands replies
 
   pub detach_laws : (commands : List (DetachCommand K V)) (replies : List (Reply K V R E)) → RunsWell (DetachStep given) commands replies → DetachLaws commands replies

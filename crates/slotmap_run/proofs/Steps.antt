@@ -1,10 +1,11 @@
 -- What the calls of a map promise is a step of the machine.
-use Rattle.std.proofs.Common.{◌≡◌, ℕ, ◌+◌, ◌<◌, ◌≤◌, List, [], ◌∷◌, ◌++◌, Vec, Global, Result, Ok, Err, IfOk, OnOk, IfErr, OnErr, Option, Some, None, Bool, true, false, cond, refl, sym, ap, ◌∙◌, subst, arith, is_some}
+use Rattle.std.proofs.Common.{◌≡◌, ℕ, ◌+◌, ◌<◌, ◌≤◌, List, [], ◌∷◌, ◌++◌, Vec, Global, Result, Ok, Err, IfOk, OnOk, IfErr, OnErr, Option, Some, None, Bool, true, false, cond, inl, inr, refl, sym, ap, ◌∙◌, subst, arith, is_some, is_ok}
 use Rattle.std.specs.Prelude.{map as list_map, MatchOption, IsSomeAnd, option_copied}
 use Rattle.std.specs.Fn.{Mut}
 use Rattle.std.specs.Borrow.{Bor, MutBor}
 use Rattle.std.specs.FinMap as map
 use Rattle.std.specs.FinSet as set
+use Rattle.std.proofs.lemmas.Bool.{cases_lt}
 use Rattle.slotmap_core.specs.Key.{Key, key_cmp}
 use Rattle.slotmap_core.specs.Content.{Content, IsContent, used, most}
 use Rattle.slotmap_core.specs.Listing.{IsListing, IsKeyListing}
@@ -45,7 +46,7 @@ use Rattle.slotmap_run.proofs.Orders.{lifo_inserts, lifo_keeps, lifo_removes, li
 pub keeps_itself : {V : Type 0} (c : Content V) → Keeps c c
 keeps_itself c = record { live = refl; detached = refl; retired = refl; next = refl; offer = refl; stack = refl; room = omega arith }
 
-module _ {K V R E : Type 0} (given : Given K V R E) (reuses : Bool) (old new : Content V) (ok : IsContent reuses old) where
+module _ {K V R E : Type 0} (given : Given K V R E) (old new : Content V) (ok : IsContent given.reuses old) where
   abbrev Answers : Command K V → Reply K V R E → Type 0
   Answers command reply = Serves given old command reply new
 
@@ -64,65 +65,65 @@ module _ {K V R E : Type 0} (given : Given K V R E) (reuses : Bool) (old new : C
   module _ {C : Type 0} (Machine : State V → C → Reply K V R E → State V → Type 0) (c : C) (r : Reply K V R E) where
     stays_by : Keeps old new → ((s : State V) → Fits s old → Machine s c r s) → Follows Machine old c r new
     stays_by keeps step = record {
-      step = λ s fits. (s, step s fits, keeps_fits reuses s old new ok fits keeps);
-      lasts = λ n lasts. keeps_lasts reuses old new n ok lasts keeps;
+      step = λ s fits. (s, step s fits, keeps_fits given.reuses s old new ok fits keeps);
+      lasts = λ n lasts. keeps_lasts given.reuses old new n ok lasts keeps;
     }
 
   stays : (c : Command K V) (r : Reply K V R E) → (IsBasic (detaching.Plain c) → ⊥) → Keeps old new → ((s : State V) → s.live ≡ old.live → machine.used s ≡ used old → Step given s c r s) → Answers c r
-  stays c r not_basic keeps step = other c r not_basic (stays_by (Step given) c r keeps (λ s fits. step s fits.live (used_same reuses s old new ok fits)))
+  stays c r not_basic keeps step = other c r not_basic (stays_by (Step given) c r keeps (λ s fits. step s fits.live (used_same given.reuses s old new ok fits)))
 
-  inserts : IsContent reuses new → (key : K) (v : V) → Inserts old (given.data_of key) v new → Answers (command.Insert v) (reply.Key key)
+  inserts : IsContent given.reuses new → (key : K) (v : V) → Inserts old (given.data_of key) v new → Answers (command.Insert v) (reply.Key key)
   inserts new_ok key v i = record {
     follows = record {
-      step = λ s fits. (after_insert s (given.data_of key) v, (below reuses s old new ok fits i.below_limit, inserts_fresh reuses s old new ok fits (given.data_of key) v i new_ok, refl), inserts_fits reuses s old new ok fits (given.data_of key) v i new_ok);
-      lasts = λ n lasts. inserts_lasts reuses old new n ok lasts (given.data_of key) v i;
+      step = λ s fits. (after_insert s (given.data_of key) v, (below given.reuses s old new ok fits i.below_limit, inserts_fresh given.reuses s old new ok fits (given.data_of key) v i new_ok, refl), inserts_fits given.reuses s old new ok fits (given.data_of key) v i new_ok);
+      lasts = λ n lasts. inserts_lasts given.reuses old new n ok lasts (given.data_of key) v i;
     };
-    orders = λ l is basic told. let both = lifo_inserts reuses old new ok l is (given.data_of key) v i in (ap (λ k. k ∷ []) both.0, both.1);
+    orders = λ l is basic told. let both = lifo_inserts given.reuses old new ok l is (given.data_of key) v i in (ap (λ k. k ∷ []) both.0, both.1);
   }
 
-  inserts_with : IsContent reuses new → (key : K) (v : V) → given.makes key (Ok v) → Inserts old (given.data_of key) v new → Answers command.InsertWith (reply.Key key)
+  inserts_with : IsContent given.reuses new → (key : K) (v : V) → given.makes key (Ok v) → Inserts old (given.data_of key) v new → Answers command.InsertWith (reply.Key key)
   inserts_with new_ok key v made i = other command.InsertWith (reply.Key key) (λ b. b) (record {
-    step = λ s fits. (after_insert s (given.data_of key) v, (below reuses s old new ok fits i.below_limit, inserts_fresh reuses s old new ok fits (given.data_of key) v i new_ok, (v, made, refl)), inserts_fits reuses s old new ok fits (given.data_of key) v i new_ok);
-    lasts = λ n lasts. inserts_lasts reuses old new n ok lasts (given.data_of key) v i;
+    step = λ s fits. (after_insert s (given.data_of key) v, (below given.reuses s old new ok fits i.below_limit, inserts_fresh given.reuses s old new ok fits (given.data_of key) v i new_ok, (v, made, refl)), inserts_fits given.reuses s old new ok fits (given.data_of key) v i new_ok);
+    lasts = λ n lasts. inserts_lasts given.reuses old new n ok lasts (given.data_of key) v i;
   })
 
   full : (v back : V) → Refuses old v (Full back) → Keeps old new → Answers (command.Insert v) (reply.Full (Some back))
-  full v back r keeps = refused (command.Insert v) (reply.Full (Some back)) tt (stays_by (Step given) (command.Insert v) (reply.Full (Some back)) keeps (λ s fits. (used_same reuses s old new ok fits ∙ r.0, ap Some r.1, refl)))
+  full v back r keeps = refused (command.Insert v) (reply.Full (Some back)) tt (stays_by (Step given) (command.Insert v) (reply.Full (Some back)) keeps (λ s fits. (used_same given.reuses s old new ok fits ∙ r.0, ap Some r.1, refl)))
 
   with_full : used old ≡ most → Keeps old new → Answers command.InsertWith (reply.Full None)
-  with_full r keeps = other command.InsertWith (reply.Full None) (λ b. b) (stays_by (Step given) command.InsertWith (reply.Full None) keeps (λ s fits. (used_same reuses s old new ok fits ∙ r, refl, refl)))
+  with_full r keeps = other command.InsertWith (reply.Full None) (λ b. b) (stays_by (Step given) command.InsertWith (reply.Full None) keeps (λ s fits. (used_same given.reuses s old new ok fits ∙ r, refl, refl)))
 
   -- where memory was lacking for an insert, it may be lacking in the machine
-  may_lack : given.reuses ≡ reuses → LacksRoom old → (s : State V) → Fits s old → MayLackMemory given s
-  may_lack is r s fits = let same = used_same reuses s old new ok fits in record {
+  may_lack : LacksRoom old → (s : State V) → Fits s old → MayLackMemory given s
+  may_lack r s fits = let same = used_same given.reuses s old new ok fits in record {
     below_limit = λ e. let less = r.below_limit in omega arith;
     not_promised = let promised = fits.promised in let room = r.no_room in omega arith;
-    at_peak = λ h. let none = ok.reused (sym is ∙ h) in let room = r.no_room in let peak = fits.peak in omega arith;
+    at_peak = λ h. let none = ok.reused h in let room = r.no_room in let peak = fits.peak in omega arith;
   }
 
-  no_memory : given.reuses ≡ reuses → (v back : V) → Refuses old v (Memory back) → Keeps old new → Answers (command.Insert v) (reply.Memory (Some back))
-  no_memory is v back r keeps = refused (command.Insert v) (reply.Memory (Some back)) tt (stays_by (Step given) (command.Insert v) (reply.Memory (Some back)) keeps (λ s fits. (may_lack is r.0 s fits, ap Some r.1, refl)))
+  no_memory : (v back : V) → Refuses old v (Memory back) → Keeps old new → Answers (command.Insert v) (reply.Memory (Some back))
+  no_memory v back r keeps = refused (command.Insert v) (reply.Memory (Some back)) tt (stays_by (Step given) (command.Insert v) (reply.Memory (Some back)) keeps (λ s fits. (may_lack r.0 s fits, ap Some r.1, refl)))
 
-  with_no_memory : given.reuses ≡ reuses → LacksRoom old → Keeps old new → Answers command.InsertWith (reply.Memory None)
-  with_no_memory is r keeps = other command.InsertWith (reply.Memory None) (λ b. b) (stays_by (Step given) command.InsertWith (reply.Memory None) keeps (λ s fits. (may_lack is r s fits, refl, refl)))
+  with_no_memory : LacksRoom old → Keeps old new → Answers command.InsertWith (reply.Memory None)
+  with_no_memory r keeps = other command.InsertWith (reply.Memory None) (λ b. b) (stays_by (Step given) command.InsertWith (reply.Memory None) keeps (λ s fits. (may_lack r s fits, refl, refl)))
 
   -- whatever an insert answers
-  pub inserted : given.reuses ≡ reuses → IsContent reuses new → (v : V) (r : Result K (InsertError V)) → IfOk r (λ key. Inserts old (given.data_of key) v new) → IfErr r (Refuses old v) → OnErr r (Keeps old new) → Answers (command.Insert v) (insert_reply_of r)
-  inserted is new_ok v (Ok key) ok err keeps = inserts new_ok key v ok
-  inserted is new_ok v (Err (Full back)) ok err keeps = full v back err keeps
-  inserted is new_ok v (Err (Memory back)) ok err keeps = no_memory is v back err keeps
+  pub inserted : IsContent given.reuses new → (v : V) (r : Result K (InsertError V)) → IfOk r (λ key. Inserts old (given.data_of key) v new) → IfErr r (Refuses old v) → OnErr r (Keeps old new) → Answers (command.Insert v) (insert_reply_of r)
+  inserted new_ok v (Ok key) ok err keeps = inserts new_ok key v ok
+  inserted new_ok v (Err (Full back)) ok err keeps = full v back err keeps
+  inserted new_ok v (Err (Memory back)) ok err keeps = no_memory v back err keeps
 
   with_failed : (e : E) → (used old < most) × ((k : K) × (given.data_of k ≡ old.offer) × given.makes k (Err e)) → Keeps old new → Answers command.InsertWith (reply.Failed e)
   with_failed e r keeps = other command.InsertWith (reply.Failed e) (λ b. b) (stays_by (Step given) command.InsertWith (reply.Failed e) keeps
-      (λ s fits. (below reuses s old new ok fits r.0, (r.1.0, rw r.1.1 (offer_fresh reuses s old new ok fits r.0), r.1.2), refl)))
+      (λ s fits. (below given.reuses s old new ok fits r.0, (r.1.0, rw r.1.1 (offer_fresh given.reuses s old new ok fits r.0), r.1.2), refl)))
 
   -- whatever an insert of what `make` gives answers
-  pub inserted_with : given.reuses ≡ reuses → IsContent reuses new → (r : Result K (TryInsertError E))
+  pub inserted_with : IsContent given.reuses new → (r : Result K (TryInsertError E))
       → IfOk r (λ key. (v : V) × given.makes key (Ok v) × Inserts old (given.data_of key) v new) → IfErr r (RefusesWith given.data_of given.makes old) → OnErr r (Keeps old new) → Answers command.InsertWith (insert_with_reply_of r)
-  inserted_with is new_ok (Ok key) ok err keeps = inserts_with new_ok key ok.0 ok.1 ok.2
-  inserted_with is new_ok (Err with_key.Full) ok err keeps = with_full err keeps
-  inserted_with is new_ok (Err with_key.Memory) ok err keeps = with_no_memory is err keeps
-  inserted_with is new_ok (Err (with_key.Closure e)) ok err keeps = with_failed e err keeps
+  inserted_with new_ok (Ok key) ok err keeps = inserts_with new_ok key ok.0 ok.1 ok.2
+  inserted_with new_ok (Err with_key.Full) ok err keeps = with_full err keeps
+  inserted_with new_ok (Err with_key.Memory) ok err keeps = with_no_memory err keeps
+  inserted_with new_ok (Err (with_key.Closure e)) ok err keeps = with_failed e err keeps
 
   looks : (key : K) (v : V) (r : R) → Keeps old new → Some v ≡ map.get old.live (given.data_of key) → given.looks v r → Answers (command.Get key) (reply.Looked (Some r))
   looks key v r keeps found seen = stays (command.Get key) (reply.Looked (Some r)) (λ b. b) keeps (λ s live same. ((v, rw live (sym found), seen), refl))
@@ -146,47 +147,51 @@ module _ {K V R E : Type 0} (given : Given K V R E) (reuses : Bool) (old new : C
   pub replaced : (key : K) (v : V) (r : Result V V) → IfOk r (λ before. map.get old.live (given.data_of key) ≡ Some before) → OnOk r (Replaces old (given.data_of key) v new)
       → IfErr r (λ back. map.contains_key old.live (given.data_of key) ≡ false × back ≡ v) → OnErr r (Keeps old new) → Answers (command.Replace key v) (reply.Put r)
   replaced key v (Ok before) found changes none keeps = other (command.Replace key v) (reply.Put (Ok before)) (λ b. b) (record {
-    step = λ s fits. (after_replace s (given.data_of key) v, (rw fits.live found, refl), replaces_fits reuses s old new ok fits (given.data_of key) v (ap is_some found) changes);
-    lasts = λ n lasts. replaces_lasts reuses old new n ok lasts (given.data_of key) v (ap is_some found) changes;
+    step = λ s fits. (after_replace s (given.data_of key) v, (rw fits.live found, refl), replaces_fits given.reuses s old new ok fits (given.data_of key) v (ap is_some found) changes);
+    lasts = λ n lasts. replaces_lasts given.reuses old new n ok lasts (given.data_of key) v (ap is_some found) changes;
   })
   replaced key v (Err back) found changes none keeps = stays (command.Replace key v) (reply.Put (Err back)) (λ b. b) keeps (λ s live _. (rw live (none_of _ none.0), none.1, refl))
 
   pub removed : (key : K) (taken : Option V) → taken ≡ map.get old.live (given.data_of key) → (is_some taken ≡ true → Removes old (given.data_of key) new) → (taken ≡ None → Keeps old new) → Answers (command.Remove key) (reply.Taken taken)
   removed key (Some v) is some none = record {
     follows = record {
-      step = λ s fits. (after_remove s (given.data_of key), (rw fits.live (sym is), refl), removes_fits reuses s old new ok fits (given.data_of key) (ap is_some (sym is)) (some refl));
-      lasts = λ n lasts. removes_lasts reuses old new n ok lasts (given.data_of key) (ap is_some (sym is)) (some refl);
+      step = λ s fits. (after_remove s (given.data_of key), (rw fits.live (sym is), refl), removes_fits given.reuses s old new ok fits (given.data_of key) (ap is_some (sym is)) (some refl));
+      lasts = λ n lasts. removes_lasts given.reuses old new n ok lasts (given.data_of key) (ap is_some (sym is)) (some refl);
     };
-    orders = λ l lifo basic told. (refl, lifo_removes reuses old new ok l lifo (given.data_of key) (ap is_some (sym is)) (some refl));
+    orders = λ l lifo basic told. (refl, lifo_removes given.reuses old new ok l lifo (given.data_of key) (ap is_some (sym is)) (some refl));
   }
   removed key None is some none = record {
     follows = stays_by (Step given) (command.Remove key) (reply.Taken None) (none refl) (λ s fits. (rw fits.live (sym is), refl));
-    orders = λ l lifo basic told. (refl, rw (lifo.live (given.data_of key) ∙ ap is_some (sym is)) (lifo_keeps reuses old new ok l lifo (none refl)));
+    orders = λ l lifo basic told. (refl, rw (lifo.live (given.data_of key) ∙ ap is_some (sym is)) (lifo_keeps given.reuses old new ok l lifo (none refl)));
   }
 
   reserves : (m : ℕ) → used old + m ≤ most → m ≤ new.room → Keeps old new → Answers (command.Reserve m) reply.Done
   reserves m fits room keeps = other (command.Reserve m) reply.Done (λ b. b) (record {
-    step = λ s ok_fits. (after_reserve s m, (let same = used_same reuses s old new ok ok_fits in omega arith, refl), promises_fits reuses s old new ok ok_fits keeps m room);
-    lasts = λ n lasts. keeps_lasts reuses old new n ok lasts keeps;
+    step = λ s ok_fits. (after_reserve s m, (let same = used_same given.reuses s old new ok ok_fits in omega arith, refl), promises_fits given.reuses s old new ok ok_fits keeps m room);
+    lasts = λ n lasts. keeps_lasts given.reuses old new n ok lasts keeps;
   })
 
   too_great : (m : ℕ) → most < used old + m → Keeps old new → Answers (command.Reserve m) reply.TooGreat
   too_great m great keeps = stays (command.Reserve m) reply.TooGreat (λ b. b) keeps (λ s live same. (omega arith, refl))
 
-  reserves_no_memory : (m : ℕ) → used old + m ≤ most → Keeps old new → Answers (command.Reserve m) (reply.Memory None)
-  reserves_no_memory m fits keeps = stays (command.Reserve m) (reply.Memory None) (λ b. b) keeps (λ s live same. (omega arith, refl, refl))
+  reserves_no_memory : (m : ℕ) → used old + m ≤ most → old.room < m → Keeps old new → Answers (command.Reserve m) (reply.Memory None)
+  reserves_no_memory m within lacks keeps = other (command.Reserve m) (reply.Memory None) (λ b. b) (stays_by (Step given) (command.Reserve m) (reply.Memory None) keeps (λ s fits. let same = used_same given.reuses s old new ok fits in (record {
+    within_limit = omega arith;
+    beyond_promise = let promised = fits.promised in omega arith;
+    beyond_peak = λ h. let vacant = ok.reused h in let peak = fits.peak in omega arith;
+  }, refl, refl)))
 
   -- whatever a reserve answers
-  pub reserved : (m : ℕ) (r : Result (Unit {0}) ReserveError) → OnOk r (m ≤ new.room) → OnOk r (used old + m ≤ most) → IfErr r (RefusesCapacity (used old + m)) → Keeps old new → Answers (command.Reserve m) (reserve_reply_of r)
-  reserved m (Ok done) room fits err keeps = reserves m fits room keeps
-  reserved m (Err capacity.TooGreat) room fits err keeps = too_great m err keeps
-  reserved m (Err capacity.Memory) room fits err keeps = reserves_no_memory m err keeps
+  pub reserved : (m : ℕ) (r : Result (Unit {0}) ReserveError) → OnOk r (m ≤ new.room) → OnOk r (used old + m ≤ most) → IfErr r (RefusesCapacity (used old + m)) → Keeps old new → (m ≤ old.room → is_ok r ≡ true) → Answers (command.Reserve m) (reserve_reply_of r)
+  reserved m (Ok done) room fits err keeps succeeds = reserves m fits room keeps
+  reserved m (Err capacity.TooGreat) room fits err keeps succeeds = too_great m err keeps
+  reserved m (Err capacity.Memory) room fits err keeps succeeds = elim (cases_lt old.room m) [ inl lacks ↦ reserves_no_memory m err lacks keeps | inr room ↦ let done = succeeds room in absurd (cc) ]
 
   -- some keys leave, and nothing else of the state changes
   leaves : (c : Command K V) (r : Reply K V R E) → (IsBasic (detaching.Plain c) → ⊥) → Leaves old new → ((s : State V) → s.live ≡ old.live → Step given s c r (record s { live = new.live })) → Answers c r
   leaves c r not_basic l step = other c r not_basic (record {
-    step = λ s fits. (record s { live = new.live }, step s fits.live, leaves_fits reuses s old new ok fits l);
-    lasts = λ n lasts. leaves_lasts reuses old new n ok lasts l;
+    step = λ s fits. (record s { live = new.live }, step s fits.live, leaves_fits given.reuses s old new ok fits l);
+    lasts = λ n lasts. leaves_lasts given.reuses old new n ok lasts l;
   })
 
   pub clears : new.live ≡ map.empty → Leaves old new → Answers command.Clear reply.Done
@@ -229,40 +234,40 @@ module _ {K V R E : Type 0} (given : Given K V R E) (reuses : Bool) (old new : C
   pub detached : (key : K) (taken : Option V) → taken ≡ map.get old.live (given.data_of key) → (is_some taken ≡ true → Detaches old (given.data_of key) new) → (taken ≡ None → Keeps old new) → DetachAnswers (detaching.Detach key) (reply.Taken taken)
   detached key (Some v) is some none = record {
     follows = record {
-      step = λ s fits. (after_detach s (given.data_of key), (rw fits.live (sym is), refl), detaches_fits reuses s old new ok fits (given.data_of key) (ap is_some (sym is)) (some refl));
-      lasts = λ n lasts. detaches_lasts reuses old new n ok lasts (given.data_of key) (ap is_some (sym is)) (some refl);
+      step = λ s fits. (after_detach s (given.data_of key), (rw fits.live (sym is), refl), detaches_fits given.reuses s old new ok fits (given.data_of key) (ap is_some (sym is)) (some refl));
+      lasts = λ n lasts. detaches_lasts given.reuses old new n ok lasts (given.data_of key) (ap is_some (sym is)) (some refl);
     };
-    orders = λ l lifo basic told. (refl, lifo_detaches reuses old new ok l lifo (given.data_of key) (ap is_some (sym is)) (some refl));
+    orders = λ l lifo basic told. (refl, lifo_detaches given.reuses old new ok l lifo (given.data_of key) (ap is_some (sym is)) (some refl));
   }
   detached key None is some none = record {
     follows = stays_by (DetachStep given) (detaching.Detach key) (reply.Taken None) (none refl) (λ s fits. (rw fits.live (sym is), refl));
-    orders = λ l lifo basic told. (refl, rw (lifo.live (given.data_of key) ∙ ap is_some (sym is)) (lifo_keeps reuses old new ok l lifo (none refl)));
+    orders = λ l lifo basic told. (refl, rw (lifo.live (given.data_of key) ∙ ap is_some (sym is)) (lifo_keeps given.reuses old new ok l lifo (none refl)));
   }
 
   reattaches : (key : K) (v : V) → Reattaches old (given.data_of key) v new → DetachAnswers (detaching.Reattach key v) reply.Done
   reattaches key v r = record {
     follows = record {
-      step = λ s fits. (after_reattach s (given.data_of key) v, (rw fits.detached r.was_detached, refl), reattaches_fits reuses s old new ok fits (given.data_of key) v r);
-      lasts = λ n lasts. reattaches_lasts reuses old new n ok lasts (given.data_of key) v r;
+      step = λ s fits. (after_reattach s (given.data_of key) v, (rw fits.detached r.was_detached, refl), reattaches_fits given.reuses s old new ok fits (given.data_of key) v r);
+      lasts = λ n lasts. reattaches_lasts given.reuses old new n ok lasts (given.data_of key) v r;
     };
-    orders = λ l lifo basic told. (refl, lifo_reattaches reuses old new ok l lifo (given.data_of key) v r);
+    orders = λ l lifo basic told. (refl, lifo_reattaches given.reuses old new ok l lifo (given.data_of key) v r);
   }
 
-  not_detached : (key : K) (v back : V) → RefusesReattach old (given.data_of key) v (again.NotDetached back) → Keeps old new → DetachAnswers (detaching.Reattach key v) (reply.NotDetached back)
+  not_detached : (key : K) (v back : V) → RefusesReattach given.reuses old (given.data_of key) v (again.NotDetached back) → Keeps old new → DetachAnswers (detaching.Reattach key v) (reply.NotDetached back)
   not_detached key v back r keeps = record {
     follows = stays_by (DetachStep given) (detaching.Reattach key v) (reply.NotDetached back) keeps (λ s fits. (rw fits.detached (false_of _ r.0), r.1, refl));
-    orders = λ l lifo basic told. (refl, rw (ap (λ (d : set.FinSet key_cmp). set.contains d (given.data_of key)) lifo.detached ∙ false_of _ r.0) (lifo_keeps reuses old new ok l lifo keeps));
+    orders = λ l lifo basic told. (refl, rw (ap (λ (d : set.FinSet key_cmp). set.contains d (given.data_of key)) lifo.detached ∙ false_of _ r.0) (lifo_keeps given.reuses old new ok l lifo keeps));
   }
 
-  reattaches_no_memory : (key : K) (v back : V) → RefusesReattach old (given.data_of key) v (again.Memory back) → Keeps old new → DetachAnswers (detaching.Reattach key v) (reply.Memory (Some back))
+  reattaches_no_memory : (key : K) (v back : V) → RefusesReattach given.reuses old (given.data_of key) v (again.Memory back) → Keeps old new → DetachAnswers (detaching.Reattach key v) (reply.Memory (Some back))
   reattaches_no_memory key v back r keeps = record {
     follows = stays_by (DetachStep given) (detaching.Reattach key v) (reply.Memory (Some back)) keeps
-        (λ s fits. (rw fits.detached r.0, (let promised = fits.promised in let room = r.1 in omega arith), ap Some r.2, refl));
+        (λ s fits. (r.0, rw fits.detached r.1, (let promised = fits.promised in let room = r.2 in omega arith), ap Some r.3, refl));
     orders = λ l lifo basic told. absurd (told tt);
   }
 
   -- whatever a reattach answers
-  pub reattached : (key : K) (v : V) (r : Result (Unit {0}) (ReattachError V)) → OnOk r (Reattaches old (given.data_of key) v new) → IfErr r (RefusesReattach old (given.data_of key) v) → OnErr r (Keeps old new)
+  pub reattached : (key : K) (v : V) (r : Result (Unit {0}) (ReattachError V)) → OnOk r (Reattaches old (given.data_of key) v new) → IfErr r (RefusesReattach given.reuses old (given.data_of key) v) → OnErr r (Keeps old new)
       → DetachAnswers (detaching.Reattach key v) (reattach_reply_of r)
   reattached key v (Ok done) ok err keeps = reattaches key v ok
   reattached key v (Err (again.NotDetached back)) ok err keeps = not_detached key v back err keeps

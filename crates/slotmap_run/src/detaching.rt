@@ -140,7 +140,7 @@ where
     ensures not_reissued { IfOk result (λ replies.
         DetachedNotReissued K.data_of commands.items replies.items) }
     ensures reattaches { IfOk result (λ replies.
-        DetachedReattaches K.data_of commands.items replies.items) }
+        DetachedReattaches K.data_of M.REUSES commands.items replies.items) }
     ensures binds { IfOk result (λ replies. ReattachBinds commands.items replies.items) }
 
     // Where there is no room for the replies, nothing is run.
@@ -214,7 +214,7 @@ where
     ensures not_reissued { IfOk result (λ made.
         DetachedNotReissued K.data_of commands.items made.1.items) }
     ensures reattaches { IfOk result (λ made.
-        DetachedReattaches K.data_of commands.items made.1.items) }
+        DetachedReattaches K.data_of M.REUSES commands.items made.1.items) }
     ensures binds { IfOk result (λ made. ReattachBinds commands.items made.1.items) }
     ensures last_freed_first { IfOk result (λ made.
         LastFreedFirst K.data_of commands.items made.1.items) }
