@@ -1,12 +1,32 @@
-//! Maps written as the text of their list of slots, and read from it.
+//! Maps written as the JSON text of their list of slots, and read from it.
 
-use crate::store::Store;
 use serde_json::Value;
+use slotmap_basic::SlotMap;
 use slotmap_core::errors::{JsonError, OutOfMemory, SlotsError};
-use slotmap_core::serial::{slots_from_value, slots_to_value};
+use slotmap_core::keys::DefaultKey;
+use slotmap_core::serial::{SlotRecord, slots_from_value};
 use std::alloc::Global;
 use std::io;
 use std::io::Write;
+
+/// A map that is written as a list of slots, and read from one.
+pub trait Listed: Sized {
+    /// The list of the map's slots.
+    fn to_slots(&self) -> Result<Vec<SlotRecord<i32>>, OutOfMemory>;
+
+    /// The map that a list of slots gives.
+    fn from_slots(alloc: Global, list: Vec<SlotRecord<i32>>) -> Result<Self, SlotsError>;
+}
+
+impl Listed for SlotMap<DefaultKey, i32> {
+    fn to_slots(&self) -> Result<Vec<SlotRecord<i32>>, OutOfMemory> {
+        SlotMap::to_slots(self)
+    }
+
+    fn from_slots(alloc: Global, list: Vec<SlotRecord<i32>>) -> Result<Self, SlotsError> {
+        SlotMap::from_slots(alloc, list)
+    }
+}
 
 /// Why a map isn't read from a text.
 #[derive(Drop)]
@@ -17,22 +37,56 @@ pub enum LoadError {
     Slots(SlotsError),
 }
 
-/// The compact JSON text of a map's list of slots.
-pub fn slots_text<M: Store>(alloc: Global, map: &M) -> Result<String, OutOfMemory> {
-    let slots = map.to_slots()?;
-    let value = slots_to_value(alloc, &slots, |value: &i32| Ok(Value::from(*value)))?;
-    Ok(value.to_string(alloc)?)
+/// Writes a map's list of slots as a line of compact JSON, record by record.
+pub fn write_slots<M: Listed>(map: &M, output: &mut impl Write) -> io::Result<()> {
+    let Ok(slots) = map.to_slots() else {
+        return writeln!(output, "memory");
+    };
+    write!(output, "[")?;
+    for (i, slot) in slots.iter().enumerate() {
+        if i > 0 {
+            write!(output, ",")?;
+        }
+        write_slot(output, slot)?;
+    }
+    writeln!(output, "]")
 }
 
-/// Reads a map from the text of its list of slots.
-pub fn read_map<M: Store>(alloc: Global, text: &str) -> Result<M, LoadError> {
-    let json = match Value::from_str(alloc, text) {
-        Ok(json) => json,
-        Err(error) if error.is_memory() => return Err(LoadError::Json(JsonError::Memory)),
-        Err(_) => return Err(LoadError::Json(JsonError::Shape)),
-    };
-    let slots = slots_from_value(alloc, &json, number).map_err(LoadError::Json)?;
+fn write_slot(output: &mut impl Write, slot: &SlotRecord<i32>) -> io::Result<()> {
+    let version = slot.version;
+    match slot.value {
+        Some(value) => write!(output, "{{\"value\":{value},\"version\":{version}}}"),
+        None => write!(output, "{{\"value\":null,\"version\":{version}}}"),
+    }
+}
+
+/// Puts the map of the text in the old one's place, and writes `done`; after a refusal the old one stays.
+pub fn load<M: Listed + Drop>(
+    alloc: Global,
+    map: &mut M,
+    text: &str,
+    output: &mut impl Write,
+) -> io::Result<()> {
+    match read_map(alloc, text) {
+        Ok(read) => {
+            *map = read;
+            writeln!(output, "done")
+        }
+        Err(error) => write_refusal(output, &error),
+    }
+}
+
+fn read_map<M: Listed>(alloc: Global, text: &str) -> Result<M, LoadError> {
+    let slots = read_slots(alloc, text).map_err(LoadError::Json)?;
     M::from_slots(alloc, slots).map_err(LoadError::Slots)
+}
+
+fn read_slots(alloc: Global, text: &str) -> Result<Vec<SlotRecord<i32>>, JsonError> {
+    match Value::from_str(alloc, text) {
+        Ok(json) => slots_from_value(alloc, &json, number),
+        Err(error) if error.is_memory() => Err(JsonError::Memory),
+        Err(_) => Err(JsonError::Shape),
+    }
 }
 
 // The number of 32 bits that a value is.
@@ -41,8 +95,8 @@ fn number(value: &Value) -> Result<i32, JsonError> {
     i32::try_from(number).map_err(|_| JsonError::Shape)
 }
 
-/// Writes why a map wasn't read, as a line of its own.
-pub fn write_refusal(output: &mut impl Write, error: &LoadError) -> io::Result<()> {
+// Writes why a map wasn't read.
+fn write_refusal(output: &mut impl Write, error: &LoadError) -> io::Result<()> {
     match error {
         LoadError::Json(JsonError::Shape) => writeln!(output, "shape"),
         LoadError::Slots(SlotsError::TooMany) => writeln!(output, "too many"),

@@ -1,13 +1,14 @@
 //! Runs a script of map commands from standard input.
 #![tactic(auto)]
 
-mod line;
+mod commands;
 mod list;
 mod reply;
+mod run;
 mod script;
-mod store;
+mod stop;
 
-pub use script::run_script;
+pub use run::run_script;
 use std::io::{ErrorKind, Write};
 use std::process::ExitCode;
 use std::{env, io};

@@ -1,165 +1,80 @@
-//! Scripts of lines, and the run of one.
+//! A script, parsed to the commands of a kind of map.
 
-use crate::line::Line;
-use crate::list::{read_map, slots_text, write_refusal};
-use crate::reply::write_reply;
-use crate::store::Store;
-use slotmap_basic::SlotMap;
-use slotmap_core::errors::OutOfMemory;
-use slotmap_core::keys::DefaultKey;
-use std::alloc::{AllocError, AllocFailed, Global};
-use std::io::{Read, Write};
-use std::{io, mem};
+use crate::commands::Commands;
+use crate::stop::Stop;
+use std::alloc::Global;
+use std::mem;
 
-// Why a script ends early.
+/// Commands for one run, and what comes after them.
 #[derive(Drop)]
-enum Stop {
-    // The words name no kind of map.
-    Usage,
-    // The script wasn't read, or memory was refused.
-    NoScript,
-    // A line isn't one of a script; lines count from 1.
-    BadLine(usize),
-    // The output was refused.
-    Output,
+pub struct Stretch<'a, C> {
+    pub commands: Vec<C>,
+    pub end: End<'a>,
 }
 
-impl From<AllocError> for Stop {
-    fn from(_error: AllocError) -> Stop {
-        Stop::NoScript
-    }
+/// What ends a stretch.
+#[derive(Drop)]
+pub enum End<'a> {
+    /// The map's list of slots is printed.
+    Slots,
+    /// The map is read anew from this text, which isn't looked at yet.
+    Load(&'a str),
+    /// The script is at its end.
+    Script,
 }
 
-impl<T: Drop> From<AllocFailed<T>> for Stop {
-    fn from(_error: AllocFailed<T>) -> Stop {
-        Stop::NoScript
-    }
+// What a line asks for.
+enum Line<'a, C> {
+    Command(C),
+    End(End<'a>),
 }
 
-/// Runs the script of the input on the kind of map that the words name, and answers the status to end with.
-///
-/// The one kind today is `basic`. Every line is looked at before the first is run. The status is 0 after a run, 2
-/// where the words or a line are wrong, and 3 where the script could not be read or the output written, or memory
-/// was refused.
-pub fn run_script(
+/// Parses every line of a script, the last of which may lack its line feed.
+pub fn parse<'a, M, C: Commands<M>>(
     alloc: Global,
-    words: &[String],
-    input: &mut impl Read,
-    output: &mut impl Write,
-) -> u8 {
-    match run(alloc, words, input, output) {
-        Ok(()) => 0,
-        Err(Stop::Usage) => ended(writeln!(output, "usage: slotrun basic|dense|hop"), 2),
-        Err(Stop::BadLine(number)) => ended(writeln!(output, "bad line {number}"), 2),
-        Err(Stop::NoScript) => ended(writeln!(output, "no script"), 3),
-        Err(Stop::Output) => 3,
-    }
-}
-
-// The status after a last line was written.
-fn ended(written: io::Result<()>, status: u8) -> u8 {
-    if written.is_ok() { status } else { 3 }
-}
-
-fn run(
-    alloc: Global,
-    words: &[String],
-    input: &mut impl Read,
-    output: &mut impl Write,
-) -> Result<(), Stop> {
-    let [kind] = words else {
-        return Err(Stop::Usage);
-    };
-    if kind.as_str() != "basic" {
-        return Err(Stop::Usage);
-    }
-    let mut script = Vec::new(alloc);
-    input.read_to_end(&mut script).map_err(|_| Stop::NoScript)?;
-    let lines = parse_lines(alloc, &script)?;
-    run_lines::<SlotMap<DefaultKey, i32>>(alloc, lines, output)
-}
-
-// The lines of a script, the last of which may lack its line feed.
-fn parse_lines(alloc: Global, script: &[u8]) -> Result<Vec<Line>, Stop> {
-    let mut lines = Vec::new(alloc);
-    if script.is_empty() {
-        return Ok(lines);
-    }
-    let text = script.strip_suffix(b"\n").unwrap_or(script);
-    for piece in text.split(|byte| *byte == b'\n') {
-        match Line::from_bytes(alloc, piece)? {
-            Some(line) => lines.push(line)?,
-            None => return Err(Stop::BadLine(lines.len() + 1)),
-        }
-    }
-    Ok(lines)
-}
-
-// Hands each stretch of commands to a run, and prints or reads the list of slots between them.
-fn run_lines<M: Store>(
-    alloc: Global,
-    lines: Vec<Line>,
-    output: &mut impl Write,
-) -> Result<(), Stop> {
-    let mut map = M::start(alloc).map_err(|_| Stop::NoScript)?;
-    let mut stretch = Vec::new(alloc);
-    for line in lines {
-        match line {
-            Line::Slots => {
-                let commands = mem::replace(&mut stretch, Vec::new(alloc));
-                run_stretch(alloc, &mut map, commands, output)?;
-                write_slots(alloc, &map, output)?;
-            }
-            Line::Load(text) => {
-                let commands = mem::replace(&mut stretch, Vec::new(alloc));
-                run_stretch(alloc, &mut map, commands, output)?;
-                load(alloc, &mut map, text.as_str(), output)?;
-            }
-            line => {
-                if let Some(command) = M::command(line) {
-                    stretch.push(command)?;
+    script: &'a [u8],
+) -> Result<Vec<Stretch<'a, C>>, Stop> {
+    let mut stretches = Vec::new(alloc);
+    let mut commands = Vec::new(alloc);
+    if !script.is_empty() {
+        let text = script.strip_suffix(b"\n").unwrap_or(script);
+        for (i, piece) in text.split(|byte| *byte == b'\n').enumerate() {
+            match parse_line(piece) {
+                Some(Line::Command(command)) => commands.push(command)?,
+                Some(Line::End(end)) => {
+                    let commands = mem::replace(&mut commands, Vec::new(alloc));
+                    stretches.push(Stretch { commands, end })?;
                 }
+                None => return Err(Stop::BadLine(i + 1)),
             }
         }
     }
-    run_stretch(alloc, &mut map, stretch, output)
+    stretches.push(Stretch {
+        commands,
+        end: End::Script,
+    })?;
+    Ok(stretches)
 }
 
-// Runs the commands, and prints their replies.
-fn run_stretch<M: Store>(
-    alloc: Global,
-    map: &mut M,
-    commands: Vec<M::Command>,
-    output: &mut impl Write,
-) -> Result<(), Stop> {
-    let replies = map.run(alloc, commands).ok_or(Stop::NoScript)?;
-    for reply in &replies {
-        write_reply(output, reply).map_err(|_| Stop::Output)?;
+// Reads a line of UTF-8; none where it isn't one of a script.
+fn parse_line<'a, M, C: Commands<M>>(bytes: &'a [u8]) -> Option<Line<'a, C>> {
+    let text = str::from_utf8(bytes).ok()?;
+    match text.strip_prefix("load ") {
+        Some("") => None,
+        Some(list) => Some(Line::End(End::Load(list))),
+        None if text == "slots" => Some(Line::End(End::Slots)),
+        None => Some(Line::Command(parse_command(text)?)),
     }
-    Ok(())
 }
 
-fn write_slots<M: Store>(alloc: Global, map: &M, output: &mut impl Write) -> Result<(), Stop> {
-    let written = match slots_text(alloc, map) {
-        Ok(text) => writeln!(output, "{text}"),
-        Err(OutOfMemory) => writeln!(output, "memory"),
-    };
-    written.map_err(|_| Stop::Output)
-}
-
-// Puts the map of the text in the old one's place; after a refusal the old one stays.
-fn load<M: Store>(
-    alloc: Global,
-    map: &mut M,
-    text: &str,
-    output: &mut impl Write,
-) -> Result<(), Stop> {
-    let written = match read_map(alloc, text) {
-        Ok(read) => {
-            *map = read;
-            writeln!(output, "done")
-        }
-        Err(error) => write_refusal(output, &error),
-    };
-    written.map_err(|_| Stop::Output)
+// Reads a command: its words, parted by one space, and nothing before or after them.
+fn parse_command<M, C: Commands<M>>(text: &str) -> Option<C> {
+    // No command has more than three words.
+    let mut words = [""; 3];
+    let mut count = 0;
+    for word in text.split(' ') {
+        *words.get_mut(count)? = word;
+        count += 1;
+    }
+    C::from_words(words.get(..count)?)
 }

@@ -1,0 +1,122 @@
+//! The run of a script, from its words to its status.
+
+use crate::commands::{Commands, Detachable};
+use crate::list::{Listed, load, write_slots};
+use crate::reply::write_reply;
+use crate::script::{End, Stretch, parse};
+use crate::stop::Stop;
+use slotmap_basic::SlotMap;
+use slotmap_core::keys::DefaultKey;
+use slotmap_core::primary::Primary;
+use std::alloc::Global;
+use std::io::{BufWriter, Read, Write};
+
+/// Runs the script of the input on the kind of map that the words name, and answers the status to end with.
+///
+/// The one kind today is `basic`. Every line is looked at before the first is run. The status is 0 after a run, 2
+/// where the words or a line are wrong, and 3 where the script could not be read or the output written, or memory
+/// was refused. After a write that failed nothing more is written.
+pub fn run_script(
+    alloc: Global,
+    words: &[String],
+    input: &mut impl Read,
+    output: &mut impl Write,
+) -> u8 {
+    let ended = run_kind(alloc, words, input, output);
+    finish(ended, output)
+}
+
+// Writes why a script ended early, and answers the status.
+pub(crate) fn finish(ended: Result<(), Stop>, output: &mut impl Write) -> u8 {
+    let (status, written) = match ended {
+        Ok(()) => return 0,
+        Err(Stop::Output) => return 3,
+        Err(Stop::Usage) => (2, writeln!(output, "usage: slotrun basic|dense|hop")),
+        Err(Stop::BadLine(number)) => (2, writeln!(output, "bad line {number}")),
+        Err(Stop::NoScript) => (3, writeln!(output, "no script")),
+    };
+    match written.and_then(|()| output.flush()) {
+        Ok(()) => status,
+        Err(_) => 3,
+    }
+}
+
+// Picks the kind of map, and the commands that it has.
+fn run_kind(
+    alloc: Global,
+    words: &[String],
+    input: &mut impl Read,
+    output: &mut impl Write,
+) -> Result<(), Stop> {
+    let [kind] = words else {
+        return Err(Stop::Usage);
+    };
+    match kind.as_str() {
+        "basic" => run_on::<SlotMap<DefaultKey, i32>, Detachable>(alloc, input, output),
+        _ => Err(Stop::Usage),
+    }
+}
+
+// Reads a script, and runs it on a new map.
+pub(crate) fn run_on<M, C>(
+    alloc: Global,
+    input: &mut impl Read,
+    output: &mut impl Write,
+) -> Result<(), Stop>
+where
+    M: Primary<DefaultKey, i32> + Listed + Drop,
+    C: Commands<M>,
+{
+    let mut script = Vec::new(alloc);
+    input.read_to_end(&mut script).map_err(|_| Stop::NoScript)?;
+    let stretches = parse::<M, C>(alloc, &script)?;
+    let map = M::with_key(alloc).map_err(|_| Stop::NoScript)?;
+    run_stretches(alloc, map, stretches, output)
+}
+
+// Runs the stretches with their replies gathered before they are written.
+pub(crate) fn run_stretches<M, C>(
+    alloc: Global,
+    map: M,
+    stretches: Vec<Stretch<'_, C>>,
+    output: &mut impl Write,
+) -> Result<(), Stop>
+where
+    M: Listed + Drop,
+    C: Commands<M>,
+{
+    let mut gathered = BufWriter::new(alloc, output).map_err(|_| Stop::NoScript)?;
+    let ended = match print_stretches(alloc, map, stretches, &mut gathered) {
+        Err(Stop::Output) => Err(Stop::Output),
+        ended => gathered.flush().map_err(|_| Stop::Output).and(ended),
+    };
+    // What a failed write left isn't tried again.
+    let (_output, _unwritten) = gathered.into_parts();
+    ended
+}
+
+// Hands each stretch of commands to a run, and prints or reads the list of slots after it.
+fn print_stretches<M, C>(
+    alloc: Global,
+    mut map: M,
+    stretches: Vec<Stretch<'_, C>>,
+    output: &mut impl Write,
+) -> Result<(), Stop>
+where
+    M: Listed + Drop,
+    C: Commands<M>,
+{
+    for stretch in stretches {
+        let replies = C::run(alloc, &mut map, stretch.commands).ok_or(Stop::NoScript)?;
+        for reply in &replies {
+            write_reply(output, reply).map_err(|_| Stop::Output)?;
+        }
+        let written = match stretch.end {
+            End::Slots => write_slots(&map, output),
+            End::Load(text) => load(alloc, &mut map, text, output),
+            End::Script => Ok(()),
+        };
+        written.map_err(|_| Stop::Output)?;
+    }
+    Ok(())
+}

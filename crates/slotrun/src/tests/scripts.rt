@@ -1,0 +1,296 @@
+//! Scripts with the reply to each line, and lines that are bad.
+
+use super::outcome;
+use std::test::Fail;
+
+// Each line of a script, and its reply.
+const SCRIPTS: [&[(&str, &str)]; 16] = [
+    &[],
+    &[
+        ("insert 5", "key 4294967297"),
+        ("insert 6", "key 4294967298"),
+        ("remove 4294967298", "value 6"),
+        ("insert 7", "key 12884901890"),
+        ("get 4294967298", "none"),
+        ("len", "len 2"),
+    ],
+    // A look-up leaves the value; a removal and a detach take it.
+    &[
+        ("insert 5", "key 4294967297"),
+        ("get 4294967297", "value 5"),
+        ("get 4294967297", "value 5"),
+        ("remove 4294967297", "value 5"),
+        ("get 4294967297", "none"),
+        ("remove 4294967297", "none"),
+        ("detach 4294967297", "none"),
+        ("len", "len 0"),
+    ],
+    &[
+        ("insert 5", "key 4294967297"),
+        ("detach 4294967297", "value 5"),
+        ("insert 6", "key 4294967298"),
+        ("reattach 4294967297 9", "done"),
+        ("reattach 4294967297 8", "not detached"),
+        ("get 4294967297", "value 9"),
+    ],
+    // A clear leaves detached keys detached.
+    &[
+        ("insert 1", "key 4294967297"),
+        ("insert 2", "key 4294967298"),
+        ("detach 4294967297", "value 1"),
+        ("clear", "done"),
+        ("len", "len 0"),
+        ("reattach 4294967297 3", "done"),
+        ("insert 4", "key 12884901890"),
+        ("keys", "keys 4294967297 12884901890"),
+    ],
+    &[
+        ("insert 3", "key 4294967297"),
+        ("insert 4", "key 4294967298"),
+        ("keys", "keys 4294967297 4294967298"),
+        ("clear", "done"),
+        ("keys", "keys"),
+        ("len", "len 0"),
+    ],
+    // Numbers: signs, leading zeros and the bounds; even versions and the greatest index.
+    &[
+        ("insert -0", "key 4294967297"),
+        ("get 018446744073709551615", "none"),
+        ("insert -2147483648", "key 4294967298"),
+        ("insert 2147483647", "key 4294967299"),
+        ("insert -0007", "key 4294967300"),
+        ("get 00000000004294967297", "value 0"),
+        ("get 2", "value -2147483648"),
+        ("remove 3", "value 2147483647"),
+        ("detach 4294967300", "value -7"),
+        ("reattach 4 -9", "done"),
+        ("get 0", "none"),
+        (
+            "slots",
+            "[{\"value\":null,\"version\":0},{\"value\":0,\"version\":1},\
+            {\"value\":-2147483648,\"version\":1},{\"value\":null,\"version\":2},{\"value\":-9,\"version\":1}]",
+        ),
+    ],
+    &[
+        ("insert 5", "key 4294967297"),
+        ("insert 6", "key 4294967298"),
+        ("remove 4294967298", "value 6"),
+        ("insert 7", "key 12884901890"),
+        ("get 4294967298", "none"),
+        ("keys", "keys 4294967297 12884901890"),
+        (
+            "slots",
+            "[{\"value\":null,\"version\":0},{\"value\":5,\"version\":1},{\"value\":7,\"version\":3}]",
+        ),
+    ],
+    // A list is printed where it is asked for, and changes nothing.
+    &[
+        ("slots", "[{\"value\":null,\"version\":0}]"),
+        ("slots", "[{\"value\":null,\"version\":0}]"),
+        ("insert 5", "key 4294967297"),
+        (
+            "slots",
+            "[{\"value\":null,\"version\":0},{\"value\":5,\"version\":1}]",
+        ),
+        ("remove 4294967297", "value 5"),
+        (
+            "slots",
+            "[{\"value\":null,\"version\":0},{\"value\":null,\"version\":2}]",
+        ),
+    ],
+    // A list that is read takes the map's place; what stood before is gone, detached keys too.
+    &[
+        ("insert 1", "key 4294967297"),
+        ("detach 4294967297", "value 1"),
+        (
+            "slots",
+            "[{\"value\":null,\"version\":0},{\"value\":null,\"version\":2}]",
+        ),
+        ("load [{\"version\":0},{\"version\":2}]", "done"),
+        ("reattach 4294967297 3", "not detached"),
+        ("insert 4", "key 12884901889"),
+        ("load [{\"version\":0}]", "done"),
+        ("len", "len 0"),
+    ],
+    // The vacant places of a list are used from the greatest index down.
+    &[
+        (
+            "load [{\"version\":0},{\"version\":2},{\"value\":7,\"version\":1},{\"version\":2},{\"version\":2}]",
+            "done",
+        ),
+        ("get 4294967298", "value 7"),
+        ("insert 1", "key 12884901892"),
+        ("insert 2", "key 12884901891"),
+        ("insert 3", "key 12884901889"),
+        ("insert 4", "key 4294967301"),
+    ],
+    // A used-up place is retired.
+    &[
+        (
+            "load [{\"value\":null,\"version\":0},{\"value\":7,\"version\":4294967295}]",
+            "done",
+        ),
+        ("remove 18446744069414584321", "value 7"),
+        ("insert 8", "key 4294967298"),
+        (
+            "slots",
+            "[{\"value\":null,\"version\":0},{\"value\":null,\"version\":0},{\"value\":8,\"version\":1}]",
+        ),
+        ("load []", "first not empty"),
+        ("load [{\"version\":0},{\"version\":1}]", "inconsistent 1"),
+        ("load x", "shape"),
+        ("len", "len 1"),
+    ],
+    // The text of a list may have blanks, other members and an even first version.
+    &[
+        (
+            "load  [ {\"other\":[1], \"version\" : 4}, {\"version\": 3, \"value\" : -7} ] ",
+            "done",
+        ),
+        ("get 12884901889", "value -7"),
+        (
+            "slots",
+            "[{\"value\":null,\"version\":0},{\"value\":-7,\"version\":3}]",
+        ),
+    ],
+    // The bounds of a value in a list.
+    &[
+        (
+            "load [{\"version\":0},{\"value\":-2147483648,\"version\":1},{\"value\":2147483647,\"version\":1}]",
+            "done",
+        ),
+        ("get 4294967297", "value -2147483648"),
+        ("get 4294967298", "value 2147483647"),
+        (
+            "load [{\"version\":0},{\"value\":2147483648,\"version\":1}]",
+            "shape",
+        ),
+        (
+            "load [{\"version\":0},{\"value\":-2147483649,\"version\":1}]",
+            "shape",
+        ),
+        (
+            "load [{\"version\":0},{\"value\":0.5,\"version\":1}]",
+            "shape",
+        ),
+        (
+            "load [{\"version\":0},{\"value\":\"x\",\"version\":1}]",
+            "shape",
+        ),
+        ("len", "len 2"),
+    ],
+    &[
+        ("load {}", "shape"),
+        ("load [3]", "shape"),
+        ("load [null]", "shape"),
+        ("load [{\"value\":1}]", "shape"),
+        ("load [{\"version\":\"1\"}]", "shape"),
+        ("load [{\"version\":-1}]", "shape"),
+        ("load [{\"version\":4294967296}]", "shape"),
+        ("load [{\"version\":0}]]", "shape"),
+        ("load  ", "shape"),
+    ],
+    // Which refusal comes first, and at which position.
+    &[
+        ("load [{\"version\":1}]", "first not empty"),
+        (
+            "load [{\"value\":7,\"version\":1},{\"version\":1}]",
+            "first not empty",
+        ),
+        (
+            "load [{\"value\":7,\"version\":0},{\"version\":1}]",
+            "inconsistent 0",
+        ),
+        (
+            "load [{\"version\":0},{\"version\":2},{\"value\":7,\"version\":2},{\"version\":1}]",
+            "inconsistent 2",
+        ),
+        ("insert 1", "key 4294967297"),
+    ],
+];
+
+#[test]
+fn replies(rt: HostRuntime) -> Result<(), Fail> {
+    for lines in SCRIPTS {
+        let mut script = String::new(rt.alloc());
+        let mut want = String::new(rt.alloc());
+        for (line, reply) in lines {
+            writeln!(script, "{line}")?;
+            writeln!(want, "{reply}")?;
+        }
+        let (status, text) = outcome(rt.alloc(), &["basic"], script.as_bytes())?;
+        assert_eq!(rt; text.as_str(), want.as_str(), "{script}");
+        assert_eq!(rt; status, 0, "{script}");
+    }
+    Ok(())
+}
+
+// Scripts, and which of their lines is the first that is bad.
+const BAD: [(&[u8], usize); 45] = [
+    (b"insert", 1),
+    (b"insert ", 1),
+    (b"insert -", 1),
+    (b"insert +1", 1),
+    (b"insert --1", 1),
+    (b"insert 2147483648", 1),
+    (b"insert -2147483649", 1),
+    (b"insert 1.0", 1),
+    (b"insert 1 2", 1),
+    (b"insert  1", 1),
+    (b"insert 1 ", 1),
+    (b"Insert 1", 1),
+    (b"get", 1),
+    (b"get ", 1),
+    (b"get +1", 1),
+    (b"get -1", 1),
+    (b"get 1 1", 1),
+    (b"get  1", 1),
+    (b" get 1", 1),
+    (b"get 0x1", 1),
+    (b"get 18446744073709551616", 1),
+    (b"remove +1", 1),
+    (b"detach +1", 1),
+    (b"reattach 1", 1),
+    (b"reattach +1 1", 1),
+    (b"reattach 1 +1", 1),
+    (b"reattach 1 1 1", 1),
+    (b"len 1", 1),
+    (b"len ", 1),
+    (b"len\r\n", 1),
+    (b"len\xff\n", 1),
+    (b"keys ", 1),
+    (b"clear ", 1),
+    (b"slots ", 1),
+    (b"load", 1),
+    (b"load ", 1),
+    (b"load \xff", 1),
+    (b"drop 1", 1),
+    (b"\n", 1),
+    (b"insert 1\ndrop 1\n", 2),
+    (b"len\nx\ny", 2),
+    (b"len\n\n", 2),
+    (b"len\n\nlen\n", 2),
+    (b"len\nslots\nload x\nlen\nlen\n ", 6),
+    (b"slots\nload [{\"version\":0}]\nload x y\nload ", 4),
+];
+
+#[test]
+fn bad_lines(rt: HostRuntime) -> Result<(), Fail> {
+    for (script, number) in BAD {
+        let want = format!(in rt.alloc(); "bad line {number}\n")?;
+        let (status, text) = outcome(rt.alloc(), &["basic"], script)?;
+        assert_eq!(rt; text.as_str(), want.as_str(), "{script:?}");
+        assert_eq!(rt; status, 2, "{script:?}");
+    }
+    Ok(())
+}
+
+#[test]
+fn last_line_feed(rt: HostRuntime) -> Result<(), Fail> {
+    for script in ["insert 5\nlen", "insert 5\nlen\n"] {
+        let (status, text) = outcome(rt.alloc(), &["basic"], script.as_bytes())?;
+        assert_eq!(rt; text.as_str(), "key 4294967297\nlen 1\n");
+        assert_eq!(rt; status, 0);
+    }
+    Ok(())
+}
