@@ -1,5 +1,5 @@
 -- What a caller of a map needs, in one list for `using`.
-use Rattle.std.proofs.Common.{◌≡◌, ◌≢◌, ◌+◌, Bool, false, cond, inl, None, Some, is_some, sym, ap, ◌∙◌}
+use Rattle.std.proofs.Common.{◌≡◌, ◌≢◌, ◌+◌, Bool, true, false, cond, inl, None, Some, is_some, sym, ap, ◌∙◌}
 use Rattle.std.specs.Ordering.{eq_by_cmp}
 use Rattle.std.specs.FinMap as map
 use Rattle.slotmap_core.specs.Key.{Key, key_cmp}
@@ -46,7 +46,23 @@ module _ {V : Type 0} where
     pub inserted_len : IsContent reuses old → Inserts old k v new → map.len new.live ≡ map.len old.live + 1
     inserted_len well inserts = ap map.len inserts.live ∙ len_inserted keys_total exact_keys old.live k v (inserted_fresh well inserts)
 
+  -- the same in the forms that a tactic finds: for the maps that reuse their places with no memory, and for the others
+  module _ (old : Content V) (k : Key) (v : V) (new : Content V) where
+    pub inserted_fresh-reuses : IsContent true old → Inserts old k v new → map.contains_key old.live k ≡ false
+    inserted_fresh-reuses = inserted_fresh true old k v new
+
+    pub inserted_fresh-grows : IsContent false old → Inserts old k v new → map.contains_key old.live k ≡ false
+    inserted_fresh-grows = inserted_fresh false old k v new
+
+    pub inserted_len-reuses : IsContent true old → Inserts old k v new → map.len new.live ≡ map.len old.live + 1
+    inserted_len-reuses = inserted_len true old k v new
+
+    pub inserted_len-grows : IsContent false old → Inserts old k v new → map.len new.live ≡ map.len old.live + 1
+    inserted_len-grows = inserted_len false old k v new
+
   pub removed_len : (old : Content V) (k : Key) (v : V) (new : Content V) → map.get old.live k ≡ Some v → Removes old k new → map.len new.live + 1 ≡ map.len old.live
   removed_len old k v new found removes = ap (λ (m : map.FinMap key_cmp V). map.len m + 1) removes.live ∙ len_removed keys_total exact_keys old.live k (ap is_some found)
 
-pub ruleset keys = (get_empty, get-insert_here, get-insert_other, get-remove_here, get-remove_other, remove_stale, len-insert_live, inserted_fresh, inserted_len, removed_len)
+pub ruleset lookups = (get_empty, get-insert_here, get-insert_other, get-remove_here, get-remove_other, remove_stale)
+pub ruleset counts = (len-insert_live, inserted_len-reuses, inserted_len-grows, removed_len)
+pub ruleset keys = (lookups, counts, inserted_fresh-reuses, inserted_fresh-grows)
