@@ -4,6 +4,8 @@
 //! traits of the maps come from `slotmap_core`, runs of commands from `slotmap_run`.
 #![tactic(auto)]
 
+mod examples;
+
 /// The walks of [`SlotMap`].
 pub mod basic {
     pub use slotmap_basic::{Drain, IntoIter, Iter, Keys, SlotMap, Values};

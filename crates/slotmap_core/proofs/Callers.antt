@@ -8,7 +8,7 @@ use Rattle.slotmap_core.specs.Transition.{Inserts, Removes}
 use Rattle.slotmap_core.proofs.AgainLemmas.{offer_unused}
 use Rattle.slotmap_core.proofs.KeyLemmas.{keys_total, exact_keys, tied, itself}
 use Rattle.slotmap_core.proofs.MapLaws.{remove_absent}
-use Rattle.slotmap_core.proofs.Maps.{get_inserted, false_of, len_inserted, len_removed}
+use Rattle.slotmap_core.proofs.Maps.{get_inserted, in_inserted, still_in, left_in, false_of, len_inserted, len_removed}
 
 differ : (q k : Key) → q ≢ k → eq_by_cmp key_cmp q k ≡ false
 differ q k other = false_of (eq_by_cmp key_cmp q k) (λ t. other (tied keys_total exact_keys q k t))
@@ -32,6 +32,19 @@ module _ {V : Type 0} where
 
   pub remove_stale : (m : map.FinMap key_cmp V) (k : Key) → map.get m k ≡ None → map.remove m k ≡ m
   remove_stale m k none = remove_absent keys_total exact_keys m k none
+
+  -- which keys are live then
+  pub live-insert_here : (m : map.FinMap key_cmp V) (k : Key) (v : V) → map.contains_key (map.insert m k v) k ≡ true
+  live-insert_here m k v = in_inserted keys_total exact_keys m k v
+
+  pub live-insert_still : (m : map.FinMap key_cmp V) (k : Key) (v : V) (q : Key) → map.contains_key m q ≡ true → map.contains_key (map.insert m k v) q ≡ true
+  live-insert_still m k v q there = still_in keys_total exact_keys m k v q there
+
+  pub live-remove_here : (m : map.FinMap key_cmp V) (k : Key) → map.contains_key (map.remove m k) k ≡ false
+  live-remove_here m k = ap is_some (get-remove_here m k)
+
+  pub live-remove_other : (m : map.FinMap key_cmp V) (k q : Key) → q ≢ k → map.contains_key m q ≡ true → map.contains_key (map.remove m k) q ≡ true
+  live-remove_other m k q other there = left_in keys_total exact_keys m k q other there
 
   -- how many keys it has then
   pub len-insert_live : (m : map.FinMap key_cmp V) (k : Key) (v w : V) → map.get m k ≡ Some w → map.len (map.insert m k v) ≡ map.len m
@@ -64,5 +77,9 @@ module _ {V : Type 0} where
   removed_len old k v new found removes = ap (λ (m : map.FinMap key_cmp V). map.len m + 1) removes.live ∙ len_removed keys_total exact_keys old.live k (ap is_some found)
 
 pub ruleset lookups = (get_empty, get-insert_here, get-insert_other, get-remove_here, get-remove_other, remove_stale)
+
+pub ruleset liveness = (live-insert_here, live-insert_still, live-remove_here, live-remove_other)
+
 pub ruleset counts = (len-insert_live, inserted_len-reuses, inserted_len-grows, removed_len)
-pub ruleset keys = (lookups, counts, inserted_fresh-reuses, inserted_fresh-grows)
+
+pub ruleset keys = (lookups, liveness, counts, inserted_fresh-reuses, inserted_fresh-grows)

@@ -1,0 +1,6 @@
+-- What a caller of a map needs: `keys` in one list for `using`, and lemmas to cite, passed on from one place.
+use Rattle.slotmap_core.proofs.Callers as core
+pub use Rattle.slotmap_core.proofs.KeyLemmas.{same_or_other}
+pub use Rattle.slotmap_core.proofs.Walks.{Walks, walk_start, walk_here, walk_next, walk_end}
+
+pub ruleset keys = (core.keys)

@@ -1,0 +1,10 @@
+-- The words that a caller's clauses cite, passed on from one place. Declares nothing.
+pub use Rattle.slotmap_core.specs.Key.{Key, IsKey, null_key, key_cmp, coded_key}
+pub use Rattle.slotmap_core.specs.Content.{Content, content_code, IsContent, IsLive, IsDetached, IsRetired, used, places, most}
+pub use Rattle.slotmap_core.specs.Spent.{IsSpent, KeepsSpent}
+pub use Rattle.slotmap_core.specs.Transition.{IsNew, Keeps, Inserts, Removes, Detaches, Reattaches, Leaves, FreesByIndex, with_value}
+pub use Rattle.slotmap_core.specs.Refusal.{Refuses, RefusesInsert, RefusesWith, RefusesReattach, RefusesCapacity}
+pub use Rattle.slotmap_core.specs.Listing.{IsListing, IsKeyListing, IsValueListing}
+pub use Rattle.slotmap_core.specs.Retain.{RetainsBy}
+pub use Rattle.slotmap_core.specs.Copy.{IsCopy}
+pub use Rattle.slotmap_core.specs.Disjoint.{CanReplace, AreValuesOf, with_values}

@@ -1,0 +1,5 @@
+//! Callers of the library, as a user of this crate writes them: what follows from the clauses alone.
+#![tactic(auto, using(crate::proofs::Callers::keys))]
+
+mod lookups;
+mod tour;
