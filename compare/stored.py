@@ -1,0 +1,69 @@
+#!/usr/bin/env python3
+"""stored.py RUSTRUN
+
+Prints the 100 numbers that the project's tests store for the Rust crate's replies to 100 lists of 200 commands. List N
+follows from the number N by `commands`; its replies become one number by `digest`.
+"""
+import subprocess
+import sys
+
+WORD = 2**64
+
+
+class Numbers:
+    """A linear congruential generator, of which the high 31 bits are used."""
+
+    def __init__(self, seed):
+        self.state = seed
+
+    def next(self):
+        self.state = (self.state * 6364136223846793005 + 1442695040888963407) % WORD
+        return self.state >> 33
+
+    def key(self):
+        index = self.next() % 16 + 1
+        version = self.next() % 3 * 2 + 1
+        return version << 32 | index
+
+
+def command(numbers, step):
+    choice = numbers.next() % 100
+    if choice < 40:
+        return f"insert {step}"
+    for bound, word in [(58, "remove"), (68, "get"), (78, "detach")]:
+        if choice < bound:
+            return f"{word} {numbers.key()}"
+    if choice < 90:
+        return f"reattach {numbers.key()} {step}"
+    return "len" if choice < 94 else "keys" if choice < 99 else "clear"
+
+
+def commands(seed):
+    numbers = Numbers(seed)
+    return "".join(command(numbers, step) + "\n" for step in range(200))
+
+
+# The number of each kind of reply, which its own numbers follow.
+KINDS = {"key": 1, "value": 2, "none": 3, "done": 4, "not": 5, "len": 6, "keys": 7}
+
+
+def digest(replies):
+    value = 14695981039346656037
+    for reply in replies:
+        first, *rest = reply.split(" ")
+        for number in [KINDS[first], *map(int, rest if first != "not" else [])]:
+            value = (value ^ number) * 1099511628211 % WORD
+    return value
+
+
+def main():
+    if len(sys.argv) != 2:
+        sys.exit(__doc__)
+    for seed in range(1, 101):
+        run = subprocess.run([sys.argv[1], "basic"], input=commands(seed), capture_output=True, text=True, check=True)
+        replies = run.stdout.splitlines()
+        assert len(replies) == 200
+        print(digest(replies))
+
+
+main()
