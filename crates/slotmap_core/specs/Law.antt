@@ -104,3 +104,19 @@ ReattachBinds {K} {V} {R} {E} commands replies =
 -- the inserts answer the keys of the machine that uses the place freed last first
 abbrev pub LastFreedFirst : {K V R E : Type 0} → (K → Key) → List (DetachCommand K V) → List (Reply K V R E) → Type 0
 LastFreedFirst data_of commands replies = AllByRecursion IsBasic commands → AllByRecursion (λ answer. IsRefusal answer → ⊥) replies → keys_told data_of replies ≡ answers data_of no_places commands
+
+module _ {K V R E : Type 0} (data_of : K → Key) where
+  -- what the replies to every list of commands keep to
+  pub record Laws (commands : List (Command K V)) (replies : List (Reply K V R E)) : Type 0 where
+    pub no_key_twice : NoKeyTwice data_of replies
+    pub removed_for_good : RemovedForGood (λ command. command) commands replies
+    pub reserve_holds : ReserveHolds (λ command. command) Grows commands replies
+
+  -- the same on a map whose keys can be detached
+  pub record DetachLaws (reuses : Bool) (commands : List (DetachCommand K V)) (replies : List (Reply K V R E)) : Type 0 where
+    pub no_key_twice : NoKeyTwice data_of replies
+    pub removed_for_good : RemovedForGood detaching.Plain commands replies
+    pub reserve_holds : ReserveHolds detaching.Plain DetachGrows commands replies
+    pub not_reissued : DetachedNotReissued data_of commands replies
+    pub reattaches : DetachedReattaches data_of reuses commands replies
+    pub binds : ReattachBinds commands replies

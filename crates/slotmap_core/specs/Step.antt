@@ -15,37 +15,38 @@ use Rattle.slotmap_core.specs.declared.commands.DetachCommand.TheVariants as det
 use Rattle.slotmap_core.specs.declared.commands.Reply.{Reply}
 use Rattle.slotmap_core.specs.declared.commands.Reply.TheVariants as reply
 
-module _ {K V R E : Type 0} (given : Given K V R E) where
+module _ {V : Type 0} (reuses : Bool) (s : State V) where
   -- an insert may be refused for memory
-  pub record MayLackMemory (s : State V) : Type 0 where
+  pub record MayLackMemory : Type 0 where
     -- places are left
     pub below_limit : used s ≢ most
     -- no insert is owed
     pub not_promised : s.promised ≡ 0
     -- where old places take no memory, no old one is vacant
-    pub at_peak : given.reuses ≡ true → used s ≡ s.peak
+    pub at_peak : reuses ≡ true → used s ≡ s.peak
 
   -- a reserve of n may be refused for memory
-  pub record MayLackRoom (s : State V) (n : ℕ) : Type 0 where
+  pub record MayLackRoom (n : ℕ) : Type 0 where
     -- so many places are left
     pub within_limit : used s + n ≤ most
     -- fewer inserts and reattaches are owed
     pub beyond_promise : s.promised < n
     -- where old places take no memory, fewer old ones are vacant
-    pub beyond_peak : given.reuses ≡ true → s.peak < used s + n
+    pub beyond_peak : reuses ≡ true → s.peak < used s + n
 
+module _ {K V R E : Type 0} (given : Given K V R E) where
   -- a fresh key is answered, and bound to v; `Full` comes exactly where no place is left; both refusals have v
   abbrev pub StepInsert : State V → V → Reply K V R E → State V → Type 0
   StepInsert old v (reply.Key k) new = (used old ≢ most) × Fresh old (given.data_of k) × (new ≡ after_insert old (given.data_of k) v)
   StepInsert old v (reply.Full back) new = (used old ≡ most) × (back ≡ Some v) × (new ≡ old)
-  StepInsert old v (reply.Memory back) new = MayLackMemory old × (back ≡ Some v) × (new ≡ old)
+  StepInsert old v (reply.Memory back) new = MayLackMemory given.reuses old × (back ≡ Some v) × (new ≡ old)
   StepInsert old v _ new = ⊥
 
   -- the same with a value that `make` may give for the key; or an error that it may give for a fresh key
   abbrev pub StepInsertWith : State V → Reply K V R E → State V → Type 0
   StepInsertWith old (reply.Key k) new = (used old ≢ most) × Fresh old (given.data_of k) × ((v : V) × given.makes k (Ok v) × (new ≡ after_insert old (given.data_of k) v))
   StepInsertWith old (reply.Full back) new = (used old ≡ most) × (back ≡ None) × (new ≡ old)
-  StepInsertWith old (reply.Memory back) new = MayLackMemory old × (back ≡ None) × (new ≡ old)
+  StepInsertWith old (reply.Memory back) new = MayLackMemory given.reuses old × (back ≡ None) × (new ≡ old)
   StepInsertWith old (reply.Failed e) new = (used old ≢ most) × ((k : K) × Fresh old (given.data_of k) × given.makes k (Err e)) × (new ≡ old)
   StepInsertWith old _ new = ⊥
 
@@ -53,7 +54,7 @@ module _ {K V R E : Type 0} (given : Given K V R E) where
   abbrev pub StepReserve : State V → ℕ → Reply K V R E → State V → Type 0
   StepReserve old n reply.Done new = (used old + n ≤ most) × (new ≡ after_reserve old n)
   StepReserve old n reply.TooGreat new = (most < used old + n) × (new ≡ old)
-  StepReserve old n (reply.Memory back) new = MayLackRoom old n × (back ≡ None) × (new ≡ old)
+  StepReserve old n (reply.Memory back) new = MayLackRoom given.reuses old n × (back ≡ None) × (new ≡ old)
   StepReserve old n _ new = ⊥
 
   -- what `look` may answer at k's value, exactly where k is live

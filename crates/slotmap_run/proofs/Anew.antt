@@ -1,16 +1,19 @@
--- A run of calls on a map is a run of the machine from some good state.
-use Rattle.std.proofs.Common.{◌≡◌, ◌+◌, ◌<◌, ◌^◌, Bool, List, length, ◌⊎◌, ◌∙◌, arith}
-use Rattle.slotmap_core.specs.Key.{Key}
+-- Calls that each owe a step are a run of the machine, from a state of which its laws hold.
+use Rattle.std.proofs.Common.{◌≡◌, ◌+◌, ◌<◌, ◌^◌, Bool, List, ◌++◌, length, ◌∙◌, arith}
+use Rattle.std.specs.FinSet as set
 use Rattle.slotmap_core.specs.Content.{Content, IsContent}
 use Rattle.slotmap_core.specs.Transition.{IsNew}
-use Rattle.slotmap_core.specs.Machine.{State, empty_state}
+use Rattle.slotmap_core.specs.Machine.{State, empty_state, retired}
 use Rattle.slotmap_core.specs.Run.{Run, Unretiring}
-use Rattle.slotmap_core.specs.Fit.{RunFollows, RunsAnew}
-use Rattle.slotmap_core.specs.declared.commands.Reply.{Reply}
+use Rattle.slotmap_core.specs.Fit.{Follows, Starts, RunFollows, RunsAnew, Continues}
 use Rattle.slotmap_run.proofs.Some.{first_state, first_fits, first_good}
 use Rattle.slotmap_run.proofs.Fits.{new_fits}
 use Rattle.slotmap_run.proofs.Lasts.{new_lasts}
-use Rattle.slotmap_run.proofs.Laws.{Binds, Shrinks, IsGood, empty_good, unretired}
+use Rattle.slotmap_run.proofs.Runs.{run_seen, runs_follow, goes_on, goes_on_anew}
+use Rattle.slotmap_run.proofs.Laws.{IsGood, empty_good}
+
+pub starts : {V : Type 0} (reuses : Bool) (c : Content V) → IsContent reuses c → Starts reuses c
+starts reuses c ok = record { valid = ok; state = first_state reuses c ok; fits = first_fits reuses c ok }
 
 module _ {V C R : Type 0} (Step : State V → C → R → State V → Type 0) (cs : List C) (rs : List R) where
   -- the replies are a run from a state of which the laws hold
@@ -20,23 +23,69 @@ module _ {V C R : Type 0} (Step : State V → C → R → State V → Type 0) (c
     pub last : State V
     pub run : Run Step first cs rs last
 
-  module _ (old new : Content V) where
-    pub anew : IsNew old → RunFollows Step old cs rs new → RunsAnew Step cs rs new
-    anew start follows = follows.run empty_state (new_fits old start)
+  well_anew : (new : Content V) → RunsAnew Step cs rs new → RunsWell
+  well_anew new run = record { first = empty_state; good = empty_good; last = run.0; run = run.1 }
 
-    pub well_anew : IsNew old → RunFollows Step old cs rs new → RunsWell
-    well_anew start follows = let run = anew start follows in record { first = empty_state; good = empty_good; last = run.0; run = run.1 }
+  well_from : (reuses : Bool) (old new : Content V) → IsContent reuses old → RunFollows Step old cs rs new → RunsWell
+  well_from reuses old new ok follows =
+      let run = follows.run (first_state reuses old ok) (first_fits reuses old ok) in
+      record { first = first_state reuses old ok; good = first_good reuses old ok; last = run.0; run = run.1 }
 
-    pub well_from : (reuses : Bool) → IsContent reuses old → RunFollows Step old cs rs new → RunsWell
-    well_from reuses ok follows =
-        let run = follows.run (first_state reuses old ok) (first_fits reuses old ok) in
-        record { first = first_state reuses old ok; good = first_good reuses old ok; last = run.0; run = run.1 }
+-- a machine whose closures may do anything beside one with closures, and what follows from their runs
+pub record IsLawful {V C R : Type 0} (Step Any : State V → C → R → State V → Type 0) (Laws : List C → List R → Type 0) : Type 0 where
+  pub freely : (old : State V) (c : C) (r : R) (new : State V) → Step old c r new → Any old c r new
+  pub laws : (cs : List C) (rs : List R) → RunsWell Any cs rs → Laws cs rs
+  -- where nothing is retired at the end, nothing ever was
+  pub unretired : (cs : List C) (rs : List R) (s t : State V) → Run Step s cs rs t → retired t ≡ set.empty → Run (Unretiring Step) s cs rs t
 
-module _ {K V R E C : Type 0} (data_of : K → Key) (Step : State V → C → Reply K V R E → State V → Type 0)
-    (cases : (old : State V) (c : C) (r : Reply K V R E) (new : State V) → Step old c r new → Binds data_of old r new ⊎ Shrinks data_of old r new) (cs : List C) (rs : List (Reply K V R E)) where
-  pub anew_unretired : (old new : Content V) → IsNew old → RunFollows Step old cs rs new → length cs < 2 ^ 32 → RunsAnew (Unretiring Step) cs rs new
-  anew_unretired old new start follows few =
-      let run = anew Step cs rs old new start follows in
-      let same : length cs + 0 ≡ length cs = omega arith in
-      let lasts = follows.lasts 0 (rw same (new_lasts old (length cs) start few)) in
-      (run.0, unretired data_of Step cases cs rs empty_state run.0 run.1 (run.2.retired ∙ lasts.unretired), run.2)
+module _ {V C R : Type 0} {Step Any : State V → C → R → State V → Type 0} {Laws : List C → List R → Type 0} (machine : IsLawful Step Any Laws) (cs : List C) (rs : List R) where
+  follows_freely : (old new : Content V) → RunFollows Step old cs rs new → RunFollows Any old cs rs new
+  follows_freely old new follows = record {
+    run = λ s fits. let run = follows.run s fits in (run.0, run_seen Step Any (λ s. s) machine.freely cs rs s run.0 run.1, run.2);
+    lasts = follows.lasts;
+  }
+
+  -- what is promised of calls on a map
+  pub record Ran (reuses : Bool) (old new : Content V) : Type 0 where
+    pub run : RunFollows Step old cs rs new
+    pub goes_on : RunFollows Any old cs rs new
+    pub continues : Continues Any Laws reuses old cs rs new
+    pub laws : Laws cs rs
+
+  pub ran : (reuses : Bool) (old new : Content V) → IsContent reuses old → Run (Follows Step) old cs rs new → Ran reuses old new
+  ran reuses old new ok served =
+      let follows = runs_follow Step cs rs old new served in
+      let free = follows_freely old new follows in
+      record {
+        run = follows;
+        goes_on = free;
+        continues = record {
+          run = λ first earlier told before. goes_on Any old new cs rs free earlier told first before;
+          laws = λ first earlier told start before. machine.laws (earlier ++ cs) (told ++ rs) (well_from Any (earlier ++ cs) (told ++ rs) reuses first new start.valid (goes_on Any old new cs rs free earlier told first before));
+          anew = λ earlier told before. goes_on_anew Any old new cs rs free earlier told before;
+          laws_anew = λ earlier told before. machine.laws (earlier ++ cs) (told ++ rs) (well_anew Any (earlier ++ cs) (told ++ rs) new (goes_on_anew Any old new cs rs free earlier told before));
+        };
+        laws = machine.laws cs rs (well_from Any cs rs reuses old new ok free);
+      }
+
+  -- what is promised of calls on a new map
+  pub record RanAnew (new : Content V) : Type 0 where
+    pub run : RunsAnew Step cs rs new
+    pub none_retired : length cs < 2 ^ 32 → RunsAnew (Unretiring Step) cs rs new
+    pub goes_on : RunsAnew Any cs rs new
+    pub laws : Laws cs rs
+
+  pub ran_anew : (old new : Content V) → IsNew old → Run (Follows Step) old cs rs new → RanAnew new
+  ran_anew old new start served =
+      let follows = runs_follow Step cs rs old new served in
+      let run = follows.run empty_state (new_fits old start) in
+      let free = (follows_freely old new follows).run empty_state (new_fits old start) in
+      record {
+        run = run;
+        none_retired = λ few.
+            let same : length cs + 0 ≡ length cs = omega arith in
+            let lasts = follows.lasts 0 (rw same (new_lasts old (length cs) start few)) in
+            (run.0, machine.unretired cs rs empty_state run.0 run.1 (run.2.retired ∙ lasts.unretired), run.2);
+        goes_on = free;
+        laws = machine.laws cs rs (well_anew Any cs rs new free);
+      }

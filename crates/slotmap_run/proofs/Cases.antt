@@ -16,7 +16,7 @@ use Rattle.slotmap_core.specs.declared.commands.Reply.TheVariants as reply
 use Rattle.slotmap_core.specs.Law.{reply_keys, Spares}
 use Rattle.slotmap_core.proofs.KeyLemmas.{keys_total, exact_keys}
 use Rattle.slotmap_core.proofs.Maps.{in_after_insert, in_after_remove, item_after_insert, item_after_remove, item_still, item_left}
-use Rattle.slotmap_run.proofs.Laws.{Binds, Shrinks}
+use Rattle.slotmap_run.proofs.Laws.{Binds, Shrinks, IsMachine}
 
 none_in_empty : (V : Type 0) (k : Key) → map.contains_key (map.empty {X = V} {R = key_cmp}) k ≡ true → ⊥
 none_in_empty V k h = let none : map.contains_key (map.empty {X = V} {R = key_cmp}) k ≡ false = ap is_some (map.get-empty key_cmp k) in absurd (cc)
@@ -107,7 +107,7 @@ module _ {K V R E : Type 0} (given : Given K V R E) where
   quiet_cases old (command.Reserve n) (reply.Memory b) new h = inr (stays given.data_of old new (reply.Memory b) refl h.2)
   quiet_cases old _ _ new h = absurd h
 
-  pub step_cases : (old : State V) (c : Command K V) (r : Reply K V R E) (new : State V) → Step given old c r new → Binds given.data_of old r new ⊎ Shrinks given.data_of old r new
+  step_cases : (old : State V) (c : Command K V) (r : Reply K V R E) (new : State V) → Step given old c r new → Binds given.data_of old r new ⊎ Shrinks given.data_of old r new
   step_cases old c r new h = ⊎_elim (λ b. inl b) (λ q. inr q.shrinks) (quiet_cases old c r new h)
 
   -- a step of the plain machine leaves the detached keys
@@ -124,7 +124,7 @@ module _ {K V R E : Type 0} (given : Given K V R E) where
   detached_stays k old (detaching.Reattach q v) (reply.Memory b) new spares h was = rw h.4 was
   detached_stays k old _ _ new spares h was = absurd h
 
-  pub detach_cases : (old : State V) (c : DetachCommand K V) (r : Reply K V R E) (new : State V) → DetachStep given old c r new → Binds given.data_of old r new ⊎ Shrinks given.data_of old r new
+  detach_cases : (old : State V) (c : DetachCommand K V) (r : Reply K V R E) (new : State V) → DetachStep given old c r new → Binds given.data_of old r new ⊎ Shrinks given.data_of old r new
   detach_cases old (detaching.Plain c) r new h = step_cases old c r new h
   detach_cases old (detaching.Detach k) (reply.Taken (Some v)) new h = inr (sets_aside given.data_of old new (reply.Taken (Some v)) refl (given.data_of k) (ap is_some h.0) h.1)
   detach_cases old (detaching.Detach k) (reply.Taken None) new h = inr (stays given.data_of old new (reply.Taken None) refl h.1).shrinks
@@ -132,3 +132,10 @@ module _ {K V R E : Type 0} (given : Given K V R E) where
   detach_cases old (detaching.Reattach k v) (reply.NotDetached b) new h = inr (stays given.data_of old new (reply.NotDetached b) refl h.2).shrinks
   detach_cases old (detaching.Reattach k v) (reply.Memory b) new h = inr (stays given.data_of old new (reply.Memory b) refl h.4).shrinks
   detach_cases old _ _ new h = absurd h
+
+  -- the two machines of primary maps
+  pub plain_machine : IsMachine given (Step given) (λ command. command)
+  plain_machine = record { cases = step_cases; plainly = λ old c r new step. step }
+
+  pub detach_machine : IsMachine given (DetachStep given) detaching.Plain
+  detach_machine = record { cases = detach_cases; plainly = λ old c r new step. step }

@@ -16,13 +16,13 @@ use Rattle.slotmap_core.specs.Law.{keys_told, DetachedNotReissued, DetachedReatt
 use Rattle.slotmap_core.proofs.KeyLemmas.{keys_total, exact_keys}
 use Rattle.slotmap_core.proofs.Maps.{item_inserted, get_inserted}
 use Rattle.slotmap_run.proofs.Laws.{IsGood, good_stays, told_new, weaker}
-use Rattle.slotmap_run.proofs.Cases.{detach_cases, detached_stays}
+use Rattle.slotmap_run.proofs.Cases.{detach_machine, detached_stays}
 use Rattle.slotmap_run.proofs.Runs.{run_split, run_keeps, run_keeps_by}
 use Rattle.slotmap_run.proofs.Anew.{RunsWell}
 
 module _ {K V R E : Type 0} (given : Given K V R E) where
   good_at : (cs : List (DetachCommand K V)) (rs : List (Reply K V R E)) (s t : State V) → IsGood s → Run (DetachStep given) s cs rs t → IsGood t
-  good_at cs rs s t good run = run_keeps (DetachStep given) IsGood (good_stays given.data_of (DetachStep given) (detach_cases given)) cs rs s t run good
+  good_at cs rs s t good run = run_keeps (DetachStep given) IsGood (good_stays (detach_machine given)) cs rs s t run good
 
   pub detached_not_reissued : (commands : List (DetachCommand K V)) (replies : List (Reply K V R E)) → RunsWell (DetachStep given) commands replies → DetachedNotReissued given.data_of commands replies
   detached_not_reissued commands replies well cs ds rs ss key v e is js =
@@ -30,7 +30,7 @@ module _ {K V R E : Type 0} (given : Given K V R E) where
       let first = run_split (DetachStep given) cs rs (detaching.Detach key) (reply.Taken (Some v)) ds ss well.first well.last e run in
       let issued : IsIssued first.0 (given.data_of key) = (good_at cs rs well.first first.0 well.good first.2).held_issued (given.data_of key) (inl (ap is_some first.3.0)) in
       let still : IsIssued first.1 (given.data_of key) = rw first.3.1 issued in
-      weaker (λ q h e. h (rw e still)) (keys_told given.data_of ss) (told_new given.data_of (DetachStep given) (detach_cases given) ds ss first.1 well.last first.4).0
+      weaker (λ q h e. h (rw e still)) (keys_told given.data_of ss) (told_new (detach_machine given) ds ss first.1 well.last first.4).0
 
   answered : (old : State V) (key : K) (w : V) (answer : Reply K V R E) (new : State V) → set.contains old.detached (given.data_of key) ≡ true → DetachStep given old (detaching.Reattach key w) answer new → (answer ≡ reply.Done) ⊎ ((given.reuses ≡ false) × (answer ≡ reply.Memory (Some w)))
   answered old key w reply.Done new h step = inl refl

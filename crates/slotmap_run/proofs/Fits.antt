@@ -11,8 +11,8 @@ use Rattle.slotmap_core.specs.Machine.{State, IsIssued, IsHeld, Fresh, after_ins
 use Rattle.slotmap_core.specs.Fit.{Fits}
 use Rattle.slotmap_core.proofs.KeyLemmas.{keys_total, exact_keys}
 use Rattle.slotmap_core.proofs.Maps.{in_after_insert, in_inserted, still_in, item_after_insert, item_inserted, item_still}
-use Rattle.slotmap_run.proofs.Places.{vacant_of, offer_free, free, places_grow}
-use Rattle.slotmap_run.proofs.Stands.{Vacates, new_stands, inserted_stands, inserted_vacant}
+use Rattle.slotmap_core.proofs.PlaceCount.{vacant_of, offer_free, free, places_grow}
+use Rattle.slotmap_core.proofs.Standing.{Vacates, new_stands, inserted_stands, inserted_vacant}
 use Rattle.slotmap_core.proofs.Retired.{Spent, spent_of_retired, retired_of_spent, retired_is}
 
 module _ {V : Type 0} (reuses : Bool) (s : State V) (old new : Content V) (ok : IsContent reuses old) (fits : Fits s old) where

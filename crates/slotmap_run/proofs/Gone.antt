@@ -1,10 +1,9 @@
 -- A key that was removed is gone.
-use Rattle.std.proofs.Common.{◌≡◌, List, ◌∷◌, ◌++◌, Some, None, true, ◌⊎◌, inl, inr, refl, ap, is_some}
+use Rattle.std.proofs.Common.{◌≡◌, List, ◌∷◌, ◌++◌, Some, None, true, inl, inr, refl, ap, is_some}
 use Rattle.std.specs.FinMap as map
 use Rattle.slotmap_core.specs.Key.{Key}
 use Rattle.slotmap_core.specs.Machine.{State, after_remove}
 use Rattle.slotmap_core.specs.Given.{Given}
-use Rattle.slotmap_core.specs.Step.{Step}
 use Rattle.slotmap_core.specs.Run.{Run}
 use Rattle.slotmap_core.specs.declared.commands.Command.{Command}
 use Rattle.slotmap_core.specs.declared.commands.Command.TheVariants as command
@@ -13,13 +12,11 @@ use Rattle.slotmap_core.specs.declared.commands.Reply.TheVariants as reply
 use Rattle.slotmap_core.specs.Law.{RemovedForGood}
 use Rattle.slotmap_core.proofs.KeyLemmas.{keys_total, exact_keys}
 use Rattle.slotmap_core.proofs.Maps.{in_after_remove}
-use Rattle.slotmap_run.proofs.Laws.{Binds, Shrinks, Gone, IsGood, good_stays, gone_stays}
+use Rattle.slotmap_run.proofs.Laws.{IsMachine, Gone, IsGood, good_stays, gone_stays}
 use Rattle.slotmap_run.proofs.Runs.{run_split, run_keeps}
 use Rattle.slotmap_run.proofs.Anew.{RunsWell}
 
-module _ {K V R E C : Type 0} (given : Given K V R E) (Machine : State V → C → Reply K V R E → State V → Type 0)
-    (cases : (old : State V) (c : C) (r : Reply K V R E) (new : State V) → Machine old c r new → Binds given.data_of old r new ⊎ Shrinks given.data_of old r new)
-    (of : Command K V → C) (plainly : (old : State V) (c : Command K V) (r : Reply K V R E) (new : State V) → Machine old (of c) r new → Step given old c r new) where
+module _ {K V R E C : Type 0} {given : Given K V R E} {Machine : State V → C → Reply K V R E → State V → Type 0} {of : Command K V → C} (m : IsMachine given Machine of) where
   -- in a good state, a key that is removed is gone
   goes : (old new : State V) (k : Key) (v : V) → IsGood old → map.get old.live k ≡ Some v → new ≡ after_remove old k → Gone new k
   goes old new k v good found is = rw is (record {
@@ -37,10 +34,10 @@ module _ {K V R E C : Type 0} (given : Given K V R E) (Machine : State V → C �
       let run : Run Machine well.first (cs ++ of (command.Remove key) ∷ (ds ++ of (command.Get key) ∷ es)) (rs ++ reply.Taken (Some v) ∷ (ss ++ reply.Looked (Some seen) ∷ us)) well.last = rw (← is, ← js) well.run in
       let first = run_split Machine cs rs (of (command.Remove key)) (reply.Taken (Some v)) (ds ++ of (command.Get key) ∷ es) (ss ++ reply.Looked (Some seen) ∷ us) well.first well.last e run in
       let second = run_split Machine ds ss (of (command.Get key)) (reply.Looked (Some seen)) es us first.1 well.last f first.4 in
-      let good = run_keeps Machine IsGood (good_stays given.data_of Machine cases) cs rs well.first first.0 first.2 well.good in
-      let removes = plainly first.0 (command.Remove key) (reply.Taken (Some v)) first.1 first.3 in
-      let gets = plainly second.0 (command.Get key) (reply.Looked (Some seen)) second.1 second.3 in
-      let then = run_keeps Machine (λ s. Gone s (given.data_of key)) (gone_stays given.data_of Machine cases (given.data_of key)) ds ss first.1 second.0 second.2
+      let good = run_keeps Machine IsGood (good_stays m) cs rs well.first first.0 first.2 well.good in
+      let removes = m.plainly first.0 (command.Remove key) (reply.Taken (Some v)) first.1 first.3 in
+      let gets = m.plainly second.0 (command.Get key) (reply.Looked (Some seen)) second.1 second.3 in
+      let then = run_keeps Machine (λ s. Gone s (given.data_of key)) (gone_stays m (given.data_of key)) ds ss first.1 second.0 second.2
       (goes first.0 first.1 (given.data_of key) v good removes.0 removes.1) in
       let live : map.contains_key second.0.live (given.data_of key) ≡ true = ap is_some gets.0.1 in
       absurd (then.not_held (inl live))

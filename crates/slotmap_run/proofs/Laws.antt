@@ -7,6 +7,9 @@ use Rattle.slotmap_core.specs.Key.{Key, key_cmp}
 use Rattle.slotmap_core.specs.Content.{most}
 use Rattle.slotmap_core.specs.Machine.{State, IsIssued, IsHeld, Fresh, after_insert, empty_state, retired, used}
 use Rattle.slotmap_core.specs.Run.{Run, Unretiring}
+use Rattle.slotmap_core.specs.Given.{Given}
+use Rattle.slotmap_core.specs.Step as plain
+use Rattle.slotmap_core.specs.declared.commands.Command.{Command}
 use Rattle.slotmap_core.specs.declared.commands.Reply.{Reply}
 use Rattle.slotmap_core.specs.Law.{reply_keys, keys_told, NoKeyTwice}
 use Rattle.slotmap_core.proofs.KeyLemmas.{keys_total, exact_keys, tied}
@@ -80,86 +83,91 @@ module _ {K V R E : Type 0} (data_of : K → Key) where
     -- what is newly promised doesn't pass the limit
     pub within : used old + old.promised ≤ most → used old + new.promised ≤ most
 
-  module _ {C : Type 0} (Step : State V → C → Reply K V R E → State V → Type 0)
-      (cases : (old : State V) (c : C) (r : Reply K V R E) (new : State V) → Step old c r new → Binds old r new ⊎ Shrinks old r new) where
-    issued_stays : (old : State V) (c : C) (r : Reply K V R E) (new : State V) → Step old c r new → (k : Key) → IsIssued old k → IsIssued new k
-    issued_stays old c r new step k h = elim (cases old c r new step) [
-      | inl b ↦ rw b.is (item_still keys_total exact_keys old.issued b.key k h)
-      | inr s ↦ rw s.issued h
-    ]
+-- A machine of primary maps: each step binds a fresh key, or binds none, and its steps at plain commands are the
+-- plain machine's (`of` makes a command of this machine from a plain one)
+pub record IsMachine {K V R E C : Type 0} (given : Given K V R E) (Step : State V → C → Reply K V R E → State V → Type 0) (of : Command K V → C) : Type 0 where
+  pub cases : (old : State V) (c : C) (r : Reply K V R E) (new : State V) → Step old c r new → Binds given.data_of old r new ⊎ Shrinks given.data_of old r new
+  pub plainly : (old : State V) (c : Command K V) (r : Reply K V R E) (new : State V) → Step old (of c) r new → plain.Step given old c r new
 
-    pub good_stays : (old : State V) (c : C) (r : Reply K V R E) (new : State V) → Step old c r new → IsGood old → IsGood new
-    good_stays old c r new step good = elim (cases old c r new step) [
-      | inl b ↦ rw b.is (record {
-        held_issued = λ k h. elim (bound_held old b.key b.value k h) [
-          | inl e ↦ rw e (item_inserted keys_total exact_keys old.issued b.key)
-          | inr g ↦ item_still keys_total exact_keys old.issued b.key k (good.held_issued k g)
-        ];
-        apart = apart_after old b.key b.value good.apart b.fresh;
-        within = let grows = one_more_used old b.key b.value good.apart b.fresh in let below = b.below_limit in let owed = good.within in omega arith;
-      })
-      | inr s ↦ record {
-        held_issued = λ k h. rw s.issued (good.held_issued k (s.held k h));
-        apart = s.apart good.apart;
-        within = let fewer = no_more_used old new good.apart (s.apart good.apart) s.issued s.held in let owed = s.within good.within in omega arith;
-      }
-    ]
+module _ {K V R E C : Type 0} {given : Given K V R E} {Step : State V → C → Reply K V R E → State V → Type 0} {of : Command K V → C} (m : IsMachine given Step of) where
+  issued_stays : (old : State V) (c : C) (r : Reply K V R E) (new : State V) → Step old c r new → (k : Key) → IsIssued old k → IsIssued new k
+  issued_stays old c r new step k h = elim (m.cases old c r new step) [
+    | inl b ↦ rw b.is (item_still keys_total exact_keys old.issued b.key k h)
+    | inr s ↦ rw s.issued h
+  ]
 
-    pub gone_stays : (k : Key) (old : State V) (c : C) (r : Reply K V R E) (new : State V) → Step old c r new → Gone old k → Gone new k
-    gone_stays k old c r new step gone = record {
-      not_held = elim (cases old c r new step) [
-        | inl b ↦ λ h. ⊎_elim (λ e. not_issued old b.key b.fresh (rw (← e) gone.issued)) gone.not_held (bound_held old b.key b.value k (subst (λ (x : State V). IsHeld x k) b.is h))
-        | inr s ↦ λ h. gone.not_held (s.held k h)
+  pub good_stays : (old : State V) (c : C) (r : Reply K V R E) (new : State V) → Step old c r new → IsGood old → IsGood new
+  good_stays old c r new step good = elim (m.cases old c r new step) [
+    | inl b ↦ rw b.is (record {
+      held_issued = λ k h. elim (bound_held old b.key b.value k h) [
+        | inl e ↦ rw e (item_inserted keys_total exact_keys old.issued b.key)
+        | inr g ↦ item_still keys_total exact_keys old.issued b.key k (good.held_issued k g)
       ];
-      issued = issued_stays old c r new step k gone.issued;
+      apart = apart_after old b.key b.value good.apart b.fresh;
+      within = let grows = one_more_used old b.key b.value good.apart b.fresh in let below = b.below_limit in let owed = good.within in omega arith;
+    })
+    | inr s ↦ record {
+      held_issued = λ k h. rw s.issued (good.held_issued k (s.held k h));
+      apart = s.apart good.apart;
+      within = let fewer = no_more_used old new good.apart (s.apart good.apart) s.issued s.held in let owed = s.within good.within in omega arith;
     }
+  ]
 
-    -- a step lowers what is promised by at most 1, a run of n by at most n
-    pub still_promised : (cs : List C) (rs : List (Reply K V R E)) (s t : State V) → Run Step s cs rs t → s.promised ≤ t.promised + length cs
-    still_promised [] [] s t run = rw run (omega arith)
-    still_promised [] (r ∷ rs) s t run = absurd run
-    still_promised (c ∷ cs) [] s t run = absurd run
-    still_promised (c ∷ cs) (r ∷ rs) s t run =
-        let rest = still_promised cs rs run.0 t run.2 in
-        elim (cases s c r run.0 run.1) [
-          | inl b ↦ let is : run.0.promised ≡ s.promised - 1 = ap (λ (u : State V). u.promised) b.is in omega arith
-          | inr n ↦ let less = n.promised in omega arith
-        ]
+  pub gone_stays : (k : Key) (old : State V) (c : C) (r : Reply K V R E) (new : State V) → Step old c r new → Gone old k → Gone new k
+  gone_stays k old c r new step gone = record {
+    not_held = elim (m.cases old c r new step) [
+      | inl b ↦ λ h. ⊎_elim (λ e. not_issued old b.key b.fresh (rw (← e) gone.issued)) gone.not_held (bound_held old b.key b.value k (subst (λ (x : State V). IsHeld x k) b.is h))
+      | inr s ↦ λ h. gone.not_held (s.held k h)
+    ];
+    issued = issued_stays old c r new step k gone.issued;
+  }
 
-    -- no key that the replies answer was issued before them, and they answer none twice
-    pub told_new : (cs : List C) (rs : List (Reply K V R E)) (s t : State V) → Run Step s cs rs t → AllByRecursion (λ q. IsIssued s q → ⊥) (keys_told data_of rs) × NoKeyTwice data_of rs
-    unfolding IsDistinct
-    told_new [] [] s t run = (tt, tt)
-    told_new [] (r ∷ rs) s t run = absurd run
-    told_new (c ∷ cs) [] s t run = absurd run
-    told_new (c ∷ cs) (r ∷ rs) s t run =
-        let rest = told_new cs rs run.0 t run.2 in
-        elim (cases s c r run.0 run.1) [
-          | inl b ↦ rw b.tells (
-            (not_issued s b.key b.fresh, weaker (λ q h g. h (issued_stays s c r run.0 run.1 q g)) (keys_told data_of rs) rest.0),
-            (weaker (λ q h. false_of _ (λ e. h (rw (b.is, ← tied keys_total exact_keys b.key q e) (item_inserted keys_total exact_keys s.issued b.key)))) (keys_told data_of rs) rest.0, rest.1),
-          )
-          | inr n ↦ rw n.tells (weaker (λ q h g. h (issued_stays s c r run.0 run.1 q g)) (keys_told data_of rs) rest.0, rest.1)
-        ]
+  -- a step lowers what is promised by at most 1, a run of n by at most n
+  pub still_promised : (cs : List C) (rs : List (Reply K V R E)) (s t : State V) → Run Step s cs rs t → s.promised ≤ t.promised + length cs
+  still_promised [] [] s t run = rw run (omega arith)
+  still_promised [] (r ∷ rs) s t run = absurd run
+  still_promised (c ∷ cs) [] s t run = absurd run
+  still_promised (c ∷ cs) (r ∷ rs) s t run =
+      let rest = still_promised cs rs run.0 t run.2 in
+      elim (m.cases s c r run.0 run.1) [
+        | inl b ↦ let is : run.0.promised ≡ s.promised - 1 = ap (λ (u : State V). u.promised) b.is in omega arith
+        | inr n ↦ let less = n.promised in omega arith
+      ]
 
-    pub retired_stays : (k : Key) (old : State V) (c : C) (r : Reply K V R E) (new : State V) → Step old c r new → set.contains (retired old) k ≡ true → set.contains (retired new) k ≡ true
-    retired_stays k old c r new step h =
-        let was = spent_of_retired old k h in
-        let gone = gone_stays k old c r new step (record { not_held = was.not_held; issued = was.issued }) in
-        retired_of_spent new k (record { issued = gone.issued; last = was.last; not_held = gone.not_held })
+  -- no key that the replies answer was issued before them, and they answer none twice
+  pub told_new : (cs : List C) (rs : List (Reply K V R E)) (s t : State V) → Run Step s cs rs t → AllByRecursion (λ q. IsIssued s q → ⊥) (keys_told given.data_of rs) × NoKeyTwice given.data_of rs
+  unfolding IsDistinct
+  told_new [] [] s t run = (tt, tt)
+  told_new [] (r ∷ rs) s t run = absurd run
+  told_new (c ∷ cs) [] s t run = absurd run
+  told_new (c ∷ cs) (r ∷ rs) s t run =
+      let rest = told_new cs rs run.0 t run.2 in
+      elim (m.cases s c r run.0 run.1) [
+        | inl b ↦ rw b.tells (
+          (not_issued s b.key b.fresh, weaker (λ q h g. h (issued_stays s c r run.0 run.1 q g)) (keys_told given.data_of rs) rest.0),
+          (weaker (λ q h. false_of _ (λ e. h (rw (b.is, ← tied keys_total exact_keys b.key q e) (item_inserted keys_total exact_keys s.issued b.key)))) (keys_told given.data_of rs) rest.0, rest.1),
+        )
+        | inr n ↦ rw n.tells (weaker (λ q h g. h (issued_stays s c r run.0 run.1 q g)) (keys_told given.data_of rs) rest.0, rest.1)
+      ]
 
-    -- where nothing is retired at the end, nothing ever was
-    pub unretired : (cs : List C) (rs : List (Reply K V R E)) (s t : State V) → Run Step s cs rs t → retired t ≡ set.empty → Run (Unretiring Step) s cs rs t
-    unretired [] [] s t run none = run
-    unretired [] (r ∷ rs) s t run none = absurd run
-    unretired (c ∷ cs) [] s t run none = absurd run
-    unretired (c ∷ cs) (r ∷ rs) s t run none = (
-      run.0,
-      (
-        run.1,
-        set.same_set keys_total exact_keys (retired run.0) set.empty (λ k. false_of _ (λ h.
-            let still = run_keeps Step (λ u. set.contains (retired u) k ≡ true) (retired_stays k) cs rs run.0 t run.2 h in
-            let nothing : set.contains (retired t) k ≡ false = ap (λ (d : set.FinSet key_cmp). set.contains d k) none ∙ set.contains-empty key_cmp k in absurd (cc)) ∙ sym (set.contains-empty key_cmp k)),
-      ),
-      unretired cs rs run.0 t run.2 none,
-    )
+  pub retired_stays : (k : Key) (old : State V) (c : C) (r : Reply K V R E) (new : State V) → Step old c r new → set.contains (retired old) k ≡ true → set.contains (retired new) k ≡ true
+  retired_stays k old c r new step h =
+      let was = spent_of_retired old k h in
+      let gone = gone_stays k old c r new step (record { not_held = was.not_held; issued = was.issued }) in
+      retired_of_spent new k (record { issued = gone.issued; last = was.last; not_held = gone.not_held })
+
+  -- where nothing is retired at the end, nothing ever was
+  pub unretired : (cs : List C) (rs : List (Reply K V R E)) (s t : State V) → Run Step s cs rs t → retired t ≡ set.empty → Run (Unretiring Step) s cs rs t
+  unretired [] [] s t run none = run
+  unretired [] (r ∷ rs) s t run none = absurd run
+  unretired (c ∷ cs) [] s t run none = absurd run
+  unretired (c ∷ cs) (r ∷ rs) s t run none = (
+    run.0,
+    (
+      run.1,
+      set.same_set keys_total exact_keys (retired run.0) set.empty (λ k. false_of _ (λ h.
+          let still = run_keeps Step (λ u. set.contains (retired u) k ≡ true) (retired_stays k) cs rs run.0 t run.2 h in
+          let nothing : set.contains (retired t) k ≡ false = ap (λ (d : set.FinSet key_cmp). set.contains d k) none ∙ set.contains-empty key_cmp k in absurd (cc)) ∙ sym (set.contains-empty key_cmp k)),
+    ),
+    unretired cs rs run.0 t run.2 none,
+  )

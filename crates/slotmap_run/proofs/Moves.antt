@@ -9,9 +9,9 @@ use Rattle.slotmap_core.specs.Machine.{State, IsHeld, after_remove, after_replac
 use Rattle.slotmap_core.specs.Fit.{Fits}
 use Rattle.slotmap_core.proofs.KeyLemmas.{keys_total, exact_keys, same_or_other}
 use Rattle.slotmap_core.proofs.Maps.{of_and, of_or, of_not, not_of, or_left, or_right, in_after_insert, in_after_remove, in_inserted, still_in, left_in, item_after_insert, item_inserted, item_still, item_after_remove, item_left}
-use Rattle.slotmap_run.proofs.Stands.{same_vacant, kept_stands, replaced_stands, detached_stands, reattached_stands, removed_stands, removed_vacant, left_stands, left_vacant}
+use Rattle.slotmap_core.proofs.Standing.{same_vacant, kept_stands, replaced_stands, detached_stands, reattached_stands, removed_stands, removed_vacant, left_stands, left_vacant}
 use Rattle.slotmap_core.proofs.Retired.{retired_is, retired_same, in_spent, spent_itself, spent_still}
-use Rattle.slotmap_run.proofs.Places.{kept_places, replaced_places, detached_places, reattached_places, removed_places}
+use Rattle.slotmap_core.proofs.PlaceCount.{kept_places, replaced_places, detached_places, reattached_places, removed_places}
 use Rattle.slotmap_run.proofs.Fits.{was_spent, was_retired, less_fits}
 
 module _ {V : Type 0} (reuses : Bool) (s : State V) (old new : Content V) (ok : IsContent reuses old) (fits : Fits s old) where

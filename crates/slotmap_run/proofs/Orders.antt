@@ -22,7 +22,7 @@ use Rattle.slotmap_core.specs.declared.commands.DetachCommand.{DetachCommand}
 use Rattle.slotmap_core.specs.declared.commands.Reply.{Reply}
 use Rattle.slotmap_run.specs.Order.{IsLifo, Orders}
 use Rattle.slotmap_run.proofs.Fits.{new_fits}
-use Rattle.slotmap_run.proofs.Places.{places_grow, kept_places, removed_places, detached_places, reattached_places}
+use Rattle.slotmap_core.proofs.PlaceCount.{places_grow, kept_places, removed_places, detached_places, reattached_places}
 
 key_is : (k : Key) (i v : ℕ) → k.index ≡ i → k.version ≡ v → k ≡ record { index = i; version = v }
 key_is k i v e f = λ j. record { index = e j; version = f j }

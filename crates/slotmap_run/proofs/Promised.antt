@@ -1,5 +1,5 @@
 -- What a reserve promised is kept.
-use Rattle.std.proofs.Common.{◌≡◌, ◌+◌, ◌≤◌, max, List, ◌∷◌, ◌++◌, ◌⊎◌, ap, arith}
+use Rattle.std.proofs.Common.{◌≡◌, ◌+◌, ◌≤◌, max, List, ◌∷◌, ◌++◌, ap, arith}
 use Rattle.slotmap_core.specs.Machine.{State, used}
 use Rattle.slotmap_core.specs.Content.{most}
 use Rattle.slotmap_core.specs.Given.{Given}
@@ -12,7 +12,7 @@ use Rattle.slotmap_core.specs.declared.commands.DetachCommand.TheVariants as det
 use Rattle.slotmap_core.specs.declared.commands.Reply.{Reply}
 use Rattle.slotmap_core.specs.declared.commands.Reply.TheVariants as reply
 use Rattle.slotmap_core.specs.Law.{Grows, DetachGrows, IsRefusal, ReserveHolds}
-use Rattle.slotmap_run.proofs.Laws.{Binds, Shrinks, IsGood, good_stays, still_promised}
+use Rattle.slotmap_run.proofs.Laws.{IsMachine, IsGood, good_stays, still_promised}
 use Rattle.slotmap_run.proofs.Runs.{run_split, run_keeps}
 use Rattle.slotmap_run.proofs.Anew.{RunsWell}
 
@@ -34,22 +34,17 @@ module _ {K V R E : Type 0} (given : Given K V R E) where
   detach_refused old (detaching.Reattach k v) _ new g step is within = absurd is
   detach_refused old (detaching.Detach k) r new g step is within = absurd g
 
-module _ {K V R E C : Type 0} (given : Given K V R E) (Machine : State V → C → Reply K V R E → State V → Type 0)
-    (cases : (old : State V) (c : C) (r : Reply K V R E) (new : State V) → Machine old c r new → Binds given.data_of old r new ⊎ Shrinks given.data_of old r new)
-    (of : Command K V → C) (plainly : (old : State V) (c : Command K V) (r : Reply K V R E) (new : State V) → Machine old (of c) r new → Step given old c r new)
+module _ {K V R E C : Type 0} {given : Given K V R E} {Machine : State V → C → Reply K V R E → State V → Type 0} {of : Command K V → C} (m : IsMachine given Machine of)
     (Such : C → Type 0) (refused : (old : State V) (c : C) (r : Reply K V R E) (new : State V) → Such c → Machine old c r new → IsRefusal r → used old + old.promised ≤ most → old.promised ≡ 0) where
-  stays : (old : State V) (c : C) (r : Reply K V R E) (new : State V) → Machine old c r new → IsGood old → IsGood new
-  stays = good_stays given.data_of Machine cases
-
   pub reserve_holds : (commands : List C) (replies : List (Reply K V R E)) → RunsWell Machine commands replies → ReserveHolds of Such commands replies
   reserve_holds commands replies well cs ds es rs ss us n c r e f few such is js refusal =
       let run : Run Machine well.first (cs ++ of (command.Reserve n) ∷ (ds ++ c ∷ es)) (rs ++ reply.Done ∷ (ss ++ r ∷ us)) well.last = rw (← is, ← js) well.run in
       let first = run_split Machine cs rs (of (command.Reserve n)) reply.Done (ds ++ c ∷ es) (ss ++ r ∷ us) well.first well.last e run in
       let second = run_split Machine ds ss c r es us first.1 well.last f first.4 in
-      let done = plainly first.0 (command.Reserve n) reply.Done first.1 first.3 in
+      let done = m.plainly first.0 (command.Reserve n) reply.Done first.1 first.3 in
       let promised : first.1.promised ≡ max first.0.promised n = ap (λ (s : State V). s.promised) done.1 in
-      let still = still_promised given.data_of Machine cases ds ss first.1 second.0 second.2 in
-      let start = run_keeps Machine IsGood stays cs rs well.first first.0 first.2 well.good in
-      let good = run_keeps Machine IsGood stays ds ss first.1 second.0 second.2 (stays first.0 (of (command.Reserve n)) reply.Done first.1 first.3 start) in
+      let still = still_promised m ds ss first.1 second.0 second.2 in
+      let start = run_keeps Machine IsGood (good_stays m) cs rs well.first first.0 first.2 well.good in
+      let good = run_keeps Machine IsGood (good_stays m) ds ss first.1 second.0 second.2 (good_stays m first.0 (of (command.Reserve n)) reply.Done first.1 first.3 start) in
       let none = refused second.0 c r second.1 such second.3 refusal good.within in
       absurd (omega arith)

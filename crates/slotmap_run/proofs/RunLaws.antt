@@ -1,46 +1,76 @@
--- The laws of a run, together.
-use Rattle.std.proofs.Common.{List}
-use Rattle.slotmap_core.specs.Given.{Given}
+-- The laws of the two machines, and what is served on maps as a run on what they hold.
+use Rattle.std.proofs.Common.{◌≡◌, List, Bool, true, is_some}
+use Rattle.slotmap_core.specs.Content.{Content, IsContent}
+use Rattle.slotmap_core.specs.Transition.{IsNew}
+use Rattle.slotmap_core.specs.Machine.{State}
+use Rattle.slotmap_core.specs.Given.{Given, any_closures}
 use Rattle.slotmap_core.specs.Step.{Step, DetachStep}
+use Rattle.slotmap_core.specs.Run.{Run}
+use Rattle.slotmap_core.specs.Fit.{Follows}
+use Rattle.slotmap_core.specs.Law.{Laws, DetachLaws, LastFreedFirst, Grows, DetachGrows}
+use Rattle.slotmap_core.specs.Lifo.{no_places}
 use Rattle.slotmap_core.specs.declared.commands.Command.{Command}
 use Rattle.slotmap_core.specs.declared.commands.DetachCommand.{DetachCommand}
 use Rattle.slotmap_core.specs.declared.commands.DetachCommand.TheVariants as detaching
 use Rattle.slotmap_core.specs.declared.commands.Reply.{Reply}
-use Rattle.slotmap_core.specs.Law.{NoKeyTwice, RemovedForGood, ReserveHolds, Grows, DetachGrows, DetachedNotReissued, DetachedReattaches, ReattachBinds}
-use Rattle.slotmap_run.proofs.Anew.{RunsWell}
-use Rattle.slotmap_run.proofs.Cases.{step_cases, detach_cases}
+use Rattle.slotmap_run.specs.Order.{Served}
+use Rattle.slotmap_run.proofs.Anew.{RunsWell, IsLawful, Ran, ran, RanAnew, ran_anew}
+use Rattle.slotmap_run.proofs.AnyClosures.{freed, freely, detach_freely}
+use Rattle.slotmap_run.proofs.Cases.{plain_machine, detach_machine}
 use Rattle.slotmap_run.proofs.Detached.{detached_not_reissued, detached_reattaches, reattach_binds}
 use Rattle.slotmap_run.proofs.Gone.{removed_for_good}
-use Rattle.slotmap_run.proofs.Laws.{told_new}
+use Rattle.slotmap_run.proofs.Laws.{told_new, unretired}
+use Rattle.slotmap_run.proofs.Orders.{lifo_new, lifo_run}
 use Rattle.slotmap_run.proofs.Promised.{plain_refused, detach_refused, reserve_holds}
+use Rattle.slotmap_run.proofs.Runs.{run_seen}
 
 module _ {K V R E : Type 0} (given : Given K V R E) where
-  pub record Laws (commands : List (Command K V)) (replies : List (Reply K V R E)) : Type 0 where
-    pub no_key_twice : NoKeyTwice given.data_of replies
-    pub removed_for_good : RemovedForGood (λ command. command) commands replies
-    pub reserve_holds : ReserveHolds (λ command. command) Grows commands replies
-
-  pub laws : (commands : List (Command K V)) (replies : List (Reply K V R E)) → RunsWell (Step given) commands replies → Laws commands replies
-  laws cs rs well = record {
-    no_key_twice = (told_new given.data_of (Step given) (step_cases given) cs rs well.first well.last well.run).1;
-    removed_for_good = removed_for_good given (Step given) (step_cases given) (λ command. command) (λ old command reply new step. step) cs rs well;
-    reserve_holds = reserve_holds given (Step given) (step_cases given) (λ command. command) (λ old command reply new step. step) Grows (plain_refused given) cs rs well;
+  laws : (commands : List (Command K V)) (replies : List (Reply K V R E)) → RunsWell (Step given) commands replies → Laws given.data_of commands replies
+  laws cs rs well = let m = plain_machine given in record {
+    no_key_twice = (told_new m cs rs well.first well.last well.run).1;
+    removed_for_good = removed_for_good m cs rs well;
+    reserve_holds = reserve_holds m Grows (plain_refused given) cs rs well;
   }
 
-  pub record DetachLaws (commands : List (DetachCommand K V)) (replies : List (Reply K V R E)) : Type 0 where
-    pub no_key_twice : NoKeyTwice given.data_of replies
-    pub removed_for_good : RemovedForGood detaching.Plain commands replies
-    pub reserve_holds : ReserveHolds detaching.Plain DetachGrows commands replies
-    pub not_reissued : DetachedNotReissued given.data_of commands replies
-    pub reattaches : DetachedReattaches given.data_of given.reuses commands replies
-    pub binds : ReattachBinds commands replies
-
-  pub detach_laws : (commands : List (DetachCommand K V)) (replies : List (Reply K V R E)) → RunsWell (DetachStep given) commands replies → DetachLaws commands replies
-  detach_laws cs rs well = record {
-    no_key_twice = (told_new given.data_of (DetachStep given) (detach_cases given) cs rs well.first well.last well.run).1;
-    removed_for_good = removed_for_good given (DetachStep given) (detach_cases given) detaching.Plain (λ old command reply new step. step) cs rs well;
-    reserve_holds = reserve_holds given (DetachStep given) (detach_cases given) detaching.Plain (λ old command reply new step. step) DetachGrows (detach_refused given) cs rs well;
+  detach_laws : (commands : List (DetachCommand K V)) (replies : List (Reply K V R E)) → RunsWell (DetachStep given) commands replies → DetachLaws given.data_of given.reuses commands replies
+  detach_laws cs rs well = let m = detach_machine given in record {
+    no_key_twice = (told_new m cs rs well.first well.last well.run).1;
+    removed_for_good = removed_for_good m cs rs well;
+    reserve_holds = reserve_holds m DetachGrows (detach_refused given) cs rs well;
     not_reissued = detached_not_reissued given cs rs well;
     reattaches = detached_reattaches given cs rs well;
     binds = reattach_binds given cs rs well;
   }
+
+module _ {K V R E : Type 0} (given : Given K V R E) where
+  pub plain_lawful : IsLawful (Step given) (Step (any_closures given.data_of given.reuses)) (Laws given.data_of)
+  plain_lawful = record { freely = freely given; laws = laws (freed given); unretired = unretired (plain_machine given) }
+
+  pub detach_lawful : IsLawful (DetachStep given) (DetachStep (any_closures given.data_of given.reuses)) (DetachLaws given.data_of given.reuses)
+  detach_lawful = record { freely = detach_freely given; laws = detach_laws (freed given); unretired = unretired (detach_machine given) }
+
+-- commands that are served on maps each owe a step of the machine on what they hold
+follow : {M K V R E C : Type 0} (Step : Given K V R E → State V → C → Reply K V R E → State V → Type 0) (of : C → DetachCommand K V) (given : Given K V R E) (content : M → Content V) (cs : List C) (rs : List (Reply K V R E)) (old new : M)
+    → Run (λ old c r new. Served Step of given (content old) c r (content new)) old cs rs new → Run (Follows (Step given)) (content old) cs rs (content new)
+follow Step of given content cs rs old new served = run_seen _ _ content (λ s c r t h. h.follows) cs rs old new served
+
+module _ {M K V R E : Type 0} (given : Given K V R E) (content : M → Content V) (cs : List (Command K V)) (rs : List (Reply K V R E)) (old new : M)
+    (served : Run (λ old c r new. Served Step detaching.Plain given (content old) c r (content new)) old cs rs new) where
+  pub plain_ran : IsContent given.reuses (content old) → Ran (plain_lawful given) cs rs given.reuses (content old) (content new)
+  plain_ran ok = ran (plain_lawful given) cs rs given.reuses (content old) (content new) ok (follow Step detaching.Plain given content cs rs old new served)
+
+  pub plain_anew : IsNew (content old) → RanAnew (plain_lawful given) cs rs (content new)
+  plain_anew start = ran_anew (plain_lawful given) cs rs (content old) (content new) start (follow Step detaching.Plain given content cs rs old new served)
+
+module _ {M K V R E : Type 0} (given : Given K V R E) (content : M → Content V) (cs : List (DetachCommand K V)) (rs : List (Reply K V R E)) (old new : M)
+    (served : Run (λ old c r new. Served DetachStep (λ c. c) given (content old) c r (content new)) old cs rs new) where
+  pub detach_ran : IsContent given.reuses (content old) → Ran (detach_lawful given) cs rs given.reuses (content old) (content new)
+  detach_ran ok = ran (detach_lawful given) cs rs given.reuses (content old) (content new) ok (follow DetachStep (λ c. c) given content cs rs old new served)
+
+  pub detach_anew : IsNew (content old) → RanAnew (detach_lawful given) cs rs (content new)
+  detach_anew start = ran_anew (detach_lawful given) cs rs (content old) (content new) start (follow DetachStep (λ c. c) given content cs rs old new served)
+
+  -- inserts use the place freed last first, from a new map that keeps a stack
+  pub in_order : (reuses : Bool) → IsContent reuses (content old) → IsNew (content old) → is_some (content old).stack ≡ true → LastFreedFirst given.data_of cs rs
+  in_order reuses ok start stacked basic told = lifo_run given.data_of no_places (content old) (content new) cs rs (lifo_new reuses (content old) ok start stacked)
+      (run_seen _ _ content (λ s c r t h. h.orders) cs rs old new served) basic told

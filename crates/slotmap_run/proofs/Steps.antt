@@ -39,7 +39,7 @@ use Rattle.slotmap_run.proofs.Moves.{keeps_fits, promises_fits, replaces_fits, d
 use Rattle.slotmap_run.proofs.Lasts.{inserts_lasts, keeps_lasts, replaces_lasts, detaches_lasts, reattaches_lasts, removes_lasts, leaves_lasts}
 use Rattle.slotmap_core.specs.Lifo.{IsBasic}
 use Rattle.slotmap_core.specs.Law.{IsRefusal}
-use Rattle.slotmap_run.specs.Order.{Serves, DetachServes}
+use Rattle.slotmap_run.specs.Order.{Served}
 use Rattle.slotmap_run.specs.Replies.{insert_reply_of, insert_with_reply_of, reserve_reply_of, reattach_reply_of}
 use Rattle.slotmap_run.proofs.Orders.{lifo_inserts, lifo_keeps, lifo_removes, lifo_detaches, lifo_reattaches}
 
@@ -48,10 +48,10 @@ keeps_itself c = record { live = refl; detached = refl; retired = refl; next = r
 
 module _ {K V R E : Type 0} (given : Given K V R E) (old new : Content V) (ok : IsContent given.reuses old) where
   abbrev Answers : Command K V → Reply K V R E → Type 0
-  Answers command reply = Serves given old command reply new
+  Answers command reply = Served Step detaching.Plain given old command reply new
 
   abbrev DetachAnswers : DetachCommand K V → Reply K V R E → Type 0
-  DetachAnswers command reply = DetachServes given old command reply new
+  DetachAnswers command reply = Served DetachStep (λ command. command) given old command reply new
 
   -- a command that isn't of the machine of the place freed last
   other : (c : Command K V) (r : Reply K V R E) → (IsBasic (detaching.Plain c) → ⊥) → Follows (Step given) old c r new → Answers c r
@@ -94,7 +94,7 @@ module _ {K V R E : Type 0} (given : Given K V R E) (old new : Content V) (ok : 
   with_full r keeps = other command.InsertWith (reply.Full None) (λ b. b) (stays_by (Step given) command.InsertWith (reply.Full None) keeps (λ s fits. (used_same given.reuses s old new ok fits ∙ r, refl, refl)))
 
   -- where memory was lacking for an insert, it may be lacking in the machine
-  may_lack : LacksRoom old → (s : State V) → Fits s old → MayLackMemory given s
+  may_lack : LacksRoom old → (s : State V) → Fits s old → MayLackMemory given.reuses s
   may_lack r s fits = let same = used_same given.reuses s old new ok fits in record {
     below_limit = λ e. let less = r.below_limit in omega arith;
     not_promised = let promised = fits.promised in let room = r.no_room in omega arith;
@@ -175,11 +175,15 @@ module _ {K V R E : Type 0} (given : Given K V R E) (old new : Content V) (ok : 
   too_great m great keeps = stays (command.Reserve m) reply.TooGreat (λ b. b) keeps (λ s live same. (omega arith, refl))
 
   reserves_no_memory : (m : ℕ) → used old + m ≤ most → old.room < m → Keeps old new → Answers (command.Reserve m) (reply.Memory None)
-  reserves_no_memory m within lacks keeps = other (command.Reserve m) (reply.Memory None) (λ b. b) (stays_by (Step given) (command.Reserve m) (reply.Memory None) keeps (λ s fits. let same = used_same given.reuses s old new ok fits in (record {
-    within_limit = omega arith;
-    beyond_promise = let promised = fits.promised in omega arith;
-    beyond_peak = λ h. let vacant = ok.reused h in let peak = fits.peak in omega arith;
-  }, refl, refl)))
+  reserves_no_memory m within lacks keeps = other (command.Reserve m) (reply.Memory None) (λ b. b) (stays_by (Step given) (command.Reserve m) (reply.Memory None) keeps (λ s fits. let same = used_same given.reuses s old new ok fits in (
+    record {
+      within_limit = omega arith;
+      beyond_promise = let promised = fits.promised in omega arith;
+      beyond_peak = λ h. let vacant = ok.reused h in let peak = fits.peak in omega arith;
+    },
+    refl,
+    refl,
+  )))
 
   -- whatever a reserve answers
   pub reserved : (m : ℕ) (r : Result (Unit {0}) ReserveError) → OnOk r (m ≤ new.room) → OnOk r (used old + m ≤ most) → IfErr r (RefusesCapacity (used old + m)) → Keeps old new → (m ≤ old.room → is_ok r ≡ true) → Answers (command.Reserve m) (reserve_reply_of r)

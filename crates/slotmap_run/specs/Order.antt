@@ -1,17 +1,16 @@
--- What `serve` promises of one command.
-use Rattle.std.specs.Prelude.{◌≡◌, Some}
+-- What the private `serve` promises of one command, and `run_all_new` of the map that it makes.
+use Rattle.std.specs.Prelude.{◌≡◌, Bool, true, Some, IsSome}
 use Rattle.std.specs.FinMap as map
 use Rattle.std.specs.FinSet as set
 use Rattle.slotmap_core.specs.Key.{Key}
-use Rattle.slotmap_core.specs.Content.{Content, places}
+use Rattle.slotmap_core.specs.Content.{Content, IsContent, places}
+use Rattle.slotmap_core.specs.Transition.{IsNew}
+use Rattle.slotmap_core.specs.Machine.{State}
 use Rattle.slotmap_core.specs.Given.{Given}
-use Rattle.slotmap_core.specs.Step.{Step, DetachStep}
 use Rattle.slotmap_core.specs.Fit.{Follows}
 use Rattle.slotmap_core.specs.Lifo.{Lifo, IsBasic, after_command, answer}
 use Rattle.slotmap_core.specs.Law.{reply_keys, IsRefusal}
-use Rattle.slotmap_core.specs.declared.commands.Command.{Command}
 use Rattle.slotmap_core.specs.declared.commands.DetachCommand.{DetachCommand}
-use Rattle.slotmap_core.specs.declared.commands.DetachCommand.TheVariants as detaching
 use Rattle.slotmap_core.specs.declared.commands.Reply.{Reply}
 
 -- l is what c holds, without the values
@@ -22,16 +21,19 @@ pub record IsLifo {V : Type 0} (l : Lifo) (c : Content V) : Type 0 where
   pub stack : c.stack ≡ Some l.stack
   pub places : l.places ≡ places c
 
-module _ {K V R E : Type 0} where
+module _ {K V R E : Type 0} (data_of : K → Key) where
   -- a basic command that isn't refused is answered as by the machine that uses the place freed last first
-  abbrev pub Orders : (K → Key) → Content V → DetachCommand K V → Reply K V R E → Content V → Type 0
-  Orders data_of old c r new = (l : Lifo) → IsLifo l old → IsBasic c → (IsRefusal r → ⊥) → (reply_keys data_of r ≡ answer data_of l c) × IsLifo (after_command data_of l c) new
+  abbrev pub Orders : Content V → DetachCommand K V → Reply K V R E → Content V → Type 0
+  Orders old c r new = (l : Lifo) → IsLifo l old → IsBasic c → (IsRefusal r → ⊥) → (reply_keys data_of r ≡ answer data_of l c) × IsLifo (after_command data_of l c) new
 
-module _ {K V R E : Type 0} (given : Given K V R E) (old : Content V) where
-  pub record Serves (c : Command K V) (r : Reply K V R E) (new : Content V) : Type 0 where
-    pub follows : Follows (Step given) old c r new
-    pub orders : Orders given.data_of old (detaching.Plain c) r new
+-- a command is served: it is a step of this machine, and in that order (`of` makes a command of a list with detaching
+-- from it)
+pub record Served {K V R E C : Type 0} (Step : Given K V R E → State V → C → Reply K V R E → State V → Type 0) (of : C → DetachCommand K V) (given : Given K V R E) (old : Content V) (c : C) (r : Reply K V R E) (new : Content V) : Type 0 where
+  pub follows : Follows (Step given) old c r new
+  pub orders : Orders given.data_of old (of c) r new
 
-  pub record DetachServes (c : DetachCommand K V) (r : Reply K V R E) (new : Content V) : Type 0 where
-    pub follows : Follows (DetachStep given) old c r new
-    pub orders : Orders given.data_of old c r new
+-- a new map holds c, and a stack where it keeps one
+pub record StartsNew {V : Type 0} (reuses stacked : Bool) (c : Content V) : Type 0 where
+  pub new : IsNew c
+  pub valid : IsContent reuses c
+  pub stack : stacked ≡ true → IsSome c.stack

@@ -1,19 +1,21 @@
 //! Runs of commands on the maps that hand out their keys.
 
-ghost use Rattle.std.specs.Prelude.{◌≡◌, ◌^◌, ◌<◌, ◌≤◌, [], vec_capacity, length, Ok, IfOk, IfErr, OnErr};
+ghost use Rattle.std.specs.Prelude.{◌≡◌, ◌^◌, ◌<◌, length, Ok, IfOk, IfErr, OnErr};
 ghost use Rattle.std.specs.Fn.{FnReturns};
 ghost use Rattle.slotmap_core.specs.Content.{IsContent};
 ghost use Rattle.slotmap_core.specs.Transition.{Inserts, Keeps};
 ghost use Rattle.slotmap_core.specs.Refusal.{RefusesWith};
-ghost use Rattle.slotmap_core.specs.Machine.{State};
-ghost use Rattle.slotmap_core.specs.Given.{given};
+ghost use Rattle.slotmap_core.specs.Given.{given, any_closures};
 ghost use Rattle.slotmap_core.specs.Step.{Step};
 ghost use Rattle.slotmap_core.specs.Run.{Unretiring};
-ghost use Rattle.slotmap_core.specs.Fit.{Fits, RunFollows, RunsAnew, Continues};
-ghost use Rattle.slotmap_core.specs.Law.{Grows, NoKeyTwice, RemovedForGood, ReserveHolds};
-ghost use Rattle.slotmap_run.specs.Order.{Serves};
+ghost use Rattle.slotmap_core.specs.Fit.{Starts, RunFollows, RunsAnew, Continues};
+ghost use Rattle.slotmap_core.specs.Law.{Laws};
+ghost use Rattle.slotmap_core.specs.declared.commands.DetachCommand.TheVariants as detaching;
+ghost use Rattle.slotmap_run.specs.Order.{Served};
 
+use crate::given::Given;
 use crate::replies::{insert_reply, insert_with_reply, or_memory, reserve_reply};
+use crate::serves::{Serves, run_all, run_all_new};
 use slotmap_core::commands::{Command, Reply};
 use slotmap_core::errors::TryInsertError;
 use slotmap_core::keys::Key;
@@ -38,15 +40,7 @@ where
     map.try_insert_with_key(|key| make(key))
 }
 
-/// Answers one command.
-pub(crate) fn serve<M, K, V, R, E, L, P, N>(
-    alloc: Global,
-    map: &mut M,
-    command: Command<K, V>,
-    look: &L,
-    keep: &P,
-    make: &N,
-) -> Reply<K, V, R, E>
+impl<M, K, V, R, E, L, P, N> Serves<M, Command<K, V>, Reply<K, V, R, E>> for Given<L, P, N>
 where
     M: Primary<K, V>,
     K: Key,
@@ -56,89 +50,52 @@ where
     L: Fn(&V) -> R,
     P: Fn(K, &mut V) -> bool,
     N: Fn(K) -> Result<V, E>,
-    requires looks { L.IsAlwaysCallable look.now }
-    requires keeps { P.IsAlwaysCallable keep.now }
-    requires makes { N.IsAlwaysCallable make.now }
-    requires valid { IsContent M.REUSES (M.content map.old) }
-
-    ensures step { Serves (given K.data_of L.Fn look.now P.Fn keep.now N.Fn make.now M.REUSES)
-        (M.content map.old) command result (M.content map.new) }
-    ensures valid { IsContent M.REUSES (M.content map.new) }
 {
-    match command {
-        Command::Insert(value) => insert_reply(map.insert(value)),
-        Command::InsertWith => insert_with_reply(insert_made(map, make)),
-        Command::Get(key) => Reply::Looked(map.get(key).map(look)),
-        Command::Contains(key) => Reply::Flag(map.contains_key(key)),
-        Command::Replace(key, value) => Reply::Put(map.replace(key, value)),
-        Command::Remove(key) => Reply::Taken(map.remove(key)),
-        Command::Retain => {
-            map.retain(keep);
-            Reply::Done
-        }
-        Command::Clear => {
-            map.clear();
-            Reply::Done
-        }
-        Command::Drain => {
-            let mut pairs = Vec::new(alloc);
-            let drained = map.drain_into(&mut pairs);
-            or_memory(drained, Reply::Drained(pairs))
-        }
-        Command::Keys => {
-            let mut keys = Vec::new(alloc);
-            let listed = map.keys_into(&mut keys);
-            or_memory(listed, Reply::Keys(keys))
-        }
-        Command::Len => Reply::Len(map.len()),
-        Command::Reserve(additional) => reserve_reply(map.reserve(additional)),
-    }
-}
+    ghost ready = { λ self map _. L.IsAlwaysCallable self.look × P.IsAlwaysCallable self.keep
+        × N.IsAlwaysCallable self.make × IsContent M.REUSES (M.content map) };
 
-/// Answers the commands in order. There is room for the replies.
-fn serve_all<M, K, V, R, E, L, P, N>(
-    alloc: Global,
-    map: &mut M,
-    mut replies: Vec<Reply<K, V, R, E>>,
-    commands: Vec<Command<K, V>>,
-    look: &L,
-    keep: &P,
-    make: &N,
-) -> Vec<Reply<K, V, R, E>>
-where
-    M: Primary<K, V>,
-    K: Key,
-    V: Drop,
-    R: Drop,
-    E: Drop,
-    L: Fn(&V) -> R,
-    P: Fn(K, &mut V) -> bool,
-    N: Fn(K) -> Result<V, E>,
-    requires looks { L.IsAlwaysCallable look.now }
-    requires keeps { P.IsAlwaysCallable keep.now }
-    requires makes { N.IsAlwaysCallable make.now }
-    requires none { replies.items ≡ [] }
-    requires room { length commands.items ≤ vec_capacity replies }
-    requires valid { IsContent M.REUSES (M.content map.old) }
+    ghost step = { λ self old command reply new. Served Step detaching.Plain
+        (given K.data_of L.Fn self.look P.Fn self.keep N.Fn self.make M.REUSES)
+        (M.content old) command reply (M.content new) };
 
-    ensures run { let what = given K.data_of L.Fn look.now P.Fn keep.now N.Fn make.now M.REUSES in
-        RunFollows (Step what)
-        (M.content map.old) commands.items result.items (M.content map.new) }
-{
-    for command in commands {
-        let reply = serve(alloc, map, command, look, keep, make);
-        if replies.push(reply).is_err() {
-            unreachable!();
+    fn serve(&self, map: &mut M, command: Command<K, V>) -> Reply<K, V, R, E> {
+        match command {
+            Command::Insert(value) => insert_reply(map.insert(value)),
+            Command::InsertWith => insert_with_reply(insert_made(map, &self.make)),
+            Command::Get(key) => Reply::Looked(map.get(key).map(&self.look)),
+            Command::Contains(key) => Reply::Flag(map.contains_key(key)),
+            Command::Replace(key, value) => Reply::Put(map.replace(key, value)),
+            Command::Remove(key) => Reply::Taken(map.remove(key)),
+            Command::Retain => {
+                map.retain(&self.keep);
+                Reply::Done
+            }
+            Command::Clear => {
+                map.clear();
+                Reply::Done
+            }
+            Command::Drain => {
+                let mut pairs = Vec::new(self.alloc);
+                let drained = map.drain_into(&mut pairs);
+                or_memory(drained, Reply::Drained(pairs))
+            }
+            Command::Keys => {
+                let mut keys = Vec::new(self.alloc);
+                let listed = map.keys_into(&mut keys);
+                or_memory(listed, Reply::Keys(keys))
+            }
+            Command::Len => Reply::Len(map.len()),
+            Command::Reserve(additional) => reserve_reply(map.reserve(additional)),
         }
     }
-    replies
 }
 
 /// Runs commands on a map, and answers the replies, one for each command in its order.
 ///
 /// What `run_new` says of a new map holds from every state of the machine that fits the map, and
-/// the state at the end fits the map again. So two runs, one after the other on one map, are one
-/// run.
+/// the state at the end fits the map again. So runs one after the other on one map are one run,
+/// whatever closures each is given, and its laws hold of all their lists together: no key comes
+/// twice over all of them.
 ///
 /// `look` is shown the value that a `Get` finds. `keep` is called at each live key of a `Retain`; it
 /// may change the value, and answers whether the key stays. `make` gives the value of an
@@ -176,32 +133,36 @@ where
     requires keeps { P.IsAlwaysCallable keep }
     requires makes { N.IsAlwaysCallable make }
 
-    // Replies and content are a run of the machine, and go on where an earlier run ended.
-    ensures starts { IfOk result (λ _. (state : State V) × Fits state (M.content map.old)) }
+    // Replies and content are a run of the machine, and one may start here.
+    ensures starts { Starts M.REUSES (M.content map.old) }
     ensures run { let what = given K.data_of L.Fn look P.Fn keep N.Fn make M.REUSES in
         IfOk result (λ replies. RunFollows (Step what)
         (M.content map.old) commands.items replies.items (M.content map.new)) }
-    ensures continues { let what = given K.data_of L.Fn look P.Fn keep N.Fn make M.REUSES in
-        IfOk result (λ replies. Continues (Step what)
+
+    // Together with an earlier run, and with later ones, whatever closures each is given.
+    ensures goes_on { let any = any_closures K.data_of M.REUSES in
+        IfOk result (λ replies. RunFollows (Step any)
+        (M.content map.old) commands.items replies.items (M.content map.new)) }
+    ensures continues { let any = any_closures K.data_of M.REUSES in
+        IfOk result (λ replies. Continues (Step any) (Laws K.data_of) M.REUSES
         (M.content map.old) commands.items replies.items (M.content map.new)) }
 
     // What the replies therefore keep to.
-    ensures no_key_twice { IfOk result (λ replies. NoKeyTwice K.data_of replies.items) }
-    ensures removed_for_good { IfOk result (λ replies.
-        RemovedForGood (λ command. command) commands.items replies.items) }
-    ensures reserve_holds { IfOk result (λ replies.
-        ReserveHolds (λ command. command) Grows commands.items replies.items) }
+    ensures laws { IfOk result (λ replies. Laws K.data_of commands.items replies.items) }
 
     // Where there is no room for the replies, nothing is run.
     ensures err { IfErr result (λ back. back ≡ commands) }
-    ensures untouched { OnErr result (M.content map.new ≡ M.content map.old) }
+    ensures unchanged { OnErr result (M.content map.new ≡ M.content map.old) }
 {
-    let Ok(replies) = Vec::with_capacity(alloc, commands.len()) else {
-        return Err(commands);
-    };
     // `len` ensures that the map's content is well formed.
     let _ = map.len();
-    Ok(serve_all(alloc, map, replies, commands, &look, &keep, &make))
+    let given = Given {
+        alloc,
+        look,
+        keep,
+        make,
+    };
+    run_all(alloc, &given, map, commands)
 }
 
 /// Runs commands on a new map, and answers the map and the replies, one for each command in its
@@ -259,22 +220,22 @@ where
         IfOk result (λ made. length commands.items < 2 ^ 32 →
         RunsAnew (Unretiring (Step what)) commands.items made.1.items (M.content made.0)) }
 
+    // Together with later runs, whatever closures each is given.
+    ensures goes_on { let any = any_closures K.data_of M.REUSES in
+        IfOk result (λ made. RunsAnew (Step any)
+        commands.items made.1.items (M.content made.0)) }
+
     // What the replies therefore keep to.
-    ensures no_key_twice { IfOk result (λ made. NoKeyTwice K.data_of made.1.items) }
-    ensures removed_for_good { IfOk result (λ made.
-        RemovedForGood (λ command. command) commands.items made.1.items) }
-    ensures reserve_holds { IfOk result (λ made.
-        ReserveHolds (λ command. command) Grows commands.items made.1.items) }
+    ensures laws { IfOk result (λ made. Laws K.data_of commands.items made.1.items) }
 
     // Where there is no room for the replies, or no map, nothing is run.
     ensures err { IfErr result (λ back. back ≡ commands) }
 {
-    let Ok(replies) = Vec::with_capacity(alloc, commands.len()) else {
-        return Err(commands);
+    let given = Given {
+        alloc,
+        look,
+        keep,
+        make,
     };
-    let Ok(mut map) = M::with_key(alloc) else {
-        return Err(commands);
-    };
-    let replies = serve_all(alloc, &mut map, replies, commands, &look, &keep, &make);
-    Ok((map, replies))
+    run_all_new(alloc, &given, commands)
 }

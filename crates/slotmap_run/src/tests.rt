@@ -9,6 +9,7 @@ mod lists;
 mod maps;
 mod runs;
 mod scripts;
+mod two_runs;
 
 use slotmap_basic::SlotMap;
 use slotmap_core::keys::{DefaultKey, Key, KeyData};

@@ -1,0 +1,12 @@
+//! What a run is given beside its commands.
+
+use std::alloc::Global;
+
+/// The allocator of the lists that are answered, and the closures.
+#[derive(Drop)]
+pub(crate) struct Given<L, P, N> {
+    pub(crate) alloc: Global,
+    pub(crate) look: L,
+    pub(crate) keep: P,
+    pub(crate) make: N,
+}

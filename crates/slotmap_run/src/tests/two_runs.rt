@@ -1,0 +1,111 @@
+//! Runs one after the other on one map, each with closures of its own.
+
+ghost use Rattle.std.specs.Prelude.{◌++◌, IfSome};
+ghost use Rattle.slotmap_core.specs.Law.{DetachLaws, Laws, NoKeyTwice};
+
+use super::{Map, key};
+use crate::detaching::{run_detaching, run_detaching_new};
+use crate::primary::run;
+use slotmap_core::commands::{Command, DetachCommand, Reply};
+use slotmap_core::keys::{DefaultKey, Key};
+use slotmap_core::primary::{Detaching, Primary};
+use std::alloc::Global;
+use std::test::Fail;
+
+// Runs two lists on a map, and answers the replies to both.
+fn run_twice<M, K>(
+    alloc: Global,
+    map: &mut M,
+    first: Vec<Command<K, u64>>,
+    second: Vec<Command<K, u64>>,
+) -> Option<(Vec<Reply<K, u64, u64, ()>>, Vec<Reply<K, u64, u64, ()>>)>
+where
+    M: Primary<K, u64>,
+    K: Key,
+    ensures no_key_twice { IfSome result (λ told.
+        NoKeyTwice K.data_of (told.0.items ++ told.1.items)) }
+    ensures laws { IfSome result (λ told.
+        Laws K.data_of (first.items ++ second.items) (told.0.items ++ told.1.items)) }
+{
+    let Ok(earlier) = run(alloc, map, first, |value| *value, |_, _| true, |_| Err(())) else {
+        return None;
+    };
+    let Ok(later) = run(alloc, map, second, |_| 0, |_, _| false, |_| Ok(5)) else {
+        return None;
+    };
+    Some((earlier, later))
+}
+
+// Runs one list on a new map and another on what that leaves, and answers the map and the replies.
+fn run_new_and_on<M, K>(
+    alloc: Global,
+    first: Vec<DetachCommand<K, u64>>,
+    second: Vec<DetachCommand<K, u64>>,
+) -> Option<(M, Vec<Reply<K, u64, u64, ()>>, Vec<Reply<K, u64, u64, ()>>)>
+where
+    M: Detaching<K, u64> + Drop,
+    K: Key,
+    ensures laws { IfSome result (λ made. DetachLaws K.data_of M.REUSES
+        (first.items ++ second.items) (made.1.items ++ made.2.items)) }
+{
+    let made = run_detaching_new(alloc, first, |value| *value, |_, _| true, |_| Err(()));
+    let Ok((mut map, earlier)) = made else {
+        return None;
+    };
+    let Ok(later) = run_detaching(alloc, &mut map, second, |_| 0, |_, _| false, |_| Ok(5)) else {
+        return None;
+    };
+    Some((map, earlier, later))
+}
+
+#[test]
+fn a_second_run_answers_no_key_of_the_first(rt: HostRuntime) -> Result<(), Fail> {
+    let mut map = Map::new(rt.alloc())?;
+    let first = vec![in rt.alloc();
+        Command::Insert(1),
+        Command::Remove(key(4294967297)),
+        Command::InsertWith,
+    ]?;
+    let second = vec![in rt.alloc();
+        Command::InsertWith,
+        Command::Get(key(12884901889)),
+        Command::Retain,
+        Command::Len,
+        Command::Insert(7),
+    ]?;
+    let told = run_twice(rt.alloc(), &mut map, first, second);
+    let Some((earlier, later)) = told else {
+        return Err(Fail::from("a run was refused"));
+    };
+    assert!(rt; matches!(earlier.get(0), Some(Reply::Key(k)) if *k == key(4294967297)));
+    assert!(rt; matches!(earlier.get(2), Some(Reply::Failed(()))));
+    assert!(rt; matches!(later.get(0), Some(Reply::Key(k)) if *k == key(12884901889)));
+    assert!(rt; matches!(later.get(1), Some(Reply::Looked(Some(0)))));
+    assert!(rt; matches!(later.get(3), Some(Reply::Len(0))));
+    assert!(rt; matches!(later.get(4), Some(Reply::Key(k)) if *k == key(21474836481)));
+    Ok(())
+}
+
+#[test]
+fn a_run_goes_on_where_one_on_a_new_map_ended(rt: HostRuntime) -> Result<(), Fail> {
+    let first = key(4294967297);
+    let commands = vec![in rt.alloc();
+        DetachCommand::Plain(Command::Insert(1)),
+        DetachCommand::Detach(first),
+    ]?;
+    let more = vec![in rt.alloc();
+        DetachCommand::Plain(Command::InsertWith),
+        DetachCommand::Reattach(first, 9),
+        DetachCommand::Plain(Command::Replace(first, 8)),
+    ]?;
+    let made: Option<(Map, _, _)> = run_new_and_on(rt.alloc(), commands, more);
+    let Some((map, earlier, later)) = made else {
+        return Err(Fail::from("a run was refused"));
+    };
+    assert!(rt; matches!(earlier.get(1), Some(Reply::Taken(Some(1)))));
+    assert!(rt; matches!(later.get(0), Some(Reply::Key(k)) if *k == key(4294967298)));
+    assert!(rt; matches!(later.get(1), Some(Reply::Done)));
+    assert!(rt; matches!(later.get(2), Some(Reply::Put(Ok(9)))));
+    assert_eq!(rt; map.get(first).copied(), Some(8));
+    Ok(())
+}
