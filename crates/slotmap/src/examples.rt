@@ -1,5 +1,11 @@
 //! Callers of the library, as a user of this crate writes them: what follows from the clauses alone.
 #![tactic(auto, using(crate::proofs::Callers::keys))]
 
+mod drains;
+mod exchange;
 mod lookups;
+mod own_key;
+mod registry;
+mod retains;
 mod tour;
+mod walks;

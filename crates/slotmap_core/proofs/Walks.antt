@@ -1,5 +1,5 @@
 -- A loop over a map: what is ahead of it, and what it passed.
-use Rattle.std.proofs.Common.{◌≡◌, ℕ, zero, suc, ◌<◌, List, [], ◌∷◌, length, get_or, Option, Some, None, IfSome, IfNone, All, Contains, ◌⊎◌, inl, inr, refl, sym, subst, ◌∙◌, arith}
+use Rattle.std.proofs.Common.{◌≡◌, ℕ, zero, suc, ◌<◌, List, [], ◌∷◌, length, get_or, Option, Some, None, All, Contains, ◌⊎◌, inl, inr, refl, sym, subst, ◌∙◌, arith}
 use Rattle.std.specs.FinMap as map
 use Rattle.std.proofs.lemmas.List.Elements.{All-head, All-tail}
 use Rattle.slotmap_core.specs.Key.{Key, key_cmp}
@@ -16,25 +16,30 @@ module _ {V : Type 0} where
   pub walk_start : (m : map.FinMap key_cmp V) (es : List (Key × V)) (Passed : Key → V → Type 0) → IsListing m es → Walks m es Passed
   walk_start m es Passed listing = record { all = all_live m es listing; each = λ k v found. inl (listed m es k v listing found) }
 
-  -- the pair that comes next is one of the map
-  pub walk_here : (m : map.FinMap key_cmp V) (k : Key) (v : V) (es : List (Key × V)) (Passed : Key → V → Type 0) → Walks m ((k, v) ∷ es) Passed → map.get m k ≡ Some v
-  walk_here m k v es Passed w = All-head (λ e. map.get m e.0 ≡ Some e.1) (k, v) es w.all
+  module _ (m : map.FinMap key_cmp V) (ahead : List (Key × V)) (Passed : Key → V → Type 0) (walks : Walks m ahead Passed) where
+    module _ (k : Key) (v : V) (rest : List (Key × V)) (next : ahead ≡ (k, v) ∷ rest) where
+      -- the pair that comes next is one of the map
+      pub walk_here : map.get m k ≡ Some v
+      walk_here = All-head (λ e. map.get m e.0 ≡ Some e.1) (k, v) rest (rw next at walks.all)
 
-  -- a step: the fact of what was passed still holds, and holds of this pair
-  pub walk_next : (m : map.FinMap key_cmp V) (k : Key) (v : V) (es : List (Key × V)) (Before After : Key → V → Type 0)
-      → Walks m ((k, v) ∷ es) Before → ((q : Key) (x : V) → Before q x → After q x) → After k v → Walks m es After
-  walk_next m k v es Before After w kept here = record {
-    all = All-tail (λ e. map.get m e.0 ≡ Some e.1) (k, v) es w.all;
-    each = λ q x found. elim (w.each q x found) [ inl there ↦ by q x there.0 there.1 there.2 | inr past ↦ inr (kept q x past) ];
-  }
-    where
-      by : (q : Key) (x : V) (i : ℕ) → i < length ((k, v) ∷ es) → get_or ((k, v) ∷ es) i (q, x) ≡ (q, x) → Contains es (q, x) ⊎ After q x
-      by q x zero within is = inr (subst (λ (e : Key × V). After e.0 e.1) is here)
-      by q x (suc i) within is = inl (i, omega arith, is)
+      -- a step: the fact of what was passed still holds, and holds of this pair
+      pub walk_step : (After : Key → V → Type 0) → ((q : Key) (x : V) → Passed q x → After q x) → After k v → Walks m rest After
+      walk_step After still here = record {
+        all = All-tail (λ e. map.get m e.0 ≡ Some e.1) (k, v) rest (rw next at walks.all);
+        each = λ q x found. elim (rw next at (walks.each q x found)) [ inl there ↦ by q x there.0 there.1 there.2 | inr past ↦ inr (still q x past) ];
+      }
+        where
+          by : (q : Key) (x : V) (i : ℕ) → i < length ((k, v) ∷ rest) → get_or ((k, v) ∷ rest) i (q, x) ≡ (q, x) → Contains rest (q, x) ⊎ After q x
+          by q x zero within is = inr (subst (λ (e : Key × V). After e.0 e.1) is here)
+          by q x (suc i) within is = inl (i, omega arith, is)
 
-  -- behind the loop each pair was passed
-  pub walk_end : (m : map.FinMap key_cmp V) (Passed : Key → V → Type 0) → Walks m [] Passed → (k : Key) (v : V) → map.get m k ≡ Some v → Passed k v
-  walk_end m Passed w k v found = elim (w.each k v found) [ inl there ↦ absurd (let h = there.1 in omega arith) | inr past ↦ past ]
+      -- the same where the fact names nothing that the loop changes
+      pub walk_next : Passed k v → Walks m rest Passed
+      walk_next = walk_step Passed (λ q x past. past)
+
+    -- behind the loop each pair was passed
+    pub walk_end : ahead ≡ [] → (k : Key) (v : V) → map.get m k ≡ Some v → Passed k v
+    walk_end done k v found = elim (rw done at (walks.each k v found)) [ inl there ↦ absurd (let h = there.1 in omega arith) | inr past ↦ past ]
 
   -- a map with no entry
   pub none_found : (m : map.FinMap key_cmp V) → ((k : Key) (v : V) → map.get m k ≡ Some v → ⊥) → m ≡ map.empty
@@ -44,10 +49,4 @@ module _ {V : Type 0} where
       by k None is = is
       by k (Some v) is = absurd (none k v is)
 
-pub if_some : {A : Type 0} (P : A → Type 0) (o : Option A) → ((x : A) → o ≡ Some x → P x) → IfSome o P
-if_some P None f = tt
-if_some P (Some x) f = f x refl
-
-pub if_none : {A : Type 0} (P : Type 0) (o : Option A) → (o ≡ None → P) → IfNone o P
-if_none P None f = f refl
-if_none P (Some x) f = tt
+pub ruleset walks = (walk_start, walk_here, walk_next, walk_end)

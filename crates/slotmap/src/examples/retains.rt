@@ -1,0 +1,43 @@
+//! Calls of `retain`: by a closure that reads, one that writes, and one that counts.
+
+ghost use Rattle.std.specs.Prelude.{◌≡◌, ◌%◌, ◌==◌, ◌/◌, Some, None, min, if◌then◌else◌};
+ghost use Rattle.std.specs.Option.{option_and_then, option_map};
+ghost use Rattle.std.specs.FinMap as map;
+ghost use Rattle.slotmap_core.specs.Key.{Key as KeyOf};
+ghost use Rattle.slotmap_core.specs.Content.{IsLive};
+
+use crate::{DefaultKey, Key, SlotMap};
+
+/// Keeps the keys with even values.
+fn keep_even<K: Key>(store: &mut SlotMap<K, u64>)
+    ensures { (k : KeyOf) → map.get store.new.live k ≡ option_and_then
+        (λ value. if value % 2 == 0 then Some value else None) (map.get store.old.live k) }
+{
+    store.retain(|_, value| *value % 2 == 0);
+}
+
+/// Halves each value, and keeps every key.
+fn halve_all<K: Key>(store: &mut SlotMap<K, u64>)
+    ensures { (k : KeyOf) → map.get store.new.live k ≡ option_map (λ value. value / 2) (map.get store.old.live k) }
+{
+    store.retain(|_, value| {
+        *value /= 2;
+        true
+    });
+}
+
+/// Keeps so many entries at most: the closure counts those that it keeps.
+fn keep_first(store: &mut SlotMap<DefaultKey, u64>, most: usize)
+    ensures count { map.len store.new.live ≡ min most (map.len store.old.live) }
+    ensures kept { (k : KeyOf) → IsLive store.new k → map.get store.new.live k ≡ map.get store.old.live k }
+{
+    let mut kept: usize = 0;
+    store.retain(|_, _| {
+        if kept < most {
+            kept += 1;
+            true
+        } else {
+            false
+        }
+    });
+}
