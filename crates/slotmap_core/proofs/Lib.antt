@@ -3,12 +3,16 @@ pub mod Maps
 pub mod MapLaws
 pub mod Odd
 pub mod Retired
+pub mod ListLemmas
 pub mod GatherLemmas
 pub mod PlacesLemmas
 pub mod WalkLemmas
+pub mod ColumnLemmas
 pub mod StackLemmas
 pub mod ContentLemmas
 pub mod StepLemmas
+pub mod SlotLemmas
+pub mod SlotGrowth
 pub mod JsonLemmas
 pub mod DisjointLemmas
 pub mod ListingLemmas

@@ -17,6 +17,9 @@ pub mod Law
 pub mod Gather
 pub mod Places
 pub mod StackMap
+pub mod Slot
+pub mod LayoutLends
+pub mod Columns
 pub mod Slots
 pub mod Json
 pub mod Contents

@@ -5,5 +5,6 @@ pub mod commands;
 pub mod errors;
 mod json;
 pub mod keys;
+pub mod layout;
 pub mod primary;
 pub mod serial;

@@ -1,0 +1,20 @@
+use Rattle.std.proofs.Common.{◌≡◌, ◌+◌, length, sym, ap, ◌∙◌, arith}
+use Rattle.slotmap_core.proofs.ColumnLemmas.{zip-length}
+use Rattle.slotmap_core.proofs.layout.columns.ColumnsLayout.reserve.Goals as goal
+
+pub returns-clause-room : goal.returns-clause-room
+returns-clause-room g c =
+    let m = c.self.inside in
+    let len : length c.args.self.now.slots ≡ length m.versions.items = ap (λ l. length l.slots) (sym c.self.view_is) ∙ zip-length m.versions.items m.links.items m.payloads.items c.self.invariant.links_length c.self.invariant.payloads_length in
+    let links = c.self.invariant.links_length in
+    let payloads = c.self.invariant.payloads_length in
+    c.room-self-inside.ensures.greatest (length c.args.self.now.slots + c.args.additional) c.requires
+    (omega (arith, c.in_ok-reserve-3.ensures.ok, m.versions.ok.0))
+    (omega (arith, c.in_ok-reserve-2.ensures.ok, m.links.ok.0))
+    (omega (arith, c.in_ok-reserve.ensures.ok, m.payloads.ok.0))
+
+pub returns-clause-grows : goal.returns-clause-grows
+returns-clause-grows g c =
+    let m = c.self.inside in
+    rw (← c.self.view_is) (c.room-self-inside.ensures.greatest m.capacity c.self.invariant.limit
+    (omega (arith, c.self.invariant.versions_fit, c.reserve-3.ensures.capacity)) (omega (arith, c.self.invariant.links_fit, c.reserve-2.ensures.capacity)) (omega (arith, c.self.invariant.payloads_fit, c.reserve.ensures.capacity)))

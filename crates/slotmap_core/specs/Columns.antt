@@ -1,0 +1,25 @@
+-- Slots in three vectors. No public clause cites this module.
+use Rattle.std.specs.Prelude.{◌≡◌, ℕ, ◌^◌, ◌<◌, ◌≤◌, List, [], ◌∷◌, length, Option, Some, slice_get, ◌%◌}
+use Rattle.slotmap_core.specs.Slot.{Slot}
+use Rattle.slotmap_core.specs.declared.layout.Link.{Link}
+
+-- each version from the one index to the other is even
+abbrev pub AllEven : List ℕ → ℕ → ℕ → Type 0
+AllEven versions start end = (i v : ℕ) → start ≤ i → i < end → slice_get versions i ≡ Some v → v % 2 ≡ 0
+
+module _ {P : Type 0} where
+  -- slot i has the i-th elements
+  abbrev pub zip_slots : List ℕ → List Link → List (Option P) → List (Slot P)
+  zip_slots [] links payloads = []
+  zip_slots (v ∷ versions) [] payloads = []
+  zip_slots (v ∷ versions) (l ∷ links) [] = []
+  zip_slots (v ∷ versions) (l ∷ links) (p ∷ payloads) = record { version = v; link = l; payload = p } ∷ zip_slots versions links payloads
+
+  -- the three have one length, and each holds at least `capacity` elements with no memory asked for: a, b and c
+  pub record IsColumns (versions : List ℕ) (links : List Link) (payloads : List (Option P)) (capacity a b c : ℕ) : Type 0 where
+    pub links_length : length links ≡ length versions
+    pub payloads_length : length payloads ≡ length versions
+    pub limit : capacity < 2 ^ 32
+    pub versions_fit : capacity ≤ a
+    pub links_fit : capacity ≤ b
+    pub payloads_fit : capacity ≤ c

@@ -1,0 +1,7 @@
+-- What a layout ends as, where a `&mut` to one of its payloads is returned.
+use Rattle.std.specs.Prelude.{ℕ}
+use Rattle.std.specs.Borrow.{Lends, Fml, RattleType, MutBor}
+
+-- once the borrow r ends, the payload at index i is the last value written through r
+abbrev pub lends_payload : (L P : RattleType) → (L.Denot → ℕ → P.Denot → L.Denot) → MutBor L.Denot → ℕ → MutBor P.Denot → Fml
+lends_payload L P with_payload_at m i r = Lends L P m r (with_payload_at m.now i)

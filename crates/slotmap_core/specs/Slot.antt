@@ -1,0 +1,101 @@
+-- The slots of a map: what code keeps at each index. No public clause of a map cites this module.
+use Rattle.std.specs.Prelude.{◌≡◌, ◌↔◌, ℕ, zero, suc, ◌+◌, ◌-◌, ◌%◌, ◌^◌, ◌<◌, ◌≤◌, List, [], ◌∷◌, ◌++◌, length, map as list_map, Option, Some, None, IsSome, option_map, option_and_then, slice_get, slice_set}
+use Rattle.std.specs.FinMap as map
+use Rattle.slotmap_core.specs.Places.{Place, Live, Detached as Kept, Vacant, Retired as UsedUp, live}
+use Rattle.slotmap_core.specs.StackMap.{IsStacked}
+use Rattle.slotmap_core.specs.declared.layout.Link.{Link}
+use Rattle.slotmap_core.specs.declared.layout.Link.TheVariants.{InUse, Free, Detached, Retired}
+
+-- a version, what the slot is used for, and a payload where it is in use
+pub record Slot (P : Type 0) : Type 0 where
+  pub version : ℕ
+  pub link : Link
+  pub payload : Option P
+
+module _ {P : Type 0} where
+  -- a slot that is in use
+  abbrev pub full : ℕ → P → Slot P
+  full version payload = record { version = version; link = InUse; payload = Some payload }
+
+  -- a slot that isn't
+  abbrev pub empty : ℕ → Link → Slot P
+  empty version link = record { version = version; link = link; payload = None }
+
+  -- what the slot at an index has, if there is one
+  abbrev pub version_at : List (Slot P) → ℕ → Option ℕ
+  version_at slots i = option_map (λ s. s.version) (slice_get slots i)
+
+  abbrev pub link_at : List (Slot P) → ℕ → Option Link
+  link_at slots i = option_map (λ s. s.link) (slice_get slots i)
+
+  abbrev pub payload_at : List (Slot P) → ℕ → Option P
+  payload_at slots i = option_and_then (λ s. s.payload) (slice_get slots i)
+
+  -- the slots with another payload at this index
+  abbrev pub with_payload : List (Slot P) → ℕ → P → List (Slot P)
+  with_payload [] i p = []
+  with_payload (s ∷ slots) zero p = record s { payload = Some p } ∷ slots
+  with_payload (s ∷ slots) (suc i) p = s ∷ with_payload slots i p
+
+  -- each slot from the one index to the other has an even version
+  abbrev pub NoneLive : List (Slot P) → ℕ → ℕ → Type 0
+  NoneLive slots start end = (i v : ℕ) → start ≤ i → i < end → version_at slots i ≡ Some v → v % 2 ≡ 0
+
+-- slots as they lie in memory: from place 0 on, and how many fit with no memory asked for
+pub record Laid (P : Type 0) : Type 0 where
+  pub slots : List (Slot P)
+  pub capacity : ℕ
+
+-- the version before this one, which goes round
+abbrev pub version_before : ℕ → ℕ
+version_before v = (v + (2 ^ 32 - 1)) % 2 ^ 32
+
+module _ {P : Type 0} where
+  -- the place of a version, a use and a payload
+  abbrev pub place_by : ℕ → Link → Option P → Place P
+  place_by version (Free next) payload = Vacant (version + 1)
+  place_by version Detached payload = Kept (version_before version)
+  place_by version Retired payload = UsedUp
+  place_by version InUse (Some p) = Live version p
+  place_by version InUse None = UsedUp
+
+  -- the place that a slot is
+  abbrev pub place_of : Slot P → Place P
+  place_of s = place_by s.version s.link s.payload
+
+  abbrev pub places_of : List (Slot P) → List (Place P)
+  places_of slots = list_map place_of slots
+
+-- the free list: each free slot names the next
+abbrev pub link_next : Option Link → ℕ
+link_next None = 0
+link_next (Some InUse) = 0
+link_next (Some (Free next)) = next
+link_next (Some Detached) = 0
+link_next (Some Retired) = 0
+
+module _ {P : Type 0} where
+  -- the first of the indices along the free list from this head
+  abbrev pub walk : List (Slot P) → ℕ → ℕ → List ℕ
+  walk slots zero head = []
+  walk slots (suc count) head = head ∷ walk slots count (link_next (link_at slots head))
+
+  -- from this head on, the free slots at these indices each name the next, and the last names index 0
+  abbrev pub IsFreeList : List (Slot P) → List ℕ → ℕ → Type 0
+  IsFreeList slots [] head = head ≡ 0
+  IsFreeList slots (i ∷ is) head = (head ≡ i) × ((next : ℕ) × (link_at slots i ≡ Some (Free next)) × IsFreeList slots is next)
+
+  -- a payload stands exactly where the slot is in use, and there alone the version is odd; a slot that is used up has version 0
+  pub record IsSlot (s : Slot P) : Type 0 where
+    pub odd : IsSome s.payload ↔ s.version % 2 ≡ 1
+    pub in_use : IsSome s.payload ↔ s.link ≡ InUse
+    pub spent : s.link ≡ Retired → s.version ≡ 0
+
+  -- the slots, the free list from its head on, and the numbers of free slots and of payloads fit each other
+  pub record IsSound (slots : List (Slot P)) (head free count : ℕ) : Type 0 where
+    pub each : (i : ℕ) (s : Slot P) → slice_get slots i ≡ Some s → IsSlot s
+    pub stack : List ℕ
+    pub linked : IsFreeList slots stack head
+    pub counted : length stack ≡ free
+    pub live_counted : map.len (live (places_of slots)) ≡ count
+    pub stacked : IsStacked (places_of slots) stack

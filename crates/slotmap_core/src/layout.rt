@@ -1,0 +1,139 @@
+//! How the slots of a map lie in memory.
+
+ghost use Rattle.std.specs.Prelude.{◌≡◌, ◌≢◌, ◌+◌, ◌<◌, ◌≤◌, ◌%◌, ◌^◌, ◌++◌, ◌∷◌, [], ℕ, List, length, Some, None, Option, IsSome, IfOk, OnOk, IfSome, IfNone, slice_get, slice_set};
+ghost use Rattle.std.specs.Borrow.{sem};
+ghost use Rattle.slotmap_core.specs.Slot.{Slot, full, empty, version_at, link_at, payload_at, with_payload, NoneLive};
+ghost use Rattle.slotmap_core.specs.LayoutLends.{lends_payload};
+ghost use Rattle.slotmap_core.specs.declared.layout.Link.TheVariants.{InUse};
+
+use std::alloc::{AllocError, Global};
+
+mod columns;
+
+pub use columns::Columns;
+
+/// What the slot of a place is used for.
+#[derive(Clone, Copy)]
+pub enum Link {
+    /// It has a payload.
+    InUse,
+    /// It is vacant, and names the next place of the free list, or place 0 at the list's end.
+    Free(u32),
+    /// Its key's payload is out, and the place is kept for the key.
+    Detached,
+    /// No key can follow its last one.
+    Retired,
+}
+
+/// A list of slots in memory: each has a version, a link and, where it is in use, a payload.
+///
+/// `Columns` keeps three vectors, `Rows` one. What a map means by its slots is said above, by
+/// `Slots`; a layout says alone what each call does to the list.
+pub trait Layout<P>: Sized {
+    // The slots, from place 0 on.
+    ghost slots: { Self → List (Slot P) };
+
+    // So many slots fit with no memory asked for.
+    ghost fits: { Self → ℕ };
+
+    // The same with another payload at an index.
+    ghost with_payload_at: { Self → ℕ → P → Self };
+
+    /// No slots, with room for so many.
+    fn with_capacity(alloc: Global, count: usize) -> Result<Self, AllocError>
+        requires { count < 2 ^ 32 }
+        ensures none { IfOk result (λ made. slots made ≡ []) }
+        ensures room { IfOk result (λ made. count ≤ fits made) };
+
+    /// The allocator.
+    fn allocator(&self) -> Global;
+
+    /// The number of slots.
+    fn len(&self) -> usize
+        ensures { result ≡ length (slots self.now) };
+
+    /// So many slots fit with no memory asked for.
+    fn capacity(&self) -> usize
+        ensures value { result ≡ fits self.now }
+        ensures limit { result < 2 ^ 32 };
+
+    /// Makes room for so many more slots.
+    fn reserve(&mut self, additional: usize) -> Result<(), AllocError>
+        requires { length (slots self.old) + additional < 2 ^ 32 }
+        ensures room { OnOk result (length (slots self.old) + additional ≤ fits self.new) }
+        ensures grows { fits self.old ≤ fits self.new }
+        ensures same { slots self.new ≡ slots self.old };
+
+    /// The version at an index, where there is a slot.
+    fn find_version(&self, index: usize) -> Option<u32>
+        ensures { result ≡ version_at (slots self.now) index };
+
+    /// The version at an index.
+    fn version(&self, index: usize) -> u32
+        requires { index < length (slots self.now) }
+        ensures { version_at (slots self.now) index ≡ Some result };
+
+    /// The link at an index.
+    fn link(&self, index: usize) -> Link
+        requires { index < length (slots self.now) }
+        ensures { link_at (slots self.now) index ≡ Some result };
+
+    /// The payload at an index.
+    fn payload(&self, index: usize) -> &P
+        requires { IsSome (payload_at (slots self.now) index) }
+        ensures { payload_at (slots self.now) index ≡ Some result.now };
+
+    /// The payload at an index, for writing.
+    fn payload_mut(&mut self, index: usize) -> &mut P
+        requires { IsSome (payload_at (slots self.old) index) }
+        ensures* writes_back { sem 𝓛 (lends_payload Self.row P.row with_payload_at self.entry index result) }
+        ensures value { payload_at (slots self.old) index ≡ Some result.now };
+
+    /// Takes the payload at an index out, and leaves this version and link there.
+    fn take(&mut self, index: usize, version: u32, link: Link) -> P
+        requires there { IsSome (payload_at (slots self.old) index) }
+        requires out { link ≢ InUse }
+        ensures value { payload_at (slots self.old) index ≡ Some result }
+        ensures left { slots self.new ≡ slice_set (slots self.old) index (empty version link) }
+        ensures same_room { fits self.new ≡ fits self.old };
+
+    /// Puts a payload at an index, under this version; what stood there is dropped.
+    fn put(&mut self, index: usize, version: u32, payload: P)
+        requires { index < length (slots self.old) }
+        ensures put { slots self.new ≡ slice_set (slots self.old) index (full version payload) }
+        ensures same_room { fits self.new ≡ fits self.old };
+
+    /// Adds a slot with a payload, where there is room for it.
+    fn push(&mut self, version: u32, payload: P)
+        requires { length (slots self.old) < fits self.old }
+        ensures pushed { slots self.new ≡ slots self.old ++ full version payload ∷ [] }
+        ensures same_room { fits self.new ≡ fits self.old };
+
+    /// Adds a slot with no payload, where there is room for it.
+    fn push_empty(&mut self, version: u32, link: Link)
+        requires room { length (slots self.old) < fits self.old }
+        requires out { link ≢ InUse }
+        ensures pushed { slots self.new ≡ slots self.old ++ empty version link ∷ [] }
+        ensures same_room { fits self.new ≡ fits self.old };
+
+    /// The first index from `start` on at which the version is odd, or the number of slots.
+    fn next_live(&self, start: usize) -> usize
+        requires { start ≤ length (slots self.now) }
+        ensures on { start ≤ result }
+        ensures within { result ≤ length (slots self.now) }
+        ensures passed { NoneLive (slots self.now) start result }
+        ensures odd { (v : ℕ) → version_at (slots self.now) result ≡ Some v → v % 2 ≡ 1 };
+
+    /// A copy of the slots, with clones of the payloads.
+    fn copy(&self) -> Result<Self, AllocError>
+    where
+        P: Clone,
+        requires clones { (x y : P) → P.is_clone x y → y ≡ x }
+        requires few { length (slots self.now) < 2 ^ 32 }
+        ensures same { IfOk result (λ copy. slots copy ≡ slots self.now) }
+        ensures room { IfOk result (λ copy. length (slots copy) ≤ fits copy) };
+
+    ghost slots_with: { (s : Self) (i : ℕ) (p : P) → slots (with_payload_at s i p) ≡ with_payload (slots s) i p };
+
+    ghost fits_with: { (s : Self) (i : ℕ) (p : P) → fits (with_payload_at s i p) ≡ fits s };
+}

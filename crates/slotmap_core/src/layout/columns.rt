@@ -1,0 +1,208 @@
+//! Slots in three vectors of one length.
+
+ghost use Rattle.std.specs.Prelude.{◌≡◌, ◌<◌, ◌≤◌, ◌%◌, ◌^◌, ℕ, length, slice_get, Some, refl, vec_capacity};
+ghost use Rattle.slotmap_core.specs.Columns.{AllEven};
+
+use super::{Layout, Link};
+use std::alloc::{AllocError, Global};
+use std::marker::Model;
+
+/// Versions, links and payloads, each in a vector of its own: a walk reads the versions alone, and
+/// a look-up a version and a payload.
+#[derive(Drop)]
+pub struct Columns<P> {
+    versions: Vec<u32>,
+    links: Vec<Link>,
+    payloads: Vec<Option<P>>,
+    // So many slots fit in each of the three.
+    capacity: usize,
+}
+
+impl<P> Model for Columns<P> {
+    ghost use Rattle.std.specs.Prelude.{vec_capacity};
+    ghost use Rattle.slotmap_core.specs.Slot.{Laid};
+    ghost use Rattle.slotmap_core.specs.Columns.{zip_slots, IsColumns};
+
+    ghost Value = { Laid P };
+
+    ghost view = { λ m. record { slots = zip_slots m.versions.items m.links.items m.payloads.items; capacity = m.capacity } };
+
+    ghost invariant = { λ m. IsColumns m.versions.items m.links.items m.payloads.items m.capacity (vec_capacity m.versions) (vec_capacity m.links) (vec_capacity m.payloads) };
+}
+
+// A slot's place is found in any of the vectors by its index alone.
+const LIMIT: usize = 4294967295;
+
+// How many places are looked at together.
+const BLOCK: usize = 16;
+
+// Passes over whole blocks of even versions, from this index on.
+#[inline(never)]
+fn skip_even(versions: &[u32], start: usize) -> usize
+    requires { start ≤ length versions.now }
+    ensures on { start ≤ result }
+    ensures within { result ≤ length versions.now }
+    ensures passed { AllEven versions.now start result }
+{
+    let mut at = start;
+    while versions.len() - at >= BLOCK {
+        let mut odd: u32 = 0;
+        for i in 0..BLOCK {
+            odd += versions[at + i] % 2;
+        }
+        if odd != 0 {
+            return at;
+        }
+        at += BLOCK;
+    }
+    at
+}
+
+// The first index from `start` on with an odd version, or the number of versions.
+pub(crate) fn next_odd(versions: &[u32], start: usize) -> usize
+    requires { start ≤ length versions.now }
+    ensures on { start ≤ result }
+    ensures within { result ≤ length versions.now }
+    ensures passed { AllEven versions.now start result }
+    ensures odd { (v : ℕ) → slice_get versions.now result ≡ Some v → v % 2 ≡ 1 }
+{
+    let mut index = start;
+    while index < versions.len() {
+        if versions[index] % 2 == 1 {
+            return index;
+        }
+        index += 1;
+        if index % BLOCK == 0 {
+            index = skip_even(versions, index);
+        }
+    }
+    index
+}
+
+impl<P> Columns<P> {
+    // So many slots fit in each of these.
+    fn room(versions: &Vec<u32>, links: &Vec<Link>, payloads: &Vec<Option<P>>) -> usize
+        ensures limit { result < 2 ^ 32 }
+        ensures versions_fit { result ≤ vec_capacity versions.now }
+        ensures links_fit { result ≤ vec_capacity links.now }
+        ensures payloads_fit { result ≤ vec_capacity payloads.now }
+        ensures greatest { (n : ℕ) → n < 2 ^ 32 → n ≤ vec_capacity versions.now → n ≤ vec_capacity links.now → n ≤ vec_capacity payloads.now → n ≤ result }
+    {
+        let others = links.capacity().min(payloads.capacity());
+        versions.capacity().min(others).min(LIMIT)
+    }
+}
+
+impl<P: Drop> Layout<P> for Columns<P> {
+    ghost use Rattle.std.specs.Prelude.{ℕ, List};
+    ghost use Rattle.slotmap_core.specs.Slot.{Slot, Laid, with_payload};
+
+    ghost slots = { λ m. m.slots };
+
+    ghost fits = { λ m. m.capacity };
+
+    ghost with_payload_at = { λ m i p. record m { slots = with_payload m.slots i p } };
+
+    fn with_capacity(alloc: Global, count: usize) -> Result<Self, AllocError> {
+        let versions = Vec::with_capacity(alloc, count)?;
+        let links = Vec::with_capacity(alloc, count)?;
+        let payloads = Vec::with_capacity(alloc, count)?;
+        let capacity = Columns::room(&versions, &links, &payloads);
+        Ok(Columns {
+            versions,
+            links,
+            payloads,
+            capacity,
+        })
+    }
+
+    fn allocator(&self) -> Global {
+        *self.versions.allocator()
+    }
+
+    fn len(&self) -> usize {
+        self.versions.len()
+    }
+
+    fn capacity(&self) -> usize {
+        self.capacity
+    }
+
+    fn reserve(&mut self, additional: usize) -> Result<(), AllocError> {
+        // The largest first: what it leaves takes the others.
+        self.payloads.reserve(additional)?;
+        self.links.reserve(additional)?;
+        self.versions.reserve(additional)?;
+        self.capacity = Columns::room(&self.versions, &self.links, &self.payloads);
+        Ok(())
+    }
+
+    fn find_version(&self, index: usize) -> Option<u32> {
+        Some(*self.versions.get(index)?)
+    }
+
+    fn version(&self, index: usize) -> u32 {
+        self.versions[index]
+    }
+
+    fn link(&self, index: usize) -> Link {
+        self.links[index]
+    }
+
+    fn payload(&self, index: usize) -> &P {
+        self.payloads[index].as_ref().unwrap()
+    }
+
+    fn payload_mut(&mut self, index: usize) -> &mut P {
+        self.payloads[index].as_mut().unwrap()
+    }
+
+    fn take(&mut self, index: usize, version: u32, link: Link) -> P {
+        let payload = self.payloads[index].take().unwrap();
+        self.versions[index] = version;
+        self.links[index] = link;
+        payload
+    }
+
+    fn put(&mut self, index: usize, version: u32, payload: P) {
+        self.versions[index] = version;
+        self.links[index] = Link::InUse;
+        self.payloads[index] = Some(payload);
+    }
+
+    fn push(&mut self, version: u32, payload: P) {
+        self.versions.push_reserved(version);
+        self.links.push_reserved(Link::InUse);
+        self.payloads.push_reserved(Some(payload));
+    }
+
+    fn push_empty(&mut self, version: u32, link: Link) {
+        self.versions.push_reserved(version);
+        self.links.push_reserved(link);
+        self.payloads.push_reserved(None);
+    }
+
+    fn next_live(&self, start: usize) -> usize {
+        next_odd(&self.versions, start)
+    }
+
+    fn copy(&self) -> Result<Self, AllocError>
+    where
+        P: Clone,
+    {
+        let versions = self.versions.clone()?;
+        let links = self.links.clone()?;
+        let payloads = self.payloads.clone()?;
+        let capacity = Columns::room(&versions, &links, &payloads);
+        Ok(Columns {
+            versions,
+            links,
+            payloads,
+            capacity,
+        })
+    }
+
+    ghost slots_with = { λ m i p. refl };
+
+    ghost fits_with = { λ m i p. refl };
+}
