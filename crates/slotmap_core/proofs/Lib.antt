@@ -13,6 +13,7 @@ pub mod ContentLemmas
 pub mod StepLemmas
 pub mod SlotLemmas
 pub mod SlotGrowth
+pub mod HeldLemmas
 pub mod JsonLemmas
 pub mod DisjointLemmas
 pub mod ListingLemmas

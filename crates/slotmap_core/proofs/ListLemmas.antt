@@ -1,5 +1,5 @@
 -- Elements of a list by their index.
-use Rattle.std.proofs.Common.{◌≡◌, ℕ, zero, suc, ◌<◌, List, [], ◌∷◌, length, set, slice_get, get_or, Option, Some, None, OnSome, IfNone, refl, sym, ap, ◌∙◌, arith}
+use Rattle.std.proofs.Common.{◌≡◌, ◌≢◌, ℕ, zero, suc, ◌<◌, List, [], ◌∷◌, length, set, slice_get, get_or, Option, Some, None, OnSome, IfNone, Result, Ok, Err, IsOk, IsErr, refl, sym, ap, ◌∙◌, arith}
 use Rattle.std.proofs.lemmas.Option.{slice_get_read, get_or_from_slice_get}
 
 pub found_within : {X : Type 0} (xs : List X) (i : ℕ) → i < length xs → (x : X) × (slice_get xs i ≡ Some x)
@@ -38,3 +38,11 @@ same_options R more less both None None r = refl
 same_options R more less both None (Some w) r = absurd (more w r)
 same_options R more less both (Some v) None r = absurd (less v r)
 same_options R more less both (Some v) (Some w) r = ap Some (both v w r)
+
+pub none_from : {A : Type 0} (o : Option A) → ((x : A) → o ≢ Some x) → o ≡ None
+none_from None other = refl
+none_from (Some x) other = absurd (other x refl)
+
+pub err_not_ok : {A E : Type 0} (r : Result A E) → IsErr r → IsOk r → ⊥
+err_not_ok (Ok x) err ok = cc
+err_not_ok (Err e) err ok = cc

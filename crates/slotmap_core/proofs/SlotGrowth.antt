@@ -11,7 +11,7 @@ use Rattle.slotmap_core.specs.Content.{most}
 use Rattle.slotmap_core.specs.Transition.{Inserts}
 use Rattle.slotmap_core.specs.Places.{Place, Live, Detached as Kept, Vacant, Retired as UsedUp, live, detached, is_kept}
 use Rattle.slotmap_core.specs.StackMap.{StackMap, content, offer, vacant_version, taken, filled, inserted, IsVersion, HasVersion, IsStacked}
-use Rattle.slotmap_core.specs.Slot.{Slot, full, empty, version_at, link_at, version_before, place_by, place_of, places_of, walk, IsFreeList, IsSlot, IsSound}
+use Rattle.slotmap_core.specs.Slot.{Slot, full, empty, version_at, link_at, version_before, place_by, place_of, places_of, walk, IsFreeList, IsSlot, IsSound, map_of}
 use Rattle.slotmap_core.specs.declared.layout.Link.{Link}
 use Rattle.slotmap_core.specs.declared.layout.Link.TheVariants.{InUse, Free, Detached, Retired}
 use Rattle.slotmap_core.proofs.ListLemmas.{found_within}
@@ -20,7 +20,7 @@ use Rattle.slotmap_core.proofs.PlacesLemmas.{key, contains-detached, len-live-se
 use Rattle.slotmap_core.proofs.ContentLemmas.{kept_at}
 use Rattle.slotmap_core.proofs.StackLemmas.{IsStacked-filled, IsStacked-pushed}
 use Rattle.slotmap_core.proofs.StepLemmas.{inserts}
-use Rattle.slotmap_core.proofs.SlotLemmas.{slot_at, slot_linked, is_empty, IsSlot-full, IsSlot-empty, place_at, length_places, places-set, places-push, IsFreeList-push, IsFreeList-set, walk-is, map_of, walk-stack, stacked_walk, IsSound-written}
+use Rattle.slotmap_core.proofs.SlotLemmas.{slot_at, slot_linked, is_empty, IsSlot-full, IsSlot-empty, place_at, length_places, places-set, places-push, IsFreeList-push, IsFreeList-set, walk-is, walk-stack, stacked_walk, IsSound-written}
 
 module _ {P : Type 0} where
   -- the sentinel alone
@@ -129,6 +129,12 @@ module _ {P : Type 0} (slots : List (Slot P)) (head free count : ℕ) (sound : I
 
   pub top_version : IsVersion (t.version + 1)
   top_version = sound.stacked.versions head (Vacant (t.version + 1)) top_place
+
+  pub top_read : version_at slots head ≡ Some t.version
+  top_read = ap (option_map (λ s. s.version)) t.there
+
+  pub top_link : link_at slots head ≡ Some (Free t.next)
+  top_link = ap (option_map (λ s. s.link)) t.there
 
   pub walk-top : walk slots free head ≡ head ∷ t.rest
   walk-top = walk-stack slots head free count sound ∙ t.whole

@@ -1,5 +1,5 @@
 -- How each change of one slot keeps the slots sound, and what the places become.
-use Rattle.std.proofs.Common.{Bool, true, false, cond, is_some, ◌==◌, eqb-true, eq-eqb, ◌≡◌, ◌≢◌, ℕ, zero, suc, ◌+◌, ◌-◌, ◌^◌, ◌<◌, ◌≤◌, ◌%◌, List, [], ◌∷◌, ◌++◌, length, set, drop, slice_get, Option, Some, None, IsSome, option_map, refl, sym, ap, subst, ◌∙◌, inl, inr, arith, min, nat_eq, ne_eqb}
+use Rattle.std.proofs.Common.{Bool, true, false, cond, is_some, ◌==◌, eqb-true, eq-eqb, ◌≡◌, ◌≢◌, ℕ, zero, suc, ◌+◌, ◌-◌, ◌^◌, ◌<◌, ◌≤◌, ◌%◌, List, [], ◌∷◌, ◌++◌, length, set, drop, slice_get, Option, Some, None, IsSome, option_map, option_and_then, refl, sym, ap, subst, ◌∙◌, inl, inr, arith, min, nat_eq, ne_eqb}
 use Rattle.std.proofs.lemmas.Bool.{cases_eq}
 use Rattle.std.proofs.lemmas.Option.{slice_get_within, slice_get_past, slice_get-map, same_Some}
 use Rattle.std.proofs.lemmas.List.{length-map, length-set, length_push, map-set, map_push}
@@ -11,7 +11,7 @@ use Rattle.slotmap_core.specs.Content.{Content, places, IsContent, most}
 use Rattle.slotmap_core.specs.Transition.{with_value, Removes, Inserts, Detaches, Reattaches, pushed}
 use Rattle.slotmap_core.specs.Places.{Place, Live, Detached as Kept, Vacant, Retired as UsedUp, live, detached, live_entry, live_value, is_kept, left_by}
 use Rattle.slotmap_core.specs.StackMap.{StackMap, content, offer, vacant_version, taken, filled, inserted, removed, kept_out, put_at, IsOn, IsVersion, HasVersion, IsStacked}
-use Rattle.slotmap_core.specs.Slot.{Slot, full, empty, version_at, link_at, payload_at, with_payload, NoneLive, version_before, place_by, place_of, places_of, link_next, walk, IsFreeList, IsSlot, IsSound}
+use Rattle.slotmap_core.specs.Slot.{Slot, full, empty, version_at, link_at, payload_at, with_payload, NoneLive, version_before, place_by, place_of, places_of, link_next, walk, IsFreeList, IsSlot, IsSound, map_of}
 use Rattle.slotmap_core.specs.declared.layout.Link.{Link}
 use Rattle.slotmap_core.specs.declared.layout.Link.TheVariants.{InUse, Free, Detached, Retired}
 use Rattle.slotmap_core.proofs.ListLemmas.{found_within, set_same}
@@ -94,10 +94,6 @@ module _ {P : Type 0} where
       let next_is : link_next (link_at slots head) ≡ linked.1.0 = ap (λ h. link_next (link_at slots h)) linked.0 ∙ ap link_next linked.1.1 in
       rw (next_is, walk-is slots js linked.1.0 linked.1.2) (ap (λ h. h ∷ js) linked.0)
 
--- what the slots are, as a map
-abbrev pub map_of : {P : Type 0} → List (Slot P) → ℕ → ℕ → ℕ → StackMap P
-map_of slots head free c = record { places = places_of slots; vacant = walk slots free head; capacity = c }
-
 module _ {P : Type 0} (slots : List (Slot P)) (head free count : ℕ) (sound : IsSound slots head free count) where
   pub walk-stack : walk slots free head ≡ sound.stack
   walk-stack = ap (λ n. walk slots n head) (sym sound.counted) ∙ walk-is slots sound.stack head sound.linked
@@ -118,8 +114,8 @@ module _ {P : Type 0} (slots : List (Slot P)) (head free count : ℕ) (sound : I
   taken-slots = omega (arith, total (places_of slots) 1 sound.stacked.sentinel, length_places slots, sound.stacked.counted, sound.counted)
 
   -- places, with the sentinel, are the slots
-  pub count_places : (c : ℕ) → places (content (map_of slots head free c)) + 1 ≡ length slots
-  count_places c = omega (arith, total (places_of slots) 1 sound.stacked.sentinel, length_places slots)
+  pub count-places : (c : ℕ) → places (content (map_of slots head free c)) + 1 ≡ length slots
+  count-places c = omega (arith, total (places_of slots) 1 sound.stacked.sentinel, length_places slots)
 
   -- what room means for the slots
   pub has_room : (c : ℕ) → 0 < (content (map_of slots head free (c - 1))).room → (taken (places_of slots) < most) × (length slots < c + free)
@@ -171,6 +167,8 @@ module _ {P : Type 0} (slots : List (Slot P)) (head free count : ℕ) (sound : I
   pub record Present (k : Key) : Type 0 where
     pub value : P
     pub there : slice_get slots k.index ≡ Some (full k.version value)
+    pub read : payload_at slots k.index ≡ Some value
+    pub odd : k.version % 2 ≡ 1
     pub gives : map.get (live (places_of slots)) k ≡ Some value
 
   pub present : (k : Key) → map.contains_key (live (places_of slots)) k ≡ true → Present k
@@ -180,7 +178,7 @@ module _ {P : Type 0} (slots : List (Slot P)) (head free count : ℕ) (sound : I
       let s = found_within slots k.index (omega (arith, length_places slots)) in
       let place : place_of s.0 ≡ Live k.version there.0 = same_Some _ _ (sym (place_at slots k.index s.0 s.1) ∙ there.1) in
       let is = by s.0 there.0 place in
-      record { value = there.0; there = s.1 ∙ ap Some is; gives = get-live_slot k there.0 (s.1 ∙ ap Some is) }
+      record { value = there.0; there = s.1 ∙ ap Some is; read = ap (option_and_then (λ s. s.payload)) (s.1 ∙ ap Some is); odd = (sound.each k.index (full k.version there.0) (s.1 ∙ ap Some is)).odd.0 refl; gives = get-live_slot k there.0 (s.1 ∙ ap Some is) }
     where
       by : (s : Slot P) (x : P) → place_of s ≡ Live k.version x → s ≡ full k.version x
       by s x place = parts s.link s.payload refl refl place

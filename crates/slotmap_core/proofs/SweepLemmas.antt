@@ -1,5 +1,5 @@
 -- A walk by ascending index along which keys leave.
-use Rattle.std.proofs.Common.{◌≡◌, ℕ, ◌+◌, ◌<◌, Bool, true, refl, ap, ◌∙◌, inl, inr, arith}
+use Rattle.std.proofs.Common.{◌≡◌, ℕ, ◌+◌, ◌<◌, ◌≤◌, Bool, true, refl, ap, ◌∙◌, inl, inr, arith}
 use Rattle.std.specs.FinMap as map
 use Rattle.slotmap_core.specs.Key.{Key}
 use Rattle.slotmap_core.specs.Content.{Content, IsContent, IsLive}
@@ -30,6 +30,10 @@ module _ {V : Type 0} where
 
   pub Swept-on : {reuses : Bool} (old now : Content V) (i : ℕ) → Swept reuses old now i → Swept reuses old now (i + 1)
   Swept-on old now i swept = record { leaves = swept.leaves; order = swept.order; capacity = swept.capacity; well = swept.well; below = λ q left. omega (arith, swept.below q left) }
+
+  -- to a later index
+  pub Swept-to : {reuses : Bool} (old now : Content V) (i j : ℕ) → Swept reuses old now i → i ≤ j → Swept reuses old now j
+  Swept-to old now i j swept on = record { leaves = swept.leaves; order = swept.order; capacity = swept.capacity; well = swept.well; below = λ q left. omega (arith, swept.below q left) }
 
   -- a value is written
   pub Swept-written : {reuses : Bool} (old now : Content V) (i : ℕ) (k : Key) (w : V) → Swept reuses old now i → IsLive now k → Swept reuses old (with_value now k w) i

@@ -89,4 +89,5 @@ module _ {V : Type 0} where
     pub stacked : (stack : List ℕ) → c.stack ≡ Some stack → IsStack c stack
     pub room_fits : c.room + used c ≤ most
     pub reused : reuses ≡ true → map.len c.next ≤ c.room
-    pub capacity_fits : map.len c.live ≤ c.capacity
+    -- for the live keys and those that there is room for there is memory
+    pub capacity_fits : map.len c.live + c.room ≤ c.capacity

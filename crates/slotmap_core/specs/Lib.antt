@@ -3,6 +3,7 @@ pub mod Content
 pub mod Listing
 pub mod Transition
 pub mod Spent
+pub mod Call
 pub mod Copy
 pub mod Disjoint
 pub mod Refusal
@@ -20,6 +21,7 @@ pub mod StackMap
 pub mod Slot
 pub mod LayoutLends
 pub mod Columns
+pub mod SlotsLend
 pub mod Slots
 pub mod Json
 pub mod Contents

@@ -2,7 +2,7 @@
 use Rattle.std.specs.Prelude.{◌≡◌, ◌↔◌, ℕ, zero, suc, ◌+◌, ◌-◌, ◌%◌, ◌^◌, ◌<◌, ◌≤◌, List, [], ◌∷◌, ◌++◌, length, map as list_map, Option, Some, None, IsSome, option_map, option_and_then, slice_get, slice_set}
 use Rattle.std.specs.FinMap as map
 use Rattle.slotmap_core.specs.Places.{Place, Live, Detached as Kept, Vacant, Retired as UsedUp, live}
-use Rattle.slotmap_core.specs.StackMap.{IsStacked}
+use Rattle.slotmap_core.specs.StackMap.{StackMap, IsStacked}
 use Rattle.slotmap_core.specs.declared.layout.Link.{Link}
 use Rattle.slotmap_core.specs.declared.layout.Link.TheVariants.{InUse, Free, Detached, Retired}
 
@@ -99,3 +99,12 @@ module _ {P : Type 0} where
     pub counted : length stack ≡ free
     pub live_counted : map.len (live (places_of slots)) ≡ count
     pub stacked : IsStacked (places_of slots) stack
+
+-- what the slots are, as a map that has memory for so many places
+abbrev pub map_of : {P : Type 0} → List (Slot P) → ℕ → ℕ → ℕ → StackMap P
+map_of slots head free capacity = record { places = places_of slots; vacant = walk slots free head; capacity = capacity }
+
+-- what slots in a layout with room for `fits` of them are between calls
+pub record IsHeld {P : Type 0} (slots : List (Slot P)) (fits head free count : ℕ) : Type 0 where
+  pub sound : IsSound slots head free count
+  pub holds : length slots ≤ fits

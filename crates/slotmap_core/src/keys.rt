@@ -63,6 +63,14 @@ impl KeyData {
         }
     }
 
+    // The key data of an index and a version that make a key as they are.
+    pub(crate) fn exact(idx: u32, version: u32) -> KeyData
+        requires { IsKey (record { index = idx; version = version }) }
+        ensures { result ≡ record { index = idx; version = version } }
+    {
+        KeyData { idx, version }
+    }
+
     /// The index. Constant time. Rust lacks this call.
     pub fn idx(self) -> u32
         ensures value { result ≡ self.index }

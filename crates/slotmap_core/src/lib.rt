@@ -6,5 +6,7 @@ pub mod errors;
 mod json;
 pub mod keys;
 pub mod layout;
+pub mod limits;
 pub mod primary;
 pub mod serial;
+pub mod slots;

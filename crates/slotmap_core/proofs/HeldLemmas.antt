@@ -1,0 +1,152 @@
+-- What calls know of slots by what the map holds.
+use Rattle.std.proofs.Common.{◌≡◌, ℕ, ◌+◌, ◌-◌, ◌<◌, ◌≤◌, ◌^◌, ◌%◌, min, zero, suc, true, List, [], ◌∷◌, length, set, slice_get, Some, None, option_map, is_some, ⊎_elim, refl, sym, ap, subst, ◌∙◌, arith}
+use Rattle.std.proofs.lemmas.Bool.{cases_lt}
+use Rattle.std.proofs.lemmas.List.{length-set}
+use Rattle.std.proofs.lemmas.Option.{slice_get_within}
+use Rattle.std.specs.FinMap as map
+use Rattle.std.specs.FinSet as set
+use Rattle.slotmap_core.specs.Key.{Key}
+use Rattle.slotmap_core.specs.Content.{Content, IsContent, IsLive, IsDetached, places, used, most}
+use Rattle.slotmap_core.specs.Transition.{Keeps}
+use Rattle.slotmap_core.specs.Call.{MakesRoom}
+use Rattle.slotmap_core.specs.StackMap.{content, taken}
+use Rattle.slotmap_core.specs.Slot.{Slot, full, version_at, NoneLive, with_payload, places_of, IsSound, IsHeld, map_of}
+use Rattle.slotmap_core.proofs.PlacesLemmas.{key}
+use Rattle.slotmap_core.proofs.SlotLemmas.{Present, present, live_slot, get-live_slot, IsSound-rewritten, with_payload-is, has_room, valid, slots_fit, count-places, taken-slots}
+use Rattle.slotmap_core.proofs.StepLemmas.{keeps}
+use Rattle.slotmap_core.proofs.SlotGrowth.{PresentKept, present_kept}
+
+version_past : {P : Type 0} (slots : List (Slot P)) (i : ℕ) → version_at slots i ≡ None → length slots ≤ i
+version_past [] i none = omega arith
+version_past (s ∷ slots) zero none = absurd (cc)
+version_past (s ∷ slots) (suc i) none = omega (arith, version_past slots i none)
+
+module _ {P : Type 0} (slots : List (Slot P)) (fits head free count : ℕ) (held : IsHeld slots fits head free count) {now : Content P} (view : content (map_of slots head free (fits - 1)) ≡ now) where
+  -- what is held between calls is well formed
+  pub held_valid : IsContent true now
+  held_valid = subst (IsContent true) view (valid slots head free count held.sound fits held.holds)
+
+  pub held_present : (k : Key) → IsLive now k → Present slots head free count held.sound k
+  held_present k is_live = present slots head free count held.sound k (ap (λ c. map.contains_key c.live k) view ∙ is_live)
+
+  pub held_kept : (k : Key) → IsDetached now k → PresentKept slots head free count held.sound k
+  held_kept k aside = present_kept slots head free count held.sound k (ap (λ c. set.contains c.detached k) view ∙ aside)
+
+  pub held_room : 0 < now.room → (taken (places_of slots) < most) × (length slots < fits + free)
+  held_room room = has_room slots head free count held.sound fits (subst (λ c. 0 < c.room) (sym view) room)
+
+  -- the places, with the sentinel's, are the slots
+  pub held_places : places now + 1 ≡ length slots
+  held_places = ap (λ c. places c + 1) (sym view) ∙ count-places slots head free count held.sound (fits - 1)
+
+  pub held_used : used now + free + 1 ≡ length slots
+  held_used = ap (λ c. used c + free + 1) (sym view) ∙ taken-slots slots head free count held.sound
+
+  pub held_fits : length slots < 2 ^ 32
+  held_fits = slots_fit slots head free count held.sound
+
+  -- where n keys more fit the limit and not the memory, there is no room for them
+  pub held_lacks : (n : ℕ) → n + used now ≤ most → now.capacity < n + used now → now.room < n
+  held_lacks n few more =
+      let same : used now ≡ taken (places_of slots) = ap used (sym view) in
+      let room : now.room ≡ min (fits - 1) most - taken (places_of slots) = ap (λ c. c.room) (sym view) in
+      let capacity : now.capacity ≡ fits - 1 = ap (λ c. c.capacity) (sym view) in
+      omega (arith, taken-slots slots head free count held.sound, held.holds)
+
+  -- where a place is vacant, or a slot more fits, there is room
+  pub held_reuses : 0 < free → 0 < now.room
+  held_reuses positive = omega (arith, ap (λ c. c.room) (sym view), taken-slots slots head free count held.sound, held.holds, held_fits)
+
+  pub held_spare : fits < 2 ^ 32 → length slots < fits → 0 < now.room
+  held_spare limit spare = omega (arith, ap (λ c. c.room) (sym view), taken-slots slots head free count held.sound)
+
+  -- an odd version is that of a live key
+  pub held_live : (i v : ℕ) → version_at slots i ≡ Some v → v % 2 ≡ 1 → IsLive now (key i v)
+  held_live i v found odd =
+      let there = live_slot slots head free count held.sound i v found odd in
+      ap (λ c. map.contains_key c.live (key i v)) (sym view) ∙ ap is_some (get-live_slot slots head free count held.sound (key i v) there.0 there.1)
+
+  -- no live key stands where no version is odd
+  pub held_passed : (start end : ℕ) → NoneLive slots start end → (q : Key) → IsLive now q → start ≤ q.index → end ≤ q.index
+  held_passed start end passed q is_live from =
+      let found = held_present q is_live in
+      ⊎_elim
+      (λ below. absurd (let even = passed q.index q.version from below (ap (option_map (λ s. s.version)) found.there) in let odd = found.odd in omega arith))
+      (λ past. omega arith)
+      (cases_lt q.index end)
+
+  pub held_ended : (start end : ℕ) → NoneLive slots start end → version_at slots end ≡ None → (q : Key) → IsLive now q → q.index < start
+  held_ended start end passed ended q is_live =
+      let found = held_present q is_live in
+      let within = slice_get_within slots q.index (full q.version found.value) found.there in
+      let past = version_past slots end ended in
+      ⊎_elim (λ below. below) (λ from. absurd (omega (arith, held_passed start end passed q is_live (omega arith)))) (cases_lt q.index start)
+
+-- a payload is written
+pub with_payload-held : {P : Type 0} (slots : List (Slot P)) (fits head free count : ℕ) → IsHeld slots fits head free count → (i v : ℕ) (x : P) → slice_get slots i ≡ Some (full v x) → (w : P) → IsHeld (with_payload slots i w) fits head free count
+with_payload-held slots fits head free count held i v x there w =
+    record {
+      sound = IsSound-rewritten slots head free count held.sound i v x there w;
+      holds = omega (arith, held.holds, ap length (with_payload-is slots head free count held.sound i v x there w), length-set slots i (full v w));
+    }
+
+-- one slot is written
+pub held-set : {P : Type 0} (slots : List (Slot P)) (fits head free count : ℕ) → IsHeld slots fits head free count → (i : ℕ) (s : Slot P) {head2 free2 count2 : ℕ} → IsSound (set slots i s) head2 free2 count2 → IsHeld (set slots i s) fits head2 free2 count2
+held-set slots fits head free count held i s sound = record { sound = sound; holds = omega (arith, held.holds, length-set slots i s) }
+
+-- room was asked for, and granted or not
+pub held-grown : {P : Type 0} (slots : List (Slot P)) (fits head free count : ℕ) → IsHeld slots fits head free count → (more : ℕ) → fits ≤ more → IsHeld slots more head free count
+held-grown slots fits head free count held more on = record { sound = held.sound; holds = omega (arith, held.holds) }
+
+pub keeps-grown : {P : Type 0} (slots : List (Slot P)) (fits head free more : ℕ) → fits ≤ more → Keeps (content (map_of slots head free (fits - 1))) (content (map_of slots head free (more - 1)))
+keeps-grown slots fits head free more on = keeps (map_of slots head free (fits - 1)) (more - 1) (omega arith)
+
+-- where there is room for n keys more, nothing has to be asked for
+pub room_had : {P : Type 0} (c : Content P) (n : ℕ) (ok : Type 0) → ok → IsContent true c → n ≤ c.room → MakesRoom true c n ok c
+room_had c n ok is well room = record {
+  before = well;
+  after = well;
+  fits = λ _. omega (arith, well.room_fits);
+  room = λ _. room;
+  live_and_more = λ _. omega (arith, well.capacity_fits);
+  succeeds = λ _. is;
+  had_room = λ _. refl;
+  keeps = record { live = refl; detached = refl; retired = refl; next = refl; offer = refl; stack = refl; room = omega arith };
+  capacity = omega arith;
+}
+
+-- room for n keys more was asked for, which there wasn't
+module _ {P : Type 0} (slots : List (Slot P)) (fits head free count : ℕ) (held : IsHeld slots fits head free count) {now : Content P} (view : content (map_of slots head free (fits - 1)) ≡ now) (more : ℕ) (on : fits ≤ more) (n : ℕ) (ok : Type 0) (none : now.room < n) where
+  grown_valid : IsContent true (content (map_of slots head free (more - 1)))
+  grown_valid = held_valid slots more head free count (held-grown slots fits head free count held more on) refl
+
+  -- and refused
+  pub grown_refused : (ok → ⊥) → MakesRoom true now n ok (content (map_of slots head free (more - 1)))
+  grown_refused refused = record {
+    before = held_valid slots fits head free count held view;
+    after = grown_valid;
+    fits = λ is. absurd (refused is);
+    room = λ is. absurd (refused is);
+    live_and_more = λ is. absurd (refused is);
+    succeeds = λ room. absurd (omega arith);
+    had_room = λ room. absurd (omega arith);
+    keeps = subst (λ c. Keeps c (content (map_of slots head free (more - 1)))) view (keeps-grown slots fits head free more on);
+    capacity = rw (← view) (omega arith);
+  }
+
+  -- or granted
+  pub grown_granted : ok → used now + n ≤ most → used now + n + 1 ≤ more → MakesRoom true now n ok (content (map_of slots head free (more - 1)))
+  grown_granted granted few enough =
+      let same : used now ≡ taken (places_of slots) = ap used (sym view) in
+      let room : n ≤ (content (map_of slots head free (more - 1))).room = omega arith in
+      record {
+        before = held_valid slots fits head free count held view;
+        after = grown_valid;
+        fits = λ _. few;
+        room = λ _. room;
+        live_and_more = λ _. rw (← view) (omega (arith, grown_valid.capacity_fits));
+        succeeds = λ room. absurd (omega arith);
+        had_room = λ room. absurd (omega arith);
+        keeps = subst (λ c. Keeps c (content (map_of slots head free (more - 1)))) view (keeps-grown slots fits head free more on);
+        capacity = rw (← view) (omega arith);
+      }

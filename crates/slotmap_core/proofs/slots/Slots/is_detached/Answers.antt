@@ -1,0 +1,38 @@
+use Rattle.std.proofs.Common.{◌≡◌, ◌==◌, None, Some, ap, sym, ◌∙◌}
+use Rattle.std.proofs.lemmas.Option.{slice_get_within}
+use Rattle.slotmap_core.specs.Slot.{version_at, link_at, version_before}
+use Rattle.slotmap_core.proofs.ListLemmas.{none_from}
+use Rattle.slotmap_core.proofs.SlotLemmas.{slot_at}
+use Rattle.slotmap_core.proofs.SlotGrowth.{kept-past, kept-read, kept-other}
+use Rattle.slotmap_core.proofs.HeldLemmas.{held_valid}
+use Rattle.slotmap_core.proofs.slots.Slots.is_detached.Goals as goal
+
+pub returns-in_default-clause-value : goal.returns-in_default-clause-value
+returns-in_default-clause-value g c =
+    let past = ap (version_at (g.L.Layout.slots c.self.inside.layout)) (sym c.idx-index.ensures.value) ∙ sym c.find_version.ensures ∙ none_from _ c.in_default.not-Some in
+    rw (← c.self.view_is) (sym (kept-past _ _ _ _ c.self.invariant.sound c.args.key past))
+
+pub returns-in_default-clause-valid : goal.returns-in_default-clause-valid
+returns-in_default-clause-valid g c = held_valid _ _ _ _ _ c.self.invariant c.self.view_is
+
+pub link-requires : goal.link-requires
+link-requires g c =
+    let there = slot_at (g.L.Layout.slots c.self.inside.layout) c.idx-index.result c.in-Some.version (sym c.in-Some.ensures) in
+    slice_get_within _ _ _ there.1
+
+pub returns-in-Detached-clause-value : goal.returns-in-Detached-clause-value
+returns-in-Detached-clause-value g c =
+    let read = ap (version_at (g.L.Layout.slots c.self.inside.layout)) (sym c.idx-index.ensures.value) ∙ sym c.in-Some.ensures in
+    let linked = ap (link_at (g.L.Layout.slots c.self.inside.layout)) (sym c.idx-index.ensures.value) ∙ c.link.ensures ∙ ap Some c.in-Detached.is in
+    rw (← c.self.view_is) (ap (λ v. version_before c.in-Some.version == v) c.version.ensures.value ∙ kept-read _ _ _ _ c.self.invariant.sound c.args.key _ read linked)
+
+pub returns-in-Detached-clause-valid : goal.returns-in-Detached-clause-valid
+returns-in-Detached-clause-valid g c = held_valid _ _ _ _ _ c.self.invariant c.self.view_is
+
+pub returns-in_default-link : goal.returns-in_default-link
+returns-in_default-link g c =
+    let linked = ap (link_at (g.L.Layout.slots c.self.inside.layout)) (sym c.idx-index.ensures.value) ∙ c.link.ensures in
+    record {
+      value = rw (← c.self.view_is) (sym (kept-other _ _ _ _ c.self.invariant.sound c.args.key _ linked c.in_default-link.not-Detached));
+      valid = held_valid _ _ _ _ _ c.self.invariant c.self.view_is;
+    }

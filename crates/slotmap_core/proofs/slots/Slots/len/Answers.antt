@@ -1,0 +1,5 @@
+use Rattle.slotmap_core.proofs.HeldLemmas.{held_valid}
+use Rattle.slotmap_core.proofs.slots.Slots.len.Goals as goal
+
+pub returns-clause-valid : goal.returns-clause-valid
+returns-clause-valid g c = held_valid _ _ _ _ _ c.self.invariant c.self.view_is

@@ -1,0 +1,158 @@
+//! The slots of a map that uses the place freed last first, by key data alone.
+//!
+//! Free list, retired and detached places, room and growth stand here, once for each map over
+//! places. A map is slots with a key type of its own (`SlotMap`), or slots that hold positions
+//! (`DenseSlotMap`). The layout says how the slots lie in memory.
+
+ghost use Rattle.std.specs.Prelude.{◌≡◌, [], Some, ◌+◌, ◌<◌, ◌≤◌, ◌^◌, IfOk, IfErr, IsOk, IsTrue, true};
+ghost use Rattle.std.specs.FinMap as map;
+ghost use Rattle.slotmap_core.specs.Content.{IsContent, used, most, places};
+ghost use Rattle.slotmap_core.specs.Transition.{IsNew};
+ghost use Rattle.slotmap_core.specs.Refusal.{RefusesCapacity};
+ghost use Rattle.slotmap_core.specs.Call.{MakesRoom};
+
+use crate::errors::ReserveError;
+use crate::layout::{Layout, Link};
+use crate::limits::MOST_KEYS;
+use std::alloc::Global;
+use std::marker::{Model, PhantomData};
+
+mod access;
+mod detach;
+mod insert;
+mod remove;
+
+/// The slots of a map. A contract sees them as what the map holds.
+#[derive(Drop)]
+pub struct Slots<P, L: Layout<P>> {
+    // Slot 0 is the sentinel.
+    layout: L,
+    // The first place of the free list, or 0 where there is none.
+    first_vacant: u32,
+    vacant_count: u32,
+    live_count: u32,
+    payloads: PhantomData<P>,
+}
+
+impl<P, L: Layout<P>> Model for Slots<P, L> {
+    ghost use Rattle.std.specs.Prelude.{◌-◌};
+    ghost use Rattle.slotmap_core.specs.Content.{Content, content_code};
+    ghost use Rattle.slotmap_core.specs.StackMap.{content};
+    ghost use Rattle.slotmap_core.specs.Slot.{map_of, IsHeld};
+
+    ghost Value = { Content P };
+
+    ghost coded = { content_code P.code };
+
+    ghost view = { λ m. content (map_of (L.slots m.layout) m.first_vacant m.vacant_count (L.fits m.layout - 1)) };
+
+    ghost invariant = { λ m. IsHeld (L.slots m.layout) (L.fits m.layout) m.first_vacant m.vacant_count m.live_count };
+}
+
+impl<P: Drop, L: Layout<P> + Drop> Slots<P, L> {
+    /// No places but the sentinel's, with room for `capacity` keys.
+    pub fn with_capacity(alloc: Global, capacity: usize) -> Result<Self, ReserveError>
+        ensures starts { IfOk result IsNew }
+        ensures stack { IfOk result (λ made. made.stack ≡ Some []) }
+        ensures room { IfOk result (λ made. capacity ≤ made.room) }
+        ensures capacity { IfOk result (λ made. capacity ≤ made.capacity) }
+        ensures err { IfErr result (RefusesCapacity capacity) }
+        ensures valid { IfOk result (IsContent true) }
+    {
+        if capacity > MOST_KEYS {
+            return Err(ReserveError::TooGreat);
+        }
+        let mut layout = L::with_capacity(alloc, capacity + 1)?;
+        layout.push_empty(0, Link::Free(0));
+        Ok(Slots {
+            layout,
+            first_vacant: 0,
+            vacant_count: 0,
+            live_count: 0,
+            payloads: PhantomData,
+        })
+    }
+}
+
+impl<P, L: Layout<P>> Slots<P, L> {
+    /// The number of live keys.
+    pub fn len(&self) -> usize
+        ensures value { result ≡ map.len self.now.live }
+        ensures valid { IsContent true self.now }
+    {
+        self.live_count as usize
+    }
+
+    /// Does nothing: callers learn that what the slots hold is well formed.
+    #[inline(always)]
+    pub fn note_valid(&self)
+        ensures { IsContent true self.now }
+    {
+        let _ = &self.live_count;
+    }
+
+    /// For how many places there is memory.
+    pub fn capacity(&self) -> usize
+        ensures value { result ≡ self.now.capacity }
+        ensures valid { IsContent true self.now }
+    {
+        self.layout.capacity() - 1
+    }
+
+    /// The number of places, the sentinel's aside.
+    pub fn place_count(&self) -> usize
+        ensures value { result ≡ places self.now }
+        ensures valid { IsContent true self.now }
+    {
+        self.layout.len() - 1
+    }
+
+    /// The number of places that no insert can take.
+    fn used(&self) -> usize
+        ensures value { result ≡ used self.now }
+        ensures below { result ≤ most }
+        ensures fits { result ≤ self.now.capacity }
+        ensures valid { IsContent true self.now }
+    {
+        self.layout.len() - 1 - self.vacant_count as usize
+    }
+
+    /// Makes room for `additional` more keys.
+    #[inline(never)]
+    pub fn reserve(&mut self, additional: usize) -> Result<(), ReserveError>
+        ensures makes_room { MakesRoom true self.old additional (IsOk result) self.new }
+        ensures err { IfErr result (RefusesCapacity (used self.old + additional)) }
+    {
+        let used = self.used();
+        if additional > MOST_KEYS - used {
+            return Err(ReserveError::TooGreat);
+        }
+        if additional <= self.capacity() - used {
+            return Ok(());
+        }
+        let missing = additional - self.vacant_count as usize;
+        self.layout.reserve(missing)?;
+        Ok(())
+    }
+
+    // Whether the next insert asks for no memory.
+    #[inline(always)]
+    fn has_room(&self) -> bool
+        ensures room { IsTrue result → 0 < self.now.room }
+        ensures valid { IsContent true self.now }
+    {
+        self.vacant_count > 0 || self.layout.len() < self.layout.capacity()
+    }
+
+    /// Makes room for one more key.
+    #[inline(always)]
+    pub fn make_room(&mut self) -> Result<(), ReserveError>
+        ensures makes_room { MakesRoom true self.old 1 (IsOk result) self.new }
+        ensures err { IfErr result (RefusesCapacity (used self.old + 1)) }
+    {
+        if self.has_room() {
+            return Ok(());
+        }
+        self.reserve(1)
+    }
+}

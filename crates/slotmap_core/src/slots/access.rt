@@ -1,0 +1,77 @@
+//! Look-ups.
+
+ghost use Rattle.std.specs.Prelude.{◌≡◌, ◌+◌, ◌<◌, ◌≤◌, IfNone, IfSome, option_copied, Some, true, false};
+ghost use Rattle.std.specs.FinMap as map;
+ghost use Rattle.std.specs.Borrow.{sem};
+ghost use Rattle.slotmap_core.specs.Key.{Key};
+ghost use Rattle.slotmap_core.specs.Content.{IsContent, IsLive, places};
+
+use super::Slots;
+use crate::keys::KeyData;
+use crate::layout::Layout;
+
+impl<P, L: Layout<P>> Slots<P, L> {
+    ghost use Rattle.slotmap_core.specs.SlotsLend.{lends_value};
+
+    // The index of a key that is live.
+    fn live_index(&self, key: KeyData) -> Option<usize>
+        ensures live { IfSome result (λ index. IsLive self.now key × (index ≡ key.index)) }
+        ensures absent { IfNone result (map.contains_key self.now.live key ≡ false) }
+        ensures valid { IsContent true self.now }
+    {
+        let index = key.idx() as usize;
+        if self.layout.find_version(index)? == key.version() {
+            Some(index)
+        } else {
+            None
+        }
+    }
+
+    /// Whether this key is live.
+    pub fn contains_key(&self, key: KeyData) -> bool
+        ensures value { result ≡ map.contains_key self.now.live key }
+        ensures valid { IsContent true self.now }
+    {
+        self.live_index(key).is_some()
+    }
+
+    /// The payload of a live key, or none where the key isn't live.
+    pub fn get(&self, key: KeyData) -> Option<&P>
+        ensures value { option_copied result ≡ map.get self.now.live key }
+        ensures valid { IsContent true self.now }
+    {
+        let index = self.live_index(key)?;
+        Some(self.layout.payload(index))
+    }
+
+    /// The payload of a key that is live, with no look-up.
+    pub fn get_unchecked(&self, key: KeyData) -> &P
+        requires { IsLive self.now key }
+        ensures { map.get self.now.live key ≡ Some result.now }
+    {
+        self.layout.payload(key.idx() as usize)
+    }
+
+    /// The payload of a key that is live, for writing, with no look-up.
+    pub fn get_unchecked_mut(&mut self, key: KeyData) -> &mut P
+        requires { IsLive self.old key }
+        ensures* writes_back { sem 𝓛 (lends_value P.row L.row L.Layout self.entry key result) }
+        ensures value { map.get self.old.live key ≡ Some result.now }
+        ensures valid { IsContent true self.old }
+    {
+        self.layout.payload_mut(key.idx() as usize)
+    }
+
+    /// The live key with the least index from `start` on.
+    pub fn live_from(&self, start: usize) -> Option<KeyData>
+        requires { start ≤ places self.now + 1 }
+        ensures live { IfSome result (λ key. IsLive self.now key × (start ≤ key.index)) }
+        ensures first { IfSome result (λ key. (other : Key) → IsLive self.now other → start ≤ other.index → key.index ≤ other.index) }
+        ensures none { IfNone result ((other : Key) → IsLive self.now other → other.index < start) }
+        ensures valid { IsContent true self.now }
+    {
+        let index = self.layout.next_live(start);
+        let version = self.layout.find_version(index)?;
+        Some(KeyData::exact(index as u32, version))
+    }
+}

@@ -1,0 +1,66 @@
+//! Keys whose payload is out and whose place is kept.
+
+ghost use Rattle.std.specs.Prelude.{◌≡◌, OnSome, IfNone, Some, true};
+ghost use Rattle.std.specs.FinMap as map;
+ghost use Rattle.std.specs.FinSet as set;
+ghost use Rattle.slotmap_core.specs.Content.{IsContent, IsDetached, IsLive};
+ghost use Rattle.slotmap_core.specs.Transition.{Detaches, Reattaches};
+ghost use Rattle.slotmap_core.specs.Call.{StaysValid};
+
+use super::Slots;
+use crate::keys::KeyData;
+use crate::layout::{Layout, Link};
+
+impl<P, L: Layout<P>> Slots<P, L> {
+    /// Takes a live key's payload out and keeps its place for the key, or answers none where the key
+    /// isn't live.
+    pub fn detach(&mut self, key: KeyData) -> Option<P>
+        ensures value { result ≡ map.get self.old.live key }
+        ensures detaches { OnSome result (Detaches self.old key self.new) }
+        ensures unchanged { IfNone result (self.new ≡ self.old) }
+        ensures valid { StaysValid true self.old self.new }
+    {
+        if self.contains_key(key) {
+            Some(self.take_aside(key))
+        } else {
+            None
+        }
+    }
+
+    // Takes the payload of a key that is live out, and keeps its place.
+    fn take_aside(&mut self, key: KeyData) -> P
+        requires { IsLive self.old key }
+        ensures value { map.get self.old.live key ≡ Some result }
+        ensures detaches { Detaches self.old key self.new }
+        ensures valid { StaysValid true self.old self.new }
+    {
+        self.live_count -= 1;
+        let after = key.version().wrapping_add(1);
+        self.layout.take(key.idx() as usize, after, Link::Detached)
+    }
+
+    /// Whether this key is detached.
+    pub fn is_detached(&self, key: KeyData) -> bool
+        ensures value { result ≡ set.contains self.now.detached key }
+        ensures valid { IsContent true self.now }
+    {
+        let index = key.idx() as usize;
+        let Some(version) = self.layout.find_version(index) else {
+            return false;
+        };
+        match self.layout.link(index) {
+            Link::Detached => version.wrapping_sub(1) == key.version(),
+            _ => false,
+        }
+    }
+
+    /// Binds a key that is detached to a payload again.
+    pub fn reattach(&mut self, key: KeyData, payload: P)
+        requires { IsDetached self.old key }
+        ensures reattaches { Reattaches self.old key payload self.new }
+        ensures valid { StaysValid true self.old self.new }
+    {
+        self.live_count += 1;
+        self.layout.put(key.idx() as usize, key.version(), payload);
+    }
+}

@@ -1,0 +1,50 @@
+//! New keys.
+
+ghost use Rattle.std.specs.Prelude.{◌≡◌, ◌<◌, true};
+ghost use Rattle.slotmap_core.specs.Transition.{Inserts};
+ghost use Rattle.slotmap_core.specs.Call.{StaysValid};
+
+use super::Slots;
+use crate::keys::KeyData;
+use crate::layout::{Layout, Link};
+
+impl<P, L: Layout<P>> Slots<P, L> {
+    /// The key that the next insert answers, where there is room for it.
+    pub fn next_key(&self) -> KeyData
+        requires { 0 < self.now.room }
+        ensures { result ≡ self.now.offer }
+    {
+        if self.vacant_count == 0 {
+            return KeyData::exact(self.layout.len() as u32, 1);
+        }
+        let index = self.first_vacant;
+        KeyData::exact(index, self.layout.version(index as usize) + 1)
+    }
+
+    /// Binds the next key to a payload, where there is room for it, and answers the key.
+    #[inline(always)]
+    pub fn fill(&mut self, payload: P) -> KeyData
+        requires { 0 < self.old.room }
+        ensures value { result ≡ self.old.offer }
+        ensures inserts { Inserts self.old self.old.offer payload self.new }
+        ensures valid { StaysValid true self.old self.new }
+    {
+        self.live_count += 1;
+        if self.vacant_count == 0 {
+            let index = self.layout.len() as u32;
+            self.layout.push(1, payload);
+            return KeyData::exact(index, 1);
+        }
+        let index = self.first_vacant;
+        match self.layout.link(index as usize) {
+            Link::Free(next) => {
+                let version = self.layout.version(index as usize) + 1;
+                self.layout.put(index as usize, version, payload);
+                self.first_vacant = next;
+                self.vacant_count -= 1;
+                KeyData::exact(index, version)
+            }
+            _ => unreachable!(),
+        }
+    }
+}
