@@ -40,7 +40,9 @@ impl<P, L: Layout<P>> Slots<P, L> {
         if version == u32::MAX {
             return self.layout.take(index, 0, Link::Retired);
         }
-        let payload = self.layout.take(index, version + 1, Link::Free(self.first_vacant));
+        let payload = self
+            .layout
+            .take(index, version + 1, Link::Free(self.first_vacant));
         self.first_vacant = key.idx();
         self.vacant_count += 1;
         payload

@@ -1,6 +1,5 @@
 use Rattle.std.proofs.Common.{length, None, ap, arith}
 use Rattle.slotmap_core.proofs.ColumnLemmas.{zip-length, zip-push}
-
 use Rattle.slotmap_core.proofs.layout.columns.ColumnsLayout.push_empty.Goals as goal
 
 pub push_reserved-requires : goal.push_reserved-requires
