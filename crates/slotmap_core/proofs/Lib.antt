@@ -34,3 +34,7 @@ pub mod StartLemmas
 pub mod StartStack
 pub mod StartFits
 pub mod WrittenLemmas
+pub mod SecondaryLemmas
+pub mod KeyedLemmas
+pub mod KeyedVisits
+pub mod DisjointPairsLemmas

@@ -26,3 +26,9 @@ pub mod Slots
 pub mod Json
 pub mod Contents
 pub mod Written
+pub mod Secondary
+pub mod OrPut
+pub mod SecondaryStep
+pub mod SecondaryLaw
+pub mod DisjointPairs
+pub mod GivenBeside

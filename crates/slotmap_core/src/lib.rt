@@ -8,5 +8,6 @@ pub mod keys;
 pub mod layout;
 pub mod limits;
 pub mod primary;
+pub mod secondary;
 pub mod serial;
 pub mod slots;
