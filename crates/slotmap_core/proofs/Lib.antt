@@ -37,4 +37,5 @@ pub mod WrittenLemmas
 pub mod SecondaryLemmas
 pub mod KeyedLemmas
 pub mod KeyedVisits
-pub mod DisjointPairsLemmas
+pub mod SeveralLemmas
+pub mod SecondaryEqualLemmas

@@ -30,5 +30,5 @@ pub mod Secondary
 pub mod OrPut
 pub mod SecondaryStep
 pub mod SecondaryLaw
-pub mod DisjointPairs
-pub mod GivenBeside
+pub mod Several
+pub mod SecondaryEqual

@@ -1,0 +1,58 @@
+//! Comparison of maps.
+
+ghost use Rattle.std.specs.Prelude.{◌≡◌, ◌↔◌, IsTrue};
+ghost use Rattle.slotmap_core.specs.SecondaryEqual.{AreEqual, are_equal};
+
+use crate::SecondaryMap;
+use slotmap_core::keys::Key;
+
+impl<K: Key, V: PartialEq> PartialEq for SecondaryMap<K, V> {
+    ghost use Rattle.slotmap_core.specs.SecondaryEqual.{are_equal_laws};
+    ghost use Rattle.std.specs.Cmp.{on_per};
+
+    ghost eq = { λ a b. are_equal V.eq a.pairs b.pairs };
+
+    ghost laws = { on_per (λ m. m.pairs) (are_equal_laws V.laws) };
+
+    /// Whether both maps hold the same keys with equal values. How many places they have, and for
+    /// how many there is memory, doesn't matter. It goes over all places of both maps once, and
+    /// stops at the first difference.
+    ///
+    /// ```
+    /// assert!(rt; names.clone()? == names);
+    /// ```
+    fn eq(&self, other: &Self) -> bool
+        ensures value { result ≡ are_equal V.eq self.now.pairs other.now.pairs }
+        ensures which { IsTrue result ↔ AreEqual V.eq self.now.pairs other.now.pairs }
+    {
+        self.is_same(other)
+    }
+}
+
+impl<K: Key, V: PartialEq> SecondaryMap<K, V> {
+    // Whether the walks over both maps answer the same.
+    fn is_same(&self, other: &Self) -> bool
+        ensures { result ≡ are_equal V.eq self.now.pairs other.now.pairs }
+    {
+        let mut left = self.iter();
+        let mut right = other.iter();
+        while let Some((key, value)) = left.next() {
+            match right.next() {
+                Some((other_key, other_value)) => {
+                    if key.data() != other_key.data() || value != other_value {
+                        return false;
+                    }
+                }
+                None => return false,
+            }
+        }
+        right.next().is_none()
+    }
+}
+
+impl<K: Key, V: Eq> Eq for SecondaryMap<K, V> {
+    ghost use Rattle.slotmap_core.specs.SecondaryEqual.{are_equal_equiv};
+    ghost use Rattle.std.specs.Cmp.{on_equiv};
+
+    ghost laws = { on_equiv (λ m. m.pairs) (are_equal_equiv V.Eq.laws) };
+}

@@ -1,0 +1,69 @@
+//! What stands at an index, and what a key finds there.
+
+ghost use Rattle.std.specs.Prelude.{◌≡◌, None, IfSome, IfNone, true};
+ghost use Rattle.std.specs.FinMap as map;
+ghost use Rattle.slotmap_core.specs.Secondary.{contains_key, entry};
+ghost use Rattle.slotmap_secondary.specs.Content.{IsContent};
+
+use crate::SecondaryMap;
+use slotmap_core::keys::{Key, KeyData, is_older_version};
+
+// The null key's index.
+pub(crate) const NULL_INDEX: usize = 4294967295;
+
+// What a key finds at its index.
+#[derive(Drop)]
+pub(crate) enum Found {
+    No,
+    Occupied,
+    Vacant,
+}
+
+impl<K: Key, V: Drop> SecondaryMap<K, V> {
+    ghost use Rattle.slotmap_secondary.specs.Found.{is_found};
+
+    // What the key's entry is.
+    pub(crate) fn find(&self, key: K) -> Found
+        ensures found { is_found result (entry self.now.pairs (K.data_of key)) }
+        ensures valid { IsContent self.now }
+    {
+        let key = key.data();
+        let index = key.idx() as usize;
+        if index == NULL_INDEX {
+            // The map is looked at for the clause `valid`.
+            let _ = &self.len;
+            return Found::No;
+        }
+        let Some(slot) = self.slots.get(index) else {
+            return Found::Vacant;
+        };
+        let Some(version) = slot.version() else {
+            return Found::Vacant;
+        };
+        if version == key.version() {
+            Found::Occupied
+        } else if is_older_version(key.version(), version) {
+            Found::No
+        } else {
+            Found::Vacant
+        }
+    }
+
+    // How many places there are.
+    pub(crate) fn place_count(&self) -> usize
+        ensures count { result ≡ self.now.places }
+        ensures valid { IsContent self.now }
+    {
+        self.slots.len()
+    }
+
+    // The key that stands at this index.
+    pub(crate) fn key_at(&self, index: usize) -> Option<K>
+        ensures there { IfSome result (λ key.
+            (contains_key self.now.pairs (K.data_of key) ≡ true) × ((K.data_of key).index ≡ index)) }
+        ensures none { IfNone result (map.get self.now.pairs index ≡ None) }
+    {
+        let version = self.slots.get(index)?.version()?;
+        Some(K::from(KeyData::new(index as u32, version)))
+    }
+}
