@@ -9,7 +9,7 @@ use Rattle.slotmap_core.specs.Secondary.{Pairs, no_entry, vacant, entry_at, valu
 use Rattle.slotmap_core.proofs.SecondaryLemmas.{value_of, value_found, put_bound, put_nothing}
 use Rattle.slotmap_core.proofs.GatherLemmas.{slice_get_push, slice_get_push_other}
 use Rattle.slotmap_secondary.specs.declared.slot.Slot.{Slot}
-use Rattle.slotmap_secondary.specs.declared.slot.Slot.TheVariants.{Vacant, Occupied}
+use Rattle.slotmap_secondary.specs.declared.slot.Slot.TheVariants.{Occupied}
 use Rattle.slotmap_secondary.specs.Content.{Content, IsContent, reached}
 use Rattle.slotmap_secondary.specs.Slots.{pair_in, pairs_of, content_of, IsSound}
 use Rattle.slotmap_secondary.proofs.SlotLemmas.{found, content-write}

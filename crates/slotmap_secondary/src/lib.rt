@@ -35,7 +35,6 @@ pub use drain::Drain;
 pub use entry::{Entry, OccupiedEntry, VacantEntry};
 pub use into_iter::IntoIter;
 pub use iter::{Iter, Keys, Values};
-
 use slot::Slot;
 use slotmap_core::errors::ReserveError;
 use slotmap_core::keys::Key;

@@ -1,7 +1,7 @@
 use Rattle.std.proofs.Common.{◌≡◌, ◌<◌, length, set, refl, sym, ap, ◌∙◌, arith}
 use Rattle.std.proofs.lemmas.List.{set-get_or, length-set}
 use Rattle.slotmap_core.specs.Secondary.{no_entry, entry_at, value_at}
-use Rattle.slotmap_secondary.specs.Slots.{pair_in, IsSound}
+use Rattle.slotmap_secondary.specs.Slots.{pair_in}
 use Rattle.slotmap_secondary.proofs.SlotLemmas.{IsSound-write, len-again, len-new, found, count, valid}
 use Rattle.slotmap_secondary.proofs.ReadLemmas.{place}
 use Rattle.slotmap_secondary.proofs.PutLemmas.{value-stood, value-refused, put-refused, content-put, value-same, value-other}
