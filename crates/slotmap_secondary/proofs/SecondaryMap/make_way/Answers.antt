@@ -1,6 +1,6 @@
 use Rattle.std.proofs.Common.{◌∙◌, arith}
 use Rattle.slotmap_secondary.proofs.SlotLemmas.{IsSound-push, pairs-push}
-use Rattle.slotmap_secondary.proofs.SecondaryMap.reach.Goals as goal
+use Rattle.slotmap_secondary.proofs.SecondaryMap.make_way.Goals as goal
 
 pub loop-self-preserved : goal.loop-self-preserved
 loop-self-preserved g c =
