@@ -7,5 +7,7 @@ mod lookups;
 mod own_key;
 mod registry;
 mod retains;
+mod scheduler;
+mod stale;
 mod tour;
 mod walks;

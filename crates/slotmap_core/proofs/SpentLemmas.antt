@@ -1,5 +1,5 @@
 -- Which keys are spent after a call: those that were, and each live key that has left.
-use Rattle.std.proofs.Common.{◌≡◌, ◌≢◌, ℕ, ◌+◌, ◌<◌, Bool, true, false, cond, ◌⊎◌, inl, inr, Option, None, Some, OnSome, IfNone, List, [], ◌∷◌, All, is_some, refl, ap, sym, subst, ◌∙◌, arith}
+use Rattle.std.proofs.Common.{◌≡◌, ◌≢◌, ℕ, ◌+◌, ◌<◌, Bool, true, false, cond, ◌⊎◌, inl, inr, Option, None, Some, OnSome, IfNone, Result, Ok, Err, IfOk, OnErr, List, [], ◌∷◌, All, is_some, refl, ap, sym, subst, ◌∙◌, arith}
 use Rattle.std.specs.FinMap as map
 use Rattle.std.specs.FinSet as set
 use Rattle.std.proofs.lemmas.List.Elements.{All-head, All-tail}
@@ -167,6 +167,22 @@ module _ {V : Type 0} where
 
   pub spent_with_values : (c : Content V) (keys : List Key) (values : List V) → CanReplace c keys → KeepsSpent c (with_values c keys values)
   spent_with_values c keys values can = spent_leaves c (with_values c keys values) (Leaves-with_values c keys values can.live)
+
+  -- by the clauses of an insert, whatever it answers
+  module _ (old new : Content V) (reuses : Bool) (well : IsContent reuses old) {K E : Type 0} (data_of : K → Key) (v : V) (answer : Result K E) where
+    pub spent_insert : IfOk answer (λ key. Inserts old (data_of key) v new) → OnErr answer (Keeps old new) → KeepsSpent old new
+    spent_insert ok unchanged = by answer ok unchanged
+      where
+        by : (r : Result K E) → IfOk r (λ key. Inserts old (data_of key) v new) → OnErr r (Keeps old new) → KeepsSpent old new
+        by (Ok key) inserts same = spent_inserts old new reuses well (data_of key) v inserts
+        by (Err e) inserts same = spent_keeps old new same
+
+    pub insert_not_spent : IfOk answer (λ key. Inserts old (data_of key) v new) → (k : Key) → IsSpent old k → IfOk answer (λ key. data_of key ≢ k)
+    insert_not_spent ok k spent = by answer ok
+      where
+        by : (r : Result K E) → IfOk r (λ key. Inserts old (data_of key) v new) → IfOk r (λ key. data_of key ≢ k)
+        by (Ok key) inserts = inserted_not_spent old new reuses well (data_of key) v inserts k spent
+        by (Err e) inserts = tt
 
   -- by the clauses of a removal, whatever it answers
   module _ (old new : Content V) (reuses : Bool) (well : IsContent reuses old) (j : Key) (answer : Option V) (is : answer ≡ map.get old.live j) where

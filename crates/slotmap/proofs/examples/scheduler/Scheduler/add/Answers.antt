@@ -1,0 +1,7 @@
+use Rattle.std.proofs.Common.{true}
+use Rattle.slotmap_core.proofs.SpentLemmas.{spent_insert}
+use Rattle.slotmap.proofs.examples.scheduler.Scheduler.add.Goals as goal
+
+pub returns-clause-stale : goal.returns-clause-stale
+returns-clause-stale c =
+    rw c.self.view_is at (spent_insert _ _ true c.insert.ensures.was_valid _ _ _ c.insert.ensures.ok c.insert.ensures.unchanged)
