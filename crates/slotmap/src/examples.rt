@@ -9,5 +9,7 @@ mod registry;
 mod retains;
 mod scheduler;
 mod stale;
+#[cfg(test)]
+mod tests;
 mod tour;
 mod walks;

@@ -1,7 +1,6 @@
 //! Tests of the maps and of runs on them. Expected values were worked out by hand or come from the
 //! Rust crate, never from this port's own answers.
 
-mod callers;
 mod drains;
 mod drops;
 mod keys;

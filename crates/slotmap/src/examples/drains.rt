@@ -6,7 +6,7 @@ ghost use Rattle.std.specs.FinMap as map;
 use crate::{Key, SlotMap};
 
 /// Takes one pair out, and drops the others.
-fn take_one<K: Key>(store: &mut SlotMap<K, u64>) -> Option<(K, u64)>
+pub fn take_one<K: Key>(store: &mut SlotMap<K, u64>) -> Option<(K, u64)>
     ensures found { IfSome result (λ pair. map.get store.old.live (K.data_of pair.0) ≡ Some pair.1) }
     ensures none { IfNone result (store.old.live ≡ map.empty) }
     ensures empty { store.new.live ≡ map.empty }
@@ -15,7 +15,7 @@ fn take_one<K: Key>(store: &mut SlotMap<K, u64>) -> Option<(K, u64)>
 }
 
 /// Takes the pairs out one after the other, and drops them.
-fn drop_all<K: Key>(store: &mut SlotMap<K, u64>)
+pub fn drop_all<K: Key>(store: &mut SlotMap<K, u64>)
     ensures { store.new.live ≡ map.empty }
 {
     for _ in store.drain() {}

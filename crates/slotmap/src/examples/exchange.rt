@@ -6,7 +6,7 @@ ghost use Rattle.std.specs.FinMap as map;
 use crate::{Key, SlotMap};
 
 /// Takes the value of a live key out, and binds the key to another one.
-fn exchange<K: Key>(store: &mut SlotMap<K, u64>, key: K, value: u64) -> Option<u64>
+pub fn exchange<K: Key>(store: &mut SlotMap<K, u64>, key: K, value: u64) -> Option<u64>
     ensures value { result ≡ map.get store.old.live (K.data_of key) }
     ensures live { OnSome result (store.new.live ≡ map.insert store.old.live (K.data_of key) value) }
     ensures detached { store.new.detached ≡ store.old.detached }

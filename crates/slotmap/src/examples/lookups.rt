@@ -10,7 +10,10 @@ ghost use Rattle.slotmap_core.specs.Refusal.{Refuses};
 use crate::{DefaultKey, InsertError, Key, SlotMap};
 
 /// Stores a value, and reads it back.
-fn store_and_read(store: &mut SlotMap<DefaultKey, u32>, value: u32) -> Result<u32, InsertError<u32>>
+pub fn store_and_read(
+    store: &mut SlotMap<DefaultKey, u32>,
+    value: u32,
+) -> Result<u32, InsertError<u32>>
     ensures { IfOk result (λ read. read ≡ value) }
 {
     let key = store.insert(value)?;
@@ -18,7 +21,7 @@ fn store_and_read(store: &mut SlotMap<DefaultKey, u32>, value: u32) -> Result<u3
 }
 
 /// Stores two values under two keys.
-fn store_two<K: Key>(store: &mut SlotMap<K, u32>) -> Result<(K, K), InsertError<u32>>
+pub fn store_two<K: Key>(store: &mut SlotMap<K, u32>) -> Result<(K, K), InsertError<u32>>
     ensures differ { IfOk result (λ keys. K.data_of keys.0 ≢ K.data_of keys.1) }
     ensures first { IfOk result (λ keys. map.get store.new.live (K.data_of keys.0) ≡ Some 1) }
     ensures second { IfOk result (λ keys. map.get store.new.live (K.data_of keys.1) ≡ Some 2) }
@@ -30,7 +33,7 @@ fn store_two<K: Key>(store: &mut SlotMap<K, u32>) -> Result<(K, K), InsertError<
 }
 
 /// Inserts a value, and removes its key again.
-fn push_pop<K: Key>(
+pub fn push_pop<K: Key>(
     store: &mut SlotMap<K, u64>,
     value: u64,
 ) -> Result<Option<u64>, InsertError<u64>>
@@ -43,7 +46,7 @@ fn push_pop<K: Key>(
 }
 
 /// Sets the value of a key, and answers whether the key is live.
-fn set<K: Key>(store: &mut SlotMap<K, u64>, key: K, value: u64) -> bool
+pub fn set<K: Key>(store: &mut SlotMap<K, u64>, key: K, value: u64) -> bool
     ensures which { result ≡ map.contains_key store.old.live (K.data_of key) }
     ensures new { store.new ≡ if result then with_value store.old (K.data_of key) value else store.old }
 {
@@ -57,7 +60,7 @@ fn set<K: Key>(store: &mut SlotMap<K, u64>, key: K, value: u64) -> bool
 }
 
 /// Adds one to the value of a key.
-fn add_one<K: Key>(store: &mut SlotMap<K, u64>, key: K)
+pub fn add_one<K: Key>(store: &mut SlotMap<K, u64>, key: K)
     requires live { IsLive store.old (K.data_of key) }
     requires fits { (n : ℕ) → map.get store.old.live (K.data_of key) ≡ Some n → n + 1 < 2 ^ 64 }
     ensures { (n : ℕ) × (map.get store.old.live (K.data_of key) ≡ Some n)
@@ -67,7 +70,7 @@ fn add_one<K: Key>(store: &mut SlotMap<K, u64>, key: K)
 }
 
 /// Removes a key, and leaves every other one.
-fn forget<K: Key>(store: &mut SlotMap<K, u64>, key: K)
+pub fn forget<K: Key>(store: &mut SlotMap<K, u64>, key: K)
     ensures gone { map.get store.new.live (K.data_of key) ≡ None }
     ensures others { (q : KeyOf) → q ≢ K.data_of key → map.get store.new.live q ≡ map.get store.old.live q }
 {

@@ -78,14 +78,17 @@ impl Key for PageKey {
 }
 
 /// A page: how long it is, and the page that comes next.
-#[derive(Clone, Copy)]
+#[derive(Clone, Copy, Debug)]
 pub struct Page {
     pub length: u32,
     pub next: PageKey,
 }
 
 /// Adds a last page.
-fn add_last(pages: &mut SlotMap<PageKey, Page>, length: u32) -> Result<PageKey, InsertError<Page>>
+pub fn add_last(
+    pages: &mut SlotMap<PageKey, Page>,
+    length: u32,
+) -> Result<PageKey, InsertError<Page>>
     ensures { IfOk result (λ key. map.get pages.new.live key ≡ Some (record { length = length; next = null_key })) }
 {
     let next = PageKey::null();

@@ -9,7 +9,7 @@ ghost use Rattle.slotmap_core.specs.Content.{IsLive};
 use crate::{DefaultKey, Key, SlotMap};
 
 /// Keeps the keys with even values.
-fn keep_even<K: Key>(store: &mut SlotMap<K, u64>)
+pub fn keep_even<K: Key>(store: &mut SlotMap<K, u64>)
     ensures { (k : KeyOf) → map.get store.new.live k ≡ option_and_then
         (λ value. if value % 2 == 0 then Some value else None) (map.get store.old.live k) }
 {
@@ -17,7 +17,7 @@ fn keep_even<K: Key>(store: &mut SlotMap<K, u64>)
 }
 
 /// Halves each value, and keeps every key.
-fn halve_all<K: Key>(store: &mut SlotMap<K, u64>)
+pub fn halve_all<K: Key>(store: &mut SlotMap<K, u64>)
     ensures { (k : KeyOf) → map.get store.new.live k ≡ option_map (λ value. value / 2) (map.get store.old.live k) }
 {
     store.retain(|_, value| {
@@ -27,7 +27,7 @@ fn halve_all<K: Key>(store: &mut SlotMap<K, u64>)
 }
 
 /// Keeps so many entries at most: the closure counts those that it keeps.
-fn keep_first(store: &mut SlotMap<DefaultKey, u64>, most: usize)
+pub fn keep_first(store: &mut SlotMap<DefaultKey, u64>, most: usize)
     ensures count { map.len store.new.live ≡ min most (map.len store.old.live) }
     ensures kept { (k : KeyOf) → IsLive store.new k → map.get store.new.live k ≡ map.get store.old.live k }
 {

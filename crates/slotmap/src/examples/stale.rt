@@ -8,7 +8,7 @@ ghost use Rattle.slotmap_core.specs.Spent.{IsSpent};
 use crate::{DefaultKey, InsertError, SlotMap};
 
 /// Takes a value out, and stores another one, for which the same place is used.
-fn renew(
+pub fn renew(
     store: &mut SlotMap<DefaultKey, u64>,
     key: DefaultKey,
     value: u64,
@@ -22,7 +22,7 @@ fn renew(
 }
 
 /// Stores and removes so many values: a stale key stays stale.
-fn churn(
+pub fn churn(
     store: &mut SlotMap<DefaultKey, u64>,
     stale: DefaultKey,
     count: u64,

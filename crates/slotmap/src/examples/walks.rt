@@ -8,7 +8,7 @@ use crate::{DefaultKey, InsertError, Key, SlotMap};
 use std::alloc::{AllocError, Global};
 
 /// A key that has this value.
-fn find_key<K: Key>(store: &SlotMap<K, u64>, wanted: u64) -> Option<K>
+pub fn find_key<K: Key>(store: &SlotMap<K, u64>, wanted: u64) -> Option<K>
     ensures found { IfSome result (λ key. map.get store.now.live (K.data_of key) ≡ Some wanted) }
     ensures none { IfNone result ((k : KeyOf) → map.get store.now.live k ≡ Some wanted → ⊥) }
 {
@@ -21,7 +21,7 @@ fn find_key<K: Key>(store: &SlotMap<K, u64>, wanted: u64) -> Option<K>
 }
 
 /// Whether each value is at most so much.
-fn all_at_most<K: Key>(store: &SlotMap<K, u64>, most: u64) -> bool
+pub fn all_at_most<K: Key>(store: &SlotMap<K, u64>, most: u64) -> bool
     ensures { IsTrue result ↔ ((k : KeyOf) (v : ℕ) → map.get store.now.live k ≡ Some v → v ≤ most) }
 {
     for (_, value) in store {
@@ -33,7 +33,7 @@ fn all_at_most<K: Key>(store: &SlotMap<K, u64>, most: u64) -> bool
 }
 
 /// Stores the numbers below `count`.
-fn fill(store: &mut SlotMap<DefaultKey, usize>, count: usize) -> Result<(), InsertError<usize>>
+pub fn fill(store: &mut SlotMap<DefaultKey, usize>, count: usize) -> Result<(), InsertError<usize>>
     ensures { OnOk result (map.len store.new.live ≡ map.len store.old.live + count) }
 {
     for i in 0..count {
@@ -43,7 +43,7 @@ fn fill(store: &mut SlotMap<DefaultKey, usize>, count: usize) -> Result<(), Inse
 }
 
 /// The sum of the values.
-fn total(store: &SlotMap<DefaultKey, u64>) -> u64
+pub fn total(store: &SlotMap<DefaultKey, u64>) -> u64
     requires { sum (map.values store.now.live) < 2 ^ 64 }
     ensures { result ≡ sum (map.values store.now.live) }
 {
@@ -51,14 +51,17 @@ fn total(store: &SlotMap<DefaultKey, u64>) -> u64
 }
 
 /// How many values are even.
-fn count_even(store: &SlotMap<DefaultKey, u64>) -> usize
+pub fn count_even(store: &SlotMap<DefaultKey, u64>) -> usize
     ensures { result ≡ count_by (λ value. value % 2 == 0) (map.values store.now.live) }
 {
     store.values().filter(|value| **value % 2 == 0).count()
 }
 
 /// The live keys, by ascending index.
-fn all_keys(alloc: Global, store: &SlotMap<DefaultKey, u64>) -> Result<Vec<DefaultKey>, AllocError>
+pub fn all_keys(
+    alloc: Global,
+    store: &SlotMap<DefaultKey, u64>,
+) -> Result<Vec<DefaultKey>, AllocError>
     ensures { IfOk result (λ keys. keys.items ≡ map.keys store.now.live) }
 {
     store.keys().collect(alloc)

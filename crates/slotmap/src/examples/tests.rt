@@ -1,0 +1,125 @@
+//! Each example is run once.
+
+use crate::examples::drains::{drop_all, take_one};
+use crate::examples::exchange::exchange;
+use crate::examples::lookups::{add_one, forget, push_pop, set, store_and_read, store_two};
+use crate::examples::own_key::{PageKey, add_last};
+use crate::examples::registry::{Registry, count};
+use crate::examples::retains::{halve_all, keep_even, keep_first};
+use crate::examples::scheduler::Scheduler;
+use crate::examples::stale::{churn, renew};
+use crate::examples::tour::tour;
+use crate::examples::walks::{all_at_most, all_keys, count_even, fill, find_key, total};
+use crate::{DefaultKey, Key, SlotMap};
+use std::alloc::Global;
+use std::test::Fail;
+
+type Numbers = SlotMap<DefaultKey, u64>;
+
+// A map of these values, and the first of its keys.
+fn numbers(alloc: Global, values: &[u64]) -> Result<(Numbers, DefaultKey), Fail> {
+    let mut made = SlotMap::new(alloc)?;
+    let first = made.insert(values[0])?;
+    for value in &values[1..] {
+        made.insert(*value)?;
+    }
+    Ok((made, first))
+}
+
+#[test]
+fn values_by_their_keys(rt: HostRuntime) -> Result<(), Fail> {
+    tour(&rt, rt.alloc())?;
+    let mut made = SlotMap::new(rt.alloc())?;
+    assert_eq!(rt; store_and_read(&mut made, 5)?, 5);
+    let (first, second) = store_two(&mut made)?;
+    assert_eq!(rt; made.get(first), Some(&1));
+    assert_eq!(rt; made.get(second), Some(&2));
+
+    let (mut made, key) = numbers(rt.alloc(), &[7, 8])?;
+    assert_eq!(rt; push_pop(&mut made, 9)?, Some(9));
+    assert!(rt; set(&mut made, key, 5));
+    if made.get(key) == Some(&5) {
+        add_one(&mut made, key);
+    }
+    assert_eq!(rt; made.get(key), Some(&6));
+    forget(&mut made, key);
+    assert!(rt; !set(&mut made, key, 5));
+    assert_eq!(rt; made.len(), 1);
+    Ok(())
+}
+
+#[test]
+fn walks(rt: HostRuntime) -> Result<(), Fail> {
+    let (made, key) = numbers(rt.alloc(), &[7, 8])?;
+    assert_eq!(rt; find_key(&made, 7), Some(key));
+    assert_eq!(rt; find_key(&made, 9), None);
+    assert!(rt; all_at_most(&made, 8));
+    assert!(rt; !all_at_most(&made, 7));
+    assert_eq!(rt; total(&made), 15);
+    assert_eq!(rt; count_even(&made), 1);
+    let keys = all_keys(rt.alloc(), &made)?;
+    assert_eq!(rt; keys.len(), 2);
+    assert_eq!(rt; keys[0], key);
+    let mut counted = SlotMap::new(rt.alloc())?;
+    fill(&mut counted, 5)?;
+    assert_eq!(rt; counted.len(), 5);
+    Ok(())
+}
+
+#[test]
+fn retains_and_drains(rt: HostRuntime) -> Result<(), Fail> {
+    let (mut made, key) = numbers(rt.alloc(), &[8, 7, 6, 4, 2])?;
+    keep_even(&mut made);
+    assert_eq!(rt; made.len(), 4);
+    keep_first(&mut made, 5);
+    assert_eq!(rt; made.len(), 4);
+    keep_first(&mut made, 3);
+    assert_eq!(rt; made.len(), 3);
+    halve_all(&mut made);
+    assert_eq!(rt; total(&made), 9);
+    assert_eq!(rt; take_one(&mut made), Some((key, 4)));
+    assert!(rt; made.is_empty());
+    assert_eq!(rt; take_one(&mut made), None);
+    made.insert(9)?;
+    drop_all(&mut made);
+    assert!(rt; made.is_empty());
+    Ok(())
+}
+
+#[test]
+fn values_taken_out(rt: HostRuntime) -> Result<(), Fail> {
+    let (mut made, key) = numbers(rt.alloc(), &[7, 8])?;
+    assert_eq!(rt; exchange(&mut made, key, 9), Some(7));
+    assert_eq!(rt; made.get(key), Some(&9));
+    assert_eq!(rt; exchange(&mut made, DefaultKey::null(), 5), None);
+    if made.contains_key(key) {
+        let later = renew(&mut made, key, 6)?;
+        assert_eq!(rt; later.data().idx(), key.data().idx());
+        assert!(rt; !made.contains_key(key));
+        churn(&mut made, key, 10)?;
+    }
+    assert_eq!(rt; total(&made), 14);
+    Ok(())
+}
+
+#[test]
+fn maps_in_structs(rt: HostRuntime) -> Result<(), Fail> {
+    let mut counters = Registry::new(rt.alloc())?;
+    let key = counters.add(0)?;
+    assert!(rt; count(&mut counters, key));
+    assert_eq!(rt; counters.get(key), Some(&1));
+    assert_eq!(rt; counters.remove(key), Some(1));
+    assert!(rt; !count(&mut counters, key));
+
+    let mut jobs = Scheduler::new(rt.alloc())?;
+    let early = jobs.add(5)?;
+    let late = jobs.add(9)?;
+    jobs.tick(5);
+    assert!(rt; !jobs.cancel(early));
+    assert!(rt; jobs.cancel(late));
+
+    let mut pages = SlotMap::with_key(rt.alloc())?;
+    let page: PageKey = add_last(&mut pages, 100)?;
+    assert!(rt; pages.get(page).is_some_and(|page| page.next.is_null()));
+    Ok(())
+}
