@@ -10,3 +10,9 @@ pub(crate) struct Given<L, P, N> {
     pub(crate) keep: P,
     pub(crate) make: N,
 }
+
+/// On a map that holds values under keys of another one.
+#[derive(Drop)]
+pub(crate) struct GivenLook<L> {
+    pub(crate) look: L,
+}
