@@ -14,6 +14,17 @@ module _ {P : Type 0} where
   zip-length (v ∷ vs) (l ∷ ls) [] same_l same_x = absurd (omega arith)
   zip-length (v ∷ vs) (l ∷ ls) (x ∷ xs) same_l same_x = omega (arith, zip-length vs ls xs (omega arith) (omega arith))
 
+  pub zip-at : (vs : List ℕ) (ls : List Link) (xs : List (Option P)) (i v : ℕ) (l : Link) (x : Option P) → slice_get vs i ≡ Some v → slice_get ls i ≡ Some l → slice_get xs i ≡ Some x → slice_get (zip_slots vs ls xs) i ≡ Some (record { version = v; link = l; payload = x })
+  zip-at [] ls xs i v l x at_v at_l at_x = absurd (cc)
+  zip-at (w ∷ vs) [] xs i v l x at_v at_l at_x = absurd (cc)
+  zip-at (w ∷ vs) (m ∷ ls) [] i v l x at_v at_l at_x = absurd (cc)
+  zip-at (w ∷ vs) (m ∷ ls) (y ∷ xs) zero v l x at_v at_l at_x =
+      let same_v : w ≡ v = cc in
+      let same_l : m ≡ l = cc in
+      let same_x : y ≡ x = cc in
+      ap Some (λ j. record { version = same_v j; link = same_l j; payload = same_x j })
+  zip-at (w ∷ vs) (m ∷ ls) (y ∷ xs) (suc i) v l x at_v at_l at_x = zip-at vs ls xs i v l x at_v at_l at_x
+
   pub zip-version : (vs : List ℕ) (ls : List Link) (xs : List (Option P)) (i : ℕ) → length ls ≡ length vs → length xs ≡ length vs → version_at (zip_slots vs ls xs) i ≡ slice_get vs i
   zip-version [] ls xs i same_l same_x = refl
   zip-version (v ∷ vs) [] xs i same_l same_x = absurd (omega arith)

@@ -39,3 +39,5 @@ pub mod KeyedLemmas
 pub mod KeyedVisits
 pub mod SeveralLemmas
 pub mod SecondaryEqualLemmas
+pub mod ListReadLemmas
+pub mod PairsLemmas

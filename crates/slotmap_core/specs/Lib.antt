@@ -22,6 +22,7 @@ pub mod Slot
 pub mod LayoutLends
 pub mod Columns
 pub mod SlotsLend
+pub mod Walk
 pub mod Slots
 pub mod Json
 pub mod Contents
@@ -32,3 +33,4 @@ pub mod SecondaryStep
 pub mod SecondaryLaw
 pub mod Several
 pub mod SecondaryEqual
+pub mod ListRead

@@ -11,6 +11,7 @@ use std::alloc::{AllocError, Global};
 mod columns;
 
 pub use columns::Columns;
+pub(crate) use columns::{next_odd, version_in};
 
 /// What the slot of a place is used for.
 #[derive(Clone, Copy)]
@@ -99,6 +100,8 @@ pub trait Layout<P>: Sized {
 
     /// Puts a payload at an index, under this version; what stood there is dropped.
     fn put(&mut self, index: usize, version: u32, payload: P)
+    where
+        P: Drop,
         requires { index < length (slots self.old) }
         ensures put { slots self.new ≡ slice_set (slots self.old) index (full version payload) }
         ensures same_room { fits self.new ≡ fits self.old };

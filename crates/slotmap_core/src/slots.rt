@@ -18,9 +18,14 @@ use std::alloc::Global;
 use std::marker::{Model, PhantomData};
 
 mod access;
+mod copy;
 mod detach;
 mod insert;
+mod list;
 mod remove;
+mod walk;
+
+pub use walk::{SlotIntoIter, SlotIter};
 
 /// The slots of a map. A contract sees them as what the map holds.
 #[derive(Drop)]

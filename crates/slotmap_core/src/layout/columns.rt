@@ -1,7 +1,8 @@
 //! Slots in three vectors of one length.
 
-ghost use Rattle.std.specs.Prelude.{◌≡◌, ◌<◌, ◌≤◌, ◌%◌, ◌^◌, ℕ, length, slice_get, Some, refl, vec_capacity};
-ghost use Rattle.slotmap_core.specs.Columns.{AllEven};
+ghost use Rattle.std.specs.Prelude.{◌≡◌, ◌<◌, ◌≤◌, ◌%◌, ◌^◌, ℕ, List, length, slice_get, Some, refl, vec_capacity};
+ghost use Rattle.slotmap_core.specs.Columns.{AllEven, zip_slots};
+ghost use Rattle.slotmap_core.specs.declared.layout.Link.{Link as LinkOf};
 
 use super::{Layout, Link};
 use std::alloc::{AllocError, Global};
@@ -79,6 +80,14 @@ pub(crate) fn next_odd(versions: &[u32], start: usize) -> usize
     index
 }
 
+// The version at an index.
+pub(crate) fn version_in(versions: &[u32], index: usize) -> u32
+    requires { index < length versions.now }
+    ensures { slice_get versions.now index ≡ Some result }
+{
+    versions[index]
+}
+
 impl<P> Columns<P> {
     // So many slots fit in each of these.
     fn room(versions: &Vec<u32>, links: &Vec<Link>, payloads: &Vec<Option<P>>) -> usize
@@ -91,9 +100,31 @@ impl<P> Columns<P> {
         let others = links.capacity().min(payloads.capacity());
         versions.capacity().min(others).min(LIMIT)
     }
+
+    // The versions and the payloads.
+    pub(crate) fn as_slices(&self) -> (&[u32], &[Option<P>])
+        ensures { (links : List LinkOf) × (length links ≡ length result.0.now) × (length result.1.now ≡ length result.0.now) × (zip_slots result.0.now links result.1.now ≡ self.now.slots) }
+    {
+        (self.versions.as_slice(), self.payloads.as_slice())
+    }
 }
 
-impl<P: Drop> Layout<P> for Columns<P> {
+impl<P> Columns<P> {
+    // The versions and the payloads; the links are dropped.
+    pub(crate) fn into_parts(self) -> (Vec<u32>, Vec<Option<P>>)
+        ensures { (links : List LinkOf) × (length links ≡ length result.0.items) × (length result.1.items ≡ length result.0.items) × (zip_slots result.0.items links result.1.items ≡ self.slots) }
+    {
+        let Columns {
+            versions,
+            links: _,
+            payloads,
+            capacity: _,
+        } = self;
+        (versions, payloads)
+    }
+}
+
+impl<P> Layout<P> for Columns<P> {
     ghost use Rattle.std.specs.Prelude.{ℕ, List};
     ghost use Rattle.slotmap_core.specs.Slot.{Slot, Laid, with_payload};
 
@@ -164,7 +195,10 @@ impl<P: Drop> Layout<P> for Columns<P> {
         payload
     }
 
-    fn put(&mut self, index: usize, version: u32, payload: P) {
+    fn put(&mut self, index: usize, version: u32, payload: P)
+    where
+        P: Drop,
+    {
         self.versions[index] = version;
         self.links[index] = Link::InUse;
         self.payloads[index] = Some(payload);

@@ -56,6 +56,8 @@ impl<P, L: Layout<P>> Slots<P, L> {
 
     /// Binds a key that is detached to a payload again.
     pub fn reattach(&mut self, key: KeyData, payload: P)
+    where
+        P: Drop,
         requires { IsDetached self.old key }
         ensures reattaches { Reattaches self.old key payload self.new }
         ensures valid { StaysValid true self.old self.new }

@@ -24,6 +24,8 @@ impl<P, L: Layout<P>> Slots<P, L> {
     /// Binds the next key to a payload, where there is room for it, and answers the key.
     #[inline(always)]
     pub fn fill(&mut self, payload: P) -> KeyData
+    where
+        P: Drop,
         requires { 0 < self.old.room }
         ensures value { result ≡ self.old.offer }
         ensures inserts { Inserts self.old self.old.offer payload self.new }

@@ -1,0 +1,18 @@
+use Rattle.std.proofs.Common.{◌≡◌, ◌+◌, ◌≤◌, ◌∷◌, ◌++◌, length}
+use Rattle.std.specs.Vec.Iter.{into_iter_items, into_iter_len}
+use Rattle.slotmap_core.specs.declared.serial.SlotRecord.{SlotRecord}
+use Rattle.slotmap_core.proofs.ListReadLemmas.{AreRead}
+use Rattle.slotmap_core.proofs.slots.Slots.from_slots.Given as goal
+
+-- these records were read, after the first one
+abbrev pub invariant-loop-record : goal.invariant-loop-record
+invariant-loop-record g l = record {
+  first : SlotRecord g.row.P.Denot;
+  all : first ∷ l.yielded ++ into_iter_items l.record-iterator ≡ l.fn.list.items;
+  left : into_iter_len l.record-iterator ≡ length (into_iter_items l.record-iterator);
+  counted : length l.yielded + into_iter_len l.record-iterator + 1 ≡ length l.fn.list.items;
+  read : AreRead (first ∷ l.yielded) (g.L.Layout.slots l.layout) l.first_vacant l.vacant_count l.live_count;
+  few_free : l.vacant_count ≤ length l.yielded;
+  few_live : l.live_count ≤ length l.yielded;
+  room : length (g.L.Layout.slots l.layout) + into_iter_len l.record-iterator ≤ g.L.Layout.fits l.layout;
+}

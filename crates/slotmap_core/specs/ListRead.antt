@@ -1,0 +1,18 @@
+-- What a map holds that was read from a list of slots, and what runs and lists go on from there.
+use Rattle.std.specs.Prelude.{Bool, List}
+use Rattle.slotmap_core.specs.Content.{Content, IsContent}
+use Rattle.slotmap_core.specs.Contents.{StartsFrom, start_state}
+use Rattle.slotmap_core.specs.Fit.{Fits}
+use Rattle.slotmap_core.specs.Written.{Writes, Restores, read_slots}
+use Rattle.slotmap_core.specs.declared.serial.SlotRecord.{SlotRecord}
+
+pub record ReadsAs {V : Type 0} (reuses : Bool) (slots : List (SlotRecord V)) (c : Content V) : Type 0 where
+  -- what the list says
+  pub starts : StartsFrom slots c
+  pub valid : IsContent reuses c
+  -- runs of commands go on from the list's state: no key that it counts as handed out is handed out again
+  pub fits : Fits (start_state slots) c
+  -- where a map wrote this list, what was live there is live here, and what was detached has left
+  pub restores : (any : Bool) (old : Content V) → IsContent any old → Writes old slots → Restores old c
+  -- the map is written as this list, but for the version of the first slot
+  pub writes_back : Writes c (read_slots slots)

@@ -1,0 +1,27 @@
+//! Copies.
+
+ghost use Rattle.std.specs.Prelude.{◌≡◌, true, IfOk};
+ghost use Rattle.slotmap_core.specs.Content.{IsContent};
+ghost use Rattle.slotmap_core.specs.Copy.{IsCopy};
+
+use super::Slots;
+use crate::layout::Layout;
+use std::alloc::AllocError;
+use std::marker::PhantomData;
+
+impl<P: Clone, L: Layout<P>> Slots<P, L> {
+    /// A copy, with clones of the payloads.
+    pub fn copy(&self) -> Result<Self, AllocError>
+        requires { (x y : P) → P.is_clone x y → y ≡ x }
+        ensures copies { IfOk result (IsCopy self.now) }
+        ensures valid { IfOk result (IsContent true) }
+    {
+        Ok(Slots {
+            layout: self.layout.copy()?,
+            first_vacant: self.first_vacant,
+            vacant_count: self.vacant_count,
+            live_count: self.live_count,
+            payloads: PhantomData,
+        })
+    }
+}

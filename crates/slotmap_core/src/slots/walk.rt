@@ -1,0 +1,195 @@
+//! Walks over slots in three vectors, by ascending index.
+
+ghost use Rattle.std.specs.Prelude.{◌≡◌, ◌≤◌, length, Some, IfSome, IfOk, ⊤};
+ghost use Rattle.std.specs.Iterator.{YieldsFirstBy, item_count, at_most, UpTo};
+ghost use Rattle.std.specs.FinMap as map;
+
+use super::Slots;
+use crate::keys::KeyData;
+use crate::layout::{Columns, next_odd, version_in};
+use std::alloc::AllocError;
+use std::marker::Model;
+
+/// A walk over the live keys and their payloads. A contract sees it as the list of the pairs that
+/// are still to come.
+#[derive(Drop)]
+pub struct SlotIter<'a, P> {
+    versions: &'a [u32],
+    payloads: &'a [Option<P>],
+    // The place that comes next.
+    index: usize,
+    // How many payloads are still to come.
+    left: usize,
+}
+
+impl<'a, P> Model for SlotIter<'a, P> {
+    ghost use Rattle.std.specs.Prelude.{List};
+    ghost use Rattle.slotmap_core.specs.Key.{Key};
+    ghost use Rattle.slotmap_core.specs.Walk.{pairs_left, IsWalk};
+
+    ghost Value = { List (Key × P) };
+
+    ghost view = { λ it. pairs_left it.index it.versions.now it.payloads.now };
+
+    ghost invariant = { λ it. IsWalk it.versions.now it.payloads.now it.index it.left };
+}
+
+impl<'a, P> SlotIter<'a, P> {
+    /// How many pairs are still to come.
+    pub fn len(&self) -> usize
+        ensures { result ≡ length self.now }
+    {
+        self.left
+    }
+}
+
+impl<'a, P> Clone for SlotIter<'a, P> {
+    ghost is_clone = { λ it copy. copy ≡ it };
+
+    ghost is_infallible = { λ _. ⊤ };
+
+    fn clone(&self) -> Result<Self, AllocError> {
+        Ok(SlotIter {
+            versions: self.versions,
+            payloads: self.payloads,
+            index: self.index,
+            left: self.left,
+        })
+    }
+}
+
+impl<'a, P> Iterator for SlotIter<'a, P> {
+    type Item = (KeyData, &'a P);
+
+    ghost next_gives = { YieldsFirstBy (λ item. (item.0, item.1.now)) (λ rest. rest) };
+
+    ghost remaining = { item_count (λ rest. rest) };
+
+    #[inline(always)]
+    fn next(&mut self) -> Option<(KeyData, &'a P)> {
+        if self.left == 0 {
+            return None;
+        }
+        let index = next_odd(self.versions, self.index);
+        self.index = index + 1;
+        self.left -= 1;
+        let version = version_in(self.versions, index);
+        let key = KeyData::exact(index as u32, version);
+        let payload = self.payloads[index].as_ref().unwrap();
+        Some((key, payload))
+    }
+
+    fn size_hint(&self) -> (usize, Option<usize>)
+        ensures lower { result.0 ≤ length self.now }
+        ensures upper { IfSome result.1 (UpTo (at_most (length self.now))) }
+        ensures exact { result ≡ (length self.now, Some (length self.now)) }
+    {
+        (self.left, Some(self.left))
+    }
+}
+
+/// A walk that takes the payloads out. A contract sees it as the list of the pairs that are still to
+/// come.
+#[derive(Drop)]
+pub struct SlotIntoIter<P> {
+    versions: Vec<u32>,
+    payloads: Vec<Option<P>>,
+    // The place that comes next.
+    index: usize,
+    // How many payloads are still to come.
+    left: usize,
+}
+
+impl<P> Model for SlotIntoIter<P> {
+    ghost use Rattle.std.specs.Prelude.{List};
+    ghost use Rattle.slotmap_core.specs.Key.{Key};
+    ghost use Rattle.slotmap_core.specs.Walk.{pairs_left, IsWalk};
+
+    ghost Value = { List (Key × P) };
+
+    ghost view = { λ it. pairs_left it.index it.versions.items it.payloads.items };
+
+    ghost invariant = { λ it. IsWalk it.versions.items it.payloads.items it.index it.left };
+}
+
+impl<P> SlotIntoIter<P> {
+    /// How many pairs are still to come.
+    pub fn len(&self) -> usize
+        ensures { result ≡ length self.now }
+    {
+        self.left
+    }
+}
+
+impl<P: Clone> SlotIntoIter<P> {
+    /// A second walk over the pairs that are still to come, with clones of the payloads.
+    pub fn copy(&self) -> Result<Self, AllocError>
+        requires { (x y : P) → P.is_clone x y → y ≡ x }
+        ensures { IfOk result (λ copy. copy ≡ self.now) }
+    {
+        Ok(SlotIntoIter {
+            versions: self.versions.clone()?,
+            payloads: self.payloads.clone()?,
+            index: self.index,
+            left: self.left,
+        })
+    }
+}
+
+impl<P: Drop> Iterator for SlotIntoIter<P> {
+    type Item = (KeyData, P);
+
+    ghost next_gives = { YieldsFirstBy (λ item. (item.0, item.1)) (λ rest. rest) };
+
+    ghost remaining = { item_count (λ rest. rest) };
+
+    fn next(&mut self) -> Option<(KeyData, P)> {
+        if self.left == 0 {
+            return None;
+        }
+        let index = next_odd(&self.versions, self.index);
+        self.index = index + 1;
+        self.left -= 1;
+        let version = self.versions[index];
+        let key = KeyData::exact(index as u32, version);
+        let payload = self.payloads[index].take().unwrap();
+        Some((key, payload))
+    }
+
+    fn size_hint(&self) -> (usize, Option<usize>)
+        ensures lower { result.0 ≤ length self.now }
+        ensures upper { IfSome result.1 (UpTo (at_most (length self.now))) }
+        ensures exact { result ≡ (length self.now, Some (length self.now)) }
+    {
+        (self.left, Some(self.left))
+    }
+}
+
+impl<P> Slots<P, Columns<P>> {
+    /// A walk over the live keys and their payloads.
+    pub fn iter(&self) -> SlotIter<'_, P>
+        ensures { result ≡ map.entries self.now.live }
+    {
+        let (versions, payloads) = self.layout.as_slices();
+        SlotIter {
+            versions,
+            payloads,
+            index: 0,
+            left: self.live_count as usize,
+        }
+    }
+
+    /// A walk that takes the payloads of the live keys out.
+    pub fn into_iter(self) -> SlotIntoIter<P>
+        ensures { result ≡ map.entries self.live }
+    {
+        let left = self.live_count as usize;
+        let (versions, payloads) = self.layout.into_parts();
+        SlotIntoIter {
+            versions,
+            payloads,
+            index: 0,
+            left,
+        }
+    }
+}
