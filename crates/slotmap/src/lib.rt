@@ -24,3 +24,6 @@ pub use slotmap_core::serial::{
 };
 pub use slotmap_run::detaching::{run_detaching, run_detaching_new};
 pub use slotmap_run::primary::{run, run_new};
+
+#[cfg(test)]
+mod tests;

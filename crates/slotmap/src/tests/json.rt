@@ -1,0 +1,157 @@
+//! JSON of keys and of lists of slots.
+
+use super::text::{Slot, done_text, key, key_text, slots, slots_text};
+use crate::{
+    DefaultKey, JsonError, OutOfMemory, SlotRecord, key_from_value, key_to_value, slots_from_value,
+    slots_to_value,
+};
+use serde_json::Value;
+use std::alloc::Global;
+use std::cell::Cell;
+use std::test::Fail;
+
+// Texts, and the keys that are read from them.
+const KEYS: [(&str, &str); 8] = [
+    ("{\"idx\":2,\"version\":3}", "2v3"),
+    ("{\"idx\":0,\"version\":4}", "0v5"),
+    ("{\"idx\":4294967295,\"version\":9}", "null"),
+    ("{\"version\":1,\"idx\":2,\"x\":true}", "2v1"),
+    ("{\"idx\":1}", "shape"),
+    ("{\"idx\":-1,\"version\":1}", "shape"),
+    ("{\"idx\":1,\"version\":-1}", "shape"),
+    ("{\"idx\":1,\"version\":4294967296}", "shape"),
+];
+
+#[test]
+fn keys_are_read(rt: HostRuntime) -> Result<(), Fail> {
+    for (json, wanted) in KEYS {
+        let value = Value::from_str(rt.alloc(), json)?;
+        let read: Result<DefaultKey, JsonError> = key_from_value(&value);
+        let text = match read {
+            Ok(key) => key_text(rt.alloc(), key)?,
+            Err(error) => done_text(rt.alloc(), Err(error))?,
+        };
+        assert_eq!(rt; text.as_str(), wanted, "{json}");
+    }
+    Ok(())
+}
+
+#[test]
+fn keys_are_written(rt: HostRuntime) -> Result<(), Fail> {
+    let text = key_to_value(rt.alloc(), key(2, 3))?.to_string(rt.alloc())?;
+    assert_eq!(rt; text.as_str(), "{\"idx\":2,\"version\":3}");
+    Ok(())
+}
+
+fn read_number(value: &Value) -> Result<u64, JsonError> {
+    value.as_u64().ok_or(JsonError::Shape)
+}
+
+fn write_number(value: &u64) -> Result<Value, OutOfMemory> {
+    Ok(Value::from(*value))
+}
+
+// Texts, and the lists that are read from them.
+const READ: [(&str, &str); 12] = [
+    ("[]", "slots"),
+    ("[{\"version\":0},{\"version\":1}]", "slots -@0 -@1"),
+    (
+        "[{\"value\":null,\"version\":0},{\"x\":1,\"version\":3,\"value\":7}]",
+        "slots -@0 7@3",
+    ),
+    (
+        "[{\"value\":7,\"version\":4294967295}]",
+        "slots 7@4294967295",
+    ),
+    ("{}", "shape"),
+    ("[3]", "shape"),
+    ("[null]", "shape"),
+    ("[{\"value\":1}]", "shape"),
+    ("[{\"version\":4294967296}]", "shape"),
+    ("[{\"version\":\"1\"}]", "shape"),
+    ("[{\"value\":\"x\",\"version\":1}]", "shape"),
+    ("[{\"version\":0},{\"value\":-1,\"version\":1}]", "shape"),
+];
+
+#[test]
+fn lists_are_read(rt: HostRuntime) -> Result<(), Fail> {
+    for (json, wanted) in READ {
+        let value = Value::from_str(rt.alloc(), json)?;
+        let text = match slots_from_value(rt.alloc(), &value, read_number) {
+            Ok(list) => slots_text(rt.alloc(), &list)?,
+            Err(error) => done_text(rt.alloc(), Err(error))?,
+        };
+        assert_eq!(rt; text.as_str(), wanted, "{json}");
+    }
+    Ok(())
+}
+
+// Lists, and their texts.
+const WRITTEN: [(&[Slot], &str); 3] = [
+    (&[], "[]"),
+    (
+        &[(None, 0), (None, 2)],
+        "[{\"value\":null,\"version\":0},{\"value\":null,\"version\":2}]",
+    ),
+    (&[(Some(7), 3)], "[{\"value\":7,\"version\":3}]"),
+];
+
+#[test]
+fn lists_are_written(rt: HostRuntime) -> Result<(), Fail> {
+    for (list, wanted) in WRITTEN {
+        let list = slots(rt.alloc(), list)?;
+        let value = slots_to_value(rt.alloc(), &list, write_number)?;
+        let text = value.to_string(rt.alloc())?;
+        assert_eq!(rt; text.as_str(), wanted);
+    }
+    Ok(())
+}
+
+#[test]
+fn the_first_refusal_is_answered(rt: HostRuntime) -> Result<(), Fail> {
+    let json = "[{\"value\":1,\"version\":1},{\"value\":2}]";
+    let value = Value::from_str(rt.alloc(), json)?;
+    let refuse = |_: &Value| Err::<u64, JsonError>(JsonError::Memory);
+    assert!(rt;
+        matches!(
+            slots_from_value(rt.alloc(), &value, refuse),
+            Err(JsonError::Memory)
+        )
+    );
+    let list = slots(rt.alloc(), &[(Some(7), 3)])?;
+    let refused = slots_to_value(rt.alloc(), &list, |_: &u64| Err(OutOfMemory));
+    assert!(rt; refused.is_err());
+    Ok(())
+}
+
+// A list of so many slots, each with a value.
+fn full_list(alloc: Global, count: u64) -> Result<Vec<SlotRecord<u64>>, Fail> {
+    let mut list = Vec::new(alloc);
+    for value in 0..count {
+        list.push(SlotRecord {
+            value: Some(value),
+            version: 1,
+        })?;
+    }
+    Ok(list)
+}
+
+#[test]
+fn each_value_of_a_long_list_is_shown_once(rt: HostRuntime) -> Result<(), Fail> {
+    let calls: Cell<u64> = Cell::new(0);
+    let list = full_list(rt.alloc(), 1000)?;
+    let value = slots_to_value(rt.alloc(), &list, |value: &u64| {
+        calls.set(calls.get().wrapping_add(1));
+        write_number(value)
+    })?;
+    assert_eq!(rt; calls.get(), 1000);
+    let read = slots_from_value(rt.alloc(), &value, |value: &Value| {
+        calls.set(calls.get().wrapping_add(1));
+        read_number(value)
+    })?;
+    assert_eq!(rt; calls.get(), 2000);
+    let text = slots_text(rt.alloc(), &list)?;
+    let again = slots_text(rt.alloc(), &read)?;
+    assert!(rt; text.as_str() == again.as_str());
+    Ok(())
+}
