@@ -17,4 +17,5 @@ mod scripts;
 mod slot_map;
 mod tested;
 mod text;
+mod two_runs;
 mod walks;

@@ -74,38 +74,3 @@ pub fn check_slots<V>(list: &[SlotRecord<V>], limit: usize) -> Result<(), SlotsE
     }
     Ok(())
 }
-
-#[cfg(test)]
-mod tests {
-    use super::*;
-
-    fn slot(value: Option<i32>, version: u32) -> SlotRecord<i32> {
-        SlotRecord { value, version }
-    }
-
-    fn answer(list: &[SlotRecord<i32>], limit: usize) -> &'static str {
-        match check_slots(list, limit) {
-            Ok(()) => "ok",
-            Err(SlotsError::TooMany) => "too many",
-            Err(SlotsError::FirstNotEmpty) => "first not empty",
-            Err(SlotsError::Inconsistent(1)) => "inconsistent 1",
-            Err(SlotsError::Inconsistent(2)) => "inconsistent 2",
-            Err(_) => "other",
-        }
-    }
-
-    #[test]
-    fn checks_in_order(rt: HostRuntime) {
-        let odd = [slot(Some(7), 1), slot(None, 0), slot(None, 0)];
-        assert_eq!(rt; answer(&odd, 3), "too many");
-        assert_eq!(rt; answer(&odd, 4), "first not empty");
-        assert_eq!(rt; answer(&[], 0), "too many");
-        assert_eq!(rt; answer(&[], 1), "first not empty");
-        let early = [slot(None, 0), slot(Some(7), 2), slot(None, 1)];
-        assert_eq!(rt; answer(&early, 4), "inconsistent 1");
-        let late = [slot(None, 0), slot(Some(7), 1), slot(None, 3)];
-        assert_eq!(rt; answer(&late, 4), "inconsistent 2");
-        let good = [slot(None, 4), slot(Some(7), 3), slot(None, 0)];
-        assert_eq!(rt; answer(&good, 4), "ok");
-    }
-}

@@ -1,4 +1,4 @@
-use Rattle.slotmap_run.proofs.tests.two_runs.run_twice.Goals as goal
+use Rattle.slotmap.proofs.tests.two_runs.run_twice.Goals as goal
 
 pub returns-clause-no_key_twice : goal.returns-clause-no_key_twice
 returns-clause-no_key_twice g c =

@@ -3,12 +3,11 @@
 ghost use Rattle.std.specs.Prelude.{◌++◌, IfSome};
 ghost use Rattle.slotmap_core.specs.Law.{DetachLaws, Laws, NoKeyTwice};
 
-use super::{Map, key};
-use crate::detaching::{run_detaching, run_detaching_new};
-use crate::primary::run;
-use slotmap_core::commands::{Command, DetachCommand, Reply};
-use slotmap_core::keys::{DefaultKey, Key};
-use slotmap_core::primary::{Detaching, Primary};
+use super::text::key;
+use crate::{
+    Command, DefaultKey, DetachCommand, Detaching, Key, Primary, Reply, SlotMap, run,
+    run_detaching, run_detaching_new,
+};
 use std::alloc::Global;
 use std::test::Fail;
 
@@ -60,15 +59,15 @@ where
 
 #[test]
 fn a_second_run_answers_no_key_of_the_first(rt: HostRuntime) -> Result<(), Fail> {
-    let mut map = Map::new(rt.alloc())?;
+    let mut map: SlotMap<DefaultKey, u64> = SlotMap::new(rt.alloc())?;
     let first = vec![in rt.alloc();
         Command::Insert(1),
-        Command::Remove(key(4294967297)),
+        Command::Remove(key(1, 1)),
         Command::InsertWith,
     ]?;
     let second = vec![in rt.alloc();
         Command::InsertWith,
-        Command::Get(key(12884901889)),
+        Command::Get(key(1, 3)),
         Command::Retain,
         Command::Len,
         Command::Insert(7),
@@ -77,18 +76,18 @@ fn a_second_run_answers_no_key_of_the_first(rt: HostRuntime) -> Result<(), Fail>
     let Some((earlier, later)) = told else {
         return Err(Fail::from("a run was refused"));
     };
-    assert!(rt; matches!(earlier.get(0), Some(Reply::Key(k)) if *k == key(4294967297)));
+    assert!(rt; matches!(earlier.get(0), Some(Reply::Key(k)) if *k == key(1, 1)));
     assert!(rt; matches!(earlier.get(2), Some(Reply::Failed(()))));
-    assert!(rt; matches!(later.get(0), Some(Reply::Key(k)) if *k == key(12884901889)));
+    assert!(rt; matches!(later.get(0), Some(Reply::Key(k)) if *k == key(1, 3)));
     assert!(rt; matches!(later.get(1), Some(Reply::Looked(Some(0)))));
     assert!(rt; matches!(later.get(3), Some(Reply::Len(0))));
-    assert!(rt; matches!(later.get(4), Some(Reply::Key(k)) if *k == key(21474836481)));
+    assert!(rt; matches!(later.get(4), Some(Reply::Key(k)) if *k == key(1, 5)));
     Ok(())
 }
 
 #[test]
 fn a_run_goes_on_where_one_on_a_new_map_ended(rt: HostRuntime) -> Result<(), Fail> {
-    let first = key(4294967297);
+    let first = key(1, 1);
     let commands = vec![in rt.alloc();
         DetachCommand::Plain(Command::Insert(1)),
         DetachCommand::Detach(first),
@@ -98,12 +97,12 @@ fn a_run_goes_on_where_one_on_a_new_map_ended(rt: HostRuntime) -> Result<(), Fai
         DetachCommand::Reattach(first, 9),
         DetachCommand::Plain(Command::Replace(first, 8)),
     ]?;
-    let made: Option<(Map, _, _)> = run_new_and_on(rt.alloc(), commands, more);
+    let made: Option<(SlotMap<DefaultKey, u64>, _, _)> = run_new_and_on(rt.alloc(), commands, more);
     let Some((map, earlier, later)) = made else {
         return Err(Fail::from("a run was refused"));
     };
     assert!(rt; matches!(earlier.get(1), Some(Reply::Taken(Some(1)))));
-    assert!(rt; matches!(later.get(0), Some(Reply::Key(k)) if *k == key(4294967298)));
+    assert!(rt; matches!(later.get(0), Some(Reply::Key(k)) if *k == key(2, 1)));
     assert!(rt; matches!(later.get(1), Some(Reply::Done)));
     assert!(rt; matches!(later.get(2), Some(Reply::Put(Ok(9)))));
     assert_eq!(rt; map.get(first).copied(), Some(8));
