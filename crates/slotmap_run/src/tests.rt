@@ -1,1 +1,0 @@
-//! Callers of a map.
