@@ -41,3 +41,4 @@ pub mod SeveralLemmas
 pub mod SecondaryEqualLemmas
 pub mod ListReadLemmas
 pub mod PairsLemmas
+pub mod SecondaryCallers
