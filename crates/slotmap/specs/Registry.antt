@@ -2,7 +2,7 @@
 use Rattle.std.specs.Prelude.{Option}
 use Rattle.std.specs.Borrow.{LendsIf, Fml, RattleType, MutBor}
 use Rattle.std.specs.FinMap as map
-use Rattle.slotmap_core.specs.Key.{Key, key_cmp}
+use Rattle.slotmap.specs.Words.{Key, key_cmp}
 use Rattle.slotmap.specs.contracts.examples.registry.Registry.{the_row}
 
 -- once the borrow ends, the handle has the last value written through it, and at `None` all stays

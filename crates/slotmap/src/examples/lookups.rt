@@ -2,10 +2,7 @@
 
 ghost use Rattle.std.specs.Prelude.{◌≡◌, ◌≢◌, ℕ, ◌+◌, ◌<◌, ◌^◌, IfOk, OnOk, IfErr, Some, None, true, false, if◌then◌else◌};
 ghost use Rattle.std.specs.FinMap as map;
-ghost use Rattle.slotmap_core.specs.Key.{Key as KeyOf};
-ghost use Rattle.slotmap_core.specs.Content.{IsLive};
-ghost use Rattle.slotmap_core.specs.Transition.{with_value};
-ghost use Rattle.slotmap_core.specs.Refusal.{Refuses};
+ghost use Rattle.slotmap.specs.Words.{Key as KeyOf, IsLive, with_value, Refuses};
 
 use crate::{DefaultKey, InsertError, Key, SlotMap};
 

@@ -2,7 +2,7 @@
 
 ghost use Rattle.std.specs.Prelude.{◌≡◌, refl, IfOk, Some};
 ghost use Rattle.std.specs.FinMap as map;
-ghost use Rattle.slotmap_core.specs.Key.{null_key};
+ghost use Rattle.slotmap.specs.Words.{null_key};
 
 use crate::{InsertError, Key, KeyData, SlotMap};
 use std::marker::Model;
@@ -12,7 +12,7 @@ use std::marker::Model;
 pub struct PageKey(KeyData);
 
 impl Model for PageKey {
-    ghost use Rattle.slotmap_core.specs.Key.{Key};
+    ghost use Rattle.slotmap.specs.Words.{Key};
 
     ghost Value = { Key };
 
@@ -63,7 +63,7 @@ impl Key for PageKey {
 
     ghost from_gives_key = { λ d k h. h };
 
-    ghost use Rattle.slotmap_core.specs.Key.{same_keys};
+    ghost use Rattle.slotmap.specs.Words.{same_keys};
     ghost use Rattle.std.proofs.Common.{sym};
 
     ghost clone_same = { λ a b h. sym h };

@@ -4,7 +4,7 @@ ghost use Rattle.std.specs.Prelude.{◌≡◌, ◌≢◌, IfOk, OnErr, None, opt
 ghost use Rattle.std.specs.Borrow.{sem};
 ghost use Rattle.std.specs.Option.{option_copied_mut};
 ghost use Rattle.std.specs.FinMap as map;
-ghost use Rattle.slotmap_core.specs.Key.{Key as KeyOf};
+ghost use Rattle.slotmap.specs.Words.{Key as KeyOf};
 
 use crate::{DefaultKey, InsertError, ReserveError, SlotMap};
 use std::alloc::Global;
@@ -18,7 +18,7 @@ pub struct Registry<T> {
 
 impl<T> Model for Registry<T> {
     ghost use Rattle.std.specs.FinMap as map;
-    ghost use Rattle.slotmap_core.specs.Key.{key_cmp, coded_key};
+    ghost use Rattle.slotmap.specs.Words.{key_cmp, coded_key};
 
     ghost Value = { map.FinMap key_cmp T };
 

@@ -3,8 +3,7 @@
 ghost use Rattle.std.specs.Prelude.{◌≡◌, ◌%◌, ◌==◌, ◌/◌, Some, None, min, if◌then◌else◌};
 ghost use Rattle.std.specs.Option.{option_and_then, option_map};
 ghost use Rattle.std.specs.FinMap as map;
-ghost use Rattle.slotmap_core.specs.Key.{Key as KeyOf};
-ghost use Rattle.slotmap_core.specs.Content.{IsLive};
+ghost use Rattle.slotmap.specs.Words.{Key as KeyOf, IsLive};
 
 use crate::{DefaultKey, Key, SlotMap};
 

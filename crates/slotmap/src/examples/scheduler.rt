@@ -3,9 +3,7 @@
 ghost use Rattle.std.specs.Prelude.{◌≡◌, ◌≢◌, ◌<◌, ◌≤◌, IsTrue, IfOk, IfSome, Some, None, false, nat_lt, if◌then◌else◌};
 ghost use Rattle.std.specs.Option.{option_and_then};
 ghost use Rattle.std.specs.FinMap as map;
-ghost use Rattle.slotmap_core.specs.Key.{Key as KeyOf};
-ghost use Rattle.slotmap_core.specs.Spent.{IsSpent, KeepsSpent};
-ghost use Rattle.slotmap_core.specs.Transition.{IsNew};
+ghost use Rattle.slotmap.specs.Words.{Key as KeyOf, IsSpent, KeepsSpent, IsNew};
 
 use crate::{DefaultKey, InsertError, ReserveError, SlotMap};
 use std::alloc::Global;
@@ -21,7 +19,7 @@ pub struct Scheduler {
 impl Model for Scheduler {
     ghost use Rattle.std.specs.Prelude.{ℕ};
     ghost use Rattle.std.specs.Coded.{coded_ℕ};
-    ghost use Rattle.slotmap_core.specs.Content.{Content, content_code};
+    ghost use Rattle.slotmap.specs.Words.{Content, content_code};
 
     ghost Value = { Content ℕ };
 

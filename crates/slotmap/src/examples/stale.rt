@@ -2,8 +2,7 @@
 
 ghost use Rattle.std.specs.Prelude.{◌≡◌, ◌≢◌, IfOk, false};
 ghost use Rattle.std.specs.FinMap as map;
-ghost use Rattle.slotmap_core.specs.Content.{IsLive};
-ghost use Rattle.slotmap_core.specs.Spent.{IsSpent};
+ghost use Rattle.slotmap.specs.Words.{IsLive, IsSpent};
 
 use crate::{DefaultKey, InsertError, SlotMap};
 

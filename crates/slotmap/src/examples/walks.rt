@@ -2,7 +2,7 @@
 
 ghost use Rattle.std.specs.Prelude.{◌≡◌, ℕ, ◌+◌, ◌<◌, ◌≤◌, ◌↔◌, ◌^◌, ◌%◌, ◌==◌, IsTrue, IfSome, IfNone, IfOk, OnOk, Some, sum, count_by};
 ghost use Rattle.std.specs.FinMap as map;
-ghost use Rattle.slotmap_core.specs.Key.{Key as KeyOf};
+ghost use Rattle.slotmap.specs.Words.{Key as KeyOf};
 
 use crate::{DefaultKey, InsertError, Key, SlotMap};
 use std::alloc::{AllocError, Global};
@@ -12,7 +12,7 @@ pub fn find_key<K: Key>(store: &SlotMap<K, u64>, wanted: u64) -> Option<K>
     ensures found { IfSome result (λ key. map.get store.now.live (K.data_of key) ≡ Some wanted) }
     ensures none { IfNone result ((k : KeyOf) → map.get store.now.live k ≡ Some wanted → ⊥) }
 {
-    for (key, value) in store {
+    for (key, value) in store.iter() {
         if *value == wanted {
             return Some(key);
         }
@@ -24,7 +24,7 @@ pub fn find_key<K: Key>(store: &SlotMap<K, u64>, wanted: u64) -> Option<K>
 pub fn all_at_most<K: Key>(store: &SlotMap<K, u64>, most: u64) -> bool
     ensures { IsTrue result ↔ ((k : KeyOf) (v : ℕ) → map.get store.now.live k ≡ Some v → v ≤ most) }
 {
-    for (_, value) in store {
+    for (_, value) in store.iter() {
         if *value > most {
             return false;
         }

@@ -1,7 +1,5 @@
 use Rattle.std.proofs.Common.{ap, is_some, sym, ◌∙◌}
-use Rattle.slotmap_core.proofs.KeyLemmas.{keys_total, exact_keys}
-use Rattle.slotmap_core.proofs.Maps.{item_inserted}
-use Rattle.slotmap_core.proofs.AgainLemmas.{live_bound_again, detached_bound_again}
+use Rattle.slotmap.proofs.Callers.{keys_total, exact_keys, item_inserted, live_bound_again, detached_bound_again}
 use Rattle.slotmap.proofs.examples.exchange.exchange.Goals as goal
 
 pub unreachable-requires : goal.unreachable-requires

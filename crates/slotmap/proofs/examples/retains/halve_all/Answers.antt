@@ -1,5 +1,5 @@
 use Rattle.std.proofs.Common.{◌/◌, rules, Some}
-use Rattle.slotmap_core.proofs.RetainLemmas.{retained_as}
+use Rattle.slotmap.proofs.Callers.{retained_as}
 use Rattle.slotmap.proofs.examples.retains.halve_all.Goals as goal
 
 pub returns : goal.returns

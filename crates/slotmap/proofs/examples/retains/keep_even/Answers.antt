@@ -1,5 +1,5 @@
 use Rattle.std.proofs.Common.{◌%◌, ◌==◌, if◌then◌else◌, Some, None, rules}
-use Rattle.slotmap_core.proofs.RetainLemmas.{retained_as}
+use Rattle.slotmap.proofs.Callers.{retained_as}
 use Rattle.slotmap.proofs.examples.retains.keep_even.Goals as goal
 
 pub returns : goal.returns

@@ -1,5 +1,5 @@
 use Rattle.std.proofs.Common.{◌≡◌, min, refl, rules, arith}
-use Rattle.slotmap_core.proofs.RetainLemmas.{retained_counted, retained_unwritten}
+use Rattle.slotmap.proofs.Callers.{retained_counted, retained_unwritten}
 use Rattle.slotmap.specs.contracts.examples.retains.fn.keep_first.retain as closure
 use Rattle.slotmap.proofs.examples.retains.keep_first.Goals as goal
 

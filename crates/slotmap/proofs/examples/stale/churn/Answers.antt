@@ -1,5 +1,5 @@
 use Rattle.std.proofs.Common.{true}
-use Rattle.slotmap_core.proofs.SpentLemmas.{spent_inserts, spent_remove}
+use Rattle.slotmap.proofs.Callers.{spent_inserts, spent_remove}
 use Rattle.slotmap.proofs.examples.stale.churn.Goals as goal
 
 pub loop-i-preserved : goal.loop-i-preserved

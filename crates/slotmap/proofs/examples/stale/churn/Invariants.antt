@@ -1,4 +1,4 @@
-use Rattle.slotmap_core.specs.Spent.{IsSpent}
+use Rattle.slotmap.specs.Words.{IsSpent}
 use Rattle.slotmap.proofs.examples.stale.churn.Given as goal
 
 abbrev pub invariant-loop-i : goal.invariant-loop-i

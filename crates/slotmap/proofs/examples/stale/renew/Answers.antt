@@ -1,5 +1,5 @@
 use Rattle.std.proofs.Common.{true}
-use Rattle.slotmap_core.proofs.SpentLemmas.{live_remove_spent, spent_insert, insert_not_spent}
+use Rattle.slotmap.proofs.Callers.{live_remove_spent, spent_insert, insert_not_spent}
 use Rattle.slotmap.proofs.examples.stale.renew.Goals as goal
 
 pub returns-clause-other : goal.returns-clause-other

@@ -1,6 +1,5 @@
 use Rattle.std.proofs.Common.{true, rules}
-use Rattle.slotmap_core.proofs.Callers.{keys}
-use Rattle.slotmap_core.proofs.SpentLemmas.{live_remove_spent, spent_inserts, spent_stale}
+use Rattle.slotmap.proofs.Callers.{keys, live_remove_spent, spent_inserts, spent_stale}
 use Rattle.slotmap.proofs.examples.tour.tour.Goals as goal
 
 pub prove-unreachable-requires : goal.prove-unreachable-requires

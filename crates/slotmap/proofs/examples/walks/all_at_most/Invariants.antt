@@ -1,5 +1,5 @@
 use Rattle.std.proofs.Common.{◌≤◌}
-use Rattle.slotmap_core.proofs.Walks.{Walks}
+use Rattle.slotmap.proofs.Callers.{Walks}
 use Rattle.slotmap.proofs.examples.walks.all_at_most.Given as goal
 
 abbrev pub invariant-loop-value : goal.invariant-loop-value

@@ -1,9 +1,9 @@
 use Rattle.std.proofs.Common.{Some, ap, refl, ◌∙◌}
-use Rattle.slotmap_core.proofs.Walks.{walk_start, walk_here, walk_next, walk_end}
+use Rattle.slotmap.proofs.Callers.{walk_start, walk_here, walk_next, walk_end}
 use Rattle.slotmap.proofs.examples.walks.find_key.Goals as goal
 
 pub loop-key-init : goal.loop-key-init
-loop-key-init g c = (tt, tt, walk_start _ _ _ c.into_iter-key-iterator.ensures.into_iter_gives.0)
+loop-key-init g c = (tt, tt, walk_start _ _ _ (rw c.into_iter-key-iterator.ensures.into_iter_gives c.iter-key-items.ensures.listing))
 
 pub returns-then-value-wanted-clause-found : goal.returns-then-value-wanted-clause-found
 returns-then-value-wanted-clause-found g c = walk_here _ _ _ c.loop-key.invariant.2 _ _ _ c.in-Some.ensures.steps ∙ ap Some c.if-value-wanted.true

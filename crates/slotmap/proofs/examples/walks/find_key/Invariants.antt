@@ -1,5 +1,5 @@
 use Rattle.std.proofs.Common.{◌≢◌}
-use Rattle.slotmap_core.proofs.Walks.{Walks}
+use Rattle.slotmap.proofs.Callers.{Walks}
 use Rattle.slotmap.proofs.examples.walks.find_key.Given as goal
 
 abbrev pub invariant-loop-key : goal.invariant-loop-key

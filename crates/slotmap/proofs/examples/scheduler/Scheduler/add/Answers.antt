@@ -1,5 +1,5 @@
 use Rattle.std.proofs.Common.{true}
-use Rattle.slotmap_core.proofs.SpentLemmas.{spent_insert}
+use Rattle.slotmap.proofs.Callers.{spent_insert}
 use Rattle.slotmap.proofs.examples.scheduler.Scheduler.add.Goals as goal
 
 pub returns-clause-stale : goal.returns-clause-stale

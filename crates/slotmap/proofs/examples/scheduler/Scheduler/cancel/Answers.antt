@@ -1,5 +1,5 @@
 use Rattle.std.proofs.Common.{true, rules}
-use Rattle.slotmap_core.proofs.SpentLemmas.{spent_remove, live_remove_spent}
+use Rattle.slotmap.proofs.Callers.{spent_remove, live_remove_spent}
 use Rattle.slotmap.proofs.examples.scheduler.Scheduler.cancel.Goals as goal
 
 pub returns-clause-for_good : goal.returns-clause-for_good

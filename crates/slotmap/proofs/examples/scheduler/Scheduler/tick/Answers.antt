@@ -1,6 +1,5 @@
 use Rattle.std.proofs.Common.{◌≡◌, nat_lt, if◌then◌else◌, Some, None, refl, rules}
-use Rattle.slotmap_core.proofs.RetainLemmas.{retained_as}
-use Rattle.slotmap_core.proofs.SpentLemmas.{spent_leaves}
+use Rattle.slotmap.proofs.Callers.{retained_as, spent_leaves}
 use Rattle.slotmap.specs.contracts.examples.scheduler.fn.Scheduler.tick.retain as closure
 use Rattle.slotmap.proofs.examples.scheduler.Scheduler.tick.Goals as goal
 
