@@ -11,7 +11,7 @@ use Rattle.slotmap_core.proofs.Maps.{false_of, none_of}
 use Rattle.slotmap_core.proofs.ListingLemmas.{insert-remove, remove-insert}
 use Rattle.slotmap_core.proofs.MapLaws.{remove_absent}
 
-remove-insert_item : (s : set.FinSet key_cmp) (k : Key) → set.contains s k ≡ false → set.remove (set.insert s k) k ≡ s
+pub remove-insert_item : (s : set.FinSet key_cmp) (k : Key) → set.contains s k ≡ false → set.remove (set.insert s k) k ≡ s
 remove-insert_item s k none = set.same_set keys_total exact_keys _ _ (λ q.
     set.contains-remove keys_total (set.insert s k) k q ∙ ap (λ b. not (eq_by_cmp key_cmp q k) && b) (set.contains-insert keys_total s k q) ∙ by q (eq_by_cmp key_cmp q k) refl)
   where

@@ -2,13 +2,15 @@
 use Rattle.std.proofs.Common.{◌≡◌, ◌≢◌, ◌+◌, Bool, true, false, cond, inl, None, Some, is_some, sym, ap, ◌∙◌}
 use Rattle.std.specs.Ordering.{eq_by_cmp}
 use Rattle.std.specs.FinMap as map
+use Rattle.std.specs.FinSet as set
 use Rattle.slotmap_core.specs.Key.{Key, key_cmp}
-use Rattle.slotmap_core.specs.Content.{Content, IsContent}
+use Rattle.slotmap_core.specs.Content.{Content, IsContent, IsLive}
 use Rattle.slotmap_core.specs.Transition.{Inserts, Removes}
-use Rattle.slotmap_core.proofs.AgainLemmas.{offer_unused}
+use Rattle.slotmap_core.proofs.AgainLemmas.{offer_unused, remove-insert_item}
 use Rattle.slotmap_core.proofs.KeyLemmas.{keys_total, exact_keys, tied, itself}
+use Rattle.slotmap_core.proofs.ListingLemmas.{insert-remove, remove-insert}
 use Rattle.slotmap_core.proofs.MapLaws.{remove_absent}
-use Rattle.slotmap_core.proofs.Maps.{get_inserted, in_inserted, still_in, left_in, false_of, len_inserted, len_removed}
+use Rattle.slotmap_core.proofs.Maps.{none_of, get_inserted, in_inserted, still_in, left_in, false_of, len_inserted, len_removed, item_inserted}
 
 differ : (q k : Key) → q ≢ k → eq_by_cmp key_cmp q k ≡ false
 differ q k other = false_of (eq_by_cmp key_cmp q k) (λ t. other (tied keys_total exact_keys q k t))
@@ -32,6 +34,13 @@ module _ {V : Type 0} where
 
   pub remove_stale : (m : map.FinMap key_cmp V) (k : Key) → map.get m k ≡ None → map.remove m k ≡ m
   remove_stale m k none = remove_absent keys_total exact_keys m k none
+
+  -- a key that is put in and taken out again, or the other way round
+  pub remove-insert_new : (m : map.FinMap key_cmp V) (k : Key) (v : V) → map.contains_key m k ≡ false → map.remove (map.insert m k v) k ≡ m
+  remove-insert_new m k v new = remove-insert m k v ∙ remove_absent keys_total exact_keys m k (none_of (map.get m k) new)
+
+  pub insert-remove_again : (m : map.FinMap key_cmp V) (k : Key) (v : V) → map.insert (map.remove m k) k v ≡ map.insert m k v
+  insert-remove_again = insert-remove
 
   -- which keys are live then
   pub live-insert_here : (m : map.FinMap key_cmp V) (k : Key) (v : V) → map.contains_key (map.insert m k v) k ≡ true
@@ -73,8 +82,21 @@ module _ {V : Type 0} where
     pub inserted_len-grows : IsContent false old → Inserts old k v new → map.len new.live ≡ map.len old.live + 1
     inserted_len-grows = inserted_len false old k v new
 
+  -- a live key isn't detached
+  pub not_detached-reuses : (c : Content V) (k : Key) → IsContent true c → IsLive c k → set.contains c.detached k ≡ false
+  not_detached-reuses c k well live = false_of (set.contains c.detached k) (well.live_or_detached k live)
+
+  pub not_detached-grows : (c : Content V) (k : Key) → IsContent false c → IsLive c k → set.contains c.detached k ≡ false
+  not_detached-grows c k well live = false_of (set.contains c.detached k) (well.live_or_detached k live)
+
   pub removed_len : (old : Content V) (k : Key) (v : V) (new : Content V) → map.get old.live k ≡ Some v → Removes old k new → map.len new.live + 1 ≡ map.len old.live
   removed_len old k v new found removes = ap (λ (m : map.FinMap key_cmp V). map.len m + 1) removes.live ∙ len_removed keys_total exact_keys old.live k (ap is_some found)
+
+-- which keys are detached
+pub detached-insert_here : (s : set.FinSet key_cmp) (k : Key) → set.contains (set.insert s k) k ≡ true
+detached-insert_here s k = item_inserted keys_total exact_keys s k
+
+pub ruleset again = (remove-insert_new, insert-remove_again, detached-insert_here, remove-insert_item, not_detached-reuses, not_detached-grows)
 
 pub ruleset lookups = (get_empty, get-insert_here, get-insert_other, get-remove_here, get-remove_other, remove_stale)
 
@@ -82,4 +104,4 @@ pub ruleset liveness = (live-insert_here, live-insert_still, live-remove_here, l
 
 pub ruleset counts = (len-insert_live, inserted_len-reuses, inserted_len-grows, removed_len)
 
-pub ruleset keys = (lookups, liveness, counts, inserted_fresh-reuses, inserted_fresh-grows)
+pub ruleset keys = (lookups, again, liveness, counts, inserted_fresh-reuses, inserted_fresh-grows)

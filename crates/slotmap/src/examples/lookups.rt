@@ -36,7 +36,7 @@ pub fn push_pop<K: Key>(
 ) -> Result<Option<u64>, InsertError<u64>>
     ensures ok { IfOk result (λ back. back ≡ Some value) }
     ensures err { IfErr result (λ error. Refuses store.old value error) }
-    ensures len { map.len store.new.live ≡ map.len store.old.live }
+    ensures live { store.new.live ≡ store.old.live }
 {
     let key = store.insert(value)?;
     Ok(store.remove(key))
