@@ -8,6 +8,8 @@ mod own_key;
 mod registry;
 mod retains;
 mod scheduler;
+#[cfg(test)]
+mod shown;
 mod stale;
 #[cfg(test)]
 mod tests;

@@ -1,7 +1,8 @@
 //! Why a call is refused.
 //!
 //! A refused call leaves what the map holds as it was. A value that was to be stored comes back in
-//! the error; a closure or a list is dropped.
+//! the error; a closure or a list is dropped. Each of these is an `Error` with a short message, so
+//! `?` hands it on, to `anyhow` too.
 
 ghost use Rattle.std.specs.Prelude.{◌≡◌};
 ghost use Rattle.slotmap_core.specs.declared.errors.JsonError.TheVariants.{Memory as JsonMemory};
@@ -17,6 +18,11 @@ use thiserror::Error;
 pub struct OutOfMemory;
 
 /// A value was not inserted; it is handed back.
+///
+/// ```
+/// let refused = InsertError::Full(5);
+/// assert_eq!(rt; format!(in alloc; "{refused}")?.as_str(), "full");
+/// ```
 #[derive(Debug, Drop, Error)]
 pub enum InsertError<V> {
     /// As many places are taken as a map can have, 4294967294.
@@ -81,6 +87,11 @@ pub enum ReserveError {
 pub struct PutError<V>(pub V);
 
 /// A list of slots was not read as a map.
+///
+/// ```
+/// let refused = SlotsError::Inconsistent(3);
+/// assert_eq!(rt; format!(in alloc; "{refused}")?.as_str(), "inconsistent 3");
+/// ```
 #[derive(Debug, Drop, Error)]
 pub enum SlotsError {
     /// The list is as long as the limit, or longer.

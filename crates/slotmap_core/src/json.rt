@@ -15,6 +15,11 @@ use std::alloc::Global;
 /// The JSON of a key, as in `{"idx":2,"version":3}`.
 ///
 /// `OutOfMemory` where no memory is left for it. Constant time.
+///
+/// ```
+/// let value = key_to_value(alloc, DefaultKey::from(KeyData::new(2, 3)))?;
+/// assert_eq!(rt; value.to_string(alloc)?.as_str(), "{\"idx\":2,\"version\":3}");
+/// ```
 pub fn key_to_value<K: Key>(alloc: Global, key: K) -> Result<Value, OutOfMemory>
     ensures { IfOk result (λ value. view value ≡ key_json (K.data_of key)) }
 {
@@ -32,7 +37,7 @@ pub fn key_to_value<K: Key>(alloc: Global, key: K) -> Result<Value, OutOfMemory>
 /// ```
 /// let value = Value::from_str(alloc, "{\"version\":4,\"idx\":0,\"x\":true}")?;
 /// let key: DefaultKey = key_from_value(&value)?;
-/// assert_eq!(key.data(), KeyData::new(0, 5));
+/// assert_eq!(rt; key.data(), KeyData::new(0, 5));
 /// ```
 pub fn key_from_value<K: Key>(value: &Value) -> Result<K, JsonError>
     ensures ok { option_map K.data_of (result_ok result) ≡ read_key (view value.now) }
@@ -63,10 +68,8 @@ fn u32_member(value: &Value, name: &str) -> Option<u32>
 ///     SlotRecord { value: Some(7), version: 1 },
 /// ];
 /// let value = slots_to_value(alloc, &list, |value: &i32| Ok(Value::from(*value)))?;
-/// assert_eq!(
-///     value.to_string(alloc)?,
-///     "[{\"value\":null,\"version\":0},{\"value\":7,\"version\":1}]",
-/// );
+/// let text = "[{\"value\":null,\"version\":0},{\"value\":7,\"version\":1}]";
+/// assert_eq!(rt; value.to_string(alloc)?.as_str(), text);
 /// ```
 pub fn slots_to_value<V, F: Fn(&V) -> Result<Value, OutOfMemory>>(
     alloc: Global,
@@ -121,7 +124,7 @@ fn slot_value(alloc: Global, value: Value, version: u32) -> Result<Value, OutOfM
 /// let list = slots_from_value(alloc, &value, |value: &Value| {
 ///     value.as_u64().ok_or(JsonError::Shape)
 /// })?;
-/// assert_eq!(list[1].value, Some(7));
+/// assert_eq!(rt; list[1].value, Some(7));
 /// ```
 pub fn slots_from_value<V: Drop, G: Fn(&Value) -> Result<V, JsonError>>(
     alloc: Global,

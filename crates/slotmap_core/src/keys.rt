@@ -46,8 +46,8 @@ impl KeyData {
     /// whatever the version. It is `from_ffi` of `version * 2^32 + idx`. Rust lacks this call.
     ///
     /// ```
-    /// assert_eq!(KeyData::new(2, 4), KeyData::new(2, 5));
-    /// assert_eq!(KeyData::new(4294967295, 9), KeyData::default());
+    /// assert_eq!(rt; KeyData::new(2, 4), KeyData::new(2, 5));
+    /// assert_eq!(rt; KeyData::new(4294967295, 9), KeyData::default());
     /// ```
     #[tactic(auto, using(crate::proofs::Odd::or_one))]
     pub fn new(idx: u32, version: u32) -> KeyData
@@ -92,8 +92,8 @@ impl KeyData {
     /// `from_ffi` gives the key back.
     ///
     /// ```
-    /// assert_eq!(KeyData::new(1, 3).as_ffi(), 12884901889);
-    /// assert_eq!(KeyData::default().as_ffi(), 8589934591);
+    /// assert_eq!(rt; KeyData::new(1, 3).as_ffi(), 12884901889);
+    /// assert_eq!(rt; KeyData::default().as_ffi(), 8589934591);
     /// ```
     pub fn as_ffi(self) -> u64
         ensures value { result ≡ ffi self }
@@ -109,8 +109,8 @@ impl KeyData {
     /// one null key; Rust keeps the version there, and its null keys can differ.
     ///
     /// ```
-    /// assert_eq!(KeyData::from_ffi(12884901889), KeyData::new(1, 3));
-    /// assert_eq!(KeyData::from_ffi(17179869183), KeyData::default());
+    /// assert_eq!(rt; KeyData::from_ffi(12884901889), KeyData::new(1, 3));
+    /// assert_eq!(rt; KeyData::from_ffi(17179869183), KeyData::default());
     /// ```
     pub fn from_ffi(value: u64) -> KeyData
         ensures value { result ≡ key_from (value % 2 ^ 32) (value / 2 ^ 32) }
@@ -127,9 +127,9 @@ impl KeyData {
 /// At a distance of exactly 2^31 each of the two is older than the other.
 ///
 /// ```
-/// assert!(is_older_version(1, 3));
-/// assert!(is_older_version(4294967295, 0));
-/// assert!(!is_older_version(3, 3));
+/// assert!(rt; is_older_version(1, 3));
+/// assert!(rt; is_older_version(4294967295, 0));
+/// assert!(rt; !is_older_version(3, 3));
 /// ```
 pub fn is_older_version(a: u32, b: u32) -> bool
     ensures { result ≡ is_older a b }
@@ -197,8 +197,8 @@ pub trait Key: From<KeyData> + Copy + Default + Eq + Ord + Hash + fmt::Debug {
     /// Whether this is the null key. Constant time.
     ///
     /// ```
-    /// assert!(DefaultKey::null().is_null());
-    /// assert!(!DefaultKey::from(KeyData::new(1, 1)).is_null());
+    /// assert!(rt; DefaultKey::null().is_null());
+    /// assert!(rt; !DefaultKey::from(KeyData::new(1, 1)).is_null());
     /// ```
     fn is_null(&self) -> bool
         ensures { IsTrue result ↔ data_of self.now ≡ null_key };
@@ -206,7 +206,9 @@ pub trait Key: From<KeyData> + Copy + Default + Eq + Ord + Hash + fmt::Debug {
     /// The data of this key, of which `from` makes the key again. Constant time.
     ///
     /// ```
-    /// assert_eq!(DefaultKey::from(key.data()), key);
+    /// let key = DefaultKey::from(KeyData::new(2, 3));
+    /// assert_eq!(rt; key.data().idx(), 2);
+    /// assert_eq!(rt; DefaultKey::from(key.data()), key);
     /// ```
     fn data(&self) -> KeyData
         ensures value { result ≡ data_of self.now }
@@ -232,8 +234,9 @@ pub trait Key: From<KeyData> + Copy + Default + Eq + Ord + Hash + fmt::Debug {
 /// The key type of a map that names no other.
 ///
 /// ```
-/// let mut map = SlotMap::new(alloc)?;
-/// let key: DefaultKey = map.insert("a")?;
+/// let mut words = SlotMap::new(alloc)?;
+/// let key: DefaultKey = words.insert("hill")?;
+/// assert_eq!(rt; words[key], "hill");
 /// ```
 #[derive(Clone, Copy, PartialEq, Eq, PartialOrd, Ord, Hash, Debug)]
 pub struct DefaultKey(KeyData);

@@ -51,7 +51,8 @@ impl<V> SlotRecord<V> {
 ///     SlotRecord { value: None, version: 0 },
 ///     SlotRecord { value: Some(7), version: 2 },
 /// ];
-/// assert!(matches!(check_slots(&list, 4294967295), Err(SlotsError::Inconsistent(1))));
+/// let refused = check_slots(&list, 4294967295);
+/// assert!(rt; matches!(refused, Err(SlotsError::Inconsistent(1))));
 /// ```
 pub fn check_slots<V>(list: &[SlotRecord<V>], limit: usize) -> Result<(), SlotsError>
     ensures ok { IsOk result ↔ Accepts list.now limit }

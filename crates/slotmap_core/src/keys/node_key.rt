@@ -10,6 +10,12 @@ use std::marker::Model;
 
 /// A key type that is `DefaultKey` under another name, so that no key of a map under one of them
 /// is handed to a map under the other.
+///
+/// ```
+/// let mut words = SlotMap::with_key(alloc)?;
+/// let key: NodeKey = words.insert("hill")?;
+/// assert_eq!(rt; words[key], "hill");
+/// ```
 #[derive(Clone, Copy, PartialEq, Eq, PartialOrd, Ord, Hash, Debug)]
 pub struct NodeKey(KeyData);
 
