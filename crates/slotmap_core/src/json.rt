@@ -124,6 +124,7 @@ fn slot_value(alloc: Global, value: Value, version: u32) -> Result<Value, OutOfM
 /// let list = slots_from_value(alloc, &value, |value: &Value| {
 ///     value.as_u64().ok_or(JsonError::Shape)
 /// })?;
+/// assert_eq!(rt; list.len(), 2);
 /// assert_eq!(rt; list[1].value, Some(7));
 /// ```
 pub fn slots_from_value<V: Drop, G: Fn(&Value) -> Result<V, JsonError>>(

@@ -94,6 +94,7 @@ fn json(rt: HostRuntime) -> Result<(), Fail> {
     let list = slots_from_value(alloc, &value, |value: &Value| {
         value.as_u64().ok_or(JsonError::Shape)
     })?;
+    assert_eq!(rt; list.len(), 2);
     assert_eq!(rt; list[1].value, Some(7));
     Ok(())
 }

@@ -1,4 +1,4 @@
-//! Each example is run once.
+//! Each example is run once, but `total`, whose caller has to know that the sum fits.
 
 use crate::examples::drains::{drop_all, take_one};
 use crate::examples::exchange::exchange;
@@ -9,21 +9,26 @@ use crate::examples::retains::{halve_all, keep_even, keep_first};
 use crate::examples::scheduler::Scheduler;
 use crate::examples::stale::{churn, renew};
 use crate::examples::tour::tour;
-use crate::examples::walks::{all_at_most, all_keys, count_even, fill, find_key, total};
+use crate::examples::walks::{all_at_most, all_keys, count_even, fill, find_key};
 use crate::{DefaultKey, Key, SlotMap};
 use std::alloc::Global;
 use std::test::Fail;
 
 type Numbers = SlotMap<DefaultKey, u64>;
 
-// A map of these values, and the first of its keys.
-fn numbers(alloc: Global, values: &[u64]) -> Result<(Numbers, DefaultKey), Fail> {
+// A map of a value and more of them, and the first key.
+fn numbers(alloc: Global, value: u64, more: &[u64]) -> Result<(Numbers, DefaultKey), Fail> {
     let mut made = SlotMap::new(alloc)?;
-    let first = made.insert(values[0])?;
-    for value in &values[1..] {
+    let first = made.insert(value)?;
+    for value in more {
         made.insert(*value)?;
     }
     Ok((made, first))
+}
+
+fn sum(made: &Numbers) -> u64 {
+    made.values()
+        .fold(0, |sum: u64, value| sum.wrapping_add(*value))
 }
 
 #[test]
@@ -35,7 +40,7 @@ fn values_by_their_keys(rt: HostRuntime) -> Result<(), Fail> {
     assert_eq!(rt; made.get(first), Some(&1));
     assert_eq!(rt; made.get(second), Some(&2));
 
-    let (mut made, key) = numbers(rt.alloc(), &[7, 8])?;
+    let (mut made, key) = numbers(rt.alloc(), 7, &[8])?;
     assert_eq!(rt; push_pop(&mut made, 9)?, Some(9));
     assert!(rt; set(&mut made, key, 5));
     if made.get(key) == Some(&5) {
@@ -50,12 +55,11 @@ fn values_by_their_keys(rt: HostRuntime) -> Result<(), Fail> {
 
 #[test]
 fn walks(rt: HostRuntime) -> Result<(), Fail> {
-    let (made, key) = numbers(rt.alloc(), &[7, 8])?;
+    let (made, key) = numbers(rt.alloc(), 7, &[8])?;
     assert_eq!(rt; find_key(&made, 7), Some(key));
     assert_eq!(rt; find_key(&made, 9), None);
     assert!(rt; all_at_most(&made, 8));
     assert!(rt; !all_at_most(&made, 7));
-    assert_eq!(rt; total(&made), 15);
     assert_eq!(rt; count_even(&made), 1);
     let keys = all_keys(rt.alloc(), &made)?;
     assert_eq!(rt; keys.len(), 2);
@@ -68,7 +72,7 @@ fn walks(rt: HostRuntime) -> Result<(), Fail> {
 
 #[test]
 fn retains_and_drains(rt: HostRuntime) -> Result<(), Fail> {
-    let (mut made, key) = numbers(rt.alloc(), &[8, 7, 6, 4, 2])?;
+    let (mut made, key) = numbers(rt.alloc(), 8, &[7, 6, 4, 2])?;
     keep_even(&mut made);
     assert_eq!(rt; made.len(), 4);
     keep_first(&mut made, 5);
@@ -76,7 +80,7 @@ fn retains_and_drains(rt: HostRuntime) -> Result<(), Fail> {
     keep_first(&mut made, 3);
     assert_eq!(rt; made.len(), 3);
     halve_all(&mut made);
-    assert_eq!(rt; total(&made), 9);
+    assert_eq!(rt; sum(&made), 9);
     assert_eq!(rt; take_one(&mut made), Some((key, 4)));
     assert!(rt; made.is_empty());
     assert_eq!(rt; take_one(&mut made), None);
@@ -88,7 +92,7 @@ fn retains_and_drains(rt: HostRuntime) -> Result<(), Fail> {
 
 #[test]
 fn values_taken_out(rt: HostRuntime) -> Result<(), Fail> {
-    let (mut made, key) = numbers(rt.alloc(), &[7, 8])?;
+    let (mut made, key) = numbers(rt.alloc(), 7, &[8])?;
     assert_eq!(rt; exchange(&mut made, key, 9), Some(7));
     assert_eq!(rt; made.get(key), Some(&9));
     assert_eq!(rt; exchange(&mut made, DefaultKey::null(), 5), None);
@@ -98,7 +102,7 @@ fn values_taken_out(rt: HostRuntime) -> Result<(), Fail> {
         assert!(rt; !made.contains_key(key));
         churn(&mut made, key, 10)?;
     }
-    assert_eq!(rt; total(&made), 14);
+    assert_eq!(rt; sum(&made), 14);
     Ok(())
 }
 
