@@ -10,6 +10,7 @@ mod json;
 mod keys;
 mod large;
 mod lists;
+mod memory;
 mod names;
 mod rows;
 mod runs;

@@ -66,6 +66,11 @@ pub fn make(key: DefaultKey) -> Result<u64, u64> {
     }
 }
 
+/// What a `Get` of a run shows.
+pub fn look(value: &u64) -> u64 {
+    *value
+}
+
 /// Keeps the even values, and makes each value ten times as great.
 pub fn keep(_key: DefaultKey, value: &mut u64) -> bool {
     let is_even = *value % 2 == 0;
@@ -86,6 +91,13 @@ pub fn answer<M: Calls>(alloc: Global, map: &mut M, call: Call) -> Result<String
             put_text(alloc, map.replace(key(index, version), value))
         }
         Call::Remove(index, version) => value_text(alloc, map.remove(key(index, version))),
+        Call::Detach(index, version) => value_text(alloc, map.take_out(key(index, version))),
+        Call::Reattach(index, version, value) => {
+            match map.put_back(key(index, version), value) {
+                Some(back) => put_text(alloc, Err(back)),
+                None => word(alloc, "done"),
+            }
+        }
         Call::Retain => {
             map.retain(keep);
             word(alloc, "done")

@@ -1,7 +1,7 @@
 //! When values are dropped: each once, by the call that takes it out of the map.
 
 use super::tested::Tested;
-use crate::{DefaultKey, SlotMap, SlotRecord};
+use crate::{DefaultKey, SlotMap, SlotRecord, SlotsError};
 use std::alloc::{AllocError, Global};
 use std::cell::Cell;
 use std::process::Abort;
@@ -141,6 +141,38 @@ where
         assert_eq!(rt; drops.get(), in_the_end, "in the end, {deed:?}");
     }
     Ok(())
+}
+
+// A list that is refused is dropped: here a value stands beside an even version.
+fn hold_refused_list<'a, M>(
+    rt: &impl Abort,
+    alloc: Global,
+    drops: &'a Cell<u32>,
+) -> Result<(), Fail>
+where
+    M: Tested<Counted<'a>>,
+{
+    let mut list = Vec::new(alloc);
+    for version in [0, 1, 2, 1] {
+        let value = if version == 0 {
+            None
+        } else {
+            Some(Counted { drops })
+        };
+        list.push(SlotRecord { value, version })
+            .ok()
+            .ok_or("a slot was refused")?;
+    }
+    let read = M::of_list(alloc, list);
+    assert!(rt; matches!(read, Err(SlotsError::Inconsistent(2))));
+    assert_eq!(rt; drops.get(), 3);
+    Ok(())
+}
+
+#[test]
+fn a_refused_list_is_dropped(rt: HostRuntime) -> Result<(), Fail> {
+    let drops = Cell::new(0);
+    hold_refused_list::<SlotMap<DefaultKey, Counted>>(&rt, rt.alloc(), &drops)
 }
 
 #[test]

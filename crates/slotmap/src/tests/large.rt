@@ -1,6 +1,6 @@
 //! Much data, with ample memory.
 
-use super::call::{keep, make};
+use super::call::{keep, look, make};
 use super::tested::Calls;
 use super::text::key;
 use crate::{Command, DefaultKey, Primary, Reply, SlotMap, run_new};
@@ -70,7 +70,7 @@ fn hold_run<M: Calls>(rt: &impl Abort, alloc: Global) -> Result<(), Fail> {
         commands.push(Command::Insert(value))?;
     }
     let made: Result<(M, Vec<Reply<DefaultKey, u64, u64, u64>>), Vec<Command<DefaultKey, u64>>> =
-        run_new(alloc, commands, |value: &u64| *value, keep, make);
+        run_new(alloc, commands, look, keep, make);
     let (map, replies) = made.ok().ok_or("the run was refused")?;
     assert_eq!(rt; map.len(), 5000);
     assert_eq!(rt; replies.len(), 5000);

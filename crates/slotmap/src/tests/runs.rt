@@ -1,6 +1,6 @@
 //! Runs of commands: rows of calls once more, through `run` and `run_detaching`.
 
-use super::call::{Call, Row, keep, make};
+use super::call::{Call, Row, keep, look, make};
 use super::rows;
 use super::tested::Calls;
 use super::text::{done_text, key, key_text, keys_text, pairs_text, put_text, value_text, word};
@@ -14,11 +14,8 @@ use std::test::Fail;
 
 type Map = SlotMap<DefaultKey, u64>;
 
-type Made<M, C> = Result<(M, Vec<Reply<DefaultKey, u64, u64, u64>>), Vec<C>>;
-
-fn look(value: &u64) -> u64 {
-    *value
-}
+/// What `run_new` answers to commands `C` on a map `M`.
+pub type Made<M, C> = Result<(M, Vec<Reply<DefaultKey, u64, u64, u64>>), Vec<C>>;
 
 // The command of a call.
 fn command(call: Call) -> Option<Command<DefaultKey, u64>> {

@@ -32,6 +32,17 @@ impl<V: Clone + Drop> Tested<V> for SlotMap<DefaultKey, V> {
         self.clone_from(source)
     }
 
+    fn take_out(&mut self, key: DefaultKey) -> Option<V> {
+        self.detach(key)
+    }
+
+    fn put_back(&mut self, key: DefaultKey, value: V) -> Option<V> {
+        match self.reattach(key, value) {
+            Ok(()) => None,
+            Err(ReattachError::NotDetached(back) | ReattachError::Memory(back)) => Some(back),
+        }
+    }
+
     fn drain_some(&mut self, alloc: Global, steps: usize) -> Result<Taken<V>, AllocError> {
         taken!(self.drain(), steps, alloc)
     }
@@ -43,17 +54,7 @@ impl<V: Clone + Drop> Tested<V> for SlotMap<DefaultKey, V> {
 
 impl Calls for Map {
     fn own(&mut self, alloc: Global, call: Call) -> Result<String, Fail> {
-        Ok(match call {
-            Call::Detach(index, version) => value_text(alloc, self.detach(key(index, version))),
-            Call::Reattach(index, version, value) => {
-                match self.reattach(key(index, version), value) {
-                    Ok(()) => word(alloc, "done"),
-                    Err(ReattachError::NotDetached(back)) => format!(in alloc; "{back} back"),
-                    Err(ReattachError::Memory(_)) => word(alloc, "out of memory"),
-                }
-            }
-            call => own_calls!(self, alloc, call),
-        }?)
+        Ok(own_calls!(self, alloc, call)?)
     }
 }
 

@@ -39,6 +39,12 @@ pub trait Tested<V: Clone>: Primary<DefaultKey, V> + Drop {
     fn copy_from(&mut self, source: &Self) -> Result<(), AllocError>
         requires { (x y : V) → V.is_clone x y → y ≡ x };
 
+    /// `detach`, in a map that has it.
+    fn take_out(&mut self, key: DefaultKey) -> Option<V>;
+
+    /// `reattach`, in a map that has it: the value where it came back.
+    fn put_back(&mut self, key: DefaultKey, value: V) -> Option<V>;
+
     /// So many steps of a drain, which is then dropped.
     fn drain_some(&mut self, alloc: Global, steps: usize) -> Result<Taken<V>, AllocError>;
 
