@@ -1,9 +1,10 @@
 //! Much data, with ample memory.
 
 use super::call::{keep, look, make};
+use super::runs::Made;
 use super::tested::Calls;
 use super::text::key;
-use crate::{Command, DefaultKey, Primary, Reply, SlotMap, run_new};
+use crate::{Command, DefaultKey, Reply, SlotMap, run, run_new};
 use std::alloc::Global;
 use std::process::Abort;
 use std::test::Fail;
@@ -64,21 +65,34 @@ fn copies_of_many_values(rt: HostRuntime) -> Result<(), Fail> {
     hold_copies::<SlotMap<DefaultKey, u64>>(&rt, rt.alloc())
 }
 
-fn hold_run<M: Calls>(rt: &impl Abort, alloc: Global) -> Result<(), Fail> {
+fn many_inserts(alloc: Global) -> Result<Vec<Command<DefaultKey, u64>>, Fail> {
     let mut commands = Vec::new(alloc);
     for value in 0..5000 {
         commands.push(Command::Insert(value))?;
     }
-    let made: Result<(M, Vec<Reply<DefaultKey, u64, u64, u64>>), Vec<Command<DefaultKey, u64>>> =
-        run_new(alloc, commands, look, keep, make);
-    let (map, replies) = made.ok().ok_or("the run was refused")?;
-    assert_eq!(rt; map.len(), 5000);
-    assert_eq!(rt; replies.len(), 5000);
+    Ok(commands)
+}
+
+// One run on a new map, and one on what that leaves.
+fn hold_runs<M: Calls>(rt: &impl Abort, alloc: Global) -> Result<(), Fail> {
+    let made: Made<M, Command<DefaultKey, u64>> = run_new(
+        alloc,
+        many_inserts(alloc)?,
+        look,
+        keep,
+        make,
+    );
+    let (mut map, replies) = made.ok().ok_or("the run was refused")?;
+    assert_eq!(rt; (map.len(), replies.len()), (5000, 5000));
     assert!(rt; matches!(replies.last(), Some(Reply::Key(last)) if *last == key(5000, 1)));
+    let replies = run(alloc, &mut map, many_inserts(alloc)?, look, keep, make);
+    let replies = replies.ok().ok_or("the run was refused")?;
+    assert_eq!(rt; (map.len(), replies.len()), (10000, 5000));
+    assert!(rt; matches!(replies.last(), Some(Reply::Key(last)) if *last == key(10000, 1)));
     Ok(())
 }
 
 #[test]
-fn a_run_of_many_commands(rt: HostRuntime) -> Result<(), Fail> {
-    hold_run::<SlotMap<DefaultKey, u64>>(&rt, rt.alloc())
+fn runs_of_many_commands(rt: HostRuntime) -> Result<(), Fail> {
+    hold_runs::<SlotMap<DefaultKey, u64>>(&rt, rt.alloc())
 }
