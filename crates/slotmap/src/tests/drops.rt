@@ -9,7 +9,7 @@ use std::test::Fail;
 
 /// A value that counts its drops.
 pub struct Counted<'a> {
-    drops: &'a Cell<u32>,
+    pub drops: &'a Cell<u32>,
 }
 
 impl<'a> Drop for Counted<'a> {

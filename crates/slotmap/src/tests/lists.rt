@@ -29,8 +29,8 @@ fn faults_are_looked_for_in_order(rt: HostRuntime) -> Result<(), Fail> {
     Ok(())
 }
 
-// Lists that no map is read from.
-const REFUSED: [(&[Slot], &str); 5] = [
+/// Lists that no map is read from.
+pub const REFUSED: [(&[Slot], &str); 5] = [
     (&[], "first not empty"),
     (&[(Some(7), 1)], "first not empty"),
     (&[(None, 0), (None, 1)], "inconsistent 1"),

@@ -1,0 +1,418 @@
+//! `SecondaryMap` under test.
+
+use super::call::keep;
+use super::drops::Counted;
+use super::lists;
+use super::secondary::Call::{Entry as Enter, Get, Insert, Len, ToSlots};
+use super::secondary::{
+    self, Call, Row, Tested, calls_on_many, given, hold, hold_clones, hold_refusals, hold_runs,
+};
+use super::tested::{Taken, own_calls, taken};
+use super::text::{
+    done_text, key, keys_text, pairs_text, puts_text, value_text, values_text, word,
+};
+use super::walks::hold_walk;
+use crate::secondary::Entry;
+use crate::{
+    DefaultKey, Key, KeyData, NodeKey, OutOfMemory, ReserveError, SecondaryMap, SlotRecord,
+    SlotsError,
+};
+use std::alloc::{AllocError, Global};
+use std::cell::Cell;
+use std::mem;
+use std::test::Fail;
+
+type Map = SecondaryMap<DefaultKey, u64>;
+
+/// The value that a call on a key's entry answers, or none where there is no entry.
+macro_rules! at_entry {
+    ($map:expr, $alloc:expr, $key:expr, $entry:ident => $value:expr) => {
+        match $map.entry($key)? {
+            Some($entry) => value_text($alloc, Some($value)),
+            None => word($alloc, "none"),
+        }
+    };
+}
+
+impl Tested for Map {
+    fn made(alloc: Global) -> Result<Self, ReserveError> {
+        SecondaryMap::new(alloc)
+    }
+
+    fn of_list(alloc: Global, list: Vec<SlotRecord<u64>>) -> Result<Self, SlotsError> {
+        SecondaryMap::from_slots(alloc, list)
+    }
+
+    fn of_pairs(alloc: Global, pairs: Vec<(DefaultKey, u64)>) -> Option<Self> {
+        SecondaryMap::from_iter(alloc, pairs).ok()
+    }
+
+    fn list(&self) -> Result<Vec<SlotRecord<u64>>, OutOfMemory> {
+        self.to_slots()
+    }
+
+    fn copy(&self) -> Result<Self, AllocError> {
+        self.clone()
+    }
+
+    fn copy_from(&mut self, source: &Self) -> Result<(), AllocError> {
+        self.clone_from(source)
+    }
+
+    fn is_same(&self, other: &Self) -> bool {
+        self == other
+    }
+
+    fn drain_some(&mut self, alloc: Global, steps: usize) -> Result<Taken<u64>, AllocError> {
+        taken!(self.drain(), steps, alloc)
+    }
+
+    fn take_some(self, alloc: Global, steps: usize) -> Result<Taken<u64>, AllocError> {
+        taken!(self.into_iter(), steps, alloc)
+    }
+
+    fn own(&mut self, alloc: Global, call: Call) -> Result<String, Fail> {
+        Ok(calls_on_many!(self, alloc, call)?)
+    }
+
+    fn enter(&mut self, alloc: Global, call: Call) -> Result<String, Fail> {
+        Ok(match call {
+            Call::OrInsert(index, version, value) => {
+                at_entry!(self, alloc, key(index, version), entry => *entry.or_insert(value))
+            }
+            Call::OrInsertWith(index, version, value) => {
+                at_entry!(self, alloc, key(index, version), entry => *entry.or_insert_with(|| value))
+            }
+            Call::OrDefault(index, version) => {
+                at_entry!(self, alloc, key(index, version), entry => *entry.or_default())
+            }
+            Call::AddOrInsert(index, version, value) => {
+                at_entry!(self, alloc, key(index, version), entry => *entry
+                    .and_modify(|stored| *stored = stored.wrapping_add(1))
+                    .or_insert(value))
+            }
+            Call::Entry(index, version) => return entry_text(alloc, self, key(index, version)),
+            Call::WriteByEntry(index, version, value) => {
+                return write_by_entry(alloc, self, key(index, version), value);
+            }
+            Call::InsertByEntry(index, version, value) => {
+                return insert_by_entry(alloc, self, key(index, version), value);
+            }
+            Call::DoubleByEntry(index, version) => {
+                return double_by_entry(alloc, self, key(index, version));
+            }
+            Call::RemoveByEntry(index, version) => {
+                return remove_by_entry(alloc, self, key(index, version));
+            }
+            _ => word(alloc, "no such call"),
+        }?)
+    }
+}
+
+fn entry_text(alloc: Global, map: &mut Map, key: DefaultKey) -> Result<String, Fail> {
+    Ok(match map.entry(key)? {
+        None => word(alloc, "none"),
+        Some(Entry::Vacant(entry)) => format!(in alloc; "vacant {:?}", entry.key().data()),
+        Some(Entry::Occupied(entry)) => {
+            format!(in alloc; "occupied {:?} {}", entry.key().data(), *entry.get())
+        }
+    }?)
+}
+
+fn write_by_entry(
+    alloc: Global,
+    map: &mut Map,
+    key: DefaultKey,
+    value: u64,
+) -> Result<String, Fail> {
+    Ok(match map.entry(key)? {
+        Some(Entry::Occupied(mut entry)) => {
+            value_text(alloc, Some(mem::replace(entry.get_mut(), value)))
+        }
+        _ => word(alloc, "not occupied"),
+    }?)
+}
+
+fn insert_by_entry(
+    alloc: Global,
+    map: &mut Map,
+    key: DefaultKey,
+    value: u64,
+) -> Result<String, Fail> {
+    Ok(match map.entry(key)? {
+        Some(Entry::Occupied(mut entry)) => value_text(alloc, Some(entry.insert(value))),
+        Some(Entry::Vacant(entry)) => value_text(alloc, Some(*entry.insert(value))),
+        None => word(alloc, "none"),
+    }?)
+}
+
+fn double_by_entry(alloc: Global, map: &mut Map, key: DefaultKey) -> Result<String, Fail> {
+    Ok(match map.entry(key)? {
+        Some(Entry::Occupied(entry)) => {
+            let place = entry.into_mut();
+            let before = *place;
+            *place = before.wrapping_mul(2);
+            value_text(alloc, Some(before))
+        }
+        _ => word(alloc, "not occupied"),
+    }?)
+}
+
+fn remove_by_entry(alloc: Global, map: &mut Map, key: DefaultKey) -> Result<String, Fail> {
+    Ok(match map.entry(key)? {
+        Some(Entry::Occupied(entry)) => pairs_text(alloc, &[entry.remove_entry()]),
+        Some(Entry::Vacant(entry)) => format!(in alloc; "vacant {:?}", entry.key().data()),
+        None => word(alloc, "none"),
+    }?)
+}
+
+#[test]
+fn rows_of_secondary_maps(rt: HostRuntime) -> Result<(), Fail> {
+    hold::<Map>(&rt, rt.alloc(), &secondary::COMMANDS)?;
+    hold::<Map>(&rt, rt.alloc(), &secondary::CALLS)?;
+    hold::<Map>(&rt, rt.alloc(), &PLACES)
+}
+
+#[test]
+fn runs_answer_as_calls_do(rt: HostRuntime) -> Result<(), Fail> {
+    hold_runs::<Map>(&rt, rt.alloc())
+}
+
+#[test]
+fn clones(rt: HostRuntime) -> Result<(), Fail> {
+    hold_clones::<Map>(&rt, rt.alloc())
+}
+
+#[test]
+fn lists_are_refused_at_the_first_fault(rt: HostRuntime) -> Result<(), Fail> {
+    hold_refusals::<Map>(&rt, rt.alloc(), &lists::REFUSED)
+}
+
+#[test]
+fn a_removal_by_an_entry_answers_the_value(rt: HostRuntime) -> Result<(), Fail> {
+    let mut map: Map = SecondaryMap::from_iter(rt.alloc(), given(rt.alloc(), &[(1, 1, 5)])?)
+        .ok()
+        .ok_or("no map was made")?;
+    if let Some(Entry::Occupied(entry)) = map.entry(key(1, 1))? {
+        assert_eq!(rt; entry.remove(), 5);
+    }
+    assert!(rt; map.is_empty());
+    Ok(())
+}
+
+#[test]
+fn capacities_have_a_limit(rt: HostRuntime) -> Result<(), Fail> {
+    let great: Result<Map, ReserveError> = SecondaryMap::with_capacity(rt.alloc(), 4294967295);
+    assert!(rt; matches!(great, Err(ReserveError::TooGreat)));
+    let mut map: Map = SecondaryMap::with_capacity(rt.alloc(), 3)?;
+    assert!(rt; map.capacity() >= 3);
+    assert!(rt; matches!(map.set_capacity(4294967295), Err(ReserveError::TooGreat)));
+    map.set_capacity(100)?;
+    assert!(rt; map.capacity() >= 100);
+    map.try_set_capacity(200)?;
+    let before = map.capacity();
+    assert!(rt; before >= 200);
+    map.set_capacity(50)?;
+    assert_eq!(rt; map.capacity(), before);
+    assert!(rt; map.is_empty());
+    Ok(())
+}
+
+#[test]
+fn clear_and_drain_keep_the_memory(rt: HostRuntime) -> Result<(), Fail> {
+    let mut map: Map = SecondaryMap::with_capacity(rt.alloc(), 8)?;
+    let before = map.capacity();
+    for steps in [9, 0] {
+        map.extend(given(rt.alloc(), &[(1, 1, 5), (2, 1, 6)])?)
+            .map_err(|_| OutOfMemory)?;
+        map.clear();
+        map.insert(key(1, 1), 5)?;
+        map.insert(key(2, 1), 6)?;
+        map.drain_some(rt.alloc(), steps)?;
+        assert!(rt; map.capacity() >= before, "{steps}");
+        assert!(rt; map.is_empty(), "{steps}");
+    }
+    Ok(())
+}
+
+// The values 1, 2, 4 and 5, at their indices.
+fn walked(alloc: Global) -> Result<SecondaryMap<NodeKey, u64>, Fail> {
+    let mut map: SecondaryMap<NodeKey, u64> = SecondaryMap::new(alloc)?;
+    for value in [5, 2, 1, 3, 4] {
+        map.insert(NodeKey::from(KeyData::new(value, 1)), u64::from(value))?;
+    }
+    map.retain(|_, value| *value != 3);
+    Ok(map)
+}
+
+#[test]
+fn walk_of_pairs(rt: HostRuntime) -> Result<(), Fail> {
+    let map = walked(rt.alloc())?;
+    hold_walk!(rt, map.iter(), pair => (pair.0, *pair.1), pairs_text, "pairs 2v1:2 4v1:4 5v1:5");
+    Ok(())
+}
+
+#[test]
+fn walk_of_a_reference(rt: HostRuntime) -> Result<(), Fail> {
+    let map = walked(rt.alloc())?;
+    let mut seen = Vec::new(rt.alloc());
+    for (key, value) in &map {
+        seen.push((key, *value))?;
+    }
+    let text = pairs_text(rt.alloc(), &seen)?;
+    assert_eq!(rt; text.as_str(), "pairs 1v1:1 2v1:2 4v1:4 5v1:5");
+    Ok(())
+}
+
+#[test]
+fn walk_of_keys(rt: HostRuntime) -> Result<(), Fail> {
+    let map = walked(rt.alloc())?;
+    hold_walk!(rt, map.keys(), key => key, keys_text, "keys 2v1 4v1 5v1");
+    Ok(())
+}
+
+#[test]
+fn walk_of_values(rt: HostRuntime) -> Result<(), Fail> {
+    let map = walked(rt.alloc())?;
+    hold_walk!(rt, map.values(), value => *value, values_text, "values 2 4 5");
+    Ok(())
+}
+
+// What happens to a map of five values, at the indices 0 to 4.
+#[derive(Clone, Copy, Debug)]
+enum Deed {
+    Nothing,
+    InsertAgain,
+    InsertNewer,
+    InsertOlder,
+    EntryUnused,
+    OrInsert,
+    Remove,
+    Retain,
+    Clear,
+    Drain(usize),
+    Take(usize),
+    CloneFrom,
+}
+
+// How many values are dropped once the deed is done, and once the map is dropped too.
+const DEEDS: [(Deed, u32, u32); 14] = [
+    (Deed::Nothing, 0, 5),
+    (Deed::InsertAgain, 1, 6),
+    (Deed::InsertNewer, 1, 6),
+    (Deed::InsertOlder, 1, 6),
+    (Deed::EntryUnused, 0, 5),
+    (Deed::OrInsert, 1, 6),
+    (Deed::Remove, 1, 5),
+    (Deed::Retain, 5, 5),
+    (Deed::Clear, 5, 5),
+    (Deed::Drain(0), 5, 5),
+    (Deed::Drain(2), 5, 5),
+    (Deed::Take(0), 5, 10),
+    (Deed::Take(2), 5, 10),
+    (Deed::CloneFrom, 5, 10),
+];
+
+type Counts<'a> = SecondaryMap<DefaultKey, Counted<'a>>;
+
+fn filled<'a>(alloc: Global, drops: &'a Cell<u32>) -> Result<Counts<'a>, Fail> {
+    let mut map = SecondaryMap::new(alloc)?;
+    for index in 0..5 {
+        map.insert(key(index, 3), Counted { drops })
+            .map_err(|_| OutOfMemory)?;
+    }
+    Ok(map)
+}
+
+fn put<'a>(map: &mut Counts<'a>, key: DefaultKey, drops: &'a Cell<u32>) -> Result<(), Fail> {
+    map.insert(key, Counted { drops }).map_err(|_| OutOfMemory)?;
+    Ok(())
+}
+
+fn act<'a>(
+    alloc: Global,
+    drops: &'a Cell<u32>,
+    map: &mut Counts<'a>,
+    deed: Deed,
+) -> Result<(), Fail> {
+    match deed {
+        Deed::Nothing => {}
+        Deed::InsertAgain => put(map, key(1, 3), drops)?,
+        Deed::InsertNewer => put(map, key(1, 5), drops)?,
+        Deed::InsertOlder => put(map, key(1, 1), drops)?,
+        Deed::EntryUnused => {
+            map.entry(key(1, 5))?;
+        }
+        Deed::OrInsert => {
+            if let Some(entry) = map.entry(key(1, 3))? {
+                entry.or_insert(Counted { drops });
+            }
+        }
+        Deed::Remove => {
+            map.remove(key(0, 3));
+        }
+        Deed::Retain => map.retain(|_, _| false),
+        Deed::Clear => map.clear(),
+        Deed::Drain(steps) => {
+            let taken: Result<Taken<Counted<'a>>, AllocError> = taken!(map.drain(), steps, alloc);
+            taken?;
+        }
+        Deed::Take(steps) => {
+            let copy = map.clone()?;
+            let taken: Result<Taken<Counted<'a>>, AllocError> = taken!(
+                copy.into_iter(),
+                steps,
+                alloc
+            );
+            taken?;
+        }
+        Deed::CloneFrom => {
+            let other = filled(alloc, drops)?;
+            map.clone_from(&other)?;
+            mem::forget(other);
+        }
+    }
+    Ok(())
+}
+
+#[test]
+fn each_value_is_dropped_once(rt: HostRuntime) -> Result<(), Fail> {
+    let drops = Cell::new(0);
+    for (deed, after, in_the_end) in DEEDS {
+        drops.set(0);
+        let mut map = filled(rt.alloc(), &drops)?;
+        act(rt.alloc(), &drops, &mut map, deed)?;
+        assert_eq!(rt; drops.get(), after, "after {deed:?}");
+        drop(map);
+        assert_eq!(rt; drops.get(), in_the_end, "in the end, {deed:?}");
+    }
+    Ok(())
+}
+
+// How many places there are, and what a vacant entry that is dropped unused leaves.
+const PLACES: [Row; 2] = [
+    Row {
+        name: "an unused entry leaves the older key, and makes the places up to its index",
+        start: &[],
+        steps: &[
+            (Insert(1, 1, 10), "none"),
+            (Enter(1, 3), "vacant 1v3"),
+            (Get(1, 1), "10"),
+            (Len, "1"),
+            (Enter(3, 1), "vacant 3v1"),
+            (ToSlots, "slots -@0 10@1 -@0 -@0"),
+            (Enter(4294967295, 1), "none"),
+            (Insert(1, 2147483649, 5), "none"),
+            (ToSlots, "slots -@0 10@1 -@0 -@0"),
+        ],
+    },
+    Row {
+        name: "a list's places stay",
+        start: &[(None, 0), (None, 0)],
+        steps: &[
+            (Len, "0"),
+            (Insert(1, 1, 10), "none"),
+            (ToSlots, "slots -@0 10@1"),
+        ],
+    },
+];
