@@ -34,6 +34,22 @@ macro_rules! at_entry {
     };
 }
 
+fn drain_some<V: Drop>(
+    alloc: Global,
+    map: &mut SecondaryMap<DefaultKey, V>,
+    steps: usize,
+) -> Result<Taken<V>, AllocError> {
+    taken!(map.drain(), steps, alloc)
+}
+
+fn take_some<V: Drop>(
+    alloc: Global,
+    map: SecondaryMap<DefaultKey, V>,
+    steps: usize,
+) -> Result<Taken<V>, AllocError> {
+    taken!(map.into_iter(), steps, alloc)
+}
+
 impl Tested for Map {
     fn made(alloc: Global) -> Result<Self, ReserveError> {
         SecondaryMap::new(alloc)
@@ -64,11 +80,11 @@ impl Tested for Map {
     }
 
     fn drain_some(&mut self, alloc: Global, steps: usize) -> Result<Taken<u64>, AllocError> {
-        taken!(self.drain(), steps, alloc)
+        drain_some(alloc, self, steps)
     }
 
     fn take_some(self, alloc: Global, steps: usize) -> Result<Taken<u64>, AllocError> {
-        taken!(self.into_iter(), steps, alloc)
+        take_some(alloc, self, steps)
     }
 
     fn own(&mut self, alloc: Global, call: Call) -> Result<String, Fail> {
@@ -354,17 +370,10 @@ fn act<'a>(
         Deed::Retain => map.retain(|_, _| false),
         Deed::Clear => map.clear(),
         Deed::Drain(steps) => {
-            let taken: Result<Taken<Counted<'a>>, AllocError> = taken!(map.drain(), steps, alloc);
-            taken?;
+            drain_some(alloc, map, steps)?;
         }
         Deed::Take(steps) => {
-            let copy = map.clone()?;
-            let taken: Result<Taken<Counted<'a>>, AllocError> = taken!(
-                copy.into_iter(),
-                steps,
-                alloc
-            );
-            taken?;
+            take_some(alloc, map.clone()?, steps)?;
         }
         Deed::CloneFrom => {
             let other = filled(alloc, drops)?;
