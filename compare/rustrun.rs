@@ -1,4 +1,5 @@
 //! `rustrun KIND`: the lines of `slotrun`, answered by the maps of the Rust crate slotmap through its public calls.
+//! `rustrun KIND walked`: the same, but `keys` prints the keys in the order of the map's own walk.
 //!
 //! Without the feature `lists`, which needs serde, the lines `slots` and `load T` are bad lines. Where the Rust crate
 //! can't stand for the port, it says why on standard error and ends with 9.
@@ -82,10 +83,12 @@ fn shown(value: Option<i32>) -> String {
     value.map_or("none".to_string(), |value| format!("value {value}"))
 }
 
-/// The live keys by ascending index.
-fn listed(keys: impl Iterator<Item = DefaultKey>) -> String {
+/// The live keys, by ascending index or as the map walks.
+fn listed(keys: impl Iterator<Item = DefaultKey>, walked: bool) -> String {
     let mut keys: Vec<KeyData> = keys.map(|key| key.data()).collect();
-    keys.sort();
+    if !walked {
+        keys.sort();
+    }
     keys.iter().fold("keys".to_string(), |text, key| format!("{text} {}", key.as_ffi()))
 }
 
@@ -125,7 +128,7 @@ fn list(text: &str, kind: &str) -> Result<serde_json::Value, String> {
 macro_rules! runner {
     ($name:ident, $map:ident, $kind:literal, $detach:expr, $reattach:expr) => {
         #[allow(deprecated)]
-        fn $name(lines: &[Line]) -> String {
+        fn $name(lines: &[Line], walked: bool) -> String {
             let mut map: $map<DefaultKey, i32> = $map::with_key();
             let mut replies = String::new();
             for line in lines {
@@ -144,7 +147,7 @@ macro_rules! runner {
                         word.to_string()
                     }
                     Line::Len => format!("len {}", map.len()),
-                    Line::Keys => listed(map.keys()),
+                    Line::Keys => listed(map.keys(), walked),
                     Line::Clear => {
                         no_wrap(map.keys());
                         map.clear();
@@ -178,10 +181,10 @@ runner!(run_hop, HopSlotMap, "hop", |_, _| unreachable!(), |_, _, _| unreachable
 /// What is printed, and the status.
 fn answer() -> (String, u8) {
     let words: Vec<String> = std::env::args().skip(1).collect();
-    let run: fn(&[Line]) -> String = match words.iter().map(String::as_str).collect::<Vec<_>>()[..] {
-        ["basic"] => run_basic,
-        ["dense"] => run_dense,
-        ["hop"] => run_hop,
+    let run: fn(&[Line], bool) -> String = match words.iter().map(String::as_str).collect::<Vec<_>>()[..] {
+        ["basic"] | ["basic", "walked"] => run_basic,
+        ["dense"] | ["dense", "walked"] => run_dense,
+        ["hop"] | ["hop", "walked"] => run_hop,
         _ => return ("usage: slotrun basic|dense|hop\n".to_string(), 2),
     };
     let mut script = Vec::new();
@@ -189,7 +192,7 @@ fn answer() -> (String, u8) {
         return ("no script\n".to_string(), 3);
     }
     match lines(&script, &words[0]) {
-        Ok(lines) => (run(&lines), 0),
+        Ok(lines) => (run(&lines, words.len() == 2), 0),
         Err(number) => (format!("bad line {number}\n"), 2),
     }
 }

@@ -1,8 +1,9 @@
 #!/usr/bin/env python3
-"""stored.py RUSTRUN
+"""stored.py RUSTRUN [basic|dense|hop]
 
-Prints the 100 numbers that the project's tests store for the Rust crate's replies to 100 lists of 200 commands. List N
-follows from the number N by `commands`; its replies become one number by `digest`.
+Prints the 100 numbers that the project's tests store for the Rust crate's replies to 100 lists of 200 commands, by its map of
+that kind, `basic` without a word. List N follows from the number N by `commands`; its replies become one number by `digest`.
+Keys count in the order of the map's own walk. Lists for `hop`, which detaches no key, are of a kind of their own.
 """
 import subprocess
 import sys
@@ -26,7 +27,7 @@ class Numbers:
         return version << 32 | index
 
 
-def command(numbers, step):
+def detaching_command(numbers, step):
     choice = numbers.next() % 100
     if choice < 40:
         return f"insert {step}"
@@ -38,8 +39,19 @@ def command(numbers, step):
     return "len" if choice < 94 else "keys" if choice < 99 else "clear"
 
 
-def commands(seed):
+def plain_command(numbers, step):
+    choice = numbers.next() % 100
+    if choice < 36:
+        return f"insert {step}"
+    for bound, word in [(84, "remove"), (92, "get")]:
+        if choice < bound:
+            return f"{word} {numbers.key()}"
+    return "len" if choice < 94 else "keys" if choice < 99 else "clear"
+
+
+def commands(seed, kind):
     numbers = Numbers(seed)
+    command = plain_command if kind == "hop" else detaching_command
     return "".join(command(numbers, step) + "\n" for step in range(200))
 
 
@@ -57,10 +69,12 @@ def digest(replies):
 
 
 def main():
-    if len(sys.argv) != 2:
+    kind = sys.argv[2] if len(sys.argv) == 3 else "basic"
+    if len(sys.argv) not in [2, 3] or kind not in ["basic", "dense", "hop"]:
         sys.exit(__doc__)
     for seed in range(1, 101):
-        run = subprocess.run([sys.argv[1], "basic"], input=commands(seed), capture_output=True, text=True, check=True)
+        words = [sys.argv[1], kind, "walked"]
+        run = subprocess.run(words, input=commands(seed, kind), capture_output=True, text=True, check=True)
         replies = run.stdout.splitlines()
         assert len(replies) == 200
         print(digest(replies))

@@ -1,7 +1,8 @@
 #!/bin/sh
-# Refuses the first request for memory of each test in crates/slotmap/src/tests/memory.rt, then the second, and so on, until no
-# request is left to refuse. A test may then end in one of two ways: its call was refused and all is as before, or what the test
-# stands on was refused. Some 20 turns, each half a minute, unproved. The status is 0 where nothing else was seen.
+# Refuses the first request for memory of each test in the files of crates/slotmap/src/tests whose names end in `memory`, one
+# for each map, then the second, and so on, until no request is left to refuse. A test may then end in one of two ways: its call
+# was refused and all is as before, or what the test stands on was refused. Some 25 turns, each about a minute, unproved. The
+# status is 0 where nothing else was seen, and each test had a call refused.
 cd "$(dirname "$0")/../crates/slotmap" || exit 2
 turns=${1:-60}
 seen=$(mktemp) || exit 2
@@ -9,9 +10,9 @@ trap 'rm -f "$seen"' EXIT
 turn=0
 while [ "$turn" -lt "$turns" ]; do
     turn=$((turn + 1))
-    said=$(rt try --test --fail-alloc "$turn" -- tests::memory 2>&1)
-    tests=$(echo "$said" | grep -c '^test tests::memory::')
-    passed=$(echo "$said" | grep -c '^test tests::memory::.* ok$')
+    said=$(rt try --test --fail-alloc "$turn" -- memory:: 2>&1)
+    tests=$(echo "$said" | grep -c '^test tests::[a-z_]*memory::')
+    passed=$(echo "$said" | grep -c '^test tests::[a-z_]*memory::.* ok$')
     refused=$(echo "$said" | grep -c 'error: "refused, and all is as before"$')
     needed=$(echo "$said" | grep -c 'error: "no memory for what the test needs"$')
     echo "request $turn refused: $passed tests passed, $refused calls refused, $needed tests not begun"

@@ -5,6 +5,8 @@ pub use Rattle.slotmap_core.specs.Spent.{IsSpent, KeepsSpent}
 pub use Rattle.slotmap_core.specs.Transition.{IsNew, Keeps, Inserts, Removes, Detaches, Reattaches, Leaves, FreesByIndex, with_value}
 pub use Rattle.slotmap_core.specs.Refusal.{Refuses, RefusesInsert, RefusesWith, RefusesReattach, RefusesCapacity}
 pub use Rattle.slotmap_core.specs.Listing.{IsListing, IsKeyListing, IsValueListing}
-pub use Rattle.slotmap_core.specs.Retain.{RetainsBy}
+pub use Rattle.slotmap_core.specs.Call.{StaysValid, MayGrow, MakesRoom}
+pub use Rattle.slotmap_core.specs.Retain.{RetainsBy, CallableOnEach}
 pub use Rattle.slotmap_core.specs.Copy.{IsCopy}
 pub use Rattle.slotmap_core.specs.Disjoint.{CanReplace, AreValuesOf, with_values}
+pub use Rattle.slotmap_core.specs.Secondary.{Pairs, get, entry, has_entry, put, bind, remove}

@@ -3,13 +3,18 @@
 
 mod drains;
 mod exchange;
+mod hops;
 mod lookups;
 mod own_key;
+mod packed;
 mod registry;
 mod retains;
+mod same_keys;
 mod scheduler;
 #[cfg(test)]
 mod shown;
+mod side_table;
+mod sparse_table;
 mod stale;
 #[cfg(test)]
 mod tests;

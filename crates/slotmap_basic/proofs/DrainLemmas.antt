@@ -1,10 +1,11 @@
 -- What the steps of a drain keep, and what they give.
-use Rattle.std.proofs.Common.{List, [], ◌∷◌, map as list_map, refl, subst, ◌∙◌}
+use Rattle.std.proofs.Common.{List, [], ◌∷◌, map as list_map, refl, ap, subst, ◌∙◌}
+use Rattle.std.specs.FinMap as map
 use Rattle.slotmap_core.specs.Key.{Key}
 use Rattle.slotmap_core.specs.Listing.{IsListingBut}
 use Rattle.slotmap_core.proofs.ListingLemmas.{IsListingBut-start, IsListingBut-first}
 use Rattle.slotmap_basic.specs.declared.drain.Drain.{Drain}
-use Rattle.slotmap_basic.specs.Drain.{drain_map, DrainKeeps, DrainKeepsAlong, DrainLists}
+use Rattle.slotmap_basic.specs.Drain.{drain_map, DrainKeeps, DrainKeepsAlong, DrainLists, DrainInOrder}
 
 module _ {K V : Type 0} (data_of : K → Key) where
   pub Drain-keeps_along : (first : Drain K V) → DrainKeepsAlong data_of first
@@ -23,3 +24,7 @@ module _ {K V : Type 0} (data_of : K → Key) where
       let taken = run.1.0 in
       let rest = Drain-lists run.0 pairs later run.2 in
       IsListingBut-first (drain_map first).live (drain_map later).live (entries pairs) (data_of pair.0) pair.1 taken.0 (subst (λ m. IsListingBut m (entries pairs) (drain_map later).live) taken.1.live rest)
+
+  pub Drain-in_order : (first : Drain K V) → DrainInOrder data_of first
+  Drain-in_order first [] later run = ap (λ d. map.entries (drain_map d).live) run
+  Drain-in_order first (pair ∷ pairs) later run = run.1.3 ∙ ap (λ es. (data_of pair.0, pair.1) ∷ es) (Drain-in_order run.0 pairs later run.2)

@@ -1,12 +1,12 @@
 -- What a contract sees of a `Drain`.
-use Rattle.std.specs.Prelude.{◌≡◌, List, map as list_map, Option}
+use Rattle.std.specs.Prelude.{◌≡◌, ◌++◌, List, map as list_map, Option}
 use Rattle.std.specs.Borrow.{GName}
 use Rattle.std.specs.Iterator.{Count, at_most, Yields}
 use Rattle.std.specs.FinMap as map
 use Rattle.slotmap_core.specs.Key.{Key}
 use Rattle.slotmap_core.specs.Content.{Content}
 use Rattle.slotmap_core.specs.Listing.{IsListingBut, NoneBelow}
-use Rattle.slotmap_core.specs.Transition.{TakesPair, Empties}
+use Rattle.slotmap_core.specs.Transition.{TakesPair, TakesFirst, EmptiesByIndex}
 use Rattle.slotmap_basic.specs.declared.drain.Drain.{Drain}
 
 module _ {K V : Type 0} where
@@ -29,13 +29,13 @@ module _ {K V : Type 0} where
   -- old and new borrow the same map, and as what new ends, once every key has left, old ends too
   abbrev pub DrainKeeps : Drain K V → Drain K V → Type 0
   DrainKeeps old new = (drain_lender new ≡ drain_lender old)
-      × ((end : Content V) → Empties (drain_map new) end → Empties (drain_map old) end)
+      × ((end : Content V) → EmptiesByIndex (drain_map new) end → EmptiesByIndex (drain_map old) end)
 
   module _ (data_of : K → Key) where
     -- `next` took old to new, and answered the item
     abbrev pub DrainSteps : Drain K V → Option (K × V) → Drain K V → Type 0
     DrainSteps old item new = TakesPair data_of (drain_map old) item (drain_map new)
-        × DrainKeeps old new × DrainCanStep new
+        × DrainKeeps old new × DrainCanStep new × TakesFirst data_of (drain_map old) item (drain_map new)
 
     -- each state that calls of `next` lead to keeps what the first keeps
     abbrev pub DrainKeepsAlong : Drain K V → Type 0
@@ -46,3 +46,8 @@ module _ {K V : Type 0} where
     abbrev pub DrainLists : Drain K V → Type 0
     DrainLists first = (pairs : List (K × V)) (later : Drain K V) → Yields DrainSteps first pairs later
         → IsListingBut (drain_map first).live (list_map (λ p. (data_of p.0, p.1)) pairs) (drain_map later).live
+
+    -- they come by ascending index, before those that the map still holds
+    abbrev pub DrainInOrder : Drain K V → Type 0
+    DrainInOrder first = (pairs : List (K × V)) (later : Drain K V) → Yields DrainSteps first pairs later
+        → map.entries (drain_map first).live ≡ list_map (λ p. (data_of p.0, p.1)) pairs ++ map.entries (drain_map later).live

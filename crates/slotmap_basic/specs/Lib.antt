@@ -1,4 +1,2 @@
-pub mod Slots
 pub mod Lends
-pub mod Walk
 pub mod Drain

@@ -1,11 +1,12 @@
 //! Look-ups: which keys are live, and their values.
 
-ghost use Rattle.std.specs.Prelude.{◌≡◌, ◌↔◌, IfOk, OnOk, OnErr, IfErr, IfNone, IfSome, option_copied, Some, true, false};
+ghost use Rattle.std.specs.Prelude.{◌≡◌, IfOk, OnOk, OnErr, IfErr, option_copied, Some, true};
 ghost use Rattle.std.specs.FinMap as map;
 ghost use Rattle.std.specs.Borrow.{sem};
 ghost use Rattle.std.specs.Option.{option_copied_mut};
 ghost use Rattle.slotmap_core.specs.Content.{IsContent, IsLive};
 ghost use Rattle.slotmap_core.specs.Transition.{with_value};
+ghost use Rattle.slotmap_core.specs.Call.{StaysValid};
 
 use crate::SlotMap;
 use slotmap_core::keys::Key;
@@ -15,22 +16,6 @@ use std::ops::{Index, IndexMut};
 impl<K: Key, V: Drop> SlotMap<K, V> {
     ghost use Rattle.slotmap_basic.specs.Lends.{lends_get, lends_value};
 
-    // The place of a key that is live.
-    pub(crate) fn live_index(&self, key: K) -> Option<usize>
-        ensures live { IfSome result (λ index.
-            IsLive self.now (K.data_of key) × (index ≡ (K.data_of key).index)) }
-        ensures absent { IfNone result (map.contains_key self.now.live (K.data_of key) ≡ false) }
-        ensures valid { IsContent true self.now }
-    {
-        let key = key.data();
-        let index = key.idx() as usize;
-        if *self.versions.get(index)? == key.version() {
-            Some(index)
-        } else {
-            None
-        }
-    }
-
     /// Whether this key is live. Constant time.
     ///
     /// A detached key isn't, nor is the null key, nor a key of another map, as long as this map has
@@ -39,7 +24,7 @@ impl<K: Key, V: Drop> SlotMap<K, V> {
         ensures value { result ≡ map.contains_key self.now.live (K.data_of key) }
         ensures valid { IsContent true self.now }
     {
-        self.live_index(key).is_some()
+        self.slots.contains_key(key.data())
     }
 
     /// The value of a live key, or none where the key isn't live. Constant time.
@@ -47,8 +32,7 @@ impl<K: Key, V: Drop> SlotMap<K, V> {
         ensures value { option_copied result ≡ map.get self.now.live (K.data_of key) }
         ensures valid { IsContent true self.now }
     {
-        let index = self.live_index(key)?;
-        self.values[index].as_ref()
+        self.slots.get(key.data())
     }
 
     /// The value of a key that is live. Constant time, with no look-up.
@@ -56,10 +40,10 @@ impl<K: Key, V: Drop> SlotMap<K, V> {
     /// The caller has to know that the key is live; so the call is safe, where Rust's is `unsafe`.
     pub fn get_unchecked(&self, key: K) -> &V
         requires { IsLive self.now (K.data_of key) }
-        ensures { map.get self.now.live (K.data_of key) ≡ Some result.now }
+        ensures value { map.get self.now.live (K.data_of key) ≡ Some result.now }
+        ensures valid { IsContent true self.now }
     {
-        let index = key.data().idx() as usize;
-        self.values[index].as_ref().unwrap()
+        self.slots.get_unchecked(key.data())
     }
 
     /// The value of a live key for writing, or none where the key isn't live. Constant time.
@@ -69,7 +53,7 @@ impl<K: Key, V: Drop> SlotMap<K, V> {
     pub fn get_mut(&mut self, key: K) -> Option<&mut V>
         ensures* writes_back { sem 𝓛 (lends_get K.row V.row self.entry (K.data_of key) result) }
         ensures value { option_copied_mut result ≡ map.get self.old.live (K.data_of key) }
-        ensures was_valid { IsContent true self.old }
+        ensures valid { IsContent true self.old }
     {
         if self.contains_key(key) {
             Some(self.get_unchecked_mut(key))
@@ -85,10 +69,9 @@ impl<K: Key, V: Drop> SlotMap<K, V> {
         requires { IsLive self.old (K.data_of key) }
         ensures* writes_back { sem 𝓛 (lends_value K.row V.row self.entry (K.data_of key) result) }
         ensures value { map.get self.old.live (K.data_of key) ≡ Some result.now }
-        ensures was_valid { IsContent true self.old }
+        ensures valid { IsContent true self.old }
     {
-        let index = key.data().idx() as usize;
-        self.values[index].as_mut().unwrap()
+        self.slots.get_unchecked_mut(key.data())
     }
 
     /// Sets the value of a live key and answers the value before; where the key isn't live, hands
@@ -98,8 +81,7 @@ impl<K: Key, V: Drop> SlotMap<K, V> {
         ensures replaces { OnOk result (self.new ≡ with_value self.old (K.data_of key) value) }
         ensures err { IfErr result (λ back. ¬ (IsLive self.old (K.data_of key)) × (back ≡ value)) }
         ensures unchanged { OnErr result (self.new ≡ self.old) }
-        ensures was_valid { IsContent true self.old }
-        ensures valid { IsContent true self.new }
+        ensures valid { StaysValid true self.old self.new }
     {
         match self.get_mut(key) {
             Some(place) => Ok(mem::replace(place, value)),
@@ -131,7 +113,7 @@ impl<K: Key, V: Drop> IndexMut<K> for SlotMap<K, V> {
         requires { IsLive self.old (K.data_of key) }
         ensures* writes_back { sem 𝓛 (lends_value K.row V.row self.entry (K.data_of key) result) }
         ensures value { map.get self.old.live (K.data_of key) ≡ Some result.now }
-        ensures was_valid { IsContent true self.old }
+        ensures valid { IsContent true self.old }
     {
         self.get_unchecked_mut(key)
     }

@@ -29,13 +29,8 @@ impl<K: Key, V: Clone> SlotMap<K, V> {
         ensures valid { IfOk result (IsContent true) }
     {
         Ok(SlotMap {
-            versions: self.versions.clone()?,
-            links: self.links.clone()?,
-            values: self.values.clone()?,
-            first_vacant: self.first_vacant,
-            vacant_count: self.vacant_count,
-            live_count: self.live_count,
-            keys: PhantomData,
+            slots: self.slots.copy()?,
+            key_type: PhantomData,
         })
     }
 

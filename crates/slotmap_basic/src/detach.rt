@@ -1,12 +1,12 @@
 //! Keys whose value is out and whose place is kept.
 
-ghost use Rattle.std.specs.Prelude.{◌≡◌, OnSome, IfNone, IfSome, OnOk, OnErr, IfErr, true, false};
+ghost use Rattle.std.specs.Prelude.{◌≡◌, OnSome, IfNone, OnOk, OnErr, IfErr, true};
 ghost use Rattle.std.specs.FinMap as map;
-ghost use Rattle.std.specs.FinSet as set;
-ghost use Rattle.slotmap_core.specs.Content.{IsContent, IsDetached};
+ghost use Rattle.slotmap_core.specs.Content.{IsDetached};
 ghost use Rattle.slotmap_core.specs.Transition.{Detaches, Reattaches};
+ghost use Rattle.slotmap_core.specs.Call.{StaysValid};
 
-use crate::{Link, SlotMap};
+use crate::SlotMap;
 use slotmap_core::errors::ReattachError;
 use slotmap_core::keys::Key;
 
@@ -28,38 +28,11 @@ impl<K: Key, V: Drop> SlotMap<K, V> {
     pub fn detach(&mut self, key: K) -> Option<V>
         ensures value { result ≡ map.get self.old.live (K.data_of key) }
         ensures detaches { OnSome result (Detaches self.old (K.data_of key) self.new) }
-        ensures absent { IfNone result (self.new ≡ self.old) }
-        ensures capacity { self.new.capacity ≡ self.old.capacity }
-        ensures was_valid { IsContent true self.old }
-        ensures valid { IsContent true self.new }
+        ensures unchanged { IfNone result (self.new ≡ self.old) }
+        ensures live { self.new.live ≡ map.remove self.old.live (K.data_of key) }
+        ensures valid { StaysValid true self.old self.new }
     {
-        let index = self.live_index(key)?;
-        let version = key.data().version();
-        let value = self.values[index].take();
-        self.versions[index] = version.wrapping_add(1);
-        self.links[index] = Link::Detached;
-        self.live_count -= 1;
-        value
-    }
-
-    // The place of a key that is detached.
-    fn detached_index(&self, key: K) -> Option<usize>
-        ensures detached { IfSome result (λ index.
-            IsDetached self.now (K.data_of key) × (index ≡ (K.data_of key).index)) }
-        ensures absent { IfNone result (set.contains self.now.detached (K.data_of key) ≡ false) }
-    {
-        let key = key.data();
-        let index = key.idx() as usize;
-        match *self.links.get(index)? {
-            Link::Detached => {
-                if self.versions[index].wrapping_sub(1) == key.version() {
-                    Some(index)
-                } else {
-                    None
-                }
-            }
-            _ => None,
-        }
+        self.slots.detach(key.data())
     }
 
     /// Binds a detached key to a value again. Constant time.
@@ -71,17 +44,12 @@ impl<K: Key, V: Drop> SlotMap<K, V> {
         ensures err { IfErr result (λ error. (error ≡ ReattachError.NotDetached value)
             × (IsDetached self.old (K.data_of key) → ⊥)) }
         ensures unchanged { OnErr result (self.new ≡ self.old) }
-        ensures capacity { self.new.capacity ≡ self.old.capacity }
-        ensures was_valid { IsContent true self.old }
-        ensures valid { IsContent true self.new }
+        ensures valid { StaysValid true self.old self.new }
     {
-        let Some(index) = self.detached_index(key) else {
+        if !self.slots.is_detached(key.data()) {
             return Err(ReattachError::NotDetached(value));
-        };
-        self.versions[index] = key.data().version();
-        self.links[index] = Link::InUse;
-        self.values[index] = Some(value);
-        self.live_count += 1;
+        }
+        self.slots.reattach(key.data(), value);
         Ok(())
     }
 }

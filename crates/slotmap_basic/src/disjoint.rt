@@ -5,6 +5,7 @@ ghost use Rattle.std.specs.FinMap as map;
 ghost use Rattle.slotmap_core.specs.Content.{IsContent, IsLive};
 ghost use Rattle.slotmap_core.specs.Transition.{with_value};
 ghost use Rattle.slotmap_core.specs.Disjoint.{CanReplace, AreValuesOf, with_values};
+ghost use Rattle.slotmap_core.specs.Call.{StaysValid};
 
 use crate::SlotMap;
 use slotmap_core::keys::Key;
@@ -32,10 +33,9 @@ impl<K: Key, V: Drop> SlotMap<K, V> {
         ensures put { OnOk result (self.new ≡ with_values self.old (map_list K.data_of keys) values) }
         ensures taken { IfOk result (AreValuesOf self.old (map_list K.data_of keys)) }
 
-        ensures refused { OnErr result (self.new ≡ self.old) }
-        ensures returned { IfErr result (λ given. given ≡ values) }
-        ensures was_valid { IsContent true self.old }
-        ensures valid { IsContent true self.new }
+        ensures err { IfErr result (λ given. given ≡ values) }
+        ensures unchanged { OnErr result (self.new ≡ self.old) }
+        ensures valid { StaysValid true self.old self.new }
     {
         if !self.can_replace(&keys) {
             return Err(values);
@@ -51,8 +51,7 @@ impl<K: Key, V: Drop> SlotMap<K, V> {
         ensures which { IsTrue result ↔ CanReplace self.now (map_list K.data_of keys.now) }
         ensures valid { IsContent true self.now }
     {
-        // Where there is no key the map is looked at too, for the clause `valid`.
-        let _ = &self.live_count;
+        self.slots.note_valid();
         for i in 0..keys.len() {
             let key = keys[i];
             if !self.contains_key(key) || keys[..i].contains(&key) {

@@ -3,7 +3,7 @@
 ghost use Rattle.std.specs.Prelude.{◌≡◌, ◌≤◌, true, Some, IfSome};
 ghost use Rattle.std.specs.Iterator.{size, UpTo};
 ghost use Rattle.slotmap_core.specs.Content.{IsContent};
-ghost use Rattle.slotmap_core.specs.Transition.{Empties};
+ghost use Rattle.slotmap_core.specs.Transition.{EmptiesByIndex};
 
 use crate::SlotMap;
 use slotmap_core::keys::Key;
@@ -23,11 +23,11 @@ impl<'a, K: Key, V: Drop> Drop for Drain<'a, K, V> {
     ghost use Rattle.slotmap_basic.specs.Drain.{drain_map, DrainCanStep};
 
     fn drop(self)
-        ensures ends { DrainCanStep self.entry → Empties (drain_map self.entry) self.exit.0.now }
+        ensures ends { DrainCanStep self.entry → EmptiesByIndex (drain_map self.entry) self.exit.0.now }
         ensures valid { IsContent true self.exit.0.now }
     {
         let Drain { map, index } = self;
-        map.clear_from(index);
+        map.slots.clear_from(index);
     }
 }
 
@@ -43,14 +43,11 @@ impl<'a, K: Key, V: Drop> Iterator for Drain<'a, K, V> {
     ghost remaining = { drain_count };
 
     fn next(&mut self) -> Option<(K, V)> {
-        while self.index < self.map.place_count() {
-            let index = self.index;
-            self.index += 1;
-            if let Some(key) = self.map.key_at(index) {
-                return Some((key, self.map.take_live(key)));
-            }
-        }
-        None
+        let index = self.index;
+        let map = &mut *self.map;
+        let key = map.live_from(index)?;
+        self.index = key.data().idx() as usize + 1;
+        Some((key, map.take_live(key)))
     }
 
     fn size_hint(&self) -> (usize, Option<usize>)
@@ -72,7 +69,7 @@ impl<'a, K: Key, V: Drop> ExactSizeIterator for Drain<'a, K, V> {
 impl<'a, K: Key, V: Drop> FusedIterator for Drain<'a, K, V> {}
 
 impl<K: Key, V: Drop> SlotMap<K, V> {
-    ghost use Rattle.slotmap_basic.specs.Drain.{drain_map, drain_lender, DrainCanStep, DrainKeepsAlong, DrainLists};
+    ghost use Rattle.slotmap_basic.specs.Drain.{drain_map, drain_lender, DrainCanStep, DrainKeepsAlong, DrainLists, DrainInOrder};
 
     /// Takes the live keys with their values out, by ascending index.
     ///
@@ -93,11 +90,11 @@ impl<K: Key, V: Drop> SlotMap<K, V> {
         // Laws of the steps, for callers that walk on.
         ensures stays { DrainKeepsAlong K.data_of result }
         ensures lists { DrainLists K.data_of result }
+        ensures in_order { DrainInOrder K.data_of result }
 
-        ensures was_valid { IsContent true self.old }
+        ensures valid { IsContent true self.old }
     {
-        // The map is looked at for the clause `was_valid`.
-        let _ = &self.live_count;
+        self.slots.note_valid();
         Drain {
             map: self,
             index: 0,

@@ -6,7 +6,8 @@ ghost use Rattle.std.specs.FinMap as map;
 ghost use Rattle.slotmap_core.specs.Listing.{IsListing};
 
 use crate::SlotMap;
-use slotmap_core::keys::{Key, KeyData};
+use slotmap_core::keys::Key;
+use slotmap_core::slots::SlotIntoIter;
 use std::alloc::AllocError;
 use std::marker::{Model, PhantomData};
 
@@ -18,25 +19,17 @@ use std::marker::{Model, PhantomData};
 /// Values that it has not handed out are dropped with it.
 #[derive(Drop)]
 pub struct IntoIter<K, V> {
-    versions: Vec<u32>,
-    values: Vec<Option<V>>,
-    // The place that comes next.
-    index: usize,
-    // How many values are still to come.
-    left: usize,
-    keys: PhantomData<K>,
+    pairs: SlotIntoIter<V>,
+    key_type: PhantomData<K>,
 }
 
 impl<K, V> Model for IntoIter<K, V> {
     ghost use Rattle.std.specs.Prelude.{List};
     ghost use Rattle.slotmap_core.specs.Key.{Key};
-    ghost use Rattle.slotmap_basic.specs.Walk.{pairs_left, IsWalk};
 
     ghost Value = { List (Key × V) };
 
-    ghost view = { λ it. pairs_left it.index it.versions.items it.values.items };
-
-    ghost invariant = { λ it. IsWalk it.versions.items it.values.items it.index it.left };
+    ghost view = { λ it. it.pairs };
 }
 
 impl<K, V> IntoIter<K, V> {
@@ -44,7 +37,7 @@ impl<K, V> IntoIter<K, V> {
     pub fn len(&self) -> usize
         ensures { result ≡ length self.now }
     {
-        self.left
+        self.pairs.len()
     }
 }
 
@@ -58,11 +51,8 @@ impl<K, V: Clone> IntoIter<K, V> {
         ensures { IfOk result (λ copy. copy ≡ self.now) }
     {
         Ok(IntoIter {
-            versions: self.versions.clone()?,
-            values: self.values.clone()?,
-            index: self.index,
-            left: self.left,
-            keys: PhantomData,
+            pairs: self.pairs.copy()?,
+            key_type: PhantomData,
         })
     }
 }
@@ -75,18 +65,10 @@ impl<K: Key, V: Drop> Iterator for IntoIter<K, V> {
     ghost remaining = { item_count (λ rest. rest) };
 
     fn next(&mut self) -> Option<(K, V)> {
-        while self.left > 0 {
-            let index = self.index;
-            let version = self.versions[index];
-            self.index += 1;
-            if version % 2 == 1 {
-                self.left -= 1;
-                let key = K::from(KeyData::new(index as u32, version));
-                let value = self.values[index].take().unwrap();
-                return Some((key, value));
-            }
+        match self.pairs.next() {
+            Some((data, value)) => Some((K::from(data), value)),
+            None => None,
         }
-        None
     }
 
     fn size_hint(&self) -> (usize, Option<usize>)
@@ -94,7 +76,7 @@ impl<K: Key, V: Drop> Iterator for IntoIter<K, V> {
         ensures upper { IfSome result.1 (UpTo (at_most (length self.now))) }
         ensures exact { result ≡ (length self.now, Some (length self.now)) }
     {
-        (self.left, Some(self.left))
+        self.pairs.size_hint()
     }
 }
 
@@ -106,21 +88,9 @@ impl<K: Key, V: Drop> IntoIterator for SlotMap<K, V> {
     ghost into_iter_gives = { λ m it. IsListing m.live it × (it ≡ map.entries m.live) };
 
     fn into_iter(self) -> IntoIter<K, V> {
-        let SlotMap {
-            versions,
-            links: _,
-            values,
-            first_vacant: _,
-            vacant_count: _,
-            live_count,
-            keys: _,
-        } = self;
         IntoIter {
-            versions,
-            values,
-            index: 0,
-            left: live_count as usize,
-            keys: PhantomData,
+            pairs: self.slots.into_iter(),
+            key_type: PhantomData,
         }
     }
 }

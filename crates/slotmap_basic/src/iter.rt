@@ -6,7 +6,8 @@ ghost use Rattle.std.specs.FinMap as map;
 ghost use Rattle.slotmap_core.specs.Listing.{IsListing, IsKeyListing, IsValueListing};
 
 use crate::SlotMap;
-use slotmap_core::keys::{Key, KeyData};
+use slotmap_core::keys::Key;
+use slotmap_core::slots::SlotIter;
 use std::alloc::AllocError;
 use std::marker::{Model, PhantomData};
 
@@ -16,25 +17,17 @@ use std::marker::{Model, PhantomData};
 /// clone of it walks over the same pairs, and takes no memory.
 #[derive(Drop)]
 pub struct Iter<'a, K, V> {
-    versions: &'a [u32],
-    values: &'a [Option<V>],
-    // The place that comes next.
-    index: usize,
-    // How many values are still to come.
-    left: usize,
-    keys: PhantomData<K>,
+    pairs: SlotIter<'a, V>,
+    key_type: PhantomData<K>,
 }
 
 impl<'a, K, V> Model for Iter<'a, K, V> {
     ghost use Rattle.std.specs.Prelude.{List};
     ghost use Rattle.slotmap_core.specs.Key.{Key};
-    ghost use Rattle.slotmap_basic.specs.Walk.{pairs_left, IsWalk};
 
     ghost Value = { List (Key × V) };
 
-    ghost view = { λ it. pairs_left it.index it.versions.now it.values.now };
-
-    ghost invariant = { λ it. IsWalk it.versions.now it.values.now it.index it.left };
+    ghost view = { λ it. it.pairs };
 }
 
 impl<'a, K, V> Iter<'a, K, V> {
@@ -42,7 +35,7 @@ impl<'a, K, V> Iter<'a, K, V> {
     pub fn len(&self) -> usize
         ensures { result ≡ length self.now }
     {
-        self.left
+        self.pairs.len()
     }
 }
 
@@ -53,11 +46,8 @@ impl<'a, K, V> Clone for Iter<'a, K, V> {
 
     fn clone(&self) -> Result<Self, AllocError> {
         Ok(Iter {
-            versions: self.versions,
-            values: self.values,
-            index: self.index,
-            left: self.left,
-            keys: PhantomData,
+            pairs: self.pairs.clone()?,
+            key_type: PhantomData,
         })
     }
 }
@@ -69,19 +59,12 @@ impl<'a, K: Key, V> Iterator for Iter<'a, K, V> {
 
     ghost remaining = { item_count (λ rest. rest) };
 
+    #[inline(always)]
     fn next(&mut self) -> Option<(K, &'a V)> {
-        while self.left > 0 {
-            let index = self.index;
-            let version = self.versions[index];
-            self.index += 1;
-            if version % 2 == 1 {
-                self.left -= 1;
-                let key = K::from(KeyData::new(index as u32, version));
-                let value = self.values[index].as_ref().unwrap();
-                return Some((key, value));
-            }
+        match self.pairs.next() {
+            Some((data, value)) => Some((K::from(data), value)),
+            None => None,
         }
-        None
     }
 
     fn size_hint(&self) -> (usize, Option<usize>)
@@ -89,7 +72,7 @@ impl<'a, K: Key, V> Iterator for Iter<'a, K, V> {
         ensures upper { IfSome result.1 (UpTo (at_most (length self.now))) }
         ensures exact { result ≡ (length self.now, Some (length self.now)) }
     {
-        (self.left, Some(self.left))
+        self.pairs.size_hint()
     }
 }
 
@@ -139,6 +122,7 @@ impl<'a, K: Key, V> Iterator for Keys<'a, K, V> {
 
     ghost remaining = { item_count (λ rest. rest) };
 
+    #[inline(always)]
     fn next(&mut self) -> Option<K> {
         let (key, _) = self.pairs.next()?;
         Some(key)
@@ -199,6 +183,7 @@ impl<'a, K: Key, V> Iterator for Values<'a, K, V> {
 
     ghost remaining = { item_count (λ rest. rest) };
 
+    #[inline(always)]
     fn next(&mut self) -> Option<&'a V> {
         let (_, value) = self.pairs.next()?;
         Some(value)
@@ -234,11 +219,8 @@ impl<K: Key, V> SlotMap<K, V> {
         ensures in_order { result ≡ map.entries self.now.live }
     {
         Iter {
-            versions: self.versions.as_slice(),
-            values: self.values.as_slice(),
-            index: 0,
-            left: self.live_count as usize,
-            keys: PhantomData,
+            pairs: self.slots.iter(),
+            key_type: PhantomData,
         }
     }
 

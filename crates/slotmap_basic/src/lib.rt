@@ -6,11 +6,12 @@
 //! the capacity.
 #![tactic(auto)]
 
-ghost use Rattle.std.specs.Prelude.{◌≡◌, [], Some, ◌+◌, ◌≤◌, ◌↔◌, IsTrue, IfOk, OnOk, IfErr, IsOk, true};
+ghost use Rattle.std.specs.Prelude.{◌≡◌, [], Some, ◌+◌, ◌≤◌, ◌↔◌, IsTrue, IfOk, IfErr, IsOk, true};
 ghost use Rattle.std.specs.FinMap as map;
-ghost use Rattle.slotmap_core.specs.Content.{IsContent, used, most};
-ghost use Rattle.slotmap_core.specs.Transition.{IsNew, Keeps};
+ghost use Rattle.slotmap_core.specs.Content.{IsContent, used};
+ghost use Rattle.slotmap_core.specs.Transition.{IsNew};
 ghost use Rattle.slotmap_core.specs.Refusal.{RefusesCapacity};
+ghost use Rattle.slotmap_core.specs.Call.{MakesRoom};
 
 mod access;
 mod clone;
@@ -22,14 +23,16 @@ mod into_iter;
 mod iter;
 mod primary;
 mod remove;
-mod retain;
 mod slots;
+mod sweep;
 
 pub use drain::Drain;
 pub use into_iter::IntoIter;
 pub use iter::{Iter, Keys, Values};
 use slotmap_core::errors::ReserveError;
 use slotmap_core::keys::{DefaultKey, Key};
+use slotmap_core::layout::Columns;
+use slotmap_core::slots::Slots;
 use std::alloc::Global;
 use std::marker::{Model, PhantomData};
 
@@ -52,47 +55,20 @@ use std::marker::{Model, PhantomData};
 /// ```
 #[derive(Drop)]
 pub struct SlotMap<K, V> {
-    // Place i is made of the i-th elements of these three. Place 0 is the sentinel.
-    versions: Vec<u32>,
-    links: Vec<Link>,
-    values: Vec<Option<V>>,
-    // The first place of the free list, or 0 where there is none.
-    first_vacant: u32,
-    vacant_count: u32,
-    live_count: u32,
-    keys: PhantomData<K>,
-}
-
-#[derive(Clone, Copy)]
-enum Link {
-    // With a value, or used up.
-    InUse,
-    // With the next place of the free list, or 0.
-    Free(u32),
-    Detached,
+    // Versions, links and values, each in a vector of its own.
+    slots: Slots<V, Columns<V>>,
+    key_type: PhantomData<K>,
 }
 
 impl<K, V> Model for SlotMap<K, V> {
-    ghost use Rattle.std.specs.Prelude.{◌-◌, min, vec_capacity};
     ghost use Rattle.slotmap_core.specs.Content.{Content, content_code};
-    ghost use Rattle.slotmap_core.specs.StackMap.{content};
-    ghost use Rattle.slotmap_basic.specs.Slots.{places_of, walk, IsSound};
 
     ghost Value = { Content V };
 
     ghost coded = { content_code V.code };
 
-    ghost view = { λ m. content (record {
-      places = places_of (record { versions = m.versions.items; links = m.links.items; values = m.values.items });
-      vacant = walk m.links.items m.vacant_count m.first_vacant;
-      capacity = min (vec_capacity m.versions) (min (vec_capacity m.links) (vec_capacity m.values)) - 1;
-    }) };
-
-    ghost invariant = { λ m. IsSound (record { versions = m.versions.items; links = m.links.items; values = m.values.items }) m.first_vacant m.vacant_count m.live_count };
+    ghost view = { λ m. m.slots };
 }
-
-// As many places fit beside the sentinel.
-const MOST_PLACES: usize = 4294967294;
 
 impl<V: Drop> SlotMap<DefaultKey, V> {
     /// An empty map with the default key type. Takes memory for the sentinel's place.
@@ -146,23 +122,9 @@ impl<K: Key, V: Drop> SlotMap<K, V> {
         ensures err { IfErr result (RefusesCapacity capacity) }
         ensures valid { IfOk result (IsContent true) }
     {
-        if capacity > MOST_PLACES {
-            return Err(ReserveError::TooGreat);
-        }
-        let mut versions = Vec::with_capacity(alloc, capacity + 1)?;
-        let mut links = Vec::with_capacity(alloc, capacity + 1)?;
-        let mut values = Vec::with_capacity(alloc, capacity + 1)?;
-        versions.push_reserved(0);
-        links.push_reserved(Link::Free(0));
-        values.push_reserved(None);
         Ok(SlotMap {
-            versions,
-            links,
-            values,
-            first_vacant: 0,
-            vacant_count: 0,
-            live_count: 0,
-            keys: PhantomData,
+            slots: Slots::with_capacity(alloc, capacity)?,
+            key_type: PhantomData,
         })
     }
 
@@ -171,12 +133,13 @@ impl<K: Key, V: Drop> SlotMap<K, V> {
         ensures value { result ≡ map.len self.now.live }
         ensures valid { IsContent true self.now }
     {
-        self.live_count as usize
+        self.slots.len()
     }
 
     /// Whether no key is live. Constant time.
     pub fn is_empty(&self) -> bool
-        ensures { IsTrue result ↔ (map.len self.now.live ≡ 0) }
+        ensures value { IsTrue result ↔ (map.len self.now.live ≡ 0) }
+        ensures valid { IsContent true self.now }
     {
         self.len() == 0
     }
@@ -184,20 +147,10 @@ impl<K: Key, V: Drop> SlotMap<K, V> {
     /// How many places the map has memory for, live, detached, vacant and retired ones together.
     /// Constant time.
     pub fn capacity(&self) -> usize
-        ensures { result ≡ self.now.capacity }
-    {
-        let links = self.links.capacity().min(self.values.capacity());
-        self.versions.capacity().min(links) - 1
-    }
-
-    // The number of places that no insert can take.
-    fn taken(&self) -> usize
-        ensures value { result ≡ used self.now }
-        ensures below { result ≤ most }
-        ensures fits { result ≤ self.now.capacity }
+        ensures value { result ≡ self.now.capacity }
         ensures valid { IsContent true self.now }
     {
-        self.versions.len() - 1 - self.vacant_count as usize
+        self.slots.capacity()
     }
 
     /// Makes room for `additional` more keys: so many inserts and reattaches that follow aren't
@@ -209,55 +162,18 @@ impl<K: Key, V: Drop> SlotMap<K, V> {
     ///
     /// Linear in the number of places where the vectors move, else constant time.
     pub fn reserve(&mut self, additional: usize) -> Result<(), ReserveError>
-        ensures room { OnOk result (additional ≤ self.new.room) }
-        ensures capacity { OnOk result (map.len self.old.live + additional ≤ self.new.capacity) }
-
-        // What is over the limit is refused as such, and nothing else is.
-        ensures fits { OnOk result (used self.old + additional ≤ most) }
+        ensures makes_room { MakesRoom true self.old additional (IsOk result) self.new }
         ensures err { IfErr result (RefusesCapacity (used self.old + additional)) }
-
-        // Whatever is answered, the map holds what it held.
-        ensures keeps { Keeps self.old self.new }
-        ensures grows { self.old.capacity ≤ self.new.capacity }
-
-        // With room for so many nothing is asked for.
-        ensures succeeds { additional ≤ self.old.room → IsOk result }
-        ensures had_room { additional ≤ self.old.room → self.new ≡ self.old }
         ensures reuses { additional ≤ map.len self.old.next → IsOk result }
-
-        ensures was_valid { IsContent true self.old }
-        ensures valid { IsContent true self.new }
     {
-        let taken = self.taken();
-        if additional > MOST_PLACES - taken {
-            return Err(ReserveError::TooGreat);
-        }
-        if additional <= self.capacity() - taken {
-            return Ok(());
-        }
-        let missing = additional - self.vacant_count as usize;
-        self.versions.reserve(missing)?;
-        self.links.reserve(missing)?;
-        self.values.reserve(missing)?;
-        Ok(())
+        self.slots.reserve(additional)
     }
 
     /// The same as `reserve`, which answers a `Result` here too.
     pub fn try_reserve(&mut self, additional: usize) -> Result<(), ReserveError>
-        ensures room { OnOk result (additional ≤ self.new.room) }
-        ensures capacity { OnOk result (map.len self.old.live + additional ≤ self.new.capacity) }
-
-        ensures fits { OnOk result (used self.old + additional ≤ most) }
+        ensures makes_room { MakesRoom true self.old additional (IsOk result) self.new }
         ensures err { IfErr result (RefusesCapacity (used self.old + additional)) }
-
-        ensures keeps { Keeps self.old self.new }
-        ensures grows { self.old.capacity ≤ self.new.capacity }
-
-        ensures succeeds { additional ≤ self.old.room → IsOk result }
-        ensures had_room { additional ≤ self.old.room → self.new ≡ self.old }
         ensures reuses { additional ≤ map.len self.old.next → IsOk result }
-        ensures was_valid { IsContent true self.old }
-        ensures valid { IsContent true self.new }
     {
         self.reserve(additional)
     }

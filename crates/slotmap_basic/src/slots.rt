@@ -1,38 +1,18 @@
 //! Lists of slots: a map written out, and a map read back.
 
-ghost use Rattle.std.specs.Prelude.{◌≡◌, ◌<◌, ◌^◌, IfOk, IsOk, IfErr, true, Some, List};
-ghost use Rattle.slotmap_core.specs.Content.{Content, IsContent};
-ghost use Rattle.slotmap_core.specs.Contents.{contents, is_vacant_version, start_stack, StartsFrom, start_state};
-ghost use Rattle.slotmap_core.specs.Fit.{Fits};
+ghost use Rattle.std.specs.Prelude.{◌≡◌, IfOk, IsOk, IfErr, true, Some};
+ghost use Rattle.slotmap_core.specs.Contents.{contents, start_stack};
+ghost use Rattle.slotmap_core.specs.ListRead.{ReadsAs};
 ghost use Rattle.slotmap_core.specs.Slots.{Accepts, RefusesStart};
-ghost use Rattle.slotmap_core.specs.Written.{Writes, WritesAlone, Restores, read_slots};
+ghost use Rattle.slotmap_core.specs.Written.{Writes};
 
-use crate::{Link, SlotMap};
+use crate::SlotMap;
 use slotmap_core::errors::{OutOfMemory, SlotsError};
 use slotmap_core::keys::Key;
-use slotmap_core::serial::{SlotRecord, check_slots};
+use slotmap_core::serial::SlotRecord;
+use slotmap_core::slots::Slots;
 use std::alloc::Global;
 use std::marker::PhantomData;
-
-// A list that is read as a map is shorter.
-const LIMIT: usize = 4294967295;
-
-// Whether a place of this version is vacant.
-fn is_vacant(version: u32) -> bool
-    ensures { result ≡ is_vacant_version version }
-{
-    version % 2 == 0 && version != 0
-}
-
-// The slot of a place, with a clone of its value.
-fn slot_of<V: Clone>(value: &Option<V>, version: u32) -> Result<SlotRecord<V>, OutOfMemory>
-    requires { (x y : V) → V.is_clone x y → y ≡ x }
-    ensures same { IfOk result (λ slot. slot ≡ record { value = value.now; version = version }) }
-    ensures fits { version < 2 ^ 32 }
-{
-    let value = value.clone()?;
-    Ok(SlotRecord { value, version })
-}
 
 impl<K: Key, V: Drop> SlotMap<K, V> {
     /// The map written as a list of slots, one for each place, with clones of the values.
@@ -62,11 +42,7 @@ impl<K: Key, V: Drop> SlotMap<K, V> {
         ensures writes { IfOk result (λ slots. Writes self.now slots.items) }
         ensures contents { IfOk result (λ slots. contents slots.items ≡ self.now.live) }
     {
-        let mut slots = Vec::with_capacity(*self.versions.allocator(), self.versions.len())?;
-        for index in 0..self.versions.len() {
-            slots.push_reserved(slot_of(&self.values[index], self.versions[index])?);
-        }
-        Ok(slots)
+        self.slots.to_slots()
     }
 
     /// The map that a list of slots describes; its values are moved into the map.
@@ -96,56 +72,16 @@ impl<K: Key, V: Drop> SlotMap<K, V> {
     /// ```
     pub fn from_slots(alloc: Global, list: Vec<SlotRecord<V>>) -> Result<Self, SlotsError>
         // What the list says, and which place is used next.
-        ensures starts { IfOk result (StartsFrom list.items) }
+        ensures reads { IfOk result (ReadsAs true list.items) }
         ensures stack { IfOk result (λ made. made.stack ≡ Some (start_stack list.items)) }
-        ensures valid { IfOk result (IsContent true) }
-
-        // Runs of commands go on from the list's state: no key that it counts as handed out is
-        // handed out again.
-        ensures fits { IfOk result (Fits (start_state list.items)) }
-
-        // Where a map wrote this list, what was live there is live here, and what was detached has
-        // left.
-        ensures restores { IfOk result (λ made. (old : Content V) →
-            IsContent true old → Writes old list.items → Restores old made) }
-        ensures writes_back { IfOk result (λ made. WritesAlone made (read_slots list.items)) }
 
         // Refusals, the first of which is given.
         ensures accepted { IsOk result → Accepts list.items 4294967295 }
         ensures err { IfErr result (RefusesStart list.items 4294967295) }
     {
-        check_slots(&list, LIMIT)?;
-        let mut versions = Vec::with_capacity(alloc, list.len())?;
-        let mut links = Vec::with_capacity(alloc, list.len())?;
-        let mut values = Vec::with_capacity(alloc, list.len())?;
-        let mut slots = list.into_iter();
-        slots.next();
-        versions.push_reserved(0);
-        links.push_reserved(Link::Free(0));
-        values.push_reserved(None);
-        let mut first_vacant = 0;
-        let mut vacant_count = 0;
-        let mut live_count = 0;
-        for slot in slots {
-            if is_vacant(slot.version) {
-                links.push_reserved(Link::Free(first_vacant));
-                first_vacant = versions.len() as u32;
-                vacant_count += 1;
-            } else {
-                links.push_reserved(Link::InUse);
-            }
-            live_count += slot.version % 2;
-            versions.push_reserved(slot.version);
-            values.push_reserved(slot.value);
-        }
         Ok(SlotMap {
-            versions,
-            links,
-            values,
-            first_vacant,
-            vacant_count,
-            live_count,
-            keys: PhantomData,
+            slots: Slots::from_slots(alloc, list)?,
+            key_type: PhantomData,
         })
     }
 }

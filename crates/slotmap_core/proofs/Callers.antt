@@ -1,19 +1,15 @@
 -- What a caller of a map needs, in one list for `using`.
 use Rattle.std.proofs.Common.{◌≡◌, ◌≢◌, ◌+◌, Bool, true, false, cond, inl, None, Some, is_some, sym, ap, ◌∙◌}
-use Rattle.std.specs.Ordering.{eq_by_cmp}
 use Rattle.std.specs.FinMap as map
 use Rattle.std.specs.FinSet as set
 use Rattle.slotmap_core.specs.Key.{Key, key_cmp}
 use Rattle.slotmap_core.specs.Content.{Content, IsContent, IsLive}
 use Rattle.slotmap_core.specs.Transition.{Inserts, Removes}
 use Rattle.slotmap_core.proofs.AgainLemmas.{offer_unused, remove-insert_item}
-use Rattle.slotmap_core.proofs.KeyLemmas.{keys_total, exact_keys, tied, itself}
-use Rattle.slotmap_core.proofs.ListingLemmas.{insert-remove, remove-insert}
+use Rattle.slotmap_core.proofs.KeyLemmas.{keys_total, exact_keys}
+use Rattle.slotmap_core.proofs.ListingLemmas.{insert-remove}
 use Rattle.slotmap_core.proofs.MapLaws.{remove_absent}
-use Rattle.slotmap_core.proofs.Maps.{none_of, get_inserted, in_inserted, still_in, left_in, false_of, len_inserted, len_removed, item_inserted}
-
-differ : (q k : Key) → q ≢ k → eq_by_cmp key_cmp q k ≡ false
-differ q k other = false_of (eq_by_cmp key_cmp q k) (λ t. other (tied keys_total exact_keys q k t))
+use Rattle.slotmap_core.proofs.Maps.{none_of, get_inserted, get_removed, get_other, get_left, remove_inserted, in_inserted, still_in, left_in, false_of, len_inserted, len_removed, item_inserted}
 
 module _ {V : Type 0} where
   -- what a map of keys has after a change
@@ -21,26 +17,23 @@ module _ {V : Type 0} where
   get_empty k = map.get-empty key_cmp k
 
   pub get-insert_here : (m : map.FinMap key_cmp V) (k : Key) (v : V) → map.get (map.insert m k v) k ≡ Some v
-  get-insert_here m k v = get_inserted keys_total exact_keys m k v
+  get-insert_here = get_inserted keys_total exact_keys
 
   pub get-insert_other : (m : map.FinMap key_cmp V) (k : Key) (v : V) (q : Key) → q ≢ k → map.get (map.insert m k v) q ≡ map.get m q
-  get-insert_other m k v q other = map.get-insert keys_total m k v q ∙ ap (λ b. cond b (Some v) (map.get m q)) (differ q k other)
+  get-insert_other = get_other keys_total exact_keys
 
   pub get-remove_here : (m : map.FinMap key_cmp V) (k : Key) → map.get (map.remove m k) k ≡ None
-  get-remove_here m k = map.get-remove keys_total m k k ∙ ap (λ b. cond b None (map.get m k)) (itself keys_total exact_keys k)
+  get-remove_here = get_removed keys_total exact_keys
 
   pub get-remove_other : (m : map.FinMap key_cmp V) (k q : Key) → q ≢ k → map.get (map.remove m k) q ≡ map.get m q
-  get-remove_other m k q other = map.get-remove keys_total m k q ∙ ap (λ b. cond b None (map.get m q)) (differ q k other)
+  get-remove_other = get_left keys_total exact_keys
 
   pub remove_stale : (m : map.FinMap key_cmp V) (k : Key) → map.get m k ≡ None → map.remove m k ≡ m
   remove_stale m k none = remove_absent keys_total exact_keys m k none
 
   -- a key that is put in and taken out again, or the other way round
   pub remove-insert_new : (m : map.FinMap key_cmp V) (k : Key) (v : V) → map.contains_key m k ≡ false → map.remove (map.insert m k v) k ≡ m
-  remove-insert_new m k v new = remove-insert m k v ∙ remove_absent keys_total exact_keys m k (none_of (map.get m k) new)
-
-  pub insert-remove_again : (m : map.FinMap key_cmp V) (k : Key) (v : V) → map.insert (map.remove m k) k v ≡ map.insert m k v
-  insert-remove_again = insert-remove
+  remove-insert_new m k v new = remove_inserted keys_total exact_keys m k v ∙ remove_absent keys_total exact_keys m k (none_of (map.get m k) new)
 
   -- which keys are live then
   pub live-insert_here : (m : map.FinMap key_cmp V) (k : Key) (v : V) → map.contains_key (map.insert m k v) k ≡ true
@@ -96,7 +89,7 @@ module _ {V : Type 0} where
 pub detached-insert_here : (s : set.FinSet key_cmp) (k : Key) → set.contains (set.insert s k) k ≡ true
 detached-insert_here s k = item_inserted keys_total exact_keys s k
 
-pub ruleset again = (remove-insert_new, insert-remove_again, detached-insert_here, remove-insert_item, not_detached-reuses, not_detached-grows)
+pub ruleset again = (remove-insert_new, insert-remove, detached-insert_here, remove-insert_item, not_detached-reuses, not_detached-grows)
 
 pub ruleset lookups = (get_empty, get-insert_here, get-insert_other, get-remove_here, get-remove_other, remove_stale)
 

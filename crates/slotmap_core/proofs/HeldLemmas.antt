@@ -1,25 +1,19 @@
 -- What calls know of slots by what the map holds.
-use Rattle.std.proofs.Common.{◌≡◌, ℕ, ◌+◌, ◌-◌, ◌<◌, ◌≤◌, ◌^◌, ◌%◌, min, zero, suc, true, List, [], ◌∷◌, length, set, slice_get, Some, None, option_map, is_some, ⊎_elim, refl, sym, ap, subst, ◌∙◌, arith}
-use Rattle.std.proofs.lemmas.Bool.{cases_lt}
+use Rattle.std.proofs.Common.{◌≡◌, ℕ, ◌+◌, ◌-◌, ◌<◌, ◌≤◌, ◌^◌, ◌%◌, min, true, List, length, set, slice_get, Some, None, option_map, is_some, refl, sym, ap, subst, ◌∙◌, arith}
 use Rattle.std.proofs.lemmas.List.{length-set}
 use Rattle.std.proofs.lemmas.Option.{slice_get_within}
 use Rattle.std.specs.FinMap as map
 use Rattle.std.specs.FinSet as set
 use Rattle.slotmap_core.specs.Key.{Key}
 use Rattle.slotmap_core.specs.Content.{Content, IsContent, IsLive, IsDetached, places, used, most}
-use Rattle.slotmap_core.specs.Transition.{Keeps}
-use Rattle.slotmap_core.specs.Call.{MakesRoom}
+use Rattle.slotmap_core.specs.Call.{MakesRoom, StaysValid}
 use Rattle.slotmap_core.specs.StackMap.{content, taken}
-use Rattle.slotmap_core.specs.Slot.{Slot, full, version_at, NoneLive, with_payload, places_of, IsSound, IsHeld, map_of}
+use Rattle.slotmap_core.specs.Slot.{Slot, full, version_at, payload_at, NoneLive, with_payload, places_of, IsSound, IsHeld, map_of}
+use Rattle.slotmap_core.proofs.ListLemmas.{past_end, mapped_none}
 use Rattle.slotmap_core.proofs.PlacesLemmas.{key}
-use Rattle.slotmap_core.proofs.SlotLemmas.{Present, present, live_slot, get-live_slot, IsSound-rewritten, with_payload-is, has_room, valid, slots_fit, count-places, taken-slots}
+use Rattle.slotmap_core.proofs.SlotLemmas.{Present, present, live_slot, get-live_slot, rewritten, with_payload-is, valid, slots_fit, taken-slots}
 use Rattle.slotmap_core.proofs.StepLemmas.{keeps}
 use Rattle.slotmap_core.proofs.SlotGrowth.{PresentKept, present_kept}
-
-version_past : {P : Type 0} (slots : List (Slot P)) (i : ℕ) → version_at slots i ≡ None → length slots ≤ i
-version_past [] i none = omega arith
-version_past (s ∷ slots) zero none = absurd (cc)
-version_past (s ∷ slots) (suc i) none = omega (arith, version_past slots i none)
 
 module _ {P : Type 0} (slots : List (Slot P)) (fits head free count : ℕ) (held : IsHeld slots fits head free count) {now : Content P} (view : content (map_of slots head free (fits - 1)) ≡ now) where
   -- what is held between calls is well formed
@@ -29,15 +23,23 @@ module _ {P : Type 0} (slots : List (Slot P)) (fits head free count : ℕ) (held
   pub held_present : (k : Key) → IsLive now k → Present slots head free count held.sound k
   held_present k is_live = present slots head free count held.sound k (ap (λ c. map.contains_key c.live k) view ∙ is_live)
 
+  -- what is read at the index of a live key is its value
+  pub held_value : (k : Key) → IsLive now k → (i : ℕ) → i ≡ k.index → (x : P) → payload_at slots i ≡ Some x → map.get now.live k ≡ Some x
+  held_value k is_live i at x read =
+      let found = held_present k is_live in
+      ap (λ c. map.get c.live k) (sym view) ∙ found.gives ∙ sym found.read ∙ ap (payload_at slots) (sym at) ∙ read
+
   pub held_kept : (k : Key) → IsDetached now k → PresentKept slots head free count held.sound k
   held_kept k aside = present_kept slots head free count held.sound k (ap (λ c. set.contains c.detached k) view ∙ aside)
 
   pub held_room : 0 < now.room → (taken (places_of slots) < most) × (length slots < fits + free)
-  held_room room = has_room slots head free count held.sound fits (subst (λ c. 0 < c.room) (sym view) room)
+  held_room room =
+      let all = taken-slots slots head free count held.sound in
+      let same : now.room ≡ min (fits - 1) most - taken (places_of slots) = ap (λ c. c.room) (sym view) in (omega arith, omega arith)
 
   -- the places, with the sentinel's, are the slots
   pub held_places : places now + 1 ≡ length slots
-  held_places = ap (λ c. places c + 1) (sym view) ∙ count-places slots head free count held.sound (fits - 1)
+  held_places = omega (arith, ap places (sym view), taken-slots slots head free count held.sound, held.sound.counted, held.sound.stacked.counted)
 
   pub held_used : used now + free + 1 ≡ length slots
   held_used = ap (λ c. used c + free + 1) (sym view) ∙ taken-slots slots head free count held.sound
@@ -48,10 +50,7 @@ module _ {P : Type 0} (slots : List (Slot P)) (fits head free count : ℕ) (held
   -- where n keys more fit the limit and not the memory, there is no room for them
   pub held_lacks : (n : ℕ) → n + used now ≤ most → now.capacity < n + used now → now.room < n
   held_lacks n few more =
-      let same : used now ≡ taken (places_of slots) = ap used (sym view) in
-      let room : now.room ≡ min (fits - 1) most - taken (places_of slots) = ap (λ c. c.room) (sym view) in
-      let capacity : now.capacity ≡ fits - 1 = ap (λ c. c.capacity) (sym view) in
-      omega (arith, taken-slots slots head free count held.sound, held.holds)
+      omega (arith, ap used (sym view), ap (λ c. c.room) (sym view), ap (λ c. c.capacity) (sym view), taken-slots slots head free count held.sound, held.holds)
 
   -- where a place is vacant, or a slot more fits, there is room
   pub held_reuses : 0 < free → 0 < now.room
@@ -70,36 +69,32 @@ module _ {P : Type 0} (slots : List (Slot P)) (fits head free count : ℕ) (held
   pub held_passed : (start end : ℕ) → NoneLive slots start end → (q : Key) → IsLive now q → start ≤ q.index → end ≤ q.index
   held_passed start end passed q is_live from =
       let found = held_present q is_live in
-      ⊎_elim
-      (λ below. absurd (let even = passed q.index q.version from below (ap (option_map (λ s. s.version)) found.there) in let odd = found.odd in omega arith))
-      (λ past. omega arith)
-      (cases_lt q.index end)
+      grind (arith, passed q.index q.version from, found.odd, ap (option_map (λ s. s.version)) found.there)
 
   pub held_ended : (start end : ℕ) → NoneLive slots start end → version_at slots end ≡ None → (q : Key) → IsLive now q → q.index < start
   held_ended start end passed ended q is_live =
       let found = held_present q is_live in
       let within = slice_get_within slots q.index (full q.version found.value) found.there in
-      let past = version_past slots end ended in
-      ⊎_elim (λ below. below) (λ from. absurd (omega (arith, held_passed start end passed q is_live (omega arith)))) (cases_lt q.index start)
+      let past = past_end slots end (mapped_none (λ s. s.version) (slice_get slots end) ended) in
+      grind (arith, held_passed start end passed q is_live)
 
--- a payload is written
-pub with_payload-held : {P : Type 0} (slots : List (Slot P)) (fits head free count : ℕ) → IsHeld slots fits head free count → (i v : ℕ) (x : P) → slice_get slots i ≡ Some (full v x) → (w : P) → IsHeld (with_payload slots i w) fits head free count
-with_payload-held slots fits head free count held i v x there w =
-    record {
-      sound = IsSound-rewritten slots head free count held.sound i v x there w;
-      holds = omega (arith, held.holds, ap length (with_payload-is slots head free count held.sound i v x there w), length-set slots i (full v w));
-    }
+-- what is held after a call that asks for no memory
+pub held_stays : {P : Type 0} (slots : List (Slot P)) (fits head free count : ℕ) → IsHeld slots fits head free count → {now : Content P} → content (map_of slots head free (fits - 1)) ≡ now
+    → (slots2 : List (Slot P)) (fits2 head2 free2 count2 : ℕ) → IsHeld slots2 fits2 head2 free2 count2 → fits2 ≡ fits → StaysValid true now (content (map_of slots2 head2 free2 (fits2 - 1)))
+held_stays slots fits head free count held view slots2 fits2 head2 free2 count2 after same = record {
+  before = held_valid slots fits head free count held view;
+  after = held_valid slots2 fits2 head2 free2 count2 after refl;
+  capacity = ap (λ n. n - 1) same ∙ ap (λ c. c.capacity) view;
+}
 
 -- one slot is written
 pub held-set : {P : Type 0} (slots : List (Slot P)) (fits head free count : ℕ) → IsHeld slots fits head free count → (i : ℕ) (s : Slot P) {head2 free2 count2 : ℕ} → IsSound (set slots i s) head2 free2 count2 → IsHeld (set slots i s) fits head2 free2 count2
 held-set slots fits head free count held i s sound = record { sound = sound; holds = omega (arith, held.holds, length-set slots i s) }
 
--- room was asked for, and granted or not
-pub held-grown : {P : Type 0} (slots : List (Slot P)) (fits head free count : ℕ) → IsHeld slots fits head free count → (more : ℕ) → fits ≤ more → IsHeld slots more head free count
-held-grown slots fits head free count held more on = record { sound = held.sound; holds = omega (arith, held.holds) }
-
-pub keeps-grown : {P : Type 0} (slots : List (Slot P)) (fits head free more : ℕ) → fits ≤ more → Keeps (content (map_of slots head free (fits - 1))) (content (map_of slots head free (more - 1)))
-keeps-grown slots fits head free more on = keeps (map_of slots head free (fits - 1)) (more - 1) (omega arith)
+-- a payload is written
+pub with_payload-held : {P : Type 0} (slots : List (Slot P)) (fits head free count : ℕ) → IsHeld slots fits head free count → (i v : ℕ) (x : P) → slice_get slots i ≡ Some (full v x) → (w : P) → IsHeld (with_payload slots i w) fits head free count
+with_payload-held slots fits head free count held i v x there w =
+    rw (with_payload-is slots head free count held.sound i v x there w) (held-set slots fits head free count held i (full v w) (rewritten slots head free count held.sound i v x there w).sound)
 
 -- where there is room for n keys more, nothing has to be asked for
 pub room_had : {P : Type 0} (c : Content P) (n : ℕ) (ok : Type 0) → ok → IsContent true c → n ≤ c.room → MakesRoom true c n ok c
@@ -115,38 +110,19 @@ room_had c n ok is well room = record {
   capacity = omega arith;
 }
 
--- room for n keys more was asked for, which there wasn't
-module _ {P : Type 0} (slots : List (Slot P)) (fits head free count : ℕ) (held : IsHeld slots fits head free count) {now : Content P} (view : content (map_of slots head free (fits - 1)) ≡ now) (more : ℕ) (on : fits ≤ more) (n : ℕ) (ok : Type 0) (none : now.room < n) where
-  grown_valid : IsContent true (content (map_of slots head free (more - 1)))
-  grown_valid = held_valid slots more head free count (held-grown slots fits head free count held more on) refl
-
-  -- and refused
-  pub grown_refused : (ok → ⊥) → MakesRoom true now n ok (content (map_of slots head free (more - 1)))
-  grown_refused refused = record {
-    before = held_valid slots fits head free count held view;
-    after = grown_valid;
-    fits = λ is. absurd (refused is);
-    room = λ is. absurd (refused is);
-    live_and_more = λ is. absurd (refused is);
-    succeeds = λ room. absurd (omega arith);
-    had_room = λ room. absurd (omega arith);
-    keeps = subst (λ c. Keeps c (content (map_of slots head free (more - 1)))) view (keeps-grown slots fits head free more on);
-    capacity = rw (← view) (omega arith);
-  }
-
-  -- or granted
-  pub grown_granted : ok → used now + n ≤ most → used now + n + 1 ≤ more → MakesRoom true now n ok (content (map_of slots head free (more - 1)))
-  grown_granted granted few enough =
-      let same : used now ≡ taken (places_of slots) = ap used (sym view) in
-      let room : n ≤ (content (map_of slots head free (more - 1))).room = omega arith in
-      record {
-        before = held_valid slots fits head free count held view;
-        after = grown_valid;
-        fits = λ _. few;
-        room = λ _. room;
-        live_and_more = λ _. rw (← view) (omega (arith, grown_valid.capacity_fits));
-        succeeds = λ room. absurd (omega arith);
-        had_room = λ room. absurd (omega arith);
-        keeps = subst (λ c. Keeps c (content (map_of slots head free (more - 1)))) view (keeps-grown slots fits head free more on);
-        capacity = rw (← view) (omega arith);
-      }
+-- room for n keys more was asked for, which there wasn't, and granted or not
+pub grown : {P : Type 0} (slots : List (Slot P)) (fits head free count : ℕ) → IsHeld slots fits head free count → {now : Content P} → content (map_of slots head free (fits - 1)) ≡ now
+    → (more : ℕ) → fits ≤ more → (n : ℕ) (ok : Type 0) → now.room < n → (ok → (used now + n ≤ most) × (used now + n + 1 ≤ more)) → MakesRoom true now n ok (content (map_of slots head free (more - 1)))
+grown slots fits head free count held {now} view more on n ok none enough =
+    let after = valid slots head free count held.sound more (omega (arith, held.holds)) in
+    record {
+      before = held_valid slots fits head free count held view;
+      after = after;
+      fits = λ is. (enough is).0;
+      room = λ is. omega (arith, enough is, ap used (sym view));
+      live_and_more = λ is. omega (arith, enough is, ap (λ c. map.len c.live) (sym view), after.capacity_fits, ap used (sym view));
+      succeeds = λ room. absurd (omega arith);
+      had_room = λ room. absurd (omega arith);
+      keeps = rw (← view) (keeps (map_of slots head free (fits - 1)) (more - 1) (omega arith));
+      capacity = rw (← view) (omega arith);
+    }

@@ -1,9 +1,9 @@
 -- Lists that go along with one another an element further, and what one element of an array is read as.
-use Rattle.std.proofs.Common.{◌≡◌, ℕ, zero, suc, ◌+◌, ◌<◌, refl, drop-cons, add-one, List, [], ◌∷◌, ◌++◌, length, get_or, take, drop, map, Result, Ok, Err, IsOk, IfOk, Option, Some, inr, sym, ap, ◌∙◌, subst, arith}
-use Rattle.std.proofs.lemmas.List.{take_more, map_more, map-append, take-append-drop}
+use Rattle.std.proofs.Common.{◌≡◌, ℕ, suc, ◌+◌, ◌<◌, drop-cons, add-one, List, [], ◌∷◌, ◌++◌, length, get_or, take, drop, map, Result, Ok, Err, IsOk, IfOk, Option, Some, inr, sym, ap, ◌∙◌, arith}
+use Rattle.std.proofs.lemmas.List.{take_more, map_more, map_push, map-append, take-append-drop}
 use Rattle.std.proofs.lemmas.Slice.Zip.{all_zipped_more}
 use Rattle.std.specs.List.{AllZip}
-use Rattle.serde_json.specs.Data.{Data, null, boolean, number, string, array, object, Items}
+use Rattle.serde_json.specs.Data.{Data, array, Items}
 use Rattle.serde_json.specs.Find.{as_array}
 use Rattle.serde_json.specs.View.{view, items_of, items_view}
 use Rattle.serde_json.specs.declared.value.Value.{Value}
@@ -17,26 +17,18 @@ use Rattle.slotmap_core.specs.declared.serial.SlotRecord.{SlotRecord}
 pub goes_further : {A : Type 0} (R : A → Data → Type 0) (xs : List A) (before after : List Value) (i : ℕ) (x : A) (y : Value) → i < length xs → x ≡ get_or xs i x → AllZip R (take i xs) (map view before) → R x (view y)
     → after ≡ before ++ y ∷ [] → AllZip R (take (i + 1) xs) (map view after)
 goes_further {A} R xs before after i x y within read so_far here pushed =
-    let P : List A → Type 0 = λ zs. AllZip R zs (map view before ++ view y ∷ []) in
-    let more = subst P (sym (take_more xs i x within ∙ ap (λ z. take i xs ++ z ∷ []) (sym read))) (all_zipped_more R (take i xs) (map view before) x (view y) so_far here) in
-    subst (AllZip R (take (i + 1) xs)) (sym (ap (map view) pushed ∙ map-append view before (y ∷ []))) more
+    rw (pushed, map_push, take_more xs i x within, ← read) (all_zipped_more R (take i xs) (map view before) x (view y) so_far here)
 
 -- the JSON of a slot that has a value
 pub slot_json_given : {V : Type 0} (gives : V → Data → Type 0) (slot : SlotRecord V) (v : V) (x : Data) (r : Result Value OutOfMemory) → slot.value ≡ Some v → gives v x → IfOk r (λ y. view y ≡ slot_json x slot.version) → IfOk r (λ y. IsSlotJson gives slot (view y))
-slot_json_given gives slot v x (Ok y) is given e = rw is (x, given, e)
-slot_json_given gives slot v x (Err e) is given h = tt
+slot_json_given gives slot v x r is given h = grind arith
 
 -- the answer of an element that has a value
 pub reads_value : {V : Type 0} (reads : Data → Result V JsonError → Type 0) (d x : Data) (version : ℕ) (read : Result V JsonError) (r : Result (SlotRecord V) JsonError) (u : Option ℕ) → u ≡ version_at d → u ≡ Some version → value_at d ≡ Some x → reads x read → r ≡ ok_map (λ v. record { value = Some v; version = version }) read → ReadsSlot reads d r
 reads_value reads d x version read r u looked versioned valued reading is = rw (sym looked ∙ versioned, valued) (read, reading, is)
 
 is_array : (d : Data) (items : Items) → Some items ≡ as_array d → d ≡ array items
-is_array null items h = absurd cc
-is_array (boolean b) items h = absurd cc
-is_array (number n) items h = absurd cc
-is_array (string s) items h = absurd cc
-is_array (array ds) items h = cc
-is_array (object ms) items h = absurd cc
+is_array d items h = grind arith
 
 parted : (vs : List Value) (i : ℕ) (x : Value) → i < length vs → x ≡ get_or vs i x → map view vs ≡ map view (take i vs) ++ view x ∷ map view (drop (i + 1) vs)
 parted vs i x within read =
@@ -45,8 +37,7 @@ parted vs i x within read =
 
 -- memory was lacking, so it was asked for
 pub some_asked : {A E : Type 0} (n : ℕ) (r : Result A E) (e : E) → (n ≡ 0 → IsOk r) → r ≡ Err e → 0 < n
-some_asked zero r e succeeds is = let succeeded = succeeds refl in absurd (cc)
-some_asked (suc n) r e succeeds is = omega arith
+some_asked n r e succeeds is = grind arith
 
 -- an array of which there is an element has elements
 pub has_elements : (d : Data) (vs : List Value) → Some (items_view vs) ≡ as_array d → 0 < length vs → HasElements d
@@ -58,9 +49,7 @@ module _ {V : Type 0} (reads : Data → Result V JsonError → Type 0) where
   pub reads_further : (vs : List Value) (slots after : List (SlotRecord V)) (i : ℕ) (x : Value) (slot : SlotRecord V) → i < length vs → x ≡ get_or vs i x → ReadsAll reads (map view (take i vs)) slots → ReadsSlot reads (view x) (Ok slot)
       → after ≡ slots ++ slot ∷ [] → ReadsAll reads (map view (take (i + 1) vs)) after
   reads_further vs slots after i x slot within read so_far here pushed =
-      let P : List Data → Type 0 = λ ds. ReadsAll reads ds (slots ++ slot ∷ []) in
-      let more = subst P (sym (map_more view vs i x within ∙ ap (λ v. map view (take i vs) ++ view v ∷ []) (sym read))) (all_zipped_more (λ d s. ReadsSlot reads d (Ok s)) (map view (take i vs)) slots (view x) slot so_far here) in
-      subst (ReadsAll reads (map view (take (i + 1) vs))) (sym pushed) more
+      rw (pushed, map_more view vs i x within, ← read) (all_zipped_more (λ d s. ReadsSlot reads d (Ok s)) (map view (take i vs)) slots (view x) slot so_far here)
 
   -- an element is refused
   pub refuses_at : (d : Data) (vs : List Value) (slots : List (SlotRecord V)) (i : ℕ) (x : Value) (e : JsonError) → Some (items_view vs) ≡ as_array d → i < length vs → x ≡ get_or vs i x → ReadsAll reads (map view (take i vs)) slots

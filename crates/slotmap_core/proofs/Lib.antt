@@ -8,6 +8,7 @@ pub mod GatherLemmas
 pub mod PlacesLemmas
 pub mod WalkLemmas
 pub mod ColumnLemmas
+pub mod RowLemmas
 pub mod StackLemmas
 pub mod ContentLemmas
 pub mod StepLemmas
@@ -39,6 +40,10 @@ pub mod KeyedLemmas
 pub mod KeyedVisits
 pub mod SeveralLemmas
 pub mod SecondaryEqualLemmas
+pub mod SecondaryExtendLemmas
+pub mod SecondaryWrittenLemmas
+pub mod StandLemmas
+pub mod PutLemmas
 pub mod ListReadLemmas
 pub mod PairsLemmas
 pub mod SecondaryCallers

@@ -1,9 +1,10 @@
 -- Finite maps and sets meet the laws that gathering rests on.
-use Rattle.std.proofs.Common.{◌≡◌, ℕ, ◌+◌, Bool, true, false, cond, not, ◌||◌, ◌&&◌, ◌==◌, Ordering, Option, None, Some, is_some, refl, sym, ap, ◌∙◌, nat_cmp, is_eq}
+use Rattle.std.proofs.Common.{◌≡◌, ℕ, Bool, cond, ◌==◌, Ordering, Option, None, Some, is_some, sym, ap, ◌∙◌, nat_cmp, arith}
+use Rattle.std.proofs.lemmas.Bool.Decides.{nat_tests}
 use Rattle.std.proofs.lemmas.Cmp.{nat_cmp_total}
 use Rattle.std.proofs.lemmas.Map.Lookups.{CmpEqualImpliesEq, exact_unsigned}
-use Rattle.std.specs.Ordering.{eq_by_cmp, ordering_then}
-use Rattle.std.specs.Cmp.{IsTotalOrder, tied_itself, unsigned_tied, nat_eq_equiv}
+use Rattle.std.specs.Ordering.{eq_by_cmp}
+use Rattle.std.specs.Cmp.{IsTotalOrder}
 use Rattle.std.specs.FinMap as map
 use Rattle.std.specs.FinSet as set
 use Rattle.slotmap_core.specs.Key.{Key, key_cmp}
@@ -25,25 +26,16 @@ map_laws {K} {X} {R} o same = record {
 abbrev pub mark : {K : Type 0} {R : K → K → Ordering} → set.FinSet R → K → Option (Unit {0})
 mark s q = cond (set.contains s q) (Some tt) None
 
-marked_or : (b c : Bool) → ◌≡◌ {A = Option (Unit {0})} (cond (b || c) (Some tt) None) (cond b (Some tt) (cond c (Some tt) None))
-marked_or true c = refl
-marked_or false c = refl
-
-marked_not : (b c : Bool) → ◌≡◌ {A = Option (Unit {0})} (cond (not b && c) (Some tt) None) (cond b None (cond c (Some tt) None))
-marked_not true c = refl
-marked_not false c = refl
-
 pub is_marked : (b : Bool) → is_some {T = Unit {0}} (cond b (Some tt) None) ≡ b
-is_marked true = refl
-is_marked false = refl
+is_marked b = grind arith
 
 pub set_laws : {K : Type 0} {R : K → K → Ordering} → IsTotalOrder R → CmpEqualImpliesEq R → IsFinite {X = Unit {0}} (eq_by_cmp R) (set.empty {R = R}) mark (λ s e. set.insert s e.0) set.remove set.len
 set_laws {K} {R} o same = record {
-  get-empty = λ q. ap (λ b. cond b (Some tt) None) (set.contains-empty R q);
-  get-put = λ s e q. ap (λ b. cond b (Some tt) None) (set.contains-insert o s e.0 q) ∙ marked_or _ _;
-  get-remove = λ s k q. ap (λ b. cond b (Some tt) None) (set.contains-remove o s k q) ∙ marked_not _ _;
+  get-empty = λ q. rw (set.contains-empty R q);
+  get-put = λ s e q. grind (arith, set.contains-insert o s e.0 q);
+  get-remove = λ s k q. grind (arith, set.contains-remove o s k q);
   len-empty = set.len-empty R;
-  len-put = λ s e. set.len-insert o s e.0 ∙ ap (λ b. cond b (set.len s) (set.len s + 1)) (sym (is_marked (set.contains s e.0)));
+  len-put = λ s e. grind (arith, set.len-insert o s e.0);
   same = λ s t is. set.same_set o same s t (λ q. sym (is_marked (set.contains s q)) ∙ ap is_some (is q) ∙ is_marked (set.contains t q));
   is_same = tied o same;
   itself = itself o same;
@@ -59,14 +51,7 @@ pub next_laws : IsFinite {X = ℕ} (eq_by_cmp nat_cmp) (map.empty {X = ℕ} {R =
 next_laws = map_laws nat_cmp_total exact_unsigned
 
 pub remove_absent : {K X : Type 0} {R : K → K → Ordering} → IsTotalOrder R → CmpEqualImpliesEq R → (m : map.FinMap R X) (k : K) → map.get m k ≡ None → map.remove m k ≡ m
-remove_absent {K} {X} {R} o same m k none =
-    map.same_map o same _ _ (λ q. map.get-remove o m k q ∙ by q (eq_by_cmp R q k) refl)
-  where
-    by : (q : K) (b : Bool) → eq_by_cmp R q k ≡ b → cond b None (map.get m q) ≡ map.get m q
-    by q true is = sym (ap (map.get m) (tied o same q k is) ∙ none)
-    by q false is = refl
+remove_absent o same m k none = map.same_map o same _ _ (λ q. grind (arith, map.get-remove o m k q, tied o same q k))
 
 pub key_tie : (k : Key) (version : ℕ) → eq_by_cmp key_cmp k (record { index = k.index; version = version }) ≡ (version == k.version)
-key_tie k version =
-    ap (λ o. is_eq (ordering_then o (nat_cmp k.version version))) (tied_itself nat_cmp_total k.index)
-    ∙ unsigned_tied k.version version ∙ nat_eq_equiv.symm k.version version
+key_tie k version = grind (arith, nat_tests)

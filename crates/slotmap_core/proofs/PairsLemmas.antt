@@ -1,6 +1,6 @@
 -- What a walk over the vectors of slots visits.
-use Rattle.std.proofs.Common.{◌≡◌, ℕ, zero, suc, ◌+◌, ◌-◌, ◌<◌, ◌≤◌, ◌%◌, ◌^◌, List, [], ◌∷◌, length, set, drop, slice_get, Option, Some, None, IsSome, ◌↔◌, is_some, refl, sym, ap, subst, ◌∙◌, arith}
-use Rattle.std.proofs.lemmas.Option.{slice_get_within, same_Some, get_or_from_slice_get}
+use Rattle.std.proofs.Common.{◌≡◌, ℕ, zero, suc, ◌+◌, ◌-◌, ◌<◌, ◌≤◌, ◌%◌, ◌^◌, List, [], ◌∷◌, length, set, drop, slice_get, Option, Some, None, IsSome, ◌↔◌, refl, sym, ap, subst, ◌∙◌, arith}
+use Rattle.std.proofs.lemmas.Option.{slice_get_within, get_or_from_slice_get}
 use Rattle.std.proofs.lemmas.List.{length-set, length-drop, drop_more, drop-set-lt}
 use Rattle.std.specs.FinMap as map
 use Rattle.slotmap_core.specs.Columns.{zip_slots, AllEven}
@@ -9,7 +9,7 @@ use Rattle.slotmap_core.specs.Places.{live}
 use Rattle.slotmap_core.specs.Slot.{Slot, IsSlot, IsSound, places_of}
 use Rattle.slotmap_core.specs.Walk.{pairs_from, pairs_left, IsWalk}
 use Rattle.slotmap_core.specs.declared.layout.Link.{Link}
-use Rattle.slotmap_core.specs.declared.layout.Link.TheVariants.{InUse, Free, Detached, Retired}
+use Rattle.slotmap_core.specs.declared.layout.Link.TheVariants.{InUse}
 use Rattle.slotmap_core.proofs.ColumnLemmas.{zip-length, zip-at}
 use Rattle.slotmap_core.proofs.GatherLemmas.{slice_get-set_other}
 use Rattle.slotmap_core.proofs.ListLemmas.{found_within}
@@ -23,24 +23,17 @@ module _ {V : Type 0} where
       → ((j : ℕ) (s : Slot V) → slice_get (zip_slots vs ls xs) j ≡ Some s → IsSlot s)
       → pairs_from i vs xs ≡ entries_from i (places_of (zip_slots vs ls xs))
   pairs-places i [] ls xs same_l same_x each = refl
-  pairs-places i (v ∷ vs) [] xs same_l same_x each = absurd (omega arith)
-  pairs-places i (v ∷ vs) (l ∷ ls) [] same_l same_x each = absurd (omega arith)
-  pairs-places i (v ∷ vs) (InUse ∷ ls) (None ∷ xs) same_l same_x each = pairs-places (i + 1) vs ls xs (omega arith) (omega arith) (λ j. each (suc j))
-  pairs-places i (v ∷ vs) (Free n ∷ ls) (None ∷ xs) same_l same_x each = pairs-places (i + 1) vs ls xs (omega arith) (omega arith) (λ j. each (suc j))
-  pairs-places i (v ∷ vs) (Detached ∷ ls) (None ∷ xs) same_l same_x each = pairs-places (i + 1) vs ls xs (omega arith) (omega arith) (λ j. each (suc j))
-  pairs-places i (v ∷ vs) (Retired ∷ ls) (None ∷ xs) same_l same_x each = pairs-places (i + 1) vs ls xs (omega arith) (omega arith) (λ j. each (suc j))
   pairs-places i (v ∷ vs) (InUse ∷ ls) (Some x ∷ xs) same_l same_x each =
       ap (λ es. (key i v, x) ∷ es) (pairs-places (i + 1) vs ls xs (omega arith) (omega arith) (λ j. each (suc j)))
-  pairs-places i (v ∷ vs) (Free n ∷ ls) (Some x ∷ xs) same_l same_x each = let wrong = (each 0 (record { version = v; link = Free n; payload = Some x }) refl).in_use.0 refl in absurd (cc)
-  pairs-places i (v ∷ vs) (Detached ∷ ls) (Some x ∷ xs) same_l same_x each = let wrong = (each 0 (record { version = v; link = Detached; payload = Some x }) refl).in_use.0 refl in absurd (cc)
-  pairs-places i (v ∷ vs) (Retired ∷ ls) (Some x ∷ xs) same_l same_x each = let wrong = (each 0 (record { version = v; link = Retired; payload = Some x }) refl).in_use.0 refl in absurd (cc)
+  pairs-places i (v ∷ vs) (l ∷ ls) (Some x ∷ xs) same_l same_x each = let wrong = (each 0 (record { version = v; link = l; payload = Some x }) refl).in_use.0 refl in absurd (cc)
+  pairs-places i (v ∷ vs) (l ∷ ls) (None ∷ xs) same_l same_x each = pairs-places (i + 1) vs ls xs (omega arith) (omega arith) (λ j. each (suc j))
+  pairs-places i (v ∷ vs) ls xs same_l same_x each = absurd (omega arith)
 
 module _ {V : Type 0} (vs : List ℕ) (ls : List Link) (xs : List (Option V)) (same_l : length ls ≡ length vs) (same_x : length xs ≡ length vs) (head free count : ℕ) (sound : IsSound (zip_slots vs ls xs) head free count) where
-  -- a walk from the first place visits the entries of the map
-  pub pairs-entries : pairs_left 0 vs xs ≡ map.entries (live (places_of (zip_slots vs ls xs)))
+  pairs-entries : pairs_left 0 vs xs ≡ map.entries (live (places_of (zip_slots vs ls xs)))
   pairs-entries = pairs-places 0 vs ls xs same_l same_x sound.each ∙ sym (entries-live (places_of (zip_slots vs ls xs)))
 
-  pub IsWalk-start : IsWalk vs xs 0 count
+  IsWalk-start : IsWalk vs xs 0 count
   IsWalk-start = record {
     values_length = same_x;
     fits = omega (arith, zip-length vs ls xs same_l same_x, slots_fit (zip_slots vs ls xs) head free count sound);
@@ -50,24 +43,33 @@ module _ {V : Type 0} (vs : List ℕ) (ls : List Link) (xs : List (Option V)) (s
     counted = sym sound.live_counted ∙ map.len-entries (live (places_of (zip_slots vs ls xs))) ∙ ap length (sym pairs-entries);
   }
 
+-- a walk from the first place of vectors that are these slots, and visits the entries of the map
+pub walk_from : {V : Type 0} {slots : List (Slot V)} {head free count : ℕ} → IsSound slots head free count → (vs : List ℕ) (xs : List (Option V))
+    → ((ls : List Link) × (length ls ≡ length vs) × (length xs ≡ length vs) × (zip_slots vs ls xs ≡ slots)) → IsWalk vs xs 0 count × (pairs_left 0 vs xs ≡ map.entries (live (places_of slots)))
+walk_from {V} {slots} {head} {free} {count} sound vs xs parts =
+    let zipped : IsSound (zip_slots vs parts.0 xs) head free count = subst (λ ss. IsSound ss head free count) (sym parts.3) sound in
+    (IsWalk-start vs parts.0 xs parts.1 parts.2 head free count zipped, pairs-entries vs parts.0 xs parts.1 parts.2 head free count zipped ∙ ap (λ ss. map.entries (live (places_of ss))) parts.3)
+
 drop-found : {X : Type 0} (xs : List X) (i : ℕ) (x : X) → slice_get xs i ≡ Some x → drop i xs ≡ x ∷ drop (i + 1) xs
 drop-found xs i x found = drop_more xs i x (slice_get_within xs i x found) ∙ ap (λ y. y ∷ drop (i + 1) xs) (get_or_from_slice_get xs i x x found)
 
 module _ {V : Type 0} where
   length-pairs : (i : ℕ) (vs : List ℕ) (xs : List (Option V)) → length (pairs_from i vs xs) ≤ length vs
-  length-pairs i [] xs = omega arith
-  length-pairs i (v ∷ vs) [] = omega arith
   length-pairs i (v ∷ vs) (None ∷ xs) = omega (arith, length-pairs (i + 1) vs xs)
   length-pairs i (v ∷ vs) (Some x ∷ xs) = omega (arith, length-pairs (i + 1) vs xs)
+  length-pairs i vs xs = omega arith
+
+-- what comes next on a walk from i: the place `end`, with its version and its value
+pub record Next {V : Type 0} (vs : List ℕ) (xs : List (Option V)) (i left end : ℕ) : Type 0 where
+  pub version : ℕ
+  pub value : V
+  pub version_there : slice_get vs end ≡ Some version
+  pub value_there : slice_get xs end ≡ Some (Some value)
+  pub is_key : (v : ℕ) → v ≡ version → v < 2 ^ 32 → IsKey (key end v)
+  pub first : pairs_left i vs xs ≡ (key end version, value) ∷ pairs_left (end + 1) vs xs
+  pub walk_on : IsWalk vs xs (end + 1) (left - 1)
 
 module _ {V : Type 0} (vs : List ℕ) (xs : List (Option V)) (i left : ℕ) (walk : IsWalk vs xs i left) where
-  -- while a value is still to come, there is a next place
-  pub next_within : 0 < left → i < length vs
-  next_within some = omega (arith, walk.counted, length-pairs i (drop i vs) (drop i xs), length-drop i vs)
-
-  pub values_within : 0 < left → i < length xs
-  values_within some = omega (arith, next_within some, walk.values_length)
-
   left-found : (v : ℕ) (o : Option V) → slice_get vs i ≡ Some v → slice_get xs i ≡ Some o → pairs_left i vs xs ≡ pairs_from i (v ∷ drop (i + 1) vs) (o ∷ drop (i + 1) xs)
   left-found v o at_v at_x = ap (λ vs. pairs_from i vs (drop i xs)) (drop-found vs i v at_v) ∙ ap (pairs_from i (v ∷ drop (i + 1) vs)) (drop-found xs i o at_x)
 
@@ -80,7 +82,7 @@ module _ {V : Type 0} (vs : List ℕ) (xs : List (Option V)) (i left : ℕ) (wal
   }
 
   -- a place with an even version is passed over
-  pub pass : (v : ℕ) → slice_get vs i ≡ Some v → (v % 2 ≡ 1 → ⊥) → IsWalk vs xs (i + 1) left × (pairs_left (i + 1) vs xs ≡ pairs_left i vs xs)
+  pass : (v : ℕ) → slice_get vs i ≡ Some v → (v % 2 ≡ 1 → ⊥) → IsWalk vs xs (i + 1) left × (pairs_left (i + 1) vs xs ≡ pairs_left i vs xs)
   pass v at_v even =
       let there = found_within xs i (omega (arith, slice_get_within vs i v at_v, walk.values_length)) in
       let same = sym (left-found v there.0 at_v there.1 ∙ by there.0 (walk.placed i v there.0 (omega arith) at_v there.1)) in
@@ -90,49 +92,51 @@ module _ {V : Type 0} (vs : List ℕ) (xs : List (Option V)) (i left : ℕ) (wal
       by None placed = refl
       by (Some x) placed = absurd (even (placed.0 refl))
 
-  -- at an odd version comes the next pair
-  pub record Comes (v : ℕ) (o : Option V) : Type 0 where
-    pub value : V
-    pub is : o ≡ Some value
-    pub first : pairs_left i vs xs ≡ (key i v, value) ∷ pairs_left (i + 1) vs xs
-    pub walk_on : IsWalk vs xs (i + 1) (left - 1)
+  -- at an odd version comes the next pair, also of a walk from an earlier start
+  comes : (start : ℕ) → pairs_left i vs xs ≡ pairs_left start vs xs → (v : ℕ) (o : Option V) → slice_get vs i ≡ Some v → slice_get xs i ≡ Some o → v % 2 ≡ 1 → Next vs xs start left i
+  comes start same v None at_v at_x odd = let some = (walk.placed i v None (omega arith) at_v at_x).1 odd in absurd (cc)
+  comes start same v (Some x) at_v at_x odd =
+      let first = left-found v (Some x) at_v at_x in
+      let within = slice_get_within vs i v at_v in
+      record {
+        version = v;
+        value = x;
+        version_there = at_v;
+        value_there = at_x;
+        is_key = λ w w_is fits. record { index_fits = omega (arith, walk.fits); version_fits = fits; odd = omega arith; one_null = λ last. absurd (omega (arith, walk.fits)) };
+        first = sym same ∙ first;
+        walk_on = later (left - 1) (omega (arith, walk.counted, ap length first));
+      }
 
-  pub comes : (v : ℕ) (o : Option V) → slice_get vs i ≡ Some v → slice_get xs i ≡ Some o → v % 2 ≡ 1 → Comes v o
-  comes v o at_v at_x odd = by o at_x ((walk.placed i v o (omega arith) at_v at_x).1 odd)
-    where
-      by : (o : Option V) → slice_get xs i ≡ Some o → IsSome o → Comes v o
-      by None at_x some = absurd (cc)
-      by (Some x) at_x some =
-          let first = left-found v (Some x) at_v at_x in
-          record { value = x; is = refl; first = first; walk_on = later (left - 1) (omega (arith, walk.counted, ap length first)) }
+-- the value at a place that was passed is no more of the walk's
+module _ {V : Type 0} (vs : List ℕ) (xs : List (Option V)) (i : ℕ) (o : Option V) where
+  pub left-taken : pairs_left (i + 1) vs (set xs i o) ≡ pairs_left (i + 1) vs xs
+  left-taken = ap (pairs_from (i + 1) (drop (i + 1) vs)) (drop-set-lt (i + 1) xs i o (omega arith))
 
-  -- the value at a place that was passed is no more of the walk's
-  pub left-taken : (o : Option V) → pairs_left (i + 1) vs (set xs i o) ≡ pairs_left (i + 1) vs xs
-  left-taken o = ap (pairs_from (i + 1) (drop (i + 1) vs)) (drop-set-lt (i + 1) xs i o (omega arith))
-
-  pub IsWalk-taken : (o : Option V) (n : ℕ) → IsWalk vs xs (i + 1) n → IsWalk vs (set xs i o) (i + 1) n
-  IsWalk-taken o n on = record {
+  pub IsWalk-taken : (n : ℕ) → IsWalk vs xs (i + 1) n → IsWalk vs (set xs i o) (i + 1) n
+  IsWalk-taken n on = record {
     values_length = length-set xs i o ∙ on.values_length;
     fits = on.fits;
     placed = λ j v value from at_v at_x. on.placed j v value from at_v (sym (slice_get-set_other xs i j o (λ same. omega arith)) ∙ at_x);
-    counted = on.counted ∙ ap length (sym (left-taken o));
+    counted = on.counted ∙ ap length (sym left-taken);
   }
 
--- blocks of places with no value are passed over
-module _ {V : Type 0} (vs : List ℕ) (xs : List (Option V)) (left : ℕ) where
-  pass_all : (n i : ℕ) → IsWalk vs xs i left → i + n ≤ length vs → AllEven vs i (i + n) → IsWalk vs xs (i + n) left × (pairs_left (i + n) vs xs ≡ pairs_left i vs xs)
-  pass_all zero i walk within even = subst (λ m. IsWalk vs xs m left × (pairs_left m vs xs ≡ pairs_left i vs xs)) (omega arith) (walk, refl)
-  pass_all (suc n) i walk within even =
-      let here = found_within vs i (omega arith) in
-      let one = pass vs xs i left walk here.0 here.1 (λ odd. omega (arith, even i here.0 (omega arith) (omega arith) here.1)) in
-      let rest = pass_all n (i + 1) one.0 (omega arith) (λ j v from below. even j v (omega arith) (omega arith)) in
-      subst (λ m. IsWalk vs xs m left × (pairs_left m vs xs ≡ pairs_left i vs xs)) (omega arith) (rest.0, rest.1 ∙ one.1)
+-- places with even versions are passed over
+pass_all : {V : Type 0} (vs : List ℕ) (xs : List (Option V)) (left n i : ℕ) → IsWalk vs xs i left → i + n ≤ length vs → AllEven vs i (i + n) → IsWalk vs xs (i + n) left × (pairs_left (i + n) vs xs ≡ pairs_left i vs xs)
+pass_all vs xs left zero i walk within even = subst (λ m. IsWalk vs xs m left × (pairs_left m vs xs ≡ pairs_left i vs xs)) (omega arith) (walk, refl)
+pass_all vs xs left (suc n) i walk within even =
+    let here = found_within vs i (omega arith) in
+    let one = pass vs xs i left walk here.0 here.1 (λ odd. omega (arith, even i here.0 (omega arith) (omega arith) here.1)) in
+    let rest = pass_all vs xs left n (i + 1) one.0 (omega arith) (λ j v from below. even j v (omega arith) (omega arith)) in
+    subst (λ m. IsWalk vs xs m left × (pairs_left m vs xs ≡ pairs_left i vs xs)) (omega arith) (rest.0, rest.1 ∙ one.1)
 
-  pub pass_to : (i end : ℕ) → IsWalk vs xs i left → i ≤ end → end ≤ length vs → AllEven vs i end → IsWalk vs xs end left × (pairs_left end vs xs ≡ pairs_left i vs xs)
-  pass_to i end walk on within even =
-      subst (λ m. IsWalk vs xs m left × (pairs_left m vs xs ≡ pairs_left i vs xs)) (omega arith)
-      (pass_all (end - i) i walk (omega arith) (λ j v from below. even j v from (omega arith)))
-
--- at an odd version within a walk there is a key
-pub key_here : {V : Type 0} (vs : List ℕ) (xs : List (Option V)) (i left : ℕ) → IsWalk vs xs i left → 0 < left → (v : ℕ) → v < 2 ^ 32 → v % 2 ≡ 1 → i + 1 < 2 ^ 32 → IsKey (key i v)
-key_here vs xs i left walk some v fits odd below = record { index_fits = omega arith; version_fits = fits; odd = odd; one_null = λ last. absurd (omega arith) }
+-- while a value is still to come, the next one is at the first odd version, also where the versions were read as another list
+pub next_on : {V : Type 0} {vs : List ℕ} {xs : List (Option V)} {i left : ℕ} → IsWalk vs xs i left → 0 < left → {seen : List ℕ} → seen ≡ vs
+    → {end : ℕ} → i ≤ end → end ≤ length seen → AllEven seen i end → ((v : ℕ) → slice_get seen end ≡ Some v → v % 2 ≡ 1) → Next vs xs i left end
+next_on {V} {vs} {xs} {i} {left} walk some {seen} whole {end} on within even odd =
+    let stop : i + (end - i) ≡ end = omega arith in
+    let past = pass_all vs xs left (end - i) i walk (omega (arith, ap length whole)) (λ j v from below at. even j v from (omega arith) (ap (λ vs. slice_get vs j) whole ∙ at)) in
+    let to : IsWalk vs xs end left × (pairs_left end vs xs ≡ pairs_left i vs xs) = subst (λ m. IsWalk vs xs m left × (pairs_left m vs xs ≡ pairs_left i vs xs)) stop past in
+    let version = found_within vs end (omega (arith, to.0.counted, length-pairs end (drop end vs) (drop end xs), length-drop end vs)) in
+    let value = found_within xs end (omega (arith, slice_get_within vs end version.0 version.1, walk.values_length)) in
+    comes vs xs end left to.0 i to.1 version.0 value.0 version.1 value.1 (odd version.0 (ap (λ vs. slice_get vs end) whole ∙ version.1))

@@ -1,5 +1,5 @@
 -- Two secondary maps are equal exactly where they hold the same keys with equal values.
-use Rattle.std.proofs.Common.{◌≡◌, ◌↔◌, Bool, true, false, cond, ◌&&◌, T, List, [], ◌∷◌, None, Some, refl, sym, ap, ◌∙◌, subst, is_eq}
+use Rattle.std.proofs.Common.{◌≡◌, ◌↔◌, Bool, true, false, cond, ◌&&◌, T, List, [], ◌∷◌, None, Some, refl, sym, ap, ◌∙◌, subst, arith}
 use Rattle.std.specs.declared.cmp.Ordering.{Ordering}
 use Rattle.std.specs.declared.cmp.Ordering.TheVariants.{Less, Equal, Greater}
 use Rattle.std.specs.Ordering.{eq_by_cmp, is_lt, ordering_reverse}
@@ -13,9 +13,7 @@ use Rattle.slotmap_core.proofs.KeyedLemmas.{get-keyed, both, first, second, not_
 use Rattle.slotmap_core.proofs.Maps.{of_and}
 
 less : (o : Ordering) → T (is_lt o) → o ≡ Less
-less Less h = refl
-less Equal h = absurd h
-less Greater h = absurd h
+less o h = grind arith
 
 less_than_all : {V : Type 0} (a b : Key) (es : List (Key × V)) → key_cmp a b ≡ Less → T (below_all key_cmp b es) → T (below_all key_cmp a es)
 less_than_all a b [] p h = tt
@@ -24,14 +22,17 @@ less_than_all a b (e ∷ es) p h = both _ _ (subst (λ o. T (is_lt o)) (sym (key
 module _ {V : Type 0} where
   none_below : (q : Key) (es : List (Key × V)) → T (below_all key_cmp q es) → find key_cmp q es ≡ None
   none_below q [] h = refl
-  none_below q (e ∷ es) h = ap (λ b. cond b (Some e.1) (find key_cmp q es)) (not_tied (key_cmp q e.0) (first _ _ h)) ∙ none_below q es (second _ _ h)
+  none_below q (e ∷ es) h =
+      let apart = not_tied (key_cmp q e.0) (first _ _ h) in
+      let rest : find key_cmp q es ≡ None = none_below q es (second (is_lt (key_cmp q e.0)) (below_all key_cmp q es) h) in
+      grind arith
 
   found_first : (e : Key × V) (es : List (Key × V)) → find key_cmp e.0 (e ∷ es) ≡ Some e.1
-  found_first e es = ap (λ b. cond b (Some e.1) (find key_cmp e.0 es)) (itself keys_total exact_keys e.0)
+  found_first e es = grind (arith, itself keys_total exact_keys e.0)
 
   -- a key below those of a list isn't found in it
   missed : (k : Key) (f : Key × V) (fs : List (Key × V)) → key_cmp k f.0 ≡ Less → T (below_all key_cmp f.0 fs) → find key_cmp k (f ∷ fs) ≡ None
-  missed k f fs p h = ap (λ o. cond (is_eq o) (Some f.1) (find key_cmp k fs)) p ∙ none_below k fs (less_than_all k f.0 fs p h)
+  missed k f fs p h = grind (arith, none_below k fs (less_than_all k f.0 fs p h))
 
 module _ {V : Type 0} (eq : V → V → Bool) where
   -- entries that are equal one by one give each key equal values
@@ -43,11 +44,8 @@ module _ {V : Type 0} (eq : V → V → Bool) where
       let parts = of_and _ (same_entries eq es fs) t in
       let heads = of_and _ (eq e.1 f.1) parts.0 in
       let key : e.0 ≡ f.0 = (same_keys e.0 f.0).0 heads.0 in
-      subst (λ q. SameValue eq (find key_cmp k (e ∷ es)) (cond (eq_by_cmp key_cmp k q) (Some f.1) (find key_cmp k fs))) key (by (eq_by_cmp key_cmp k e.0) heads.1 (alike es fs parts.1 k))
-    where
-      by : (b : Bool) → eq e.1 f.1 ≡ true → SameValue eq (find key_cmp k es) (find key_cmp k fs) → SameValue eq (cond b (Some e.1) (find key_cmp k es)) (cond b (Some f.1) (find key_cmp k fs))
-      by true same rest = same
-      by false same rest = rest
+      subst (λ q. SameValue eq (find key_cmp k (e ∷ es)) (cond (eq_by_cmp key_cmp k q) (Some f.1) (find key_cmp k fs))) key
+      (elim (eq_by_cmp key_cmp k e.0) as (λ b. SameValue eq (cond b (Some e.1) (find key_cmp k es)) (cond b (Some f.1) (find key_cmp k fs))) [ true ↦ heads.1 | false ↦ alike es fs parts.1 k ])
 
   -- and the other way round, where the keys strictly rise
   one_by_one : (es fs : List (Key × V)) → T (is_sorted key_cmp es) → T (is_sorted key_cmp fs) → ((k : Key) → SameValue eq (find key_cmp k es) (find key_cmp k fs)) → same_entries eq es fs ≡ true
@@ -57,25 +55,20 @@ module _ {V : Type 0} (eq : V → V → Bool) where
   one_by_one (e ∷ es) (f ∷ fs) g h is = by (one_by_one es fs (second _ _ g) (second _ _ h)) (key_cmp e.0 f.0) refl
     where
       rest : e.0 ≡ f.0 → (k : Key) → SameValue eq (find key_cmp k es) (find key_cmp k fs)
-      rest key k = by_key (eq_by_cmp key_cmp k e.0) refl (subst (λ q. SameValue eq (find key_cmp k (e ∷ es)) (cond (eq_by_cmp key_cmp k q) (Some f.1) (find key_cmp k fs))) (sym key) (is k))
-        where
-          none_left : k ≡ e.0 → SameValue eq (find key_cmp k es) (find key_cmp k fs)
-          none_left at =
-              let left : find key_cmp k es ≡ None = ap (λ q. find key_cmp q es) at ∙ none_below e.0 es (first _ _ g) in
-              let right : find key_cmp k fs ≡ None = ap (λ q. find key_cmp q fs) (at ∙ key) ∙ none_below f.0 fs (first _ _ h) in
-              subst (λ o. SameValue eq o (find key_cmp k fs)) (sym left) (subst (λ o. SameValue eq None o) (sym right) tt)
-
-          by_key : (b : Bool) → eq_by_cmp key_cmp k e.0 ≡ b → SameValue eq (cond b (Some e.1) (find key_cmp k es)) (cond b (Some f.1) (find key_cmp k fs)) → SameValue eq (find key_cmp k es) (find key_cmp k fs)
-          by_key true t same = none_left (tied keys_total exact_keys k e.0 t)
-          by_key false t same = same
+      rest key k = elim (eq_by_cmp key_cmp k e.0) as (λ b. eq_by_cmp key_cmp k e.0 ≡ b → SameValue eq (cond b (Some e.1) (find key_cmp k es)) (cond b (Some f.1) (find key_cmp k fs)) → SameValue eq (find key_cmp k es) (find key_cmp k fs)) [
+        | true ↦ λ t same.
+            let at = tied keys_total exact_keys k e.0 t in
+            let left : find key_cmp k es ≡ None = ap (λ q. find key_cmp q es) at ∙ none_below e.0 es (first _ _ g) in
+            let right : find key_cmp k fs ≡ None = ap (λ q. find key_cmp q fs) (at ∙ key) ∙ none_below f.0 fs (first _ _ h) in
+            rw (left, right) tt
+        | false ↦ λ t same. same
+      ] refl (subst (λ q. SameValue eq (find key_cmp k (e ∷ es)) (cond (eq_by_cmp key_cmp k q) (Some f.1) (find key_cmp k fs))) (sym key) (is k))
 
       value : e.0 ≡ f.0 → eq e.1 f.1 ≡ true
       value key = subst (λ o. SameValue eq (Some e.1) o) (ap (λ q. find key_cmp q (f ∷ fs)) key ∙ found_first f fs) (subst (λ o. SameValue eq o (find key_cmp e.0 (f ∷ fs))) (found_first e es) (is e.0))
 
       true_and : (a b : Bool) → a ≡ true → b ≡ true → (a && b) ≡ true
-      true_and true true p q = refl
-      true_and true false p q = q
-      true_and false b p q = absurd (cc)
+      true_and a b p q = grind arith
 
       by : (((k : Key) → SameValue eq (find key_cmp k es) (find key_cmp k fs)) → same_entries eq es fs ≡ true) → (o : Ordering) → key_cmp e.0 f.0 ≡ o → same_entries eq (e ∷ es) (f ∷ fs) ≡ true
       by later Less p = absurd (subst (λ o. SameValue eq (Some e.1) o) (missed e.0 f fs p (first _ _ h)) (subst (λ o. SameValue eq o (find key_cmp e.0 (f ∷ fs))) (found_first e es) (is e.0)))

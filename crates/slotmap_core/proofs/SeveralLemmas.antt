@@ -1,5 +1,5 @@
 -- How values are put under several keys of a map, one after another, in a map of any kind.
-use Rattle.std.proofs.Common.{◌≡◌, ◌≢◌, ◌↔◌, ℕ, suc, ◌+◌, ◌<◌, Bool, true, false, List, [], ◌∷◌, ◌++◌, length, get_or, set, take, drop, Option, Some, is_some, map as map_list, refl, sym, ap, subst, ◌∙◌, arith, inl, inr, All}
+use Rattle.std.proofs.Common.{◌≡◌, ◌≢◌, ◌↔◌, ℕ, suc, ◌+◌, ◌<◌, Bool, true, false, List, [], ◌∷◌, ◌++◌, length, get_or, set, take, drop, Option, Some, is_some, map as map_list, refl, sym, ap, subst, ◌∙◌, arith, All}
 use Rattle.std.proofs.lemmas.List.{length-set, take_more, take_more_set, drop_more, drop-set-lt, map_push, length-take-le, get_or-take, get_or_default, get_or-map, length-map}
 use Rattle.std.proofs.lemmas.List.Elements.{All-push}
 use Rattle.std.specs.List.{list_any}
@@ -23,24 +23,19 @@ module _ {M V : Type 0} (get : M → Key → Option V) (put : M → Key → V �
 
   with_values-push : (m : M) (ks : List Key) (vs : List V) (k : Key) (v : V) → length ks ≡ length vs → with_values put m (ks ++ k ∷ []) (vs ++ v ∷ []) ≡ put (with_values put m ks vs) k v
   with_values-push m [] [] k v e = refl
-  with_values-push m [] (y ∷ vs) k v e = absurd (omega arith)
-  with_values-push m (x ∷ ks) [] k v e = absurd (omega arith)
   with_values-push m (x ∷ ks) (y ∷ vs) k v e = with_values-push (put m x y) ks vs k v (omega arith)
+  with_values-push m ks vs k v e = absurd (omega arith)
 
   still_there : WriteLaws → (m : M) (k q : Key) (v : V) → is_some (get m k) ≡ true → is_some (get m q) ≡ true → is_some (get (put m k v) q) ≡ true
-  still_there writes m k q v has_k has_q = elim (same_or_other k q) [
-    | inl same ↦ subst (λ x. is_some (get (put m k v) x) ≡ true) same (ap is_some (writes.here m k v))
-    | inr other ↦ ap is_some (writes.elsewhere m k q v has_k other) ∙ has_q
-  ]
+  still_there writes m k q v has_k has_q = grind (arith, same_or_other k q, writes.here m k v, writes.elsewhere m k q v has_k)
 
   -- a key that is none of the keys keeps its value
   get-with_values : WriteLaws → (m : M) (ks : List Key) (vs : List V) (q : Key) → All (λ k. is_some (get m k) ≡ true) ks → ((i : ℕ) (d : Key) → i < length ks → get_or ks i d ≢ q) → get (with_values put m ks vs) q ≡ get m q
-  get-with_values writes m [] vs q there other = refl
-  get-with_values writes m (k ∷ ks) [] q there other = refl
   get-with_values writes m (k ∷ ks) (v ∷ vs) q there other =
       let first = there 0 k (omega arith) in
       get-with_values writes (put m k v) ks vs q (λ i d h. still_there writes m k (get_or ks i d) v first (there (suc i) d (omega arith))) (λ i d h. other (suc i) d (omega arith))
       ∙ writes.elsewhere m k q v first (other 0 q (omega arith))
+  get-with_values writes m ks vs q there other = refl
 
   -- the values under the keys below i were exchanged, and the others are as they were
   pub record Exchanged (old : M) (ks : List Key) (vs : List V) (now : M) (ws : List V) (i : ℕ) : Type 0 where
@@ -65,7 +60,7 @@ module _ {M V : Type 0} (get : M → Key → Option V) (put : M → Key → V �
   pub Exchanged-step : (k : Key) (v w : V) → length ks ≡ length vs → i < length ks → k ≡ get_or ks i k → v ≡ get_or ws i v → get now k ≡ Some w → Exchanged get put old ks vs (put now k v) (set ws i w) (i + 1)
   Exchanged-step k v w even within key value was =
       let heads = sym (drop_more ws i v (omega (arith, done.long))) ∙ done.rest ∙ drop_more vs i v (omega arith) in
-      let given : get_or vs i v ≡ v = sym (first _ _ _ _ heads) ∙ sym value in
+      let given : get_or vs i v ≡ v = cc in
       let more_keys : take (i + 1) ks ≡ take i ks ++ k ∷ [] = take_more ks i k within ∙ ap (λ x. take i ks ++ x ∷ []) (sym key) in
       let more_values : take (i + 1) vs ≡ take i vs ++ v ∷ [] = take_more vs i v (omega arith) ∙ ap (λ x. take i vs ++ x ∷ []) given in
       let old_value : get old k ≡ Some w = sym (subst (λ x. get now x ≡ get old x) (sym key) (next_value k within)) ∙ was in
@@ -76,9 +71,6 @@ module _ {M V : Type 0} (get : M → Key → Option V) (put : M → Key → V �
         taken = rw (more_keys, take_more_set ws i w (omega (arith, done.long)), map_push (get old) (take i ks) k, map_push Some (take i ws) w, done.taken, old_value) refl;
         rest = drop-set-lt (i + 1) ws i w (omega arith) ∙ drop_more_same ws vs i done.rest;
       }
-    where
-      first : (x y : V) (xs ys : List V) → x ∷ xs ≡ y ∷ ys → x ≡ y
-      first x y xs ys e = cc
 
 -- a look at keys of any type, one after another
 module _ {M V K : Type 0} (get : M → Key → Option V) (m : M) (data_of : K → Key) (ks : List K) (i : ℕ) (k : K) (within : i < length ks) (at : k ≡ get_or ks i k) where

@@ -1,20 +1,21 @@
 -- Which keys are spent after a call: those that were, and each live key that has left.
-use Rattle.std.proofs.Common.{◌≡◌, ◌≢◌, ℕ, ◌+◌, ◌<◌, Bool, true, false, cond, ◌⊎◌, inl, inr, Option, None, Some, OnSome, IfNone, Result, Ok, Err, IfOk, OnErr, List, [], ◌∷◌, All, is_some, refl, ap, sym, subst, ◌∙◌, arith}
+use Rattle.std.proofs.Common.{⊎_elim, ◌≡◌, ◌≢◌, ℕ, Bool, false, ◌⊎◌, inl, inr, Option, None, Some, OnSome, IfNone, Result, Ok, Err, IfOk, IsErr, List, [], ◌∷◌, All, is_some, refl, ap, sym, ◌∙◌, arith}
 use Rattle.std.specs.FinMap as map
 use Rattle.std.specs.FinSet as set
 use Rattle.std.proofs.lemmas.List.Elements.{All-head, All-tail}
-use Rattle.slotmap_core.specs.Key.{Key}
+use Rattle.slotmap_core.specs.Key.{Key, key_cmp, next_version}
 use Rattle.slotmap_core.specs.Content.{Content, IsContent, IsLive, IsDetached, Stands, places}
+use Rattle.slotmap_core.specs.Call.{StaysValid, MayGrow}
 use Rattle.slotmap_core.specs.Copy.{IsCopy}
 use Rattle.slotmap_core.specs.Disjoint.{CanReplace, with_values}
 use Rattle.slotmap_core.specs.Spent.{IsSpent, KeepsSpent}
-use Rattle.slotmap_core.specs.Transition.{Inserts, Removes, Replaces, Detaches, Reattaches, Keeps, Leaves, TakesPair, with_value}
+use Rattle.slotmap_core.specs.Transition.{Inserts, Removes, Detaches, Reattaches, Keeps, Leaves, with_value}
 use Rattle.slotmap_core.specs.Written.{Restores}
-use Rattle.slotmap_core.proofs.KeyLemmas.{keys_total, exact_keys, itself}
-use Rattle.slotmap_core.proofs.LeaveLemmas.{Leaves-refl, Leaves-keeps, Leaves-with_value, Leaves-trans, Leaves-removes, was_live, same_live}
+use Rattle.slotmap_core.proofs.KeyLemmas.{keys_total, exact_keys}
+use Rattle.slotmap_core.proofs.LeaveLemmas.{Leaves-refl, Leaves-keeps, Leaves-with_value, Leaves-trans, Leaves-removes, was_live, same_live, live_no_more}
 use Rattle.slotmap_core.proofs.Maps.{false_of, none_of, in_inserted}
-use Rattle.slotmap_core.proofs.PlaceCount.{places_grow, replaced_places, detached_places, reattached_places}
-use Rattle.slotmap_core.proofs.Standing.{inserted_stands, inserted_vacant, replaced_stands, detached_stands, reattached_stands, left_stands}
+use Rattle.slotmap_core.proofs.PlaceCount.{offers, places_grow, detached_places, reattached_places}
+use Rattle.slotmap_core.proofs.Standing.{inserted_stands, inserted_vacant, detached_stands, reattached_stands, left_stands}
 
 module _ {V : Type 0} where
   -- what is spent is neither live nor detached
@@ -28,28 +29,50 @@ module _ {V : Type 0} where
   spent_not_detached c k spent = false_of (set.contains c.detached k) (λ there. let less = spent.stands k (inr there) refl in absurd (omega arith))
 
   pub live_not_spent : (c : Content V) (q k : Key) → IsLive c q → IsSpent c k → q ≢ k
-  live_not_spent c q k live spent e =
-      let less = spent.stands q (inl live) (ap (λ x. x.index) e) in
-      let same : q.version ≡ k.version = ap (λ x. x.version) e in absurd (omega arith)
+  live_not_spent c q k live spent e = grind (arith, spent.stands q (inl live))
+
+  -- as many places are there, a new vacancy is that after a key that stood, and no key comes to stand
+  record Frees (old new : Content V) : Type 0 where
+    same_places : places new ≡ places old
+    next : (i v : ℕ) → map.get new.next i ≡ Some v → (map.get old.next i ≡ Some v) ⊎ ((q : Key) × Stands old q × (q.index ≡ i) × (next_version q ≡ v))
+    stood : (q : Key) → Stands new q → Stands old q
 
   module _ (old new : Content V) where
-    -- where as many places are there, the same are vacant, and no key comes to stand
-    spent_stands : places new ≡ places old → new.next ≡ old.next → ((q : Key) → Stands new q → Stands old q) → KeepsSpent old new
-    spent_stands same next stood k spent = record {
-      within = let w = spent.within in omega arith;
-      vacant = λ v is. spent.vacant v (sym (ap (λ m. map.get m k.index) next) ∙ is);
-      stands = λ u there e. spent.stands u (stood u there) e;
+    Frees-leaves : Leaves old new → Frees old new
+    Frees-leaves leaves = record {
+      same_places = leaves.same_places;
+      next = λ i v is. ⊎_elim (λ there. inl there) (λ gone. inr (gone.0, inl (was_live old new gone.0 gone.1), gone.3, gone.4)) ((leaves.next i v).0 is);
+      stood = left_stands old new leaves;
     }
 
-    pub spent_leaves : Leaves old new → KeepsSpent old new
-    spent_leaves leaves k spent = record {
-      within = let same = leaves.same_places in let w = spent.within in omega arith;
-      vacant = λ v is. elim ((leaves.next k.index v).0 is) [
-        | inl there ↦ spent.vacant v there
-        | inr gone ↦ let less = spent.stands gone.0 (inl (was_live old new gone.0 gone.1)) gone.3 in let next = gone.4 in omega arith
-      ];
-      stands = λ u there e. spent.stands u (left_stands old new leaves u there) e;
+    Frees-restores : Restores old new → Frees old new
+    Frees-restores restores = record {
+      same_places = restores.same_places;
+      next = λ i v is. ⊎_elim (λ there. inl there) (λ gone. inr (gone.0, inr gone.1, gone.3, gone.4)) ((restores.next i v).0 is);
+      stood = λ q there. ⊎_elim (λ h. inl (rw (← restores.live) h)) (λ h. absurd (let none = set.contains-empty key_cmp q in let is = ap (λ d. set.contains d q) restores.detached in cc)) there;
     }
+
+    spent_frees : Frees old new → KeepsSpent old new
+    spent_frees frees k spent = record {
+      within = omega (arith, frees.same_places, spent.within);
+      vacant = λ v is. ⊎_elim (λ there. spent.vacant v there) (λ gone. omega (arith, spent.stands gone.0 gone.1 gone.2)) (frees.next k.index v is);
+      stands = λ u there e. spent.stands u (frees.stood u there) e;
+    }
+
+    -- a key that stood and does so no longer
+    gone_spent : (reuses : Bool) → IsContent reuses old → Frees old new → (k : Key) → Stands old k → ((u : Key) → Stands new u → u ≢ k) → IsSpent new k
+    gone_spent reuses well frees k stood none = record {
+      within = omega (arith, frees.same_places, well.within k (inl stood));
+      vacant = λ v is. ⊎_elim (λ there. absurd (well.used_or_vacant k (inl stood) (ap is_some there))) (λ gone. omega (arith, ap (λ q. q.version) (well.apart gone.0 k (inl gone.1) (inl stood) gone.2))) (frees.next k.index v is);
+      stands = λ u there e. absurd (none u there (well.apart u k (inl (frees.stood u there)) (inl stood) e));
+    }
+
+    -- where as many places are there, the same are vacant, and no key comes to stand
+    spent_stands : places new ≡ places old → new.next ≡ old.next → ((q : Key) → Stands new q → Stands old q) → KeepsSpent old new
+    spent_stands same next stood = spent_frees (record { same_places = same; next = λ i v is. inl (rw (← next) is); stood = stood })
+
+    pub spent_leaves : Leaves old new → KeepsSpent old new
+    spent_leaves leaves = spent_frees (Frees-leaves leaves)
 
     pub spent_keeps : Keeps old new → KeepsSpent old new
     spent_keeps keeps = spent_leaves (Leaves-keeps old new keeps)
@@ -61,17 +84,7 @@ module _ {V : Type 0} where
 
     -- what is read back from the list that a map was written as
     pub spent_restores : Restores old new → KeepsSpent old new
-    spent_restores restores k spent = record {
-      within = let same = restores.same_places in let w = spent.within in omega arith;
-      vacant = λ v is. elim ((restores.next k.index v).0 is) [
-        | inl there ↦ spent.vacant v there
-        | inr gone ↦ let less = spent.stands gone.0 (inr gone.1) gone.3 in let next = gone.4 in omega arith
-      ];
-      stands = λ u there e. elim there [
-        | inl h ↦ spent.stands u (inl (rw (← restores.live) h)) e
-        | inr h ↦ let none : set.contains new.detached u ≡ false = ap (λ d. set.contains d u) restores.detached ∙ set.contains-empty _ u in absurd (cc)
-      ];
-    }
+    spent_restores restores = spent_frees (Frees-restores restores)
 
     module _ (reuses : Bool) (well : IsContent reuses old) where
       pub spent_inserts : (k : Key) (v : V) → Inserts old k v new → KeepsSpent old new
@@ -79,19 +92,10 @@ module _ {V : Type 0} where
         within = let grow = places_grow reuses old new well j x inserts in let w = spent.within in omega arith;
         vacant = λ v is. spent.vacant v (inserted_vacant old new j x inserts k.index v is).1;
         stands = λ u there e. elim (inserted_stands old new j x inserts u there) [
-          | inl one ↦ subst (λ (q : Key). q.index ≡ k.index → k.version < q.version) (sym one) newer e
+          | inl one ↦ grind (arith, one, offers reuses old new well j x inserts, spent.vacant j.version, spent.within)
           | inr was ↦ spent.stands u was e
         ];
       }
-        where
-          offers : (map.get old.next j.index ≡ Some j.version) ⊎ ((map.len old.next ≡ 0) × (j.index ≡ places old + 1) × (j.version ≡ 1))
-          offers = rw inserts.offered (well.offers inserts.below_limit)
-
-          newer : j.index ≡ k.index → k.version < j.version
-          newer e = elim offers [
-            | inl there ↦ spent.vacant j.version (subst (λ (i : ℕ). map.get old.next i ≡ Some j.version) e there)
-            | inr past ↦ let w = spent.within in let p = past.1 in absurd (omega arith)
-          ]
 
       -- an insert answers no key that is spent
       pub inserted_not_spent : (j : Key) (v : V) → Inserts old j v new → (k : Key) → IsSpent old k → j ≢ k
@@ -101,57 +105,28 @@ module _ {V : Type 0} where
       pub spent_removes : (k : Key) → IsLive old k → Removes old k new → KeepsSpent old new
       spent_removes k live removes = spent_leaves (Leaves-removes reuses old well k live new removes)
 
-      pub spent_replaces : (k : Key) (v : V) → IsLive old k → Replaces old k v new → KeepsSpent old new
-      spent_replaces k v live replaces = spent_stands (replaced_places reuses old new well k v live replaces) replaces.next (replaced_stands old new k v live replaces)
-
       pub spent_detaches : (k : Key) → IsLive old k → Detaches old k new → KeepsSpent old new
       spent_detaches k live detaches = spent_stands (detached_places reuses old new well k live detaches) detaches.next (detached_stands old new k live detaches)
 
       pub spent_reattaches : (k : Key) (v : V) → Reattaches old k v new → KeepsSpent old new
       spent_reattaches k v binds = spent_stands (reattached_places reuses old new well k v binds) binds.next (reattached_stands old new k v binds)
 
-      pub spent_takes_pair : {K : Type 0} (data_of : K → Key) (pair : Option (K × V)) → TakesPair data_of old pair new → KeepsSpent old new
-      spent_takes_pair data_of None takes k spent = subst (λ (c : Content V). IsSpent c k) (sym takes.1) spent
-      spent_takes_pair data_of (Some pair) takes k spent = spent_removes (data_of pair.0) (ap is_some takes.0) takes.1 k spent
-
       -- a live key that has left
       pub left_spent : (k : Key) → Leaves old new → IsLive old k → map.contains_key new.live k ≡ false → IsSpent new k
-      left_spent k leaves live gone = record {
-        within = let same = leaves.same_places in let w = well.within k (inl (inl live)) in omega arith;
-        vacant = λ v is. elim ((leaves.next k.index v).0 is) [
-          | inl there ↦ absurd (well.used_or_vacant k (inl (inl live)) (ap is_some there))
-          | inr other ↦
-              let one = well.apart other.0 k (inl (inl (was_live old new other.0 other.1))) (inl (inl live)) other.3 in
-              let same : other.0.version ≡ k.version = ap (λ q. q.version) one in let next = other.4 in omega arith
-        ];
-        stands = λ u there e. absurd (none u there (well.apart u k (inl (left_stands old new leaves u there)) (inl (inl live)) e));
-      }
-        where
-          none : (u : Key) → Stands new u → u ≡ k → ⊥
-          none u (inl there) e = let h = subst (λ q. map.contains_key new.live q ≡ true) e there in absurd (cc)
-          none u (inr there) e = well.live_or_detached k live (subst (λ q. set.contains old.detached q ≡ true) e (sym (ap (λ d. set.contains d u) leaves.detached) ∙ there))
+      left_spent k leaves live gone = gone_spent reuses well (Frees-leaves leaves) k (inl live) (λ u there e. elim there [
+        | inl h ↦ absurd (let is = rw e at h in cc)
+        | inr h ↦ well.live_or_detached k live (rw (leaves.detached, e) at h)
+      ])
 
       pub removed_spent : (k : Key) → IsLive old k → Removes old k new → IsSpent new k
-      removed_spent k live removes =
-          left_spent k (Leaves-removes reuses old well k live new removes) live (ap (λ m. map.contains_key m k) removes.live ∙ ap is_some (map.get-remove keys_total old.live k k ∙ ap (λ b. cond b None (map.get old.live k)) (itself keys_total exact_keys k)))
+      removed_spent k live removes = left_spent k (Leaves-removes reuses old well k live new removes) live (live_no_more old new k removes)
 
       -- a detached key, in the map that is read back
       pub forgotten_spent : (k : Key) → Restores old new → IsDetached old k → IsSpent new k
-      forgotten_spent k restores out = record {
-        within = let same = restores.same_places in let w = well.within k (inl (inr out)) in omega arith;
-        vacant = λ v is. elim ((restores.next k.index v).0 is) [
-          | inl there ↦ absurd (well.used_or_vacant k (inl (inr out)) (ap is_some there))
-          | inr other ↦
-              let one = well.apart other.0 k (inl (inr other.1)) (inl (inr out)) other.3 in
-              let same : other.0.version ≡ k.version = ap (λ q. q.version) one in let next = other.4 in omega arith
-        ];
-        stands = λ u there e. elim there [
-          | inl h ↦
-              let live : IsLive old u = rw (← restores.live) h in
-              absurd (well.live_or_detached u live (subst (λ q. set.contains old.detached q ≡ true) (sym (well.apart u k (inl (inl live)) (inl (inr out)) e)) out))
-          | inr h ↦ let none : set.contains new.detached u ≡ false = ap (λ d. set.contains d u) restores.detached ∙ set.contains-empty _ u in absurd (cc)
-        ];
-      }
+      forgotten_spent k restores out = gone_spent reuses well (Frees-restores restores) k (inr out) (λ u there e. elim there [
+        | inl h ↦ well.live_or_detached k (rw (restores.live, e) at h) out
+        | inr h ↦ absurd (let none = set.contains-empty key_cmp u in let is = ap (λ d. set.contains d u) restores.detached in cc)
+      ])
 
   -- a new value under a key that is live, and new values under several
   pub spent_with_value : (c : Content V) (k : Key) (v : V) → IsLive c k → KeepsSpent c (with_value c k v)
@@ -169,40 +144,35 @@ module _ {V : Type 0} where
   spent_with_values c keys values can = spent_leaves c (with_values c keys values) (Leaves-with_values c keys values can.live)
 
   -- by the clauses of an insert, whatever it answers
-  module _ (old new : Content V) (reuses : Bool) (well : IsContent reuses old) {K E : Type 0} (data_of : K → Key) (v : V) (answer : Result K E) where
-    pub spent_insert : IfOk answer (λ key. Inserts old (data_of key) v new) → OnErr answer (Keeps old new) → KeepsSpent old new
-    spent_insert ok unchanged = by answer ok unchanged
-      where
-        by : (r : Result K E) → IfOk r (λ key. Inserts old (data_of key) v new) → OnErr r (Keeps old new) → KeepsSpent old new
-        by (Ok key) inserts same = spent_inserts old new reuses well (data_of key) v inserts
-        by (Err e) inserts same = spent_keeps old new same
+  module _ (old new : Content V) (reuses : Bool) {K E : Type 0} (answer : Result K E) (valid : MayGrow reuses old (IsErr answer) new) (data_of : K → Key) (v : V) where
+    pub spent_insert : IfOk answer (λ key. Inserts old (data_of key) v new) → KeepsSpent old new
+    spent_insert ok = elim answer as (λ r. IfOk r (λ key. Inserts old (data_of key) v new) → (IsErr r → Keeps old new) → KeepsSpent old new) [
+      | Ok key ↦ λ inserts same. spent_inserts old new reuses valid.before (data_of key) v inserts
+      | Err e ↦ λ none same. spent_keeps old new (same refl)
+    ] ok valid.unchanged
 
     pub insert_not_spent : IfOk answer (λ key. Inserts old (data_of key) v new) → (k : Key) → IsSpent old k → IfOk answer (λ key. data_of key ≢ k)
-    insert_not_spent ok k spent = by answer ok
-      where
-        by : (r : Result K E) → IfOk r (λ key. Inserts old (data_of key) v new) → IfOk r (λ key. data_of key ≢ k)
-        by (Ok key) inserts = inserted_not_spent old new reuses well (data_of key) v inserts k spent
-        by (Err e) inserts = tt
+    insert_not_spent ok k spent = elim answer as (λ r. IfOk r (λ key. Inserts old (data_of key) v new) → IfOk r (λ key. data_of key ≢ k)) [
+      | Ok key ↦ λ inserts. inserted_not_spent old new reuses valid.before (data_of key) v inserts k spent
+      | Err e ↦ λ none. tt
+    ] ok
 
   -- by the clauses of a removal, whatever it answers
-  module _ (old new : Content V) (reuses : Bool) (well : IsContent reuses old) (j : Key) (answer : Option V) (is : answer ≡ map.get old.live j) where
+  module _ (old new : Content V) (reuses : Bool) (valid : StaysValid reuses old new) (j : Key) (answer : Option V) (is : answer ≡ map.get old.live j) where
+    either : {P C : Type 0} → OnSome answer P → IfNone answer (new ≡ old) → (IsLive old j → P → C) → (new ≡ old → C) → C
+    either {P} {C} some none left stays = elim answer as (λ o. o ≡ map.get old.live j → OnSome o P → IfNone o (new ≡ old) → C) [
+      | Some v ↦ λ is some none. left (ap is_some (sym is)) some
+      | None ↦ λ is some none. stays none
+    ] is some none
+
     pub spent_remove : OnSome answer (Removes old j new) → IfNone answer (new ≡ old) → KeepsSpent old new
-    spent_remove removes absent k spent = by answer is removes absent
-      where
-        by : (o : Option V) → o ≡ map.get old.live j → OnSome o (Removes old j new) → IfNone o (new ≡ old) → IsSpent new k
-        by (Some v) is removes absent = spent_removes old new reuses well j (ap is_some (sym is)) removes k spent
-        by None is removes absent = subst (λ (c : Content V). IsSpent c k) (sym absent) spent
+    spent_remove removes unchanged k spent = either removes unchanged (λ live did. spent_removes old new reuses valid.before j live did k spent) (λ same. rw same spent)
 
     pub spent_detach : OnSome answer (Detaches old j new) → IfNone answer (new ≡ old) → KeepsSpent old new
-    spent_detach detaches absent k spent = by answer is detaches absent
-      where
-        by : (o : Option V) → o ≡ map.get old.live j → OnSome o (Detaches old j new) → IfNone o (new ≡ old) → IsSpent new k
-        by (Some v) is detaches absent = spent_detaches old new reuses well j (ap is_some (sym is)) detaches k spent
-        by None is detaches absent = subst (λ (c : Content V). IsSpent c k) (sym absent) spent
+    spent_detach detaches unchanged k spent = either detaches unchanged (λ live did. spent_detaches old new reuses valid.before j live did k spent) (λ same. rw same spent)
 
     pub live_remove_spent : IsLive old j → OnSome answer (Removes old j new) → IsSpent new j
-    live_remove_spent live removes = by answer is removes
-      where
-        by : (o : Option V) → o ≡ map.get old.live j → OnSome o (Removes old j new) → IsSpent new j
-        by (Some v) is removes = removed_spent old new reuses well j live removes
-        by None is removes = absurd (let none = ap is_some is in cc)
+    live_remove_spent live removes = elim answer as (λ o. o ≡ map.get old.live j → OnSome o (Removes old j new) → IsSpent new j) [
+      | Some v ↦ λ is did. removed_spent old new reuses valid.before j live did
+      | None ↦ λ is did. absurd (let none = ap is_some is in cc)
+    ] is removes

@@ -1,5 +1,5 @@
 -- What stood before a call, and which vacancies it leaves.
-use Rattle.std.proofs.Common.{◌≡◌, ◌≢◌, ℕ, Some, false, ◌⊎◌, inl, inr, sym, ap, ◌∙◌, is_some, ⊎_elim}
+use Rattle.std.proofs.Common.{◌≡◌, ◌≢◌, ℕ, Some, false, ◌⊎◌, inl, inr, sym, ap, ◌∙◌, is_some, ⊎_elim, arith}
 use Rattle.std.specs.Cmp.{nat_cmp_total}
 use Rattle.std.proofs.lemmas.Map.Lookups.{exact_unsigned}
 use Rattle.std.specs.FinMap as map
@@ -21,38 +21,31 @@ module _ {V : Type 0} (old new : Content V) where
 
   module _ (k : Key) (v : V) (i : Inserts old k v new) where
     pub inserted_stands : (q : Key) → Stands new q → (q ≡ k) ⊎ Stands old q
-    inserted_stands q (inl h) = ⊎_elim (λ e. inl e) (λ p. inr (inl p.1)) (in_after_insert keys_total exact_keys old.live k v q (rw (← i.live) h))
-    inserted_stands q (inr h) = inr (inr (rw (← i.detached) h))
+    inserted_stands q h = grind (arith, i.live, i.detached, in_after_insert keys_total exact_keys old.live k v q)
 
     pub inserted_vacant : (j w : ℕ) → map.get new.next j ≡ Some w → (j ≢ k.index) × (map.get old.next j ≡ Some w)
     inserted_vacant j w h = get_after_remove nat_cmp_total exact_unsigned old.next k.index j w (rw (← i.next) h)
 
   pub kept_stands : Keeps old new → (q : Key) → Stands new q → Stands old q
-  kept_stands k q (inl h) = inl (rw (← k.live) h)
-  kept_stands k q (inr h) = inr (rw (← k.detached) h)
+  kept_stands k q h = grind (arith, k.live, k.detached)
 
   pub replaced_stands : (k : Key) (v : V) → IsLive old k → Replaces old k v new → (q : Key) → Stands new q → Stands old q
-  replaced_stands k v is_live r q (inl h) = ⊎_elim (λ e. inl (rw e is_live)) (λ p. inl p.1) (in_after_insert keys_total exact_keys old.live k v q (rw (← r.live) h))
-  replaced_stands k v is_live r q (inr h) = inr (rw (← r.detached) h)
+  replaced_stands k v is_live r q h = grind (arith, r.live, r.detached, in_after_insert keys_total exact_keys old.live k v q)
 
   pub detached_stands : (k : Key) → IsLive old k → Detaches old k new → (q : Key) → Stands new q → Stands old q
-  detached_stands k is_live r q (inl h) = inl ((in_after_remove keys_total exact_keys old.live k q (rw (← r.live) h)).1)
-  detached_stands k is_live r q (inr h) = ⊎_elim (λ e. inl (rw e is_live)) (λ g. inr g) (item_after_insert keys_total exact_keys old.detached k q (rw (← r.detached) h))
+  detached_stands k is_live r q h = grind (arith, r.live, r.detached, in_after_remove keys_total exact_keys old.live k q, item_after_insert keys_total exact_keys old.detached k q)
 
   pub reattached_stands : (k : Key) (v : V) → Reattaches old k v new → (q : Key) → Stands new q → Stands old q
-  reattached_stands k v r q (inl h) = ⊎_elim (λ e. inr (rw e r.was_detached)) (λ p. inl p.1) (in_after_insert keys_total exact_keys old.live k v q (rw (← r.live) h))
-  reattached_stands k v r q (inr h) = inr ((item_after_remove keys_total exact_keys old.detached k q (rw (← r.detached) h)).1)
+  reattached_stands k v r q h = grind (arith, r.live, r.detached, r.was_detached, in_after_insert keys_total exact_keys old.live k v q, item_after_remove keys_total exact_keys old.detached k q)
 
   pub removed_stands : (k : Key) → Removes old k new → (q : Key) → Stands new q → Stands old q
-  removed_stands k r q (inl h) = inl ((in_after_remove keys_total exact_keys old.live k q (rw (← r.live) h)).1)
-  removed_stands k r q (inr h) = inr (rw (← r.detached) h)
+  removed_stands k r q h = grind (arith, r.live, r.detached, in_after_remove keys_total exact_keys old.live k q)
 
   pub removed_vacant : (k : Key) → IsLive old k → Removes old k new → Vacates
   removed_vacant k is_live r i v h = ⊎_elim (λ p. inl (k, is_live, sym p.0, sym p.1)) (λ g. inr g) (in_freed k old.next i v (rw (← r.next) h))
 
   pub left_stands : Leaves old new → (q : Key) → Stands new q → Stands old q
-  left_stands l q (inl h) = inl (l.no_more q h)
-  left_stands l q (inr h) = inr (rw (← l.detached) h)
+  left_stands l q h = grind (arith, l.no_more q, l.detached)
 
   pub left_vacant : Leaves old new → Vacates
   left_vacant l i v h = ⊎_elim (λ g. inr g) (λ p. inl (p.0, (of_and _ _ p.1).0, p.3, p.4)) ((l.next i v).0 h)

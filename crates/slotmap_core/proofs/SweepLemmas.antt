@@ -1,14 +1,17 @@
 -- A walk by ascending index along which keys leave.
-use Rattle.std.proofs.Common.{◌≡◌, ℕ, ◌+◌, ◌<◌, ◌≤◌, Bool, true, refl, ap, ◌∙◌, inl, inr, arith}
+use Rattle.std.proofs.Common.{⊎_elim, ◌≡◌, ◌≢◌, ℕ, ◌+◌, ◌<◌, ◌≤◌, Bool, true, Some, is_some, ◌∷◌, refl, sym, ap, ◌∙◌, inl, arith}
+use Rattle.std.proofs.lemmas.Bool.{cases_eq}
 use Rattle.std.specs.FinMap as map
 use Rattle.slotmap_core.specs.Key.{Key}
 use Rattle.slotmap_core.specs.Content.{Content, IsContent, IsLive}
-use Rattle.slotmap_core.specs.Transition.{Removes, Leaves, Empties, has_left, with_value, FreesByIndex}
-use Rattle.slotmap_core.proofs.KeyLemmas.{keys_total, exact_keys, same_or_other}
-use Rattle.slotmap_core.proofs.Maps.{left_in}
+use Rattle.slotmap_core.specs.Transition.{Removes, Leaves, EmptiesByIndex, has_left, with_value, FreesByIndex}
+use Rattle.slotmap_core.proofs.KeyLemmas.{keys_total, exact_keys, tied}
+use Rattle.slotmap_core.proofs.Maps.{in_after_remove}
+use Rattle.slotmap_core.proofs.IndexLemmas.{from_index, get_from, in_from, from_index-jump, from_index-take, alone_at, NoneBelow-removed}
+use Rattle.slotmap_core.specs.Listing.{NoneBelow}
 use Rattle.slotmap_core.proofs.ContentLemmas.{IsContent-with_value}
-use Rattle.slotmap_core.proofs.LeaveLemmas.{was_live, is_gone, has_left_if, same_live, Leaves-refl, Leaves-trans, Leaves-with_value, Leaves-removes, Leaves-removed}
-use Rattle.slotmap_core.proofs.OrderLemmas.{FreesByIndex-start, FreesByIndex-with_value, FreesByIndex-removed, FreesByIndex-first}
+use Rattle.slotmap_core.proofs.LeaveLemmas.{was_live, is_gone, get_left, same_live, Leaves-refl, Leaves-trans, Leaves-with_value, Leaves-removes, Leaves-removed}
+use Rattle.slotmap_core.proofs.OrderLemmas.{FreesByIndex-start, FreesByIndex-with_value, FreesByIndex-removed, FreesByIndex-first, entries_first}
 
 module _ {V : Type 0} where
   -- on the way to now, keys below the index have left, by ascending index
@@ -42,8 +45,12 @@ module _ {V : Type 0} where
     order = FreesByIndex-with_value old now k w is_live swept.order;
     capacity = swept.capacity;
     well = IsContent-with_value reuses now swept.well k is_live w;
-    below = λ q left. swept.below q (has_left_if old now q (was_live old (with_value now k w) q left) (λ there. is_gone old (with_value now k w) q left (same_live now k w is_live q ∙ there)));
+    below = λ q left. grind (arith, swept.below q, same_live now k w is_live q);
   }
+
+  -- the value of the next key is written
+  pub Swept-next : {reuses : Bool} (old now : Content V) (i : ℕ) (k : Key) (w : V) → Swept reuses old now i → IsLive now k → i ≤ k.index → Swept reuses old (with_value now k w) k.index
+  Swept-next old now i k w swept is_live on = Swept-written old now k.index k w (Swept-to old now i k.index swept on) is_live
 
   -- the key at the index leaves
   pub Swept-removed : {reuses : Bool} (old now new : Content V) (i : ℕ) (k : Key) → Swept reuses old now i → IsLive now k → k.index ≡ i → Removes now k new → new.capacity ≡ now.capacity → IsContent reuses new → Swept reuses old new (i + 1)
@@ -52,20 +59,41 @@ module _ {V : Type 0} where
     order = FreesByIndex-removed old now new k swept.order (swept.leaves.no_more k is_live) is_live (λ q left. omega (arith, swept.below q left)) removes;
     capacity = capacity ∙ swept.capacity;
     well = well;
-    below = λ q left. elim (same_or_other q k) [
-      | inl same ↦ omega (arith, ap (λ x. x.index) same)
-      | inr other ↦
-          let before : has_left old now q ≡ true =
-          has_left_if old now q (was_live old new q left) (λ there. is_gone old new q left (ap (λ m. map.contains_key m q) removes.live ∙ left_in keys_total exact_keys now.live k q other there)) in
-          omega (arith, swept.below q before)
-    ];
+    below = λ q left. grind (arith, swept.below q, get_left now new k removes q, tied keys_total exact_keys q k);
   }
 
   -- what the rest ends as after the first key has left, the whole ends as
-  pub Empties-first : {reuses : Bool} (a b end : Content V) (k : Key) → IsContent reuses a → IsLive a k → Removes a k b → b.capacity ≡ a.capacity → ((q : Key) → IsLive b q → k.index < q.index) → Empties b end → Empties a end
+  pub Empties-first : {reuses : Bool} (a b end : Content V) (k : Key) → IsContent reuses a → IsLive a k → Removes a k b → b.capacity ≡ a.capacity → ((q : Key) → IsLive b q → k.index < q.index) → EmptiesByIndex b end → EmptiesByIndex a end
   Empties-first {reuses} a b end k well is_live removes capacity above ends = record {
-    live = ends.live;
-    leaves = Leaves-trans a b end (Leaves-removes reuses a well k is_live b removes) ends.leaves;
-    order = FreesByIndex-first a b end k is_live removes above ends.leaves.no_more ends.order;
-    capacity = ends.capacity ∙ capacity;
+    empties = record {
+      live = ends.empties.live;
+      leaves = Leaves-trans a b end (Leaves-removes reuses a well k is_live b removes) ends.empties.leaves;
+      capacity = ends.empties.capacity ∙ capacity;
+    };
+    order = FreesByIndex-first a b end k is_live removes above ends.empties.leaves.no_more ends.order;
   }
+
+  -- the live key of the least index from i on
+  abbrev pub IsNextLive : Content V → ℕ → Key → Type 0
+  IsNextLive c i k = (q : Key) → IsLive c q → i ≤ q.index → k.index ≤ q.index
+
+  module _ {reuses : Bool} (c : Content V) (well : IsContent reuses c) (i : ℕ) (k : Key) (next : IsNextLive c i k) where
+    before_others : IsLive c k → (q : Key) → q ≢ k → IsLive c q → i ≤ q.index → k.index < q.index
+    before_others is_live q other there from =
+        ⊎_elim (λ same. absurd (other (well.apart q k (inl (inl there)) (inl (inl is_live)) (sym same)))) (λ apart. omega (arith, next q there from)) (cases_eq k.index q.index)
+
+    -- its entry is the first, where no live key is below i
+    pub first_entry : (v : V) → NoneBelow c.live i → map.get c.live k ≡ Some v → map.entries c.live ≡ (k, v) ∷ map.entries (map.remove c.live k)
+    first_entry v above found = entries_first c.live k v found (λ q there. let both = in_after_remove keys_total exact_keys c.live k q there in before_others (ap is_some found) q both.0 both.1 (above q both.1))
+
+    -- and the first of those from i on
+    pub next_entry : (v : V) → i ≤ k.index → map.get c.live k ≡ Some v → map.entries (from_index i c.live) ≡ (k, v) ∷ map.entries (from_index (k.index + 1) c.live)
+    next_entry v from found =
+        let m = from_index i c.live in
+        let rest : map.remove m k ≡ from_index (k.index + 1) c.live = ap (λ n. map.remove n k) (sym (from_index-jump i k.index c.live from next)) ∙ sym (from_index-take k.index c.live k refl (alone_at c well k k.index (ap is_some found) refl)) in
+        entries_first m k v (get_from i c.live k from ∙ found) (λ q there. let both = in_after_remove keys_total exact_keys m k q there in let here = in_from i c.live q both.1 in before_others (ap is_some found) q both.0 here.1 here.0)
+        ∙ ap (λ n. (k, v) ∷ map.entries n) rest
+
+    -- once it is taken out, no live key is below the index after its own
+    pub above_next : IsLive c k → NoneBelow c.live i → NoneBelow (map.remove c.live k) (k.index + 1)
+    above_next is_live above = NoneBelow-removed c.live k.index k (alone_at c well k k.index is_live refl) (λ q there. next q there (above q there))

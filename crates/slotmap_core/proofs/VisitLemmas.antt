@@ -1,16 +1,15 @@
 -- What a walk that calls a closure at each entry, and keeps or drops it, leaves of a map.
-use Rattle.std.proofs.Common.{◌≡◌, ℕ, ◌+◌, ◌<◌, Bool, true, false, cond, List, [], ◌∷◌, ◌++◌, append-nil, Some, None, is_some, refl, sym, ap, subst, ◌∙◌, inl, arith}
-use Rattle.std.specs.Fn.{Mut, Called}
+use Rattle.std.proofs.Common.{◌≡◌, Bool, true, false, cond, List, [], ◌∷◌, ◌++◌, append-nil, Some, None, is_some, refl, sym, ap, subst, ◌∙◌, arith}
+use denote.Param.Always.{always_mut, mut_next}
+use Rattle.std.specs.Fn.{Mut, Called, Takes}
+use Rattle.std.specs.List.{FoldsTo}
 use Rattle.std.specs.Borrow.{MutBor}
 use Rattle.std.specs.Option.{option_or}
-use Rattle.std.specs.Ordering.{eq_by_cmp}
 use Rattle.std.specs.FinMap as map
 use Rattle.std.specs.FinMap.Entries.{find}
 use Rattle.slotmap_core.specs.Key.{Key, key_cmp}
-use Rattle.slotmap_core.specs.Content.{Content, IsContent, places}
 use Rattle.slotmap_core.specs.Listing.{IsListing, IsListingBut, with_entries}
-use Rattle.slotmap_core.specs.Retain.{Visit, CallsAt, seen, kept}
-use Rattle.slotmap_core.proofs.IndexLemmas.{from_index, get_from, from_index-start, from_index-skip, from_index-take, from_index-end, alone_at}
+use Rattle.slotmap_core.specs.Retain.{Visit, CallsAt, CallableOnEach, seen, kept}
 use Rattle.slotmap_core.proofs.ListingLemmas.{get-with_entries, with_entries_push, with_entries-empty, insert-remove, insert-with_entries, remove-with_entries, unlisted, unlisted_where_same, IsListingBut-start, IsListingBut-take, IsListingBut-done}
 
 -- what a call saw and left, as a visit
@@ -25,22 +24,12 @@ module _ {K V : Type 0} (data_of : K → Key) where
 
   kept_push : (xs : List (Visit K V)) (x : Visit K V) → kept data_of (xs ++ x ∷ []) ≡ kept data_of xs ++ cond x.stays ((data_of x.key, x.after) ∷ []) []
   kept_push [] x = refl
-  kept_push (y ∷ xs) x = ap (λ es. cond y.stays ((data_of y.key, y.after) ∷ es) es) (kept_push xs x) ∙ by y.stays
-    where
-      by : (b : Bool) → cond b ((data_of y.key, y.after) ∷ (kept data_of xs ++ cond x.stays ((data_of x.key, x.after) ∷ []) [])) (kept data_of xs ++ cond x.stays ((data_of x.key, x.after) ∷ []) [])
-          ≡ cond b ((data_of y.key, y.after) ∷ kept data_of xs) (kept data_of xs) ++ cond x.stays ((data_of x.key, x.after) ∷ []) []
-      by true = refl
-      by false = refl
+  kept_push (y ∷ xs) x = grind (arith, kept_push xs x)
 
   -- a key that no call saw isn't kept
   pub unkept : (k : Key) (xs : List (Visit K V)) → find key_cmp k (seen data_of xs) ≡ None → find key_cmp k (kept data_of xs) ≡ None
   unkept k [] none = refl
-  unkept k (x ∷ xs) none = by (unkept k xs) (eq_by_cmp key_cmp k (data_of x.key)) refl x.stays none
-    where
-      by : (find key_cmp k (seen data_of xs) ≡ None → find key_cmp k (kept data_of xs) ≡ None) → (t : Bool) → eq_by_cmp key_cmp k (data_of x.key) ≡ t → (b : Bool) → cond t (Some x.before) (find key_cmp k (seen data_of xs)) ≡ None → find key_cmp k (cond b ((data_of x.key, x.after) ∷ kept data_of xs) (kept data_of xs)) ≡ None
-      by rest true t b is = absurd (cc)
-      by rest false t true is = ap (λ t. cond t (Some x.after) (find key_cmp k (kept data_of xs))) t ∙ rest is
-      by rest false t false is = rest is
+  unkept k (x ∷ xs) none = let rest = unkept k xs in grind arith
 
   -- the calls saw the entries of the old map outside of the rest, and the map holds what they kept, and the rest
   pub record Visits (old : map.FinMap key_cmp V) (visits : List (Visit K V)) (rest now : map.FinMap key_cmp V) : Type 0 where
@@ -78,35 +67,30 @@ module _ {K V : Type 0} (data_of : K → Key) where
           ap (λ n. map.remove n (data_of x.key)) visits.stay ∙ remove-with_entries rest (kept data_of xs) (data_of x.key) none
           ∙ ap (with_entries (map.remove rest (data_of x.key))) (sym (append-nil (kept data_of xs)))
 
+  -- an entry of the rest is one of the old map
+  pub Visits-rest : (old : map.FinMap key_cmp V) (xs : List (Visit K V)) (rest now : map.FinMap key_cmp V) → Visits old xs rest now → (k : Key) (v : V) → map.get rest k ≡ Some v → map.get old k ≡ Some v
+  Visits-rest old xs rest now visits k v found =
+      ap (λ n. map.get n k) (sym visits.listed.all) ∙ get-with_entries rest (seen data_of xs) k
+      ∙ ap (λ o. option_or o (map.get rest k)) (unlisted old (seen data_of xs) rest k visits.listed (ap is_some found)) ∙ found
+
   pub Visits-listed : (old : map.FinMap key_cmp V) (xs : List (Visit K V)) (now : map.FinMap key_cmp V) → Visits old xs map.empty now → IsListing old (seen data_of xs)
   Visits-listed old xs now visits = IsListingBut-done old (seen data_of xs) visits.listed
 
   pub Visits-stay : (old : map.FinMap key_cmp V) (xs : List (Visit K V)) (now : map.FinMap key_cmp V) → Visits old xs map.empty now → now ≡ map.from_entries (kept data_of xs)
   Visits-stay old xs now visits = visits.stay ∙ with_entries-empty (kept data_of xs)
 
--- a walk by ascending index
-module _ {K V : Type 0} (data_of : K → Key) {reuses : Bool} (old : Content V) (well : IsContent reuses old) where
-  pub Visits-from_start : Visits data_of old.live [] (from_index 0 old.live) old.live
-  Visits-from_start = subst (λ rest. Visits data_of old.live [] rest old.live) (sym (from_index-start old.live)) (Visits-start data_of old.live)
+module _ {F K V : Type 0} (g : Mut F (K × (MutBor V × Unit {0})) (Bool × (MutBor V × Unit {0}))) (data_of : K → Key) where
+  -- what a closure keeps along its calls
+  kept_along : (I : F → Type 0) → ((f f' : F) (x : Visit K V) → I f → CallsAt g f x f' → I f') → (f f' : F) (xs : List (Visit K V)) → I f → FoldsTo (CallsAt g) f xs f' → I f'
+  kept_along I each f f' [] holds run = subst I run holds
+  kept_along I each f f' (x ∷ xs) holds run = kept_along I each run.0 f' xs (each f run.0 x holds run.1) run.2
 
-  -- at an index with a key, which is called
-  pub Visits-at : (xs : List (Visit K V)) (i : ℕ) (now : map.FinMap key_cmp V) (x : Visit K V) → Visits data_of old.live xs (from_index i old.live) now → (data_of x.key).index ≡ i → map.get now (data_of x.key) ≡ Some x.before
-      → Visits data_of old.live (xs ++ x ∷ []) (from_index (i + 1) old.live) (cond x.stays (map.insert now (data_of x.key) x.after) (map.remove now (data_of x.key)))
-  Visits-at xs i now x visits at found =
-      let k = data_of x.key in
-      let from = get_from i old.live k (omega (arith, at)) in
-      let here : map.get (from_index i old.live) k ≡ Some x.before = from ∙ sym (unvisited data_of old.live xs (from_index i old.live) now k visits from) ∙ found in
-      let next = from_index-take i old.live k at (alone_at old well k i (ap is_some (sym from ∙ here)) at) in
-      rw next (Visits-call data_of old.live xs (from_index i old.live) now x visits here)
+  -- a closure may be called at each entry where what gives that holds of it, and each call keeps it
+  pub callable_by : (I : F → Type 0) → ((f f' : F) (x : Visit K V) → I f → CallsAt g f x f' → I f') → (f : F) (m : map.FinMap key_cmp V) → I f
+      → ((f' : F) (key : K) (shown : MutBor V) → I f' → map.get m (data_of key) ≡ Some shown.now → Takes g f' (key, (shown, tt))) → CallableOnEach g data_of f m
+  callable_by I each f m holds takes = record { at = λ f' key shown come found. takes f' key shown (kept_along I each f f' come.visits holds come.calls) found }
 
-  -- at an index with none
-  pub Visits-past : (xs : List (Visit K V)) (i : ℕ) (now : map.FinMap key_cmp V) → Visits data_of old.live xs (from_index i old.live) now → ((q : Key) → q.index ≡ i → map.contains_key now q ≡ false) → Visits data_of old.live xs (from_index (i + 1) old.live) now
-  Visits-past xs i now visits none =
-      let skips = from_index-skip i old.live (λ q at. ap is_some (sym (unvisited data_of old.live xs (from_index i old.live) now q visits (get_from i old.live q (omega (arith, at))))) ∙ none q at) in
-      rw skips visits
-
-  -- past the last index
-  pub Visits-to_end : (xs : List (Visit K V)) (i : ℕ) (now : map.FinMap key_cmp V) → Visits data_of old.live xs (from_index i old.live) now → places old < i → Visits data_of old.live xs map.empty now
-  Visits-to_end xs i now visits past =
-      let none = from_index-end i old.live (λ q there. omega (arith, (well.within q (inl (inl there))).1)) in
-      subst (λ rest. Visits data_of old.live xs rest now) none visits
+  -- a closure that can be called always
+  pub callable_on_each : (f : F) (m : map.FinMap key_cmp V) → always_mut g f → CallableOnEach g data_of f m
+  callable_on_each f m always =
+      callable_by (always_mut g) (λ f f' x holds call. mut_next g f _ _ f' f' call.called refl holds) f m always (λ f' key shown holds found. (holds.at ((key, (shown, tt)) ∷ [])).0)

@@ -1,5 +1,5 @@
 -- A loop over a map: what is ahead of it, and what it passed.
-use Rattle.std.proofs.Common.{◌≡◌, ℕ, zero, suc, ◌<◌, List, [], ◌∷◌, length, get_or, Option, Some, None, All, Contains, ◌⊎◌, inl, inr, refl, sym, subst, ◌∙◌, arith}
+use Rattle.std.proofs.Common.{◌≡◌, List, [], ◌∷◌, Some, All, Contains, ◌⊎◌, inl, arith}
 use Rattle.std.specs.FinMap as map
 use Rattle.std.proofs.lemmas.List.Elements.{All-head, All-tail}
 use Rattle.slotmap_core.specs.Key.{Key, key_cmp}
@@ -26,12 +26,8 @@ module _ {V : Type 0} where
       pub walk_step : (After : Key → V → Type 0) → ((q : Key) (x : V) → Passed q x → After q x) → After k v → Walks m rest After
       walk_step After still here = record {
         all = All-tail (λ e. map.get m e.0 ≡ Some e.1) (k, v) rest (rw next at walks.all);
-        each = λ q x found. elim (rw next at (walks.each q x found)) [ inl there ↦ by q x there.0 there.1 there.2 | inr past ↦ inr (still q x past) ];
+        each = λ q x found. grind (arith, walks.each q x found, still q x);
       }
-        where
-          by : (q : Key) (x : V) (i : ℕ) → i < length ((k, v) ∷ rest) → get_or ((k, v) ∷ rest) i (q, x) ≡ (q, x) → Contains rest (q, x) ⊎ After q x
-          by q x zero within is = inr (subst (λ (e : Key × V). After e.0 e.1) is here)
-          by q x (suc i) within is = inl (i, omega arith, is)
 
       -- the same where the fact names nothing that the loop changes
       pub walk_next : Passed k v → Walks m rest Passed
@@ -39,14 +35,10 @@ module _ {V : Type 0} where
 
     -- behind the loop each pair was passed
     pub walk_end : ahead ≡ [] → (k : Key) (v : V) → map.get m k ≡ Some v → Passed k v
-    walk_end done k v found = elim (rw done at (walks.each k v found)) [ inl there ↦ absurd (let h = there.1 in omega arith) | inr past ↦ past ]
+    walk_end done k v found = grind (arith, walks.each k v found)
 
   -- a map with no entry
   pub none_found : (m : map.FinMap key_cmp V) → ((k : Key) (v : V) → map.get m k ≡ Some v → ⊥) → m ≡ map.empty
-  none_found m none = map.same_map keys_total exact_keys m map.empty (λ k. by k (map.get m k) refl ∙ sym (map.get-empty key_cmp k))
-    where
-      by : (k : Key) (o : Option V) → map.get m k ≡ o → map.get m k ≡ None
-      by k None is = is
-      by k (Some v) is = absurd (none k v is)
+  none_found m none = map.same_map keys_total exact_keys m map.empty (λ k. grind (arith, none k, map.get-empty {X = V} key_cmp k))
 
 pub ruleset walks = (walk_start, walk_here, walk_next, walk_end)

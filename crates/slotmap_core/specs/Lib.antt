@@ -21,6 +21,8 @@ pub mod StackMap
 pub mod Slot
 pub mod LayoutLends
 pub mod Columns
+pub mod Rows
+pub mod RowsLend
 pub mod SlotsLend
 pub mod Walk
 pub mod Slots
@@ -31,6 +33,10 @@ pub mod Secondary
 pub mod OrPut
 pub mod SecondaryStep
 pub mod SecondaryLaw
+pub mod Joined
+pub mod Dictionary
 pub mod Several
 pub mod SecondaryEqual
+pub mod SecondaryExtend
+pub mod SecondaryWritten
 pub mod ListRead

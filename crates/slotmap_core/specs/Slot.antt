@@ -1,5 +1,5 @@
 -- The slots of a map: what code keeps at each index. No public clause of a map cites this module.
-use Rattle.std.specs.Prelude.{◌≡◌, ◌↔◌, ℕ, zero, suc, ◌+◌, ◌-◌, ◌%◌, ◌^◌, ◌<◌, ◌≤◌, List, [], ◌∷◌, ◌++◌, length, map as list_map, Option, Some, None, IsSome, option_map, option_and_then, slice_get, slice_set}
+use Rattle.std.specs.Prelude.{◌≡◌, ◌↔◌, ℕ, zero, suc, ◌+◌, ◌-◌, ◌%◌, ◌^◌, ◌<◌, ◌≤◌, List, [], ◌∷◌, length, map as list_map, Option, Some, None, IsSome, option_map, option_and_then, slice_get}
 use Rattle.std.specs.FinMap as map
 use Rattle.slotmap_core.specs.Places.{Place, Live, Detached as Kept, Vacant, Retired as UsedUp, live}
 use Rattle.slotmap_core.specs.StackMap.{StackMap, IsStacked}

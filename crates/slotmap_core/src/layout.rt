@@ -9,9 +9,11 @@ ghost use Rattle.slotmap_core.specs.declared.layout.Link.TheVariants.{InUse};
 use std::alloc::{AllocError, Global};
 
 mod columns;
+mod rows;
 
 pub use columns::Columns;
 pub(crate) use columns::{next_odd, version_in};
+pub use rows::Rows;
 
 /// What the slot of a place is used for.
 #[derive(Clone, Copy)]

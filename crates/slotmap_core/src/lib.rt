@@ -3,6 +3,7 @@
 
 pub mod commands;
 pub mod errors;
+pub mod joined;
 mod json;
 pub mod keys;
 pub mod layout;

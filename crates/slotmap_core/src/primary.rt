@@ -4,12 +4,13 @@
 //! the retired keys, the version that the next key at each vacant index will have, the key that the
 //! next insert answers, and for how many more keys there is room.
 
-ghost use Rattle.std.specs.Prelude.{◌≡◌, ◌↔◌, ◌+◌, ◌≤◌, IsTrue, IfOk, IfErr, OnErr, OnOk, IsOk, IsSome, option_copied, Bool, true, false, Ok, Some, List, ◌++◌, map as list_map};
+ghost use Rattle.std.specs.Prelude.{◌≡◌, ◌↔◌, ◌+◌, ◌<◌, ◌≤◌, IsTrue, IfOk, IfErr, IfNone, OnErr, OnOk, OnSome, IsOk, IsErr, IsSome, option_copied, Bool, true, false, Ok, Err, Some, List, ◌++◌, map as list_map};
 ghost use Rattle.std.specs.FinMap as map;
 ghost use Rattle.slotmap_core.specs.Content.{Content, IsContent, used, most};
-ghost use Rattle.slotmap_core.specs.Transition.{IsNew, Inserts, Keeps, Removes, Replaces, Detaches, Reattaches, Leaves};
+ghost use Rattle.slotmap_core.specs.Transition.{IsNew, Inserts, Removes, Detaches, Reattaches, Leaves, with_value};
+ghost use Rattle.slotmap_core.specs.Call.{StaysValid, MayGrow, MakesRoom};
 ghost use Rattle.slotmap_core.specs.Listing.{IsListing, IsKeyListing};
-ghost use Rattle.slotmap_core.specs.Retain.{RetainsBy};
+ghost use Rattle.slotmap_core.specs.Retain.{RetainsBy, CallableOnEach};
 ghost use Rattle.slotmap_core.specs.Refusal.{Refuses, RefusesInsert, RefusesWith, RefusesCapacity, RefusesReattach};
 
 use crate::errors::{
@@ -38,7 +39,7 @@ pub trait Primary<K: Key, V>: Sized {
     /// An empty map. `Memory` where the memory for it was refused.
     fn with_key(alloc: Global) -> Result<Self, ReserveError>
         ensures starts { IfOk result (λ m. IsNew (content m)) }
-        ensures stacked { IfOk result (λ m. STACKED ≡ true → IsSome (content m).stack) }
+        ensures stack { IfOk result (λ m. STACKED ≡ true → IsSome (content m).stack) }
         ensures err { IfErr result (RefusesCapacity 0) }
         ensures valid { IfOk result (λ m. IsContent REUSES (content m)) };
 
@@ -47,7 +48,7 @@ pub trait Primary<K: Key, V>: Sized {
     /// `TooGreat` exactly where that is over 4294967294, else `Memory` where memory was refused.
     fn with_capacity_and_key(alloc: Global, capacity: usize) -> Result<Self, ReserveError>
         ensures starts { IfOk result (λ m. IsNew (content m)) }
-        ensures stacked { IfOk result (λ m. STACKED ≡ true → IsSome (content m).stack) }
+        ensures stack { IfOk result (λ m. STACKED ≡ true → IsSome (content m).stack) }
 
         ensures room { IfOk result (λ m. capacity ≤ (content m).room) }
         ensures capacity { IfOk result (λ m. capacity ≤ (content m).capacity) }
@@ -61,19 +62,23 @@ pub trait Primary<K: Key, V>: Sized {
 
     /// Whether no key is live.
     fn is_empty(&self) -> bool
-        ensures { IsTrue result ↔ map.len (content self.now).live ≡ 0 };
+        ensures value { IsTrue result ↔ map.len (content self.now).live ≡ 0 }
+        ensures valid { IsContent REUSES (content self.now) };
 
     /// For how many places there is memory, live, detached, vacant and retired ones together.
     fn capacity(&self) -> usize
-        ensures { result ≡ (content self.now).capacity };
+        ensures value { result ≡ (content self.now).capacity }
+        ensures valid { IsContent REUSES (content self.now) };
 
     /// Whether this key is live; one that was removed or detached isn't, nor is the null key.
     fn contains_key(&self, key: K) -> bool
-        ensures { result ≡ map.contains_key (content self.now).live (K.data_of key) };
+        ensures value { result ≡ map.contains_key (content self.now).live (K.data_of key) }
+        ensures valid { IsContent REUSES (content self.now) };
 
     /// The value of a live key, or none where the key isn't live.
     fn get(&self, key: K) -> Option<&V>
-        ensures { option_copied result ≡ map.get (content self.now).live (K.data_of key) };
+        ensures value { option_copied result ≡ map.get (content self.now).live (K.data_of key) }
+        ensures valid { IsContent REUSES (content self.now) };
 
     /// Stores a value under a new key, and answers the key.
     ///
@@ -83,17 +88,21 @@ pub trait Primary<K: Key, V>: Sized {
         ensures ok { IfOk result (λ key.
             Inserts (content self.old) (K.data_of key) value (content self.new)) }
         ensures err { IfErr result (λ error. Refuses (content self.old) value error) }
-        ensures unchanged { OnErr result (Keeps (content self.old) (content self.new)) }
-        ensures valid { IsContent REUSES (content self.new) };
+
+        // Where a place is vacant, in a map that reuses it, nothing is asked for.
+        ensures reuses { REUSES ≡ true → 0 < map.len (content self.old).next → IsOk result }
+
+        ensures valid { MayGrow REUSES (content self.old) (IsErr result) (content self.new) };
 
     /// Takes a live key's value out, and frees its place, or retires it after its last key. None
     /// where the key isn't live. Takes no memory.
     fn remove(&mut self, key: K) -> Option<V>
         ensures value { result ≡ map.get (content self.old).live (K.data_of key) }
-        ensures some { IsSome result →
-            Removes (content self.old) (K.data_of key) (content self.new) }
-        ensures none { result ≡ None → Keeps (content self.old) (content self.new) }
-        ensures valid { IsContent REUSES (content self.new) };
+        ensures removes { OnSome result
+            (Removes (content self.old) (K.data_of key) (content self.new)) }
+        ensures unchanged { IfNone result (content self.new ≡ content self.old) }
+        ensures live { (content self.new).live ≡ map.remove (content self.old).live (K.data_of key) }
+        ensures valid { StaysValid REUSES (content self.old) (content self.new) };
 
     /// Stores the value that the closure gives for the new key, once there is room, and answers the
     /// key.
@@ -107,26 +116,36 @@ pub trait Primary<K: Key, V>: Sized {
     ) -> Result<K, TryInsertError<E>>
     where
         F: Drop,
-        requires { F.IsAlwaysCallable f }
+        // It is called where a place is left, on the key that it will have.
+        requires { used (content self.old) < most → (key : K) →
+            K.data_of key ≡ (content self.old).offer → F.pre f key }
 
         ensures ok { IfOk result (λ key. (v : V) × F.post f key (Ok v)
             × Inserts (content self.old) (K.data_of key) v (content self.new)) }
         ensures err { IfErr result (λ error.
             RefusesWith K.data_of (F.post f) (content self.old) error) }
-        ensures unchanged { OnErr result (Keeps (content self.old) (content self.new)) }
-        ensures valid { IsContent REUSES (content self.new) };
+
+        // Where a place is vacant, in a map that reuses it, nothing is asked for.
+        ensures reuses { REUSES ≡ true → 0 < map.len (content self.old).next → (result ≡ Err TryInsertError.Memory → ⊥) }
+
+        ensures valid { MayGrow REUSES (content self.old) (IsErr result) (content self.new) };
 
     /// The same with a closure that gives a value always.
     fn insert_with_key<F: FnOnce(K) -> V>(&mut self, f: F) -> Result<K, InsertWithError>
     where
         F: Drop,
-        requires { F.IsAlwaysCallable f }
+        // It is called where a place is left, on the key that it will have.
+        requires { used (content self.old) < most → (key : K) →
+            K.data_of key ≡ (content self.old).offer → F.pre f key }
 
         ensures ok { IfOk result (λ key. (v : V) × F.post f key v
             × Inserts (content self.old) (K.data_of key) v (content self.new)) }
         ensures err { IfErr result (RefusesInsert (content self.old)) }
-        ensures unchanged { OnErr result (Keeps (content self.old) (content self.new)) }
-        ensures valid { IsContent REUSES (content self.new) };
+
+        // Where a place is vacant, in a map that reuses it, nothing is asked for.
+        ensures reuses { REUSES ≡ true → 0 < map.len (content self.old).next → IsOk result }
+
+        ensures valid { MayGrow REUSES (content self.old) (IsErr result) (content self.new) };
 
     /// Sets the value of a live key and answers the one before; where the key isn't live, hands the
     /// value back. Takes no memory.
@@ -134,11 +153,11 @@ pub trait Primary<K: Key, V>: Sized {
         ensures ok { IfOk result (λ before.
             map.get (content self.old).live (K.data_of key) ≡ Some before) }
         ensures replaces { OnOk result
-            (Replaces (content self.old) (K.data_of key) value (content self.new)) }
+            (content self.new ≡ with_value (content self.old) (K.data_of key) value) }
         ensures err { IfErr result (λ back.
             map.contains_key (content self.old).live (K.data_of key) ≡ false × back ≡ value) }
-        ensures unchanged { OnErr result (Keeps (content self.old) (content self.new)) }
-        ensures valid { IsContent REUSES (content self.new) };
+        ensures unchanged { OnErr result (content self.new ≡ content self.old) }
+        ensures valid { StaysValid REUSES (content self.old) (content self.new) };
 
     /// Makes room for so many more keys: so many inserts and reattaches that follow aren't refused.
     ///
@@ -146,39 +165,19 @@ pub trait Primary<K: Key, V>: Sized {
     /// 4294967294, else `Memory` where memory was refused; either changes nothing but the capacity.
     /// Where there is room already nothing is asked for.
     fn reserve(&mut self, additional: usize) -> Result<(), ReserveError>
-        ensures room { OnOk result (additional ≤ (content self.new).room) }
-        ensures capacity { OnOk result
-            (map.len (content self.old).live + additional ≤ (content self.new).capacity) }
-        ensures fits { OnOk result (used (content self.old) + additional ≤ most) }
+        ensures makes_room { MakesRoom REUSES
+            (content self.old) additional (IsOk result) (content self.new) }
         ensures err { IfErr result (RefusesCapacity (used (content self.old) + additional)) }
-        ensures keeps { Keeps (content self.old) (content self.new) }
-
-        // With room for so many nothing is asked for.
-        ensures succeeds { additional ≤ (content self.old).room → IsOk result }
-        ensures had_room { additional ≤ (content self.old).room →
-            content self.new ≡ content self.old }
         ensures reuses { REUSES ≡ true →
-            additional ≤ map.len (content self.old).next → IsOk result }
-
-        ensures valid { IsContent REUSES (content self.new) };
+            additional ≤ map.len (content self.old).next → IsOk result };
 
     /// The same as `reserve`.
     fn try_reserve(&mut self, additional: usize) -> Result<(), ReserveError>
-        ensures room { OnOk result (additional ≤ (content self.new).room) }
-        ensures capacity { OnOk result
-            (map.len (content self.old).live + additional ≤ (content self.new).capacity) }
-        ensures fits { OnOk result (used (content self.old) + additional ≤ most) }
+        ensures makes_room { MakesRoom REUSES
+            (content self.old) additional (IsOk result) (content self.new) }
         ensures err { IfErr result (RefusesCapacity (used (content self.old) + additional)) }
-        ensures keeps { Keeps (content self.old) (content self.new) }
-
-        // With room for so many nothing is asked for.
-        ensures succeeds { additional ≤ (content self.old).room → IsOk result }
-        ensures had_room { additional ≤ (content self.old).room →
-            content self.new ≡ content self.old }
         ensures reuses { REUSES ≡ true →
-            additional ≤ map.len (content self.old).next → IsOk result }
-
-        ensures valid { IsContent REUSES (content self.new) };
+            additional ≤ map.len (content self.old).next → IsOk result };
 
     /// Calls the closure once at each live key and its value, which stay where it answers true, with
     /// what it wrote to the value. At most linear in the number of places. Takes no memory.
@@ -186,12 +185,13 @@ pub trait Primary<K: Key, V>: Sized {
     where
         F: Drop,
         V: Drop,
-        requires { F.IsAlwaysCallable f }
+        // At each entry, as calls at other entries leave the closure.
+        requires { CallableOnEach F.FnMut K.data_of f (content self.old).live }
 
         ensures retained { RetainsBy F.FnMut K.data_of f
             (content self.old).live (content self.new).live }
         ensures leaves { Leaves (content self.old) (content self.new) }
-        ensures valid { IsContent REUSES (content self.new) };
+        ensures valid { StaysValid REUSES (content self.old) (content self.new) };
 
     /// Removes every live key, and drops its value. At most linear in the number of places. Takes no
     /// memory.
@@ -200,28 +200,29 @@ pub trait Primary<K: Key, V>: Sized {
         V: Drop,
         ensures empty { (content self.new).live ≡ map.empty }
         ensures leaves { Leaves (content self.old) (content self.new) }
-        ensures valid { IsContent REUSES (content self.new) };
+        ensures valid { StaysValid REUSES (content self.old) (content self.new) };
 
     /// Appends every live key and its value to `out`, and takes them out of the map. Room for all is
     /// asked for first; a refusal changes neither. At most linear in the number of places.
     fn drain_into(&mut self, out: &mut Vec<(K, V)>) -> Result<(), OutOfMemory>
-        ensures listed { OnOk result ((pairs : List (K × V))
+        ensures ok { OnOk result ((pairs : List (K × V))
             × (out.new.items ≡ out.old.items ++ pairs)
             × IsListing (content self.old).live (list_map (λ p. (K.data_of p.0, p.1)) pairs)) }
         ensures empty { OnOk result ((content self.new).live ≡ map.empty) }
         ensures leaves { OnOk result (Leaves (content self.old) (content self.new)) }
 
-        ensures err { OnErr result (out.new.items ≡ out.old.items) }
-        ensures unchanged { OnErr result (Keeps (content self.old) (content self.new)) }
-        ensures valid { IsContent REUSES (content self.new) };
+        ensures unchanged { OnErr result
+            ((content self.new ≡ content self.old) × (out.new.items ≡ out.old.items)) }
+        ensures valid { StaysValid REUSES (content self.old) (content self.new) };
 
     /// Appends every live key to `out`. Room for all is asked for first; a refusal changes nothing.
     /// At most linear in the number of places.
     fn keys_into(&self, out: &mut Vec<K>) -> Result<(), OutOfMemory>
-        ensures listed { OnOk result ((keys : List K)
+        ensures ok { OnOk result ((keys : List K)
             × (out.new.items ≡ out.old.items ++ keys)
             × IsKeyListing (content self.now).live (list_map K.data_of keys)) }
-        ensures err { OnErr result (out.new.items ≡ out.old.items) };
+        ensures unchanged { OnErr result (out.new.items ≡ out.old.items) }
+        ensures valid { IsContent REUSES (content self.now) };
 }
 
 /// A map whose keys can be detached: the value is out, the place is kept, and the key can be bound
@@ -231,10 +232,12 @@ pub trait Detaching<K: Key, V>: Primary<K, V> {
     /// where the key isn't live. Takes no memory.
     fn detach(&mut self, key: K) -> Option<V>
         ensures value { result ≡ map.get (Self.content self.old).live (K.data_of key) }
-        ensures some { IsSome result →
-            Detaches (Self.content self.old) (K.data_of key) (Self.content self.new) }
-        ensures none { result ≡ None → Keeps (Self.content self.old) (Self.content self.new) }
-        ensures valid { IsContent Self.REUSES (Self.content self.new) };
+        ensures detaches { OnSome result
+            (Detaches (Self.content self.old) (K.data_of key) (Self.content self.new)) }
+        ensures unchanged { IfNone result (Self.content self.new ≡ Self.content self.old) }
+        ensures live { (Self.content self.new).live
+            ≡ map.remove (Self.content self.old).live (K.data_of key) }
+        ensures valid { StaysValid Self.REUSES (Self.content self.old) (Self.content self.new) };
 
     /// Binds a detached key to a value again.
     ///
@@ -245,8 +248,8 @@ pub trait Detaching<K: Key, V>: Primary<K, V> {
             (Reattaches (Self.content self.old) (K.data_of key) value (Self.content self.new)) }
         ensures err { IfErr result (λ error.
             RefusesReattach Self.REUSES (Self.content self.old) (K.data_of key) value error) }
-        ensures unchanged { OnErr result (Keeps (Self.content self.old) (Self.content self.new)) }
-        ensures valid { IsContent Self.REUSES (Self.content self.new) };
+        ensures valid { MayGrow Self.REUSES
+            (Self.content self.old) (IsErr result) (Self.content self.new) };
 
     ghost last_freed_first: { Self.STACKED ≡ true };
 }

@@ -1,6 +1,6 @@
 -- What the calls of a map promise is a step of the machine.
-use Rattle.std.proofs.Common.{◌≡◌, ℕ, ◌+◌, ◌<◌, ◌≤◌, List, [], ◌∷◌, ◌++◌, Vec, Global, Result, Ok, Err, IfOk, OnOk, IfErr, OnErr, Option, Some, None, Bool, true, false, cond, inl, inr, refl, sym, ap, ◌∙◌, subst, arith, is_some, is_ok}
-use Rattle.std.specs.Prelude.{map as list_map, MatchOption, IsSomeAnd, option_copied}
+use Rattle.std.proofs.Common.{◌≡◌, ℕ, ◌+◌, ◌<◌, ◌≤◌, List, [], ◌∷◌, ◌++◌, Vec, Global, Result, Ok, Err, IfOk, OnOk, IfErr, OnErr, IsErr, IsOk, Option, Some, None, Bool, false, cond, inl, inr, refl, sym, ap, ◌∙◌, subst, arith, is_some}
+use Rattle.std.specs.Prelude.{map as list_map, MatchOption, IsSomeAnd, OnSome, IfNone, option_copied}
 use Rattle.std.specs.Fn.{Mut}
 use Rattle.std.specs.Borrow.{Bor, MutBor}
 use Rattle.std.specs.FinMap as map
@@ -9,7 +9,8 @@ use Rattle.std.proofs.lemmas.Bool.{cases_lt}
 use Rattle.slotmap_core.specs.Key.{Key, key_cmp}
 use Rattle.slotmap_core.specs.Content.{Content, IsContent, used, most}
 use Rattle.slotmap_core.specs.Listing.{IsListing, IsKeyListing}
-use Rattle.slotmap_core.specs.Transition.{Inserts, Keeps, Removes, Replaces, Leaves, Detaches, Reattaches}
+use Rattle.slotmap_core.specs.Transition.{Inserts, Keeps, Removes, Replaces, Leaves, Detaches, Reattaches, with_value}
+use Rattle.slotmap_core.specs.Call.{MayGrow, MakesRoom}
 use Rattle.slotmap_core.specs.Refusal.{LacksRoom, Refuses, RefusesWith, RefusesCapacity, RefusesReattach}
 use Rattle.slotmap_core.specs.Retain.{Visit, seen, CallsAt, RetainsBy}
 use Rattle.slotmap_core.specs.Given.{Given}
@@ -45,6 +46,12 @@ use Rattle.slotmap_run.proofs.Orders.{lifo_inserts, lifo_keeps, lifo_removes, li
 
 pub keeps_itself : {V : Type 0} (c : Content V) → Keeps c c
 keeps_itself c = record { live = refl; detached = refl; retired = refl; next = refl; offer = refl; stack = refl; room = omega arith }
+
+pub keeps_same : {V : Type 0} (old new : Content V) → new ≡ old → Keeps old new
+keeps_same old new same = subst (Keeps old) (sym same) (keeps_itself old)
+
+replaces_with : {V : Type 0} (old new : Content V) (k : Key) (v : V) → new ≡ with_value old k v → Replaces old k v new
+replaces_with old new k v put = subst (Replaces old k v) (sym put) (record { live = refl; detached = refl; retired = refl; next = refl; offer = refl; stack = refl; room = omega arith })
 
 module _ {K V R E : Type 0} (given : Given K V R E) (old new : Content V) (ok : IsContent given.reuses old) where
   abbrev Answers : Command K V → Reply K V R E → Type 0
@@ -108,22 +115,22 @@ module _ {K V R E : Type 0} (given : Given K V R E) (old new : Content V) (ok : 
   with_no_memory r keeps = other command.InsertWith (reply.Memory None) (λ b. b) (stays_by (Step given) command.InsertWith (reply.Memory None) keeps (λ s fits. (may_lack r s fits, refl, refl)))
 
   -- whatever an insert answers
-  pub inserted : IsContent given.reuses new → (v : V) (r : Result K (InsertError V)) → IfOk r (λ key. Inserts old (given.data_of key) v new) → IfErr r (Refuses old v) → OnErr r (Keeps old new) → Answers (command.Insert v) (insert_reply_of r)
-  inserted new_ok v (Ok key) ok err keeps = inserts new_ok key v ok
-  inserted new_ok v (Err (Full back)) ok err keeps = full v back err keeps
-  inserted new_ok v (Err (Memory back)) ok err keeps = no_memory v back err keeps
+  pub inserted : (v : V) (r : Result K (InsertError V)) → MayGrow given.reuses old (IsErr r) new → IfOk r (λ key. Inserts old (given.data_of key) v new) → IfErr r (Refuses old v) → Answers (command.Insert v) (insert_reply_of r)
+  inserted v (Ok key) valid ok err = inserts valid.after key v ok
+  inserted v (Err (Full back)) valid ok err = full v back err (valid.unchanged refl)
+  inserted v (Err (Memory back)) valid ok err = no_memory v back err (valid.unchanged refl)
 
   with_failed : (e : E) → (used old < most) × ((k : K) × (given.data_of k ≡ old.offer) × given.makes k (Err e)) → Keeps old new → Answers command.InsertWith (reply.Failed e)
   with_failed e r keeps = other command.InsertWith (reply.Failed e) (λ b. b) (stays_by (Step given) command.InsertWith (reply.Failed e) keeps
       (λ s fits. (below given.reuses s old new ok fits r.0, (r.1.0, rw r.1.1 (offer_fresh given.reuses s old new ok fits r.0), r.1.2), refl)))
 
   -- whatever an insert of what `make` gives answers
-  pub inserted_with : IsContent given.reuses new → (r : Result K (TryInsertError E))
-      → IfOk r (λ key. (v : V) × given.makes key (Ok v) × Inserts old (given.data_of key) v new) → IfErr r (RefusesWith given.data_of given.makes old) → OnErr r (Keeps old new) → Answers command.InsertWith (insert_with_reply_of r)
-  inserted_with new_ok (Ok key) ok err keeps = inserts_with new_ok key ok.0 ok.1 ok.2
-  inserted_with new_ok (Err with_key.Full) ok err keeps = with_full err keeps
-  inserted_with new_ok (Err with_key.Memory) ok err keeps = with_no_memory err keeps
-  inserted_with new_ok (Err (with_key.Closure e)) ok err keeps = with_failed e err keeps
+  pub inserted_with : (r : Result K (TryInsertError E)) → MayGrow given.reuses old (IsErr r) new
+      → IfOk r (λ key. (v : V) × given.makes key (Ok v) × Inserts old (given.data_of key) v new) → IfErr r (RefusesWith given.data_of given.makes old) → Answers command.InsertWith (insert_with_reply_of r)
+  inserted_with (Ok key) valid ok err = inserts_with valid.after key ok.0 ok.1 ok.2
+  inserted_with (Err with_key.Full) valid ok err = with_full err (valid.unchanged refl)
+  inserted_with (Err with_key.Memory) valid ok err = with_no_memory err (valid.unchanged refl)
+  inserted_with (Err (with_key.Closure e)) valid ok err = with_failed e err (valid.unchanged refl)
 
   looks : (key : K) (v : V) (r : R) → Keeps old new → Some v ≡ map.get old.live (given.data_of key) → given.looks v r → Answers (command.Get key) (reply.Looked (Some r))
   looks key v r keeps found seen = stays (command.Get key) (reply.Looked (Some r)) (λ b. b) keeps (λ s live same. ((v, rw live (sym found), seen), refl))
@@ -144,25 +151,25 @@ module _ {K V R E : Type 0} (given : Given K V R E) (old new : Content V) (ok : 
   pub counts : (n : ℕ) → Keeps old new → n ≡ map.len old.live → Answers command.Len (reply.Len n)
   counts n keeps is = stays command.Len (reply.Len n) (λ b. b) keeps (λ s live same. (rw live is, refl))
 
-  pub replaced : (key : K) (v : V) (r : Result V V) → IfOk r (λ before. map.get old.live (given.data_of key) ≡ Some before) → OnOk r (Replaces old (given.data_of key) v new)
-      → IfErr r (λ back. map.contains_key old.live (given.data_of key) ≡ false × back ≡ v) → OnErr r (Keeps old new) → Answers (command.Replace key v) (reply.Put r)
-  replaced key v (Ok before) found changes none keeps = other (command.Replace key v) (reply.Put (Ok before)) (λ b. b) (record {
+  pub replaced : (key : K) (v : V) (r : Result V V) → IfOk r (λ before. map.get old.live (given.data_of key) ≡ Some before) → OnOk r (new ≡ with_value old (given.data_of key) v)
+      → IfErr r (λ back. map.contains_key old.live (given.data_of key) ≡ false × back ≡ v) → OnErr r (new ≡ old) → Answers (command.Replace key v) (reply.Put r)
+  replaced key v (Ok before) found put none same = let changes = replaces_with old new (given.data_of key) v put in other (command.Replace key v) (reply.Put (Ok before)) (λ b. b) (record {
     step = λ s fits. (after_replace s (given.data_of key) v, (rw fits.live found, refl), replaces_fits given.reuses s old new ok fits (given.data_of key) v (ap is_some found) changes);
     lasts = λ n lasts. replaces_lasts given.reuses old new n ok lasts (given.data_of key) v (ap is_some found) changes;
   })
-  replaced key v (Err back) found changes none keeps = stays (command.Replace key v) (reply.Put (Err back)) (λ b. b) keeps (λ s live _. (rw live (none_of _ none.0), none.1, refl))
+  replaced key v (Err back) found put none same = stays (command.Replace key v) (reply.Put (Err back)) (λ b. b) (keeps_same old new same) (λ s live _. (rw live (none_of _ none.0), none.1, refl))
 
-  pub removed : (key : K) (taken : Option V) → taken ≡ map.get old.live (given.data_of key) → (is_some taken ≡ true → Removes old (given.data_of key) new) → (taken ≡ None → Keeps old new) → Answers (command.Remove key) (reply.Taken taken)
+  pub removed : (key : K) (taken : Option V) → taken ≡ map.get old.live (given.data_of key) → OnSome taken (Removes old (given.data_of key) new) → IfNone taken (new ≡ old) → Answers (command.Remove key) (reply.Taken taken)
   removed key (Some v) is some none = record {
     follows = record {
-      step = λ s fits. (after_remove s (given.data_of key), (rw fits.live (sym is), refl), removes_fits given.reuses s old new ok fits (given.data_of key) (ap is_some (sym is)) (some refl));
-      lasts = λ n lasts. removes_lasts given.reuses old new n ok lasts (given.data_of key) (ap is_some (sym is)) (some refl);
+      step = λ s fits. (after_remove s (given.data_of key), (rw fits.live (sym is), refl), removes_fits given.reuses s old new ok fits (given.data_of key) (ap is_some (sym is)) some);
+      lasts = λ n lasts. removes_lasts given.reuses old new n ok lasts (given.data_of key) (ap is_some (sym is)) some;
     };
-    orders = λ l lifo basic told. (refl, lifo_removes given.reuses old new ok l lifo (given.data_of key) (ap is_some (sym is)) (some refl));
+    orders = λ l lifo basic told. (refl, lifo_removes given.reuses old new ok l lifo (given.data_of key) (ap is_some (sym is)) some);
   }
   removed key None is some none = record {
-    follows = stays_by (Step given) (command.Remove key) (reply.Taken None) (none refl) (λ s fits. (rw fits.live (sym is), refl));
-    orders = λ l lifo basic told. (refl, rw (lifo.live (given.data_of key) ∙ ap is_some (sym is)) (lifo_keeps given.reuses old new ok l lifo (none refl)));
+    follows = stays_by (Step given) (command.Remove key) (reply.Taken None) (keeps_same old new none) (λ s fits. (rw fits.live (sym is), refl));
+    orders = λ l lifo basic told. (refl, rw (lifo.live (given.data_of key) ∙ ap is_some (sym is)) (lifo_keeps given.reuses old new ok l lifo (keeps_same old new none)));
   }
 
   reserves : (m : ℕ) → used old + m ≤ most → m ≤ new.room → Keeps old new → Answers (command.Reserve m) reply.Done
@@ -186,10 +193,10 @@ module _ {K V R E : Type 0} (given : Given K V R E) (old new : Content V) (ok : 
   )))
 
   -- whatever a reserve answers
-  pub reserved : (m : ℕ) (r : Result (Unit {0}) ReserveError) → OnOk r (m ≤ new.room) → OnOk r (used old + m ≤ most) → IfErr r (RefusesCapacity (used old + m)) → Keeps old new → (m ≤ old.room → is_ok r ≡ true) → Answers (command.Reserve m) (reserve_reply_of r)
-  reserved m (Ok done) room fits err keeps succeeds = reserves m fits room keeps
-  reserved m (Err capacity.TooGreat) room fits err keeps succeeds = too_great m err keeps
-  reserved m (Err capacity.Memory) room fits err keeps succeeds = elim (cases_lt old.room m) [ inl lacks ↦ reserves_no_memory m err lacks keeps | inr room ↦ let done = succeeds room in absurd (cc) ]
+  pub reserved : (m : ℕ) (r : Result (Unit {0}) ReserveError) → MakesRoom given.reuses old m (IsOk r) new → IfErr r (RefusesCapacity (used old + m)) → Answers (command.Reserve m) (reserve_reply_of r)
+  reserved m (Ok done) made err = reserves m (made.fits refl) (made.room refl) made.keeps
+  reserved m (Err capacity.TooGreat) made err = too_great m err made.keeps
+  reserved m (Err capacity.Memory) made err = elim (cases_lt old.room m) [ inl lacks ↦ reserves_no_memory m err lacks made.keeps | inr room ↦ let done = made.succeeds room in absurd (cc) ]
 
   -- some keys leave, and nothing else of the state changes
   leaves : (c : Command K V) (r : Reply K V R E) → (IsBasic (detaching.Plain c) → ⊥) → Leaves old new → ((s : State V) → s.live ≡ old.live → Step given s c r (record s { live = new.live })) → Answers c r
@@ -203,12 +210,12 @@ module _ {K V R E : Type 0} (given : Given K V R E) (old new : Content V) (ok : 
 
   -- whatever a drain into a new vector answers
   pub drained : (done : Result (Unit {0}) OutOfMemory) (first out : Vec (K × V) Global) (r : Reply K V R E) → first.items ≡ [] → OnOk done (r ≡ reply.Drained out) → OnErr done (r ≡ reply.Memory None)
-      → OnOk done ((pairs : List (K × V)) × (out.items ≡ first.items ++ pairs) × IsListing old.live (list_map (λ p. (given.data_of p.0, p.1)) pairs)) → OnOk done (new.live ≡ map.empty) → OnOk done (Leaves old new) → OnErr done (Keeps old new)
+      → OnOk done ((pairs : List (K × V)) × (out.items ≡ first.items ++ pairs) × IsListing old.live (list_map (λ p. (given.data_of p.0, p.1)) pairs)) → OnOk done (new.live ≡ map.empty) → OnOk done (Leaves old new) → OnErr done ((new ≡ old) × (out.items ≡ first.items))
       → Answers command.Drain r
-  drained (Ok done) first out r none told refusal all empty l keeps =
+  drained (Ok done) first out r none told refusal all empty l unchanged =
       let is : out.items ≡ all.0 = all.1 ∙ ap (λ front. front ++ all.0) none in
       rw told (leaves command.Drain (reply.Drained out) (λ b. b) l (λ s live. (rw (is, live) all.2, ap (λ (m : map.FinMap key_cmp V). record s { live = m }) empty)))
-  drained (Err e) first out r none told refusal all empty l keeps = rw refusal (stays command.Drain (reply.Memory None) (λ b. b) keeps (λ s live same. (refl, refl)))
+  drained (Err e) first out r none told refusal all empty l unchanged = rw refusal (stays command.Drain (reply.Memory None) (λ b. b) (keeps_same old new unchanged.0) (λ s live same. (refl, refl)))
 
   -- whatever listing the keys in a new vector answers
   pub listed : (done : Result (Unit {0}) OutOfMemory) (first out : Vec K Global) (r : Reply K V R E) → first.items ≡ [] → OnOk done (r ≡ reply.Keys out) → OnErr done (r ≡ reply.Memory None)
@@ -235,17 +242,17 @@ module _ {K V R E : Type 0} (given : Given K V R E) (old new : Content V) (ok : 
   pub plain : (c : Command K V) (r : Reply K V R E) → Answers c r → DetachAnswers (detaching.Plain c) r
   plain c r f = record { follows = record { step = f.follows.step; lasts = f.follows.lasts }; orders = f.orders }
 
-  pub detached : (key : K) (taken : Option V) → taken ≡ map.get old.live (given.data_of key) → (is_some taken ≡ true → Detaches old (given.data_of key) new) → (taken ≡ None → Keeps old new) → DetachAnswers (detaching.Detach key) (reply.Taken taken)
+  pub detached : (key : K) (taken : Option V) → taken ≡ map.get old.live (given.data_of key) → OnSome taken (Detaches old (given.data_of key) new) → IfNone taken (new ≡ old) → DetachAnswers (detaching.Detach key) (reply.Taken taken)
   detached key (Some v) is some none = record {
     follows = record {
-      step = λ s fits. (after_detach s (given.data_of key), (rw fits.live (sym is), refl), detaches_fits given.reuses s old new ok fits (given.data_of key) (ap is_some (sym is)) (some refl));
-      lasts = λ n lasts. detaches_lasts given.reuses old new n ok lasts (given.data_of key) (ap is_some (sym is)) (some refl);
+      step = λ s fits. (after_detach s (given.data_of key), (rw fits.live (sym is), refl), detaches_fits given.reuses s old new ok fits (given.data_of key) (ap is_some (sym is)) some);
+      lasts = λ n lasts. detaches_lasts given.reuses old new n ok lasts (given.data_of key) (ap is_some (sym is)) some;
     };
-    orders = λ l lifo basic told. (refl, lifo_detaches given.reuses old new ok l lifo (given.data_of key) (ap is_some (sym is)) (some refl));
+    orders = λ l lifo basic told. (refl, lifo_detaches given.reuses old new ok l lifo (given.data_of key) (ap is_some (sym is)) some);
   }
   detached key None is some none = record {
-    follows = stays_by (DetachStep given) (detaching.Detach key) (reply.Taken None) (none refl) (λ s fits. (rw fits.live (sym is), refl));
-    orders = λ l lifo basic told. (refl, rw (lifo.live (given.data_of key) ∙ ap is_some (sym is)) (lifo_keeps given.reuses old new ok l lifo (none refl)));
+    follows = stays_by (DetachStep given) (detaching.Detach key) (reply.Taken None) (keeps_same old new none) (λ s fits. (rw fits.live (sym is), refl));
+    orders = λ l lifo basic told. (refl, rw (lifo.live (given.data_of key) ∙ ap is_some (sym is)) (lifo_keeps given.reuses old new ok l lifo (keeps_same old new none)));
   }
 
   reattaches : (key : K) (v : V) → Reattaches old (given.data_of key) v new → DetachAnswers (detaching.Reattach key v) reply.Done
@@ -271,8 +278,8 @@ module _ {K V R E : Type 0} (given : Given K V R E) (old new : Content V) (ok : 
   }
 
   -- whatever a reattach answers
-  pub reattached : (key : K) (v : V) (r : Result (Unit {0}) (ReattachError V)) → OnOk r (Reattaches old (given.data_of key) v new) → IfErr r (RefusesReattach given.reuses old (given.data_of key) v) → OnErr r (Keeps old new)
+  pub reattached : (key : K) (v : V) (r : Result (Unit {0}) (ReattachError V)) → OnOk r (Reattaches old (given.data_of key) v new) → IfErr r (RefusesReattach given.reuses old (given.data_of key) v) → MayGrow given.reuses old (IsErr r) new
       → DetachAnswers (detaching.Reattach key v) (reattach_reply_of r)
-  reattached key v (Ok done) ok err keeps = reattaches key v ok
-  reattached key v (Err (again.NotDetached back)) ok err keeps = not_detached key v back err keeps
-  reattached key v (Err (again.Memory back)) ok err keeps = reattaches_no_memory key v back err keeps
+  reattached key v (Ok done) ok err valid = reattaches key v ok
+  reattached key v (Err (again.NotDetached back)) ok err valid = not_detached key v back err (valid.unchanged refl)
+  reattached key v (Err (again.Memory back)) ok err valid = reattaches_no_memory key v back err (valid.unchanged refl)

@@ -1,9 +1,10 @@
 //! Runs of commands on the maps that hand out their keys.
 
-ghost use Rattle.std.specs.Prelude.{◌≡◌, ◌^◌, ◌<◌, length, Ok, IfOk, IfErr, OnErr};
+ghost use Rattle.std.specs.Prelude.{◌≡◌, ◌^◌, ◌<◌, length, Ok, IfOk, IfErr, OnErr, IsErr};
 ghost use Rattle.std.specs.Fn.{FnReturns};
 ghost use Rattle.slotmap_core.specs.Content.{IsContent};
-ghost use Rattle.slotmap_core.specs.Transition.{Inserts, Keeps};
+ghost use Rattle.slotmap_core.specs.Transition.{Inserts};
+ghost use Rattle.slotmap_core.specs.Call.{MayGrow};
 ghost use Rattle.slotmap_core.specs.Refusal.{RefusesWith};
 ghost use Rattle.slotmap_core.specs.Given.{given, any_closures};
 ghost use Rattle.slotmap_core.specs.Step.{Step};
@@ -34,8 +35,7 @@ where
         × Inserts (M.content map.old) (K.data_of key) v (M.content map.new)) }
     ensures err { IfErr result (RefusesWith K.data_of
         (λ key made. FnReturns N.Fn make.now (key, tt) made) (M.content map.old)) }
-    ensures unchanged { OnErr result (Keeps (M.content map.old) (M.content map.new)) }
-    ensures valid { IsContent M.REUSES (M.content map.new) }
+    ensures valid { MayGrow M.REUSES (M.content map.old) (IsErr result) (M.content map.new) }
 {
     map.try_insert_with_key(|key| make(key))
 }

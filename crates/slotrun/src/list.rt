@@ -5,6 +5,8 @@ use slotmap_basic::SlotMap;
 use slotmap_core::errors::{JsonError, OutOfMemory, SlotsError};
 use slotmap_core::keys::DefaultKey;
 use slotmap_core::serial::{SlotRecord, slots_from_value};
+use slotmap_dense::DenseSlotMap;
+use slotmap_hop::HopSlotMap;
 use std::alloc::Global;
 use std::io;
 use std::io::Write;
@@ -25,6 +27,26 @@ impl Listed for SlotMap<DefaultKey, i32> {
 
     fn from_slots(alloc: Global, list: Vec<SlotRecord<i32>>) -> Result<Self, SlotsError> {
         SlotMap::from_slots(alloc, list)
+    }
+}
+
+impl Listed for DenseSlotMap<DefaultKey, i32> {
+    fn to_slots(&self) -> Result<Vec<SlotRecord<i32>>, OutOfMemory> {
+        DenseSlotMap::to_slots(self)
+    }
+
+    fn from_slots(alloc: Global, list: Vec<SlotRecord<i32>>) -> Result<Self, SlotsError> {
+        DenseSlotMap::from_slots(alloc, list)
+    }
+}
+
+impl Listed for HopSlotMap<DefaultKey, i32> {
+    fn to_slots(&self) -> Result<Vec<SlotRecord<i32>>, OutOfMemory> {
+        HopSlotMap::to_slots(self)
+    }
+
+    fn from_slots(alloc: Global, list: Vec<SlotRecord<i32>>) -> Result<Self, SlotsError> {
+        HopSlotMap::from_slots(alloc, list)
     }
 }
 

@@ -9,15 +9,18 @@ use std::io::Write;
 /// A reply to a line.
 pub type LineReply = Reply<DefaultKey, i32, i32, OutOfMemory>;
 
-/// Writes a reply as a line of its own.
-pub fn write_reply(output: &mut impl Write, reply: &LineReply) -> io::Result<()> {
+/// Writes a reply as a line of its own; keys by ascending index, which `reply` has from then on.
+pub fn write_reply(output: &mut impl Write, reply: &mut LineReply) -> io::Result<()> {
     match reply {
         Reply::Key(key) => writeln!(output, "key {}", key.data().as_ffi()),
         Reply::Full(_) => writeln!(output, "full"),
         Reply::Memory(_) => writeln!(output, "memory"),
         Reply::Looked(found) | Reply::Taken(found) => write_found(output, *found),
         Reply::Done => writeln!(output, "done"),
-        Reply::Keys(keys) => write_keys(output, keys),
+        Reply::Keys(keys) => {
+            keys.sort_unstable();
+            write_keys(output, keys)
+        }
         Reply::Len(len) => writeln!(output, "len {len}"),
         Reply::NotDetached(_) => writeln!(output, "not detached"),
         // No line asks for these.

@@ -1,6 +1,6 @@
 //! The run of a script, from its words to its status.
 
-use crate::commands::{Commands, Detachable};
+use crate::commands::{Commands, Detachable, Plain};
 use crate::list::{Listed, load, write_slots};
 use crate::reply::write_reply;
 use crate::script::{End, Stretch, parse};
@@ -8,12 +8,14 @@ use crate::stop::Stop;
 use slotmap_basic::SlotMap;
 use slotmap_core::keys::DefaultKey;
 use slotmap_core::primary::Primary;
+use slotmap_dense::DenseSlotMap;
+use slotmap_hop::HopSlotMap;
 use std::alloc::Global;
 use std::io::{BufWriter, Read, Write};
 
 /// Runs the script of the input on the kind of map that the words name, and answers the status to end with.
 ///
-/// The one kind today is `basic`. Every line is looked at before the first is run. The status is 0 after a run, 2
+/// The kinds today are `basic`, `dense` and `hop`. Every line is looked at before the first is run. The status is 0 after a run, 2
 /// where the words or a line are wrong, and 3 where the script could not be read or the output written, or memory
 /// was refused. After a write that failed nothing more is written.
 pub fn run_script(
@@ -53,6 +55,8 @@ fn run_kind(
     };
     match kind.as_str() {
         "basic" => run_on::<SlotMap<DefaultKey, i32>, Detachable>(alloc, input, output),
+        "dense" => run_on::<DenseSlotMap<DefaultKey, i32>, Detachable>(alloc, input, output),
+        "hop" => run_on::<HopSlotMap<DefaultKey, i32>, Plain>(alloc, input, output),
         _ => Err(Stop::Usage),
     }
 }
@@ -107,8 +111,8 @@ where
     C: Commands<M>,
 {
     for stretch in stretches {
-        let replies = C::run(alloc, &mut map, stretch.commands).ok_or(Stop::NoScript)?;
-        for reply in &replies {
+        let mut replies = C::run(alloc, &mut map, stretch.commands).ok_or(Stop::NoScript)?;
+        for reply in &mut replies {
             write_reply(output, reply).map_err(|_| Stop::Output)?;
         }
         let written = match stretch.end {

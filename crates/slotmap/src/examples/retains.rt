@@ -1,6 +1,6 @@
 //! Calls of `retain`: by a closure that reads, one that writes, and one that counts.
 
-ghost use Rattle.std.specs.Prelude.{◌≡◌, ◌%◌, ◌==◌, ◌/◌, Some, None, min, if◌then◌else◌};
+ghost use Rattle.std.specs.Prelude.{◌≡◌, ◌<◌, ◌+◌, ◌%◌, ◌==◌, ◌/◌, ℕ, Some, None, min, if◌then◌else◌};
 ghost use Rattle.std.specs.Option.{option_and_then, option_map};
 ghost use Rattle.std.specs.FinMap as map;
 ghost use Rattle.slotmap.specs.Words.{Key as KeyOf, IsLive};
@@ -21,6 +21,17 @@ pub fn halve_all<K: Key>(store: &mut SlotMap<K, u64>)
 {
     store.retain(|_, value| {
         *value /= 2;
+        true
+    });
+}
+
+/// Adds one to each value, where all are small.
+pub fn raise_all<K: Key>(store: &mut SlotMap<K, u8>)
+    requires small { (k : KeyOf) (n : ℕ) → map.get store.old.live k ≡ Some n → n < 10 }
+    ensures { (k : KeyOf) → map.get store.new.live k ≡ option_map (λ n. n + 1) (map.get store.old.live k) }
+{
+    store.retain(|_, value| {
+        *value += 1;
         true
     });
 }

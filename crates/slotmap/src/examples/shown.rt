@@ -8,16 +8,28 @@ use serde_json::Value;
 use std::test::Fail;
 
 #[test]
-fn keys(rt: HostRuntime) {
+fn data_of_keys(rt: HostRuntime) {
     assert_eq!(rt; KeyData::new(2, 4), KeyData::new(2, 5));
     assert_eq!(rt; KeyData::new(4294967295, 9), KeyData::default());
+}
+
+#[test]
+fn keys_as_numbers(rt: HostRuntime) {
     assert_eq!(rt; KeyData::new(1, 3).as_ffi(), 12884901889);
     assert_eq!(rt; KeyData::default().as_ffi(), 8589934591);
     assert_eq!(rt; KeyData::from_ffi(12884901889), KeyData::new(1, 3));
     assert_eq!(rt; KeyData::from_ffi(17179869183), KeyData::default());
+}
+
+#[test]
+fn older_versions(rt: HostRuntime) {
     assert!(rt; is_older_version(1, 3));
     assert!(rt; is_older_version(4294967295, 0));
     assert!(rt; !is_older_version(3, 3));
+}
+
+#[test]
+fn keys(rt: HostRuntime) {
     assert!(rt; DefaultKey::null().is_null());
     assert!(rt; !DefaultKey::from(KeyData::new(1, 1)).is_null());
     let key = DefaultKey::from(KeyData::new(2, 3));
@@ -26,12 +38,16 @@ fn keys(rt: HostRuntime) {
 }
 
 #[test]
-fn key_types(rt: HostRuntime) -> Result<(), Fail> {
-    let alloc = rt.alloc();
-    let mut words = SlotMap::new(alloc)?;
+fn default_keys(rt: HostRuntime) -> Result<(), Fail> {
+    let mut words = SlotMap::new(rt.alloc())?;
     let key: DefaultKey = words.insert("hill")?;
     assert_eq!(rt; words[key], "hill");
-    let mut words = SlotMap::with_key(alloc)?;
+    Ok(())
+}
+
+#[test]
+fn keys_of_another_type(rt: HostRuntime) -> Result<(), Fail> {
+    let mut words = SlotMap::with_key(rt.alloc())?;
     let key: NodeKey = words.insert("hill")?;
     assert_eq!(rt; words[key], "hill");
     Ok(())
@@ -64,18 +80,27 @@ fn lists(rt: HostRuntime) {
 }
 
 #[test]
-fn json(rt: HostRuntime) -> Result<(), Fail> {
+fn json_of_a_key(rt: HostRuntime) -> Result<(), Fail> {
     let alloc = rt.alloc();
     let value = key_to_value(alloc, DefaultKey::from(KeyData::new(2, 3)))?;
     assert_eq!(rt;
         value.to_string(alloc)?.as_str(),
         "{\"idx\":2,\"version\":3}"
     );
+    Ok(())
+}
 
-    let value = Value::from_str(alloc, "{\"version\":4,\"idx\":0,\"x\":true}")?;
+#[test]
+fn a_key_of_json(rt: HostRuntime) -> Result<(), Fail> {
+    let value = Value::from_str(rt.alloc(), "{\"version\":4,\"idx\":0,\"x\":true}")?;
     let key: DefaultKey = key_from_value(&value)?;
     assert_eq!(rt; key.data(), KeyData::new(0, 5));
+    Ok(())
+}
 
+#[test]
+fn json_of_a_list(rt: HostRuntime) -> Result<(), Fail> {
+    let alloc = rt.alloc();
     let list = [
         SlotRecord {
             value: None,
@@ -89,7 +114,12 @@ fn json(rt: HostRuntime) -> Result<(), Fail> {
     let value = slots_to_value(alloc, &list, |value: &i32| Ok(Value::from(*value)))?;
     let text = "[{\"value\":null,\"version\":0},{\"value\":7,\"version\":1}]";
     assert_eq!(rt; value.to_string(alloc)?.as_str(), text);
+    Ok(())
+}
 
+#[test]
+fn a_list_of_json(rt: HostRuntime) -> Result<(), Fail> {
+    let alloc = rt.alloc();
     let value = Value::from_str(alloc, "[{\"version\":0},{\"value\":7,\"version\":1}]")?;
     let list = slots_from_value(alloc, &value, |value: &Value| {
         value.as_u64().ok_or(JsonError::Shape)

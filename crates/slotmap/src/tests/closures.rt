@@ -1,44 +1,49 @@
 //! How often calls call their closures.
 
 use super::tested::Calls;
-use crate::{DefaultKey, Key, SlotMap, TryInsertError};
+use crate::{DefaultKey, DenseSlotMap, HopSlotMap, Key, SlotMap, TryInsertError};
 use std::alloc::Global;
 use std::process::Abort;
 use std::test::Fail;
 
-fn hold_inserts<M: Calls>(rt: &impl Abort, alloc: Global) -> Result<(), Fail> {
+fn hold_insert<M: Calls>(rt: &impl Abort, alloc: Global) -> Result<(), Fail> {
     let mut map = M::with_key(alloc)?;
     let mut calls: u64 = 0;
-    let first = map.insert_with_key(|key| {
+    let made = map.insert_with_key(|key| {
         calls = calls.wrapping_add(1);
         key.data().as_ffi()
     })?;
     assert_eq!(rt; calls, 1);
-    assert_eq!(rt; map.get(first).copied(), Some(4294967297));
-    let second = map.try_insert_with_key(|key| {
-        calls = calls.wrapping_add(1);
-        Ok::<u64, u64>(key.data().as_ffi())
-    });
-    assert_eq!(rt; calls, 2);
-    assert_eq!(rt;
-        second.ok().and_then(|key| map.get(key).copied()),
-        Some(4294967298)
-    );
-    let mut shown: u64 = 0;
-    let refused = map.try_insert_with_key(|key| {
-        calls = calls.wrapping_add(1);
-        shown = key.data().as_ffi();
-        Err::<u64, u64>(9)
-    });
-    assert!(rt; matches!(refused, Err(TryInsertError::Closure(9))));
-    assert_eq!(rt; calls, 3);
-    assert_eq!(rt; shown, 4294967299);
+    assert_eq!(rt; map.get(made).copied(), Some(4294967297));
     Ok(())
 }
 
-#[test]
-fn an_insert_calls_its_closure_once(rt: HostRuntime) -> Result<(), Fail> {
-    hold_inserts::<SlotMap<DefaultKey, u64>>(&rt, rt.alloc())
+fn hold_try_insert<M: Calls>(rt: &impl Abort, alloc: Global) -> Result<(), Fail> {
+    let mut map = M::with_key(alloc)?;
+    let mut calls: u64 = 0;
+    map.insert(5)?;
+    let made = map.try_insert_with_key(|key| {
+        calls = calls.wrapping_add(1);
+        Ok::<u64, u64>(key.data().as_ffi())
+    });
+    assert_eq!(rt; calls, 1);
+    let value = made.ok().and_then(|key| map.get(key).copied());
+    assert_eq!(rt; value, Some(4294967298));
+    Ok(())
+}
+
+fn hold_refused_insert<M: Calls>(rt: &impl Abort, alloc: Global) -> Result<(), Fail> {
+    let mut map = M::with_key(alloc)?;
+    let mut shown = None;
+    let mut calls: u64 = 0;
+    let refused = map.try_insert_with_key(|key| {
+        calls = calls.wrapping_add(1);
+        shown = Some(key.data().as_ffi());
+        Err::<u64, u64>(9)
+    });
+    assert!(rt; matches!(refused, Err(TryInsertError::Closure(9))));
+    assert_eq!(rt; (calls, shown), (1, Some(4294967297)));
+    Ok(())
 }
 
 fn hold_retain<M: Calls>(rt: &impl Abort, alloc: Global) -> Result<(), Fail> {
@@ -68,7 +73,24 @@ fn hold_retain<M: Calls>(rt: &impl Abort, alloc: Global) -> Result<(), Fail> {
     Ok(())
 }
 
+fn hold<M: Calls>(rt: &impl Abort, alloc: Global) -> Result<(), Fail> {
+    hold_insert::<M>(rt, alloc)?;
+    hold_try_insert::<M>(rt, alloc)?;
+    hold_refused_insert::<M>(rt, alloc)?;
+    hold_retain::<M>(rt, alloc)
+}
+
 #[test]
-fn retain_calls_its_closure_once_a_pair(rt: HostRuntime) -> Result<(), Fail> {
-    hold_retain::<SlotMap<DefaultKey, u64>>(&rt, rt.alloc())
+fn slot_map_calls_each_closure_once(rt: HostRuntime) -> Result<(), Fail> {
+    hold::<SlotMap<DefaultKey, u64>>(&rt, rt.alloc())
+}
+
+#[test]
+fn dense_slot_map_calls_each_closure_once(rt: HostRuntime) -> Result<(), Fail> {
+    hold::<DenseSlotMap<DefaultKey, u64>>(&rt, rt.alloc())
+}
+
+#[test]
+fn hop_slot_map_calls_each_closure_once(rt: HostRuntime) -> Result<(), Fail> {
+    hold::<HopSlotMap<DefaultKey, u64>>(&rt, rt.alloc())
 }

@@ -1,7 +1,7 @@
 //! When values are dropped: each once, by the call that takes it out of the map.
 
 use super::tested::Tested;
-use crate::{DefaultKey, SlotMap, SlotRecord, SlotsError};
+use crate::{DefaultKey, DenseSlotMap, HopSlotMap, SlotMap, SlotRecord, SlotsError};
 use std::alloc::{AllocError, Global};
 use std::cell::Cell;
 use std::process::Abort;
@@ -77,6 +77,7 @@ where
     Ok(map)
 }
 
+// Makes the deed, where it takes a key or a closure.
 fn act<'a, M>(alloc: Global, drops: &'a Cell<u32>, map: &mut M, deed: Deed) -> Result<(), Fail>
 where
     M: Tested<Counted<'a>>,
@@ -85,8 +86,6 @@ where
     map.keys_into(&mut keys)?;
     let first = *keys.first().ok_or("no key is live")?;
     match deed {
-        Deed::Nothing => {}
-        Deed::Clear => map.clear(),
         Deed::RetainTwo => {
             let mut calls: u32 = 0;
             map.retain(|_, _| {
@@ -107,6 +106,23 @@ where
             map.replace(DefaultKey::default(), Counted { drops })
                 .is_ok();
         }
+        deed => act_on_all(alloc, drops, map, deed)?,
+    }
+    Ok(())
+}
+
+// Makes the deed, where it takes the map as a whole.
+fn act_on_all<'a, M>(
+    alloc: Global,
+    drops: &'a Cell<u32>,
+    map: &mut M,
+    deed: Deed,
+) -> Result<(), Fail>
+where
+    M: Tested<Counted<'a>>,
+{
+    match deed {
+        Deed::Clear => map.clear(),
         Deed::Drain(steps) => {
             map.drain_some(alloc, steps)?;
         }
@@ -117,14 +133,31 @@ where
         Deed::Take(steps) => {
             map.copy()?.take_some(alloc, steps)?;
         }
-        Deed::CloneFromThree => {
-            let three = filled::<M>(alloc, drops, 3)?;
-            map.copy_from(&three)?;
-        }
+        Deed::CloneFromThree => map.copy_from(&filled::<M>(alloc, drops, 3)?)?,
         Deed::ToSlots => {
             map.list()?;
         }
+        _ => {}
     }
+    Ok(())
+}
+
+fn hold_deed<'a, M>(
+    rt: &impl Abort,
+    alloc: Global,
+    drops: &'a Cell<u32>,
+    row: (Deed, u32, u32),
+) -> Result<(), Fail>
+where
+    M: Tested<Counted<'a>>,
+{
+    let (deed, after, in_the_end) = row;
+    drops.set(0);
+    let mut map = filled::<M>(alloc, drops, 5)?;
+    act(alloc, drops, &mut map, deed)?;
+    assert_eq!(rt; drops.get(), after, "after {deed:?}");
+    drop(map);
+    assert_eq!(rt; drops.get(), in_the_end, "in the end, {deed:?}");
     Ok(())
 }
 
@@ -132,13 +165,8 @@ fn hold_deeds<'a, M>(rt: &impl Abort, alloc: Global, drops: &'a Cell<u32>) -> Re
 where
     M: Tested<Counted<'a>>,
 {
-    for (deed, after, in_the_end) in DEEDS {
-        drops.set(0);
-        let mut map = filled::<M>(alloc, drops, 5)?;
-        act(alloc, drops, &mut map, deed)?;
-        assert_eq!(rt; drops.get(), after, "after {deed:?}");
-        drop(map);
-        assert_eq!(rt; drops.get(), in_the_end, "in the end, {deed:?}");
+    for row in DEEDS {
+        hold_deed::<M>(rt, alloc, drops, row)?;
     }
     Ok(())
 }
@@ -152,6 +180,7 @@ fn hold_refused_list<'a, M>(
 where
     M: Tested<Counted<'a>>,
 {
+    drops.set(0);
     let mut list = Vec::new(alloc);
     for version in [0, 1, 2, 1] {
         let value = if version == 0 {
@@ -159,9 +188,8 @@ where
         } else {
             Some(Counted { drops })
         };
-        list.push(SlotRecord { value, version })
-            .ok()
-            .ok_or("a slot was refused")?;
+        let pushed = list.push(SlotRecord { value, version });
+        pushed.ok().ok_or("a slot was refused")?;
     }
     let read = M::of_list(alloc, list);
     assert!(rt; matches!(read, Err(SlotsError::Inconsistent(2))));
@@ -169,14 +197,25 @@ where
     Ok(())
 }
 
-#[test]
-fn a_refused_list_is_dropped(rt: HostRuntime) -> Result<(), Fail> {
-    let drops = Cell::new(0);
-    hold_refused_list::<SlotMap<DefaultKey, Counted>>(&rt, rt.alloc(), &drops)
+fn hold<'a, M>(rt: &impl Abort, alloc: Global, drops: &'a Cell<u32>) -> Result<(), Fail>
+where
+    M: Tested<Counted<'a>>,
+{
+    hold_deeds::<M>(rt, alloc, drops)?;
+    hold_refused_list::<M>(rt, alloc, drops)
 }
 
 #[test]
-fn each_value_is_dropped_once(rt: HostRuntime) -> Result<(), Fail> {
-    let drops = Cell::new(0);
-    hold_deeds::<SlotMap<DefaultKey, Counted>>(&rt, rt.alloc(), &drops)
+fn slot_map_drops_each_value_once(rt: HostRuntime) -> Result<(), Fail> {
+    hold::<SlotMap<DefaultKey, Counted>>(&rt, rt.alloc(), &Cell::new(0))
+}
+
+#[test]
+fn dense_slot_map_drops_each_value_once(rt: HostRuntime) -> Result<(), Fail> {
+    hold::<DenseSlotMap<DefaultKey, Counted>>(&rt, rt.alloc(), &Cell::new(0))
+}
+
+#[test]
+fn hop_slot_map_drops_each_value_once(rt: HostRuntime) -> Result<(), Fail> {
+    hold::<HopSlotMap<DefaultKey, Counted>>(&rt, rt.alloc(), &Cell::new(0))
 }

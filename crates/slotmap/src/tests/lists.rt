@@ -2,7 +2,7 @@
 
 use super::tested::Calls;
 use super::text::{Slot, done_text, slots};
-use crate::{DefaultKey, SlotMap, check_slots};
+use crate::{DefaultKey, DenseSlotMap, HopSlotMap, SlotMap, check_slots};
 use std::alloc::Global;
 use std::process::Abort;
 use std::test::Fail;
@@ -49,5 +49,7 @@ fn hold_refusals<M: Calls>(rt: &impl Abort, alloc: Global) -> Result<(), Fail> {
 
 #[test]
 fn lists_are_refused_at_the_first_fault(rt: HostRuntime) -> Result<(), Fail> {
-    hold_refusals::<SlotMap<DefaultKey, u64>>(&rt, rt.alloc())
+    hold_refusals::<SlotMap<DefaultKey, u64>>(&rt, rt.alloc())?;
+    hold_refusals::<DenseSlotMap<DefaultKey, u64>>(&rt, rt.alloc())?;
+    hold_refusals::<HopSlotMap<DefaultKey, u64>>(&rt, rt.alloc())
 }

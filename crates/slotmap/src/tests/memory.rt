@@ -1,5 +1,6 @@
-//! Calls that can lack memory. With ample memory each has to succeed. `tests/memory.sh` at the top of the repository refuses each
-//! request in turn: then a test here ends with one of two texts, and any other failure is a fault.
+//! Calls that can lack memory, on any map that hands out keys, and on `SlotMap`. With ample memory each has to succeed.
+//! `tests/memory.sh` at the top of the repository refuses each request in turn: then a test here ends with one of two texts, and
+//! any other failure is a fault.
 
 use super::call::{keep, look, make};
 use super::runs::Made;
@@ -15,13 +16,13 @@ use std::alloc::Global;
 use std::process::Abort;
 use std::test::Fail;
 
-// What the test stands on, made where there is memory.
-fn needed<T: Drop, E: Drop>(made: Result<T, E>) -> Result<T, Fail> {
+/// What the test stands on, made where there is memory.
+pub fn needed<T: Drop, E: Drop>(made: Result<T, E>) -> Result<T, Fail> {
     Ok(made.ok().ok_or("no memory for what the test needs")?)
 }
 
-// The end of a test whose call was refused, and left all as it has to be.
-fn done_or_refused(done: bool) -> Result<(), Fail> {
+/// The end of a test whose call was refused, and left all as it has to be.
+pub fn done_or_refused(done: bool) -> Result<(), Fail> {
     if done {
         Ok(())
     } else {
@@ -37,6 +38,13 @@ struct Filled<M> {
     places: u32,
     live: usize,
     is_detached: bool,
+}
+
+// From one place to another each first key has its index as its value.
+fn hold_indices<M: Calls>(rt: &impl Abort, map: &M, from: u32, to: u32) {
+    for place in from..=to {
+        assert_eq!(rt; map.get(key(place, 1)).copied(), Some(u64::from(place)));
+    }
 }
 
 // An empty map, or one that is at its capacity.
@@ -66,27 +74,20 @@ impl<M: Calls> Filled<M> {
     }
 
     // Checks that the map holds what it held, and goes on.
-    fn is_as_before(self, rt: &impl Abort) -> Result<(), Fail> {
+    fn is_as_before(&mut self, rt: &impl Abort) -> Result<(), Fail> {
         let next = self.next_key();
-        let Filled {
-            mut map,
-            places,
-            live,
-            is_detached,
-        } = self;
-        assert_eq!(rt; map.len(), live);
-        for place in 2..=places {
-            assert_eq!(rt; map.get(key(place, 1)).copied(), Some(u64::from(place)));
-        }
-        assert_eq!(rt; map.insert(50)?, next);
-        assert_eq!(rt; map.put_back(key(1, 1), 51).is_none(), is_detached);
+        assert_eq!(rt; self.map.len(), self.live);
+        hold_indices(rt, &self.map, 2, self.places);
+        assert_eq!(rt; self.map.insert(50)?, next);
+        let is_back = self.map.put_back(key(1, 1), 51).is_none();
+        assert_eq!(rt; is_back, self.is_detached);
         Ok(())
     }
 }
 
-// A call that can lack memory.
+/// A call that can lack memory.
 #[derive(Clone, Copy)]
-enum Asked {
+pub enum Asked {
     Insert,
     InsertWithKey,
     TryInsertWithKey,
@@ -232,8 +233,8 @@ fn runs<M: Calls>(rt: &impl Abort, alloc: Global, filled: &mut Filled<M>) -> Res
     }
 }
 
-// Asks an empty map, and then one at its capacity.
-fn hold<M: Calls>(rt: &impl Abort, alloc: Global, asked: Asked) -> Result<(), Fail> {
+/// Asks an empty map, and then one at its capacity.
+pub fn hold<M: Calls>(rt: &impl Abort, alloc: Global, asked: Asked) -> Result<(), Fail> {
     for is_full in [false, true] {
         let mut filled = prepared::<M>(alloc, is_full)?;
         if !is_done(rt, alloc, &mut filled, asked)? {
@@ -243,6 +244,129 @@ fn hold<M: Calls>(rt: &impl Abort, alloc: Global, asked: Asked) -> Result<(), Fa
     }
     Ok(())
 }
+
+/// Makes a map of room, one of a list, and one by a run: whether each was made.
+pub fn hold_makers<M: Calls>(rt: &impl Abort, alloc: Global) -> Result<bool, Fail> {
+    let made = M::with_capacity_and_key(alloc, 3);
+    let Ok(_) = made else {
+        assert!(rt; matches!(made, Err(ReserveError::Memory)));
+        return Ok(false);
+    };
+    let read = M::of_list(alloc, needed(slots(alloc, &[(None, 0), (Some(7), 1)]))?);
+    let Ok(_) = read else {
+        assert!(rt; matches!(read, Err(SlotsError::Memory)));
+        return Ok(false);
+    };
+    let commands = needed(vec![in alloc; Command::Insert(9)])?;
+    let made: Made<M, Command<DefaultKey, u64>> = run_new(alloc, commands, look, keep, make);
+    match made {
+        Ok((_, replies)) => Ok(is_inserted(rt, &replies, key(1, 1))),
+        Err(back) => {
+            assert!(rt; matches!(back.as_slice(), [Command::Insert(9)]));
+            Ok(false)
+        }
+    }
+}
+
+/// Runs of the maps whose keys can be detached: whether they were done.
+pub fn hold_detaching_runs<M>(rt: &impl Abort, alloc: Global) -> Result<bool, Fail>
+where
+    M: Calls + Detaching<DefaultKey, u64>,
+{
+    let commands = needed(vec![in alloc; DetachCommand::Detach(key(1, 1))])?;
+    let made: Made<M, DetachCommand<DefaultKey, u64>> = run_detaching_new(
+        alloc, commands, look, keep, make,
+    );
+    match made {
+        Ok((map, _)) => hold_detaching_run(rt, alloc, map),
+        Err(back) => {
+            assert!(rt; matches!(back.as_slice(), [DetachCommand::Detach(_)]));
+            Ok(false)
+        }
+    }
+}
+
+// The same of a run on an empty map.
+fn hold_detaching_run<M>(rt: &impl Abort, alloc: Global, mut map: M) -> Result<bool, Fail>
+where
+    M: Calls + Detaching<DefaultKey, u64>,
+{
+    let commands = needed(vec![in alloc; DetachCommand::Reattach(key(1, 1), 9)])?;
+    match run_detaching(alloc, &mut map, commands, look, keep, make) {
+        Ok(replies) => {
+            assert!(rt; matches!(replies.as_slice(), [Reply::NotDetached(9)]));
+            Ok(true)
+        }
+        Err(back) => {
+            assert!(rt; matches!(back.as_slice(), [DetachCommand::Reattach(_, 9)]));
+            assert!(rt; map.is_empty());
+            Ok(false)
+        }
+    }
+}
+
+/// Binds detached keys again, after others took their room: the value of one that is refused comes back, and the key stays
+/// detached.
+pub fn hold_reattach<M: Calls>(rt: &impl Abort, alloc: Global) -> Result<bool, Fail> {
+    let mut map: M = detached(rt, alloc)?;
+    let mut is_done = true;
+    for place in 1..9 {
+        is_done = is_bound(rt, &mut map, place) && is_done;
+    }
+    hold_indices(rt, &map, 1, 16);
+    Ok(is_done)
+}
+
+// Eight keys that are detached, and eight with values; each key's value is its index.
+fn detached<M: Calls>(rt: &impl Abort, alloc: Global) -> Result<M, Fail> {
+    let mut map = needed(M::with_key(alloc))?;
+    insert_all(&mut map, 1, 8)?;
+    for place in 1..9 {
+        assert_eq!(rt; map.take_out(key(place, 1)), Some(u64::from(place)));
+    }
+    insert_all(&mut map, 9, 16)?;
+    Ok(map)
+}
+
+fn insert_all<M: Calls>(map: &mut M, from: u64, to: u64) -> Result<(), Fail> {
+    for value in from..=to {
+        needed(map.insert(value))?;
+    }
+    Ok(())
+}
+
+// Binds a detached key to its index, by a second call where the first is refused: whether the first was done.
+fn is_bound<M: Calls>(rt: &impl Abort, map: &mut M, place: u32) -> bool {
+    let value = u64::from(place);
+    let Some(back) = map.put_back(key(place, 1), value) else {
+        return true;
+    };
+    assert_eq!(rt; back, value);
+    assert!(rt; !map.contains_key(key(place, 1)));
+    assert_eq!(rt; map.len() as u64, value.wrapping_add(7));
+    assert!(rt; map.put_back(key(place, 1), back).is_none());
+    false
+}
+
+/// A map of one value.
+pub fn one<M: Calls>(alloc: Global) -> Result<M, Fail> {
+    let mut map = needed(M::with_key(alloc))?;
+    needed(map.insert(7))?;
+    Ok(map)
+}
+
+/// Whether the walk that takes such a map apart was cloned; it goes on either way.
+macro_rules! is_walk_cloned {
+    ($rt:expr, $map:expr) => {{
+        let mut walk = $map.into_iter();
+        let copy = walk.clone();
+        assert_eq!($rt; walk.len(), 1);
+        assert_eq!($rt; walk.next(), Some((key(1, 1), 7)));
+        copy.is_ok()
+    }};
+}
+
+pub(crate) use is_walk_cloned;
 
 type Map = SlotMap<DefaultKey, u64>;
 
@@ -301,62 +425,9 @@ fn run_lacks_memory(rt: HostRuntime) -> Result<(), Fail> {
     hold::<Map>(&rt, rt.alloc(), Asked::Run)
 }
 
-// Makes a map of room, one of a list, and one by a run.
-fn hold_makers<M: Calls>(rt: &impl Abort, alloc: Global) -> Result<bool, Fail> {
-    let made = M::with_capacity_and_key(alloc, 3);
-    let Ok(_) = made else {
-        assert!(rt; matches!(made, Err(ReserveError::Memory)));
-        return Ok(false);
-    };
-    let read = M::of_list(alloc, needed(slots(alloc, &[(None, 0), (Some(7), 1)]))?);
-    let Ok(_) = read else {
-        assert!(rt; matches!(read, Err(SlotsError::Memory)));
-        return Ok(false);
-    };
-    let commands = needed(vec![in alloc; Command::Insert(9)])?;
-    let made: Made<M, Command<DefaultKey, u64>> = run_new(alloc, commands, look, keep, make);
-    match made {
-        Ok((_, replies)) => Ok(is_inserted(rt, &replies, key(1, 1))),
-        Err(back) => {
-            assert!(rt; matches!(back.as_slice(), [Command::Insert(9)]));
-            Ok(false)
-        }
-    }
-}
-
 #[test]
 fn makers_lack_memory(rt: HostRuntime) -> Result<(), Fail> {
     done_or_refused(hold_makers::<Map>(&rt, rt.alloc())?)
-}
-
-// Runs of the maps whose keys can be detached.
-fn hold_detaching_runs<M>(rt: &impl Abort, alloc: Global) -> Result<bool, Fail>
-where
-    M: Calls + Detaching<DefaultKey, u64>,
-{
-    let commands = needed(vec![in alloc; DetachCommand::Detach(key(1, 1))])?;
-    let made: Made<M, DetachCommand<DefaultKey, u64>> = run_detaching_new(
-        alloc, commands, look, keep, make,
-    );
-    let mut map = match made {
-        Ok((map, _)) => map,
-        Err(back) => {
-            assert!(rt; matches!(back.as_slice(), [DetachCommand::Detach(_)]));
-            return Ok(false);
-        }
-    };
-    let commands = needed(vec![in alloc; DetachCommand::Reattach(key(1, 1), 9)])?;
-    match run_detaching(alloc, &mut map, commands, look, keep, make) {
-        Ok(replies) => {
-            assert!(rt; matches!(replies.as_slice(), [Reply::NotDetached(9)]));
-            Ok(true)
-        }
-        Err(back) => {
-            assert!(rt; matches!(back.as_slice(), [DetachCommand::Reattach(_, 9)]));
-            assert!(rt; map.is_empty());
-            Ok(false)
-        }
-    }
 }
 
 #[test]
@@ -366,13 +437,8 @@ fn detaching_runs_lack_memory(rt: HostRuntime) -> Result<(), Fail> {
 
 #[test]
 fn a_walk_that_is_cloned_lacks_memory(rt: HostRuntime) -> Result<(), Fail> {
-    let mut map = needed(Map::with_key(rt.alloc()))?;
-    needed(map.insert(7))?;
-    let mut walk = map.into_iter();
-    let copy = walk.clone();
-    assert_eq!(rt; walk.len(), 1);
-    assert_eq!(rt; walk.next(), Some((key(1, 1), 7)));
-    done_or_refused(copy.is_ok())
+    let map: Map = one(rt.alloc())?;
+    done_or_refused(is_walk_cloned!(rt, map))
 }
 
 #[test]

@@ -1,132 +1,339 @@
-//! Each name of this crate stands for what it says.
+//! Names of this crate that no other test uses: the types of walks and entries, and the calls that the other tests make through the
+//! traits of the maps. Those traits aren't in scope here, so each call is the map's own.
 
+use super::text::key;
 use crate::{
-    Command, DefaultKey, DetachCommand, Detaching, InsertError, InsertWithError, JsonError, Key,
-    KeyData, NoEntry, NodeKey, OrPut, OutOfMemory, Primary, PutError, ReattachError, Reply,
-    ReserveError, Secondary, SecondaryCommand, SecondaryMap, SecondaryReply, SlotMap, SlotRecord,
-    SlotsError, TryInsertError, basic, secondary,
+    DefaultKey, DenseSlotMap, HopSlotMap, InsertWithError, Key, KeyData, NodeKey, OrPut,
+    OutOfMemory, ReserveError, SecondaryMap, SlotMap, SparseSecondaryMap, TryInsertError, basic,
+    dense, hop, secondary, sparse_secondary,
 };
+use std::alloc::Global;
+use std::process::Abort;
 use std::test::Fail;
+
+/// What each walk of a map gives first, by the names in the module of its walks.
+trait Walked: Drop {
+    /// A map of 7 under the key 1v1.
+    fn one(alloc: Global) -> Result<Self, Fail>;
+
+    /// `Iter`.
+    fn pair(&self) -> Option<(DefaultKey, &u64)>;
+
+    /// `Keys`.
+    fn key(&self) -> Option<DefaultKey>;
+
+    /// `Values`.
+    fn value(&self) -> Option<&u64>;
+
+    /// `Drain`.
+    fn drained(&mut self) -> Option<(DefaultKey, u64)>;
+
+    /// `IntoIter`.
+    fn taken(self) -> Option<(DefaultKey, u64)>;
+}
+
+macro_rules! walked {
+    ($walks:ident, $map:ident, $($given:expr),+) => {
+        impl Walked for $walks::$map<DefaultKey, u64> {
+            fn one(alloc: Global) -> Result<Self, Fail> {
+                let mut map = $map::new(alloc)?;
+                map.insert($($given),+)?;
+                Ok(map)
+            }
+
+            fn pair(&self) -> Option<(DefaultKey, &u64)> {
+                $walks::Iter::next(&mut self.iter())
+            }
+
+            fn key(&self) -> Option<DefaultKey> {
+                $walks::Keys::next(&mut self.keys())
+            }
+
+            fn value(&self) -> Option<&u64> {
+                $walks::Values::next(&mut self.values())
+            }
+
+            fn drained(&mut self) -> Option<(DefaultKey, u64)> {
+                $walks::Drain::next(&mut self.drain())
+            }
+
+            fn taken(self) -> Option<(DefaultKey, u64)> {
+                $walks::IntoIter::next(&mut self.into_iter())
+            }
+        }
+    };
+}
+
+walked!(basic, SlotMap, 7);
+
+walked!(dense, DenseSlotMap, 7);
+
+walked!(hop, HopSlotMap, 7);
+
+walked!(secondary, SecondaryMap, key(1, 1), 7);
+
+walked!(sparse_secondary, SparseSecondaryMap, key(1, 1), 7);
+
+fn hold_lent<M: Walked>(rt: &impl Abort, map: &M) {
+    assert!(rt; map.pair() == Some((key(1, 1), &7)));
+    assert!(rt; map.key() == Some(key(1, 1)));
+    assert!(rt; map.value() == Some(&7));
+}
+
+fn hold_walks<M: Walked>(rt: &impl Abort, alloc: Global) -> Result<(), Fail> {
+    let mut map = M::one(alloc)?;
+    hold_lent(rt, &map);
+    assert!(rt; map.drained() == Some((key(1, 1), 7)));
+    assert!(rt; M::one(alloc)?.taken() == Some((key(1, 1), 7)));
+    Ok(())
+}
 
 #[test]
 fn walks_have_their_names(rt: HostRuntime) -> Result<(), Fail> {
-    let mut map: basic::SlotMap<DefaultKey, u64> = SlotMap::with_capacity(rt.alloc(), 1)?;
-    let first: DefaultKey = map.insert(5)?;
-    let mut pairs: basic::Iter<'_, DefaultKey, u64> = map.iter();
-    assert!(rt; pairs.next() == Some((first, &5)));
-    let mut keys: basic::Keys<'_, DefaultKey, u64> = map.keys();
-    assert_eq!(rt; keys.next(), Some(first));
-    let mut values: basic::Values<'_, DefaultKey, u64> = map.values();
-    assert_eq!(rt; values.next(), Some(&5));
-    {
-        let mut drain: basic::Drain<'_, DefaultKey, u64> = map.drain();
-        assert_eq!(rt; drain.next(), Some((first, 5)));
-    }
-    let second = map.insert(6)?;
-    let mut owned: basic::IntoIter<DefaultKey, u64> = map.into_iter();
-    assert_eq!(rt; owned.next(), Some((second, 6)));
+    hold_walks::<SlotMap<DefaultKey, u64>>(&rt, rt.alloc())?;
+    hold_walks::<DenseSlotMap<DefaultKey, u64>>(&rt, rt.alloc())?;
+    hold_walks::<HopSlotMap<DefaultKey, u64>>(&rt, rt.alloc())?;
+    hold_walks::<SecondaryMap<DefaultKey, u64>>(&rt, rt.alloc())?;
+    hold_walks::<SparseSecondaryMap<DefaultKey, u64>>(&rt, rt.alloc())
+}
+
+#[test]
+fn walks_that_write_have_their_names(rt: HostRuntime) -> Result<(), Fail> {
+    let mut map: DenseSlotMap<DefaultKey, u64> = DenseSlotMap::one(rt.alloc())?;
+    assert!(rt; dense::IterMut::next(&mut map.iter_mut()).is_some());
+    assert!(rt; dense::ValuesMut::next(&mut map.values_mut()).is_some());
     Ok(())
 }
 
 #[test]
-fn walks_and_entries_of_a_secondary_map_have_their_names(rt: HostRuntime) -> Result<(), Fail> {
-    let key = DefaultKey::from(KeyData::new(1, 1));
-    let mut map: secondary::SecondaryMap<DefaultKey, u64> = SecondaryMap::with_capacity(
-        rt.alloc(),
-        1,
-    )?;
-    map.insert(key, 5)?;
-    let mut pairs: secondary::Iter<'_, DefaultKey, u64> = map.iter();
-    assert!(rt; pairs.next() == Some((key, &5)));
-    let mut keys: secondary::Keys<'_, DefaultKey, u64> = map.keys();
-    assert_eq!(rt; keys.next(), Some(key));
-    let mut values: secondary::Values<'_, DefaultKey, u64> = map.values();
-    assert_eq!(rt; values.next(), Some(&5));
-    let occupied = match map.entry(key)? {
-        Some(secondary::Entry::Occupied(entry)) => {
-            let entry: secondary::OccupiedEntry<'_, DefaultKey, u64> = entry;
-            *entry.get()
+fn a_slice_of_values_has_each(rt: HostRuntime) -> Result<(), Fail> {
+    let mut map: DenseSlotMap<DefaultKey, u64> = DenseSlotMap::one(rt.alloc())?;
+    map.insert(8)?;
+    assert_eq!(rt; map.values_as_mut_slice().len(), 2);
+    Ok(())
+}
+
+#[test]
+fn a_new_walk_has_read_little(rt: HostRuntime) -> Result<(), Fail> {
+    let map: HopSlotMap<DefaultKey, u64> = HopSlotMap::one(rt.alloc())?;
+    assert!(rt; map.iter().reads() <= map.iter().len());
+    Ok(())
+}
+
+/// The calls of a map that hands out keys. Each method calls the map's own of its name.
+trait Called: Walked {
+    fn with_capacity_and_key(alloc: Global, capacity: usize) -> Result<Self, ReserveError>;
+
+    fn reserve(&mut self, additional: usize) -> Result<(), ReserveError>;
+
+    fn try_reserve(&mut self, additional: usize) -> Result<(), ReserveError>;
+
+    fn capacity(&self) -> usize;
+
+    fn len(&self) -> usize;
+
+    fn is_empty(&self) -> bool;
+
+    fn get(&self, key: DefaultKey) -> Option<&u64>;
+
+    fn replace(&mut self, key: DefaultKey, value: u64) -> Result<u64, u64>;
+
+    fn remove(&mut self, key: DefaultKey) -> Option<u64>;
+
+    fn clear(&mut self);
+
+    fn keys_into(&self, keys: &mut Vec<DefaultKey>) -> Result<(), OutOfMemory>;
+
+    fn drain_into(&mut self, pairs: &mut Vec<(DefaultKey, u64)>) -> Result<(), OutOfMemory>;
+
+    /// With a closure that gives the value.
+    fn insert_with_key(&mut self, value: u64) -> Result<DefaultKey, InsertWithError>;
+
+    /// The same.
+    fn try_insert_with_key(&mut self, value: u64) -> Result<DefaultKey, TryInsertError<u64>>;
+}
+
+macro_rules! called {
+    ($map:ident) => {
+        impl Called for $map<DefaultKey, u64> {
+            fn with_capacity_and_key(alloc: Global, capacity: usize) -> Result<Self, ReserveError> {
+                $map::with_capacity_and_key(alloc, capacity)
+            }
+
+            fn reserve(&mut self, additional: usize) -> Result<(), ReserveError> {
+                $map::reserve(self, additional)
+            }
+
+            fn try_reserve(&mut self, additional: usize) -> Result<(), ReserveError> {
+                $map::try_reserve(self, additional)
+            }
+
+            fn capacity(&self) -> usize {
+                $map::capacity(self)
+            }
+
+            fn len(&self) -> usize {
+                $map::len(self)
+            }
+
+            fn is_empty(&self) -> bool {
+                $map::is_empty(self)
+            }
+
+            fn get(&self, key: DefaultKey) -> Option<&u64> {
+                $map::get(self, key)
+            }
+
+            fn replace(&mut self, key: DefaultKey, value: u64) -> Result<u64, u64> {
+                $map::replace(self, key, value)
+            }
+
+            fn remove(&mut self, key: DefaultKey) -> Option<u64> {
+                $map::remove(self, key)
+            }
+
+            fn clear(&mut self) {
+                $map::clear(self);
+            }
+
+            fn keys_into(&self, keys: &mut Vec<DefaultKey>) -> Result<(), OutOfMemory> {
+                $map::keys_into(self, keys)
+            }
+
+            fn drain_into(&mut self, pairs: &mut Vec<(DefaultKey, u64)>) -> Result<(), OutOfMemory> {
+                $map::drain_into(self, pairs)
+            }
+
+            fn insert_with_key(&mut self, value: u64) -> Result<DefaultKey, InsertWithError> {
+                $map::insert_with_key(self, |_| value)
+            }
+
+            fn try_insert_with_key(&mut self, value: u64) -> Result<DefaultKey, TryInsertError<u64>> {
+                $map::try_insert_with_key(self, |_| Ok(value))
+            }
         }
-        _ => 0,
     };
-    assert_eq!(rt; occupied, 5);
-    let vacant = match map.entry(DefaultKey::from(KeyData::new(1, 3)))? {
-        Some(secondary::Entry::Vacant(entry)) => {
-            let entry: secondary::VacantEntry<'_, DefaultKey, u64> = entry;
-            entry.key().data().version()
+}
+
+called!(SlotMap);
+
+called!(DenseSlotMap);
+
+called!(HopSlotMap);
+
+fn hold_room<M: Called>(rt: &impl Abort, alloc: Global) -> Result<(), Fail> {
+    let mut map = M::with_capacity_and_key(alloc, 1)?;
+    map.reserve(3)?;
+    map.try_reserve(3)?;
+    assert!(rt; map.capacity() >= 3 && map.is_empty());
+    Ok(())
+}
+
+fn hold_puts<M: Called>(rt: &impl Abort, map: &mut M) -> Result<(), Fail> {
+    let second = map.insert_with_key(6)?;
+    assert!(rt; map.replace(second, 8) == Ok(6));
+    assert!(rt; map.get(second) == Some(&8));
+    let third = map.try_insert_with_key(7).ok().ok_or("no value was made")?;
+    assert!(rt; map.remove(third) == Some(7));
+    Ok(())
+}
+
+fn hold_lists<M: Called>(rt: &impl Abort, alloc: Global, map: &mut M) -> Result<(), Fail> {
+    let mut keys = Vec::new(alloc);
+    map.keys_into(&mut keys)?;
+    let mut pairs = Vec::new(alloc);
+    map.drain_into(&mut pairs)?;
+    assert!(rt; keys.len() == 2 && pairs.len() == 2);
+    Ok(())
+}
+
+fn hold_clear<M: Called>(rt: &impl Abort, alloc: Global) -> Result<(), Fail> {
+    let mut map = M::one(alloc)?;
+    assert_eq!(rt; map.len(), 1);
+    map.clear();
+    assert_eq!(rt; map.len(), 0);
+    Ok(())
+}
+
+fn hold_calls<M: Called>(rt: &impl Abort, alloc: Global) -> Result<(), Fail> {
+    hold_room::<M>(rt, alloc)?;
+    hold_clear::<M>(rt, alloc)?;
+    let mut map = M::one(alloc)?;
+    hold_puts(rt, &mut map)?;
+    hold_lists(rt, alloc, &mut map)
+}
+
+#[test]
+fn maps_have_their_calls(rt: HostRuntime) -> Result<(), Fail> {
+    hold_calls::<SlotMap<DefaultKey, u64>>(&rt, rt.alloc())?;
+    hold_calls::<DenseSlotMap<DefaultKey, u64>>(&rt, rt.alloc())?;
+    hold_calls::<HopSlotMap<DefaultKey, u64>>(&rt, rt.alloc())
+}
+
+/// The entries of a map beside another one, by the names of their types, and a call of its own.
+trait Entered: Walked {
+    /// The value of an `OccupiedEntry`.
+    fn occupied(&mut self, key: DefaultKey) -> Option<u64>;
+
+    /// The key of a `VacantEntry`.
+    fn vacant(&mut self, key: DefaultKey) -> Option<DefaultKey>;
+
+    /// `or_put`.
+    fn or_put(&mut self, key: DefaultKey, value: u64) -> OrPut<u64>;
+}
+
+macro_rules! entered {
+    ($entries:ident, $map:ident $(, $hasher:ident)?) => {
+        impl Entered for $map<DefaultKey, u64 $(, $entries::$hasher)?> {
+            fn occupied(&mut self, key: DefaultKey) -> Option<u64> {
+                match self.entry(key) {
+                    Ok(Some($entries::Entry::Occupied(entry))) => {
+                        Some(*$entries::OccupiedEntry::get(&entry))
+                    }
+                    _ => None,
+                }
+            }
+
+            fn vacant(&mut self, key: DefaultKey) -> Option<DefaultKey> {
+                match self.entry(key) {
+                    Ok(Some($entries::Entry::Vacant(entry))) => {
+                        Some($entries::VacantEntry::key(&entry))
+                    }
+                    _ => None,
+                }
+            }
+
+            fn or_put(&mut self, key: DefaultKey, value: u64) -> OrPut<u64> {
+                $map::or_put(self, key, value)
+            }
         }
-        _ => 0,
     };
-    assert_eq!(rt; vacant, 3);
-    {
-        let mut drain: secondary::Drain<'_, DefaultKey, u64> = map.drain();
-        assert_eq!(rt; drain.next(), Some((key, 5)));
-    }
-    map.insert(key, 6)?;
-    let mut owned: secondary::IntoIter<DefaultKey, u64> = map.into_iter();
-    assert_eq!(rt; owned.next(), Some((key, 6)));
-    Ok(())
 }
 
-fn is_secondary<S: Secondary<DefaultKey, u64>>(map: &S) -> bool {
-    map.len() == 0
-}
+entered!(secondary, SecondaryMap);
 
-fn is_primary<M: Primary<DefaultKey, u64>>(map: &M) -> bool {
-    map.is_empty()
-}
+entered!(sparse_secondary, SparseSecondaryMap, DefaultHasher);
 
-fn is_detaching<M: Detaching<DefaultKey, u64>>(map: &mut M, key: DefaultKey) -> bool {
-    map.detach(key).is_none()
-}
-
-fn is_key<K: Key>(key: K) -> bool {
-    key.is_null()
-}
-
-#[test]
-fn traits_have_their_names(rt: HostRuntime) -> Result<(), Fail> {
-    let mut map = SlotMap::new(rt.alloc())?;
-    let data: KeyData = KeyData::default();
-    assert!(rt; is_primary(&map));
-    let secondary = SecondaryMap::new(rt.alloc())?;
-    assert!(rt; is_secondary(&secondary));
-    assert!(rt; is_detaching(&mut map, DefaultKey::from(data)));
-    assert!(rt; is_key(DefaultKey::from(data)));
-    assert!(rt; is_key(NodeKey::from(data)));
+fn hold_entries<M: Entered>(rt: &impl Abort, alloc: Global) -> Result<(), Fail> {
+    let mut map = M::one(alloc)?;
+    assert_eq!(rt; map.occupied(key(1, 1)), Some(7));
+    assert_eq!(rt; map.vacant(key(2, 3)), Some(key(2, 3)));
+    assert!(rt; matches!(map.or_put(key(2, 1), 6), OrPut::Placed));
     Ok(())
 }
 
 #[test]
-fn variants_have_their_names(rt: HostRuntime) {
-    let refused: InsertError<u64> = InsertError::Full(5);
-    assert!(rt; matches!(refused, InsertError::Full(5)));
-    assert!(rt; matches!(InsertWithError::Full, InsertWithError::Full));
-    let refused: TryInsertError<u64> = TryInsertError::Closure(5);
-    assert!(rt; matches!(refused, TryInsertError::Closure(5)));
-    let refused: ReattachError<u64> = ReattachError::NotDetached(5);
-    assert!(rt; matches!(refused, ReattachError::NotDetached(5)));
-    assert!(rt; matches!(ReserveError::TooGreat, ReserveError::TooGreat));
-    assert!(rt; matches!(SlotsError::TooMany, SlotsError::TooMany));
-    assert!(rt; matches!(JsonError::Shape, JsonError::Shape));
-    let PutError(back) = PutError(5);
-    assert_eq!(rt; back, 5);
-    let OutOfMemory = OutOfMemory;
-    let slot: SlotRecord<u64> = SlotRecord {
-        value: Some(5),
-        version: 1,
-    };
-    assert_eq!(rt; slot.value, Some(5));
-    let command: Command<DefaultKey, u64> = Command::Len;
-    let command: DetachCommand<DefaultKey, u64> = DetachCommand::Plain(command);
-    assert!(rt; matches!(command, DetachCommand::Plain(Command::Len)));
-    let reply: Reply<DefaultKey, u64, u64, u64> = Reply::Len(5);
-    assert!(rt; matches!(reply, Reply::Len(5)));
-    let told: OrPut<u64> = OrPut::Kept(5);
-    assert!(rt; matches!(told, OrPut::Kept(5)));
-    assert!(rt; matches!(NoEntry::Older, NoEntry::Older));
-    let command: SecondaryCommand<DefaultKey, u64> = SecondaryCommand::Len;
-    assert!(rt; matches!(command, SecondaryCommand::Len));
-    let reply: SecondaryReply<u64, u64> = SecondaryReply::Len(5);
-    assert!(rt; matches!(reply, SecondaryReply::Len(5)));
+fn entries_have_their_names(rt: HostRuntime) -> Result<(), Fail> {
+    hold_entries::<SecondaryMap<DefaultKey, u64>>(&rt, rt.alloc())?;
+    hold_entries::<SparseSecondaryMap<DefaultKey, u64>>(&rt, rt.alloc())
+}
+
+fn is_null_key<K: Key>(key: K) -> bool {
+    key.is_null() && K::null() == key && key.data().version() == 1
+}
+
+#[test]
+fn keys_of_no_data_are_null(rt: HostRuntime) {
+    assert!(rt; is_null_key(DefaultKey::from(KeyData::default())));
+    assert!(rt; is_null_key(NodeKey::from(KeyData::default())));
 }

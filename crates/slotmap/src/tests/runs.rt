@@ -5,8 +5,8 @@ use super::rows;
 use super::tested::Calls;
 use super::text::{done_text, key, key_text, keys_text, pairs_text, put_text, value_text, word};
 use crate::{
-    Command, DefaultKey, DetachCommand, Detaching, Reply, ReserveError, SlotMap, run,
-    run_detaching, run_detaching_new, run_new,
+    Command, DefaultKey, DenseSlotMap, DetachCommand, Detaching, HopSlotMap, Reply, ReserveError,
+    SlotMap, run, run_detaching, run_detaching_new, run_new,
 };
 use std::alloc::{AllocError, Global};
 use std::process::Abort;
@@ -191,4 +191,15 @@ fn runs_answer_as_calls_do(rt: HostRuntime) -> Result<(), Fail> {
     hold_runs::<Map>(&rt, rt.alloc(), &rows::COMMANDS)?;
     hold_detaching_runs::<Map>(&rt, rt.alloc(), &rows::COMMANDS)?;
     hold_detaching_runs::<Map>(&rt, rt.alloc(), &rows::DETACH_COMMANDS)
+}
+
+#[test]
+fn runs_on_a_hopping_map_answer_as_its_calls_do(rt: HostRuntime) -> Result<(), Fail> {
+    hold_runs::<HopSlotMap<DefaultKey, u64>>(&rt, rt.alloc(), &rows::COMMANDS)
+}
+
+#[test]
+fn runs_of_a_dense_map_answer_as_calls_do(rt: HostRuntime) -> Result<(), Fail> {
+    hold_runs::<DenseSlotMap<DefaultKey, u64>>(&rt, rt.alloc(), &rows::COMMANDS)?;
+    hold_detaching_runs::<DenseSlotMap<DefaultKey, u64>>(&rt, rt.alloc(), &rows::DETACH_COMMANDS)
 }

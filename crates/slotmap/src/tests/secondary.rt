@@ -320,6 +320,63 @@ pub fn hold_runs<M: Tested>(rt: &impl Abort, alloc: Global) -> Result<(), Fail> 
     Ok(())
 }
 
+// The next number of a linear congruential generator.
+fn next(state: &mut u64) -> u64 {
+    *state = state.wrapping_mul(6364136223846793005);
+    *state = state.wrapping_add(1442695040888963407);
+    *state >> 33
+}
+
+// Some command, of few keys.
+fn some_command(state: &mut u64) -> SecondaryCommand<DefaultKey, u64> {
+    let index = next(state) % 7;
+    let version = next(state) % 3 * 2 + 1;
+    let version = if next(state) % 5 > 0 {
+        version
+    } else {
+        version + 2147483648
+    };
+    let index = if index == 6 { u32::MAX } else { index as u32 };
+    let key = key(index, version as u32);
+    match next(state) % 6 {
+        0 => SecondaryCommand::Get(key),
+        1 => SecondaryCommand::Contains(key),
+        2 => SecondaryCommand::Remove(key),
+        3 => SecondaryCommand::OrPut(key, next(state)),
+        4 => SecondaryCommand::Len,
+        _ => SecondaryCommand::Insert(key, next(state)),
+    }
+}
+
+/// Holds two kinds of maps to the same replies to 20 lists of 200 commands.
+pub fn hold_alike<M: Tested, N: Tested>(rt: &impl Abort, alloc: Global) -> Result<(), Fail> {
+    for list in 0..20u64 {
+        let mut left = M::made(alloc)?;
+        let mut right = N::made(alloc)?;
+        let (mut state, mut again) = (list, list);
+        let (mut first, mut second) = (Vec::new(alloc), Vec::new(alloc));
+        for _ in 0..200 {
+            first.push(some_command(&mut state))?;
+            second.push(some_command(&mut again))?;
+        }
+        let first = run_secondary(alloc, &mut left, first, look);
+        let second = run_secondary(alloc, &mut right, second, look);
+        let first = first.ok().ok_or("the run was refused")?;
+        let second = second.ok().ok_or("the run was refused")?;
+        assert_eq!(rt; first.len(), 200);
+        for (reply, other) in first.into_iter().zip(second) {
+            let wanted = reply_text(alloc, reply)?;
+            assert_eq!(rt;
+                reply_text(alloc, other)?.as_str(),
+                wanted.as_str(),
+                "list {list}"
+            );
+        }
+        assert_eq!(rt; left.len(), right.len());
+    }
+    Ok(())
+}
+
 use Call::{
     Add, AddOrInsert, Clear, Contains, DoubleByEntry, Drain, Entry, Equals, Extend, ExtendRefs,
     Get, Insert, InsertByEntry, IsEmpty, Len, OrDefault, OrInsert, OrInsertWith, PutIfVacant,
@@ -404,7 +461,7 @@ pub const COMMANDS: [Row; 5] = [
 ];
 
 /// The other calls.
-pub const CALLS: [Row; 8] = [
+pub const CALLS: [Row; 10] = [
     Row {
         name: "index 0 is an index like any other",
         start: &[],
@@ -470,6 +527,16 @@ pub const CALLS: [Row; 8] = [
         ],
     },
     Row {
+        name: "an empty map has a vacant entry for every version",
+        start: &[],
+        steps: &[
+            (Entry(1, 2147483649), "vacant 1v2147483649"),
+            (Len, "0"),
+            (OrInsert(1, 2147483649, 5), "5"),
+            (Get(1, 2147483649), "5"),
+        ],
+    },
+    Row {
         name: "several values at once, all or none",
         start: &[],
         steps: &[
@@ -532,6 +599,16 @@ pub const CALLS: [Row; 8] = [
         ],
     },
     Row {
+        name: "a list with a value at index 0 is written and not read",
+        start: &[],
+        steps: &[
+            (Insert(0, 1, 7), "none"),
+            (ToSlots, "slots 7@1"),
+            (ThroughSlots, "first not empty"),
+            (Get(0, 1), "7"),
+        ],
+    },
+    Row {
         name: "a list's even versions are empty places",
         start: &[(None, 4), (Some(7), 3), (None, 0), (None, 6)],
         steps: &[
@@ -539,8 +616,8 @@ pub const CALLS: [Row; 8] = [
             (Get(1, 3), "7"),
             (Insert(2, 1, 8), "none"),
             (Insert(3, 1, 9), "none"),
-            (Take(2), "pairs 1v3:7 2v1:8, 1 left"),
-            (Drain(1), "pairs 1v3:7, 2 left"),
+            (Take(9), "pairs 1v3:7 2v1:8 3v1:9, 0 left"),
+            (Drain(9), "pairs 1v3:7 2v1:8 3v1:9, 0 left"),
             (Len, "0"),
         ],
     },

@@ -1,300 +1,80 @@
 //! Two hundred lists of 200 calls of a secondary map, whose answers are those of the Rust crate.
-//!
-//! The list of each number is written by the rule of `Script`. The answers of the Rust crate to each were read once, and
-//! stand here as one number a list, made by the rule of `Digest`: compare/README.md says how.
 
-use super::text::key;
+use super::scripted::{
+    Script, Scripted, calls_on_all, calls_on_entry, calls_on_kind, calls_on_maps, calls_on_one,
+    calls_on_some, hold_answers,
+};
 use crate::secondary::Entry;
-use crate::{DefaultKey, Key, KeyData, SecondaryMap};
+use crate::{DefaultKey, Key, SecondaryMap};
 use std::alloc::Global;
 use std::mem;
 use std::test::Fail;
 
 type Map = SecondaryMap<DefaultKey, u64>;
 
-// Makes the calls of a list, and one number of their answers.
-#[derive(Drop)]
-struct Script {
-    state: u64,
-    digest: u64,
-}
-
-impl Script {
-    // The next number of a linear congruential generator.
-    fn next(&mut self) -> u64 {
-        let state = self.state.wrapping_mul(6364136223846793005);
-        self.state = state.wrapping_add(1442695040888963407);
-        self.state >> 33
-    }
-
-    // A key of a small index and version, or the null key.
-    fn key(&mut self) -> DefaultKey {
-        let index = self.next() % 13 + 1;
-        let version = self.next() % 3 * 2 + 1;
-        let index = if index == 13 { u32::MAX } else { index as u32 };
-        key(index, version as u32)
-    }
-
-    // The same, or one of a great version.
-    fn any_key(&mut self) -> DefaultKey {
-        let key = self.key();
-        if self.next() % 12 > 0 {
-            return key;
-        }
-        let number = key.data().as_ffi() | 0xffff_fff8_0000_0000;
-        DefaultKey::from(KeyData::from_ffi(number))
-    }
-
-    fn add(&mut self, number: u64) {
-        self.digest = (self.digest ^ number).wrapping_mul(1099511628211);
-    }
-
-    fn add_value(&mut self, value: Option<u64>) {
-        match value {
-            Some(value) => {
-                self.add(2);
-                self.add(value);
-            }
-            None => self.add(3),
-        }
-    }
-
-    fn add_pair(&mut self, key: DefaultKey, value: u64) {
-        self.add(key.data().as_ffi());
-        self.add(value);
-    }
-}
-
-// The calls on one key.
-fn on_one(map: &mut Map, script: &mut Script, step: u64, choice: u64) -> Result<(), Fail> {
-    if choice < 24 {
-        let before = map.insert(script.any_key(), step)?;
-        script.add_value(before);
-    } else if choice < 30 {
-        let taken = map.remove(script.any_key());
-        script.add_value(taken);
-    } else if choice < 36 {
-        let found = map.get(script.any_key()).copied();
-        script.add_value(found);
-    } else if choice < 39 {
-        let found = map.contains_key(script.any_key());
-        script.add(u64::from(found));
-    } else if choice < 42 {
-        script.add(map.len() as u64);
-        script.add(u64::from(map.is_empty()));
-    } else if choice < 45 {
-        let before = match map.get_mut(script.any_key()) {
-            Some(place) => Some(mem::replace(place, step)),
-            None => None,
-        };
-        script.add_value(before);
-    } else {
-        let key = script.any_key();
-        if map.contains_key(key) {
-            map[key] = map[key].wrapping_add(1);
-        }
-        if map.contains_key(key) {
-            let value = *map.get_unchecked(key);
-            *map.get_unchecked_mut(key) = value.wrapping_add(10);
-        }
-        script.add_value(map.get(key).copied());
-    }
-    Ok(())
-}
-
-// The calls on an entry that give the key a value.
-fn on_entry(map: &mut Map, script: &mut Script, step: u64, choice: u64) -> Result<(), Fail> {
-    let key = script.key();
-    let Some(entry) = map.entry(key)? else {
-        script.add(9);
-        return Ok(());
-    };
-    script.add(entry.key().data().as_ffi());
-    let value = if choice < 53 {
-        *entry.or_insert(step)
-    } else if choice < 56 {
-        *entry
-            .and_modify(|value| *value = value.wrapping_add(3))
-            .or_insert(step)
-    } else if choice < 58 {
-        *entry.or_insert_with(|| step)
-    } else {
-        *entry.or_default()
-    };
-    script.add_value(Some(value));
-    Ok(())
-}
-
-// The calls on an entry of one kind.
-fn on_kind(map: &mut Map, script: &mut Script, step: u64, choice: u64) -> Result<(), Fail> {
-    let key = script.key();
-    match map.entry(key)? {
-        None => script.add(9),
-        Some(Entry::Vacant(entry)) => {
-            script.add(entry.key().data().as_ffi());
-            script.add(entry.key().data().as_ffi());
-            if choice < 63 {
-                script.add_value(Some(*entry.insert(step)));
-            }
-        }
-        Some(Entry::Occupied(mut entry)) => {
-            script.add(entry.key().data().as_ffi());
-            script.add(entry.key().data().as_ffi());
-            script.add_value(Some(*entry.get()));
-            if choice < 62 {
-                *entry.get_mut() = step;
-            } else if choice < 64 {
-                script.add_value(Some(entry.insert(step)));
-            } else if choice < 65 {
-                script.add_value(Some(entry.remove()));
-            } else if choice < 66 {
-                let (key, value) = entry.remove_entry();
-                script.add(key.data().as_ffi());
-                script.add_value(Some(value));
-            } else {
-                *entry.into_mut() = step;
-            }
-        }
-    }
-    Ok(())
-}
-
-// The calls on some keys.
-fn on_some(
-    alloc: Global,
-    map: &mut Map,
-    script: &mut Script,
-    step: u64,
-    choice: u64,
-) -> Result<(), Fail> {
-    if choice < 70 {
-        let keys = [script.any_key(), script.any_key()];
-        match map.replace_disjoint(keys, [step, step.wrapping_mul(2)]) {
-            Ok(before) => {
-                script.add_value(Some(before[0]));
-                script.add_value(Some(before[1]));
-            }
-            Err(_) => script.add(8),
-        }
-    } else if choice < 72 {
-        let mut pairs = Vec::new(alloc);
-        pairs.push((script.any_key(), step))?;
-        pairs.push((script.any_key(), 5))?;
-        pairs.push((script.any_key(), 6))?;
-        map.extend(pairs).map_err(|_| "a pair was refused")?;
-    } else {
-        let pairs = [(script.any_key(), step), (script.any_key(), 5)];
-        map.extend_refs(pairs.iter().map(|pair| (pair.0, &pair.1)))
-            .map_err(|_| "a pair was refused")?;
-    }
-    Ok(())
-}
-
-// The walks.
-fn on_all(map: &mut Map, script: &mut Script, choice: u64) -> Result<(), Fail> {
-    if choice < 77 {
-        script.add(7);
-        for (key, value) in map.iter() {
-            script.add_pair(key, *value);
-        }
-    } else if choice < 79 {
-        script.add(7);
-        for key in map.keys() {
-            script.add_pair(key, 0);
-        }
-    } else if choice < 81 {
-        script.add(7);
-        for value in map.values() {
-            script.add_pair(DefaultKey::null(), *value);
-        }
-    } else if choice < 83 {
-        map.retain(|key, value| {
-            *value = value.wrapping_mul(3);
-            (key.data().as_ffi() ^ *value) % 4 > 0
-        });
-    } else if choice < 84 {
-        map.clear();
-    } else {
-        let steps = script.next() % 6;
-        script.add(7);
-        for (key, value) in map.drain().take(steps as usize) {
-            script.add_pair(key, value);
-        }
-    }
-    Ok(())
-}
-
-// The calls that make a map, and those on memory.
-fn on_maps(alloc: Global, map: &mut Map, script: &mut Script, choice: u64) -> Result<(), Fail> {
-    if choice < 89 {
-        script.add(7);
-        for (key, value) in map.clone()?.into_iter() {
-            script.add_pair(key, value);
-        }
-    } else if choice < 91 {
-        let key = script.any_key();
-        let mut other = map.clone()?;
-        other.remove(key);
-        script.add(u64::from(*map == other));
-        map.clone_from(&other)?;
-    } else if choice < 96 {
-        let mut pairs = Vec::new(alloc);
-        for (key, value) in map.iter() {
-            pairs.push((key, *value))?;
-        }
-        let other: Map = SecondaryMap::from_iter(alloc, pairs)
-            .ok()
-            .ok_or("no map was made")?;
-        script.add(u64::from(*map == other));
-        *map = other;
-    } else if choice < 98 {
-        let wanted = script.next() % 40;
-        map.set_capacity(wanted as usize)?;
-        script.add(u64::from(map.capacity() as u64 >= wanted));
-    } else {
-        let wanted = script.next() % 40;
-        let done = map.try_set_capacity(wanted as usize);
-        script.add(u64::from(done.is_ok()));
-    }
-    Ok(())
-}
-
-fn digest_of(alloc: Global, number: u64) -> Result<u64, Fail> {
-    let mut script = Script {
-        state: number,
-        digest: 14695981039346656037,
-    };
-    let mut map: Map = SecondaryMap::new(alloc)?;
-    for step in 0..200 {
-        let choice = script.next() % 100;
-        if choice < 48 {
-            on_one(&mut map, &mut script, step, choice)?;
-        } else if choice < 60 {
-            on_entry(&mut map, &mut script, step, choice)?;
-        } else if choice < 67 {
-            on_kind(&mut map, &mut script, step, choice)?;
-        } else if choice < 74 {
-            on_some(alloc, &mut map, &mut script, step, choice)?;
-        } else if choice < 86 {
-            on_all(&mut map, &mut script, choice)?;
+impl Scripted for Map {
+    fn made(alloc: Global, number: u64) -> Result<Self, Fail> {
+        Ok(if number % 2 == 0 {
+            SecondaryMap::new(alloc)
         } else {
-            on_maps(alloc, &mut map, &mut script, choice)?;
+            SecondaryMap::with_capacity(alloc, 5)
+        }?)
+    }
+
+    fn on_one(&mut self, script: &mut Script, step: u64, choice: u64) -> Result<(), Fail> {
+        calls_on_one!(self, script, step, choice)
+    }
+
+    fn on_entry(&mut self, script: &mut Script, step: u64, choice: u64) -> Result<(), Fail> {
+        calls_on_entry!(self, script, step, choice)
+    }
+
+    fn on_kind(&mut self, script: &mut Script, step: u64, choice: u64) -> Result<(), Fail> {
+        calls_on_kind!(self, script, step, choice)
+    }
+
+    fn on_some(
+        &mut self,
+        alloc: Global,
+        script: &mut Script,
+        step: u64,
+        choice: u64,
+    ) -> Result<(), Fail> {
+        calls_on_some!(self, alloc, script, step, choice)
+    }
+
+    fn on_all(&mut self, script: &mut Script, choice: u64) -> Result<(), Fail> {
+        calls_on_all!(self, script, choice)
+    }
+
+    fn on_maps(&mut self, alloc: Global, script: &mut Script, choice: u64) -> Result<(), Fail> {
+        calls_on_maps!(self, SecondaryMap, alloc, script, choice)
+    }
+
+    fn on_memory(&mut self, script: &mut Script, choice: u64) -> Result<(), Fail> {
+        let wanted = (script.next() % 40) as usize;
+        if choice < 98 {
+            self.set_capacity(wanted)?;
+            script.add(u64::from(self.capacity() >= wanted));
+        } else {
+            script.add(u64::from(self.try_set_capacity(wanted).is_ok()));
         }
+        Ok(())
     }
-    script.add(7);
-    for (key, value) in map {
-        script.add_pair(key, value);
+
+    fn end(self, script: &mut Script) -> Result<(), Fail> {
+        script.add(7);
+        for (key, value) in self {
+            script.add_pair(key, value);
+        }
+        script.end_walk();
+        Ok(())
     }
-    Ok(script.digest)
 }
 
 #[test]
 fn answers_are_those_of_the_rust_crate(rt: HostRuntime) -> Result<(), Fail> {
-    for (position, stored) in ANSWERS.iter().enumerate() {
-        let number = (position as u64).wrapping_add(1);
-        assert_eq!(rt; digest_of(rt.alloc(), number)?, *stored, "list {number}");
-    }
-    Ok(())
+    hold_answers::<Map>(&rt, rt.alloc(), &ANSWERS, false)
 }
 
 // The digests of the Rust crate's answers to the lists of the numbers 1 to 200.

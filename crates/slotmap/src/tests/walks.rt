@@ -1,29 +1,22 @@
 //! Walks over a map.
 
-/// Holds a walk of four items, after a step, to its length and to the items that are left, as text; and a clone of it.
-macro_rules! hold_walk {
-    ($rt:expr, $walk:expr, $item:ident => $seen:expr, $text:expr, $left:literal) => {{
-        let mut walk = $walk;
-        assert_eq!($rt; walk.len(), 4);
-        assert_eq!($rt; walk.size_hint(), (4, Some(4)));
-        assert!($rt; walk.next().is_some());
-        let copy = walk.clone()?;
-        let mut seen = Vec::new($rt.alloc());
-        for $item in walk.by_ref() {
-            seen.push($seen)?;
-        }
-        assert_eq!($rt; walk.len(), 0);
-        assert!($rt; walk.next().is_none());
-        let text = $text($rt.alloc(), &seen)?;
-        assert_eq!($rt; text.as_str(), $left);
+use crate::{KeyData, NodeKey};
 
-        assert_eq!($rt; copy.len(), 3);
-        let mut seen = Vec::new($rt.alloc());
-        for $item in copy {
-            seen.push($seen)?;
-        }
-        let text = $text($rt.alloc(), &seen)?;
-        assert_eq!($rt; text.as_str(), $left);
+/// The key of an index whose first version it is.
+pub fn first_key(index: u32) -> NodeKey {
+    NodeKey::from(KeyData::new(index, 1))
+}
+
+/// Holds a walk of four items to its length, and after a step a clone of it and the walk itself to what is left.
+macro_rules! hold_walk {
+    ($rt:expr, $walk:expr, $rest:ident => $is_left:expr) => {{
+        let mut walk = $walk;
+        assert_eq!($rt; (walk.len(), walk.size_hint()), (4, (4, Some(4))));
+        assert!($rt; walk.next().is_some());
+        let $rest = walk.clone()?;
+        assert!($rt; $is_left);
+        let $rest = walk;
+        assert!($rt; $is_left);
     }};
 }
 

@@ -34,6 +34,9 @@ impl<P> Model for Columns<P> {
 // A slot's place is found in any of the vectors by its index alone.
 const LIMIT: usize = 4294967295;
 
+// Below so many slots three vectors grow to four times their length, and above to twice theirs.
+const FEW: usize = 512;
+
 // How many places are looked at together.
 const BLOCK: usize = 16;
 
@@ -88,6 +91,18 @@ pub(crate) fn version_in(versions: &[u32], index: usize) -> u32
     versions[index]
 }
 
+// So many more slots are asked for where so many are wanted: each growth moves three vectors, so it
+// pays to have few of them.
+fn growth(len: usize, additional: usize) -> usize
+    ensures { additional ≤ result }
+{
+    if len < FEW && additional < 3 * len {
+        3 * len
+    } else {
+        additional
+    }
+}
+
 impl<P> Columns<P> {
     // So many slots fit in each of these.
     fn room(versions: &Vec<u32>, links: &Vec<Link>, payloads: &Vec<Option<P>>) -> usize
@@ -124,6 +139,7 @@ impl<P> Columns<P> {
     }
 }
 
+#[tactic(auto, using(crate::proofs::ColumnLemmas::laid))]
 impl<P> Layout<P> for Columns<P> {
     ghost use Rattle.std.specs.Prelude.{ℕ, List};
     ghost use Rattle.slotmap_core.specs.Slot.{Slot, Laid, with_payload};
@@ -160,10 +176,11 @@ impl<P> Layout<P> for Columns<P> {
     }
 
     fn reserve(&mut self, additional: usize) -> Result<(), AllocError> {
+        let more = growth(self.versions.len(), additional);
         // The largest first: what it leaves takes the others.
-        self.payloads.reserve(additional)?;
-        self.links.reserve(additional)?;
-        self.versions.reserve(additional)?;
+        self.payloads.reserve(more)?;
+        self.links.reserve(more)?;
+        self.versions.reserve(more)?;
         self.capacity = Columns::room(&self.versions, &self.links, &self.payloads);
         Ok(())
     }

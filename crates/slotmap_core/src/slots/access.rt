@@ -4,7 +4,7 @@ ghost use Rattle.std.specs.Prelude.{◌≡◌, ◌+◌, ◌<◌, ◌≤◌, IfNo
 ghost use Rattle.std.specs.FinMap as map;
 ghost use Rattle.std.specs.Borrow.{sem};
 ghost use Rattle.slotmap_core.specs.Key.{Key};
-ghost use Rattle.slotmap_core.specs.Content.{IsContent, IsLive, places};
+ghost use Rattle.slotmap_core.specs.Content.{IsContent, IsLive};
 
 use super::Slots;
 use crate::keys::KeyData;
@@ -47,7 +47,8 @@ impl<P, L: Layout<P>> Slots<P, L> {
     /// The payload of a key that is live, with no look-up.
     pub fn get_unchecked(&self, key: KeyData) -> &P
         requires { IsLive self.now key }
-        ensures { map.get self.now.live key ≡ Some result.now }
+        ensures value { map.get self.now.live key ≡ Some result.now }
+        ensures valid { IsContent true self.now }
     {
         self.layout.payload(key.idx() as usize)
     }
@@ -64,12 +65,14 @@ impl<P, L: Layout<P>> Slots<P, L> {
 
     /// The live key with the least index from `start` on.
     pub fn live_from(&self, start: usize) -> Option<KeyData>
-        requires { start ≤ places self.now + 1 }
         ensures live { IfSome result (λ key. IsLive self.now key × (start ≤ key.index)) }
         ensures first { IfSome result (λ key. (other : Key) → IsLive self.now other → start ≤ other.index → key.index ≤ other.index) }
         ensures none { IfNone result ((other : Key) → IsLive self.now other → other.index < start) }
         ensures valid { IsContent true self.now }
     {
+        if start >= self.layout.len() {
+            return None;
+        }
         let index = self.layout.next_live(start);
         let version = self.layout.find_version(index)?;
         Some(KeyData::exact(index as u32, version))

@@ -14,10 +14,12 @@ use crate::layout::{Layout, Link};
 impl<P, L: Layout<P>> Slots<P, L> {
     /// Takes a live key's payload out and keeps its place for the key, or answers none where the key
     /// isn't live.
+    #[tactic(auto, using(crate::proofs::Callers::remove_stale))]
     pub fn detach(&mut self, key: KeyData) -> Option<P>
         ensures value { result ≡ map.get self.old.live key }
         ensures detaches { OnSome result (Detaches self.old key self.new) }
         ensures unchanged { IfNone result (self.new ≡ self.old) }
+        ensures live { self.new.live ≡ map.remove self.old.live key }
         ensures valid { StaysValid true self.old self.new }
     {
         if self.contains_key(key) {

@@ -3,7 +3,7 @@
 ghost use Rattle.std.specs.Prelude.{◌≡◌, ◌+◌, ◌<◌, ◌≤◌, OnSome, IfNone, Some, true};
 ghost use Rattle.std.specs.FinMap as map;
 ghost use Rattle.slotmap_core.specs.Key.{Key};
-ghost use Rattle.slotmap_core.specs.Content.{IsLive, places};
+ghost use Rattle.slotmap_core.specs.Content.{IsLive};
 ghost use Rattle.slotmap_core.specs.Listing.{NoneBelow};
 ghost use Rattle.slotmap_core.specs.Transition.{Removes, Leaves, FreesByIndex};
 ghost use Rattle.slotmap_core.specs.Call.{StaysValid};
@@ -14,10 +14,12 @@ use crate::layout::{Layout, Link};
 
 impl<P, L: Layout<P>> Slots<P, L> {
     /// Takes a live key's payload out, or answers none where the key isn't live.
+    #[tactic(auto, using(crate::proofs::Callers::remove_stale))]
     pub fn remove(&mut self, key: KeyData) -> Option<P>
         ensures value { result ≡ map.get self.old.live key }
         ensures removes { OnSome result (Removes self.old key self.new) }
         ensures unchanged { IfNone result (self.new ≡ self.old) }
+        ensures live { self.new.live ≡ map.remove self.old.live key }
         ensures valid { StaysValid true self.old self.new }
     {
         if self.contains_key(key) {
@@ -52,7 +54,6 @@ impl<P, L: Layout<P>> Slots<P, L> {
 impl<P: Drop, L: Layout<P>> Slots<P, L> {
     /// Removes the live keys from this index on, by ascending index, and drops their payloads.
     pub fn clear_from(&mut self, start: usize)
-        requires { start ≤ places self.old + 1 }
         ensures empty { NoneBelow self.old.live start → self.new.live ≡ map.empty }
         ensures stay { (k : Key) → k.index < start → map.get self.new.live k ≡ map.get self.old.live k }
         ensures leaves { Leaves self.old self.new }

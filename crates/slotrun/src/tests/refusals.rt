@@ -15,13 +15,13 @@ use std::test::Fail;
 
 #[test]
 fn words(rt: HostRuntime) -> Result<(), Fail> {
-    let table: [(LineReply, &str); 4] = [
+    let mut table: [(LineReply, &str); 4] = [
         (Reply::Full(None), "full\n"),
         (Reply::Full(Some(5)), "full\n"),
         (Reply::Memory(None), "memory\n"),
         (Reply::Memory(Some(5)), "memory\n"),
     ];
-    for (reply, want) in &table {
+    for (reply, want) in &mut table {
         let mut output = Vec::new(rt.alloc());
         write_reply(&mut output, reply)?;
         assert_eq!(rt; output.as_slice(), want.as_bytes());

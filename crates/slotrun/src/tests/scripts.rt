@@ -1,6 +1,8 @@
 //! Scripts with the reply to each line, and lines that are bad.
 
 use super::outcome;
+use std::alloc::Global;
+use std::process::Abort;
 use std::test::Fail;
 
 // Each line of a script, and its reply.
@@ -209,20 +211,106 @@ const SCRIPTS: [&[(&str, &str)]; 16] = [
     ],
 ];
 
-#[test]
-fn replies(rt: HostRuntime) -> Result<(), Fail> {
-    for lines in SCRIPTS {
-        let mut script = String::new(rt.alloc());
-        let mut want = String::new(rt.alloc());
-        for (line, reply) in lines {
+// The packed order shows in no reply: keys come by ascending index. It decides which place a cleared map uses first.
+const DENSE_SCRIPTS: [&[(&str, &str)]; 1] = [&[
+    ("insert 1", "key 4294967297"),
+    ("insert 2", "key 4294967298"),
+    ("insert 3", "key 4294967299"),
+    ("remove 4294967297", "value 1"),
+    ("keys", "keys 4294967298 4294967299"),
+    (
+        "slots",
+        "[{\"value\":null,\"version\":0},{\"value\":null,\"version\":2},{\"value\":2,\"version\":1},{\"value\":3,\"version\":1}]",
+    ),
+    ("detach 4294967298", "value 2"),
+    ("insert 4", "key 12884901889"),
+    ("reattach 4294967298 5", "done"),
+    ("insert 6", "key 4294967300"),
+    ("keys", "keys 12884901889 4294967298 4294967299 4294967300"),
+    ("clear", "done"),
+    ("insert 7", "key 12884901891"),
+    (
+        "load [{\"version\":0},{\"value\":7,\"version\":1},{\"version\":2}]",
+        "done",
+    ),
+    ("insert 8", "key 12884901890"),
+    ("len", "len 2"),
+]];
+
+// The same on a map whose walks hop.
+const HOP_SCRIPTS: [&[(&str, &str)]; 3] = [
+    &[
+        ("insert 5", "key 4294967297"),
+        ("insert 6", "key 4294967298"),
+        ("remove 4294967297", "value 5"),
+        (
+            "slots",
+            "[{\"value\":null,\"version\":0},{\"value\":null,\"version\":2},{\"value\":6,\"version\":1}]",
+        ),
+    ],
+    // The block at the head of the list is used first, from its back, and that of place 0 last.
+    &[
+        ("insert 1", "key 4294967297"),
+        ("insert 2", "key 4294967298"),
+        ("insert 3", "key 4294967299"),
+        ("insert 4", "key 4294967300"),
+        ("insert 5", "key 4294967301"),
+        ("remove 4294967297", "value 1"),
+        ("remove 4294967299", "value 3"),
+        ("keys", "keys 4294967298 4294967300 4294967301"),
+        ("insert 6", "key 12884901891"),
+        ("insert 7", "key 12884901889"),
+        ("insert 8", "key 4294967302"),
+        ("get 4294967299", "none"),
+        ("get 12884901891", "value 6"),
+        ("len", "len 6"),
+        ("clear", "done"),
+        ("insert 9", "key 12884901894"),
+    ],
+    // A place is retired after its last key.
+    &[
+        (
+            "load [{\"value\":null,\"version\":0},{\"value\":7,\"version\":4294967295}]",
+            "done",
+        ),
+        ("remove 18446744069414584321", "value 7"),
+        ("insert 8", "key 4294967298"),
+        (
+            "slots",
+            "[{\"value\":null,\"version\":0},{\"value\":null,\"version\":0},{\"value\":8,\"version\":1}]",
+        ),
+        ("load []", "first not empty"),
+        ("load [{\"version\":0},{\"version\":1}]", "inconsistent 1"),
+        ("load x", "shape"),
+        ("len", "len 1"),
+    ],
+];
+
+fn hold_replies(
+    rt: &impl Abort,
+    alloc: Global,
+    kind: &str,
+    scripts: &[&[(&str, &str)]],
+) -> Result<(), Fail> {
+    for lines in scripts {
+        let mut script = String::new(alloc);
+        let mut want = String::new(alloc);
+        for (line, reply) in *lines {
             writeln!(script, "{line}")?;
             writeln!(want, "{reply}")?;
         }
-        let (status, text) = outcome(rt.alloc(), &["basic"], script.as_bytes())?;
+        let (status, text) = outcome(alloc, &[kind], script.as_bytes())?;
         assert_eq!(rt; text.as_str(), want.as_str(), "{script}");
         assert_eq!(rt; status, 0, "{script}");
     }
     Ok(())
+}
+
+#[test]
+fn replies(rt: HostRuntime) -> Result<(), Fail> {
+    hold_replies(&rt, rt.alloc(), "basic", &SCRIPTS)?;
+    hold_replies(&rt, rt.alloc(), "dense", &DENSE_SCRIPTS)?;
+    hold_replies(&rt, rt.alloc(), "hop", &HOP_SCRIPTS)
 }
 
 // Scripts, and which of their lines is the first that is bad.
@@ -274,15 +362,32 @@ const BAD: [(&[u8], usize); 45] = [
     (b"slots\nload [{\"version\":0}]\nload x y\nload ", 4),
 ];
 
-#[test]
-fn bad_lines(rt: HostRuntime) -> Result<(), Fail> {
-    for (script, number) in BAD {
-        let want = format!(in rt.alloc(); "bad line {number}\n")?;
-        let (status, text) = outcome(rt.alloc(), &["basic"], script)?;
+// Lines that a map whose keys can't be detached has not.
+const BAD_HOP: [(&[u8], usize); 2] = [
+    (b"insert 1\ndetach 4294967297\n", 2),
+    (b"reattach 4294967297 1", 1),
+];
+
+fn hold_bad_lines(
+    rt: &impl Abort,
+    alloc: Global,
+    kind: &str,
+    scripts: &[(&[u8], usize)],
+) -> Result<(), Fail> {
+    for (script, number) in scripts {
+        let want = format!(in alloc; "bad line {number}\n")?;
+        let (status, text) = outcome(alloc, &[kind], script)?;
         assert_eq!(rt; text.as_str(), want.as_str(), "{script:?}");
         assert_eq!(rt; status, 2, "{script:?}");
     }
     Ok(())
+}
+
+#[test]
+fn bad_lines(rt: HostRuntime) -> Result<(), Fail> {
+    hold_bad_lines(&rt, rt.alloc(), "basic", &BAD)?;
+    hold_bad_lines(&rt, rt.alloc(), "hop", &BAD)?;
+    hold_bad_lines(&rt, rt.alloc(), "hop", &BAD_HOP)
 }
 
 #[test]

@@ -27,16 +27,17 @@ impl Read for FailingReader {
 #[test]
 fn order_of_faults(rt: HostRuntime) -> Result<(), Fail> {
     let usage = "usage: slotrun basic|dense|hop\n";
-    let table: [(&[&str], &str, u8); 9] = [
+    let table: [(&[&str], &str, u8); 10] = [
         (&[], usage, 2),
         (&[""], usage, 2),
         (&["tree"], usage, 2),
         (&["Basic"], usage, 2),
-        (&["dense"], usage, 2),
-        (&["hop"], usage, 2),
+        (&["Dense"], usage, 2),
+        (&["Hop"], usage, 2),
         (&["basic", "basic"], usage, 2),
         (&["basic", ""], usage, 2),
         (&["basic"], "no script\n", 3),
+        (&["hop"], "no script\n", 3),
     ];
     for (words, want, status) in table {
         let words = list(rt.alloc(), words)?;

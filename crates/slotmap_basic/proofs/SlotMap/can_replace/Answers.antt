@@ -1,6 +1,5 @@
 use Rattle.std.proofs.Common.{sym, ◌∙◌, arith}
 use Rattle.slotmap_core.proofs.DisjointLemmas.{refuses_absent, refuses_again, CanReplace-next}
-use Rattle.slotmap_basic.proofs.WellFormed.{well_formed}
 use Rattle.slotmap_basic.proofs.SlotMap.can_replace.Goals.{then-not-contains_key-via-then-not-contains_key, then-not-contains_key-via-else-not-contains_key+then-contains}
 use Rattle.slotmap_basic.proofs.SlotMap.can_replace.Goals as goal
 
@@ -16,9 +15,3 @@ returns-then-not-contains_key-clause-which g c =
 pub loop-i-preserved : goal.loop-i-preserved
 loop-i-preserved g c =
     CanReplace-next c.args.self.now g.K.Key.data_of c.args.keys.now c.loop-i.i c.index-keys-i.result (omega arith) c.index-keys-i.is g.K.PartialEq.eq g.met.K.Key.eq_by_data c.loop-i.invariant (sym c.contains_key.ensures.value ∙ c.if-not-contains_key.false) (sym c.contains.ensures.value ∙ c.if-contains.false)
-
-pub returns-then-not-contains_key-clause-valid : goal.returns-then-not-contains_key-clause-valid
-returns-then-not-contains_key-clause-valid g c = well_formed c.self.inside _ c.self.view_is c.self.invariant
-
-pub returns-clause-valid : goal.returns-clause-valid
-returns-clause-valid g c = well_formed c.self.inside _ c.self.view_is c.self.invariant

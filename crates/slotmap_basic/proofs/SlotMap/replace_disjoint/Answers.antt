@@ -1,7 +1,7 @@
-use Rattle.std.proofs.Common.{◌≡◌, get_or, length, map as map_list, set, ◌+◌, sym, arith}
+use Rattle.std.proofs.Common.{◌≡◌, get_or, length, map as map_list, set, take, ◌+◌, sym, ap, ◌∙◌, arith}
 use Rattle.std.proofs.lemmas.List.{get_or-map, length-map}
 use Rattle.slotmap_core.specs.Transition.{with_value}
-use Rattle.slotmap_core.proofs.DisjointLemmas.{Exchanged, Exchanged-step, next_live}
+use Rattle.slotmap_core.proofs.DisjointLemmas.{Exchanged, Exchanged-step, next_live, capacity-with_values}
 use Rattle.slotmap_basic.proofs.SlotMap.replace_disjoint.Goals as goal
 
 pub exchange-requires : goal.exchange-requires
@@ -28,3 +28,6 @@ loop-i-preserved g c =
     let step : Exchanged c.args.self.now (map_list data_of keys) c.args.values (with_value at.self k v) (set at.values at.i c.exchange.new.value) (at.i + 1) =
     Exchanged-step c.args.self.now (map_list data_of keys) c.args.values at.self at.values at.i at.invariant k v c.exchange.new.value (omega (arith, length-map keys data_of)) (omega (arith, length-map keys data_of)) there c.index-values-i.is c.exchange.ensures.taken in
     rw (c.exchange.ensures.put, ← c.index-values-i.is) step
+
+pub returns-clause-valid : goal.returns-clause-valid
+returns-clause-valid g c = record { before = c.can_replace.ensures.valid; after = c.loop-i.invariant.well; capacity = ap (λ m. m.capacity) c.loop-i.invariant.put ∙ capacity-with_values c.args.self.now (take c.loop-i.i (map_list g.K.Key.data_of c.args.keys)) (take c.loop-i.i c.args.values) }

@@ -1,81 +1,90 @@
-use Rattle.std.proofs.Common.{◌≡◌, cond, [], ◌∷◌, ◌++◌, refl, sym, ap, ◌∙◌, arith, of_calls}
+use Rattle.std.proofs.Common.{◌≡◌, cond, true, [], ◌∷◌, ◌++◌, refl, sym, ap, ◌∙◌, inl}
 use Rattle.std.specs.FinMap as map
 use Rattle.std.proofs.lemmas.Fn.{FoldsTo-push}
+use Rattle.slotmap_core.specs.Key.{Key}
+use Rattle.slotmap_core.specs.Content.{IsContent, IsLive}
 use Rattle.slotmap_core.specs.Transition.{with_value}
 use Rattle.slotmap_core.specs.Retain.{Visit, CallsAt}
 use Rattle.slotmap_core.proofs.LeaveLemmas.{same_live}
 use Rattle.slotmap_core.proofs.ListingLemmas.{remove-insert}
-use Rattle.slotmap_core.proofs.SweepLemmas.{Swept-start, Swept-on, Swept-written, Swept-removed}
-use Rattle.slotmap_core.proofs.VisitLemmas.{CallsAt-called, Visits-from_start, Visits-at, Visits-past, Visits-to_end, Visits-listed, Visits-stay}
-use Rattle.slotmap_basic.proofs.SlotMap.retain.Goals.{in-Some+then-not-f, in-Some+else-not-f, in_default}
+use Rattle.slotmap_core.proofs.KeyedVisits.{Keyed-from_start, Keyed-next, Keyed-same, Keyed-may_come, Keyed-done}
+use Rattle.slotmap_core.proofs.SweepLemmas.{Swept-start, Swept-on, Swept-next, Swept-removed}
+use Rattle.slotmap_core.proofs.VisitLemmas.{CallsAt-called, Visits-listed, Visits-stay}
 use Rattle.slotmap_basic.proofs.SlotMap.retain.Goals as goal
 
-pub loop-index-init : goal.loop-index-init
-loop-index-init g c =
-    let well = c.place_count-index-end.ensures.valid in
-    record { callable = c.requires; swept = Swept-start c.args.self.now 0 well; visits = []; calls = refl; visited = Visits-from_start g.K.Key.data_of c.args.self.now well }
+pub loop-key-init : goal.loop-key-init
+loop-key-init g c =
+    let well : IsContent true c.args.self.now = rw (← c.self.view_is) c.note_valid.ensures in
+    record { well = well; swept = Swept-start c.args.self.now 0 well; visits = []; calls = refl; visited = Keyed-from_start g.K.Key.data_of c.args.self.now.live }
+
+pub f-requires : goal.f-requires
+f-requires g c =
+    let at = c.loop-key in
+    let key = g.K.Key.data_of c.in-Some.key in
+    let old = c.args.self.now.live in
+    let found = c.in-Some.ensures.live in
+    let visited = at.invariant.visited in
+    c.requires.at at.f c.in-Some.key _ (Keyed-may_come g.K.Key.data_of old g.F.FnMut c.args.f at.f at.invariant.visits at.index at.self.live at.invariant.calls visited key found.0 found.1)
+    (Keyed-same g.K.Key.data_of old at.invariant.visits at.index at.self.live visited key found.1 ∙ c.get_unchecked_mut.ensures.value)
 
 pub take_live-requires : goal.take_live-requires
 take_live-requires g c =
     let key = g.K.Key.data_of c.in-Some.key in
     let found = c.in-Some.ensures.live in
-    same_live c.loop-index.self key c.f.new.arg3 found.0 key ∙ found.0
+    same_live c.loop-key.self key c.f.new.arg3 found.0 key ∙ found.0
 
-pub loop-index-preserved : goal.loop-index-preserved
-loop-index-preserved g c =
-    let at = c.loop-index in
+pub loop-key-preserved-then-not-f : goal.loop-key-preserved-then-not-f
+loop-key-preserved-then-not-f g c =
+    let at = c.loop-key in
     let old = c.args.self.now in
-    let well = c.place_count-index-end.ensures.valid in
-    elim c.match-key_at.branch [
-      | in-Some+then-not-f w ↦
-          let key = g.K.Key.data_of w.in-Some.key in
-          let found = w.in-Some.ensures.live in
-          let visit : Visit g.row.K.Denot g.row.V.Denot = record { key = w.in-Some.key; before = w.get_unchecked_mut.result.now; after = w.f.new.arg3; stays = w.f.result } in
-          let written = Swept-written old at.self at.index key visit.after at.invariant.swept found.0 in
-          let still = same_live at.self key visit.after found.0 key ∙ found.0 in
-          let live : c.match-key_at.self.live ≡ cond visit.stays (map.insert at.self.live key visit.after) (map.remove at.self.live key) =
-          ap (λ m. m.live) w.self-is ∙ w.take_live.ensures.removes.live ∙ remove-insert at.self.live key visit.after
-          ∙ ap (λ b. cond b (map.insert at.self.live key visit.after) (map.remove at.self.live key)) (sym w.if-not-f.true) in
-          record {
-            callable = rw w.f-is (search of_calls);
-            swept = rw w.self-is (Swept-removed old (with_value at.self key visit.after) w.take_live.new.self at.index key written still found.1 w.take_live.ensures.removes w.take_live.ensures.capacity w.take_live.ensures.valid);
-            visits = at.invariant.visits ++ visit ∷ [];
-            calls = rw w.f-is (FoldsTo-push (CallsAt g.F.FnMut) c.args.f at.invariant.visits at.f visit w.f.new.self at.invariant.calls (CallsAt-called g.F.FnMut w.f.ensures));
-            visited = rw live (Visits-at g.K.Key.data_of old well at.invariant.visits at.index at.self.live visit at.invariant.visited found.1 w.get_unchecked_mut.ensures.value);
-          }
-      | in-Some+else-not-f w ↦
-          let key = g.K.Key.data_of w.in-Some.key in
-          let found = w.in-Some.ensures.live in
-          let visit : Visit g.row.K.Denot g.row.V.Denot = record { key = w.in-Some.key; before = w.get_unchecked_mut.result.now; after = w.f.new.arg3; stays = w.f.result } in
-          let written = Swept-written old at.self at.index key visit.after at.invariant.swept found.0 in
-          let live : c.match-key_at.self.live ≡ cond visit.stays (map.insert at.self.live key visit.after) (map.remove at.self.live key) =
-          ap (λ m. m.live) w.self-is ∙ ap (λ b. cond b (map.insert at.self.live key visit.after) (map.remove at.self.live key)) (sym w.if-not-f.false) in
-          record {
-            callable = rw w.f-is (search of_calls);
-            swept = rw w.self-is (Swept-on old (with_value at.self key visit.after) at.index written);
-            visits = at.invariant.visits ++ visit ∷ [];
-            calls = rw w.f-is (FoldsTo-push (CallsAt g.F.FnMut) c.args.f at.invariant.visits at.f visit w.f.new.self at.invariant.calls (CallsAt-called g.F.FnMut w.f.ensures));
-            visited = rw live (Visits-at g.K.Key.data_of old well at.invariant.visits at.index at.self.live visit at.invariant.visited found.1 w.get_unchecked_mut.ensures.value);
-          }
-      | in_default w ↦ record {
-        callable = rw w.f-is at.invariant.callable;
-        swept = rw w.self-is (Swept-on old at.self at.index at.invariant.swept);
-        visits = at.invariant.visits;
-        calls = rw w.f-is at.invariant.calls;
-        visited = rw w.self-is (Visits-past g.K.Key.data_of old well at.invariant.visits at.index at.self.live at.invariant.visited w.in_default.ensures.none);
-      }
-    ]
+    let key = g.K.Key.data_of c.in-Some.key in
+    let found = c.in-Some.ensures.live in
+    let visit : Visit g.row.K.Denot g.row.V.Denot = record { key = c.in-Some.key; before = c.get_unchecked_mut.result.now; after = c.f.new.arg3; stays = c.f.result } in
+    let written = Swept-next old at.self at.index key visit.after at.invariant.swept found.0 found.1 in
+    let still = same_live at.self key visit.after found.0 key ∙ found.0 in
+    let removes = c.take_live.ensures.removes in
+    let valid = c.take_live.ensures.valid in
+    let live : c.take_live.new.self.live ≡ cond visit.stays (map.insert at.self.live key visit.after) (map.remove at.self.live key) =
+    removes.live ∙ remove-insert at.self.live key visit.after ∙ ap (λ b. cond b (map.insert at.self.live key visit.after) (map.remove at.self.live key)) (sym c.if-not-f.true) in
+    let alone : (k q : Key) → IsLive old k → IsLive old q → q.index ≡ k.index → q ≡ k = λ k q is_live other same. at.invariant.well.apart q k (inl (inl other)) (inl (inl is_live)) same in
+    let visited = Keyed-next g.K.Key.data_of old.live alone at.invariant.visits at.index at.self.live visit at.invariant.visited found.1 c.in-Some.ensures.first c.get_unchecked_mut.ensures.value in
+    rw (c.idx.ensures.value, c.data.ensures.value) (record {
+      well = at.invariant.well;
+      swept = Swept-removed old (with_value at.self key visit.after) c.take_live.new.self key.index key written still refl removes valid.capacity valid.after;
+      visits = at.invariant.visits ++ visit ∷ [];
+      calls = FoldsTo-push (CallsAt g.F.FnMut) c.args.f at.invariant.visits at.f visit c.f.new.self at.invariant.calls (CallsAt-called g.F.FnMut c.f.ensures);
+      visited = rw live visited;
+    })
+
+pub loop-key-preserved : goal.loop-key-preserved
+loop-key-preserved g c =
+    let at = c.loop-key in
+    let old = c.args.self.now in
+    let key = g.K.Key.data_of c.in-Some.key in
+    let found = c.in-Some.ensures.live in
+    let visit : Visit g.row.K.Denot g.row.V.Denot = record { key = c.in-Some.key; before = c.get_unchecked_mut.result.now; after = c.f.new.arg3; stays = c.f.result } in
+    let written = Swept-next old at.self at.index key visit.after at.invariant.swept found.0 found.1 in
+    let live : map.insert at.self.live key visit.after ≡ cond visit.stays (map.insert at.self.live key visit.after) (map.remove at.self.live key) =
+    ap (λ b. cond b (map.insert at.self.live key visit.after) (map.remove at.self.live key)) (sym c.if-not-f.false) in
+    let alone : (k q : Key) → IsLive old k → IsLive old q → q.index ≡ k.index → q ≡ k = λ k q is_live other same. at.invariant.well.apart q k (inl (inl other)) (inl (inl is_live)) same in
+    let visited = Keyed-next g.K.Key.data_of old.live alone at.invariant.visits at.index at.self.live visit at.invariant.visited found.1 c.in-Some.ensures.first c.get_unchecked_mut.ensures.value in
+    rw (c.idx.ensures.value, c.data.ensures.value) (record {
+      well = at.invariant.well;
+      swept = Swept-on old (with_value at.self key visit.after) key.index written;
+      visits = at.invariant.visits ++ visit ∷ [];
+      calls = FoldsTo-push (CallsAt g.F.FnMut) c.args.f at.invariant.visits at.f visit c.f.new.self at.invariant.calls (CallsAt-called g.F.FnMut c.f.ensures);
+      visited = rw live visited;
+    })
 
 pub returns-clause-retained : goal.returns-clause-retained
 returns-clause-retained g c =
-    let at = c.loop-index in
-    let old = c.args.self.now in
-    let counted = c.place_count-index-end.ensures in
-    let visited = Visits-to_end g.K.Key.data_of old counted.valid at.invariant.visits at.index at.self.live at.invariant.visited (omega (arith, counted.count)) in
+    let at = c.loop-key in
+    let old = c.args.self.now.live in
+    let visited = Keyed-done g.K.Key.data_of old at.invariant.visits at.index at.self.live at.invariant.visited c.in_default.ensures.none in
     record {
       visits = at.invariant.visits;
       last = at.f;
       calls = at.invariant.calls;
-      listed = Visits-listed g.K.Key.data_of old.live at.invariant.visits at.self.live visited;
-      stay = Visits-stay g.K.Key.data_of old.live at.invariant.visits at.self.live visited;
+      listed = Visits-listed g.K.Key.data_of old at.invariant.visits at.self.live visited;
+      stay = Visits-stay g.K.Key.data_of old at.invariant.visits at.self.live visited;
     }

@@ -1,13 +1,11 @@
-use Rattle.std.proofs.Common.{◌≡◌, ◌+◌, ◌≤◌, true, refl, ap, sym, ◌∙◌, inl, arith}
-use Rattle.slotmap_core.specs.Key.{Key}
-use Rattle.slotmap_core.specs.Content.{IsLive, places}
+use Rattle.std.proofs.Common.{true, refl, ap, ◌∙◌, inl, arith}
 use Rattle.slotmap_core.proofs.PlaceCount.{removed_places}
 use Rattle.slotmap_core.proofs.IndexLemmas.{alone_at, NoneBelow-removed, none_live, get-remove_other}
 use Rattle.slotmap_core.proofs.SweepLemmas.{Swept-start, Swept-to, Swept-removed}
 use Rattle.slotmap_core.proofs.slots.Slots.clear_from.Goals as goal
 
 pub loop-key-init : goal.loop-key-init
-loop-key-init g c = record { within = c.requires; swept = Swept-start c.args.self.now c.args.start c.note_valid.ensures; stay = λ k below. refl; from = omega arith; above = λ none. none }
+loop-key-init g c = record { swept = Swept-start c.args.self.now c.args.start c.note_valid.ensures; stay = λ k below. refl; from = omega arith; above = λ none. none }
 
 pub loop-key-preserved : goal.loop-key-preserved
 loop-key-preserved g c =
@@ -20,9 +18,7 @@ loop-key-preserved g c =
     let removes = c.take.ensures.removes in
     let valid = c.take.ensures.valid in
     let after = Swept-removed c.args.self.now at.self c.take.new.self key.index key swept found.0 refl removes valid.capacity valid.after in
-    let places_same : places c.take.new.self ≡ places at.self = after.leaves.same_places ∙ sym at.invariant.swept.leaves.same_places in
     rw c.idx.ensures.value (record {
-      within = omega (arith, (swept.well.within key (inl (inl found.0))).1);
       swept = after;
       stay = λ k below. rw removes.live (get-remove_other at.self.live key k (λ same. omega (arith, ap (λ q. q.index) same, at.invariant.from)) ∙ at.invariant.stay k below);
       from = omega (arith, at.invariant.from);
@@ -42,6 +38,3 @@ pub returns-clause-empty : goal.returns-clause-empty
 returns-clause-empty g c = λ none.
     let at = c.loop-key in
     none_live at.self.live (λ q there. absurd (omega (arith, c.in_default.ensures.none q there, at.invariant.above none q there)))
-
-pub returns-clause-valid : goal.returns-clause-valid
-returns-clause-valid g c = record { before = c.note_valid.ensures; after = c.loop-key.invariant.swept.well; capacity = c.loop-key.invariant.swept.capacity }

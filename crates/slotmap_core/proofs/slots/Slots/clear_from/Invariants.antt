@@ -8,7 +8,6 @@ use Rattle.slotmap_core.proofs.slots.Slots.clear_from.Given as goal
 
 abbrev pub invariant-loop-key : goal.invariant-loop-key
 invariant-loop-key g l = record {
-  within : l.index ≤ places l.self + 1;
   swept : Swept true l.fn.self l.self l.index;
   stay : (k : Key) → k.index < l.start → map.get l.self.live k ≡ map.get l.fn.self.live k;
   from : l.start ≤ l.index;

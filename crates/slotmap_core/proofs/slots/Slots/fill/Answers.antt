@@ -1,11 +1,11 @@
-use Rattle.std.proofs.Common.{◌≡◌, ◌+◌, ◌<◌, Some, length, refl, ap, sym, ◌∙◌, arith}
+use Rattle.std.proofs.Common.{◌+◌, ◌<◌, length, ap, sym, ◌∙◌, arith}
 use Rattle.std.proofs.lemmas.List.{length_push}
 use Rattle.std.proofs.lemmas.Option.{slice_get_within, same_Some}
 use Rattle.slotmap_core.specs.Slot.{full}
 use Rattle.slotmap_core.proofs.PlacesLemmas.{key}
 use Rattle.slotmap_core.proofs.SlotLemmas.{taken-slots}
-use Rattle.slotmap_core.proofs.SlotGrowth.{IsSound-pushed, inserts-pushed, top, top_read, top_link, top_version, offer-top, same_next, IsSound-filled, inserts-filled}
-use Rattle.slotmap_core.proofs.HeldLemmas.{held_valid, held_room, held_fits, held-set}
+use Rattle.slotmap_core.proofs.SlotGrowth.{IsSound-pushed, inserts-pushed, top, top_read, top_link, top_version, offer-top, same_next, filled_top, inserts-filled}
+use Rattle.slotmap_core.proofs.HeldLemmas.{held_stays, held_room, held_fits, held-set}
 use Rattle.slotmap_core.proofs.slots.Slots.fill.Goals as goal
 
 pub push-requires : goal.push-requires
@@ -24,11 +24,7 @@ returns-then-self-eq0-clause-inserts g c =
     rw (← c.self.view_is, c.push.ensures.pushed, c.push.ensures.same_room) (inserts-pushed _ _ _ _ c.self.invariant.sound c.args.payload _ room.0 c.if-self-eq0.true)
 
 pub returns-then-self-eq0-clause-valid : goal.returns-then-self-eq0-clause-valid
-returns-then-self-eq0-clause-valid g c = record {
-  before = held_valid _ _ _ _ _ c.self.invariant c.self.view_is;
-  after = held_valid _ _ _ _ _ (invariant_of-self g c) refl;
-  capacity = rw (← c.self.view_is, c.push.ensures.same_room) refl;
-}
+returns-then-self-eq0-clause-valid g c = held_stays _ _ _ _ _ c.self.invariant c.self.view_is _ _ _ _ _ (invariant_of-self g c) c.push.ensures.same_room
 
 pub link-requires : goal.link-requires
 link-requires g c = slice_get_within _ _ _ (top _ _ _ _ c.self.invariant.sound (omega arith)).there
@@ -59,7 +55,7 @@ invariant_of-self-in-Free g c =
     let t = top _ _ _ _ c.self.invariant.sound (omega arith) in
     let read = same_Some _ _ (sym c.version-version.ensures ∙ top_read _ _ _ _ c.self.invariant.sound t) in
     let next = same_next _ _ (sym c.in-Free.is ∙ same_Some _ _ (sym c.link.ensures ∙ top_link _ _ _ _ c.self.invariant.sound t)) in
-    rw (c.put.ensures.put, c.put.ensures.same_room, read, next) (held-set _ _ _ _ _ c.self.invariant _ _ (IsSound-filled _ _ _ _ c.self.invariant.sound t c.args.payload))
+    rw (c.put.ensures.put, c.put.ensures.same_room, read, next) (held-set _ _ _ _ _ c.self.invariant _ _ (filled_top _ _ _ _ c.self.invariant.sound t c.args.payload).sound)
 
 pub unreachable-requires : goal.unreachable-requires
 unreachable-requires g c =
@@ -81,8 +77,4 @@ returns-clause-inserts g c =
     rw (← c.self.view_is, c.put.ensures.put, c.put.ensures.same_room, read, next) (inserts-filled _ _ _ _ c.self.invariant.sound t c.args.payload _ room.0)
 
 pub returns-clause-valid : goal.returns-clause-valid
-returns-clause-valid g c = record {
-  before = held_valid _ _ _ _ _ c.self.invariant c.self.view_is;
-  after = held_valid _ _ _ _ _ (invariant_of-self-in-Free g c) refl;
-  capacity = rw (← c.self.view_is, c.put.ensures.same_room) refl;
-}
+returns-clause-valid g c = held_stays _ _ _ _ _ c.self.invariant c.self.view_is _ _ _ _ _ (invariant_of-self-in-Free g c) c.put.ensures.same_room

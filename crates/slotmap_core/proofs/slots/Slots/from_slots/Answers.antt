@@ -1,7 +1,6 @@
-use Rattle.std.proofs.Common.{◌≡◌, ◌+◌, [], ◌∷◌, ◌++◌, Some, None, length, true, refl, sym, ap, subst, ◌∙◌, append_assoc, append-nil, arith, add-one}
+use Rattle.std.proofs.Common.{◌≡◌, [], ◌∷◌, ◌++◌, Some, length, true, refl, sym, ap, subst, ◌∙◌, append_assoc, append-nil, length-append, arith}
 use Rattle.std.specs.Vec.Iter.{into_iter_items}
 use Rattle.std.proofs.lemmas.List.{length_push, nil_from_length}
-use Rattle.slotmap_core.specs.Contents.{StartsFrom}
 use Rattle.slotmap_core.specs.Slots.{Accepts, AllFitBelow}
 use Rattle.slotmap_core.specs.Slot.{full, empty}
 use Rattle.slotmap_core.specs.declared.layout.Link.TheVariants.{Free, Retired}
@@ -9,16 +8,6 @@ use Rattle.slotmap_core.proofs.StartFits.{starts-stack}
 use Rattle.slotmap_core.proofs.SlotLemmas.{valid}
 use Rattle.slotmap_core.proofs.ListReadLemmas.{AreRead-first, AreRead-live, AreRead-retired, AreRead-vacant, next_consistent, taken_first, some_records, IsSound-read, walk-read, reads_as}
 use Rattle.slotmap_core.proofs.slots.Slots.from_slots.Goals as goal
-
-pub with_capacity-requires : goal.with_capacity-requires
-with_capacity-requires g c =
-    let accepted = subst (λ l. Accepts l 4294967295) c.deref.ensures.value (c.in_ok-check_slots.ensures.ok.0 refl) in
-    omega (arith, accepted.short, c.len.ensures, c.args.list.ok.0)
-
-pub push_empty-requires-clause-room : goal.push_empty-requires-clause-room
-push_empty-requires-clause-room g c =
-    let accepted = subst (λ l. Accepts l 4294967295) c.deref.ensures.value (c.in_ok-check_slots.ensures.ok.0 refl) in
-    rw c.in_ok-layout.ensures.none (omega (arith, c.in_ok-layout.ensures.room, some_records c.args.list.items 4294967295 accepted, c.len.ensures, c.args.list.ok.0))
 
 pub loop-record-init : goal.loop-record-init
 loop-record-init g c =
@@ -30,21 +19,11 @@ loop-record-init g c =
     rw rest (record {
       first = taken.0;
       all = whole;
-      left = omega (arith, taken.2, ap length whole, c.into_iter-records.ensures.len, list.ok.0);
       counted = omega (arith, taken.2, c.into_iter-records.ensures.len, list.ok.0);
       read = rw (c.push_empty.ensures.pushed, c.in_ok-layout.ensures.none) (AreRead-first taken.0);
-      few_free = omega arith;
-      few_live = omega arith;
+      few = omega arith;
       room = rw (c.push_empty.ensures.pushed, c.push_empty.ensures.same_room, c.in_ok-layout.ensures.none) (omega (arith, taken.2, c.into_iter-records.ensures.len, c.in_ok-layout.ensures.room, c.len.ensures));
     })
-
-pub push-requires : goal.push-requires
-push-requires g c = omega (arith, c.loop-record.invariant.room, c.in-Some.ensures.steps.1)
-
-pub overflow_add-live_count : goal.overflow_add-live_count
-overflow_add-live_count g c =
-    let accepted = subst (λ l. Accepts l 4294967295) c.deref.ensures.value (c.in_ok-check_slots.ensures.ok.0 refl) in
-    omega (arith, accepted.short, c.loop-record.invariant.counted, c.loop-record.invariant.few_live)
 
 pub loop-record-preserved-in-Some-value : goal.loop-record-preserved-in-Some-value
 loop-record-preserved-in-Some-value g c =
@@ -56,20 +35,14 @@ loop-record-preserved-in-Some-value g c =
     let accepted = subst (λ l. Accepts l 4294967295) c.deref.ensures.value (c.in_ok-check_slots.ensures.ok.0 refl) in
     let whole : (before.first ∷ at.yielded) ++ made ∷ rest ≡ c.args.list.items = ap (λ xs. before.first ∷ at.yielded ++ xs) (sym steps.0) ∙ before.all in
     let consistent = next_consistent c.args.list.items (before.first ∷ at.yielded) rest made 4294967295 accepted whole in
-    let shrinks : length (into_iter_items at.record-iterator) ≡ length rest + 1 = ap length steps.0 ∙ sym (add-one _) in
     record {
       first = before.first;
       all = ap (λ xs. before.first ∷ xs) (append_assoc at.yielded (made ∷ []) rest) ∙ whole;
-      left = omega (arith, before.left, steps.1, shrinks);
       counted = omega (arith, before.counted, steps.1, length_push at.yielded made);
       read = rw (c.push.ensures.pushed, c.in-Some-value.payload-is) (AreRead-live (before.first ∷ at.yielded) _ _ _ _ before.read made consistent (omega arith) c.in-Some-value.payload c.in-Some-value.is);
-      few_free = omega (arith, before.few_free, length_push at.yielded made);
-      few_live = omega (arith, before.few_live, length_push at.yielded made);
+      few = omega (arith, before.few, length_push at.yielded made);
       room = rw (c.push.ensures.pushed, c.push.ensures.same_room, c.in-Some-value.payload-is) (omega (arith, before.room, steps.1, length_push (g.L.Layout.slots at.layout) (full made.version c.in-Some-value.payload)));
     }
-
-pub push_empty-requires-then-version-eq0-clause-room : goal.push_empty-requires-then-version-eq0-clause-room
-push_empty-requires-then-version-eq0-clause-room g c = omega (arith, c.loop-record.invariant.room, c.in-Some.ensures.steps.1)
 
 pub loop-record-preserved-then-version-eq0 : goal.loop-record-preserved-then-version-eq0
 loop-record-preserved-then-version-eq0 g c =
@@ -81,20 +54,14 @@ loop-record-preserved-then-version-eq0 g c =
     let accepted = subst (λ l. Accepts l 4294967295) c.deref.ensures.value (c.in_ok-check_slots.ensures.ok.0 refl) in
     let whole : (before.first ∷ at.yielded) ++ made ∷ rest ≡ c.args.list.items = ap (λ xs. before.first ∷ at.yielded ++ xs) (sym steps.0) ∙ before.all in
     let consistent = next_consistent c.args.list.items (before.first ∷ at.yielded) rest made 4294967295 accepted whole in
-    let shrinks : length (into_iter_items at.record-iterator) ≡ length rest + 1 = ap length steps.0 ∙ sym (add-one _) in
     record {
       first = before.first;
       all = ap (λ xs. before.first ∷ xs) (append_assoc at.yielded (made ∷ []) rest) ∙ whole;
-      left = omega (arith, before.left, steps.1, shrinks);
       counted = omega (arith, before.counted, steps.1, length_push at.yielded made);
       read = rw c.push_empty-then-version-eq0.ensures.pushed (AreRead-retired (before.first ∷ at.yielded) _ _ _ _ before.read made consistent (omega arith) c.in-None-value.is c.if-version-eq0.true);
-      few_free = omega (arith, before.few_free, length_push at.yielded made);
-      few_live = omega (arith, before.few_live, length_push at.yielded made);
+      few = omega (arith, before.few, length_push at.yielded made);
       room = rw (c.push_empty-then-version-eq0.ensures.pushed, c.push_empty-then-version-eq0.ensures.same_room) (omega (arith, before.room, steps.1, length_push (g.L.Layout.slots at.layout) (empty 0 Retired)));
     }
-
-pub push_empty-requires-else-version-eq0-clause-room : goal.push_empty-requires-else-version-eq0-clause-room
-push_empty-requires-else-version-eq0-clause-room g c = omega (arith, c.loop-record.invariant.room, c.in-Some.ensures.steps.1)
 
 pub loop-record-preserved : goal.loop-record-preserved
 loop-record-preserved g c =
@@ -106,22 +73,19 @@ loop-record-preserved g c =
     let accepted = subst (λ l. Accepts l 4294967295) c.deref.ensures.value (c.in_ok-check_slots.ensures.ok.0 refl) in
     let whole : (before.first ∷ at.yielded) ++ made ∷ rest ≡ c.args.list.items = ap (λ xs. before.first ∷ at.yielded ++ xs) (sym steps.0) ∙ before.all in
     let consistent = next_consistent c.args.list.items (before.first ∷ at.yielded) rest made 4294967295 accepted whole in
-    let shrinks : length (into_iter_items at.record-iterator) ≡ length rest + 1 = ap length steps.0 ∙ sym (add-one _) in
     record {
       first = before.first;
       all = ap (λ xs. before.first ∷ xs) (append_assoc at.yielded (made ∷ []) rest) ∙ whole;
-      left = omega (arith, before.left, steps.1, shrinks);
       counted = omega (arith, before.counted, steps.1, length_push at.yielded made);
       read = rw (c.push_empty-else-version-eq0.ensures.pushed, c.len-index.ensures) (AreRead-vacant (before.first ∷ at.yielded) _ _ _ _ before.read made consistent (omega arith) c.in-None-value.is c.if-version-eq0.false);
-      few_free = omega (arith, before.few_free, length_push at.yielded made);
-      few_live = omega (arith, before.few_live, length_push at.yielded made);
+      few = omega (arith, before.few, length_push at.yielded made);
       room = rw (c.push_empty-else-version-eq0.ensures.pushed, c.push_empty-else-version-eq0.ensures.same_room) (omega (arith, before.room, steps.1, length_push (g.L.Layout.slots at.layout) (empty made.version (Free at.first_vacant))));
     }
 
 pub invariant_of-result : goal.invariant_of-result
 invariant_of-result g c =
     let at = c.loop-record in
-    let none : into_iter_items at.record-iterator ≡ [] = nil_from_length _ (sym at.invariant.left ∙ c.in-None.ensures.steps.0) in
+    let none : into_iter_items at.record-iterator ≡ [] = nil_from_length _ (omega (arith, ap length at.invariant.all, length-append at.yielded (into_iter_items at.record-iterator), at.invariant.counted, c.in-None.ensures.steps.0)) in
     let all : at.invariant.first ∷ at.yielded ≡ c.args.list.items = ap (λ xs. at.invariant.first ∷ xs) (sym (append-nil at.yielded)) ∙ ap (λ xs. at.invariant.first ∷ at.yielded ++ xs) (sym none) ∙ at.invariant.all in
     let accepted = subst (λ l. Accepts l 4294967295) c.deref.ensures.value (c.in_ok-check_slots.ensures.ok.0 refl) in
     let versions_fit = subst (λ l. AllFitBelow l (length l)) c.deref.ensures.value c.in_ok-check_slots.ensures.versions_fit in
@@ -130,7 +94,7 @@ invariant_of-result g c =
 pub returns-clause-reads : goal.returns-clause-reads
 returns-clause-reads g c =
     let at = c.loop-record in
-    let none : into_iter_items at.record-iterator ≡ [] = nil_from_length _ (sym at.invariant.left ∙ c.in-None.ensures.steps.0) in
+    let none : into_iter_items at.record-iterator ≡ [] = nil_from_length _ (omega (arith, ap length at.invariant.all, length-append at.yielded (into_iter_items at.record-iterator), at.invariant.counted, c.in-None.ensures.steps.0)) in
     let all : at.invariant.first ∷ at.yielded ≡ c.args.list.items = ap (λ xs. at.invariant.first ∷ xs) (sym (append-nil at.yielded)) ∙ ap (λ xs. at.invariant.first ∷ at.yielded ++ xs) (sym none) ∙ at.invariant.all in
     let accepted = subst (λ l. Accepts l 4294967295) c.deref.ensures.value (c.in_ok-check_slots.ensures.ok.0 refl) in
     let versions_fit = subst (λ l. AllFitBelow l (length l)) c.deref.ensures.value c.in_ok-check_slots.ensures.versions_fit in

@@ -9,10 +9,8 @@ abbrev pub invariant-loop-record : goal.invariant-loop-record
 invariant-loop-record g l = record {
   first : SlotRecord g.row.P.Denot;
   all : first ∷ l.yielded ++ into_iter_items l.record-iterator ≡ l.fn.list.items;
-  left : into_iter_len l.record-iterator ≡ length (into_iter_items l.record-iterator);
   counted : length l.yielded + into_iter_len l.record-iterator + 1 ≡ length l.fn.list.items;
   read : AreRead (first ∷ l.yielded) (g.L.Layout.slots l.layout) l.first_vacant l.vacant_count l.live_count;
-  few_free : l.vacant_count ≤ length l.yielded;
-  few_live : l.live_count ≤ length l.yielded;
+  few : l.vacant_count + l.live_count ≤ length l.yielded;
   room : length (g.L.Layout.slots l.layout) + into_iter_len l.record-iterator ≤ g.L.Layout.fits l.layout;
 }

@@ -1,13 +1,10 @@
-use Rattle.std.proofs.Common.{◌≡◌, is_some, refl, ap, sym, ◌∙◌}
-use Rattle.slotmap_core.specs.Slot.{payload_at}
-use Rattle.slotmap_core.proofs.SlotLemmas.{IsSound-rewritten, content-rewritten}
-use Rattle.slotmap_core.proofs.HeldLemmas.{held_valid, held_present, with_payload-held}
+use Rattle.std.proofs.Common.{is_some, refl, ap}
+use Rattle.slotmap_core.proofs.SlotLemmas.{content-rewritten}
+use Rattle.slotmap_core.proofs.HeldLemmas.{held_valid, held_present, with_payload-held, held_value}
 use Rattle.slotmap_core.proofs.slots.Slots.get_unchecked_mut.Goals as goal
 
 pub payload_mut-requires : goal.payload_mut-requires
-payload_mut-requires g c =
-    let found = held_present _ _ _ _ _ c.self.invariant c.self.view_is c.args.key c.requires in
-    rw c.idx.ensures.value (ap is_some found.read)
+payload_mut-requires g c = rw c.idx.ensures.value (ap is_some (held_present _ _ _ _ _ c.self.invariant c.self.view_is c.args.key c.requires).read)
 
 pub invariant_of-self-lent : goal.invariant_of-self-lent
 invariant_of-self-lent g c w =
@@ -20,7 +17,7 @@ returns g c =
       (refl, λ w. rw (← c.self.view_is, g.met.L.Layout.slots_with, g.met.L.Layout.fits_with, c.idx.ensures.value) (content-rewritten _ _ _ _ c.self.invariant.sound _ _ _ found.there w _)),
       record {
         writes_back = tt;
-        value = rw (← c.self.view_is) (found.gives ∙ sym found.read ∙ ap (payload_at (g.L.Layout.slots c.self.inside.layout)) (sym c.idx.ensures.value) ∙ c.payload_mut.ensures.value);
+        value = held_value _ _ _ _ _ c.self.invariant c.self.view_is c.args.key c.requires _ c.idx.ensures.value _ c.payload_mut.ensures.value;
         valid = held_valid _ _ _ _ _ c.self.invariant c.self.view_is;
       },
     )

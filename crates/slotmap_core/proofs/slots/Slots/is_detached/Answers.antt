@@ -1,4 +1,4 @@
-use Rattle.std.proofs.Common.{◌≡◌, ◌==◌, None, Some, ap, sym, ◌∙◌}
+use Rattle.std.proofs.Common.{◌==◌, Some, ap, sym, ◌∙◌}
 use Rattle.std.proofs.lemmas.Option.{slice_get_within}
 use Rattle.slotmap_core.specs.Slot.{version_at, link_at, version_before}
 use Rattle.slotmap_core.proofs.ListLemmas.{none_from}
@@ -16,9 +16,7 @@ pub returns-in_default-clause-valid : goal.returns-in_default-clause-valid
 returns-in_default-clause-valid g c = held_valid _ _ _ _ _ c.self.invariant c.self.view_is
 
 pub link-requires : goal.link-requires
-link-requires g c =
-    let there = slot_at (g.L.Layout.slots c.self.inside.layout) c.idx-index.result c.in-Some.version (sym c.in-Some.ensures) in
-    slice_get_within _ _ _ there.1
+link-requires g c = slice_get_within _ _ _ (slot_at (g.L.Layout.slots c.self.inside.layout) c.idx-index.result c.in-Some.version (sym c.in-Some.ensures)).1
 
 pub returns-in-Detached-clause-value : goal.returns-in-Detached-clause-value
 returns-in-Detached-clause-value g c =

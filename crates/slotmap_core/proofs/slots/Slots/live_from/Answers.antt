@@ -1,12 +1,16 @@
-use Rattle.std.proofs.Common.{ap, sym, ◌∙◌, inl, arith}
+use Rattle.std.proofs.Common.{sym, inl, arith}
 use Rattle.slotmap_core.specs.Content.{IsLive}
 use Rattle.slotmap_core.proofs.ListLemmas.{if_none}
 use Rattle.slotmap_core.proofs.PlacesLemmas.{key}
 use Rattle.slotmap_core.proofs.HeldLemmas.{held_valid, held_places, held_live, held_passed, held_ended}
 use Rattle.slotmap_core.proofs.slots.Slots.live_from.Goals as goal
 
-pub next_live-index-requires : goal.next_live-index-requires
-next_live-index-requires g c = omega (arith, held_places _ _ _ _ _ c.self.invariant c.self.view_is, c.requires)
+pub returns-then-start-len-clause-none : goal.returns-then-start-len-clause-none
+returns-then-start-len-clause-none g c = λ other live.
+    omega (arith, ((held_valid _ _ _ _ _ c.self.invariant c.self.view_is).within other (inl (inl live))).1, held_places _ _ _ _ _ c.self.invariant c.self.view_is, c.len.ensures, c.if-start-len.true)
+
+pub returns-then-start-len-clause-valid : goal.returns-then-start-len-clause-valid
+returns-then-start-len-clause-valid g c = held_valid _ _ _ _ _ c.self.invariant c.self.view_is
 
 pub returns-in_err-version-clause-none : goal.returns-in_err-version-clause-none
 returns-in_err-version-clause-none g c =

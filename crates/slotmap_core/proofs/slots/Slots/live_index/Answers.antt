@@ -1,4 +1,4 @@
-use Rattle.std.proofs.Common.{◌≡◌, Some, None, ap, sym, ◌∙◌, eq-eqb, ne_eqb}
+use Rattle.std.proofs.Common.{ap, sym, ◌∙◌, eq-eqb, ne_eqb}
 use Rattle.slotmap_core.specs.Slot.{version_at}
 use Rattle.slotmap_core.proofs.ListLemmas.{if_none}
 use Rattle.slotmap_core.proofs.SlotLemmas.{contains-version, contains-past}

@@ -1,14 +1,12 @@
-use Rattle.std.proofs.Common.{◌≡◌, ◌+◌, ◌<◌, length, ap, sym, ◌∙◌, arith}
+use Rattle.std.proofs.Common.{◌+◌, ◌<◌, length, ap, sym, ◌∙◌, arith}
 use Rattle.std.proofs.lemmas.Option.{slice_get_within, same_Some}
 use Rattle.slotmap_core.proofs.PlacesLemmas.{key}
-use Rattle.slotmap_core.proofs.SlotGrowth.{top, top_version, top_read, offer-top, offer-none}
-use Rattle.slotmap_core.proofs.HeldLemmas.{held_room, held_fits, held_used}
+use Rattle.slotmap_core.proofs.SlotGrowth.{top, top_version, top_read, offer-top}
+use Rattle.slotmap_core.proofs.HeldLemmas.{held_fits}
 use Rattle.slotmap_core.proofs.slots.Slots.next_key.Goals as goal
 
 pub version-requires : goal.version-requires
-version-requires g c =
-    let t = top _ _ _ _ c.self.invariant.sound (omega arith) in
-    slice_get_within _ _ _ t.there
+version-requires g c = slice_get_within _ _ _ (top _ _ _ _ c.self.invariant.sound (omega arith)).there
 
 pub overflow_add-version : goal.overflow_add-version
 overflow_add-version g c =

@@ -1,6 +1,6 @@
-use Rattle.std.proofs.Common.{◌≡◌, ◌+◌, ◌<◌, refl, arith}
+use Rattle.std.proofs.Common.{◌<◌, arith}
 use Rattle.slotmap_core.proofs.ListLemmas.{err_not_ok}
-use Rattle.slotmap_core.proofs.HeldLemmas.{held_fits, held_used, held_lacks, grown_refused, grown_granted}
+use Rattle.slotmap_core.proofs.HeldLemmas.{held_fits, held_used, held_lacks, grown}
 use Rattle.slotmap_core.proofs.slots.Slots.reserve.Goals as goal
 
 pub reserve-requires : goal.reserve-requires
@@ -13,7 +13,7 @@ returns-in_err-reserve-clause-makes_room g c =
     held_lacks _ _ _ _ _ c.self.invariant c.self.view_is c.args.additional
     (omega (arith, c.used-used.ensures.value, c.used-used.ensures.below, c.if-additional-used.false))
     (omega (arith, c.used-used.ensures.value, c.used-used.ensures.fits, c.capacity.ensures.value, c.if-additional-capacity.false)) in
-    rw c.in_err-reserve.ensures.same (grown_refused _ _ _ _ _ c.self.invariant c.self.view_is _ c.in_err-reserve.ensures.grows c.args.additional _ none (err_not_ok _ c.from_residual.ensures.0))
+    rw c.in_err-reserve.ensures.same (grown _ _ _ _ _ c.self.invariant c.self.view_is _ c.in_err-reserve.ensures.grows c.args.additional _ none (λ is. absurd (err_not_ok _ c.from_residual.ensures.0 is)))
 
 pub returns-clause-makes_room : goal.returns-clause-makes_room
 returns-clause-makes_room g c =
@@ -21,6 +21,7 @@ returns-clause-makes_room g c =
     held_lacks _ _ _ _ _ c.self.invariant c.self.view_is c.args.additional
     (omega (arith, c.used-used.ensures.value, c.used-used.ensures.below, c.if-additional-used.false))
     (omega (arith, c.used-used.ensures.value, c.used-used.ensures.fits, c.capacity.ensures.value, c.if-additional-capacity.false)) in
-    rw c.in_ok-reserve.ensures.same (grown_granted _ _ _ _ _ c.self.invariant c.self.view_is _ c.in_ok-reserve.ensures.grows c.args.additional _ none refl
-    (omega (arith, c.used-used.ensures.value, c.used-used.ensures.below, c.if-additional-used.false))
-    (omega (arith, held_used _ _ _ _ _ c.self.invariant c.self.view_is, c.used-used.ensures.value, c.in_ok-reserve.ensures.room)))
+    rw c.in_ok-reserve.ensures.same (grown _ _ _ _ _ c.self.invariant c.self.view_is _ c.in_ok-reserve.ensures.grows c.args.additional _ none (λ is. (
+      omega (arith, c.used-used.ensures.value, c.used-used.ensures.below, c.if-additional-used.false),
+      omega (arith, held_used _ _ _ _ _ c.self.invariant c.self.view_is, c.used-used.ensures.value, c.in_ok-reserve.ensures.room),
+    )))

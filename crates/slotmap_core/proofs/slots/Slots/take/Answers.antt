@@ -1,78 +1,59 @@
-use Rattle.std.proofs.Common.{◌≡◌, ◌+◌, true, false, nat_eq, is_some, length, refl, ap, sym, ◌∙◌, arith, eq-eqb}
-use Rattle.std.proofs.lemmas.List.{length-set}
+use Rattle.std.proofs.Common.{◌≡◌, true, false, nat_eq, is_some, ap, sym, ◌∙◌, arith, eq-eqb, ne_eqb}
 use Rattle.slotmap_core.specs.Key.{last_version}
-use Rattle.slotmap_core.specs.Slot.{payload_at}
-use Rattle.slotmap_core.specs.declared.layout.Link.TheVariants.{Free, Retired}
-use Rattle.slotmap_core.proofs.SlotLemmas.{not_last, count_positive, free_below, IsSound-freed, after-freed, IsSound-retired, after-retired, removes-slots}
-use Rattle.slotmap_core.proofs.HeldLemmas.{held_valid, held_present, held_fits, held-set}
+use Rattle.slotmap_core.proofs.SlotLemmas.{count_positive, free_below, freed, removes-freed, retired, removes-retired}
+use Rattle.slotmap_core.proofs.HeldLemmas.{held_stays, held_present, held_fits, held-set, held_value}
 use Rattle.slotmap_core.proofs.slots.Slots.take.Goals as goal
 
 pub overflow_sub-self : goal.overflow_sub-self
 overflow_sub-self g c =
-    let found = held_present _ _ _ _ _ c.self.invariant c.self.view_is c.args.key c.requires in
-    count_positive _ _ _ _ c.self.invariant.sound _ _ _ found.there
+    count_positive _ _ _ _ c.self.invariant.sound _ _ _ (held_present _ _ _ _ _ c.self.invariant c.self.view_is c.args.key c.requires).there
 
 pub take-requires-clause-there : goal.take-requires-clause-there
 take-requires-clause-there g c =
-    let found = held_present _ _ _ _ _ c.self.invariant c.self.view_is c.args.key c.requires in
-    rw c.idx-index.ensures.value (ap is_some found.read)
+    rw c.idx-index.ensures.value (ap is_some (held_present _ _ _ _ _ c.self.invariant c.self.view_is c.args.key c.requires).read)
 
 pub invariant_of-self : goal.invariant_of-self
 invariant_of-self g c =
     let found = held_present _ _ _ _ _ c.self.invariant c.self.view_is c.args.key c.requires in
     let last : nat_eq c.args.key.version last_version ≡ true = eq-eqb _ _ (sym c.version-version.ensures.value ∙ c.if-version.true) in
-    rw (c.take.ensures.left, c.take.ensures.same_room, c.idx-index.ensures.value) (held-set _ _ _ _ _ c.self.invariant _ _ (IsSound-retired _ _ _ _ c.self.invariant.sound _ _ _ found.there last))
+    rw (c.take.ensures.left, c.take.ensures.same_room, c.idx-index.ensures.value) (held-set _ _ _ _ _ c.self.invariant _ _ (retired _ _ _ _ c.self.invariant.sound _ _ _ found.there last).sound)
 
 pub returns-then-version-clause-value : goal.returns-then-version-clause-value
-returns-then-version-clause-value g c =
-    let found = held_present _ _ _ _ _ c.self.invariant c.self.view_is c.args.key c.requires in
-    rw (← c.self.view_is) (found.gives ∙ sym found.read ∙ ap (payload_at (g.L.Layout.slots c.self.inside.layout)) (sym c.idx-index.ensures.value) ∙ c.take.ensures.value)
+returns-then-version-clause-value g c = held_value _ _ _ _ _ c.self.invariant c.self.view_is c.args.key c.requires _ c.idx-index.ensures.value _ c.take.ensures.value
 
 pub returns-then-version-clause-removes : goal.returns-then-version-clause-removes
 returns-then-version-clause-removes g c =
     let found = held_present _ _ _ _ _ c.self.invariant c.self.view_is c.args.key c.requires in
     let last : nat_eq c.args.key.version last_version ≡ true = eq-eqb _ _ (sym c.version-version.ensures.value ∙ c.if-version.true) in
-    rw (← c.self.view_is, c.take.ensures.left, c.take.ensures.same_room, c.idx-index.ensures.value) (removes-slots _ _ _ _ c.self.invariant.sound _ _ _ found.there _ _ (after-retired _ _ _ _ c.self.invariant.sound _ _ _ found.there _ last))
+    rw (← c.self.view_is, c.take.ensures.left, c.take.ensures.same_room, c.idx-index.ensures.value) (removes-retired _ _ _ _ c.self.invariant.sound _ _ _ found.there last _)
 
 pub returns-then-version-clause-valid : goal.returns-then-version-clause-valid
-returns-then-version-clause-valid g c = record {
-  before = held_valid _ _ _ _ _ c.self.invariant c.self.view_is;
-  after = held_valid _ _ _ _ _ (invariant_of-self g c) refl;
-  capacity = rw (← c.self.view_is, c.take.ensures.same_room) refl;
-}
+returns-then-version-clause-valid g c = held_stays _ _ _ _ _ c.self.invariant c.self.view_is _ _ _ _ _ (invariant_of-self g c) c.take.ensures.same_room
 
 pub take-payload-requires-clause-there : goal.take-payload-requires-clause-there
 take-payload-requires-clause-there g c =
-    let found = held_present _ _ _ _ _ c.self.invariant c.self.view_is c.args.key c.requires in
-    rw c.idx-index.ensures.value (ap is_some found.read)
+    rw c.idx-index.ensures.value (ap is_some (held_present _ _ _ _ _ c.self.invariant c.self.view_is c.args.key c.requires).read)
 
 pub overflow_add-self : goal.overflow_add-self
 overflow_add-self g c =
-    let found = held_present _ _ _ _ _ c.self.invariant c.self.view_is c.args.key c.requires in
-    omega (arith, free_below _ _ _ _ c.self.invariant.sound _ _ _ found.there, held_fits _ _ _ _ _ c.self.invariant c.self.view_is)
+    omega (arith, free_below _ _ _ _ c.self.invariant.sound, held_fits _ _ _ _ _ c.self.invariant c.self.view_is)
 
 pub invariant_of-self-2 : goal.invariant_of-self-2
 invariant_of-self-2 g c =
     let found = held_present _ _ _ _ _ c.self.invariant c.self.view_is c.args.key c.requires in
-    let other : nat_eq c.args.key.version last_version ≡ false = not_last _ (λ e. c.if-version.false (c.version-version.ensures.value ∙ e)) in
+    let other : nat_eq c.args.key.version last_version ≡ false = ne_eqb _ _ (λ e. c.if-version.false (c.version-version.ensures.value ∙ e)) in
     rw (c.take-payload.ensures.left, c.take-payload.ensures.same_room, c.idx-index.ensures.value, c.version-version.ensures.value, c.idx-self-inside.ensures.value)
-    (held-set _ _ _ _ _ c.self.invariant _ _ (IsSound-freed _ _ _ _ c.self.invariant.sound _ _ _ found.there other))
+    (held-set _ _ _ _ _ c.self.invariant _ _ (freed _ _ _ _ c.self.invariant.sound _ _ _ found.there other).sound)
 
 pub returns-clause-value : goal.returns-clause-value
-returns-clause-value g c =
-    let found = held_present _ _ _ _ _ c.self.invariant c.self.view_is c.args.key c.requires in
-    rw (← c.self.view_is) (found.gives ∙ sym found.read ∙ ap (payload_at (g.L.Layout.slots c.self.inside.layout)) (sym c.idx-index.ensures.value) ∙ c.take-payload.ensures.value)
+returns-clause-value g c = held_value _ _ _ _ _ c.self.invariant c.self.view_is c.args.key c.requires _ c.idx-index.ensures.value _ c.take-payload.ensures.value
 
 pub returns-clause-removes : goal.returns-clause-removes
 returns-clause-removes g c =
     let found = held_present _ _ _ _ _ c.self.invariant c.self.view_is c.args.key c.requires in
-    let other : nat_eq c.args.key.version last_version ≡ false = not_last _ (λ e. c.if-version.false (c.version-version.ensures.value ∙ e)) in
+    let other : nat_eq c.args.key.version last_version ≡ false = ne_eqb _ _ (λ e. c.if-version.false (c.version-version.ensures.value ∙ e)) in
     rw (← c.self.view_is, c.take-payload.ensures.left, c.take-payload.ensures.same_room, c.idx-index.ensures.value, c.version-version.ensures.value, c.idx-self-inside.ensures.value)
-    (removes-slots _ _ _ _ c.self.invariant.sound _ _ _ found.there _ _ (after-freed _ _ _ _ c.self.invariant.sound _ _ _ found.there other _))
+    (removes-freed _ _ _ _ c.self.invariant.sound _ _ _ found.there other _)
 
 pub returns-clause-valid : goal.returns-clause-valid
-returns-clause-valid g c = record {
-  before = held_valid _ _ _ _ _ c.self.invariant c.self.view_is;
-  after = held_valid _ _ _ _ _ (invariant_of-self-2 g c) refl;
-  capacity = rw (← c.self.view_is, c.take-payload.ensures.same_room) refl;
-}
+returns-clause-valid g c = held_stays _ _ _ _ _ c.self.invariant c.self.view_is _ _ _ _ _ (invariant_of-self-2 g c) c.take-payload.ensures.same_room

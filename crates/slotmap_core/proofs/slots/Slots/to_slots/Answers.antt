@@ -1,21 +1,9 @@
-use Rattle.std.proofs.Common.{length, true, arith}
+use Rattle.std.proofs.Common.{true, arith}
 use Rattle.slotmap_core.proofs.HeldLemmas.{held_valid}
-use Rattle.slotmap_core.proofs.ListReadLemmas.{records-next, records-all, filled_odd}
+use Rattle.slotmap_core.proofs.ListReadLemmas.{records-next, records-all}
 use Rattle.slotmap_core.proofs.SlotLemmas.{stacked_walk}
 use Rattle.slotmap_core.proofs.WrittenLemmas.{writes-stack, written-contents}
 use Rattle.slotmap_core.proofs.slots.Slots.to_slots.Goals as goal
-
-pub loop-index-init : goal.loop-index-init
-loop-index-init g c = record {
-  written = c.in_ok-list.ensures.items;
-  room = omega (arith, c.in_ok-list.ensures.len, c.in_ok-list.ensures.capacity, c.len.ensures, c.len-index-end.ensures);
-}
-
-pub record_at-requires-clause-odd : goal.record_at-requires-clause-odd
-record_at-requires-clause-odd g c = filled_odd _ c.self.invariant.sound.each c.loop-index.index
-
-pub push_reserved-requires : goal.push_reserved-requires
-push_reserved-requires g c = omega (arith, c.loop-index.invariant.room, c.loop-index-test.true)
 
 pub loop-index-preserved : goal.loop-index-preserved
 loop-index-preserved g c =

@@ -1,15 +1,8 @@
-use Rattle.std.proofs.Common.{◌≡◌, ◌∷◌, [], ◌++◌, ◌<◌, ap, ◌∙◌, arith}
-use Rattle.slotmap_core.specs.Slot.{Slot, empty}
-use Rattle.slotmap_core.proofs.PlacesLemmas.{live-sentinel, detached-sentinel, retired-sentinel, next-sentinel}
+use Rattle.std.proofs.Common.{arith}
+use Rattle.slotmap_core.proofs.PlacesLemmas.{sentinel_alone}
 use Rattle.slotmap_core.proofs.SlotLemmas.{valid}
-use Rattle.slotmap_core.proofs.SlotGrowth.{sentinel, IsSound-sentinel, taken-sentinel}
+use Rattle.slotmap_core.proofs.SlotGrowth.{IsSound-sentinel, taken-sentinel}
 use Rattle.slotmap_core.proofs.slots.Slots.with_capacity.Goals as goal
-
-pub with_capacity-requires : goal.with_capacity-requires
-with_capacity-requires g c = omega arith
-
-pub push_empty-requires-clause-room : goal.push_empty-requires-clause-room
-push_empty-requires-clause-room g c = rw c.in_ok-layout.ensures.none (omega (arith, c.in_ok-layout.ensures.room))
 
 pub invariant_of-result : goal.invariant_of-result
 invariant_of-result g c =
@@ -18,7 +11,7 @@ invariant_of-result g c =
 pub returns-clause-starts : goal.returns-clause-starts
 returns-clause-starts g c =
     rw (c.push_empty.ensures.pushed, c.push_empty.ensures.same_room, c.in_ok-layout.ensures.none)
-    (record { live = live-sentinel _ 1; detached = detached-sentinel _ 1; retired = retired-sentinel _ 1; next = next-sentinel _ 1 })
+    (let none = sentinel_alone _ 1 in record { live = none.0; detached = none.1; retired = none.2; next = none.3 })
 
 pub returns-clause-room : goal.returns-clause-room
 returns-clause-room g c =

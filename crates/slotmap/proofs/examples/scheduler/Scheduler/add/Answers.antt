@@ -4,4 +4,4 @@ use Rattle.slotmap.proofs.examples.scheduler.Scheduler.add.Goals as goal
 
 pub returns-clause-stale : goal.returns-clause-stale
 returns-clause-stale c =
-    rw c.self.view_is at (spent_insert _ _ true c.insert.ensures.was_valid _ _ _ c.insert.ensures.ok c.insert.ensures.unchanged)
+    rw c.self.view_is at (spent_insert _ _ true _ c.insert.ensures.valid _ _ c.insert.ensures.ok)

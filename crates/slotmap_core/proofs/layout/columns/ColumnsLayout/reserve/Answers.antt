@@ -1,17 +1,17 @@
-use Rattle.std.proofs.Common.{◌≡◌, ◌+◌, length, sym, ap, ◌∙◌, arith}
-use Rattle.slotmap_core.proofs.ColumnLemmas.{zip-length}
+use Rattle.std.proofs.Common.{◌+◌, length, arith}
+use Rattle.slotmap_core.proofs.ColumnLemmas.{laid-length}
 use Rattle.slotmap_core.proofs.layout.columns.ColumnsLayout.reserve.Goals as goal
 
 pub returns-clause-room : goal.returns-clause-room
 returns-clause-room g c =
     let m = c.self.inside in
-    let len : length c.args.self.now.slots ≡ length m.versions.items = ap (λ l. length l.slots) (sym c.self.view_is) ∙ zip-length m.versions.items m.links.items m.payloads.items c.self.invariant.links_length c.self.invariant.payloads_length in
+    let len = laid-length c.self.invariant c.self.view_is in
     let links = c.self.invariant.links_length in
     let payloads = c.self.invariant.payloads_length in
     c.room-self-inside.ensures.greatest (length c.args.self.now.slots + c.args.additional) c.requires
-    (omega (arith, c.in_ok-reserve-3.ensures.ok, m.versions.ok.0))
-    (omega (arith, c.in_ok-reserve-2.ensures.ok, m.links.ok.0))
-    (omega (arith, c.in_ok-reserve.ensures.ok, m.payloads.ok.0))
+    (omega (arith, c.growth-more.ensures, c.in_ok-reserve-3.ensures.ok, m.versions.ok.0))
+    (omega (arith, c.growth-more.ensures, c.in_ok-reserve-2.ensures.ok, m.links.ok.0))
+    (omega (arith, c.growth-more.ensures, c.in_ok-reserve.ensures.ok, m.payloads.ok.0))
 
 pub returns-clause-grows : goal.returns-clause-grows
 returns-clause-grows g c =

@@ -1,68 +1,34 @@
-use Rattle.std.proofs.Common.{◌≡◌, ◌+◌, ◌<◌, ◌≤◌, is_some, length, refl, sym, ap, subst, ◌∙◌, arith}
-use Rattle.std.proofs.lemmas.Option.{same_Some, slice_get_read}
-use Rattle.slotmap_core.specs.Columns.{AllEven}
-use Rattle.slotmap_core.proofs.PairsLemmas.{next_within, values_within, pass_to, comes, key_here, IsWalk-taken, left-taken}
+use Rattle.std.proofs.Common.{◌≡◌, is_some, length, refl, sym, ap, ◌∙◌, arith}
+use Rattle.std.proofs.lemmas.Option.{same_Some, slice_get_within}
+use Rattle.slotmap_core.proofs.ListLemmas.{same_read}
+use Rattle.slotmap_core.proofs.PairsLemmas.{Next, next_on, IsWalk-taken, left-taken}
+use Rattle.slotmap_core.proofs.slots.walk.SlotIntoIterIterator.next.Goals.{After-next_odd-index}
 use Rattle.slotmap_core.proofs.slots.walk.SlotIntoIterIterator.next.Goals as goal
 
-pub next_odd-index-requires : goal.next_odd-index-requires
-next_odd-index-requires g c = omega (arith, next_within _ _ _ _ c.self.invariant (omega arith), c.deref.ensures.len, c.self.inside.versions.ok.0)
+next : (g : _) (c : After-next_odd-index g) → Next c.self.inside.versions.items c.self.inside.payloads.items c.self.inside.index c.self.inside.left c.next_odd-index.result
+next g c = let on = c.next_odd-index.ensures in next_on c.self.invariant (omega arith) c.deref.ensures.value on.on on.within on.passed on.odd
 
 pub index-version-requires : goal.index-version-requires
-index-version-requires g c =
-    let m = c.self.inside in
-    let on = c.next_odd-index.ensures in
-    let to = pass_to m.versions.items m.payloads.items m.left m.index c.next_odd-index.result c.self.invariant on.on (omega (arith, on.within, ap length c.deref.ensures.value)) (subst (λ vs. AllEven vs m.index c.next_odd-index.result) c.deref.ensures.value on.passed) in
-    omega (arith, next_within _ _ _ _ to.0 (omega arith), m.versions.ok.0)
+index-version-requires g c = omega (arith, slice_get_within c.self.inside.versions.items c.next_odd-index.result _ (next g (goal.at.index-version-requires g c).After-next_odd-index).version_there, c.self.inside.versions.ok.0)
 
 pub exact-key-requires : goal.exact-key-requires
-exact-key-requires g c =
-    let m = c.self.inside in
-    let on = c.next_odd-index.ensures in
-    let to = pass_to m.versions.items m.payloads.items m.left m.index c.next_odd-index.result c.self.invariant on.on (omega (arith, on.within, ap length c.deref.ensures.value)) (subst (λ vs. AllEven vs m.index c.next_odd-index.result) c.deref.ensures.value on.passed) in
-    let within = next_within _ _ _ _ to.0 (omega arith) in
-    let version = slice_get_read m.versions.items _ c.next_odd-index.result _ refl within c.index-version.ensures in
-    key_here _ _ _ _ to.0 (omega arith) _ c.type_inv.version.fits (rw c.deref.ensures.value at on.odd _ version) (omega (arith, to.0.fits, within))
+exact-key-requires g c = let n = next g (goal.at.exact-key-requires g c).After-next_odd-index in n.is_key _ (same_read c.self.inside.versions.items c.next_odd-index.result _ _ c.index-version.ensures n.version_there) c.type_inv.version.fits
 
 pub index_mut-requires : goal.index_mut-requires
-index_mut-requires g c =
-    let m = c.self.inside in
-    let on = c.next_odd-index.ensures in
-    let to = pass_to m.versions.items m.payloads.items m.left m.index c.next_odd-index.result c.self.invariant on.on (omega (arith, on.within, ap length c.deref.ensures.value)) (subst (λ vs. AllEven vs m.index c.next_odd-index.result) c.deref.ensures.value on.passed) in
-    omega (arith, values_within _ _ _ _ to.0 (omega arith), m.payloads.ok.0)
+index_mut-requires g c = omega (arith, slice_get_within c.self.inside.payloads.items c.next_odd-index.result _ (next g (goal.at.index_mut-requires g c).After-next_odd-index).value_there, c.self.inside.payloads.ok.0)
 
 pub unwrap-payload-requires : goal.unwrap-payload-requires
-unwrap-payload-requires g c =
-    let m = c.self.inside in
-    let on = c.next_odd-index.ensures in
-    let to = pass_to m.versions.items m.payloads.items m.left m.index c.next_odd-index.result c.self.invariant on.on (omega (arith, on.within, ap length c.deref.ensures.value)) (subst (λ vs. AllEven vs m.index c.next_odd-index.result) c.deref.ensures.value on.passed) in
-    let within = next_within _ _ _ _ to.0 (omega arith) in
-    let version = slice_get_read m.versions.items _ c.next_odd-index.result _ refl within c.index-version.ensures in
-    let value = slice_get_read m.payloads.items _ c.next_odd-index.result _ refl (values_within _ _ _ _ to.0 (omega arith)) c.index_mut.ensures.value in
-    let pair = comes _ _ _ _ to.0 _ _ version value (rw c.deref.ensures.value at on.odd _ version) in
-    ap is_some (c.take.ensures.value ∙ pair.is)
+unwrap-payload-requires g c = ap is_some (c.take.ensures.value ∙ same_read c.self.inside.payloads.items c.next_odd-index.result _ _ c.index_mut.ensures.value (next g (goal.at.unwrap-payload-requires g c).After-next_odd-index).value_there)
 
 pub invariant_of-self : goal.invariant_of-self
-invariant_of-self g c =
-    let m = c.self.inside in
-    let on = c.next_odd-index.ensures in
-    let to = pass_to m.versions.items m.payloads.items m.left m.index c.next_odd-index.result c.self.invariant on.on (omega (arith, on.within, ap length c.deref.ensures.value)) (subst (λ vs. AllEven vs m.index c.next_odd-index.result) c.deref.ensures.value on.passed) in
-    let within = next_within _ _ _ _ to.0 (omega arith) in
-    let version = slice_get_read m.versions.items _ c.next_odd-index.result _ refl within c.index-version.ensures in
-    let value = slice_get_read m.payloads.items _ c.next_odd-index.result _ refl (values_within _ _ _ _ to.0 (omega arith)) c.index_mut.ensures.value in
-    let pair = comes _ _ _ _ to.0 _ _ version value (rw c.deref.ensures.value at on.odd _ version) in
-    IsWalk-taken _ _ _ _ to.0 _ _ pair.walk_on
+invariant_of-self g c = IsWalk-taken _ _ _ _ _ (next g (goal.at.invariant_of-self g c).After-next_odd-index).walk_on
 
 pub returns-clause-steps : goal.returns-clause-steps
 returns-clause-steps g c =
-    let m = c.self.inside in
-    let on = c.next_odd-index.ensures in
-    let to = pass_to m.versions.items m.payloads.items m.left m.index c.next_odd-index.result c.self.invariant on.on (omega (arith, on.within, ap length c.deref.ensures.value)) (subst (λ vs. AllEven vs m.index c.next_odd-index.result) c.deref.ensures.value on.passed) in
-    let within = next_within _ _ _ _ to.0 (omega arith) in
-    let version = slice_get_read m.versions.items _ c.next_odd-index.result _ refl within c.index-version.ensures in
-    let value = slice_get_read m.payloads.items _ c.next_odd-index.result _ refl (values_within _ _ _ _ to.0 (omega arith)) c.index_mut.ensures.value in
-    let pair = comes _ _ _ _ to.0 _ _ version value (rw c.deref.ensures.value at on.odd _ version) in
-    let shown : c.unwrap-payload.result ≡ pair.value = same_Some _ _ (sym c.unwrap-payload.ensures ∙ c.take.ensures.value ∙ pair.is) in
-    sym c.self.view_is ∙ sym to.1 ∙ pair.first ∙ rw (c.exact-key.ensures, shown, left-taken _ _ _ _ to.0 c.take.new.self) refl
+    let n = next g (goal.at.returns-clause-steps g c).After-next_odd-index in
+    let version = same_read c.self.inside.versions.items c.next_odd-index.result _ _ c.index-version.ensures n.version_there in
+    let shown : c.unwrap-payload.result ≡ n.value = same_Some _ _ (sym c.unwrap-payload.ensures ∙ c.take.ensures.value ∙ same_read c.self.inside.payloads.items c.next_odd-index.result _ _ c.index_mut.ensures.value n.value_there) in
+    sym c.self.view_is ∙ n.first ∙ rw (c.exact-key.ensures, version, shown, left-taken) refl
 
 pub returns-clause-goes : goal.returns-clause-goes
 returns-clause-goes g c =

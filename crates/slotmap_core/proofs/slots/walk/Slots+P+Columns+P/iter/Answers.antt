@@ -1,16 +1,10 @@
-use Rattle.std.proofs.Common.{sym, ap, subst, refl, ◌∙◌}
-use Rattle.slotmap_core.specs.Slot.{IsSound}
-use Rattle.slotmap_core.proofs.PairsLemmas.{pairs-entries, IsWalk-start}
+use Rattle.std.proofs.Common.{ap, ◌∙◌}
+use Rattle.std.specs.FinMap as map
+use Rattle.slotmap_core.proofs.PairsLemmas.{walk_from}
 use Rattle.slotmap_core.proofs.slots.walk.Slots+P+Columns+P.iter.Goals as goal
 
 pub invariant_of-result : goal.invariant_of-result
-invariant_of-result g c =
-    let parts = c.as_slices.ensures in
-    let m = c.self.inside in
-    IsWalk-start c.as_slices.result.0.now parts.0 c.as_slices.result.1.now parts.1 parts.2 _ _ _ (subst (λ ss. IsSound ss m.first_vacant m.vacant_count m.live_count) (sym parts.3) c.self.invariant.sound)
+invariant_of-result g c = (walk_from c.self.invariant.sound c.as_slices.result.0.now c.as_slices.result.1.now c.as_slices.ensures).0
 
 pub returns : goal.returns
-returns g c =
-    let parts = c.as_slices.ensures in
-    let m = c.self.inside in
-    pairs-entries c.as_slices.result.0.now parts.0 c.as_slices.result.1.now parts.1 parts.2 _ _ _ (subst (λ ss. IsSound ss m.first_vacant m.vacant_count m.live_count) (sym parts.3) c.self.invariant.sound) ∙ rw (parts.3, ← c.self.view_is) refl
+returns g c = (walk_from c.self.invariant.sound c.as_slices.result.0.now c.as_slices.result.1.now c.as_slices.ensures).1 ∙ ap (λ m. map.entries m.live) c.self.view_is

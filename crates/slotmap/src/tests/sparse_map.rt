@@ -1,0 +1,564 @@
+//! `SparseSecondaryMap` under test.
+
+use super::call::keep;
+use super::drops::Counted;
+use super::lists;
+use super::secondary::Call::{
+    Entry as Enter, Get, Insert, Len, OrInsert, Remove, ToSlots, WriteByEntry,
+};
+use super::secondary::{
+    self, Call, Row, Tested, calls_on_many, given, hold, hold_alike, hold_clones, hold_refusals,
+    hold_runs,
+};
+use super::secondary_memory::Entering;
+use super::tested::{Taken, own_calls, taken};
+use super::text::{
+    done_text, key, keys_text, pairs_text, puts_text, value_text, values_text, word,
+};
+use crate::sparse_secondary::{Entry, Iter, Keys, Values};
+use crate::{
+    DefaultKey, Key, KeyData, NodeKey, OutOfMemory, PutError, ReserveError, SecondaryMap, SlotMap,
+    SlotRecord, SlotsError, SparseSecondaryMap,
+};
+use std::alloc::{AllocError, Global};
+use std::cell::Cell;
+use std::hash::{BuildHasherDefault, FoldHasher};
+use std::mem;
+use std::test::Fail;
+
+type Map = SparseSecondaryMap<DefaultKey, u64>;
+
+type Seed = BuildHasherDefault<FoldHasher>;
+
+type Seeded = SparseSecondaryMap<DefaultKey, u64, Seed>;
+
+/// The value that a call on a key's entry answers, or none where there is no entry.
+macro_rules! at_entry {
+    ($map:expr, $alloc:expr, $key:expr, $entry:ident => $value:expr) => {
+        match $map.entry($key)? {
+            Some($entry) => value_text($alloc, Some($value)),
+            None => word($alloc, "none"),
+        }
+    };
+}
+
+fn drain_some<V: Drop>(
+    alloc: Global,
+    map: &mut SparseSecondaryMap<DefaultKey, V>,
+    steps: usize,
+) -> Result<Taken<V>, AllocError> {
+    taken!(map.drain(), steps, alloc)
+}
+
+fn take_some<V: Drop>(
+    alloc: Global,
+    map: SparseSecondaryMap<DefaultKey, V>,
+    steps: usize,
+) -> Result<Taken<V>, AllocError> {
+    taken!(map.into_iter(), steps, alloc)
+}
+
+// The order of the pairs is open.
+fn sorted(mut taken: Taken<u64>) -> Result<Taken<u64>, AllocError> {
+    taken.pairs.sort_unstable_by_key(|pair| pair.0);
+    Ok(taken)
+}
+
+impl Tested for Map {
+    fn made(alloc: Global) -> Result<Self, ReserveError> {
+        SparseSecondaryMap::new(alloc)
+    }
+
+    fn of_list(alloc: Global, list: Vec<SlotRecord<u64>>) -> Result<Self, SlotsError> {
+        SparseSecondaryMap::from_slots(alloc, list)
+    }
+
+    fn of_pairs(alloc: Global, pairs: Vec<(DefaultKey, u64)>) -> Option<Self> {
+        SparseSecondaryMap::from_iter(alloc, pairs).ok()
+    }
+
+    fn list(&self) -> Result<Vec<SlotRecord<u64>>, OutOfMemory> {
+        self.to_slots()
+    }
+
+    fn copy(&self) -> Result<Self, AllocError> {
+        self.clone()
+    }
+
+    fn copy_from(&mut self, source: &Self) -> Result<(), AllocError> {
+        self.clone_from(source)
+    }
+
+    fn is_same(&self, other: &Self) -> bool {
+        self == other
+    }
+
+    fn drain_some(&mut self, alloc: Global, steps: usize) -> Result<Taken<u64>, AllocError> {
+        sorted(drain_some(alloc, self, steps)?)
+    }
+
+    fn take_some(self, alloc: Global, steps: usize) -> Result<Taken<u64>, AllocError> {
+        sorted(take_some(alloc, self, steps)?)
+    }
+
+    fn own(&mut self, alloc: Global, call: Call) -> Result<String, Fail> {
+        Ok(calls_on_many!(self, alloc, call)?)
+    }
+
+    fn enter(&mut self, alloc: Global, call: Call) -> Result<String, Fail> {
+        Ok(match call {
+            Call::OrInsert(index, version, value) => {
+                at_entry!(self, alloc, key(index, version), entry => *entry.or_insert(value)?)
+            }
+            Call::OrInsertWith(index, version, value) => {
+                at_entry!(self, alloc, key(index, version), entry => *entry.or_insert_with(|| value)?)
+            }
+            Call::OrDefault(index, version) => {
+                at_entry!(self, alloc, key(index, version), entry => *entry.or_default()?)
+            }
+            Call::AddOrInsert(index, version, value) => {
+                at_entry!(self, alloc, key(index, version), entry => *entry
+                    .and_modify(|stored| *stored = stored.wrapping_add(1))
+                    .or_insert(value)?)
+            }
+            Call::Entry(index, version) => return entry_text(alloc, self, key(index, version)),
+            Call::WriteByEntry(index, version, value) => {
+                return write_by_entry(alloc, self, key(index, version), value);
+            }
+            Call::InsertByEntry(index, version, value) => {
+                return insert_by_entry(alloc, self, key(index, version), value);
+            }
+            Call::DoubleByEntry(index, version) => {
+                return double_by_entry(alloc, self, key(index, version));
+            }
+            Call::RemoveByEntry(index, version) => {
+                return remove_by_entry(alloc, self, key(index, version));
+            }
+            _ => word(alloc, "no such call"),
+        }?)
+    }
+}
+
+impl Entering for Map {
+    fn put_by_entry(&mut self, key: DefaultKey, value: u64) -> Result<u64, u64> {
+        match self.entry(key) {
+            Ok(Some(entry)) => match entry.or_insert(value) {
+                Ok(place) => Ok(*place),
+                Err(PutError(back)) => Err(back),
+            },
+            Ok(None) => Err(0),
+            Err(_) => Err(value),
+        }
+    }
+
+    fn make_by_entry(&mut self, key: DefaultKey, calls: &Cell<u32>) -> bool {
+        match self.entry(key) {
+            Ok(Some(entry)) => entry
+                .or_insert_with(|| {
+                    calls.set(calls.get().wrapping_add(1));
+                    40
+                })
+                .is_ok(),
+            _ => false,
+        }
+    }
+}
+
+fn entry_text(alloc: Global, map: &mut Map, key: DefaultKey) -> Result<String, Fail> {
+    Ok(match map.entry(key)? {
+        None => word(alloc, "none"),
+        Some(Entry::Vacant(entry)) => format!(in alloc; "vacant {:?}", entry.key().data()),
+        Some(Entry::Occupied(entry)) => {
+            format!(in alloc; "occupied {:?} {}", entry.key().data(), *entry.get())
+        }
+    }?)
+}
+
+fn write_by_entry(
+    alloc: Global,
+    map: &mut Map,
+    key: DefaultKey,
+    value: u64,
+) -> Result<String, Fail> {
+    Ok(match map.entry(key)? {
+        Some(Entry::Occupied(mut entry)) => {
+            value_text(alloc, Some(mem::replace(entry.get_mut(), value)))
+        }
+        _ => word(alloc, "not occupied"),
+    }?)
+}
+
+fn insert_by_entry(
+    alloc: Global,
+    map: &mut Map,
+    key: DefaultKey,
+    value: u64,
+) -> Result<String, Fail> {
+    Ok(match map.entry(key)? {
+        Some(Entry::Occupied(mut entry)) => value_text(alloc, Some(entry.insert(value))),
+        Some(Entry::Vacant(entry)) => value_text(alloc, Some(*entry.insert(value)?)),
+        None => word(alloc, "none"),
+    }?)
+}
+
+fn double_by_entry(alloc: Global, map: &mut Map, key: DefaultKey) -> Result<String, Fail> {
+    Ok(match map.entry(key)? {
+        Some(Entry::Occupied(entry)) => {
+            let place = entry.into_mut();
+            let before = *place;
+            *place = before.wrapping_mul(2);
+            value_text(alloc, Some(before))
+        }
+        _ => word(alloc, "not occupied"),
+    }?)
+}
+
+fn remove_by_entry(alloc: Global, map: &mut Map, key: DefaultKey) -> Result<String, Fail> {
+    Ok(match map.entry(key)? {
+        Some(Entry::Occupied(entry)) => pairs_text(alloc, &[entry.remove_entry()]),
+        Some(Entry::Vacant(entry)) => format!(in alloc; "vacant {:?}", entry.key().data()),
+        None => word(alloc, "none"),
+    }?)
+}
+
+#[test]
+fn rows_of_secondary_maps(rt: HostRuntime) -> Result<(), Fail> {
+    hold::<Map>(&rt, rt.alloc(), &secondary::COMMANDS)?;
+    hold::<Map>(&rt, rt.alloc(), &secondary::CALLS)?;
+    hold::<Map>(&rt, rt.alloc(), &PLACES)
+}
+
+#[test]
+fn runs_answer_as_calls_do(rt: HostRuntime) -> Result<(), Fail> {
+    hold_runs::<Map>(&rt, rt.alloc())
+}
+
+#[test]
+fn both_kinds_reply_alike(rt: HostRuntime) -> Result<(), Fail> {
+    hold_alike::<SecondaryMap<DefaultKey, u64>, Map>(&rt, rt.alloc())
+}
+
+#[test]
+fn clones(rt: HostRuntime) -> Result<(), Fail> {
+    hold_clones::<Map>(&rt, rt.alloc())
+}
+
+#[test]
+fn lists_are_refused_at_the_first_fault(rt: HostRuntime) -> Result<(), Fail> {
+    hold_refusals::<Map>(&rt, rt.alloc(), &lists::REFUSED)
+}
+
+#[test]
+fn a_removal_by_an_entry_answers_the_value(rt: HostRuntime) -> Result<(), Fail> {
+    let mut map: Map = SparseSecondaryMap::from_iter(rt.alloc(), given(rt.alloc(), &[(1, 1, 5)])?)
+        .ok()
+        .ok_or("no map was made")?;
+    if let Some(Entry::Occupied(entry)) = map.entry(key(1, 1))? {
+        assert_eq!(rt; entry.remove(), 5);
+    }
+    assert!(rt; map.is_empty());
+    Ok(())
+}
+
+#[test]
+fn an_older_pair_is_out_where_an_entry_was_made(rt: HostRuntime) -> Result<(), Fail> {
+    let mut map: Map = SparseSecondaryMap::new(rt.alloc())?;
+    map.insert(key(1, 1), 10)?;
+    assert_eq!(rt; map.put_by_entry(key(1, 3), 40), Ok(40));
+    assert!(rt; !map.contains_key(key(1, 1)));
+    assert_eq!(rt; map.get(key(1, 3)).copied(), Some(40));
+    Ok(())
+}
+
+#[test]
+fn capacities_have_a_limit(rt: HostRuntime) -> Result<(), Fail> {
+    let great: Result<Map, ReserveError> = SparseSecondaryMap::with_capacity(
+        rt.alloc(),
+        4294967296,
+    );
+    assert!(rt; matches!(great, Err(ReserveError::TooGreat)));
+    let mut map: Map = SparseSecondaryMap::new(rt.alloc())?;
+    assert!(rt; matches!(map.try_reserve(4294967296), Err(ReserveError::TooGreat)));
+    map.insert(key(1, 1), 5)?;
+    assert!(rt; matches!(map.reserve(4294967295), Err(ReserveError::TooGreat)));
+    assert!(rt; matches!(map.reserve(usize::MAX), Err(ReserveError::TooGreat)));
+    Ok(())
+}
+
+#[test]
+fn reserve_makes_room(rt: HostRuntime) -> Result<(), Fail> {
+    let mut map: Map = SparseSecondaryMap::with_capacity(rt.alloc(), 3)?;
+    assert!(rt; map.capacity() >= 3);
+    map.insert(key(1, 1), 5)?;
+    map.reserve(100)?;
+    assert!(rt; map.capacity() >= 101);
+    map.try_reserve(200)?;
+    let before = map.capacity();
+    map.reserve(50)?;
+    assert!(rt; before >= 201 && map.capacity() == before && map.len() == 1);
+    Ok(())
+}
+
+#[test]
+fn ages_by_a_hasher_of_ones_own(rt: HostRuntime) -> Result<(), Fail> {
+    let mut people = SlotMap::new(rt.alloc())?;
+    let age = people.insert(42)?;
+    let mut ages: Seeded = SparseSecondaryMap::with_hasher(rt.alloc(), Seed::new())?;
+    ages.insert(age, 1234)?;
+    assert_eq!(rt; (ages.get(age).copied(), ages.len()), (Some(1234), 1));
+    Ok(())
+}
+
+#[test]
+fn hashers_of_ones_own(rt: HostRuntime) -> Result<(), Fail> {
+    let mut first: Seeded = SparseSecondaryMap::with_hasher(rt.alloc(), Seed::new())?;
+    first.insert(key(1, 1), 1234)?;
+    let mut second: Seeded = SparseSecondaryMap::with_capacity_and_hasher(
+        rt.alloc(),
+        7,
+        Seed::new(),
+    )?;
+    assert!(rt; second.capacity() >= 7 && first != second);
+    second.extend_refs(first.iter()).map_err(|_| OutOfMemory)?;
+    assert!(rt; first == second);
+    Ok(())
+}
+
+// The values 1, 2, 4 and 5, at their indices.
+fn walked(alloc: Global) -> Result<SparseSecondaryMap<NodeKey, u64>, Fail> {
+    let mut map: SparseSecondaryMap<NodeKey, u64> = SparseSecondaryMap::new(alloc)?;
+    for value in [5, 2, 1, 3, 4] {
+        map.insert(NodeKey::from(KeyData::new(value, 1)), u64::from(value))?;
+    }
+    map.retain(|_, value| *value != 3);
+    Ok(map)
+}
+
+/// Holds a walk of four items to its length and a clone of it to the items, in any order; after a step, both to a count.
+macro_rules! hold_open_walk {
+    ($rt:expr, $walk:expr, $all:ident => $is_all:expr) => {{
+        let mut walk = $walk;
+        assert_eq!($rt; (walk.len(), walk.size_hint()), (4, (4, Some(4))));
+        let $all = walk.clone()?;
+        assert!($rt; $is_all);
+        assert!($rt; walk.next().is_some());
+        let copy = walk.clone()?;
+        assert_eq!($rt; (walk.count(), copy.count()), (3, 3));
+    }};
+}
+
+// The pairs, by their keys.
+fn pairs_of(alloc: Global, walk: Iter<'_, NodeKey, u64>) -> Result<String, Fail> {
+    let mut seen = Vec::new(alloc);
+    for (key, value) in walk {
+        seen.push((key, *value))?;
+    }
+    seen.sort_unstable();
+    Ok(pairs_text(alloc, &seen)?)
+}
+
+#[test]
+fn walk_of_pairs(rt: HostRuntime) -> Result<(), Fail> {
+    let map = walked(rt.alloc())?;
+    hold_open_walk!(rt, map.iter(), all => pairs_of(rt.alloc(), all)?.as_str() == "pairs 1v1:1 2v1:2 4v1:4 5v1:5");
+    Ok(())
+}
+
+#[test]
+fn walk_of_a_reference(rt: HostRuntime) -> Result<(), Fail> {
+    let map = walked(rt.alloc())?;
+    let text = pairs_of(rt.alloc(), (&map).into_iter())?;
+    assert_eq!(rt; text.as_str(), "pairs 1v1:1 2v1:2 4v1:4 5v1:5");
+    Ok(())
+}
+
+fn keys_of(alloc: Global, walk: Keys<'_, NodeKey, u64>) -> Result<String, Fail> {
+    let mut seen = walk.collect::<Vec<NodeKey>>(alloc)?;
+    seen.sort_unstable();
+    Ok(keys_text(alloc, &seen)?)
+}
+
+#[test]
+fn walk_of_keys(rt: HostRuntime) -> Result<(), Fail> {
+    let map = walked(rt.alloc())?;
+    hold_open_walk!(rt, map.keys(), all => keys_of(rt.alloc(), all)?.as_str() == "keys 1v1 2v1 4v1 5v1");
+    Ok(())
+}
+
+fn values_of(alloc: Global, walk: Values<'_, NodeKey, u64>) -> Result<String, Fail> {
+    let mut seen = walk.copied().collect::<Vec<u64>>(alloc)?;
+    seen.sort_unstable();
+    Ok(values_text(alloc, &seen)?)
+}
+
+#[test]
+fn walk_of_values(rt: HostRuntime) -> Result<(), Fail> {
+    let map = walked(rt.alloc())?;
+    hold_open_walk!(rt, map.values(), all => values_of(rt.alloc(), all)?.as_str() == "values 1 2 4 5");
+    Ok(())
+}
+
+#[test]
+fn a_drain_that_is_dropped_takes_the_rest_out(rt: HostRuntime) -> Result<(), Fail> {
+    let mut map = walked(rt.alloc())?;
+    {
+        let mut drain = map.drain();
+        assert_eq!(rt; drain.size_hint(), (4, Some(4)));
+        assert!(rt; drain.next().is_some());
+        assert_eq!(rt; drain.len(), 3);
+    }
+    assert!(rt; map.is_empty());
+    Ok(())
+}
+
+// What happens to a map of five values, at the indices 0 to 4.
+#[derive(Clone, Copy, Debug)]
+enum Deed {
+    Nothing,
+    InsertAgain,
+    InsertNewer,
+    InsertOlder,
+    EntryUnused,
+    OrInsert,
+    Remove,
+    Retain,
+    Clear,
+    Drain(usize),
+    Take(usize),
+    CloneFrom,
+}
+
+// How many values are dropped once the deed is done, and once the map is dropped too.
+const DEEDS: [(Deed, u32, u32); 14] = [
+    (Deed::Nothing, 0, 5),
+    (Deed::InsertAgain, 1, 6),
+    (Deed::InsertNewer, 1, 6),
+    (Deed::InsertOlder, 1, 6),
+    (Deed::EntryUnused, 1, 5),
+    (Deed::OrInsert, 1, 6),
+    (Deed::Remove, 1, 5),
+    (Deed::Retain, 5, 5),
+    (Deed::Clear, 5, 5),
+    (Deed::Drain(0), 5, 5),
+    (Deed::Drain(2), 5, 5),
+    (Deed::Take(0), 5, 10),
+    (Deed::Take(2), 5, 10),
+    (Deed::CloneFrom, 5, 10),
+];
+
+type Counts<'a> = SparseSecondaryMap<DefaultKey, Counted<'a>>;
+
+fn filled<'a>(alloc: Global, drops: &'a Cell<u32>) -> Result<Counts<'a>, Fail> {
+    let mut map = SparseSecondaryMap::new(alloc)?;
+    for index in 0..5 {
+        map.insert(key(index, 3), Counted { drops })
+            .map_err(|_| OutOfMemory)?;
+    }
+    Ok(map)
+}
+
+fn put<'a>(map: &mut Counts<'a>, key: DefaultKey, drops: &'a Cell<u32>) -> Result<(), Fail> {
+    map.insert(key, Counted { drops }).map_err(|_| OutOfMemory)?;
+    Ok(())
+}
+
+fn act<'a>(
+    alloc: Global,
+    drops: &'a Cell<u32>,
+    map: &mut Counts<'a>,
+    deed: Deed,
+) -> Result<(), Fail> {
+    match deed {
+        Deed::Nothing => {}
+        Deed::InsertAgain => put(map, key(1, 3), drops)?,
+        Deed::InsertNewer => put(map, key(1, 5), drops)?,
+        Deed::InsertOlder => put(map, key(1, 1), drops)?,
+        Deed::EntryUnused => {
+            map.entry(key(1, 5))?;
+        }
+        Deed::OrInsert => {
+            if let Some(entry) = map.entry(key(1, 3))? {
+                entry.or_insert(Counted { drops }).map_err(|_| OutOfMemory)?;
+            }
+        }
+        Deed::Remove => {
+            map.remove(key(0, 3));
+        }
+        Deed::Retain => map.retain(|_, _| false),
+        Deed::Clear => map.clear(),
+        Deed::Drain(steps) => {
+            drain_some(alloc, map, steps)?;
+        }
+        Deed::Take(steps) => {
+            take_some(alloc, map.clone()?, steps)?;
+        }
+        Deed::CloneFrom => {
+            let other = filled(alloc, drops)?;
+            map.clone_from(&other)?;
+            mem::forget(other);
+        }
+    }
+    Ok(())
+}
+
+#[test]
+fn each_value_is_dropped_once(rt: HostRuntime) -> Result<(), Fail> {
+    let drops = Cell::new(0);
+    for (deed, after, in_the_end) in DEEDS {
+        drops.set(0);
+        let mut map = filled(rt.alloc(), &drops)?;
+        act(rt.alloc(), &drops, &mut map, deed)?;
+        assert_eq!(rt; drops.get(), after, "after {deed:?}");
+        drop(map);
+        assert_eq!(rt; drops.get(), in_the_end, "in the end, {deed:?}");
+    }
+    Ok(())
+}
+
+// What a vacant entry that is dropped unused leaves, and the places that lists have.
+const PLACES: [Row; 4] = [
+    Row {
+        name: "an unused entry takes the older key out",
+        start: &[],
+        steps: &[
+            (Insert(1, 1, 10), "none"),
+            (Enter(1, 3), "vacant 1v3"),
+            (Get(1, 1), "none"),
+            (Len, "0"),
+            (Insert(1, 1, 10), "none"),
+            (WriteByEntry(1, 1, 20), "10"),
+            (Get(1, 1), "20"),
+        ],
+    },
+    Row {
+        name: "half the versions apart there is no entry",
+        start: &[],
+        steps: &[
+            (Insert(1, 1, 10), "none"),
+            (Enter(1, 2147483649), "none"),
+            (Insert(1, 2147483649, 20), "none"),
+            (Get(1, 1), "10"),
+            (Len, "1"),
+        ],
+    },
+    Row {
+        name: "a great index takes no places",
+        start: &[],
+        steps: &[
+            (Insert(4294967294, 1, 5), "none"),
+            (Get(4294967294, 1), "5"),
+            (OrInsert(4294967294, 1, 6), "5"),
+            (Remove(4294967294, 1), "5"),
+            (Len, "0"),
+        ],
+    },
+    Row {
+        name: "a list's empty places are forgotten",
+        start: &[(None, 0), (Some(5), 1), (None, 0)],
+        steps: &[
+            (ToSlots, "slots -@0 5@1"),
+            (Remove(1, 1), "5"),
+            (ToSlots, "slots -@0"),
+        ],
+    },
+];

@@ -1,0 +1,101 @@
+//! The calls that go over all live keys of a map, by ascending index.
+
+ghost use Rattle.std.specs.Prelude.{◌≡◌, ◌++◌, OnOk, OnErr, true, List, map as list_map};
+ghost use Rattle.std.specs.FinMap as map;
+ghost use Rattle.slotmap_core.specs.Content.{IsContent};
+ghost use Rattle.slotmap_core.specs.Transition.{Leaves, FreesByIndex};
+ghost use Rattle.slotmap_core.specs.Retain.{RetainsBy, CallableOnEach};
+ghost use Rattle.slotmap_core.specs.Call.{StaysValid};
+
+use crate::SlotMap;
+use slotmap_core::errors::OutOfMemory;
+use slotmap_core::keys::Key;
+
+impl<K: Key, V: Drop> SlotMap<K, V> {
+    /// Calls `f` once at each live key and its value, and removes the keys at which it answers
+    /// `false`.
+    ///
+    /// What `f` writes to a value that stays is kept. The keys are visited by ascending index.
+    /// Detached keys aren't visited, and stay detached. It goes over all places of the map once.
+    ///
+    /// ```
+    /// map.retain(|_, value| *value % 2 == 0);
+    /// ```
+    pub fn retain<F: FnMut(K, &mut V) -> bool>(&mut self, mut f: F)
+    where
+        F: Drop,
+        // At each entry, as calls at other entries leave the closure.
+        requires { CallableOnEach F.FnMut K.data_of f self.old.live }
+        ensures retained { RetainsBy F.FnMut K.data_of f self.old.live self.new.live }
+        ensures leaves { Leaves self.old self.new }
+        ensures order { FreesByIndex self.old self.new }
+        ensures valid { StaysValid true self.old self.new }
+    {
+        self.slots.note_valid();
+        let mut index = 0;
+        while let Some(key) = self.live_from(index) {
+            index = key.data().idx() as usize + 1;
+            if !f(key, self.get_unchecked_mut(key)) {
+                self.take_live(key);
+            }
+        }
+    }
+
+    /// Removes every live key, and drops its value.
+    ///
+    /// The keys are removed as `remove` does, and the capacity stays. Detached keys stay detached.
+    /// It goes over all places of the map once.
+    pub fn clear(&mut self)
+        ensures empty { self.new.live ≡ map.empty }
+        ensures leaves { Leaves self.old self.new }
+        ensures order { FreesByIndex self.old self.new }
+        ensures valid { StaysValid true self.old self.new }
+    {
+        self.slots.clear_from(0);
+    }
+
+    /// Appends every live key to `out`, by ascending index.
+    ///
+    /// It first asks for all the room that it needs. Where there is no memory for it, it is
+    /// refused, and `out` stays as it is. It goes over all places of the map once. Rust lacks this
+    /// call.
+    pub fn keys_into(&self, out: &mut Vec<K>) -> Result<(), OutOfMemory>
+        ensures ok { OnOk result ((keys : List K) × (out.new.items ≡ out.old.items ++ keys)
+            × (list_map K.data_of keys ≡ map.keys self.now.live)) }
+        ensures unchanged { OnErr result (out.new.items ≡ out.old.items) }
+        ensures valid { IsContent true self.now }
+    {
+        out.reserve(self.len())?;
+        let mut index = 0;
+        while let Some(key) = self.live_from(index) {
+            index = key.data().idx() as usize + 1;
+            out.push_reserved(key);
+        }
+        Ok(())
+    }
+
+    /// Takes every live key with its value out, and appends them to `out`, by ascending index.
+    ///
+    /// The keys are removed as `remove` does, and detached keys stay detached. It first asks for
+    /// all the room that it needs. Where there is no memory for it, it is refused, and the map and
+    /// `out` stay as they are. It goes over all places of the map once. Rust lacks this call.
+    pub fn drain_into(&mut self, out: &mut Vec<(K, V)>) -> Result<(), OutOfMemory>
+        ensures ok { OnOk result ((pairs : List (K × V)) × (out.new.items ≡ out.old.items ++ pairs)
+            × (list_map (λ p. (K.data_of p.0, p.1)) pairs ≡ map.entries self.old.live)) }
+        ensures empty { OnOk result (self.new.live ≡ map.empty) }
+        ensures leaves { OnOk result (Leaves self.old self.new) }
+        ensures order { OnOk result (FreesByIndex self.old self.new) }
+
+        ensures unchanged { OnErr result ((self.new ≡ self.old) × (out.new.items ≡ out.old.items)) }
+        ensures valid { StaysValid true self.old self.new }
+    {
+        out.reserve(self.len())?;
+        let mut index = 0;
+        while let Some(key) = self.live_from(index) {
+            index = key.data().idx() as usize + 1;
+            let value = self.take_live(key);
+            out.push_reserved((key, value));
+        }
+        Ok(())
+    }
+}

@@ -1,0 +1,60 @@
+-- A secondary map holds what a list of slots says where at each index stands what the slot there has.
+use Rattle.std.proofs.Common.{◌≡◌, ℕ, ◌%◌, ◌<◌, List, length, slice_get, Option, None, Some, true, false, cond, eq-eqb, is_some, option_map, refl, sym, ap, subst, ◌∙◌, arith, nat_lt, ltb-true, ltb-false}
+use Rattle.std.proofs.lemmas.Option.{slice_get_past}
+use Rattle.std.specs.FinMap as map
+use Rattle.slotmap_core.specs.Secondary.{Pairs, IsSecondary, value_at, keyed}
+use Rattle.slotmap_core.specs.SecondaryWritten.{slot_of, slot_pair}
+use Rattle.slotmap_core.specs.Contents.{contents}
+use Rattle.slotmap_core.specs.declared.serial.SlotRecord.{SlotRecord}
+use Rattle.slotmap_core.proofs.KeyLemmas.{keys_total, exact_keys}
+use Rattle.slotmap_core.proofs.ListLemmas.{mapped}
+use Rattle.slotmap_core.proofs.Maps.{none_of, false_of, some_is}
+use Rattle.slotmap_core.proofs.StandLemmas.{pair_found}
+use Rattle.slotmap_core.proofs.KeyedLemmas.{get-keyed}
+use Rattle.slotmap_core.proofs.ContentsLemmas.{live_in, in_contents}
+
+module _ {V : Type 0} where
+  pub same_options : (o p : Option V) → ((v : V) → o ≡ Some v → p ≡ Some v) → ((v : V) → p ≡ Some v → o ≡ Some v) → o ≡ p
+  same_options o p f g = grind arith
+
+  -- the slot in which a version has a value
+  slot_with : (version : ℕ) (v : V) (o : Option (SlotRecord V)) → value_at version (slot_pair o) ≡ Some v → (slot : SlotRecord V) × (o ≡ Some slot) × (slot.version ≡ version) × (slot.value ≡ Some v)
+  slot_with version v None h = absurd (cc)
+  slot_with version v (Some slot) h =
+      let found = mapped (λ x. (slot.version, x)) slot.value (version, v) (pair_found version (slot_pair (Some slot)) v h) in
+      (slot, refl, ap (λ (p : ℕ × V). p.0) found.2, found.1 ∙ ap (λ (p : ℕ × V). Some p.1) found.2)
+
+  module _ (slots : List (SlotRecord V)) (m : Pairs V) (by_place : (i : ℕ) → map.get m i ≡ slot_pair (slice_get slots i)) (odd : (i : ℕ) (slot : SlotRecord V) → slice_get slots i ≡ Some slot → is_some slot.value ≡ true → slot.version % 2 ≡ 1) where
+    pub contents_by_place : keyed m ≡ contents slots
+    contents_by_place = map.same_map keys_total exact_keys _ _ (λ k. same_options (map.get (keyed m) k) (map.get (contents slots) k)
+        (λ v found.
+        let there = slot_with k.version v (slice_get slots k.index) (sym (get-keyed m k ∙ ap (value_at k.version) (by_place k.index)) ∙ found) in
+        let slot = there.0 in
+        let is : record { index = k.index; version = slot.version } ≡ k = ap (λ w. record { index = k.index; version = w }) there.2 in
+        subst (λ q. map.get (contents slots) q ≡ Some v) is (in_contents slots k.index slot v there.1 (odd k.index slot there.1 (ap is_some there.3)) there.3))
+        (λ v found.
+        let live = live_in slots k v found in
+        get-keyed m k ∙ ap (value_at k.version) (by_place k.index ∙ ap slot_pair live.1 ∙ ap (option_map (λ v. (live.0.version, v))) live.2.value)
+        ∙ ap (λ b. cond b (Some v) None) (eq-eqb live.0.version k.version (sym (ap (λ q. q.version) live.2.is)))))
+
+  -- a list in which each place is written, as far as something stands there
+  module _ (slots : List (SlotRecord V)) (m : Pairs V) (valid : IsSecondary m) (within : (i : ℕ) → map.contains_key m i ≡ true → i < length slots) (each : (i : ℕ) → i < length slots → slice_get slots i ≡ Some (slot_of (map.get m i))) where
+    written_by_place : (i : ℕ) → map.get m i ≡ slot_pair (slice_get slots i)
+    written_by_place i = elim (nat_lt i (length slots)) as (λ b. nat_lt i (length slots) ≡ b → map.get m i ≡ slot_pair (slice_get slots i)) [
+      | true ↦ λ less. read (map.get m i) ∙ ap slot_pair (sym (each i (ltb-true i (length slots) less)))
+      | false ↦ λ less.
+          let past = ltb-false i (length slots) less in
+          none_of (map.get m i) (false_of (map.contains_key m i) (λ there. omega (arith, within i there))) ∙ ap slot_pair (sym (slice_get_past slots i past))
+    ] refl
+      where
+        read : (o : Option (ℕ × V)) → o ≡ slot_pair (Some (slot_of o))
+        read None = refl
+        read (Some p) = refl
+
+    odd_written : (i : ℕ) (slot : SlotRecord V) → slice_get slots i ≡ Some slot → is_some slot.value ≡ true → slot.version % 2 ≡ 1
+    odd_written i slot at valued =
+        let v = some_is slot.value valued in
+        (valid i (slot.version, v.0) (written_by_place i ∙ ap slot_pair at ∙ ap (option_map (λ v. (slot.version, v))) v.1)).0.odd
+
+    pub contents_written : contents slots ≡ keyed m
+    contents_written = sym (contents_by_place slots m written_by_place odd_written)

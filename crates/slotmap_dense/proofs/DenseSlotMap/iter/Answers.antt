@@ -1,0 +1,14 @@
+use Rattle.std.proofs.Common.{map as list_map, subst}
+use Rattle.slotmap_dense.specs.Dense.{IsDense}
+use Rattle.slotmap_dense.proofs.PackedLemmas.{listed}
+use Rattle.slotmap_dense.proofs.WellFormed.{dense_valid}
+use Rattle.slotmap_dense.proofs.DenseSlotMap.iter.Goals as goal
+
+pub returns-clause-listing : goal.returns-clause-listing
+returns-clause-listing g c =
+    let m = c.self.inside in
+    let sound = c.self.invariant in
+    rw (c.as_slice.ensures.value, c.as_slice-2.ensures.value, ← c.self.view_is) (listed m.slots.live (list_map g.K.Key.data_of m.keys.items) sound.packed m.values.items sound.same_length)
+
+pub returns-clause-valid : goal.returns-clause-valid
+returns-clause-valid g c = subst IsDense c.self.view_is (dense_valid g.K.Key.data_of c.self.inside.slots c.self.inside.keys c.self.inside.values c.self.invariant)

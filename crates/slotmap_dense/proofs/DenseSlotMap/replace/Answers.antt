@@ -1,0 +1,11 @@
+use Rattle.std.proofs.Common.{is_some, refl, ap, sym, ◌∙◌}
+use Rattle.std.specs.Option.{option_copied_mut}
+use Rattle.slotmap_dense.proofs.WellFormed.{IsDense-with_value}
+use Rattle.slotmap_dense.proofs.DenseSlotMap.replace.Goals as goal
+
+pub returns-in-Some-clause-valid : goal.returns-in-Some-clause-valid
+returns-in-Some-clause-valid g c = record {
+  before = c.get_mut.ensures.was_valid;
+  after = IsDense-with_value c.args.self.now (g.K.Key.data_of c.args.key) c.replace.new.dest c.get_mut.ensures.was_valid (ap is_some (sym c.get_mut.ensures.value ∙ ap option_copied_mut c.in-Some.is));
+  capacity = refl;
+}

@@ -1,0 +1,11 @@
+use Rattle.std.proofs.Common.{◌≡◌, map as map_list}
+use Rattle.slotmap_core.proofs.SeveralLemmas.{Exchanged}
+use Rattle.slotmap_dense.specs.Dense.{IsDense, value_of, with_value_of}
+use Rattle.slotmap_dense.proofs.DenseSlotMap.replace_disjoint.Given as goal
+
+abbrev pub invariant-loop-i : goal.invariant-loop-i
+invariant-loop-i g l = record {
+  well : IsDense l.self;
+  capacity : l.self.content.capacity ≡ l.fn.self.content.capacity;
+  done : Exchanged value_of with_value_of l.fn.self (map_list g.K.Key.data_of l.keys) l.initial.values l.self l.values l.i;
+}

@@ -1,0 +1,12 @@
+pub mod ListLemmas
+pub mod PackedLemmas
+pub mod OverLemmas
+pub mod WellFormed
+pub mod CallLemmas
+pub mod MoveLemmas
+pub mod GapLemmas
+pub mod SweepLemmas
+pub mod RestLemmas
+pub mod DrainLemmas
+pub mod ListSlots
+pub mod ListReads

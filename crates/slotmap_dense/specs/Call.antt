@@ -1,0 +1,38 @@
+-- What a call of a dense map owes whatever it answers.
+use Rattle.std.specs.Prelude.{◌≡◌, ℕ, ◌+◌, ◌≤◌}
+use Rattle.std.specs.FinMap as map
+use Rattle.slotmap_core.specs.Content.{used, most}
+use Rattle.slotmap_core.specs.Transition.{Keeps}
+use Rattle.slotmap_dense.specs.Dense.{Dense, IsDense, SameOrder}
+
+module _ {V : Type 0} where
+  -- a call that asks for no memory: the map was and is well formed, and has room for as many places
+  pub record StaysValid (old new : Dense V) : Type 0 where
+    pub before : IsDense old
+    pub after : IsDense new
+    pub capacity : new.content.capacity ≡ old.content.capacity
+
+  -- a call that may ask for room for one more key: the map was and is well formed, no room is lost, and where the
+  -- call is refused the map holds what it held, in the order in which it held it
+  pub record MayGrow (old : Dense V) (refused : Type 0) (new : Dense V) : Type 0 where
+    pub before : IsDense old
+    pub after : IsDense new
+    pub capacity : old.content.capacity ≤ new.content.capacity
+    pub unchanged : refused → Keeps old.content new.content
+    pub same_order : refused → SameOrder old new
+
+  -- a call that asks for room for n more keys, where `ok` says that it isn't refused
+  pub record MakesRoom (old : Dense V) (n : ℕ) (ok : Type 0) (new : Dense V) : Type 0 where
+    pub before : IsDense old
+    pub after : IsDense new
+    -- so many keys fit then: in the limit, in memory, and with no memory asked for
+    pub fits : ok → used old.content + n ≤ most
+    pub room : ok → n ≤ new.content.room
+    pub live_and_more : ok → map.len old.content.live + n ≤ new.content.capacity
+    -- where there is room for them already nothing is asked for
+    pub succeeds : n ≤ old.content.room → ok
+    pub had_room : n ≤ old.content.room → new ≡ old
+    -- the map holds what it held, in the same order
+    pub keeps : Keeps old.content new.content
+    pub same_order : SameOrder old new
+    pub capacity : old.content.capacity ≤ new.content.capacity

@@ -1,0 +1,111 @@
+//! Look-ups: which keys are live, and their values.
+
+ghost use Rattle.std.specs.Prelude.{◌≡◌, IfOk, OnOk, OnErr, IfErr, option_copied, Some, true};
+ghost use Rattle.std.specs.FinMap as map;
+ghost use Rattle.std.specs.Borrow.{sem};
+ghost use Rattle.std.specs.Option.{option_copied_mut};
+ghost use Rattle.slotmap_core.specs.Content.{IsLive};
+ghost use Rattle.slotmap_dense.specs.Dense.{IsDense, with_value_of};
+ghost use Rattle.slotmap_dense.specs.Call.{StaysValid};
+
+use crate::DenseSlotMap;
+use slotmap_core::keys::Key;
+use std::mem;
+use std::ops::{Index, IndexMut};
+
+impl<K: Key, V: Drop> DenseSlotMap<K, V> {
+    ghost use Rattle.slotmap_dense.specs.Lends.{lends_get, lends_value};
+
+    /// Whether this key is live. Constant time.
+    pub fn contains_key(&self, key: K) -> bool
+        ensures value { result ≡ map.contains_key self.now.content.live (K.data_of key) }
+        ensures valid { IsDense self.now }
+    {
+        self.slots.contains_key(key.data())
+    }
+
+    /// The value of a live key, or none where the key isn't live. Constant time.
+    pub fn get(&self, key: K) -> Option<&V>
+        ensures value { option_copied result ≡ map.get self.now.content.live (K.data_of key) }
+        ensures valid { IsDense self.now }
+    {
+        let position = *self.slots.get(key.data())?;
+        Some(&self.values[position as usize])
+    }
+
+    /// The value of a key that is live. Constant time.
+    pub fn get_unchecked(&self, key: K) -> &V
+        requires { IsLive self.now.content (K.data_of key) }
+        ensures value { map.get self.now.content.live (K.data_of key) ≡ Some result.now }
+        ensures valid { IsDense self.now }
+    {
+        let position = *self.slots.get_unchecked(key.data());
+        &self.values[position as usize]
+    }
+
+    /// The value of a live key for writing, or none where the key isn't live. Constant time.
+    pub fn get_mut(&mut self, key: K) -> Option<&mut V>
+        ensures* writes_back { sem 𝓛 (lends_get K.row V.row K.Key self.entry (K.data_of key) result) }
+        ensures value { option_copied_mut result ≡ map.get self.old.content.live (K.data_of key) }
+        ensures was_valid { IsDense self.old }
+    {
+        if self.contains_key(key) {
+            Some(self.get_unchecked_mut(key))
+        } else {
+            None
+        }
+    }
+
+    /// The value of a key that is live, for writing. Constant time.
+    pub fn get_unchecked_mut(&mut self, key: K) -> &mut V
+        requires { IsLive self.old.content (K.data_of key) }
+        ensures* writes_back { sem 𝓛 (lends_value K.row V.row K.Key self.entry (K.data_of key) result) }
+        ensures value { map.get self.old.content.live (K.data_of key) ≡ Some result.now }
+        ensures was_valid { IsDense self.old }
+    {
+        let position = *self.slots.get_unchecked(key.data()) as usize;
+        &mut self.values[position]
+    }
+
+    /// Sets the value of a live key and answers the value before; where the key isn't live, hands
+    /// the value back and changes nothing. Constant time. Rust lacks this call.
+    pub fn replace(&mut self, key: K, value: V) -> Result<V, V>
+        ensures value { IfOk result (λ before. map.get self.old.content.live (K.data_of key) ≡ Some before) }
+        ensures replaces { OnOk result (self.new ≡ with_value_of self.old (K.data_of key) value) }
+        ensures err { IfErr result (λ back. ¬ (IsLive self.old.content (K.data_of key)) × (back ≡ value)) }
+        ensures unchanged { OnErr result (self.new ≡ self.old) }
+        ensures valid { StaysValid self.old self.new }
+    {
+        match self.get_mut(key) {
+            Some(place) => Ok(mem::replace(place, value)),
+            None => Err(value),
+        }
+    }
+}
+
+impl<K: Key, V: Drop> Index<K> for DenseSlotMap<K, V> {
+    type Output = V;
+
+    ghost can_index = { λ m key. IsLive m.content (K.data_of key) };
+
+    ghost index_gives = { λ m key value. map.get m.content.live (K.data_of key) ≡ Some value };
+
+    /// The value of a key that is live, which the caller shows. Constant time.
+    fn index(&self, key: K) -> &V {
+        self.get_unchecked(key)
+    }
+}
+
+impl<K: Key, V: Drop> IndexMut<K> for DenseSlotMap<K, V> {
+    ghost use Rattle.slotmap_dense.specs.Lends.{lends_value};
+
+    /// The value of a key that is live, which the caller shows, for writing. Constant time.
+    fn index_mut(&mut self, key: K) -> &mut V
+        requires { IsLive self.old.content (K.data_of key) }
+        ensures* writes_back { sem 𝓛 (lends_value K.row V.row K.Key self.entry (K.data_of key) result) }
+        ensures value { map.get self.old.content.live (K.data_of key) ≡ Some result.now }
+        ensures was_valid { IsDense self.old }
+    {
+        self.get_unchecked_mut(key)
+    }
+}

@@ -1,0 +1,56 @@
+//! Keys whose value is out and whose place is kept.
+
+ghost use Rattle.std.specs.Prelude.{◌≡◌, OnSome, IfSome, IfNone, OnOk, IfErr, IsErr, false};
+ghost use Rattle.std.specs.FinMap as map;
+ghost use Rattle.slotmap_core.specs.Transition.{Detaches, Reattaches};
+ghost use Rattle.slotmap_core.specs.Refusal.{RefusesReattach};
+ghost use Rattle.slotmap_dense.specs.Dense.{Appends, ClosesGap};
+ghost use Rattle.slotmap_dense.specs.Call.{StaysValid, MayGrow};
+
+use crate::remove::close_gap;
+use crate::{DenseSlotMap, make_room_in};
+use slotmap_core::errors::ReattachError;
+use slotmap_core::keys::Key;
+
+impl<K: Key, V: Drop> DenseSlotMap<K, V> {
+    /// Takes a live key's value out and keeps its place for the key, or answers none where the key
+    /// isn't live. Constant time.
+    pub fn detach(&mut self, key: K) -> Option<V>
+        ensures value { result ≡ map.get self.old.content.live (K.data_of key) }
+        ensures detaches { OnSome result (Detaches self.old.content (K.data_of key) self.new.content) }
+        ensures order { IfSome result (λ value. ClosesGap self.old (K.data_of key) value self.new) }
+        ensures live { self.new.content.live ≡ map.remove self.old.content.live (K.data_of key) }
+        ensures unchanged { IfNone result (self.new ≡ self.old) }
+        ensures valid { StaysValid self.old self.new }
+    {
+        let position = self.slots.detach(key.data())?;
+        Some(close_gap(&mut self.slots, &mut self.keys, &mut self.values, position))
+    }
+
+    /// Binds a detached key to a value again. Constant time where no vector moves.
+    ///
+    /// `NotDetached` exactly where the key isn't detached, else `Memory` where memory was refused;
+    /// both hand the value back, and the map holds what it held.
+    pub fn reattach(&mut self, key: K, value: V) -> Result<(), ReattachError<V>>
+        ensures ok { OnOk result (Reattaches self.old.content (K.data_of key) value self.new.content) }
+        ensures order { OnOk result (Appends self.old (K.data_of key) value self.new) }
+        ensures err { IfErr result (λ error. RefusesReattach false self.old.content (K.data_of key) value error) }
+        ensures valid { MayGrow self.old (IsErr result) self.new }
+    {
+        let data = key.data();
+        if !self.slots.is_detached(data) {
+            return Err(ReattachError::NotDetached(value));
+        }
+        if make_room_in(&mut self.keys, 1).is_err() {
+            return Err(ReattachError::Memory(value));
+        }
+        if make_room_in(&mut self.values, 1).is_err() {
+            return Err(ReattachError::Memory(value));
+        }
+        let position = self.keys.len() as u32;
+        self.slots.reattach(data, position);
+        self.keys.push_reserved(key);
+        self.values.push_reserved(value);
+        Ok(())
+    }
+}

@@ -1,0 +1,76 @@
+//! A walk that takes the pairs out of a map.
+
+ghost use Rattle.std.specs.Prelude.{◌≡◌, ◌≤◌, Some, IfSome};
+ghost use Rattle.std.specs.Iterator.{size, UpTo};
+ghost use Rattle.slotmap_dense.specs.Dense.{IsDense, Empties};
+
+use crate::DenseSlotMap;
+use slotmap_core::keys::Key;
+use std::iter::FusedIterator;
+
+/// A walk that takes the pairs out of a map, from the back of the packed order. Once it is dropped,
+/// no key of the map is live.
+pub struct Drain<'a, K: Key, V> {
+    map: &'a mut DenseSlotMap<K, V>,
+}
+
+impl<'a, K: Key, V: Drop> Drop for Drain<'a, K, V> {
+    ghost use Rattle.slotmap_dense.specs.Drain.{drain_map};
+
+    fn drop(self)
+        ensures ends { Empties (drain_map self.entry) self.exit.0.now }
+        ensures valid { IsDense self.exit.0.now }
+    {
+        let Drain { map } = self;
+        map.clear();
+    }
+}
+
+impl<'a, K: Key, V: Drop> Iterator for Drain<'a, K, V> {
+    ghost use Rattle.slotmap_dense.specs.Drain.{drain_count, DrainSteps};
+
+    type Item = (K, V);
+
+    ghost next_gives = { DrainSteps K.data_of };
+
+    ghost remaining = { drain_count };
+
+    fn next(&mut self) -> Option<(K, V)> {
+        match self.map.take_last() {
+            Some(pair) => Some(pair),
+            None => None,
+        }
+    }
+
+    fn size_hint(&self) -> (usize, Option<usize>)
+        ensures lower { result.0 ≤ size (drain_count self.now) }
+        ensures upper { IfSome result.1 (UpTo (drain_count self.now)) }
+        ensures exact { result ≡ (size (drain_count self.now), Some (size (drain_count self.now))) }
+    {
+        let len = self.len();
+        (len, Some(len))
+    }
+}
+
+impl<'a, K: Key, V: Drop> ExactSizeIterator for Drain<'a, K, V> {
+    fn len(&self) -> usize {
+        self.map.len()
+    }
+}
+
+impl<'a, K: Key, V: Drop> FusedIterator for Drain<'a, K, V> {}
+
+impl<K: Key, V: Drop> DenseSlotMap<K, V> {
+    ghost use Rattle.slotmap_dense.specs.Drain.{drain_map, drain_lender, DrainLists};
+
+    /// Takes the live keys with their values out, from the back of the packed order.
+    pub fn drain(&mut self) -> Drain<'_, K, V>
+        ensures map { drain_map result ≡ self.old }
+        ensures same_reference { drain_lender result ≡ self.entry.ghost_name }
+        ensures lists { DrainLists K.data_of result }
+        ensures valid { IsDense self.old }
+    {
+        self.note_valid();
+        Drain { map: self }
+    }
+}

@@ -1,0 +1,119 @@
+//! Inserts: new keys.
+
+ghost use Rattle.std.specs.Prelude.{◌≡◌, ◌+◌, ◌<◌, IfOk, IfErr, IsOk, IsErr, Ok};
+ghost use Rattle.slotmap_core.specs.Content.{used, most};
+ghost use Rattle.slotmap_core.specs.Transition.{Inserts};
+ghost use Rattle.slotmap_core.specs.Refusal.{Refuses, RefusesInsert, RefusesWith, RefusesCapacity};
+ghost use Rattle.slotmap_dense.specs.Dense.{Appends};
+ghost use Rattle.slotmap_dense.specs.Call.{StaysValid, MayGrow, MakesRoom};
+
+use crate::{DenseSlotMap, make_room_in};
+use slotmap_core::errors::{InsertError, InsertWithError, ReserveError, TryInsertError};
+use slotmap_core::keys::Key;
+
+impl<K: Key, V: Drop> DenseSlotMap<K, V> {
+    // The key that the next insert answers.
+    fn next_key(&self) -> K
+        requires { 0 < self.now.content.room }
+        ensures { K.data_of result ≡ self.now.content.offer }
+    {
+        K::from(self.slots.next_key())
+    }
+
+    // Makes room for one more key.
+    #[inline(always)]
+    fn make_room(&mut self) -> Result<(), ReserveError>
+        ensures makes_room { MakesRoom self.old 1 (IsOk result) self.new }
+        ensures err { IfErr result (RefusesCapacity (used self.old.content + 1)) }
+    {
+        self.slots.make_room()?;
+        make_room_in(&mut self.keys, 1)?;
+        make_room_in(&mut self.values, 1)?;
+        Ok(())
+    }
+
+    // Binds the next key to a value.
+    #[inline(always)]
+    fn append(&mut self, value: V) -> K
+        requires { 0 < self.old.content.room }
+        ensures inserts { Inserts self.old.content (K.data_of result) value self.new.content }
+        ensures order { Appends self.old (K.data_of result) value self.new }
+        ensures valid { StaysValid self.old self.new }
+    {
+        let position = self.keys.len() as u32;
+        let key = K::from(self.slots.fill(position));
+        self.keys.push_reserved(key);
+        self.values.push_reserved(value);
+        key
+    }
+
+    /// Stores a value under a new key, and answers the key. Constant time where no vector moves.
+    #[inline(always)]
+    pub fn insert(&mut self, value: V) -> Result<K, InsertError<V>>
+        ensures ok { IfOk result (λ key. Inserts self.old.content (K.data_of key) value self.new.content) }
+        ensures order { IfOk result (λ key. Appends self.old (K.data_of key) value self.new) }
+        ensures err { IfErr result (λ error. Refuses self.old.content value error) }
+
+        ensures valid { MayGrow self.old (IsErr result) self.new }
+    {
+        match self.make_room() {
+            Ok(()) => {}
+            Err(ReserveError::TooGreat) => return Err(InsertError::Full(value)),
+            Err(ReserveError::Memory) => return Err(InsertError::Memory(value)),
+        }
+        Ok(self.append(value))
+    }
+
+    /// Stores the value that the closure gives for the new key, and answers the key.
+    pub fn insert_with_key<F: FnOnce(K) -> V>(&mut self, f: F) -> Result<K, InsertWithError>
+    where
+        F: Drop,
+        requires { used self.old.content < most → (key : K) → K.data_of key ≡ self.old.content.offer → F.pre f key }
+
+        ensures ok { IfOk result (λ key. (v : V) × F.post f key v
+            × Inserts self.old.content (K.data_of key) v self.new.content × Appends self.old (K.data_of key) v self.new) }
+        ensures err { IfErr result (RefusesInsert self.old.content) }
+
+        ensures valid { MayGrow self.old (IsErr result) self.new }
+    {
+        match self.make_room() {
+            Ok(()) => {}
+            Err(ReserveError::TooGreat) => return Err(InsertWithError::Full),
+            Err(ReserveError::Memory) => return Err(InsertWithError::Memory),
+        }
+        let key = self.next_key();
+        let value = f(key);
+        self.append(value);
+        Ok(key)
+    }
+
+    /// Stores the value that the closure gives for the new key, and answers the key.
+    pub fn try_insert_with_key<F: FnOnce(K) -> Result<V, E>, E>(
+        &mut self,
+        f: F,
+    ) -> Result<K, TryInsertError<E>>
+    where
+        F: Drop,
+        requires { used self.old.content < most → (key : K) → K.data_of key ≡ self.old.content.offer → F.pre f key }
+
+        ensures ok { IfOk result (λ key. (v : V) × F.post f key (Ok v)
+            × Inserts self.old.content (K.data_of key) v self.new.content × Appends self.old (K.data_of key) v self.new) }
+        ensures err { IfErr result (λ error. RefusesWith K.data_of (F.post f) self.old.content error) }
+
+        ensures valid { MayGrow self.old (IsErr result) self.new }
+    {
+        match self.make_room() {
+            Ok(()) => {}
+            Err(ReserveError::TooGreat) => return Err(TryInsertError::Full),
+            Err(ReserveError::Memory) => return Err(TryInsertError::Memory),
+        }
+        let key = self.next_key();
+        match f(key) {
+            Ok(value) => {
+                self.append(value);
+                Ok(key)
+            }
+            Err(error) => Err(TryInsertError::Closure(error)),
+        }
+    }
+}

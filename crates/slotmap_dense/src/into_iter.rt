@@ -1,0 +1,114 @@
+//! The walk that takes a map apart.
+
+ghost use Rattle.std.specs.Prelude.{◌≡◌, ◌≤◌, length, Some, IfSome, IfOk};
+ghost use Rattle.std.specs.Iterator.{YieldsFirstBy, item_count, at_most, UpTo};
+ghost use Rattle.std.specs.List.{zip};
+ghost use Rattle.slotmap_core.specs.Listing.{IsListing};
+
+use crate::DenseSlotMap;
+use slotmap_core::keys::Key;
+use std::alloc::AllocError;
+use std::collections::VecDeque;
+use std::marker::Model;
+
+/// A walk over the live keys of a map and their values, by value and in packed order: what a `for`
+/// over a map takes.
+///
+/// A contract sees it as the list of the pairs that are still to come. At its end it stays there. A
+/// full walk takes time linear in the number of live keys, and no memory. Values that it has not
+/// handed out are dropped with it.
+#[derive(Drop)]
+pub struct IntoIter<K: Key, V> {
+    keys: Vec<K>,
+    // The position that comes next.
+    position: usize,
+    // The values from that position on.
+    values: VecDeque<V>,
+}
+
+impl<K: Key, V> Model for IntoIter<K, V> {
+    ghost use Rattle.std.specs.Prelude.{◌≡◌, ◌+◌, List, drop, length as list_length, map as list_map};
+    ghost use Rattle.std.specs.List.{zip};
+    ghost use Rattle.slotmap_core.specs.Key.{Key};
+
+    ghost Value = { List (Key × V) };
+
+    ghost view = { λ it. zip (list_map K.data_of (drop it.position it.keys.items)) it.values.items };
+
+    ghost invariant = { λ it. list_length it.values.items + it.position ≡ list_length it.keys.items };
+}
+
+impl<K: Key, V> IntoIter<K, V> {
+    /// How many pairs are still to come, in constant time.
+    pub fn len(&self) -> usize
+        ensures { result ≡ length self.now }
+    {
+        self.values.len()
+    }
+}
+
+impl<K: Key, V: Clone> IntoIter<K, V> {
+    /// A second walk over the pairs that are still to come, with clones of the values.
+    ///
+    /// The caller answers for it that a clone of a value equals the value. Where there is no memory
+    /// it refuses, and the walk stays as it is.
+    pub fn clone(&self) -> Result<Self, AllocError>
+        requires { (x y : V) → V.is_clone x y → y ≡ x }
+        ensures { IfOk result (λ copy. copy ≡ self.now) }
+    {
+        Ok(IntoIter {
+            keys: self.keys.clone()?,
+            position: self.position,
+            values: self.values.clone()?,
+        })
+    }
+}
+
+impl<K: Key, V: Drop> Iterator for IntoIter<K, V> {
+    type Item = (K, V);
+
+    ghost next_gives = { YieldsFirstBy (λ item. (K.data_of item.0, item.1)) (λ rest. rest) };
+
+    ghost remaining = { item_count (λ rest. rest) };
+
+    fn next(&mut self) -> Option<(K, V)> {
+        match self.values.pop_front() {
+            Some(value) => {
+                let key = self.keys[self.position];
+                self.position += 1;
+                Some((key, value))
+            }
+            None => None,
+        }
+    }
+
+    fn size_hint(&self) -> (usize, Option<usize>)
+        ensures lower { result.0 ≤ length self.now }
+        ensures upper { IfSome result.1 (UpTo (at_most (length self.now))) }
+        ensures exact { result ≡ (length self.now, Some (length self.now)) }
+    {
+        let len = self.len();
+        (len, Some(len))
+    }
+}
+
+impl<K: Key, V: Drop> IntoIterator for DenseSlotMap<K, V> {
+    type Item = (K, V);
+
+    type IntoIter = IntoIter<K, V>;
+
+    ghost into_iter_gives = { λ m it. IsListing m.content.live it × (it ≡ zip m.keys m.values) };
+
+    fn into_iter(self) -> IntoIter<K, V> {
+        let DenseSlotMap {
+            slots: _,
+            keys,
+            values,
+        } = self;
+        IntoIter {
+            keys,
+            position: 0,
+            values: VecDeque::from_vec(values),
+        }
+    }
+}

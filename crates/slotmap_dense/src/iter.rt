@@ -1,0 +1,263 @@
+//! Walks over the keys and values of a map, in packed order.
+
+ghost use Rattle.std.specs.Prelude.{◌≡◌, ◌≤◌, length, Some, IfSome, ⊤};
+ghost use Rattle.std.specs.Iterator.{YieldsFirstBy, item_count, at_most, UpTo};
+ghost use Rattle.std.specs.List.{zip};
+ghost use Rattle.slotmap_core.specs.Listing.{IsListing, IsKeyListing, IsValueListing};
+ghost use Rattle.slotmap_dense.specs.Dense.{IsDense};
+
+use crate::DenseSlotMap;
+use slotmap_core::keys::Key;
+use std::alloc::AllocError;
+use std::marker::Model;
+
+/// A walk over the live keys of a map and their values, in packed order: see
+/// [`DenseSlotMap::iter`].
+///
+/// A contract sees it as the list of the pairs that are still to come. At its end it stays there. A
+/// clone of it walks over the same pairs, and takes no memory.
+#[derive(Drop)]
+pub struct Iter<'a, K: Key, V> {
+    keys: &'a [K],
+    values: &'a [V],
+    // The position that comes next.
+    position: usize,
+}
+
+impl<'a, K: Key, V> Model for Iter<'a, K, V> {
+    ghost use Rattle.std.specs.Prelude.{◌≡◌, ◌≤◌, List, drop, length as list_length, map as list_map};
+    ghost use Rattle.std.specs.List.{zip};
+    ghost use Rattle.slotmap_core.specs.Key.{Key};
+
+    ghost Value = { List (Key × V) };
+
+    ghost view = { λ it. zip (list_map K.data_of (drop it.position it.keys.now)) (drop it.position it.values.now) };
+
+    ghost invariant = { λ it. (list_length it.values.now ≡ list_length it.keys.now) × (it.position ≤ list_length it.keys.now) };
+}
+
+impl<'a, K: Key, V> Iter<'a, K, V> {
+    /// How many pairs are still to come, in constant time.
+    pub fn len(&self) -> usize
+        ensures { result ≡ length self.now }
+    {
+        self.keys.len() - self.position
+    }
+}
+
+impl<'a, K: Key, V> Clone for Iter<'a, K, V> {
+    ghost is_clone = { λ it copy. copy ≡ it };
+
+    ghost is_infallible = { λ _. ⊤ };
+
+    fn clone(&self) -> Result<Self, AllocError> {
+        Ok(Iter {
+            keys: self.keys,
+            values: self.values,
+            position: self.position,
+        })
+    }
+}
+
+impl<'a, K: Key, V> Iterator for Iter<'a, K, V> {
+    type Item = (K, &'a V);
+
+    ghost next_gives = { YieldsFirstBy (λ item. (K.data_of item.0, item.1.now)) (λ rest. rest) };
+
+    ghost remaining = { item_count (λ rest. rest) };
+
+    #[inline(always)]
+    fn next(&mut self) -> Option<(K, &'a V)> {
+        if self.position == self.keys.len() {
+            return None;
+        }
+        let position = self.position;
+        self.position += 1;
+        Some((self.keys[position], &self.values[position]))
+    }
+
+    fn size_hint(&self) -> (usize, Option<usize>)
+        ensures lower { result.0 ≤ length self.now }
+        ensures upper { IfSome result.1 (UpTo (at_most (length self.now))) }
+        ensures exact { result ≡ (length self.now, Some (length self.now)) }
+    {
+        let len = self.len();
+        (len, Some(len))
+    }
+}
+
+/// A walk over the live keys of a map, in packed order: see [`DenseSlotMap::keys`].
+///
+/// A contract sees it as the list of the keys that are still to come. At its end it stays there. A
+/// clone of it walks over the same keys, and takes no memory.
+#[derive(Drop)]
+pub struct Keys<'a, K: Key, V> {
+    pairs: Iter<'a, K, V>,
+}
+
+impl<'a, K: Key, V> Model for Keys<'a, K, V> {
+    ghost use Rattle.std.specs.Prelude.{List, map};
+    ghost use Rattle.slotmap_core.specs.Key.{Key};
+
+    ghost Value = { List Key };
+
+    ghost view = { λ it. map (λ pair. pair.0) it.pairs };
+}
+
+impl<'a, K: Key, V> Keys<'a, K, V> {
+    /// How many keys are still to come, in constant time.
+    pub fn len(&self) -> usize
+        ensures { result ≡ length self.now }
+    {
+        self.pairs.len()
+    }
+}
+
+impl<'a, K: Key, V> Clone for Keys<'a, K, V> {
+    ghost is_clone = { λ it copy. copy ≡ it };
+
+    ghost is_infallible = { λ _. ⊤ };
+
+    fn clone(&self) -> Result<Self, AllocError> {
+        Ok(Keys {
+            pairs: self.pairs.clone()?,
+        })
+    }
+}
+
+impl<'a, K: Key, V> Iterator for Keys<'a, K, V> {
+    type Item = K;
+
+    ghost next_gives = { YieldsFirstBy K.data_of (λ rest. rest) };
+
+    ghost remaining = { item_count (λ rest. rest) };
+
+    fn next(&mut self) -> Option<K> {
+        let (key, _) = self.pairs.next()?;
+        Some(key)
+    }
+
+    fn size_hint(&self) -> (usize, Option<usize>)
+        ensures lower { result.0 ≤ length self.now }
+        ensures upper { IfSome result.1 (UpTo (at_most (length self.now))) }
+        ensures exact { result ≡ (length self.now, Some (length self.now)) }
+    {
+        let len = self.len();
+        (len, Some(len))
+    }
+}
+
+/// A walk over the values of a map, in packed order: see [`DenseSlotMap::values`].
+///
+/// A contract sees it as the list of the values that are still to come. At its end it stays there.
+/// A clone of it walks over the same values, and takes no memory.
+#[derive(Drop)]
+pub struct Values<'a, K: Key, V> {
+    pairs: Iter<'a, K, V>,
+}
+
+impl<'a, K: Key, V> Model for Values<'a, K, V> {
+    ghost use Rattle.std.specs.Prelude.{List, map};
+
+    ghost Value = { List V };
+
+    ghost view = { λ it. map (λ pair. pair.1) it.pairs };
+}
+
+impl<'a, K: Key, V> Values<'a, K, V> {
+    /// How many values are still to come, in constant time.
+    pub fn len(&self) -> usize
+        ensures { result ≡ length self.now }
+    {
+        self.pairs.len()
+    }
+}
+
+impl<'a, K: Key, V> Clone for Values<'a, K, V> {
+    ghost is_clone = { λ it copy. copy ≡ it };
+
+    ghost is_infallible = { λ _. ⊤ };
+
+    fn clone(&self) -> Result<Self, AllocError> {
+        Ok(Values {
+            pairs: self.pairs.clone()?,
+        })
+    }
+}
+
+impl<'a, K: Key, V> Iterator for Values<'a, K, V> {
+    type Item = &'a V;
+
+    ghost next_gives = { YieldsFirstBy (λ item. item.now) (λ rest. rest) };
+
+    ghost remaining = { item_count (λ rest. rest) };
+
+    fn next(&mut self) -> Option<&'a V> {
+        let (_, value) = self.pairs.next()?;
+        Some(value)
+    }
+
+    fn size_hint(&self) -> (usize, Option<usize>)
+        ensures lower { result.0 ≤ length self.now }
+        ensures upper { IfSome result.1 (UpTo (at_most (length self.now))) }
+        ensures exact { result ≡ (length self.now, Some (length self.now)) }
+    {
+        let len = self.len();
+        (len, Some(len))
+    }
+}
+
+impl<K: Key, V> DenseSlotMap<K, V> {
+    /// A walk over the live keys and their values, in packed order.
+    ///
+    /// It is made in constant time, and a full walk takes time linear in the number of live keys,
+    /// however many places the map has. It takes no memory.
+    ///
+    /// ```
+    /// for (key, value) in map.iter() {
+    ///     println!(rt; "{key:?}: {value}")?;
+    /// }
+    /// ```
+    pub fn iter(&self) -> Iter<'_, K, V>
+        ensures listing { IsListing self.now.content.live result }
+        ensures in_order { result ≡ zip self.now.keys self.now.values }
+        ensures valid { IsDense self.now }
+    {
+        Iter {
+            keys: self.keys.as_slice(),
+            values: self.values.as_slice(),
+            position: 0,
+        }
+    }
+
+    /// A walk over the live keys, in packed order. It costs the same as [`DenseSlotMap::iter`].
+    pub fn keys(&self) -> Keys<'_, K, V>
+        ensures listing { IsKeyListing self.now.content.live result }
+        ensures in_order { result ≡ self.now.keys }
+        ensures valid { IsDense self.now }
+    {
+        Keys { pairs: self.iter() }
+    }
+
+    /// A walk over the values of the live keys, in packed order. It costs the same as
+    /// [`DenseSlotMap::iter`].
+    pub fn values(&self) -> Values<'_, K, V>
+        ensures listing { IsValueListing self.now.content.live result }
+        ensures in_order { result ≡ self.now.values }
+        ensures valid { IsDense self.now }
+    {
+        Values { pairs: self.iter() }
+    }
+}
+
+impl<'a, K: Key, V> IntoIterator for &'a DenseSlotMap<K, V> {
+    type Item = (K, &'a V);
+
+    type IntoIter = Iter<'a, K, V>;
+
+    ghost into_iter_gives = { λ m it. IsListing m.now.content.live it × (it ≡ zip m.now.keys m.now.values) };
+
+    fn into_iter(self) -> Iter<'a, K, V> {
+        self.iter()
+    }
+}

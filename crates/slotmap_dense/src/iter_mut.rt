@@ -1,0 +1,141 @@
+//! Walks that lend the values for writing, in packed order. They have no model, so that a contract
+//! can follow the loan.
+
+ghost use Rattle.std.specs.Prelude.{◌≡◌, ◌≤◌, length, IfSome, Some};
+ghost use Rattle.std.specs.Borrow.{sem};
+ghost use Rattle.std.specs.Iterator.{at_most, UpTo};
+ghost use Rattle.std.specs.Iterator.Runs.{YieldsMutRefsInOrder};
+ghost use Rattle.std.specs.List.{zip};
+ghost use Rattle.slotmap_dense.specs.Dense.{IsDense};
+ghost use Rattle.slotmap_dense.specs.WalkMut.{iter_mut_rest, iter_mut_name, iter_mut_steps, IterMutCanStep, values_mut_rest, values_mut_name, values_mut_steps};
+ghost use Rattle.slotmap_dense.specs.Lends.{lends_walk};
+
+use crate::DenseSlotMap;
+use slotmap_core::keys::Key;
+use std::marker::PhantomData;
+use std::slice;
+
+/// A walk over the live keys of a map and their values, which it lends for writing, in packed
+/// order: see [`DenseSlotMap::iter_mut`].
+#[derive(Drop)]
+pub struct IterMut<'a, K, V> {
+    keys: slice::Iter<'a, K>,
+    values: slice::IterMut<'a, V>,
+}
+
+impl<'a, K: Key, V> Iterator for IterMut<'a, K, V> {
+    type Item = (K, &'a mut V);
+
+    ghost can_next = { IterMutCanStep };
+
+    ghost next_gives = { iter_mut_steps K.data_of };
+
+    ghost remaining = { λ s. at_most (length (iter_mut_rest K.data_of s)) };
+
+    fn next(&mut self) -> Option<(K, &'a mut V)> {
+        let key = *self.keys.next()?;
+        Some((key, self.values.next().unwrap()))
+    }
+
+    fn size_hint(&self) -> (usize, Option<usize>)
+        ensures lower { result.0 ≤ length (iter_mut_rest K.data_of self.now) }
+        ensures upper { IfSome result.1 (UpTo (at_most (length (iter_mut_rest K.data_of self.now)))) }
+        ensures exact { result ≡ (length (iter_mut_rest K.data_of self.now), Some (length (iter_mut_rest K.data_of self.now))) }
+    {
+        let len = self.len();
+        (len, Some(len))
+    }
+}
+
+impl<'a, K: Key, V> IterMut<'a, K, V> {
+    /// How many pairs are still to come, in constant time.
+    pub fn len(&self) -> usize
+        ensures { result ≡ length (iter_mut_rest K.data_of self.now) }
+    {
+        self.keys.len().min(self.values.len())
+    }
+}
+
+/// A walk over the values of the live keys of a map, which it lends for writing, in packed order:
+/// see [`DenseSlotMap::values_mut`].
+#[derive(Drop)]
+pub struct ValuesMut<'a, K, V> {
+    values: slice::IterMut<'a, V>,
+    keys: PhantomData<K>,
+}
+
+impl<'a, K, V> Iterator for ValuesMut<'a, K, V> {
+    type Item = &'a mut V;
+
+    ghost next_gives = { values_mut_steps };
+
+    ghost remaining = { λ s. at_most (length (values_mut_rest s)) };
+
+    fn next(&mut self) -> Option<&'a mut V> {
+        self.values.next()
+    }
+
+    fn size_hint(&self) -> (usize, Option<usize>)
+        ensures lower { result.0 ≤ length (values_mut_rest self.now) }
+        ensures upper { IfSome result.1 (UpTo (at_most (length (values_mut_rest self.now)))) }
+        ensures exact { result ≡ (length (values_mut_rest self.now), Some (length (values_mut_rest self.now))) }
+    {
+        let len = self.len();
+        (len, Some(len))
+    }
+}
+
+impl<'a, K, V> ValuesMut<'a, K, V> {
+    /// How many values are still to come, in constant time.
+    pub fn len(&self) -> usize
+        ensures { result ≡ length (values_mut_rest self.now) }
+    {
+        self.values.len()
+    }
+}
+
+impl<K: Key, V: Drop> DenseSlotMap<K, V> {
+    /// A walk over the live keys and their values, in packed order, each value lent for writing.
+    ///
+    /// Once the walk ends, each key has the last value written through its reference, and all else
+    /// is as before.
+    pub fn iter_mut(&mut self) -> IterMut<'_, K, V>
+        ensures* writes_back { sem 𝓛 (lends_walk K.row V.row K.Key self.entry (iter_mut_name result)) }
+        ensures in_order { iter_mut_rest K.data_of result ≡ zip self.old.keys self.old.values }
+        ensures ready { IterMutCanStep result }
+        ensures was_valid { IsDense self.old }
+    {
+        IterMut {
+            keys: self.keys.iter(),
+            values: self.values.iter_mut(),
+        }
+    }
+
+    /// A walk over the values of the live keys, in packed order, each lent for writing.
+    pub fn values_mut(&mut self) -> ValuesMut<'_, K, V>
+        ensures* writes_back { sem 𝓛 (lends_walk K.row V.row K.Key self.entry (values_mut_name result)) }
+        ensures in_order { values_mut_rest result ≡ self.old.values }
+        ensures runs { YieldsMutRefsInOrder (values_mut_steps {K = K} {V = V}) values_mut_rest }
+        ensures was_valid { IsDense self.old }
+    {
+        ValuesMut {
+            values: self.values.iter_mut(),
+            keys: PhantomData,
+        }
+    }
+}
+
+impl<'a, K: Key, V: Drop> IntoIterator for &'a mut DenseSlotMap<K, V> {
+    type Item = (K, &'a mut V);
+
+    type IntoIter = IterMut<'a, K, V>;
+
+    ghost into_iter_gives = { λ m it. (iter_mut_rest K.data_of it ≡ zip m.now.keys m.now.values) × IterMutCanStep it };
+
+    fn into_iter(self) -> IterMut<'a, K, V>
+        ensures* writes_back { sem 𝓛 (lends_walk K.row V.row K.Key self.entry (iter_mut_name result)) }
+        ensures into_iter_gives { (iter_mut_rest K.data_of result ≡ zip self.old.keys self.old.values) × IterMutCanStep result }
+    {
+        self.iter_mut()
+    }
+}

@@ -1,0 +1,63 @@
+//! Removals.
+
+ghost use Rattle.std.specs.Prelude.{◌≡◌, ◌+◌, ◌<◌, OnSome, IfSome, IfNone, Some, true, slice_get, length, vec_capacity, map as list_map};
+ghost use Rattle.std.specs.List.{swap_remove};
+ghost use Rattle.std.specs.FinMap as map;
+ghost use Rattle.slotmap_core.specs.Key.{Key as KeyOf};
+ghost use Rattle.slotmap_core.specs.Content.{IsContent};
+ghost use Rattle.slotmap_core.specs.Transition.{Removes};
+ghost use Rattle.slotmap_dense.specs.Dense.{ClosesGap};
+ghost use Rattle.slotmap_dense.specs.Call.{StaysValid};
+ghost use Rattle.slotmap_dense.specs.Packed.{IsPacked, IsGapped};
+
+use crate::DenseSlotMap;
+use slotmap_core::keys::Key;
+use slotmap_core::layout::Rows;
+use slotmap_core::slots::Slots;
+
+// Takes out the pair at a position whose key has left the slots: the last pair takes its place, and
+// its key's position is corrected.
+pub(crate) fn close_gap<K: Key, V: Drop>(
+    slots: &mut Slots<u32, Rows<u32>>,
+    keys: &mut Vec<K>,
+    values: &mut Vec<V>,
+    position: u32,
+) -> V
+    requires well { IsContent true slots.old }
+    requires gapped { IsGapped slots.old.live (list_map K.data_of keys.old.items) position }
+    requires same_length { length values.old.items ≡ length (list_map K.data_of keys.old.items) }
+    ensures value { slice_get values.old.items position ≡ Some result }
+    ensures keys { (k : KeyOf) → slice_get (list_map K.data_of keys.old.items) position ≡ Some k → list_map K.data_of keys.new.items ≡ swap_remove (list_map K.data_of keys.old.items) position k }
+    ensures values { values.new.items ≡ swap_remove values.old.items position result }
+    ensures packed { IsPacked slots.new.live (list_map K.data_of keys.new.items) }
+    ensures rest { slots.new ≡ record slots.old { live = slots.new.live } }
+    ensures well { IsContent true slots.new }
+    ensures keys_capacity { vec_capacity keys.new ≡ vec_capacity keys.old }
+    ensures values_capacity { vec_capacity values.new ≡ vec_capacity values.old }
+{
+    let index = position as usize;
+    keys.swap_remove(index);
+    let value = values.swap_remove(index);
+    if index < keys.len() {
+        *slots.get_unchecked_mut(keys[index].data()) = position;
+    }
+    value
+}
+
+impl<K: Key, V: Drop> DenseSlotMap<K, V> {
+    /// Takes a live key's value out, or answers none where the key isn't live. Constant time.
+    ///
+    /// The last key and its value take their place in the packed order.
+    #[inline(always)]
+    pub fn remove(&mut self, key: K) -> Option<V>
+        ensures value { result ≡ map.get self.old.content.live (K.data_of key) }
+        ensures removes { OnSome result (Removes self.old.content (K.data_of key) self.new.content) }
+        ensures order { IfSome result (λ value. ClosesGap self.old (K.data_of key) value self.new) }
+        ensures live { self.new.content.live ≡ map.remove self.old.content.live (K.data_of key) }
+        ensures unchanged { IfNone result (self.new ≡ self.old) }
+        ensures valid { StaysValid self.old self.new }
+    {
+        let position = self.slots.remove(key.data())?;
+        Some(close_gap(&mut self.slots, &mut self.keys, &mut self.values, position))
+    }
+}

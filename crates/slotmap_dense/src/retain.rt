@@ -1,0 +1,135 @@
+//! The calls that go over all live keys of a map.
+
+ghost use Rattle.std.specs.Prelude.{◌≡◌, ◌<◌, ◌+◌, ◌++◌, ◌∷◌, [], IfSome, IfNone, OnOk, OnErr, Some, List, map as list_map, length, slice_get};
+ghost use Rattle.std.specs.FinMap as map;
+ghost use Rattle.slotmap_core.specs.Transition.{Leaves, Removes};
+ghost use Rattle.slotmap_core.specs.Listing.{IsListing, IsKeyListing};
+ghost use Rattle.slotmap_core.specs.Retain.{RetainsBy, CallableOnEach};
+ghost use Rattle.slotmap_core.specs.Key.{Key as KeyOf};
+ghost use Rattle.slotmap_dense.specs.Rest.{Comes, LeavesFrom};
+ghost use Rattle.slotmap_dense.specs.Dense.{IsDense, IsEmpty, TakesLast, FreesFromBack};
+ghost use Rattle.slotmap_dense.specs.Call.{StaysValid};
+
+use crate::DenseSlotMap;
+use crate::remove::close_gap;
+use slotmap_core::errors::OutOfMemory;
+use slotmap_core::keys::Key;
+
+impl<K: Key, V: Drop> DenseSlotMap<K, V> {
+    // Takes the last pair of the packed order out, or answers none where no key is live.
+    pub(crate) fn take_last(&mut self) -> Option<(K, V)>
+        ensures takes { TakesLast K.data_of self.old result self.new }
+        ensures valid { StaysValid self.old self.new }
+    {
+        let key = self.keys.pop()?;
+        self.slots.take(key.data());
+        match self.values.pop() {
+            Some(value) => Some((key, value)),
+            None => unreachable!(),
+        }
+    }
+
+    /// Removes every live key, and drops its value.
+    ///
+    /// The keys are removed from the back of the packed order, and the capacity stays.
+    pub fn clear(&mut self)
+        ensures empty { self.new.content.live ≡ map.empty }
+        ensures none { IsEmpty self.new }
+        ensures leaves { Leaves self.old.content self.new.content }
+        ensures order { FreesFromBack self.old self.new }
+        ensures valid { StaysValid self.old self.new }
+    {
+        self.note_valid();
+        while let Some(_pair) = self.take_last() {}
+    }
+
+    /// Appends every live key to `out`, in packed order.
+    ///
+    /// It first asks for all the room that it needs. Where there is no memory for it, it is refused,
+    /// and `out` stays as it is. Rust lacks this call.
+    pub fn keys_into(&self, out: &mut Vec<K>) -> Result<(), OutOfMemory>
+        ensures listed { OnOk result ((keys : List K) × (out.new.items ≡ out.old.items ++ keys) × IsKeyListing self.now.content.live (list_map K.data_of keys)) }
+        ensures unchanged { OnErr result (out.new.items ≡ out.old.items) }
+        ensures valid { IsDense self.now }
+    {
+        self.note_valid();
+        out.reserve(self.keys.len())?;
+        for index in 0..self.keys.len() {
+            out.push_reserved(self.keys[index]);
+        }
+        Ok(())
+    }
+
+    /// Takes every live key with its value out, and appends them to `out`, from the back of the
+    /// packed order.
+    ///
+    /// It first asks for all the room that it needs. Where there is no memory for it, it is refused,
+    /// and the map and `out` stay as they are. Rust lacks this call.
+    pub fn drain_into(&mut self, out: &mut Vec<(K, V)>) -> Result<(), OutOfMemory>
+        ensures listed { OnOk result ((pairs : List (K × V)) × (out.new.items ≡ out.old.items ++ pairs) × IsListing self.old.content.live (list_map (λ p. (K.data_of p.0, p.1)) pairs)) }
+        ensures empty { OnOk result (self.new.content.live ≡ map.empty) }
+        ensures leaves { OnOk result (Leaves self.old.content self.new.content) }
+        ensures order { OnOk result (FreesFromBack self.old self.new) }
+
+        ensures unchanged { OnErr result ((self.new ≡ self.old) × (out.new.items ≡ out.old.items)) }
+        ensures valid { StaysValid self.old self.new }
+    {
+        out.reserve(self.len())?;
+        while let Some(pair) = self.take_last() {
+            out.push_reserved(pair);
+        }
+        Ok(())
+    }
+
+    // The key at a position of the packed order.
+    fn key_at(&self, position: usize) -> K
+        requires { position < length self.now.keys }
+        ensures comes { Comes self.now position (K.data_of result) }
+        ensures valid { IsDense self.now }
+    {
+        self.keys[position]
+    }
+
+    // Removes the key at a position of the packed order.
+    fn take_at(&mut self, position: usize) -> V
+        requires { position < length self.old.keys }
+        ensures leaves { (k : KeyOf) → slice_get self.old.keys position ≡ Some k → LeavesFrom self.old position k self.new }
+        ensures fewer { length self.new.keys + 1 ≡ length self.old.keys }
+        ensures valid { StaysValid self.old self.new }
+    {
+        self.slots.take(self.keys[position].data());
+        close_gap(
+            &mut self.slots,
+            &mut self.keys,
+            &mut self.values,
+            position as u32,
+        )
+    }
+
+    /// Calls `f` once at each live key and its value, and removes the keys at which it answers
+    /// `false`.
+    ///
+    /// What `f` writes to a value that stays is kept. The keys are visited in packed order, and
+    /// where one is removed, the last one takes its place and is visited next. Detached keys aren't
+    /// visited, and stay detached.
+    pub fn retain<F: FnMut(K, &mut V) -> bool>(&mut self, mut f: F)
+    where
+        F: Drop,
+        // At each entry, as calls at other entries leave the closure.
+        requires { CallableOnEach F.FnMut K.data_of f self.old.content.live }
+        ensures retained { RetainsBy F.FnMut K.data_of f self.old.content.live self.new.content.live }
+        ensures leaves { Leaves self.old.content self.new.content }
+        ensures valid { StaysValid self.old self.new }
+    {
+        self.note_valid();
+        let mut position = 0;
+        while position < self.len() {
+            let key = self.key_at(position);
+            if f(key, self.get_unchecked_mut(key)) {
+                position += 1;
+            } else {
+                self.take_at(position);
+            }
+        }
+    }
+}

@@ -1,0 +1,56 @@
+use Rattle.std.proofs.Common.{◌≡◌, ◌+◌, [], ◌∷◌, ◌++◌, map as list_map, refl, sym, ap, subst, ◌∙◌, append_assoc, append-nil, arith}
+use Rattle.std.specs.FinMap as map
+use Rattle.std.proofs.lemmas.List.{map-append}
+use Rattle.slotmap_core.proofs.KeyLemmas.{keys_total, exact_keys}
+use Rattle.slotmap_core.proofs.Maps.{some_entry, len_removed}
+use Rattle.slotmap_core.proofs.OrderLemmas.{entries_none}
+use Rattle.slotmap_core.proofs.SweepLemmas.{first_entry}
+use Rattle.slotmap_hop.specs.HopContent.{IsNextLive}
+use Rattle.slotmap_hop.proofs.Sweeping.{Clearing, clearing_starts, clearing_removed, clearing_ends}
+use Rattle.slotmap_hop.proofs.HopSlotMap.drain_into.Goals as goal
+
+pub loop-next-init : goal.loop-next-init
+loop-next-init g c = record {
+  clearing = clearing_starts g.K.Key.data_of c.args.self.now _ c.first_live-next.ensures.valid c.first_live-next.ensures.comes;
+  pairs = [];
+  pushed = c.reserve.ensures.items ∙ sym (append-nil c.args.out.now.items);
+  listed = refl;
+  room = omega (arith, c.len.ensures.value, c.in_ok-reserve.ensures.ok);
+}
+
+pub push_reserved-requires : goal.push_reserved-requires
+push_reserved-requires g c =
+    let at = c.loop-next in
+    let clearing = subst (Clearing g.K.Key.data_of c.args.self.now at.self) c.in-Some.is at.invariant.clearing in
+    omega (arith, at.invariant.room, some_entry keys_total exact_keys at.self.content.live (g.K.Key.data_of c.in-Some.key) clearing.sweep.comes.0)
+
+pub loop-next-preserved : goal.loop-next-preserved
+loop-next-preserved g c =
+    let at = c.loop-next in
+    let key = g.K.Key.data_of c.in-Some.key in
+    let clearing = subst (Clearing g.K.Key.data_of c.args.self.now at.self) c.in-Some.is at.invariant.clearing in
+    let index : c.idx.result ≡ key.index = c.idx.ensures.value ∙ ap (λ k. k.index) c.data.ensures.value in
+    let comes = subst (λ i. IsNextLive g.K.Key.data_of at.self.content (i + 1) c.first_live-next-in-Some.result) index c.first_live-next-in-Some.ensures.comes in
+    let value = c.take_live-value.result in
+    let removes = c.take_live-value.ensures.removes in
+    let next = first_entry at.self.content clearing.sweep.valid.valid clearing.index key clearing.sweep.comes.2 value clearing.above c.take_live-value.ensures.value ∙ ap (λ m. (key, value) ∷ map.entries m) (sym removes.live) in
+    record {
+      clearing = clearing_removed g.K.Key.data_of c.args.self.now at.self c.take_live-value.new.self c.in-Some.key c.first_live-next-in-Some.result clearing comes removes c.take_live-value.ensures.valid.capacity c.take_live-value.ensures.valid.after;
+      pairs = at.invariant.pairs ++ (c.in-Some.key, value) ∷ [];
+      pushed = c.push_reserved.ensures.items ∙ ap (λ xs. xs ++ (c.in-Some.key, value) ∷ []) at.invariant.pushed
+          ∙ append_assoc c.args.out.now.items at.invariant.pairs ((c.in-Some.key, value) ∷ []);
+      listed = at.invariant.listed ∙ ap (λ es. list_map (λ p. (g.K.Key.data_of p.0, p.1)) at.invariant.pairs ++ es) next
+          ∙ sym (append_assoc (list_map (λ p. (g.K.Key.data_of p.0, p.1)) at.invariant.pairs) ((key, value) ∷ []) (map.entries c.take_live-value.new.self.content.live))
+          ∙ ap (λ es. es ++ map.entries c.take_live-value.new.self.content.live) (sym (map-append (λ p. (g.K.Key.data_of p.0, p.1)) at.invariant.pairs ((c.in-Some.key, value) ∷ [])));
+      room = omega (arith, at.invariant.room, c.push_reserved.ensures.len, c.push_reserved.ensures.capacity, ap map.len removes.live, len_removed keys_total exact_keys at.self.content.live key clearing.sweep.comes.0);
+    }
+
+pub returns-clause-empty : goal.returns-clause-empty
+returns-clause-empty g c = clearing_ends g.K.Key.data_of c.args.self.now c.loop-next.self (subst (Clearing g.K.Key.data_of c.args.self.now c.loop-next.self) c.in_default.is c.loop-next.invariant.clearing)
+
+pub returns-clause-ok : goal.returns-clause-ok
+returns-clause-ok g c =
+    let at = c.loop-next in
+    let pairs = at.invariant.pairs in
+    let entries = list_map (λ p. (g.K.Key.data_of p.0, p.1)) pairs in
+    (pairs, at.invariant.pushed, sym (at.invariant.listed ∙ ap (λ es. entries ++ es) (ap (λ m. map.entries m) (returns-clause-empty g c) ∙ entries_none) ∙ append-nil entries))

@@ -1,0 +1,100 @@
+use Rattle.std.proofs.Common.{◌≡◌, ◌+◌, cond, [], ◌∷◌, ◌++◌, refl, sym, ap, subst, ◌∙◌, inl}
+use Rattle.std.specs.FinMap as map
+use Rattle.std.proofs.lemmas.Fn.{FoldsTo-push}
+use Rattle.slotmap_core.specs.Key.{Key}
+use Rattle.slotmap_core.specs.Content.{IsLive}
+use Rattle.slotmap_core.specs.Retain.{Visit, CallsAt}
+use Rattle.slotmap_core.proofs.LeaveLemmas.{same_live}
+use Rattle.slotmap_core.proofs.ListingLemmas.{remove-insert}
+use Rattle.slotmap_core.proofs.VisitLemmas.{CallsAt-called, Visits-listed, Visits-stay}
+use Rattle.slotmap_core.proofs.KeyedVisits.{Keyed-from_start, Keyed-at, Keyed-same, Keyed-may_come}
+use Rattle.slotmap_hop.specs.HopContent.{IsNextLive}
+use Rattle.slotmap_hop.proofs.Sweeping.{Sweeping, sweep_starts, sweep_written, sweep_dropped, Visits-here, Visits-end}
+use Rattle.slotmap_hop.proofs.HopSlotMap.retain.Goals as goal
+
+pub loop-next-init : goal.loop-next-init
+loop-next-init g c =
+    let found = c.first_live-next.ensures in
+    record {
+      index = 0;
+      sweep = sweep_starts g.K.Key.data_of c.args.self.now _ found.valid found.comes;
+      visits = [];
+      calls = refl;
+      visited = Keyed-from_start g.K.Key.data_of c.args.self.now.content.live;
+    }
+
+pub f-requires : goal.f-requires
+f-requires g c =
+    let at = c.loop-next in
+    let key = g.K.Key.data_of c.in-Some.key in
+    let old = c.args.self.now.content.live in
+    let visited = at.invariant.visited in
+    let comes = (subst (Sweeping g.K.Key.data_of c.args.self.now at.self at.invariant.index) c.in-Some.is at.invariant.sweep).comes in
+    c.requires.at at.f c.in-Some.key _ (Keyed-may_come g.K.Key.data_of old g.F.FnMut c.args.f at.f at.invariant.visits at.invariant.index at.self.content.live at.invariant.calls visited key comes.0 comes.1)
+    (Keyed-same g.K.Key.data_of old at.invariant.visits at.invariant.index at.self.content.live visited key comes.1 ∙ c.get_unchecked_mut.ensures.value)
+
+pub take_live-requires : goal.take_live-requires
+take_live-requires g c =
+    let at = c.loop-next in
+    let key = g.K.Key.data_of c.in-Some.key in
+    let sweep = subst (Sweeping g.K.Key.data_of c.args.self.now at.self at.invariant.index) c.in-Some.is at.invariant.sweep in
+    same_live at.self.content key c.f.new.arg3 sweep.comes.0 key ∙ sweep.comes.0
+
+pub loop-next-preserved-then-not-f : goal.loop-next-preserved-then-not-f
+loop-next-preserved-then-not-f g c =
+    let at = c.loop-next in
+    let old = c.args.self.now in
+    let well = c.first_live-next.ensures.valid in
+    let key = g.K.Key.data_of c.in-Some.key in
+    let sweep = subst (Sweeping g.K.Key.data_of old at.self at.invariant.index) c.in-Some.is at.invariant.sweep in
+    let index : c.idx.result ≡ key.index = c.idx.ensures.value ∙ ap (λ k. k.index) c.data.ensures.value in
+    let comes = subst (λ i. IsNextLive g.K.Key.data_of at.self.content (i + 1) c.first_live-next-in-Some.result) index c.first_live-next-in-Some.ensures.comes in
+    let visit : Visit g.row.K.Denot g.row.V.Denot = record { key = c.in-Some.key; before = c.get_unchecked_mut.result.now; after = c.f.new.arg3; stays = c.f.result } in
+    let alone : (k q : Key) → IsLive old.content k → IsLive old.content q → q.index ≡ k.index → q ≡ k = λ k q is_live other same. well.valid.apart q k (inl (inl other)) (inl (inl is_live)) same in
+    let visited = Visits-here g.K.Key.data_of old at.invariant.visits at.invariant.index c.in-Some.key at.self sweep.comes at.invariant.visited in
+    let live : c.take_live.new.self.content.live ≡ cond visit.stays (map.insert at.self.content.live key visit.after) (map.remove at.self.content.live key) =
+    c.take_live.ensures.removes.live ∙ remove-insert at.self.content.live key visit.after
+    ∙ ap (λ b. cond b (map.insert at.self.content.live key visit.after) (map.remove at.self.content.live key)) (sym c.if-not-f.true) in
+    record {
+      index = key.index + 1;
+      sweep = sweep_dropped g.K.Key.data_of old at.self at.invariant.index c.in-Some.key sweep visit.after c.take_live.new.self c.first_live-next-in-Some.result comes c.take_live.ensures.removes c.take_live.ensures.valid.capacity c.take_live.ensures.valid.after;
+      visits = at.invariant.visits ++ visit ∷ [];
+      calls = FoldsTo-push (CallsAt g.F.FnMut) c.args.f at.invariant.visits at.f visit c.f.new.self at.invariant.calls (CallsAt-called g.F.FnMut c.f.ensures);
+      visited = rw live (Keyed-at g.K.Key.data_of old.content.live alone at.invariant.visits key.index at.self.content.live visit visited refl c.get_unchecked_mut.ensures.value);
+    }
+
+pub loop-next-preserved : goal.loop-next-preserved
+loop-next-preserved g c =
+    let at = c.loop-next in
+    let old = c.args.self.now in
+    let well = c.first_live-next.ensures.valid in
+    let key = g.K.Key.data_of c.in-Some.key in
+    let sweep = subst (Sweeping g.K.Key.data_of old at.self at.invariant.index) c.in-Some.is at.invariant.sweep in
+    let index : c.idx.result ≡ key.index = c.idx.ensures.value ∙ ap (λ k. k.index) c.data.ensures.value in
+    let comes = subst (λ i. IsNextLive g.K.Key.data_of at.self.content (i + 1) c.first_live-next-in-Some.result) index c.first_live-next-in-Some.ensures.comes in
+    let visit : Visit g.row.K.Denot g.row.V.Denot = record { key = c.in-Some.key; before = c.get_unchecked_mut.result.now; after = c.f.new.arg3; stays = c.f.result } in
+    let alone : (k q : Key) → IsLive old.content k → IsLive old.content q → q.index ≡ k.index → q ≡ k = λ k q is_live other same. well.valid.apart q k (inl (inl other)) (inl (inl is_live)) same in
+    let visited = Visits-here g.K.Key.data_of old at.invariant.visits at.invariant.index c.in-Some.key at.self sweep.comes at.invariant.visited in
+    let live : map.insert at.self.content.live key visit.after ≡ cond visit.stays (map.insert at.self.content.live key visit.after) (map.remove at.self.content.live key) =
+    ap (λ b. cond b (map.insert at.self.content.live key visit.after) (map.remove at.self.content.live key)) (sym c.if-not-f.false) in
+    record {
+      index = key.index + 1;
+      sweep = sweep_written g.K.Key.data_of old at.self at.invariant.index c.in-Some.key sweep visit.after c.first_live-next-in-Some.result comes;
+      visits = at.invariant.visits ++ visit ∷ [];
+      calls = FoldsTo-push (CallsAt g.F.FnMut) c.args.f at.invariant.visits at.f visit c.f.new.self at.invariant.calls (CallsAt-called g.F.FnMut c.f.ensures);
+      visited = rw live (Keyed-at g.K.Key.data_of old.content.live alone at.invariant.visits key.index at.self.content.live visit visited refl c.get_unchecked_mut.ensures.value);
+    }
+
+pub returns-clause-retained : goal.returns-clause-retained
+returns-clause-retained g c =
+    let at = c.loop-next in
+    let old = c.args.self.now in
+    let sweep = subst (Sweeping g.K.Key.data_of old at.self at.invariant.index) c.in_default.is at.invariant.sweep in
+    let visited = Visits-end g.K.Key.data_of old at.invariant.visits at.invariant.index at.self sweep.comes at.invariant.visited in
+    record {
+      visits = at.invariant.visits;
+      last = at.f;
+      calls = at.invariant.calls;
+      listed = Visits-listed g.K.Key.data_of old.content.live at.invariant.visits at.self.content.live visited;
+      stay = Visits-stay g.K.Key.data_of old.content.live at.invariant.visits at.self.content.live visited;
+    }

@@ -1,0 +1,79 @@
+-- Room for more keys.
+use Rattle.std.proofs.Common.{◌≡◌, ℕ, ◌+◌, ◌-◌, ◌<◌, ◌≤◌, ◌^◌, min, List, length, refl, ap, sym, subst, arith}
+use Rattle.slotmap_core.specs.Content.{used, most}
+use Rattle.slotmap_core.specs.Transition.{Keeps}
+use Rattle.slotmap_core.specs.StackMap.{taken}
+use Rattle.slotmap_core.proofs.HeldLemmas.{room_had}
+use Rattle.slotmap_hop.specs.declared.links.Slot.{Slot}
+use Rattle.slotmap_hop.specs.HopContent.{HopContent, IsHopContent, MakesHopRoom}
+use Rattle.slotmap_hop.specs.Slots.{places_of, hop_content, IsSound}
+use Rattle.slotmap_hop.proofs.SlotLemmas.{valid, taken_slots, slots_fit}
+
+module _ {V : Type 0} (m : HopContent V) (n : ℕ) (ok : Type 0) (well : IsHopContent m) where
+  -- where there is room for n keys more, nothing has to be asked for
+  pub hop_room_had : ok → n ≤ m.content.room → MakesHopRoom m n ok m
+  hop_room_had is room = record { makes_room = room_had m.content n ok is well.valid room; blocks = refl; before = well; after = well }
+
+  -- where there is none, a refusal may leave all as it is
+  pub hop_room_refused : (ok → ⊥) → m.content.room < n → MakesHopRoom m n ok m
+  hop_room_refused refused none = record {
+    makes_room = record {
+      before = well.valid;
+      after = well.valid;
+      fits = λ is. absurd (refused is);
+      room = λ is. absurd (refused is);
+      live_and_more = λ is. absurd (refused is);
+      succeeds = λ room. absurd (omega arith);
+      had_room = λ room. absurd (omega arith);
+      keeps = record { live = refl; detached = refl; retired = refl; next = refl; offer = refl; stack = refl; room = omega arith };
+      capacity = omega arith;
+    };
+    blocks = refl;
+    before = well;
+    after = well;
+  }
+
+module _ {V : Type 0} (slots : List (Slot V)) (vacant elems : ℕ) (sound : IsSound slots vacant elems) (fits : ℕ) (holds : length slots ≤ fits) {now : HopContent V} (view : hop_content slots (fits - 1) ≡ now) where
+  pub hop_valid : IsHopContent now
+  hop_valid = subst IsHopContent view (valid slots vacant elems sound (fits - 1) (omega arith))
+
+  pub room_is : now.content.room + used now.content ≡ min now.content.capacity most
+  room_is = rw (← view) (omega (arith, taken_slots slots vacant elems sound, slots_fit slots vacant elems sound))
+
+  -- there is room for the keys of vacant places
+  pub vacant_room : vacant ≤ now.content.room
+  vacant_room = rw (← view) (omega (arith, taken_slots slots vacant elems sound, slots_fit slots vacant elems sound))
+
+  -- there is room for a new place
+  pub spare_room : length slots < min fits (2 ^ 32 - 1) → 0 < now.content.room
+  spare_room spare = rw (← view) (omega (arith, taken_slots slots vacant elems sound, slots_fit slots vacant elems sound))
+
+  -- room for n keys more was asked for, which there wasn't
+  module _ (more : ℕ) (on : fits ≤ more) (n : ℕ) (ok : Type 0) (none : now.content.room < n) where
+    grown_valid : IsHopContent (hop_content slots (more - 1))
+    grown_valid = valid slots vacant elems sound (more - 1) (omega arith)
+
+    kept : Keeps now.content (hop_content slots (more - 1)).content
+    kept = rw (← view) (record { live = refl; detached = refl; retired = refl; next = refl; offer = refl; stack = refl; room = omega arith })
+
+    -- and granted
+    pub grown_granted : ok → used now.content + n ≤ most → used now.content + n + 1 ≤ more → MakesHopRoom now n ok (hop_content slots (more - 1))
+    grown_granted granted few enough =
+        let same : used now.content ≡ taken (places_of slots) = ap (λ m. used m.content) (sym view) in
+        let room : n ≤ (hop_content slots (more - 1)).content.room = omega arith in
+        record {
+          makes_room = record {
+            before = hop_valid.valid;
+            after = grown_valid.valid;
+            fits = λ _. few;
+            room = λ _. room;
+            live_and_more = λ _. rw (← view) (omega (arith, grown_valid.valid.capacity_fits));
+            succeeds = λ room. absurd (omega arith);
+            had_room = λ room. absurd (omega arith);
+            keeps = kept;
+            capacity = rw (← view) (omega arith);
+          };
+          blocks = ap (λ m. m.blocks) view;
+          before = hop_valid;
+          after = grown_valid;
+        }

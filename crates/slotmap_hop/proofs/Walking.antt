@@ -1,0 +1,279 @@
+-- A walk passes a block of vacant places in one step.
+use Rattle.std.proofs.Common.{◌≡◌, ◌≢◌, ℕ, zero, suc, ◌+◌, ◌-◌, ◌*◌, ◌<◌, ◌≤◌, ◌^◌, ◌%◌, true, List, [], ◌∷◌, length, drop, get_or, set, slice_get, Some, refl, sym, ap, subst, ◌∙◌, inl, inr, arith}
+use Rattle.std.proofs.lemmas.Bool.{cases_lt}
+use Rattle.std.proofs.lemmas.Option.{slice_get_within, get_or_from_slice_get}
+use Rattle.std.proofs.lemmas.List.{drop_more, drop_all, drop-set-lt}
+use Rattle.std.specs.FinMap as map
+use Rattle.std.specs.FinSet as set
+use Rattle.slotmap_core.specs.Key.{Key, key_cmp}
+use Rattle.slotmap_core.specs.Places.{Place, Live, Detached, Vacant, Retired, live, retired, live_entry, retired_entry}
+use Rattle.slotmap_core.specs.Gather.{gather}
+use Rattle.slotmap_core.proofs.PlacesLemmas.{key, retired_fits}
+use Rattle.slotmap_core.proofs.MapLaws.{detached_laws}
+use Rattle.slotmap_core.proofs.GatherLemmas.{len-add}
+use Rattle.slotmap_core.proofs.WalkLemmas.{entries-live}
+use Rattle.slotmap_hop.specs.declared.links.Links.{Links}
+use Rattle.slotmap_hop.specs.declared.links.Slot.{Slot}
+use Rattle.slotmap_hop.specs.declared.links.State.{State}
+use Rattle.slotmap_hop.specs.declared.links.State.TheVariants.{Occupied, Free, UsedUp}
+use Rattle.slotmap_hop.specs.Blocks.{Begins, IsBlock}
+use Rattle.slotmap_hop.specs.Links.{vacant_at, end_at, fronts_of}
+use Rattle.slotmap_hop.specs.Slots.{place_in, layout, places_of, IsSound}
+use Rattle.slotmap_hop.specs.Walk.{retired_among, pairs_left, retired_left, StandsAt, IsWalk, CanGoOn, FindsLive, ReadsOnTheWay}
+use Rattle.slotmap_hop.proofs.BlockLemmas.{clash, back_of}
+use Rattle.slotmap_hop.proofs.Circle.{bounded_by_length, circle_block}
+use Rattle.slotmap_hop.proofs.Vacating.{zero_in_circle}
+use Rattle.slotmap_hop.proofs.SlotReads.{length-places, slot_within, place_at, free_when, links_read}
+use Rattle.slotmap_hop.proofs.SlotLemmas.{vacant_place, place_not_vacant, slots_fit, same_length, sound-used_up}
+
+drop-found : {X : Type 0} (xs : List X) (i : ℕ) (x : X) → slice_get xs i ≡ Some x → drop i xs ≡ x ∷ drop (i + 1) xs
+drop-found xs i x found = drop_more xs i x (slice_get_within xs i x found) ∙ ap (λ y. y ∷ drop (i + 1) xs) (get_or_from_slice_get xs i x x found)
+
+module _ {V : Type 0} (slots : List (Slot V)) where
+  -- what comes at a place of each kind
+  abbrev at_list : ℕ → List (Place V) → List (Key × V)
+  at_list i ps = gather [] (λ es e. e ∷ es) live_entry i ps
+
+  pub pairs-live : (i v : ℕ) (x : V) → slice_get (places_of slots) i ≡ Some (Live v x) → pairs_left slots i ≡ (key i v, x) ∷ pairs_left slots (i + 1)
+  pairs-live i v x found = ap (at_list i) (drop-found (places_of slots) i (Live v x) found)
+
+  pairs-vacant : (i n : ℕ) → slice_get (places_of slots) i ≡ Some (Vacant n) → pairs_left slots i ≡ pairs_left slots (i + 1)
+  pairs-vacant i n found = ap (at_list i) (drop-found (places_of slots) i (Vacant n) found)
+
+  pairs-retired : (i : ℕ) → slice_get (places_of slots) i ≡ Some Retired → pairs_left slots i ≡ pairs_left slots (i + 1)
+  pairs-retired i found = ap (at_list i) (drop-found (places_of slots) i Retired found)
+
+  pub retired-live : (i v : ℕ) (x : V) → slice_get (places_of slots) i ≡ Some (Live v x) → retired_left slots i ≡ retired_left slots (i + 1)
+  retired-live i v x found = ap retired_among (drop-found (places_of slots) i (Live v x) found)
+
+  retired-vacant : (i n : ℕ) → slice_get (places_of slots) i ≡ Some (Vacant n) → retired_left slots i ≡ retired_left slots (i + 1)
+  retired-vacant i n found = ap retired_among (drop-found (places_of slots) i (Vacant n) found)
+
+  retired-retired : (i : ℕ) → slice_get (places_of slots) i ≡ Some Retired → retired_left slots i ≡ suc (retired_left slots (i + 1))
+  retired-retired i found = ap retired_among (drop-found (places_of slots) i Retired found)
+
+  -- a run of vacant places holds nothing
+  skip : (k i : ℕ) → ((x : ℕ) → i ≤ x → x < i + k → vacant_at (layout slots) x ≡ true) → (pairs_left slots i ≡ pairs_left slots (i + k)) × (retired_left slots i ≡ retired_left slots (i + k))
+  skip zero i vacant = let same : i + 0 ≡ i = omega arith in rw same (refl, refl)
+  skip (suc k) i vacant =
+      let here = vacant_place slots i (vacant i (omega arith) (omega arith)) in
+      let rest = skip k (i + 1) (λ x low high. vacant x (omega arith) (omega arith)) in
+      let same : i + 1 + k ≡ i + suc k = omega arith in
+      (pairs-vacant i here.0 here.1 ∙ rest.0 ∙ ap (pairs_left slots) same, retired-vacant i here.0 here.1 ∙ rest.1 ∙ ap (retired_left slots) same)
+
+  pub past_block : (front back : ℕ) → IsBlock (vacant_at (layout slots)) front back → (pairs_left slots front ≡ pairs_left slots (back + 1)) × (retired_left slots front ≡ retired_left slots (back + 1))
+  past_block front back block =
+      let same : front + (back + 1 - front) ≡ back + 1 = omega (arith, block.ordered) in
+      let all = skip (back + 1 - front) front (λ x low high. block.inside x low (omega (arith, block.ordered))) in
+      (all.0 ∙ ap (pairs_left slots) same, all.1 ∙ ap (retired_left slots) same)
+
+  pub more_inside : (i : ℕ) → 0 < length (pairs_left slots i) → i < length slots
+  more_inside i more = elim (cases_lt i (length slots)) [
+    | inl inside ↦ inside
+    | inr past ↦
+        let none : pairs_left slots i ≡ [] = ap (at_list i) (drop_all i (places_of slots) (omega (arith, length-places slots))) in
+        absurd (omega (arith, ap length none))
+  ]
+
+  -- the block that begins where a walk stands
+  pub block_here : (i : ℕ) → StandsAt slots i → vacant_at (layout slots) i ≡ true → IsBlock (vacant_at (layout slots)) i (end_at (layout slots) i)
+  block_here i stands vacant =
+      let es = layout slots in
+      let found = back_of (vacant_at es) (length es) (length es) i i (bounded_by_length es) (omega arith) (omega arith) (stands.at_front vacant) (λ x low high. let same : x ≡ i = omega arith in rw same vacant) in
+      rw (stands.sound.linked.linked.ends i found.0 found.1).0 found.1
+
+module _ {V : Type 0} where
+  retired_state : (v : ℕ) → ((u : ℕ) → place_in {V = V} v UsedUp ≢ Detached u) → place_in {V = V} v UsedUp ≡ Retired
+  retired_state zero other = refl
+  retired_state (suc v) other = absurd (other (suc v) refl)
+
+module _ {V : Type 0} (slots : List (Slot V)) (reads0 start : ℕ) where
+  -- on the way from one place to the next live one
+  pub record OnTheWay (reads place : ℕ) : Type 0 where
+    pub stands : StandsAt slots place
+    pub more : 0 < length (pairs_left slots place)
+    pub same : pairs_left slots start ≡ pairs_left slots place
+    pub few_vacant : vacant_at (layout slots) place ≡ true → reads + 2 * retired_left slots place ≤ reads0 + 2 * retired_left slots start
+    pub few : reads + 2 * retired_left slots place ≤ reads0 + 2 * retired_left slots start + 1
+    pub passed : reads + start ≤ reads0 + place
+    pub begun : reads0 ≤ reads
+    pub before : reads0 ≤ start
+
+  pub way_begins : CanGoOn slots reads0 start → OnTheWay reads0 start
+  way_begins can = record {
+    stands = can.stands;
+    more = can.more;
+    same = refl;
+    few_vacant = λ vacant. omega arith;
+    few = omega arith;
+    passed = omega arith;
+    begun = omega arith;
+    before = can.passed;
+  }
+
+  module _ (reads place : ℕ) (way : OnTheWay reads place) where
+    pub way_inside : place < length slots
+    way_inside = more_inside slots place way.more
+
+    pub way_room : reads + 1 < 2 ^ 64
+    way_room = omega (arith, way_inside, way.passed, way.before, slots_fit slots _ _ way.stands.sound)
+
+    module _ (s : Slot V) (found : slice_get slots place ≡ Some s) where
+      here : (st : State V) → s.state ≡ st → slice_get (places_of slots) place ≡ Some (place_in s.version st)
+      here st is = place_at slots place s found ∙ ap (λ st. Some (place_in s.version st)) is
+
+      -- a block is passed in one step
+      hops : (links : Links) → s.state ≡ Free links → vacant_at (layout slots) place ≡ true → links.other_end ≡ end_at (layout slots) place → OnTheWay (reads + 1) (links.other_end + 1)
+      hops links is vacant names =
+          let block = block_here slots place way.stands vacant in
+          let past = past_block slots place (end_at (layout slots) place) block in
+          let inside = slot_within slots (end_at (layout slots) place) (block.inside (end_at (layout slots) place) block.ordered (omega arith)) in
+          let few = way.few_vacant vacant in
+          rw names (record {
+            stands = record {
+              vacant = way.stands.vacant;
+              elems = way.stands.elems;
+              sound = way.stands.sound;
+              inside = omega arith;
+              at_front = λ again. clash (vacant_at (layout slots)) (end_at (layout slots) place + 1) again block.ends;
+            };
+            more = omega (arith, way.more, ap length past.0);
+            same = way.same ∙ past.0;
+            few_vacant = λ again. clash (vacant_at (layout slots)) (end_at (layout slots) place + 1) again block.ends;
+            few = omega (arith, past.1);
+            passed = omega (arith, way.passed, block.ordered);
+            begun = omega (arith, way.begun);
+            before = way.before;
+          })
+
+      pub way_hops : (links : Links) → s.state ≡ Free links → OnTheWay (reads + 1) (links.other_end + 1)
+      way_hops links is =
+          let read : get_or slots place s ≡ s = get_or_from_slice_get slots place s s found in
+          let state : (get_or slots place s).state ≡ Free links = ap (λ (s : Slot V). s.state) read ∙ is in
+          let vacant = sym (free_when slots place s links way_inside state) in
+          hops links is vacant (sym (ap (λ (l : Links). l.other_end) (links_read slots place s links vacant state)))
+
+      pub way_ahead : (links : Links) → s.state ≡ Free links → place ≤ links.other_end
+      way_ahead links is =
+          let read : get_or slots place s ≡ s = get_or_from_slice_get slots place s s found in
+          let state : (get_or slots place s).state ≡ Free links = ap (λ (s : Slot V). s.state) read ∙ is in
+          let vacant = sym (free_when slots place s links way_inside state) in
+          omega (arith, (block_here slots place way.stands vacant).ordered, ap (λ (l : Links). l.other_end) (links_read slots place s links vacant state))
+
+      -- a retired place is passed
+      pub way_passes : s.state ≡ UsedUp → OnTheWay (reads + 1) (place + 1)
+      way_passes is =
+          let at = here UsedUp is in
+          let spent : slice_get (places_of slots) place ≡ Some Retired = at ∙ ap Some (retired_state s.version (λ u e. way.stands.sound.none_detached place u (at ∙ ap Some e))) in
+          let live = place_not_vacant slots place Retired spent (λ n e. absurd (cc)) in
+          let past = pairs-retired slots place spent in
+          record {
+            stands = record {
+              vacant = way.stands.vacant;
+              elems = way.stands.elems;
+              sound = way.stands.sound;
+              inside = omega (arith, way_inside);
+              at_front = λ vacant left next. let same : left ≡ place = omega arith in rw same live;
+            };
+            more = omega (arith, way.more, ap length past);
+            same = way.same ∙ past;
+            few_vacant = λ vacant. omega (arith, way.few, retired-retired slots place spent);
+            few = omega (arith, way.few, retired-retired slots place spent);
+            passed = omega (arith, way.passed);
+            begun = omega (arith, way.begun);
+            before = way.before;
+          }
+
+      -- a live place is what the walk looks for
+      pub way_finds : (x : V) → s.state ≡ Occupied x → FindsLive slots start place s.version x
+      way_finds x is = let at = here (Occupied x) is in record { there = at; first = way.same ∙ pairs-live slots place s.version x at }
+
+      pub way_reads : (x : V) → s.state ≡ Occupied x → ReadsOnTheWay slots reads0 start (reads + 1) place
+      way_reads x is =
+          let at = here (Occupied x) is in
+          record {
+            some = omega (arith, way.begun);
+            few = omega (arith, way.few, retired-live slots place s.version x at);
+            passed = omega (arith, way.passed);
+          }
+
+module _ {V : Type 0} where
+  -- how many keys are retired
+  len-retired_from : (j : ℕ) (ps : List (Place V)) → set.len (gather (set.empty {R = key_cmp}) (λ s e. set.insert s e.0) retired_entry j ps) ≡ retired_among ps
+  len-retired_from j [] = set.len-empty key_cmp
+  len-retired_from j (Live version value ∷ ps) = let more = len-add detached_laws (λ k. k.index) (retired_entry {V = V}) retired_fits j (Live version value) ps in omega (arith, len-retired_from (j + 1) ps)
+  len-retired_from j (Detached version ∷ ps) = let more = len-add detached_laws (λ k. k.index) (retired_entry {V = V}) retired_fits j (Detached version) ps in omega (arith, len-retired_from (j + 1) ps)
+  len-retired_from j (Vacant n ∷ ps) = let more = len-add detached_laws (λ k. k.index) (retired_entry {V = V}) retired_fits j (Vacant n) ps in omega (arith, len-retired_from (j + 1) ps)
+  len-retired_from j (Retired ∷ ps) = let more = len-add detached_laws (λ k. k.index) (retired_entry {V = V}) retired_fits j Retired ps in omega (arith, len-retired_from (j + 1) ps)
+
+  pub len-retired : (ps : List (Place V)) → set.len (retired ps) ≡ retired_among ps
+  unfolding retired
+  len-retired ps = len-retired_from 0 ps
+
+module _ {V : Type 0} (slots : List (Slot V)) (reads place left : ℕ) (walk : IsWalk slots reads place left) where
+  pub can_go_on : 0 < left → CanGoOn slots reads place
+  can_go_on some = record { stands = walk.stands; more = omega (arith, walk.counted); passed = walk.passed }
+
+  module _ (found version : ℕ) (value : V) (reads' : ℕ) (finds : FindsLive slots place found version value) (way : ReadsOnTheWay slots reads place reads' found) where
+    pub found_inside : found < length slots
+    found_inside = omega (arith, slice_get_within (places_of slots) found (Live version value) finds.there, length-places slots)
+
+    pub found_version : version % 2 ≡ 1
+    found_version = (walk.stands.sound.stacked.versions found (Live version value) finds.there).1
+
+    pub walk_on : IsWalk slots reads' (found + 1) (left - 1)
+    walk_on = record {
+      stands = record {
+        vacant = walk.stands.vacant;
+        elems = walk.stands.elems;
+        sound = walk.stands.sound;
+        inside = omega (arith, found_inside);
+        at_front = λ vacant before next. let same : before ≡ found = omega arith in rw same (place_not_vacant slots found (Live version value) finds.there (λ n e. absurd (cc)));
+      };
+      counted = omega (arith, walk.counted, ap length finds.first);
+      passed = omega (arith, way.passed, walk.passed);
+    }
+
+    -- the value that was found is taken out
+    module _ (new : List (Slot V)) (same : layout new ≡ layout slots) (after : places_of new ≡ set (places_of slots) found Retired) where
+      pub pairs-taken : pairs_left new (found + 1) ≡ pairs_left slots (found + 1)
+      pairs-taken = ap (λ ps. at_list slots (found + 1) (drop (found + 1) ps)) after ∙ ap (at_list slots (found + 1)) (drop-set-lt (found + 1) (places_of slots) found Retired (omega arith))
+
+      pub walk_taken : IsWalk new 0 (found + 1) (left - 1)
+      walk_taken = record {
+        stands = record {
+          vacant = walk.stands.vacant;
+          elems = walk.stands.elems - 1;
+          sound = sound-used_up slots walk.stands.vacant walk.stands.elems walk.stands.sound found version value finds.there new same after;
+          inside = omega (arith, found_inside, same_length slots new found Retired after);
+          at_front = subst (λ es. vacant_at es (found + 1) ≡ true → Begins (vacant_at es) (found + 1)) (sym same) walk_on.stands.at_front;
+        };
+        counted = walk_on.counted ∙ ap length (sym pairs-taken);
+        passed = omega arith;
+      }
+
+module _ {V : Type 0} (slots : List (Slot V)) (vacant elems : ℕ) (sound : IsSound slots vacant elems) where
+  -- a walk begins after the block of place 0
+  pub first_place : IsBlock (vacant_at (layout slots)) 0 (end_at (layout slots) 0)
+  first_place = circle_block (length (layout slots)) (bounded_by_length (layout slots)) 0 sound.linked.linked (zero_in_circle (fronts_of (layout slots)))
+
+  pub pairs-start : pairs_left slots (end_at (layout slots) 0 + 1) ≡ map.entries (live (places_of slots))
+  pairs-start = sym (past_block slots 0 (end_at (layout slots) 0) first_place).0 ∙ sym (entries-live (places_of slots))
+
+  pub retired-start : retired_left slots (end_at (layout slots) 0 + 1) ≡ set.len (retired (places_of slots))
+  retired-start = sym (past_block slots 0 (end_at (layout slots) 0) first_place).1 ∙ sym (len-retired (places_of slots))
+
+  pub walk_starts : IsWalk slots 0 (end_at (layout slots) 0 + 1) elems
+  walk_starts =
+      let inside = slot_within slots (end_at (layout slots) 0) (first_place.inside (end_at (layout slots) 0) (omega arith) (omega arith)) in
+      record {
+        stands = record {
+          vacant = vacant;
+          elems = elems;
+          sound = sound;
+          inside = omega arith;
+          at_front = λ here. clash (vacant_at (layout slots)) (end_at (layout slots) 0 + 1) here first_place.ends;
+        };
+        counted = sym sound.elems_live ∙ map.len-entries (live (places_of slots)) ∙ ap length (sym pairs-start);
+        passed = omega arith;
+      }

@@ -1,0 +1,10 @@
+use Rattle.std.proofs.Common.{refl}
+use Rattle.slotmap_core.proofs.WalkLemmas.{listing-entries}
+use Rattle.slotmap_hop.proofs.Walking.{walk_starts, pairs-start}
+use Rattle.slotmap_hop.proofs.into_iter.HopSlotMapIntoIterator.into_iter.Goals as goal
+
+pub invariant_of-result : goal.invariant_of-result
+invariant_of-result g c = rw (c.links_at-sentinel.ensures, c.as_slice.ensures.value) (walk_starts _ _ _ c.self.invariant)
+
+pub returns : goal.returns
+returns g c = rw (c.links_at-sentinel.ensures, c.as_slice.ensures.value, pairs-start _ _ _ c.self.invariant, ← c.self.view_is) (record { into_iter_gives = (listing-entries _, refl) })

@@ -1,0 +1,75 @@
+-- What a map that hops over its vacant places holds: a content, and the blocks that the vacant places form.
+use Rattle.std.specs.Prelude.{◌≡◌, ◌⊎◌, ℕ, ◌+◌, ◌-◌, ◌<◌, ◌≤◌, refl, Bool, true, false, Option, Some, None, if◌then◌else◌, ◌==◌, ◌||◌, List, []}
+use Rattle.std.specs.FinMap as map
+use Rattle.std.specs.FinSet as set
+use Rattle.std.specs.Coded.{Coded, code_by, coded×}
+use Rattle.slotmap_core.specs.Key.{Key, is_last}
+use Rattle.slotmap_core.specs.Content.{Content, content_code, IsContent, IsLive, used, places, most}
+use Rattle.slotmap_core.specs.Transition.{with_value}
+use Rattle.slotmap_core.specs.Call.{MakesRoom}
+use Rattle.slotmap_core.specs.Disjoint.{with_values}
+use Rattle.slotmap_hop.specs.Blocks.{Blocks, coded_blocks, HasMaximalBlocks, vacated, offer_place}
+
+pub record HopContent (V : Type 0) : Type 0 where
+  pub content : Content V
+  pub blocks : Blocks
+
+abbrev pub hop_code : {V : Type 0} → Coded V → Coded (HopContent V)
+hop_code {V} code = code_by (Content V × Blocks) (coded× (content_code code) coded_blocks) (λ m. (m.content, m.blocks)) (λ p. record { content = p.0; blocks = p.1 }) (λ _. refl)
+
+-- place 0 is a block of its own, and there is no other
+abbrev pub NoBlocks : Blocks → Type 0
+NoBlocks b = (b.sentinel_end ≡ 0) × (b.others ≡ [])
+
+module _ {V : Type 0} where
+  -- place 0 counts as vacant
+  abbrev pub counts_vacant : Content V → ℕ → Bool
+  counts_vacant c i = (i == 0) || map.contains_key c.next i
+
+  -- the blocks once k has left: its place joins them, but for its last key
+  abbrev pub blocks_without : HopContent V → Key → Blocks
+  blocks_without m k = if is_last k then m.blocks else vacated (counts_vacant m.content) m.blocks k.index
+
+  -- the live key k has the value v, and all else stays
+  abbrev pub hop_with_value : HopContent V → Key → V → HopContent V
+  hop_with_value m k v = record { content = with_value m.content k v; blocks = m.blocks }
+
+  -- each key has the value that stands at its place in the list, and all else stays
+  abbrev pub hop_with_values : HopContent V → List Key → List V → HopContent V
+  hop_with_values m keys values = record { content = with_values m.content keys values; blocks = m.blocks }
+
+  -- what holds of every such map: no key is detached, the blocks are the maximal ones, and the next insert uses the back
+  -- of the first one of their list
+  pub record IsHopContent (m : HopContent V) : Type 0 where
+    pub valid : IsContent true m.content
+    pub none_detached : m.content.detached ≡ set.empty
+    pub maximal : HasMaximalBlocks (counts_vacant m.content) m.blocks
+    pub offers : used m.content < most → m.content.offer.index ≡ offer_place m.blocks (places m.content + 1)
+
+  -- the live key of the least index from i on, or none where no live key has such an index
+  abbrev pub IsNextLive : {K : Type 0} → (K → Key) → Content V → ℕ → Option K → Type 0
+  IsNextLive data_of c i None = (q : Key) → IsLive c q → q.index < i
+  IsNextLive data_of c i (Some k) = IsLive c (data_of k) × (i ≤ (data_of k).index) × ((q : Key) → IsLive c q → i ≤ q.index → (data_of k).index ≤ q.index)
+
+  -- a walk may stand at this place: at place 0, or directly after one that is in use
+  abbrev pub MayStand : Content V → ℕ → Type 0
+  MayStand c i = (i ≡ 0) ⊎ (counts_vacant c (i - 1) ≡ false)
+
+  -- a call that asks for no memory: the map was and is well formed, and has room for as many places
+  pub record StaysHop (old new : HopContent V) : Type 0 where
+    pub before : IsHopContent old
+    pub after : IsHopContent new
+    pub capacity : new.content.capacity ≡ old.content.capacity
+
+  -- a call that may ask for room for one more key: the map was and is well formed, and no room is lost
+  pub record GrowsHop (old new : HopContent V) : Type 0 where
+    pub before : IsHopContent old
+    pub after : IsHopContent new
+    pub capacity : old.content.capacity ≤ new.content.capacity
+
+  -- a call that asks for room for n more keys, where `ok` says that it isn't refused; the blocks stay
+  pub record MakesHopRoom (old : HopContent V) (n : ℕ) (ok : Type 0) (new : HopContent V) : Type 0 where
+    pub makes_room : MakesRoom true old.content n ok new.content
+    pub blocks : new.blocks ≡ old.blocks
+    pub before : IsHopContent old
+    pub after : IsHopContent new

@@ -1,0 +1,78 @@
+-- What a contract sees of a walk that hops over the vacant places.
+use Rattle.std.specs.Prelude.{◌≡◌, ℕ, suc, ◌+◌, ◌*◌, ◌<◌, ◌≤◌, List, [], ◌∷◌, length, drop, true, Option, None, Some, slice_get}
+use Rattle.slotmap_core.specs.Key.{Key}
+use Rattle.slotmap_core.specs.Gather.{gather}
+use Rattle.slotmap_core.specs.Places.{Place, Live, Detached, Vacant, Retired, live_entry}
+use Rattle.slotmap_hop.specs.declared.links.Slot.{Slot}
+use Rattle.slotmap_hop.specs.Blocks.{Begins}
+use Rattle.slotmap_hop.specs.Links.{vacant_at}
+use Rattle.slotmap_hop.specs.Slots.{layout, places_of, IsSound}
+
+-- what a walk still gives, the number of retired places that it has not passed, and the number of slots that it has read
+pub record Walking (A : Type 0) : Type 0 where
+  pub rest : List A
+  pub retired : ℕ
+  pub reads : ℕ
+
+-- slots, and the number of reads of one of them
+pub record Counted (V : Type 0) : Type 0 where
+  pub slots : List (Slot V)
+  pub reads : ℕ
+
+-- a step that gave something has read one slot at least, and two at most, and two more for each retired place that it passed
+pub record ReadsFew {A : Type 0} (old new : Walking A) : Type 0 where
+  pub some : old.reads + 1 ≤ new.reads
+  pub few : new.reads + 2 * new.retired ≤ old.reads + 2 * old.retired + 2
+  pub passed : new.retired ≤ old.retired
+
+-- what a step does to the number of reads; at the end nothing changes
+abbrev pub CountsReads : {A I : Type 0} → Walking A → Option I → Walking A → Type 0
+CountsReads old None new = new ≡ old
+CountsReads old (Some item) new = ReadsFew old new
+
+module _ {V : Type 0} where
+  -- how many of these places are retired
+  abbrev pub retired_among : List (Place V) → ℕ
+  retired_among [] = 0
+  retired_among (Live version value ∷ ps) = retired_among ps
+  retired_among (Detached version ∷ ps) = retired_among ps
+  retired_among (Vacant next ∷ ps) = retired_among ps
+  retired_among (Retired ∷ ps) = suc (retired_among ps)
+
+  -- the live keys and their values from a place on
+  abbrev pub pairs_left : List (Slot V) → ℕ → List (Key × V)
+  pairs_left slots i = gather [] (λ es e. e ∷ es) live_entry i (drop i (places_of slots))
+
+  abbrev pub retired_left : List (Slot V) → ℕ → ℕ
+  retired_left slots i = retired_among (drop i (places_of slots))
+
+  -- sound slots, and a place that is in use, at the front of a block, or the end
+  pub record StandsAt (slots : List (Slot V)) (place : ℕ) : Type 0 where
+    pub vacant : ℕ
+    pub elems : ℕ
+    pub sound : IsSound slots vacant elems
+    pub inside : place ≤ length slots
+    pub at_front : vacant_at (layout slots) place ≡ true → Begins (vacant_at (layout slots)) place
+
+  -- a walk has read no more slots than it has passed
+  pub record IsWalk (slots : List (Slot V)) (reads place left : ℕ) : Type 0 where
+    pub stands : StandsAt slots place
+    pub counted : left ≡ length (pairs_left slots place)
+    pub passed : reads ≤ place
+
+  -- a walk has something left from this place on
+  pub record CanGoOn (slots : List (Slot V)) (reads place : ℕ) : Type 0 where
+    pub stands : StandsAt slots place
+    pub more : 0 < length (pairs_left slots place)
+    pub passed : reads ≤ place
+
+  -- the first live slot from a place on, whose version and value these are, stands here
+  pub record FindsLive (slots : List (Slot V)) (place found version : ℕ) (value : V) : Type 0 where
+    pub there : slice_get (places_of slots) found ≡ Some (Live version value)
+    pub first : pairs_left slots place ≡ (record { index = found; version = version }, value) ∷ pairs_left slots (found + 1)
+
+  -- what was read on the way from one place to another, found one
+  pub record ReadsOnTheWay (slots : List (Slot V)) (reads place reads' found : ℕ) : Type 0 where
+    pub some : reads + 1 ≤ reads'
+    pub few : reads' + 2 * retired_left slots (found + 1) ≤ reads + 2 * retired_left slots place + 2
+    pub passed : reads' + place ≤ reads + found + 1

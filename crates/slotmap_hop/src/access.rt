@@ -1,0 +1,170 @@
+//! Look-ups: which keys are live, and their values.
+
+ghost use Rattle.std.specs.Prelude.{◌≡◌, ◌↔◌, IfOk, OnOk, OnErr, IfErr, IfNone, IfSome, option_copied, Some, false};
+ghost use Rattle.std.specs.FinMap as map;
+ghost use Rattle.std.specs.Borrow.{sem};
+ghost use Rattle.std.specs.Option.{option_copied_mut};
+ghost use Rattle.slotmap_core.specs.Content.{IsLive};
+ghost use Rattle.slotmap_hop.specs.HopContent.{IsHopContent, StaysHop, hop_with_value};
+
+use crate::HopSlotMap;
+use crate::links::State;
+use slotmap_core::keys::Key;
+use std::mem;
+use std::ops::{Index, IndexMut};
+
+impl<K: Key, V: Drop> HopSlotMap<K, V> {
+    ghost use Rattle.slotmap_hop.specs.Lends.{lends_get, lends_value};
+
+    // The place of a key that is live.
+    pub(crate) fn live_index(&self, key: K) -> Option<usize>
+        ensures live { IfSome result (λ index.
+            IsLive self.now.content (K.data_of key) × (index ≡ (K.data_of key).index)) }
+        ensures absent { IfNone result (map.contains_key self.now.content.live (K.data_of key) ≡ false) }
+        ensures valid { IsHopContent self.now }
+    {
+        let key = key.data();
+        let index = key.idx() as usize;
+        if self.slots.get(index)?.version == key.version() {
+            Some(index)
+        } else {
+            None
+        }
+    }
+
+    /// Whether this key is live. Constant time.
+    ///
+    /// The null key isn't, nor is a key of another map, as long as this map has no live key of the
+    /// same index and version.
+    ///
+    /// ```
+    /// let key = map.insert(5)?;
+    /// assert!(rt; map.contains_key(key) && !map.contains_key(DefaultKey::null()));
+    /// ```
+    pub fn contains_key(&self, key: K) -> bool
+        ensures value { result ≡ map.contains_key self.now.content.live (K.data_of key) }
+        ensures valid { IsHopContent self.now }
+    {
+        self.live_index(key).is_some()
+    }
+
+    /// The value of a live key, or none where the key isn't live. Constant time.
+    ///
+    /// ```
+    /// let key = map.insert(5)?;
+    /// assert_eq!(rt; map.get(key).copied(), Some(5));
+    /// ```
+    pub fn get(&self, key: K) -> Option<&V>
+        ensures value { option_copied result ≡ map.get self.now.content.live (K.data_of key) }
+        ensures valid { IsHopContent self.now }
+    {
+        let index = self.live_index(key)?;
+        match &self.slots[index].state {
+            State::Occupied(value) => Some(value),
+            _ => unreachable!(),
+        }
+    }
+
+    /// The value of a key that is live. Constant time, with no look-up.
+    ///
+    /// The caller has to know that the key is live; so the call is safe, where Rust's is `unsafe`.
+    pub fn get_unchecked(&self, key: K) -> &V
+        requires { IsLive self.now.content (K.data_of key) }
+        ensures value { map.get self.now.content.live (K.data_of key) ≡ Some result.now }
+        ensures valid { IsHopContent self.now }
+    {
+        let index = key.data().idx() as usize;
+        match &self.slots[index].state {
+            State::Occupied(value) => value,
+            _ => unreachable!(),
+        }
+    }
+
+    /// The value of a live key for writing, or none where the key isn't live. Constant time.
+    ///
+    /// Once the reference ends, the key has the last value written through it, and all else is as
+    /// before.
+    ///
+    /// ```
+    /// if let Some(value) = map.get_mut(key) {
+    ///     *value = 6;
+    /// }
+    /// ```
+    pub fn get_mut(&mut self, key: K) -> Option<&mut V>
+        ensures* writes_back { sem 𝓛 (lends_get K.row V.row self.entry (K.data_of key) result) }
+        ensures value { option_copied_mut result ≡ map.get self.old.content.live (K.data_of key) }
+        ensures valid { IsHopContent self.old }
+    {
+        if self.contains_key(key) {
+            Some(self.get_unchecked_mut(key))
+        } else {
+            None
+        }
+    }
+
+    /// The value of a key that is live, for writing. Constant time, with no look-up.
+    ///
+    /// The caller has to know that the key is live; so the call is safe, where Rust's is `unsafe`.
+    pub fn get_unchecked_mut(&mut self, key: K) -> &mut V
+        requires { IsLive self.old.content (K.data_of key) }
+        ensures* writes_back { sem 𝓛 (lends_value K.row V.row self.entry (K.data_of key) result) }
+        ensures value { map.get self.old.content.live (K.data_of key) ≡ Some result.now }
+        ensures valid { IsHopContent self.old }
+    {
+        let index = key.data().idx() as usize;
+        match &mut self.slots[index].state {
+            State::Occupied(value) => value,
+            _ => unreachable!(),
+        }
+    }
+
+    /// Sets the value of a live key and answers the value before; where the key isn't live, hands
+    /// the value back and changes nothing. Constant time. Rust lacks this call.
+    ///
+    /// ```
+    /// let key = map.insert(5)?;
+    /// assert_eq!(rt; map.replace(key, 6), Ok(5));
+    /// assert_eq!(rt; map.replace(DefaultKey::null(), 7), Err(7));
+    /// ```
+    pub fn replace(&mut self, key: K, value: V) -> Result<V, V>
+        ensures ok { IfOk result (λ before. map.get self.old.content.live (K.data_of key) ≡ Some before) }
+        ensures replaces { OnOk result (self.new ≡ hop_with_value self.old (K.data_of key) value) }
+        ensures err { IfErr result (λ back. (map.contains_key self.old.content.live (K.data_of key) ≡ false) × (back ≡ value)) }
+        ensures unchanged { OnErr result (self.new ≡ self.old) }
+        ensures valid { StaysHop self.old self.new }
+    {
+        match self.get_mut(key) {
+            Some(place) => Ok(mem::replace(place, value)),
+            None => Err(value),
+        }
+    }
+}
+
+impl<K: Key, V: Drop> Index<K> for HopSlotMap<K, V> {
+    type Output = V;
+
+    ghost can_index = { λ m key. IsLive m.content (K.data_of key) };
+
+    ghost index_gives = { λ m key value. map.get m.content.live (K.data_of key) ≡ Some value };
+
+    /// The value of a key that is live, which the caller shows; in Rust a dead key panics. Constant
+    /// time, with no look-up.
+    fn index(&self, key: K) -> &V {
+        self.get_unchecked(key)
+    }
+}
+
+impl<K: Key, V: Drop> IndexMut<K> for HopSlotMap<K, V> {
+    ghost use Rattle.slotmap_hop.specs.Lends.{lends_value};
+
+    /// The value of a key that is live, which the caller shows, for writing; in Rust a dead key
+    /// panics. Constant time, with no look-up.
+    fn index_mut(&mut self, key: K) -> &mut V
+        requires { IsLive self.old.content (K.data_of key) }
+        ensures* writes_back { sem 𝓛 (lends_value K.row V.row self.entry (K.data_of key) result) }
+        ensures value { map.get self.old.content.live (K.data_of key) ≡ Some result.now }
+        ensures valid { IsHopContent self.old }
+    {
+        self.get_unchecked_mut(key)
+    }
+}

@@ -1,0 +1,91 @@
+//! Copies of a map.
+
+ghost use Rattle.std.specs.Prelude.{◌≡◌, IfOk, OnOk, OnErr};
+ghost use Rattle.slotmap_core.specs.Copy.{IsCopy};
+ghost use Rattle.slotmap_hop.specs.HopContent.{IsHopContent};
+
+use crate::HopSlotMap;
+use crate::links::{Slot, State};
+use slotmap_core::keys::Key;
+use std::alloc::AllocError;
+use std::marker::PhantomData;
+
+// A slot with a clone of its value.
+fn clone_slot<V: Clone>(slot: &Slot<V>) -> Result<Slot<V>, AllocError>
+    requires { (x y : V) → V.is_clone x y → y ≡ x }
+    ensures { IfOk result (λ copy. copy ≡ slot.now) }
+{
+    let state = match &slot.state {
+        State::Occupied(value) => State::Occupied(value.clone()?),
+        State::Free(links) => State::Free(*links),
+        State::UsedUp => State::UsedUp,
+    };
+    Ok(Slot {
+        version: slot.version,
+        state,
+    })
+}
+
+// The same slots, with clones of their values.
+pub(crate) fn clone_slots<V: Clone>(slots: &Vec<Slot<V>>) -> Result<Vec<Slot<V>>, AllocError>
+    requires { (x y : V) → V.is_clone x y → y ≡ x }
+    ensures { IfOk result (λ copy. copy.items ≡ slots.now.items) }
+{
+    let mut copy = Vec::with_capacity(*slots.allocator(), slots.len())?;
+    for index in 0..slots.len() {
+        copy.push_reserved(clone_slot(&slots[index])?);
+    }
+    Ok(copy)
+}
+
+impl<K: Key, V: Clone> HopSlotMap<K, V> {
+    /// A copy of the map: the same keys are live, with clones of their values, and both maps
+    /// will hand out the same keys.
+    ///
+    /// The caller answers for it that a clone of a value equals the value; so this is a function of
+    /// its own, and no impl of `Clone`. Where there is no memory it refuses, and what was copied by
+    /// then is dropped. It copies each place of the map. The copy has room for the keys of the
+    /// vacant places, and maybe for no more.
+    ///
+    /// ```
+    /// let mut copy = map.clone()?;
+    /// copy.remove(key);
+    /// assert!(rt; map.contains_key(key));
+    /// ```
+    pub fn clone(&self) -> Result<Self, AllocError>
+        requires { (x y : V) → V.is_clone x y → y ≡ x }
+        ensures copies { IfOk result (λ copy. IsCopy self.now.content copy.content) }
+        ensures blocks { IfOk result (λ copy. copy.blocks ≡ self.now.blocks) }
+        ensures valid { IfOk result IsHopContent }
+    {
+        Ok(HopSlotMap {
+            slots: clone_slots(&self.slots)?,
+            vacant_count: self.vacant_count,
+            live_count: self.live_count,
+            keys: PhantomData,
+        })
+    }
+
+    /// Makes this map a copy of another, as [`HopSlotMap::clone`] does, and drops what it had.
+    ///
+    /// A key that this map has handed out before may then stand for another value. Where there is
+    /// no memory it refuses, and the map stays as it is: the copy is made first, so for a while
+    /// there are both. It copies each place of the source.
+    ///
+    /// ```
+    /// copy.clone_from(&map)?;
+    /// assert!(rt; copy.contains_key(key));
+    /// ```
+    pub fn clone_from(&mut self, source: &Self) -> Result<(), AllocError>
+    where
+        V: Drop,
+        requires { (x y : V) → V.is_clone x y → y ≡ x }
+        ensures copies { OnOk result (IsCopy source.now.content self.new.content) }
+        ensures blocks { OnOk result (self.new.blocks ≡ source.now.blocks) }
+        ensures unchanged { OnErr result (self.new ≡ self.old) }
+        ensures valid { OnOk result (IsHopContent self.new) }
+    {
+        *self = source.clone()?;
+        Ok(())
+    }
+}

@@ -1,0 +1,100 @@
+//! A walk that takes the pairs out of a map.
+
+ghost use Rattle.std.specs.Prelude.{◌≡◌, ◌≤◌, Some, IfSome};
+ghost use Rattle.std.specs.Iterator.{size, UpTo};
+ghost use Rattle.slotmap_core.specs.Transition.{EmptiesByIndex};
+ghost use Rattle.slotmap_hop.specs.HopContent.{IsHopContent};
+
+use crate::HopSlotMap;
+use slotmap_core::keys::Key;
+use std::iter::FusedIterator;
+
+/// A walk that takes the pairs out of a map, by ascending index. Once it is dropped, no key of the
+/// map is live.
+///
+/// `HopSlotMap::drain` makes it. Its drop removes the keys that are left.
+pub struct Drain<'a, K: Key, V> {
+    map: &'a mut HopSlotMap<K, V>,
+    // The key that comes next.
+    next: Option<K>,
+}
+
+impl<'a, K: Key, V: Drop> Drop for Drain<'a, K, V> {
+    ghost use Rattle.slotmap_hop.specs.Drain.{drain_map};
+
+    fn drop(self)
+        ensures ends { EmptiesByIndex (drain_map self.entry).content self.exit.0.now.content }
+        ensures valid { IsHopContent self.exit.0.now }
+    {
+        let Drain { map, next: _next } = self;
+        map.clear();
+    }
+}
+
+impl<'a, K: Key, V: Drop> Iterator for Drain<'a, K, V> {
+    ghost use Rattle.slotmap_hop.specs.Drain.{drain_count, DrainSteps, DrainCanStep};
+
+    type Item = (K, V);
+
+    ghost can_next = { DrainCanStep K.data_of };
+
+    ghost next_gives = { DrainSteps K.data_of };
+
+    ghost remaining = { drain_count };
+
+    fn next(&mut self) -> Option<(K, V)> {
+        let Some(key) = self.next else {
+            return None;
+        };
+        // The key after this one is looked for first: the removal may join blocks.
+        self.next = self.map.first_live(key.data().idx() as usize + 1);
+        Some((key, self.map.take_live(key)))
+    }
+
+    fn size_hint(&self) -> (usize, Option<usize>)
+        ensures lower { result.0 ≤ size (drain_count self.now) }
+        ensures upper { IfSome result.1 (UpTo (drain_count self.now)) }
+        ensures exact { result ≡ (size (drain_count self.now), Some (size (drain_count self.now))) }
+    {
+        let len = self.len();
+        (len, Some(len))
+    }
+}
+
+impl<'a, K: Key, V: Drop> ExactSizeIterator for Drain<'a, K, V> {
+    fn len(&self) -> usize {
+        self.map.len()
+    }
+}
+
+impl<'a, K: Key, V: Drop> FusedIterator for Drain<'a, K, V> {}
+
+impl<K: Key, V: Drop> HopSlotMap<K, V> {
+    ghost use Rattle.slotmap_hop.specs.Drain.{drain_map, drain_lender, DrainCanStep, DrainKeepsAlong, DrainLists, DrainInOrder};
+
+    /// Takes the live keys with their values out, by ascending index.
+    ///
+    /// Each key is removed as it comes, as `remove` does. The walk may be dropped at any step, and
+    /// then the keys that are left are removed too. A block of vacant places is passed in one step.
+    ///
+    /// ```
+    /// for (key, value) in map.drain() {
+    ///     println!(rt; "{key:?}: {value}")?;
+    /// }
+    /// ```
+    pub fn drain(&mut self) -> Drain<'_, K, V>
+        ensures map { drain_map result ≡ self.old }
+        ensures same_reference { drain_lender result ≡ self.entry.ghost_name }
+        ensures ready { DrainCanStep K.data_of result }
+
+        // Laws of the steps, for callers that walk on.
+        ensures stays { DrainKeepsAlong K.data_of result }
+        ensures lists { DrainLists K.data_of result }
+        ensures in_order { DrainInOrder K.data_of result }
+
+        ensures valid { IsHopContent self.old }
+    {
+        let next = self.first_live(0);
+        Drain { map: self, next }
+    }
+}

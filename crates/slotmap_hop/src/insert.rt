@@ -1,0 +1,204 @@
+//! Inserts: new keys.
+
+ghost use Rattle.std.specs.Prelude.{◌≡◌, ◌+◌, ◌<◌, ◌≤◌, IfOk, OnErr, IfErr, IsOk, IsTrue, MatchResult, Ok, Err};
+ghost use Rattle.std.specs.FinMap as map;
+ghost use Rattle.slotmap_core.specs.Content.{used, most};
+ghost use Rattle.slotmap_core.specs.Transition.{Keeps, Inserts};
+ghost use Rattle.slotmap_core.specs.Refusal.{Refuses, RefusesCapacity, RefusesInsert, RefusesWith};
+ghost use Rattle.slotmap_hop.specs.Blocks.{shorter};
+ghost use Rattle.slotmap_hop.specs.HopContent.{GrowsHop, IsHopContent, MakesHopRoom, StaysHop};
+
+use crate::HopSlotMap;
+use crate::links::{Slot, State, fill_back, links_at};
+use slotmap_core::errors::{InsertError, InsertWithError, ReserveError, TryInsertError};
+use slotmap_core::keys::{Key, KeyData};
+use slotmap_core::limits::MOST_KEYS;
+
+impl<K: Key, V: Drop> HopSlotMap<K, V> {
+    // The key that the next insert answers.
+    fn next_key(&self) -> KeyData
+        requires { 0 < self.now.content.room }
+        ensures { result ≡ self.now.content.offer }
+    {
+        let front = links_at(self.slots.as_slice(), 0).next;
+        let back = links_at(self.slots.as_slice(), front).other_end;
+        if back == 0 {
+            return KeyData::new(self.slots.len() as u32, 1);
+        }
+        KeyData::new(back, self.slots[back as usize].version + 1)
+    }
+
+    // Whether the next insert asks for no memory.
+    #[inline(always)]
+    fn has_room(&self) -> bool
+        ensures room { IsTrue result → 0 < self.now.content.room }
+        ensures valid { IsHopContent self.now }
+    {
+        self.vacant_count > 0 || self.slots.len() < self.slots.capacity().min(MOST_KEYS + 1)
+    }
+
+    // Makes room for one more key.
+    #[inline(always)]
+    fn make_room(&mut self) -> Result<(), ReserveError>
+        ensures makes_room { MakesHopRoom self.old 1 (IsOk result) self.new }
+        ensures err { IfErr result (RefusesCapacity (used self.old.content + 1)) }
+        ensures reuses { 0 < map.len self.old.content.next → IsOk result }
+    {
+        if self.has_room() {
+            return Ok(());
+        }
+        self.reserve(1)
+    }
+
+    // Binds the next key to a value, and answers it.
+    #[inline(always)]
+    fn fill(&mut self, value: V) -> KeyData
+        requires { 0 < self.old.content.room }
+        ensures value { result ≡ self.old.content.offer }
+        ensures inserts { Inserts self.old.content self.old.content.offer value self.new.content }
+        ensures blocks { self.new.blocks ≡ shorter self.old.blocks }
+        ensures valid { StaysHop self.old self.new }
+    {
+        self.live_count += 1;
+        let front = links_at(self.slots.as_slice(), 0).next;
+        let last = links_at(self.slots.as_slice(), front).other_end;
+        if last == 0 {
+            let key = KeyData::new(self.slots.len() as u32, 1);
+            self.slots.push_reserved(Slot {
+                version: 1,
+                state: State::Occupied(value),
+            });
+            return key;
+        }
+        self.vacant_count -= 1;
+        let version = self.slots[last as usize].version + 1;
+        fill_back(self.slots.as_mut_slice(), front, last, version, value);
+        KeyData::new(last, version)
+    }
+
+    /// Stores a value under a new key, and answers the key. Constant time where no vector moves.
+    ///
+    /// A vacant place is used, with no memory asked for: the last one of the block at the head of
+    /// the list, or else of the block of place 0. Where none is vacant a new place is made. `Full`
+    /// exactly where 4294967294 keys are live or have retired places, else `Memory` where a new
+    /// place was refused; both hand the value back, and the map holds what it held. In Rust a full
+    /// map panics, and want of memory aborts.
+    ///
+    /// ```
+    /// let first = map.insert(5)?;
+    /// map.remove(first);
+    /// let second = map.insert(6)?;
+    /// assert_eq!(rt; second.data().idx(), first.data().idx());
+    /// assert!(rt; second != first);
+    /// ```
+    #[inline(always)]
+    pub fn insert(&mut self, value: V) -> Result<K, InsertError<V>>
+        ensures ok { IfOk result (λ key. Inserts self.old.content (K.data_of key) value self.new.content) }
+        ensures err { IfErr result (λ error. Refuses self.old.content value error) }
+
+        // The blocks lose the new key's place, and a refusal leaves them.
+        ensures blocks { MatchResult result (λ _. self.new.blocks ≡ shorter self.old.blocks) (λ _. self.new.blocks ≡ self.old.blocks) }
+
+        ensures unchanged { OnErr result (Keeps self.old.content self.new.content) }
+
+        // Where a place is vacant nothing is asked for.
+        ensures reuses { 0 < map.len self.old.content.next → IsOk result }
+
+        ensures valid { GrowsHop self.old self.new }
+    {
+        match self.make_room() {
+            Ok(()) => {}
+            Err(ReserveError::TooGreat) => return Err(InsertError::Full(value)),
+            Err(ReserveError::Memory) => return Err(InsertError::Memory(value)),
+        }
+        Ok(K::from(self.fill(value)))
+    }
+
+    /// Stores the value that the closure gives for the new key, and answers the key. Costs as
+    /// `insert`.
+    ///
+    /// There is room before the closure is called, once and on the key that will be answered; in
+    /// Rust the closure runs before the vectors grow. On `Full` and `Memory`, which come as at
+    /// `insert`, the closure is dropped uncalled.
+    ///
+    /// ```
+    /// let key = map.insert_with_key(|key: DefaultKey| key.data().idx())?;
+    /// assert_eq!(rt; map.get(key).copied(), Some(key.data().idx()));
+    /// ```
+    pub fn insert_with_key<F: FnOnce(K) -> V>(&mut self, f: F) -> Result<K, InsertWithError>
+    where
+        F: Drop,
+        requires { used self.old.content < most → (key : K) → K.data_of key ≡ self.old.content.offer → F.pre f key }
+
+        ensures ok { IfOk result (λ key. (v : V) × F.post f key v
+            × Inserts self.old.content (K.data_of key) v self.new.content) }
+        ensures err { IfErr result (RefusesInsert self.old.content) }
+
+        // The blocks lose the new key's place, and a refusal leaves them.
+        ensures blocks { MatchResult result (λ _. self.new.blocks ≡ shorter self.old.blocks) (λ _. self.new.blocks ≡ self.old.blocks) }
+
+        ensures unchanged { OnErr result (Keeps self.old.content self.new.content) }
+
+        // Where a place is vacant nothing is asked for.
+        ensures reuses { 0 < map.len self.old.content.next → IsOk result }
+
+        ensures valid { GrowsHop self.old self.new }
+    {
+        match self.make_room() {
+            Ok(()) => {}
+            Err(ReserveError::TooGreat) => return Err(InsertWithError::Full),
+            Err(ReserveError::Memory) => return Err(InsertWithError::Memory),
+        }
+        let key = K::from(self.next_key());
+        let value = f(key);
+        self.fill(value);
+        Ok(key)
+    }
+
+    /// Stores the value that the closure gives for the new key, and answers the key. Costs as
+    /// `insert`.
+    ///
+    /// As `insert_with_key`; and where the closure answers an error nothing changes, the error is
+    /// handed on in `Closure`, and the next insert answers the key that the closure saw.
+    ///
+    /// ```
+    /// let refused = map.try_insert_with_key(|_| Err::<u32, u64>(9));
+    /// assert!(rt; matches!(refused, Err(TryInsertError::Closure(9))));
+    /// ```
+    pub fn try_insert_with_key<F: FnOnce(K) -> Result<V, E>, E>(
+        &mut self,
+        f: F,
+    ) -> Result<K, TryInsertError<E>>
+    where
+        F: Drop,
+        requires { used self.old.content < most → (key : K) → K.data_of key ≡ self.old.content.offer → F.pre f key }
+
+        ensures ok { IfOk result (λ key. (v : V) × F.post f key (Ok v)
+            × Inserts self.old.content (K.data_of key) v self.new.content) }
+        ensures err { IfErr result (λ error. RefusesWith K.data_of (F.post f) self.old.content error) }
+
+        // The blocks lose the new key's place, and a refusal leaves them.
+        ensures blocks { MatchResult result (λ _. self.new.blocks ≡ shorter self.old.blocks) (λ _. self.new.blocks ≡ self.old.blocks) }
+
+        ensures unchanged { OnErr result (Keeps self.old.content self.new.content) }
+
+        // Where a place is vacant nothing is asked for.
+        ensures reuses { result ≡ Err TryInsertError.Memory → map.len self.old.content.next ≡ 0 }
+
+        ensures valid { GrowsHop self.old self.new }
+    {
+        match self.make_room() {
+            Ok(()) => {}
+            Err(ReserveError::TooGreat) => return Err(TryInsertError::Full),
+            Err(ReserveError::Memory) => return Err(TryInsertError::Memory),
+        }
+        let key = K::from(self.next_key());
+        match f(key) {
+            Ok(value) => {
+                self.fill(value);
+                Ok(key)
+            }
+            Err(error) => Err(TryInsertError::Closure(error)),
+        }
+    }
+}

@@ -1,0 +1,124 @@
+//! The walk that takes a map apart.
+
+ghost use Rattle.std.specs.Prelude.{◌≡◌, ◌≤◌, length, Some, IfSome, IfOk};
+ghost use Rattle.std.specs.Iterator.{YieldsFirstBy, item_count, at_most, UpTo};
+ghost use Rattle.std.specs.FinMap as map;
+ghost use Rattle.slotmap_core.specs.Listing.{IsListing};
+
+use crate::HopSlotMap;
+use crate::clone::clone_slots;
+use crate::counted::CountedSlots;
+use crate::iter::find_live;
+use crate::links::{Slot, links_at, use_up};
+use slotmap_core::keys::{Key, KeyData};
+use std::alloc::AllocError;
+use std::marker::{Model, PhantomData};
+
+/// A walk over the live keys of a map and their values, by value and by ascending index: what a
+/// `for` over a map takes.
+///
+/// A contract sees it as the list of the pairs that are still to come. At its end it stays there. A
+/// step passes a block of vacant places at once, and takes no memory. Values that it has not handed
+/// out are dropped with it.
+#[derive(Drop)]
+pub struct IntoIter<K, V> {
+    // A slot whose value was handed out is used up.
+    slots: Vec<Slot<V>>,
+    // Where the walk goes on: at a slot in use, at the front of a block, or at the end.
+    place: usize,
+    // How many values are still to come.
+    left: usize,
+    keys: PhantomData<K>,
+}
+
+impl<K, V> Model for IntoIter<K, V> {
+    ghost use Rattle.std.specs.Prelude.{List};
+    ghost use Rattle.slotmap_core.specs.Key.{Key};
+    ghost use Rattle.slotmap_hop.specs.Walk.{pairs_left, IsWalk};
+
+    ghost Value = { List (Key × V) };
+
+    ghost view = { λ it. pairs_left it.slots.items it.place };
+
+    ghost invariant = { λ it. IsWalk it.slots.items 0 it.place it.left };
+}
+
+impl<K, V> IntoIter<K, V> {
+    /// How many pairs are still to come, in constant time.
+    pub fn len(&self) -> usize
+        ensures { result ≡ length self.now }
+    {
+        self.left
+    }
+}
+
+impl<K, V: Clone> IntoIter<K, V> {
+    /// A second walk over the pairs that are still to come, with clones of the values.
+    ///
+    /// The caller answers for it that a clone of a value equals the value. Where there is no memory
+    /// it refuses, and the walk stays as it is. It copies each place of the map.
+    pub fn clone(&self) -> Result<Self, AllocError>
+        requires { (x y : V) → V.is_clone x y → y ≡ x }
+        ensures { IfOk result (λ copy. copy ≡ self.now) }
+    {
+        Ok(IntoIter {
+            slots: clone_slots(&self.slots)?,
+            place: self.place,
+            left: self.left,
+            keys: PhantomData,
+        })
+    }
+}
+
+impl<K: Key, V: Drop> Iterator for IntoIter<K, V> {
+    type Item = (K, V);
+
+    ghost next_gives = { YieldsFirstBy (λ item. (K.data_of item.0, item.1)) (λ rest. rest) };
+
+    ghost remaining = { item_count (λ rest. rest) };
+
+    fn next(&mut self) -> Option<(K, V)> {
+        if self.left == 0 {
+            return None;
+        }
+        let mut counted = CountedSlots::new(self.slots.as_slice());
+        let (place, version, _) = find_live(&mut counted, self.place);
+        self.left -= 1;
+        self.place = place + 1;
+        let key = K::from(KeyData::new(place as u32, version));
+        let value = use_up(self.slots.as_mut_slice(), place as u32);
+        Some((key, value))
+    }
+
+    fn size_hint(&self) -> (usize, Option<usize>)
+        ensures lower { result.0 ≤ length self.now }
+        ensures upper { IfSome result.1 (UpTo (at_most (length self.now))) }
+        ensures exact { result ≡ (length self.now, Some (length self.now)) }
+    {
+        (self.left, Some(self.left))
+    }
+}
+
+impl<K: Key, V: Drop> IntoIterator for HopSlotMap<K, V> {
+    type Item = (K, V);
+
+    type IntoIter = IntoIter<K, V>;
+
+    ghost into_iter_gives = { λ m it. IsListing m.content.live it × (it ≡ map.entries m.content.live) };
+
+    fn into_iter(self) -> IntoIter<K, V> {
+        let HopSlotMap {
+            slots,
+            vacant_count: _,
+            live_count,
+            keys: _,
+        } = self;
+        let sentinel = links_at(slots.as_slice(), 0);
+        IntoIter {
+            slots,
+            place: sentinel.other_end as usize + 1,
+            left: live_count as usize,
+            keys: PhantomData,
+        }
+    }
+}

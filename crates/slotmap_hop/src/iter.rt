@@ -1,0 +1,329 @@
+//! Walks over the keys and values of a map, by ascending index.
+
+ghost use Rattle.std.specs.Prelude.{◌≡◌, ◌≤◌, length, Some, IfSome, ⊤};
+ghost use Rattle.std.specs.Iterator.{YieldsFirstBy, item_count, at_most, UpTo};
+ghost use Rattle.std.specs.FinMap as map;
+ghost use Rattle.std.specs.FinSet as set;
+ghost use Rattle.slotmap_core.specs.Listing.{IsListing, IsKeyListing, IsValueListing};
+ghost use Rattle.slotmap_hop.specs.Walk.{CanGoOn, FindsLive, ReadsOnTheWay, CountsReads};
+
+use crate::HopSlotMap;
+use crate::counted::CountedSlots;
+use crate::links::{State, links_at};
+use slotmap_core::keys::{Key, KeyData};
+use std::alloc::AllocError;
+use std::marker::{Model, PhantomData};
+
+/// A walk over the live keys of a map and their values, by ascending index: see
+/// [`HopSlotMap::iter`].
+///
+/// A contract sees it as the list of the pairs that are still to come, with the number of slots that
+/// it has read, and that of the retired places that it has not passed. At its end it stays there. A
+/// clone of it walks over the same pairs, and takes no memory.
+#[derive(Drop)]
+pub struct Iter<'a, K, V> {
+    counted: CountedSlots<'a, V>,
+    // Where the walk goes on: at a slot in use, at the front of a block, or at the end.
+    place: usize,
+    // How many values are still to come.
+    left: usize,
+    keys: PhantomData<K>,
+}
+
+impl<'a, K, V> Model for Iter<'a, K, V> {
+    ghost use Rattle.slotmap_core.specs.Key.{Key};
+    ghost use Rattle.slotmap_hop.specs.Walk.{Walking, pairs_left, retired_left, IsWalk};
+
+    ghost Value = { Walking (Key × V) };
+
+    ghost view = { λ it. record { rest = pairs_left it.counted.slots it.place; retired = retired_left it.counted.slots it.place; reads = it.counted.reads } };
+
+    ghost invariant = { λ it. IsWalk it.counted.slots it.counted.reads it.place it.left };
+}
+
+// The place of the first live slot from this one on, with its version and value.
+pub(crate) fn find_live<'a, V>(
+    counted: &mut CountedSlots<'a, V>,
+    start: usize,
+) -> (usize, u32, &'a V)
+    requires { CanGoOn counted.old.slots counted.old.reads start }
+    ensures found { FindsLive counted.old.slots start result.0 result.1 result.2.now }
+    ensures slots { counted.new.slots ≡ counted.old.slots }
+    ensures reads { ReadsOnTheWay counted.old.slots counted.old.reads start counted.new.reads result.0 }
+{
+    let mut place = start;
+    loop {
+        let slot = counted.read(place);
+        match &slot.state {
+            State::Occupied(value) => return (place, slot.version, value),
+            State::Free(links) => place = links.other_end as usize + 1,
+            State::UsedUp => place += 1,
+        }
+    }
+}
+
+impl<'a, K, V> Iter<'a, K, V> {
+    /// How many pairs are still to come, in constant time.
+    pub fn len(&self) -> usize
+        ensures { result ≡ length self.now.rest }
+    {
+        self.left
+    }
+
+    /// How many slots `next` has read since the walk was made.
+    pub fn reads(&self) -> usize
+        ensures { result ≡ self.now.reads }
+    {
+        self.counted.reads()
+    }
+}
+
+impl<'a, K, V> Clone for Iter<'a, K, V> {
+    ghost is_clone = { λ it copy. copy ≡ it };
+
+    ghost is_infallible = { λ _. ⊤ };
+
+    fn clone(&self) -> Result<Self, AllocError> {
+        Ok(Iter {
+            counted: self.counted.copy(),
+            place: self.place,
+            left: self.left,
+            keys: PhantomData,
+        })
+    }
+}
+
+impl<'a, K: Key, V> Iterator for Iter<'a, K, V> {
+    type Item = (K, &'a V);
+
+    ghost next_gives = { λ old given new. YieldsFirstBy (λ item. (K.data_of item.0, item.1.now)) (λ it. it.rest) old given new × CountsReads old given new };
+
+    ghost remaining = { item_count (λ it. it.rest) };
+
+    fn next(&mut self) -> Option<(K, &'a V)> {
+        if self.left == 0 {
+            return None;
+        }
+        let (place, version, value) = find_live(&mut self.counted, self.place);
+        self.left -= 1;
+        self.place = place + 1;
+        let key = K::from(KeyData::new(place as u32, version));
+        Some((key, value))
+    }
+
+    fn size_hint(&self) -> (usize, Option<usize>)
+        ensures lower { result.0 ≤ length self.now.rest }
+        ensures upper { IfSome result.1 (UpTo (at_most (length self.now.rest))) }
+        ensures exact { result ≡ (length self.now.rest, Some (length self.now.rest)) }
+    {
+        (self.left, Some(self.left))
+    }
+}
+
+/// A walk over the keys of a map, by ascending index: see [`HopSlotMap::keys`].
+///
+/// A contract sees it as the list of the keys that are still to come, with the counts of [`Iter`].
+/// At its end it stays there. A clone of it walks over the same keys, and takes no memory.
+#[derive(Drop)]
+pub struct Keys<'a, K, V> {
+    pairs: Iter<'a, K, V>,
+}
+
+impl<'a, K, V> Model for Keys<'a, K, V> {
+    ghost use Rattle.std.specs.Prelude.{List, map};
+    ghost use Rattle.slotmap_core.specs.Key.{Key};
+    ghost use Rattle.slotmap_hop.specs.Walk.{Walking};
+
+    ghost Value = { Walking Key };
+
+    ghost view = { λ it. record { rest = map (λ pair. pair.0) it.pairs.rest; retired = it.pairs.retired; reads = it.pairs.reads } };
+}
+
+impl<'a, K, V> Keys<'a, K, V> {
+    /// How many keys are still to come, in constant time.
+    pub fn len(&self) -> usize
+        ensures { result ≡ length self.now.rest }
+    {
+        self.pairs.len()
+    }
+
+    /// How many slots `next` has read since the walk was made.
+    pub fn reads(&self) -> usize
+        ensures { result ≡ self.now.reads }
+    {
+        self.pairs.reads()
+    }
+}
+
+impl<'a, K, V> Clone for Keys<'a, K, V> {
+    ghost is_clone = { λ it copy. copy ≡ it };
+
+    ghost is_infallible = { λ _. ⊤ };
+
+    fn clone(&self) -> Result<Self, AllocError> {
+        Ok(Keys {
+            pairs: self.pairs.clone()?,
+        })
+    }
+}
+
+impl<'a, K: Key, V> Iterator for Keys<'a, K, V> {
+    type Item = K;
+
+    ghost next_gives = { λ old given new. YieldsFirstBy K.data_of (λ it. it.rest) old given new × CountsReads old given new };
+
+    ghost remaining = { item_count (λ it. it.rest) };
+
+    fn next(&mut self) -> Option<K> {
+        let (key, _) = self.pairs.next()?;
+        Some(key)
+    }
+
+    fn size_hint(&self) -> (usize, Option<usize>)
+        ensures lower { result.0 ≤ length self.now.rest }
+        ensures upper { IfSome result.1 (UpTo (at_most (length self.now.rest))) }
+        ensures exact { result ≡ (length self.now.rest, Some (length self.now.rest)) }
+    {
+        let len = self.len();
+        (len, Some(len))
+    }
+}
+
+/// A walk over the values of a map, by ascending index: see [`HopSlotMap::values`].
+///
+/// A contract sees it as the list of the values that are still to come, with the counts of [`Iter`].
+/// At its end it stays there. A clone of it walks over the same values, and takes no memory.
+#[derive(Drop)]
+pub struct Values<'a, K, V> {
+    pairs: Iter<'a, K, V>,
+}
+
+impl<'a, K, V> Model for Values<'a, K, V> {
+    ghost use Rattle.std.specs.Prelude.{List, map};
+    ghost use Rattle.slotmap_core.specs.Key.{Key};
+    ghost use Rattle.slotmap_hop.specs.Walk.{Walking};
+
+    ghost Value = { Walking V };
+
+    ghost view = { λ it. record { rest = map (λ pair. pair.1) it.pairs.rest; retired = it.pairs.retired; reads = it.pairs.reads } };
+}
+
+impl<'a, K, V> Values<'a, K, V> {
+    /// How many values are still to come, in constant time.
+    pub fn len(&self) -> usize
+        ensures { result ≡ length self.now.rest }
+    {
+        self.pairs.len()
+    }
+
+    /// How many slots `next` has read since the walk was made.
+    pub fn reads(&self) -> usize
+        ensures { result ≡ self.now.reads }
+    {
+        self.pairs.reads()
+    }
+}
+
+impl<'a, K, V> Clone for Values<'a, K, V> {
+    ghost is_clone = { λ it copy. copy ≡ it };
+
+    ghost is_infallible = { λ _. ⊤ };
+
+    fn clone(&self) -> Result<Self, AllocError> {
+        Ok(Values {
+            pairs: self.pairs.clone()?,
+        })
+    }
+}
+
+impl<'a, K: Key, V> Iterator for Values<'a, K, V> {
+    type Item = &'a V;
+
+    ghost next_gives = { λ old given new. YieldsFirstBy (λ item. item.now) (λ it. it.rest) old given new × CountsReads old given new };
+
+    ghost remaining = { item_count (λ it. it.rest) };
+
+    fn next(&mut self) -> Option<&'a V> {
+        let (_, value) = self.pairs.next()?;
+        Some(value)
+    }
+
+    fn size_hint(&self) -> (usize, Option<usize>)
+        ensures lower { result.0 ≤ length self.now.rest }
+        ensures upper { IfSome result.1 (UpTo (at_most (length self.now.rest))) }
+        ensures exact { result ≡ (length self.now.rest, Some (length self.now.rest)) }
+    {
+        let len = self.len();
+        (len, Some(len))
+    }
+}
+
+impl<K: Key, V> HopSlotMap<K, V> {
+    /// A walk over the live keys and their values, by ascending index.
+    ///
+    /// It is made in constant time. A step reads the slot that comes next and, where a block of
+    /// vacant places begins there, the slot after the block, however long the block is; retired
+    /// places are read one by one. It takes no memory. No walk lends the values for writing: call
+    /// `retain` with a closure that writes and answers true.
+    ///
+    /// ```
+    /// for (key, value) in map.iter() {
+    ///     println!(rt; "{key:?}: {value}")?;
+    /// }
+    /// ```
+    pub fn iter(&self) -> Iter<'_, K, V>
+        ensures listing { IsListing self.now.content.live result.rest }
+        ensures in_order { result.rest ≡ map.entries self.now.content.live }
+        ensures retired { result.retired ≡ set.len self.now.content.retired }
+        ensures reads { result.reads ≡ 0 }
+    {
+        let sentinel = links_at(self.slots.as_slice(), 0);
+        Iter {
+            counted: CountedSlots::new(self.slots.as_slice()),
+            place: sentinel.other_end as usize + 1,
+            left: self.live_count as usize,
+            keys: PhantomData,
+        }
+    }
+
+    /// A walk over the live keys, by ascending index. It costs the same as [`HopSlotMap::iter`].
+    ///
+    /// ```
+    /// let mut keys = map.keys();
+    /// while let Some(_) = keys.next() {}
+    /// // However many places are vacant; two reads more for each retired place.
+    /// assert!(rt; keys.reads() <= 2 * map.len());
+    /// ```
+    pub fn keys(&self) -> Keys<'_, K, V>
+        ensures listing { IsKeyListing self.now.content.live result.rest }
+        ensures in_order { result.rest ≡ map.keys self.now.content.live }
+        ensures retired { result.retired ≡ set.len self.now.content.retired }
+        ensures reads { result.reads ≡ 0 }
+    {
+        Keys { pairs: self.iter() }
+    }
+
+    /// A walk over the values of the live keys, by ascending index of their keys. It costs the same
+    /// as [`HopSlotMap::iter`]. No walk lends the values for writing: call `retain` with a closure
+    /// that writes and answers true.
+    pub fn values(&self) -> Values<'_, K, V>
+        ensures listing { IsValueListing self.now.content.live result.rest }
+        ensures in_order { result.rest ≡ map.values self.now.content.live }
+        ensures retired { result.retired ≡ set.len self.now.content.retired }
+        ensures reads { result.reads ≡ 0 }
+    {
+        Values { pairs: self.iter() }
+    }
+}
+
+impl<'a, K: Key, V> IntoIterator for &'a HopSlotMap<K, V> {
+    type Item = (K, &'a V);
+
+    type IntoIter = Iter<'a, K, V>;
+
+    ghost into_iter_gives = { λ m it. IsListing m.now.content.live it.rest × (it.rest ≡ map.entries m.now.content.live) × (it.reads ≡ 0) };
+
+    fn into_iter(self) -> Iter<'a, K, V> {
+        self.iter()
+    }
+}

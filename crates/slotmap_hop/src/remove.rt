@@ -1,0 +1,59 @@
+//! Removals.
+
+ghost use Rattle.std.specs.Prelude.{◌≡◌, OnSome, IfNone, Some};
+ghost use Rattle.std.specs.FinMap as map;
+ghost use Rattle.slotmap_core.specs.Content.{IsLive};
+ghost use Rattle.slotmap_core.specs.Transition.{Removes};
+ghost use Rattle.slotmap_hop.specs.HopContent.{StaysHop, blocks_without};
+
+use crate::HopSlotMap;
+use crate::links::{free_slot, use_up};
+use slotmap_core::keys::Key;
+
+impl<K: Key, V: Drop> HopSlotMap<K, V> {
+    /// Takes a live key's value out, or answers none where the key isn't live. Constant time.
+    ///
+    /// The place joins the blocks of vacant places beside it, or is a new block at the end of their
+    /// list, and is used again under a newer key. After the last key of a place, of version
+    /// 4294967295, the place is retired, where in Rust its versions start again: it joins no block.
+    /// Takes no memory.
+    ///
+    /// ```
+    /// let key = map.insert(5)?;
+    /// assert_eq!(rt; map.remove(key), Some(5));
+    /// assert_eq!(rt; map.remove(key), None);
+    /// ```
+    pub fn remove(&mut self, key: K) -> Option<V>
+        ensures value { result ≡ map.get self.old.content.live (K.data_of key) }
+        ensures removes { OnSome result (Removes self.old.content (K.data_of key) self.new.content) }
+        ensures blocks { OnSome result (self.new.blocks ≡ blocks_without self.old (K.data_of key)) }
+        ensures live { self.new.content.live ≡ map.remove self.old.content.live (K.data_of key) }
+        ensures unchanged { IfNone result (self.new ≡ self.old) }
+        ensures valid { StaysHop self.old self.new }
+    {
+        if self.contains_key(key) {
+            Some(self.take_live(key))
+        } else {
+            None
+        }
+    }
+
+    // Takes the value of a live key out, with no look-up.
+    pub(crate) fn take_live(&mut self, key: K) -> V
+        requires { IsLive self.old.content (K.data_of key) }
+        ensures value { map.get self.old.content.live (K.data_of key) ≡ Some result }
+        ensures removes { Removes self.old.content (K.data_of key) self.new.content }
+        ensures blocks { self.new.blocks ≡ blocks_without self.old (K.data_of key) }
+        ensures valid { StaysHop self.old self.new }
+    {
+        let data = key.data();
+        let index = data.idx();
+        let version = data.version();
+        self.live_count -= 1;
+        if version == u32::MAX {
+            return use_up(self.slots.as_mut_slice(), index);
+        }
+        self.vacant_count += 1;
+        free_slot(self.slots.as_mut_slice(), index, version + 1)
+    }
+}

@@ -1,0 +1,277 @@
+//! Runs of commands on a map that hands out its keys, and a map beside it that holds values under them.
+
+ghost use Rattle.std.specs.Prelude.{◌≡◌, ◌+◌, ◌<◌, ◌≤◌, vec_len, vec_capacity, IfOk, IfErr, OnErr};
+ghost use Rattle.slotmap_core.specs.Content.{IsContent};
+ghost use Rattle.slotmap_core.specs.Fit.{Starts};
+ghost use Rattle.slotmap_core.specs.Joined.{given_joined, named, Step, DetachStep, RunsBeside};
+ghost use Rattle.slotmap_core.specs.Dictionary.{TellingStep, DetachTellingStep, RunsTold};
+ghost use Rattle.slotmap_run.specs.Ties.{JoinServed};
+
+use crate::given::GivenLook;
+use crate::serves::{Serves, run_all};
+use slotmap_core::errors::{InsertError, PutError, ReattachError};
+use slotmap_core::joined::{JoinedCommand, JoinedDetachCommand, JoinedReply};
+use slotmap_core::keys::Key;
+use slotmap_core::primary::{Detaching, Primary};
+use slotmap_core::secondary::Secondary;
+use std::alloc::Global;
+
+/// The key that a number names, from 1 on.
+fn key_named<K: Copy>(keys: &[K], number: usize) -> Option<K>
+    ensures { result ≡ named keys.now number }
+{
+    if number == 0 || number > keys.len() {
+        return None;
+    }
+    Some(keys[number - 1])
+}
+
+// A primary map, a secondary map beside it, and the keys that inserts answered so far.
+#[derive(Drop)]
+struct Beside<'a, 'b, 'c, M, S, K> {
+    primary: &'a mut M,
+    secondary: &'b mut S,
+    keys: &'c mut Vec<K>,
+}
+
+impl<'a, 'b, 'c, M, S, K, V, W, R, L> Serves<
+    Beside<'a, 'b, 'c, M, S, K>,
+    JoinedCommand<V, W>,
+    JoinedReply<K, V, W, R>,
+> for GivenLook<L>
+where
+    M: Primary<K, V>,
+    S: Secondary<K, W>,
+    K: Key,
+    V: Drop,
+    W: Drop,
+    R: Drop,
+    L: Fn(&W) -> R,
+{
+    ghost ready = { λ self maps left. L.IsAlwaysCallable self.look
+        × IsContent M.REUSES (M.content maps.primary.now)
+        × (vec_len maps.keys.now + left ≤ vec_capacity maps.keys.now) };
+
+    ghost step = { λ self. let what = given_joined K.data_of L.Fn self.look M.REUSES in
+        JoinServed K.data_of M.content S.pairs (Step what) (TellingStep what) };
+
+    fn serve(
+        &self,
+        maps: &mut Beside<'a, 'b, 'c, M, S, K>,
+        command: JoinedCommand<V, W>,
+    ) -> JoinedReply<K, V, W, R> {
+        match command {
+            JoinedCommand::Insert(value) => match maps.primary.insert(value) {
+                Ok(key) => {
+                    if maps.keys.push(key).is_err() {
+                        unreachable!();
+                    }
+                    JoinedReply::Key(key)
+                }
+                Err(InsertError::Full(value)) => JoinedReply::Full(value),
+                Err(InsertError::Memory(value)) => JoinedReply::Memory(value),
+            },
+            JoinedCommand::Remove(number) => match key_named(maps.keys, number) {
+                Some(key) => JoinedReply::Taken(maps.primary.remove(key)),
+                None => JoinedReply::NoKey,
+            },
+            JoinedCommand::Put(number, value) => match key_named(maps.keys, number) {
+                Some(key) => match maps.secondary.insert(key, value) {
+                    Ok(before) => JoinedReply::Old(before),
+                    Err(PutError(value)) => JoinedReply::NoRoom(value),
+                },
+                None => JoinedReply::NoKeySecond(value),
+            },
+            JoinedCommand::Look(number) => match key_named(maps.keys, number) {
+                Some(key) => match maps.secondary.get(key) {
+                    Some(value) => JoinedReply::Looked(Some((self.look)(value))),
+                    None => JoinedReply::Looked(None),
+                },
+                None => JoinedReply::NoKey,
+            },
+            JoinedCommand::Take(number) => match key_named(maps.keys, number) {
+                Some(key) => JoinedReply::TakenSecond(maps.secondary.remove(key)),
+                None => JoinedReply::NoKey,
+            },
+        }
+    }
+}
+
+/// Runs commands on two maps, the primary one, which hands out the keys, and the secondary one,
+/// which holds values under them; and answers the replies, one for each command in its order.
+///
+/// A number n in a command names the key that the n-th successful insert of this list answered, from
+/// 1 on. Where there is none yet nothing changes, and the reply says so, with the value back.
+/// `Insert` and `Remove` act on the primary map; `Put`, `Look` and `Take` on the secondary one, by
+/// its `insert`, `get` and `remove`. So each command is a step of one of the two maps' machines, or
+/// of none.
+///
+/// On a primary map that never had a place and an empty secondary map, in fewer than 2^31 commands,
+/// a plain dictionary, which knows nothing of ages and indices, tells what stands under each key
+/// that is live or detached: the value that was last put under exactly that key and not taken since.
+/// `Look` shows it, `Take` answers it, and `Put` answers the one before. A value that was put under
+/// a stale key is never seen under such a key.
+///
+/// `look` is shown the value that a `Look` finds.
+///
+/// The room for the keys and for the replies is asked for first. Where it is refused no command is
+/// run, both maps are as before, and the commands come back. From then on the commands run in order,
+/// and one that is refused changes nothing and is answered so.
+///
+/// Each command costs one call of one map.
+///
+/// ```rust
+/// let commands = vec![in alloc;
+///     JoinedCommand::Insert(5), JoinedCommand::Put(1, 50), JoinedCommand::Remove(1),
+///     JoinedCommand::Insert(6), JoinedCommand::Put(2, 60), JoinedCommand::Put(1, 70),
+///     JoinedCommand::Look(2)]?;
+/// let replies = run_joined(alloc, &mut map, &mut beside, commands, |value| *value);
+/// // the old key's second put is without effect; the last reply is Looked(Some(60))
+/// ```
+pub fn run_joined<M, S, K, V, W, R, L>(
+    alloc: Global,
+    primary: &mut M,
+    secondary: &mut S,
+    commands: Vec<JoinedCommand<V, W>>,
+    look: L,
+) -> Result<Vec<JoinedReply<K, V, W, R>>, Vec<JoinedCommand<V, W>>>
+where
+    M: Primary<K, V>,
+    S: Secondary<K, W>,
+    K: Key,
+    V: Drop,
+    W: Drop,
+    R: Drop,
+    L: Fn(&W) -> R + Drop,
+    requires looks { L.IsAlwaysCallable look }
+
+    // Each command is a step of one of the two maps' machines, or of none; and a run may start here.
+    ensures starts { Starts M.REUSES (M.content primary.old) }
+    ensures run { let what = given_joined K.data_of L.Fn look M.REUSES in
+        IfOk result (λ replies. RunsBeside (Step what)
+        (M.content primary.old) (S.pairs secondary.old) commands.items replies.items
+        (M.content primary.new) (S.pairs secondary.new)) }
+
+    // On two maps that were never used, a dictionary tells what live and detached keys are answered.
+    ensures dictionary { let what = given_joined K.data_of L.Fn look M.REUSES in
+        IfOk result (λ replies. RunsTold (TellingStep what)
+        (M.content primary.old) (S.pairs secondary.old) commands.items replies.items
+        (M.content primary.new) (S.pairs secondary.new)) }
+
+    // Where there is no room for the keys or the replies, nothing is run.
+    ensures err { IfErr result (λ back. back ≡ commands) }
+    ensures unchanged { OnErr result ((M.content primary.new ≡ M.content primary.old)
+        × (S.pairs secondary.new ≡ S.pairs secondary.old)) }
+{
+    // `len` ensures that the map's content is well formed.
+    let _ = primary.len();
+    let Ok(mut keys) = Vec::with_capacity(alloc, commands.len()) else {
+        return Err(commands);
+    };
+    let mut maps = Beside {
+        primary,
+        secondary,
+        keys: &mut keys,
+    };
+    run_all(alloc, &GivenLook { look }, &mut maps, commands)
+}
+
+impl<'a, 'b, 'c, M, S, K, V, W, R, L> Serves<
+    Beside<'a, 'b, 'c, M, S, K>,
+    JoinedDetachCommand<V, W>,
+    JoinedReply<K, V, W, R>,
+> for GivenLook<L>
+where
+    M: Detaching<K, V>,
+    S: Secondary<K, W>,
+    K: Key,
+    V: Drop,
+    W: Drop,
+    R: Drop,
+    L: Fn(&W) -> R,
+{
+    ghost ready = { λ self maps left. L.IsAlwaysCallable self.look
+        × IsContent M.REUSES (M.content maps.primary.now)
+        × (vec_len maps.keys.now + left ≤ vec_capacity maps.keys.now) };
+
+    ghost step = { λ self. let what = given_joined K.data_of L.Fn self.look M.REUSES in
+        JoinServed K.data_of M.content S.pairs (DetachStep what) (DetachTellingStep what) };
+
+    fn serve(
+        &self,
+        maps: &mut Beside<'a, 'b, 'c, M, S, K>,
+        command: JoinedDetachCommand<V, W>,
+    ) -> JoinedReply<K, V, W, R> {
+        match command {
+            JoinedDetachCommand::Plain(command) => self.serve(maps, command),
+            JoinedDetachCommand::Detach(number) => match key_named(maps.keys, number) {
+                Some(key) => JoinedReply::Taken(maps.primary.detach(key)),
+                None => JoinedReply::NoKey,
+            },
+            JoinedDetachCommand::Reattach(number, value) => match key_named(maps.keys, number) {
+                Some(key) => match maps.primary.reattach(key, value) {
+                    Ok(()) => JoinedReply::Done,
+                    Err(ReattachError::NotDetached(value)) => JoinedReply::NotDetached(value),
+                    Err(ReattachError::Memory(value)) => JoinedReply::Memory(value),
+                },
+                None => JoinedReply::NoKeyFirst(value),
+            },
+        }
+    }
+}
+
+/// Runs commands on a primary map whose keys can be detached and a secondary map beside it, and
+/// answers the replies, one for each command in its order.
+///
+/// What `run_joined` says holds here, too. `Detach` and `Reattach` act on the primary map; a key that
+/// is detached keeps its value in the secondary map.
+///
+/// The closure, the numbers, what is asked for, what a refusal leaves, and the cost are those of
+/// `run_joined`.
+pub fn run_joined_detaching<M, S, K, V, W, R, L>(
+    alloc: Global,
+    primary: &mut M,
+    secondary: &mut S,
+    commands: Vec<JoinedDetachCommand<V, W>>,
+    look: L,
+) -> Result<Vec<JoinedReply<K, V, W, R>>, Vec<JoinedDetachCommand<V, W>>>
+where
+    M: Detaching<K, V>,
+    S: Secondary<K, W>,
+    K: Key,
+    V: Drop,
+    W: Drop,
+    R: Drop,
+    L: Fn(&W) -> R + Drop,
+    requires looks { L.IsAlwaysCallable look }
+
+    // Each command is a step of one of the two maps' machines, or of none; and a run may start here.
+    ensures starts { Starts M.REUSES (M.content primary.old) }
+    ensures run { let what = given_joined K.data_of L.Fn look M.REUSES in
+        IfOk result (λ replies. RunsBeside (DetachStep what)
+        (M.content primary.old) (S.pairs secondary.old) commands.items replies.items
+        (M.content primary.new) (S.pairs secondary.new)) }
+
+    // On two maps that were never used, a dictionary tells what live and detached keys are answered.
+    ensures dictionary { let what = given_joined K.data_of L.Fn look M.REUSES in
+        IfOk result (λ replies. RunsTold (DetachTellingStep what)
+        (M.content primary.old) (S.pairs secondary.old) commands.items replies.items
+        (M.content primary.new) (S.pairs secondary.new)) }
+
+    // Where there is no room for the keys or the replies, nothing is run.
+    ensures err { IfErr result (λ back. back ≡ commands) }
+    ensures unchanged { OnErr result ((M.content primary.new ≡ M.content primary.old)
+        × (S.pairs secondary.new ≡ S.pairs secondary.old)) }
+{
+    // `len` ensures that the map's content is well formed.
+    let _ = primary.len();
+    let Ok(mut keys) = Vec::with_capacity(alloc, commands.len()) else {
+        return Err(commands);
+    };
+    let mut maps = Beside {
+        primary,
+        secondary,
+        keys: &mut keys,
+    };
+    run_all(alloc, &GivenLook { look }, &mut maps, commands)
+}

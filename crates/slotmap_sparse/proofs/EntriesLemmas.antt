@@ -1,0 +1,179 @@
+-- The entries of a hash map as a finite map.
+use Rattle.std.proofs.Common.{◌≡◌, ℕ, suc, ◌+◌, true, false, cond, nat_eq, List, [], ◌∷◌, length, Option, Some, None, is_some, refl, sym, ap, subst, ◌∙◌, nat_cmp, arith, ◌<◌, inl, inr, MutBor, Result, Ok, Err, OnOk, IfOk, Bool}
+use Rattle.std.specs.Option.{option_copied_mut}
+use Rattle.std.specs.Ordering.{eq_by_cmp}
+use Rattle.std.specs.Cmp.{nat_cmp_total, unsigned_tied, nat_eq_equiv}
+use Rattle.std.specs.List.{IsDistinct}
+use Rattle.std.specs.FinMap as map
+use Rattle.std.specs.FinMap.Entries.{find}
+use Rattle.std.specs.HashMap.{HashMap, hash_map_len, spare, WritesThrough}
+use Rattle.std.specs.Map.{lookup, keys_of}
+use Rattle.std.proofs.lemmas.Map.Lookups.{exact_unsigned}
+use Rattle.std.proofs.lemmas.Map.{lookup-none}
+use Rattle.std.proofs.lemmas.Map.Entries.{none_past_head}
+use Rattle.slotmap_core.proofs.KeyLemmas.{tied}
+use Rattle.slotmap_core.proofs.Maps.{len_inserted, get_after_insert}
+use Rattle.slotmap_core.specs.Key.{Key, IsKey, null_key}
+use Rattle.slotmap_core.specs.Secondary.{Pairs, IsSecondary, is_null, bind, put, contains_key}
+use Rattle.slotmap_sparse.specs.Content.{Content, IsContent, with_value, room}
+use Rattle.slotmap_sparse.specs.Found.{put_over}
+use Rattle.slotmap_sparse.specs.Entries.{pairs_of, content_of, IsSound}
+use Rattle.slotmap_core.proofs.StandLemmas.{IsSecondary-empty, IsSecondary-bind, IsSecondary-put, IsSecondary-remove, same_version, not_null_at, put_at}
+
+turned : (k q : ℕ) → nat_eq k q ≡ eq_by_cmp nat_cmp q k
+turned k q = nat_eq_equiv.symm k q ∙ sym (unsigned_tied q k)
+
+abbrev Entries : Type 0 → Type 0
+Entries V = List (ℕ × (ℕ × V))
+
+module _ {V : Type 0} where
+  find-lookup : (q : ℕ) (es : Entries V) → find nat_cmp q es ≡ lookup (nat_eq q) es
+  find-lookup q [] = refl
+  find-lookup q (e ∷ es) = (λ i. cond (unsigned_tied q e.0 i) (Some e.1) (find-lookup q es i))
+
+  pub get-pairs : (es : Entries V) (q : ℕ) → map.get (pairs_of es) q ≡ lookup (nat_eq q) es
+  get-pairs es q = map.get-from_entries nat_cmp_total es q ∙ find-lookup q es
+
+  -- what the hash map finds, the content has
+  pub found_pair : (es : Entries V) (p : Pairs V) → pairs_of es ≡ p → (q : ℕ) → lookup (nat_eq q) es ≡ map.get p q
+  found_pair es p is q = sym (get-pairs es q) ∙ ap (λ (x : Pairs V). map.get x q) is
+
+  pub same_pairs : (es fs : Entries V) → ((q : ℕ) → lookup (nat_eq q) fs ≡ lookup (nat_eq q) es) → pairs_of fs ≡ pairs_of es
+  same_pairs es fs same = map.same_map nat_cmp_total exact_unsigned _ _ (λ q. get-pairs fs q ∙ same q ∙ sym (get-pairs es q))
+
+  pub pairs_put : (es fs : Entries V) (k : ℕ) (p : ℕ × V) → ((q : ℕ) → lookup (nat_eq q) fs ≡ cond (nat_eq k q) (Some p) (lookup (nat_eq q) es)) → pairs_of fs ≡ map.insert (pairs_of es) k p
+  pairs_put es fs k p h = map.same_map nat_cmp_total exact_unsigned _ _ (λ q. get-pairs fs q ∙ h q ∙ (λ i. cond (turned k q i) (Some p) (sym (get-pairs es q) i)) ∙ sym (map.get-insert nat_cmp_total (pairs_of es) k p q))
+
+  pub pairs_taken : (es fs : Entries V) (k : ℕ) → ((q : ℕ) → lookup (nat_eq q) fs ≡ cond (nat_eq k q) None (lookup (nat_eq q) es)) → pairs_of fs ≡ map.remove (pairs_of es) k
+  pairs_taken es fs k h = map.same_map nat_cmp_total exact_unsigned _ _ (λ q. get-pairs fs q ∙ h q ∙ (λ i. cond (turned k q i) None (sym (get-pairs es q) i)) ∙ sym (map.get-remove nat_cmp_total (pairs_of es) k q))
+
+  none_there : (e : ℕ × (ℕ × V)) (es : Entries V) → IsDistinct nat_eq (keys_of (e ∷ es)) → map.contains_key (pairs_of es) e.0 ≡ false
+  none_there e es h = ap is_some (get-pairs es e.0 ∙ lookup-none (nat_eq e.0) es (none_past_head nat_eq_equiv e.0 e es h (nat_eq_equiv.refl e.0)))
+
+  push_one : (es : Entries V) → length es + 1 ≡ suc (length es)
+  push_one es = omega arith
+
+  pub len-pairs : (es : Entries V) → IsDistinct nat_eq (keys_of es) → map.len (pairs_of es) ≡ length es
+  unfolding IsDistinct
+  len-pairs [] h = map.len-empty nat_cmp (ℕ × V)
+  len-pairs (e ∷ es) h = len_inserted nat_cmp_total exact_unsigned (pairs_of es) e.0 e.1 (none_there e es h) ∙ ap (λ n. n + 1) (len-pairs es h.1) ∙ push_one es
+
+  pub valid_pairs : (es : Entries V) (p : Pairs V) → pairs_of es ≡ p → IsSound es → IsSecondary p
+  valid_pairs es p is sound = subst (λ (x : Pairs V). IsSecondary x) is sound.keys
+
+  pub same_len : (es : Entries V) (p : Pairs V) → pairs_of es ≡ p → IsSound es → map.len p ≡ length es
+  same_len es p is sound = sym (ap (λ (x : Pairs V). map.len x) is) ∙ len-pairs es sound.unique
+
+  -- what is sound is well formed
+  pub well_formed : {S : Type 0} (m : HashMap ℕ (ℕ × V) S) (c : Content V) → content_of m ≡ c → IsSound m.entries → IsContent c
+  well_formed m c is sound =
+      let pairs = ap (λ (x : Content V). x.pairs) is in
+      let memory : hash_map_len m + spare m ≡ c.capacity = ap (λ (x : Content V). x.capacity) is in
+      let long = same_len m.entries c.pairs pairs sound in
+      record { keys = valid_pairs m.entries c.pairs pairs sound; fits = omega (arith, memory, long) }
+
+  -- there is memory for as many keys more as the hash map has places to spare
+  pub spare_room : {S : Type 0} (m : HashMap ℕ (ℕ × V) S) (c : Content V) → content_of m ≡ c → IsSound m.entries → room c ≡ spare m
+  spare_room m c is sound =
+      let memory : hash_map_len m + spare m ≡ c.capacity = ap (λ (x : Content V). x.capacity) is in
+      let long = same_len m.entries c.pairs (ap (λ (x : Content V). x.pairs) is) sound in
+      omega (arith, memory, long)
+
+  pub IsSound-empty : (es : Entries V) → IsDistinct nat_eq (keys_of es) → es ≡ [] → IsSound es
+  IsSound-empty es unique none = record { unique = unique; keys = subst (λ (fs : Entries V). IsSecondary (pairs_of fs)) (sym none) IsSecondary-empty }
+
+  -- with the same pairs, and no index twice
+  pub IsSound-same : (es fs : Entries V) → IsSound es → IsDistinct nat_eq (keys_of fs) → pairs_of fs ≡ pairs_of es → IsSound fs
+  IsSound-same es fs sound unique same = record { unique = unique; keys = subst (λ (x : Pairs V). IsSecondary x) (sym same) sound.keys }
+
+  -- with a key put
+  pub IsSound-put : (es fs : Entries V) → IsSound es → IsDistinct nat_eq (keys_of fs) → (k : Key) (v : V) → IsKey k → is_null k ≡ false → pairs_of fs ≡ bind (pairs_of es) k v → IsSound fs
+  IsSound-put es fs sound unique k v is key put = record { unique = unique; keys = subst (λ (x : Pairs V). IsSecondary x) (sym put) (IsSecondary-bind (pairs_of es) k v sound.keys is key) }
+
+  -- with an index taken out
+  pub IsSound-taken : (es fs : Entries V) → IsSound es → IsDistinct nat_eq (keys_of fs) → (i : ℕ) → pairs_of fs ≡ map.remove (pairs_of es) i → IsSound fs
+  IsSound-taken es fs sound unique i taken = record { unique = unique; keys = subst (λ (x : Pairs V). IsSecondary x) (sym taken) (IsSecondary-remove (pairs_of es) i sound.keys) }
+
+  -- with another value at an index that stands
+  pub IsSound-written : (es fs : Entries V) → IsSound es → IsDistinct nat_eq (keys_of fs) → (i : ℕ) (p q : ℕ × V) → map.get (pairs_of es) i ≡ Some p → q.0 ≡ p.0 → pairs_of fs ≡ map.insert (pairs_of es) i q → IsSound fs
+  IsSound-written es fs sound unique i p q at same put = record { unique = unique; keys = subst (λ (x : Pairs V). IsSecondary x) (sym put) written }
+    where
+      written : IsSecondary (map.insert (pairs_of es) i q)
+      written j r h = elim (get_after_insert nat_cmp_total exact_unsigned (pairs_of es) i q j r h) [
+        | inl e ↦ let had = sound.keys i p at in
+            subst (λ (n : ℕ). IsKey (record { index = n; version = r.0 }) × (n < null_key.index)) (sym e.0)
+            (subst (λ (v : ℕ). IsKey (record { index = i; version = v }) × (i < null_key.index)) (sym (ap (λ (x : ℕ × V). x.0) e.1 ∙ same)) had)
+        | inr e ↦ sound.keys j r e.1
+      ]
+
+  -- what a write through a reference to what stands under a key leaves
+  module _ {S : Type 0} (m n : HashMap ℕ (ℕ × V) S) (sound : IsSound m.entries) (k : Key) (i : ℕ) (at : i ≡ k.index) (p : ℕ × V) (w : V) (stood : lookup (nat_eq i) m.entries ≡ Some p) (written : WritesThrough nat_eq (nat_eq i) m (p.0, w) n) where
+    put_there : pairs_of n.entries ≡ map.insert (pairs_of m.entries) i (p.0, w)
+    put_there = pairs_put m.entries n.entries i (p.0, w) (written.3 (ap is_some stood)).0
+
+    pub IsSound-through : IsSound n.entries
+    IsSound-through = IsSound-written m.entries n.entries sound written.4 i p (p.0, w) (get-pairs m.entries i ∙ stood) refl put_there
+
+    pub content-through : (c : Content V) → content_of m ≡ c → contains_key c.pairs k ≡ true → content_of n ≡ with_value c k w
+    content-through c is stands =
+        let there : map.get c.pairs k.index ≡ Some p = sym (found_pair m.entries c.pairs (ap (λ (x : Content V). x.pairs) is) i ∙ ap (map.get c.pairs) at) ∙ stood in
+        let version : p.0 ≡ k.version = same_version c.pairs k stands p there in
+        let memory : hash_map_len n + spare n ≡ c.capacity = (λ j. written.2 j + written.6 j) ∙ ap (λ (x : Content V). x.capacity) is in
+        λ j. record { pairs = (put_there ∙ (λ l. map.insert (is l).pairs (at l) (version l, w))) j; capacity = memory j }
+
+  -- what a reference leaves through which nothing was written
+  module _ {S : Type 0} (m n : HashMap ℕ (ℕ × V) S) (sound : IsSound m.entries) (i : ℕ) (p : ℕ × V) (stood : lookup (nat_eq i) m.entries ≡ Some p) (written : WritesThrough nat_eq (nat_eq i) m p n) where
+    pairs_kept : pairs_of n.entries ≡ pairs_of m.entries
+    pairs_kept = pairs_put m.entries n.entries i p (written.3 (ap is_some stood)).0 ∙ map.same_map nat_cmp_total exact_unsigned _ _ (λ q. map.get-insert nat_cmp_total (pairs_of m.entries) i p q ∙ by q (eq_by_cmp nat_cmp q i) refl)
+      where
+        by : (q : ℕ) (b : Bool) → eq_by_cmp nat_cmp q i ≡ b → cond b (Some p) (map.get (pairs_of m.entries) q) ≡ map.get (pairs_of m.entries) q
+        by q true t = sym (get-pairs m.entries i ∙ stood) ∙ ap (map.get (pairs_of m.entries)) (sym (tied nat_cmp_total exact_unsigned q i t))
+        by q false t = refl
+
+    pub IsSound-kept : IsSound n.entries
+    IsSound-kept = IsSound-same m.entries n.entries sound written.4 pairs_kept
+
+    pub content_kept : content_of n ≡ content_of m
+    content_kept = let memory : hash_map_len n + spare n ≡ hash_map_len m + spare m = λ j. written.2 j + written.6 j in λ j. record { pairs = pairs_kept j; capacity = memory j }
+
+  -- what a put over what stands at the index of a key leaves
+  module _ {S : Type 0} (m n : HashMap ℕ (ℕ × V) S) (sound : IsSound m.entries) (c : Content V) (is : content_of m ≡ c) (k : Key) (key : IsKey k) (i : ℕ) (at : i ≡ k.index) (p : ℕ × V) (v : V) (stood : lookup (nat_eq i) m.entries ≡ Some p) (written : WritesThrough nat_eq (nat_eq i) m (put_over k.version v p) n) where
+    stands : map.get c.pairs k.index ≡ Some p
+    stands = sym (found_pair m.entries c.pairs (ap (λ (x : Content V). x.pairs) is) i ∙ ap (map.get c.pairs) at) ∙ stood
+
+    valid : IsSecondary c.pairs
+    valid = valid_pairs m.entries c.pairs (ap (λ (x : Content V). x.pairs) is) sound
+
+    other : is_null k ≡ false
+    other = not_null_at c.pairs k p stands valid
+
+    pairs_over : pairs_of n.entries ≡ put c.pairs k v
+    pairs_over =
+        pairs_put m.entries n.entries i (put_over k.version v p) (written.3 (ap is_some stood)).0
+        ∙ (λ l. map.insert (is l).pairs (at l) (put_over k.version v p))
+        ∙ put_at c.pairs k p stands v other
+
+    pub IsSound-over : IsSound n.entries
+    IsSound-over = record { unique = written.4; keys = subst (λ (x : Pairs V). IsSecondary x) (sym pairs_over) (IsSecondary-put c.pairs k v valid key) }
+
+    pub content_over : content_of n ≡ record c { pairs = put c.pairs k v }
+    content_over =
+        let memory : hash_map_len n + spare n ≡ c.capacity = (λ j. written.2 j + written.6 j) ∙ ap (λ (x : Content V). x.capacity) is in
+        λ j. record { pairs = pairs_over j; capacity = memory j }
+
+some_copied : {A : Type 0} (o : Option (MutBor A)) → is_some (option_copied_mut o) ≡ is_some o
+some_copied None = refl
+some_copied (Some r) = refl
+
+pub some_lent : {A : Type 0} (o : Option (MutBor A)) (p : Option A) → option_copied_mut o ≡ p → is_some p ≡ true → is_some o ≡ true
+some_lent o p is h = sym (some_copied o) ∙ ap is_some is ∙ h
+
+pub on_ok : {A E : Type 0} {P Q : Type 0} (r : Result A E) → OnOk r P → (P → Q) → OnOk r Q
+on_ok (Ok x) h f = f h
+on_ok (Err e) h f = tt
+
+pub of_ok : {A E : Type 0} (P : Type 0) (r : Result A E) (x : A) → r ≡ Ok x → OnOk r P → P
+of_ok P r x is holds = subst (λ s. OnOk s P) is holds
+
+pub of_if_ok : {A E : Type 0} (P : A → Type 0) (r : Result A E) (x : A) → r ≡ Ok x → IfOk r P → P x
+of_if_ok P r x is holds = subst (λ s. IfOk s P) is holds

@@ -1,0 +1,117 @@
+-- How many places a map is written as, and what a map holds that reads a list slot by slot.
+use Rattle.std.proofs.Common.{◌≡◌, ℕ, ◌+◌, ◌-◌, ◌<◌, ◌≤◌, ◌^◌, ◌⊎◌, inl, inr, Bool, true, false, cond, List, [], ◌∷◌, ◌++◌, length, slice_get, Option, Some, None, is_some, eq-eqb, option_map, refl, sym, ap, subst, ◌∙◌, nat_cmp, arith}
+use Rattle.std.specs.Cmp.{nat_cmp_total}
+use Rattle.std.proofs.lemmas.Map.Lookups.{exact_unsigned}
+use Rattle.std.proofs.lemmas.Option.{slice_get_past}
+use Rattle.std.specs.Ordering.{eq_by_cmp}
+use Rattle.std.specs.FinMap as map
+use Rattle.std.specs.FinSet as set
+use Rattle.slotmap_core.specs.Key.{Key, key_cmp}
+use Rattle.slotmap_core.specs.Listing.{IsKeyListing}
+use Rattle.slotmap_core.specs.Secondary.{Pairs, contains_key, keyed, value_at}
+use Rattle.slotmap_core.specs.SecondaryWritten.{slot_pair}
+use Rattle.slotmap_core.specs.declared.serial.SlotRecord.{SlotRecord}
+use Rattle.slotmap_core.proofs.KeyLemmas.{keys_total, exact_keys, tied, untied}
+use Rattle.slotmap_core.proofs.KeyedLemmas.{contains-keyed}
+use Rattle.slotmap_core.proofs.StandLemmas.{index_stands}
+use Rattle.slotmap_core.proofs.Maps.{item_after_insert, item_inserted, item_still}
+use Rattle.slotmap_core.proofs.GatherLemmas.{slice_get_push, slice_get_push_other}
+use Rattle.slotmap_sparse.specs.Written.{Reaches, with_value_at, with_slot}
+
+pub slice_get_next : {X : Type 0} (xs ys : List X) (x : X) → slice_get (xs ++ x ∷ ys) (length xs) ≡ Some x
+slice_get_next [] ys x = refl
+slice_get_next (z ∷ xs) ys x = slice_get_next xs ys x
+
+module _ {V : Type 0} where
+  -- the keys of the map that aren't in the rest have lesser indices than the count, which isn't too great
+  pub record Counts (m : Pairs V) (rest : List Key) (count : ℕ) : Type 0 where
+    pub covered : (k : Key) → contains_key m k ≡ true → (k.index < count) ⊎ (set.contains (set.from_list {R = key_cmp} rest) k ≡ true)
+    pub there : (k : Key) → set.contains (set.from_list {R = key_cmp} rest) k ≡ true → contains_key m k ≡ true
+    pub one : 0 < count
+    pub fits : count ≤ 2 ^ 32
+    pub last : (count ≡ 1) ⊎ (map.contains_key m (count - 1) ≡ true)
+
+  pub Counts-start : (m : Pairs V) (keys : List Key) → IsKeyListing (keyed m) keys → Counts m keys 1
+  Counts-start m keys listing = record {
+    covered = λ k has. inr (listing.all k ∙ contains-keyed m k ∙ has);
+    there = λ k in_list. sym (contains-keyed m k) ∙ sym (listing.all k) ∙ in_list;
+    one = omega arith;
+    fits = omega arith;
+    last = inl refl;
+  }
+
+  module _ (m : Pairs V) (k : Key) (rest : List Key) (count : ℕ) (before : Counts m (k ∷ rest) count) where
+    later : (more : ℕ) → count ≤ more → k.index < more → (q : Key) → contains_key m q ≡ true → (q.index < more) ⊎ (set.contains (set.from_list {R = key_cmp} rest) q ≡ true)
+    later more grows above q has = elim (before.covered q has) [
+      | inl less ↦ inl (omega arith)
+      | inr in_list ↦ elim (item_after_insert keys_total exact_keys (set.from_list rest) k q in_list) [
+        | inl same ↦ inl (omega (arith, ap (λ x. x.index) same))
+        | inr in_rest ↦ inr in_rest
+      ]
+    ]
+
+    still : (q : Key) → set.contains (set.from_list {R = key_cmp} rest) q ≡ true → contains_key m q ≡ true
+    still q in_rest = before.there q (item_still keys_total exact_keys (set.from_list rest) k q in_rest)
+
+    pub Counts-less : k.index + 1 ≤ count → Counts m rest count
+    Counts-less less = record { covered = later count (omega arith) (omega arith); there = still; one = before.one; fits = before.fits; last = before.last }
+
+    pub Counts-more : (more : ℕ) → more ≡ k.index + 1 → k.index < 2 ^ 32 → count < more → Counts m rest more
+    Counts-more more is small grows = record {
+      covered = later more (omega arith) (omega (arith, is));
+      there = still;
+      one = omega arith;
+      fits = omega (arith, is);
+      last = inr (subst (λ i. map.contains_key m i ≡ true) (omega (arith, is)) (index_stands m k (before.there k (item_inserted keys_total exact_keys (set.from_list rest) k))));
+    }
+
+  pub Counts-end : (m : Pairs V) (count : ℕ) → Counts m [] count → Reaches m count
+  Counts-end m count done = record {
+    within = λ i has. by i (map.get m i) refl has;
+    one = done.one;
+    last = done.last;
+  }
+    where
+      by : (i : ℕ) (o : Option (ℕ × V)) → map.get m i ≡ o → is_some o ≡ true → i < count
+      by i None at has = absurd (cc)
+      by i (Some p) at has = elim (done.covered (record { index = i; version = p.0 }) (ap (λ o. is_some (value_at p.0 o)) at ∙ ap (λ b. is_some (cond b (Some p.1) None)) (eq-eqb p.0 p.0 refl))) [
+        | inl less ↦ less
+        | inr in_none ↦ let none = set.contains-empty key_cmp (record { index = i; version = p.0 }) in absurd (cc)
+      ]
+
+  -- at each index stands what the slot there has, as far as they were read
+  abbrev pub Read : List (SlotRecord V) → Pairs V → Type 0
+  Read slots m = (i : ℕ) → map.get m i ≡ slot_pair (slice_get slots i)
+
+  pub Read-start : Read [] map.empty
+  Read-start i = map.get-empty nat_cmp i
+
+  module _ (slots : List (SlotRecord V)) (m : Pairs V) (read : Read slots m) (slot : SlotRecord V) where
+    pub Read-absent : map.get m (length slots) ≡ None
+    Read-absent = read (length slots) ∙ ap slot_pair (slice_get_past slots (length slots) (omega arith))
+
+    Read-empty : slot.value ≡ None → Read (slots ++ slot ∷ []) m
+    Read-empty none i = by (eq_by_cmp nat_cmp i (length slots)) refl
+      where
+        by : (b : Bool) → eq_by_cmp nat_cmp i (length slots) ≡ b → map.get m i ≡ slot_pair (slice_get (slots ++ slot ∷ []) i)
+        by true t =
+            let at = tied nat_cmp_total exact_unsigned i (length slots) t in
+            ap (map.get m) at ∙ Read-absent ∙ sym (ap slot_pair (ap (slice_get (slots ++ slot ∷ [])) at ∙ slice_get_push slots slot) ∙ ap (option_map (λ v. (slot.version, v))) none)
+        by false t = read i ∙ ap slot_pair (sym (slice_get_push_other slots slot i (untied nat_cmp_total exact_unsigned i (length slots) t)))
+
+    Read-key : (v : V) (n : Pairs V) → slot.value ≡ Some v → n ≡ map.insert m (length slots) (slot.version, v) → Read (slots ++ slot ∷ []) n
+    Read-key v n some put i =
+        ap (λ (x : Pairs V). map.get x i) put ∙ map.get-insert nat_cmp_total m (length slots) (slot.version, v) i ∙ by (eq_by_cmp nat_cmp i (length slots)) refl
+      where
+        by : (b : Bool) → eq_by_cmp nat_cmp i (length slots) ≡ b → cond b (Some (slot.version, v)) (map.get m i) ≡ slot_pair (slice_get (slots ++ slot ∷ []) i)
+        by true t =
+            let at = tied nat_cmp_total exact_unsigned i (length slots) t in
+            sym (ap slot_pair (ap (slice_get (slots ++ slot ∷ [])) at ∙ slice_get_push slots slot) ∙ ap (option_map (λ v. (slot.version, v))) some)
+        by false t = read i ∙ ap slot_pair (sym (slice_get_push_other slots slot i (untied nat_cmp_total exact_unsigned i (length slots) t)))
+
+    pub Read-slot : (n : Pairs V) → n ≡ with_slot m (length slots) slot → Read (slots ++ slot ∷ []) n
+    Read-slot n put = by slot.value refl put
+      where
+        by : (o : Option V) → slot.value ≡ o → n ≡ with_value_at m (length slots) slot.version o → Read (slots ++ slot ∷ []) n
+        by None is same = subst (λ (x : Pairs V). Read (slots ++ slot ∷ []) x) (sym same) (Read-empty is)
+        by (Some v) is put = Read-key v n is put

@@ -1,0 +1,8 @@
+use Rattle.slotmap_sparse.proofs.SlotsLemmas.{Counts}
+use Rattle.slotmap_sparse.proofs.SparseSecondaryMap.place_count.Given as goal
+
+abbrev pub invariant-loop-key : goal.invariant-loop-key
+invariant-loop-key g l =
+    (goal.iterator-loop-key g).can_next l.key-iterator
+    × (goal.iterator-loop-key g).is_finite l.key-iterator
+    × Counts l.self.pairs l.key-iterator l.count

@@ -1,0 +1,48 @@
+use Rattle.std.proofs.Common.{refl, sym, arith}
+use Rattle.slotmap_sparse.proofs.EntryLemmas.{vacant_nothing, leaves_outdated, in_place_outdated, leaves_empty}
+use Rattle.slotmap_sparse.proofs.SparseSecondaryMap.try_entry.Goals as goal
+
+pub returns : goal.returns
+returns g c =
+    let m = c.args.self.now.pairs in
+    let k = g.K.Key.data_of c.args.key in
+    let valid = c.find.ensures.valid.keys in
+    let is = c.in-Outdated.ensures.found.0 in
+    let out = c.take_slot.ensures.removes in (
+      (refl, λ w. refl, tt),
+      record {
+        which = is;
+        ok = record {
+          same_map = refl;
+          key = refl;
+          pairs = leaves_outdated m valid k is _ out;
+          room = c.take_slot.ensures.room;
+          value = sym (vacant_nothing m valid k is);
+          in_place = in_place_outdated m valid k is _ out;
+        };
+        err = tt;
+        unchanged = tt;
+      },
+    )
+
+pub returns-in-Empty : goal.returns-in-Empty
+returns-in-Empty g c =
+    let m = c.args.self.now.pairs in
+    let k = g.K.Key.data_of c.args.key in
+    let valid = c.find.ensures.valid.keys in
+    let found = c.in-Empty.ensures.found in (
+      (refl, λ w. refl, tt),
+      record {
+        which = found.0;
+        ok = record {
+          same_map = refl;
+          key = refl;
+          pairs = leaves_empty m valid k found.0 found.1;
+          room = omega arith;
+          value = sym (vacant_nothing m valid k found.0);
+          in_place = found;
+        };
+        err = tt;
+        unchanged = tt;
+      },
+    )

@@ -1,0 +1,21 @@
+-- What the hash map of a sparse map says of its content. No public clause cites this module.
+use Rattle.std.specs.Prelude.{ℕ, ◌+◌, List, nat_eq}
+use Rattle.std.specs.FinMap as map
+use Rattle.std.specs.HashMap.{HashMap, hash_map_len, spare}
+use Rattle.std.specs.List.{IsDistinct}
+use Rattle.std.specs.Map.{keys_of}
+use Rattle.slotmap_core.specs.Secondary.{Pairs, IsSecondary}
+use Rattle.slotmap_sparse.specs.Content.{Content}
+
+module _ {V : Type 0} where
+  -- from each index to its version and value
+  abbrev pub pairs_of : List (ℕ × (ℕ × V)) → Pairs V
+  pairs_of entries = map.from_entries entries
+
+  abbrev pub content_of : {S : Type 0} → HashMap ℕ (ℕ × V) S → Content V
+  content_of slots = record { pairs = pairs_of slots.entries; capacity = hash_map_len slots + spare slots }
+
+  -- no index stands twice, and each is that of a key with its version
+  pub record IsSound (entries : List (ℕ × (ℕ × V))) : Type 0 where
+    pub unique : IsDistinct nat_eq (keys_of entries)
+    pub keys : IsSecondary (pairs_of entries)

@@ -1,0 +1,119 @@
+-- What a contract sees of an entry.
+use Rattle.std.specs.Prelude.{◌≡◌, ◌≤◌, Option, Some, None, Result, Ok, Err, [], true, if◌then◌else◌}
+use Rattle.std.specs.Borrow.{MutBor, GName, Lends, LendsSoOk, RestsIfErr, Fml, RattleType}
+use Rattle.std.specs.declared.hash.Hasher as hasher
+use Rattle.std.specs.declared.hash.BuildHasher as builder
+use Rattle.std.specs.FinMap as map
+use mir.Syntax.{named}
+use Rattle.slotmap_core.specs.Key.{Key}
+use Rattle.slotmap_core.specs.Secondary as pair
+use Rattle.slotmap_core.specs.Secondary.{Pairs, get, contains_key, remove}
+use Rattle.slotmap_core.specs.declared.secondary.NoEntry.{NoEntry}
+use Rattle.slotmap_sparse.specs.declared.entry.Entry.{Entry}
+use Rattle.slotmap_sparse.specs.declared.entry.Entry.TheVariants.{Occupied, Vacant}
+use Rattle.slotmap_sparse.specs.declared.entry.OccupiedEntry.{OccupiedEntry}
+use Rattle.slotmap_sparse.specs.contracts.SparseSecondaryMap.{the_row}
+use Rattle.slotmap_sparse.specs.contracts.entry.OccupiedEntry as occupied
+use Rattle.slotmap_sparse.specs.Content.{Content, room, with_value}
+
+-- what an entry of k leaves in the map: an older pair at k's index is out
+abbrev pub entry_leaves : {V : Type 0} → Pairs V → Key → Pairs V
+entry_leaves m k = if contains_key m k then m else map.remove m k.index
+
+module _ {K V S Z : Type 0} where
+  -- the reference to the map
+  abbrev pub entry_map_ref : Entry K V S Z → MutBor (Content V)
+  entry_map_ref (Occupied e) = e.map
+  entry_map_ref (Vacant e) = e.map
+
+  -- what the map holds
+  abbrev pub entry_map : Entry K V S Z → Content V
+  entry_map e = (entry_map_ref e).now
+
+  -- the ghost name of the reference to the map
+  abbrev pub entry_lender : Entry K V S Z → GName
+  entry_lender e = (entry_map_ref e).ghost_name
+
+  abbrev pub entry_key : Entry K V S Z → K
+  entry_key (Occupied e) = e.key
+  entry_key (Vacant e) = e.key
+
+  module _ (data_of : K → Key) where
+    -- the value that the key has
+    abbrev pub entry_value : Entry K V S Z → Option V
+    entry_value (Occupied e) = get e.map.now.pairs (data_of e.key)
+    entry_value (Vacant e) = None
+
+    -- an occupied entry's key is in the map; a vacant entry's key can be bound, and nothing stands at its index
+    abbrev pub IsInPlace : Entry K V S Z → Type 0
+    IsInPlace (Occupied e) = contains_key e.map.now.pairs (data_of e.key) ≡ true
+    IsInPlace (Vacant e) = (pair.entry e.map.now.pairs (data_of e.key) ≡ pair.vacant) × (map.get e.map.now.pairs (data_of e.key).index ≡ None)
+
+    -- the map once this is the value of the key
+    abbrev pub entry_with : Entry K V S Z → V → Content V
+    entry_with e v = with_value (entry_map e) (data_of (entry_key e)) v
+
+    -- the pairs once the key is out
+    abbrev pub entry_without : Entry K V S Z → Pairs V
+    entry_without e = remove (entry_map e).pairs (data_of (entry_key e))
+
+    -- o, once this is its value
+    abbrev pub occupied_with : OccupiedEntry K V S Z → V → OccupiedEntry K V S Z
+    occupied_with o v = record { map = record o.map { now = with_value o.map.now (data_of o.key) v }; key = o.key }
+
+    -- d is the entry e, once v is its value
+    pub record IsWritten (e : Entry K V S Z) (v : V) (d : Entry K V S Z) : Type 0 where
+      pub same_map : entry_lender d ≡ entry_lender e
+      pub same_key : entry_key d ≡ entry_key e
+      pub after : entry_map d ≡ entry_with e v
+      pub value : entry_value d ≡ Some v
+      pub in_place : IsInPlace d
+
+    -- e is an entry of k in the map behind m, which holds what it held, but for an older pair at k's index
+    pub record Enters (m : MutBor (Content V)) (k : K) (e : Entry K V S Z) : Type 0 where
+      pub same_map : entry_lender e ≡ m.ghost_name
+      pub key : entry_key e ≡ k
+      pub pairs : (entry_map e).pairs ≡ entry_leaves m.now.pairs (data_of k)
+      pub room : room m.now ≤ room (entry_map e)
+      pub value : entry_value e ≡ get m.now.pairs (data_of k)
+      pub in_place : IsInPlace e
+
+    -- the entry that k has in m, as the definitions say: none, occupied or vacant
+    abbrev pub IsEntryOf : Pairs V → Key → Option (Entry K V S Z) → Type 0
+    IsEntryOf m k None = pair.entry m k ≡ pair.no_entry
+    IsEntryOf m k (Some (Occupied e)) = (v : V) × (pair.entry m k ≡ pair.occupied v)
+    IsEntryOf m k (Some (Vacant e)) = pair.entry m k ≡ pair.vacant
+
+    -- n is the map of e, once w is the value of its key; memory may have been asked for
+    pub record Fills (e : Entry K V S Z) (n : Content V) (w : V) : Type 0 where
+      pub pairs : n.pairs ≡ (entry_with e w).pairs
+      pub capacity : (entry_map e).capacity ≤ n.capacity
+
+  -- n holds what the map of e holds, where memory was refused
+  pub record Leaves (e : Entry K V S Z) (n : Content V) : Type 0 where
+    pub pairs : n.pairs ≡ (entry_map e).pairs
+    pub capacity : (entry_map e).capacity ≤ n.capacity
+
+  -- where there is an entry, it is so
+  abbrev pub IfEntry : {E : Type 0} → Result (Option (Entry K V S Z)) E → (Entry K V S Z → Type 0) → Type 0
+  IfEntry (Ok (Some e)) P = P e
+  IfEntry (Ok None) P = Unit {0}
+  IfEntry (Err error) P = Unit {0}
+
+module _ (K V S H : RattleType) (build : builder.Ghosts S.Denot H.Denot) (hash : hasher.Ghosts H.Denot) where
+  -- at `Err` the map is as it was
+  abbrev pub rests_if_err : MutBor (Content V.Denot) → Result (Entry K.Denot V.Denot S.Denot H.Denot) NoEntry → Fml
+  rests_if_err s r = RestsIfErr (the_row K V S H build hash) s entry_lender r (λ n. n ≡ s.now)
+
+  module _ (data_of : K.Denot → Key) where
+    -- once the borrow r ends, the key has the last value written through r
+    abbrev pub entry_lends : Entry K.Denot V.Denot S.Denot H.Denot → MutBor V.Denot → Fml
+    entry_lends e r = Lends (the_row K V S H build hash) V (entry_map_ref e) r (entry_with data_of e)
+
+    -- the same where r is a reference, and at `Err` the map holds what it held
+    abbrev pub entry_lends_ok : {E : Type 0} → Entry K.Denot V.Denot S.Denot H.Denot → Result (MutBor V.Denot) E → Fml
+    entry_lends_ok e r = LendsSoOk (the_row K V S H build hash) V (entry_map_ref e) r (Fills data_of e) (Leaves e)
+
+    -- once the borrow r ends, the entry is e with the last value written through r
+    abbrev pub occupied_lends : MutBor (OccupiedEntry K.Denot V.Denot S.Denot H.Denot) → MutBor V.Denot → Fml
+    occupied_lends e r = Lends (occupied.the_row (record { mir = named 1; lft = [] }) K V S H build hash) V e r (occupied_with data_of e.now)

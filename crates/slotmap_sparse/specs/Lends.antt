@@ -1,0 +1,17 @@
+-- What a sparse map ends as, where a `&mut` to one of its values is returned.
+use Rattle.std.specs.Prelude.{Option}
+use Rattle.std.specs.Borrow.{Lends, LendsIf, Fml, RattleType, MutBor}
+use Rattle.std.specs.declared.hash.Hasher as hasher
+use Rattle.std.specs.declared.hash.BuildHasher as builder
+use Rattle.slotmap_core.specs.Key.{Key}
+use Rattle.slotmap_sparse.specs.Content.{Content, with_value}
+use Rattle.slotmap_sparse.specs.contracts.SparseSecondaryMap.{the_row}
+
+module _ (K V S H : RattleType) (build : builder.Ghosts S.Denot H.Denot) (hash : hasher.Ghosts H.Denot) (m : MutBor (Content V.Denot)) (k : Key) where
+  -- once the borrow r ends, the key has the last value written through r
+  abbrev pub lends_value : MutBor V.Denot → Fml
+  lends_value r = Lends (the_row K V S H build hash) V m r (with_value m.now k)
+
+  -- the same where r is a reference, and at `None` the map stays as it is
+  abbrev pub lends_get : Option (MutBor V.Denot) → Fml
+  lends_get r = LendsIf (the_row K V S H build hash) V m r (with_value m.now k) m.now

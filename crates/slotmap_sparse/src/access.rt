@@ -1,0 +1,137 @@
+//! Look-ups: which keys are in the map, and their values.
+
+ghost use Rattle.std.specs.Prelude.{◌≡◌, option_copied, Some, true};
+ghost use Rattle.std.specs.Borrow.{sem};
+ghost use Rattle.std.specs.Option.{option_copied_mut};
+ghost use Rattle.slotmap_core.specs.Secondary.{get, contains_key};
+ghost use Rattle.slotmap_sparse.specs.Content.{IsContent, with_value};
+
+use crate::SparseSecondaryMap;
+use slotmap_core::keys::Key;
+use std::hash::BuildHasher;
+use std::mem;
+use std::ops::{Index, IndexMut};
+
+impl<K: Key, V: Drop, S: BuildHasher + Drop> SparseSecondaryMap<K, V, S> {
+    ghost use Rattle.slotmap_sparse.specs.Lends.{lends_get, lends_value};
+
+    /// Whether this key is in the map. Constant time.
+    ///
+    /// The null key never is, nor a key at whose index another version stands.
+    pub fn contains_key(&self, key: K) -> bool
+        ensures value { result ≡ contains_key self.now.pairs (K.data_of key) }
+        ensures valid { IsContent self.now }
+    {
+        self.get(key).is_some()
+    }
+
+    /// The value of a key, or none where the key isn't in the map. Constant time.
+    ///
+    /// ```
+    /// assert_eq!(rt; names.get(key).copied(), Some(7));
+    /// assert!(rt; names.get(DefaultKey::null()).is_none());
+    /// ```
+    pub fn get(&self, key: K) -> Option<&V>
+        ensures value { option_copied result ≡ get self.now.pairs (K.data_of key) }
+        ensures valid { IsContent self.now }
+    {
+        match self.slot(key) {
+            Some((version, value)) => {
+                if *version == key.data().version() {
+                    Some(value)
+                } else {
+                    None
+                }
+            }
+            None => None,
+        }
+    }
+
+    /// The value of a key that is in the map. Constant time.
+    ///
+    /// The caller has to know that the key is in the map; so the call is safe, where Rust's is
+    /// `unsafe`.
+    pub fn get_unchecked(&self, key: K) -> &V
+        requires { contains_key self.now.pairs (K.data_of key) ≡ true }
+        ensures value { get self.now.pairs (K.data_of key) ≡ Some result.now }
+        ensures valid { IsContent self.now }
+    {
+        self.get(key).unwrap()
+    }
+
+    /// The value of a key for writing, or none where the key isn't in the map. Constant time.
+    ///
+    /// Once the reference ends, the key has the last value written through it, and all else is as
+    /// before.
+    ///
+    /// ```
+    /// if let Some(name) = names.get_mut(key) {
+    ///     *name = 8;
+    /// }
+    /// ```
+    pub fn get_mut(&mut self, key: K) -> Option<&mut V>
+        ensures* writes_back { sem 𝓛 (lends_get K.row V.row S.row S.Hasher.row S.BuildHasher S.Hasher.Hasher self.entry (K.data_of key) result) }
+        ensures value { option_copied_mut result ≡ get self.old.pairs (K.data_of key) }
+        ensures was_valid { IsContent self.old }
+    {
+        let key = key.data();
+        let Some(slot) = self.slots.get_mut(&key.idx()) else {
+            return None;
+        };
+        if slot.0 != key.version() {
+            return None;
+        }
+        Some(&mut slot.1)
+    }
+
+    /// The value of a key that is in the map, for writing. Constant time.
+    ///
+    /// The caller has to know that the key is in the map; so the call is safe, where Rust's is
+    /// `unsafe`.
+    pub fn get_unchecked_mut(&mut self, key: K) -> &mut V
+        requires { contains_key self.old.pairs (K.data_of key) ≡ true }
+        ensures* writes_back { sem 𝓛 (lends_value K.row V.row S.row S.Hasher.row S.BuildHasher S.Hasher.Hasher self.entry (K.data_of key) result) }
+        ensures value { get self.old.pairs (K.data_of key) ≡ Some result.now }
+        ensures was_valid { IsContent self.old }
+    {
+        let index = key.data().idx();
+        &mut self.slots.get_mut(&index).unwrap().1
+    }
+
+    // Sets the value of a key that is in the map, and answers the one before.
+    pub(crate) fn exchange(&mut self, key: K, value: V) -> V
+        requires { contains_key self.old.pairs (K.data_of key) ≡ true }
+        ensures value { get self.old.pairs (K.data_of key) ≡ Some result }
+        ensures puts { self.new ≡ with_value self.old (K.data_of key) value }
+    {
+        mem::replace(self.get_unchecked_mut(key), value)
+    }
+}
+
+impl<K: Key, V: Drop, S: BuildHasher + Drop> Index<K> for SparseSecondaryMap<K, V, S> {
+    type Output = V;
+
+    ghost can_index = { λ m key. contains_key m.pairs (K.data_of key) ≡ true };
+
+    ghost index_gives = { λ m key value. get m.pairs (K.data_of key) ≡ Some value };
+
+    /// The value of a key that is in the map, which the caller shows; in Rust another key panics.
+    /// Constant time.
+    fn index(&self, key: K) -> &V {
+        self.get_unchecked(key)
+    }
+}
+
+impl<K: Key, V: Drop, S: BuildHasher + Drop> IndexMut<K> for SparseSecondaryMap<K, V, S> {
+    ghost use Rattle.slotmap_sparse.specs.Lends.{lends_value};
+
+    /// The value of a key that is in the map, which the caller shows, for writing; in Rust another
+    /// key panics. Constant time.
+    fn index_mut(&mut self, key: K) -> &mut V
+        requires { contains_key self.old.pairs (K.data_of key) ≡ true }
+        ensures* writes_back { sem 𝓛 (lends_value K.row V.row S.row S.Hasher.row S.BuildHasher S.Hasher.Hasher self.entry (K.data_of key) result) }
+        ensures value { get self.old.pairs (K.data_of key) ≡ Some result.now }
+    {
+        self.get_unchecked_mut(key)
+    }
+}

@@ -1,0 +1,76 @@
+//! Several values at once.
+
+ghost use Rattle.std.specs.Prelude.{◌≡◌, ◌↔◌, IsTrue, IsOk, IfOk, OnOk, OnErr, IfErr, Some, true, map as map_list};
+ghost use Rattle.slotmap_core.specs.Secondary.{get, contains_key, bind};
+ghost use Rattle.slotmap_core.specs.Several.{CanReplace, AreValuesOf, with_values};
+ghost use Rattle.slotmap_sparse.specs.Content.{IsContent, with_value};
+
+use crate::SparseSecondaryMap;
+use slotmap_core::keys::Key;
+use std::hash::BuildHasher;
+use std::mem;
+
+impl<K: Key, V: Drop, S: BuildHasher + Drop> SparseSecondaryMap<K, V, S> {
+    /// Gives each key the value at its place, and answers the values that the keys had.
+    ///
+    /// Exactly where one of the keys isn't in the map, or two are equal, it hands the values back, and
+    /// the map stays as it is. It takes no memory, and its time does not depend on the size of the
+    /// map: it looks up each key, and compares each two. In Rust `get_disjoint_mut` lends the values
+    /// instead.
+    ///
+    /// ```
+    /// if let Ok([old_a, old_b]) = names.replace_disjoint([a, b], [1, 2]) {
+    ///     // Both were in the map, and a is not b.
+    /// }
+    /// ```
+    pub fn replace_disjoint<const N: usize>(
+        &mut self,
+        keys: [K; N],
+        mut values: [V; N],
+    ) -> Result<[V; N], [V; N]>
+        ensures which { IsOk result ↔ CanReplace get self.old.pairs (map_list K.data_of keys) }
+        ensures value { IfOk result (AreValuesOf get self.old.pairs (map_list K.data_of keys)) }
+        ensures ok { OnOk result (self.new ≡ record self.old {
+          pairs = with_values bind self.old.pairs (map_list K.data_of keys) values;
+        }) }
+
+        ensures err { IfErr result (λ back. back ≡ values) }
+        ensures unchanged { OnErr result (self.new ≡ self.old) }
+
+        ensures valid { IsContent self.new }
+    {
+        if !self.can_replace(&keys) {
+            return Err(values);
+        }
+        for i in 0..N {
+            self.swap_value(keys[i], &mut values[i]);
+        }
+        Ok(values)
+    }
+
+    // Whether each key is in the map, and no two are equal.
+    fn can_replace(&self, keys: &[K]) -> bool
+        ensures which { IsTrue result ↔ CanReplace get self.now.pairs (map_list K.data_of keys.now) }
+        ensures valid { IsContent self.now }
+    {
+        // Where there is no key the map is looked at too, for the clause `valid`.
+        let _ = self.len();
+        for i in 0..keys.len() {
+            let key = keys[i];
+            if !self.contains_key(key) || keys[..i].contains(&key) {
+                return false;
+            }
+        }
+        true
+    }
+
+    // Exchanges the value of a key that is in the map for another.
+    fn swap_value(&mut self, key: K, value: &mut V)
+        requires { contains_key self.old.pairs (K.data_of key) ≡ true }
+        ensures put { self.new ≡ with_value self.old (K.data_of key) value.old }
+        ensures taken { get self.old.pairs (K.data_of key) ≡ Some value.new }
+        ensures valid { IsContent self.new }
+    {
+        mem::swap(self.get_unchecked_mut(key), value);
+    }
+}

@@ -1,0 +1,90 @@
+//! A walk that takes the pairs out of a map.
+
+ghost use Rattle.std.specs.Prelude.{◌≡◌, ◌≤◌, Some, IfSome};
+ghost use Rattle.std.specs.Iterator.{size, UpTo};
+ghost use Rattle.std.specs.FinMap as map;
+ghost use Rattle.slotmap_sparse.specs.Content.{IsContent};
+
+use crate::SparseSecondaryMap;
+use slotmap_core::keys::Key;
+use std::hash::BuildHasher;
+use std::iter::FusedIterator;
+
+/// A walk that takes the pairs out of a map, in an open order. Once it is dropped, the map is empty.
+///
+/// [`SparseSecondaryMap::drain`] makes it.
+pub struct Drain<'a, K: Key, V, S: BuildHasher> {
+    map: &'a mut SparseSecondaryMap<K, V, S>,
+}
+
+impl<'a, K: Key, V: Drop, S: BuildHasher + Drop> Drop for Drain<'a, K, V, S> {
+    ghost use Rattle.slotmap_sparse.specs.Drain.{drain_map};
+
+    fn drop(self)
+        ensures ends { self.exit.0.now.pairs ≡ map.empty }
+        ensures capacity { (drain_map self.entry).capacity ≤ self.exit.0.now.capacity }
+        ensures valid { IsContent self.exit.0.now }
+    {
+        let Drain { map } = self;
+        map.clear();
+    }
+}
+
+impl<'a, K: Key, V: Drop, S: BuildHasher + Drop> Iterator for Drain<'a, K, V, S> {
+    ghost use Rattle.slotmap_sparse.specs.Drain.{drain_count, DrainSteps};
+
+    type Item = (K, V);
+
+    ghost next_gives = { DrainSteps K.data_of };
+
+    ghost remaining = { drain_count };
+
+    fn next(&mut self) -> Option<(K, V)> {
+        match self.map.first_key() {
+            Some(key) => Some((key, self.map.take_live(key))),
+            None => None,
+        }
+    }
+
+    fn size_hint(&self) -> (usize, Option<usize>)
+        ensures lower { result.0 ≤ size (drain_count self.now) }
+        ensures upper { IfSome result.1 (UpTo (drain_count self.now)) }
+        ensures exact { result ≡ (size (drain_count self.now), Some (size (drain_count self.now))) }
+    {
+        let len = self.len();
+        (len, Some(len))
+    }
+}
+
+impl<'a, K: Key, V: Drop, S: BuildHasher + Drop> ExactSizeIterator for Drain<'a, K, V, S> {
+    fn len(&self) -> usize {
+        self.map.len()
+    }
+}
+
+impl<'a, K: Key, V: Drop, S: BuildHasher + Drop> FusedIterator for Drain<'a, K, V, S> {}
+
+impl<K: Key, V: Drop, S: BuildHasher + Drop> SparseSecondaryMap<K, V, S> {
+    ghost use Rattle.slotmap_sparse.specs.Drain.{drain_map, drain_lender, DrainKeepsAlong, DrainLists};
+
+    /// Takes the keys with their values out, in an open order.
+    ///
+    /// Each step takes constant time. The walk may be dropped at any step, and then the keys that are
+    /// left are taken out too, so the map is empty. The memory stays.
+    ///
+    /// ```
+    /// for (key, value) in names.drain() {
+    ///     println!(rt; "{key:?}: {value}")?;
+    /// }
+    /// ```
+    pub fn drain(&mut self) -> Drain<'_, K, V, S>
+        ensures map { drain_map result ≡ self.old }
+        ensures same_reference { drain_lender result ≡ self.entry.ghost_name }
+
+        // Laws of the steps, for callers that walk on.
+        ensures stays { DrainKeepsAlong K.data_of result }
+        ensures lists { DrainLists K.data_of result }
+    {
+        Drain { map: self }
+    }
+}

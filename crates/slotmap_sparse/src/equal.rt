@@ -1,0 +1,38 @@
+//! Comparison of maps.
+
+ghost use Rattle.std.specs.Prelude.{◌≡◌, ◌↔◌, IsTrue};
+ghost use Rattle.slotmap_core.specs.SecondaryEqual.{AreEqual, are_equal};
+
+use crate::SparseSecondaryMap;
+use slotmap_core::keys::Key;
+use std::hash::BuildHasher;
+
+impl<K: Key, V: PartialEq, S: BuildHasher> PartialEq for SparseSecondaryMap<K, V, S> {
+    ghost use Rattle.slotmap_core.specs.SecondaryEqual.{are_equal_laws};
+    ghost use Rattle.std.specs.Cmp.{on_per};
+
+    ghost eq = { λ a b. are_equal V.eq a.pairs b.pairs };
+
+    ghost laws = { on_per (λ m. m.pairs) (are_equal_laws V.laws) };
+
+    /// Whether both maps hold the same keys with equal values. In which order they hold them, and for
+    /// how many keys there is memory, doesn't matter. Linear in the number of keys; it stops at the
+    /// first difference.
+    ///
+    /// ```
+    /// assert!(rt; names.clone()? == names);
+    /// ```
+    fn eq(&self, other: &Self) -> bool
+        ensures value { result ≡ are_equal V.eq self.now.pairs other.now.pairs }
+        ensures which { IsTrue result ↔ AreEqual V.eq self.now.pairs other.now.pairs }
+    {
+        self.slots == other.slots
+    }
+}
+
+impl<K: Key, V: Eq, S: BuildHasher> Eq for SparseSecondaryMap<K, V, S> {
+    ghost use Rattle.slotmap_core.specs.SecondaryEqual.{are_equal_equiv};
+    ghost use Rattle.std.specs.Cmp.{on_equiv};
+
+    ghost laws = { on_equiv (λ m. m.pairs) (are_equal_equiv V.Eq.laws) };
+}

@@ -1,0 +1,165 @@
+//! The calls that put one value under a key.
+
+ghost use Rattle.std.specs.Prelude.{◌≡◌, ◌<◌, ◌≤◌, ◌+◌, Some, None, IfOk, OnOk, OnErr, IfErr, IsOk, false};
+ghost use Rattle.std.specs.FinMap as map;
+ghost use Rattle.slotmap_core.specs.Secondary.{get, put, bind, is_null, value_at, RefusesPut};
+ghost use Rattle.slotmap_core.specs.OrPut.{OrPuts};
+ghost use Rattle.slotmap_core.specs.declared.secondary.OrPut.TheVariants as or_put;
+ghost use Rattle.slotmap_sparse.specs.Content.{IsContent};
+ghost use Rattle.slotmap_sparse.specs.Found.{put_over};
+
+use crate::SparseSecondaryMap;
+use crate::find::{Found, is_null};
+use slotmap_core::errors::PutError;
+use slotmap_core::keys::{Key, is_older_version};
+use slotmap_core::secondary::OrPut;
+use std::alloc::AllocError;
+use std::hash::BuildHasher;
+use std::mem;
+
+impl<K: Key, V: Drop, S: BuildHasher + Drop> SparseSecondaryMap<K, V, S> {
+    // Asks for memory for so many keys more, where there is none.
+    pub(crate) fn make_room(&mut self, additional: usize) -> Result<(), AllocError>
+        ensures ok { OnOk result (map.len self.old.pairs + additional ≤ self.new.capacity) }
+        ensures keeps { self.new.pairs ≡ self.old.pairs }
+        ensures capacity { self.old.capacity ≤ self.new.capacity }
+        ensures room { map.len self.old.pairs + additional ≤ self.old.capacity → IsOk result }
+        ensures valid { IsContent self.new }
+    {
+        self.slots.reserve(additional)
+    }
+
+    // Puts the value under a key at whose index nothing stands, where there is memory.
+    pub(crate) fn store(&mut self, key: K, value: V)
+        requires not_null { is_null (K.data_of key) ≡ false }
+        requires absent { map.get self.old.pairs (K.data_of key).index ≡ None }
+        requires memory { map.len self.old.pairs < self.old.capacity }
+        ensures puts { self.new.pairs ≡ bind self.old.pairs (K.data_of key) value }
+        ensures capacity { self.old.capacity ≤ self.new.capacity }
+        ensures valid { IsContent self.new }
+    {
+        let key = key.data();
+        let stored: Result<_, _> = self.slots.insert(key.idx(), (key.version(), value));
+        drop(stored.unwrap());
+    }
+
+    // The same, where memory may be lacking.
+    pub(crate) fn add(&mut self, key: K, value: V) -> Result<(), PutError<V>>
+        requires not_null { is_null (K.data_of key) ≡ false }
+        requires absent { map.get self.old.pairs (K.data_of key).index ≡ None }
+        ensures ok { OnOk result (self.new.pairs ≡ bind self.old.pairs (K.data_of key) value) }
+        ensures err { IfErr result (λ error. error.0 ≡ value) }
+        ensures unchanged { OnErr result (self.new.pairs ≡ self.old.pairs) }
+        ensures capacity { self.old.capacity ≤ self.new.capacity }
+        ensures room { map.len self.old.pairs < self.old.capacity → IsOk result }
+        ensures valid { IsContent self.new }
+    {
+        if self.make_room(1).is_err() {
+            return Err(PutError(value));
+        }
+        self.store(key, value);
+        Ok(())
+    }
+
+    // Puts the value over what stands at the index of the key, unless that is newer; or hands the
+    // value back, where nothing stands there.
+    pub(crate) fn put_over(&mut self, key: K, value: V) -> Result<Option<V>, V>
+        ensures value { IfOk result (λ before. before ≡ get self.old.pairs (K.data_of key)) }
+        ensures ok { OnOk result (self.new ≡ record self.old { pairs = put self.old.pairs (K.data_of key) value }) }
+        ensures err { IfErr result (λ back. back ≡ value) }
+        ensures absent { OnErr result (map.get self.old.pairs (K.data_of key).index ≡ None) }
+        ensures unchanged { OnErr result (self.new ≡ self.old) }
+        ensures valid { IsContent self.new }
+    {
+        let key = key.data();
+        let Some(slot) = self.slots.get_mut(&key.idx()) else {
+            return Err(value);
+        };
+        Ok(replace(slot, key.version(), value))
+    }
+
+    /// Gives the key the value, in place of what stands at its index, and answers the value that
+    /// the key had.
+    ///
+    /// Where the key is null, or older than the one that stands at its index, nothing changes, the
+    /// answer is none, and the value is dropped. An older key that stood there is gone from then
+    /// on, and its value is dropped.
+    ///
+    /// Where memory was refused the map holds what it held, and the value comes back in the error; in
+    /// Rust the program ends. It is asked for only where nothing stands at the key's index, and isn't
+    /// refused where the map holds fewer keys than `capacity()`. Constant time, unless the keys move.
+    ///
+    /// ```
+    /// let newer = DefaultKey::from(KeyData::new(1, 3));
+    /// assert_eq!(rt; names.insert(newer, 5)?, None);
+    /// assert_eq!(rt; names.insert(newer, 6)?, Some(5));
+    /// let older = DefaultKey::from(KeyData::new(1, 1));
+    /// assert_eq!(rt; names.insert(older, 7)?, None);
+    /// assert_eq!(rt; names.get(newer).copied(), Some(6));
+    /// ```
+    pub fn insert(&mut self, key: K, value: V) -> Result<Option<V>, PutError<V>>
+        ensures value { IfOk result (λ before. before ≡ get self.old.pairs (K.data_of key)) }
+        ensures ok { OnOk result (self.new.pairs ≡ put self.old.pairs (K.data_of key) value) }
+
+        // Memory is refused only where nothing stands at the index, and the map is at its capacity.
+        ensures err { IfErr result (λ error. RefusesPut self.old.pairs (K.data_of key) value error.0) }
+        ensures absent { OnErr result (map.get self.old.pairs (K.data_of key).index ≡ None) }
+        ensures unchanged { OnErr result (self.new.pairs ≡ self.old.pairs) }
+        ensures room { map.len self.old.pairs < self.old.capacity → IsOk result }
+
+        ensures capacity { self.old.capacity ≤ self.new.capacity }
+        ensures valid { IsContent self.new }
+    {
+        match self.put_over(key, value) {
+            Ok(before) => Ok(before),
+            Err(value) => {
+                if !is_null(key) {
+                    self.add(key, value)?;
+                }
+                Ok(None)
+            }
+        }
+    }
+
+    /// Gives the key the value where its entry is vacant, and else hands the value back.
+    ///
+    /// `NoEntry` where `entry` would answer none, and `Kept` where the key has a value. `Memory`
+    /// where memory was refused, which is asked for only where nothing stands at the key's index; so
+    /// an older pair never leaves for a refused one, as it does with `entry`. Only `Placed` changes
+    /// what the map holds. It costs what `insert` does. Rust lacks this call.
+    ///
+    /// ```
+    /// assert!(rt; matches!(names.or_put(key, 5), OrPut::Placed));
+    /// assert!(rt; matches!(names.or_put(key, 6), OrPut::Kept(6)));
+    /// ```
+    pub fn or_put(&mut self, key: K, value: V) -> OrPut<V>
+        ensures does { OrPuts false self.old.pairs (K.data_of key) value result self.new.pairs }
+        ensures room { result ≡ or_put.Memory value → self.old.capacity ≤ map.len self.old.pairs }
+        ensures capacity { self.old.capacity ≤ self.new.capacity }
+        ensures valid { IsContent self.new }
+    {
+        match self.find(key) {
+            Found::No => OrPut::NoEntry(value),
+            Found::Occupied => OrPut::Kept(value),
+            Found::Outdated | Found::Empty => match self.insert(key, value) {
+                Ok(_) => OrPut::Placed,
+                Err(PutError(value)) => OrPut::Memory(value),
+            },
+        }
+    }
+}
+
+// Puts the value in place of what stands there, unless that is newer, and answers the value that the
+// version had.
+fn replace<V: Drop>(slot: &mut (u32, V), version: u32, value: V) -> Option<V>
+    ensures value { result ≡ value_at version (Some slot.old) }
+    ensures puts { slot.new ≡ put_over version value slot.old }
+{
+    if slot.0 == version {
+        return Some(mem::replace(&mut slot.1, value));
+    }
+    if !is_older_version(version, slot.0) {
+        *slot = (version, value);
+    }
+    None
+}

@@ -1,0 +1,92 @@
+//! The walk that takes a map apart.
+
+ghost use Rattle.std.specs.Prelude.{◌≡◌, ◌≤◌, length, Some, IfSome};
+ghost use Rattle.std.specs.Iterator.{YieldsFirstBy, item_count, at_most, UpTo};
+ghost use Rattle.slotmap_core.specs.Secondary.{keyed};
+ghost use Rattle.slotmap_core.specs.Listing.{IsListing};
+
+use crate::SparseSecondaryMap;
+use slotmap_core::keys::{Key, KeyData};
+use std::alloc::Global;
+use std::collections::hash_map;
+use std::hash::BuildHasher;
+use std::marker::{Model, PhantomData};
+
+/// A walk over the keys of a map and their values, by value and in an open order: what a `for` over
+/// a map takes.
+///
+/// A contract sees it as the list of the pairs that are still to come. At its end it stays there.
+/// Each step is made in constant time, and takes no memory. Values that it has not handed out are
+/// dropped with it.
+#[derive(Drop)]
+pub struct IntoIter<K, V> {
+    pairs: hash_map::IntoIter<u32, (u32, V), Global>,
+    keys: PhantomData<K>,
+}
+
+impl<K, V> Model for IntoIter<K, V> {
+    ghost use Rattle.std.specs.Prelude.{List};
+    ghost use Rattle.slotmap_core.specs.Key.{Key};
+    ghost use Rattle.slotmap_sparse.specs.Walk.{key_pairs, AreOfKeys};
+
+    ghost Value = { List (Key × V) };
+
+    ghost view = { λ it. key_pairs it.pairs };
+
+    ghost invariant = { λ it. AreOfKeys it.pairs };
+}
+
+impl<K, V: Drop> IntoIter<K, V> {
+    /// How many pairs are still to come, in constant time.
+    pub fn len(&self) -> usize
+        ensures { result ≡ length self.now }
+    {
+        self.pairs.len()
+    }
+}
+
+impl<K: Key, V: Drop> Iterator for IntoIter<K, V> {
+    type Item = (K, V);
+
+    ghost next_gives = { YieldsFirstBy (λ item. (K.data_of item.0, item.1)) (λ rest. rest) };
+
+    ghost remaining = { item_count (λ rest. rest) };
+
+    fn next(&mut self) -> Option<(K, V)> {
+        match self.pairs.next() {
+            Some((index, (version, value))) => {
+                Some((K::from(KeyData::new(index, version)), value))
+            }
+            None => None,
+        }
+    }
+
+    fn size_hint(&self) -> (usize, Option<usize>)
+        ensures lower { result.0 ≤ length self.now }
+        ensures upper { IfSome result.1 (UpTo (at_most (length self.now))) }
+        ensures exact { result ≡ (length self.now, Some (length self.now)) }
+    {
+        let len = self.len();
+        (len, Some(len))
+    }
+}
+
+impl<K: Key, V: Drop, S: BuildHasher + Drop> IntoIterator for SparseSecondaryMap<K, V, S> {
+    type Item = (K, V);
+
+    type IntoIter = IntoIter<K, V>;
+
+    ghost into_iter_gives = { λ m it. IsListing (keyed m.pairs) it };
+
+    fn into_iter(self) -> IntoIter<K, V> {
+        let SparseSecondaryMap {
+            slots,
+            alloc: _,
+            keys: _,
+        } = self;
+        IntoIter {
+            pairs: slots.into_iter(),
+            keys: PhantomData,
+        }
+    }
+}

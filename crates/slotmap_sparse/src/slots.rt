@@ -1,0 +1,145 @@
+//! Lists of slots: a map written out, and a map read back.
+
+ghost use Rattle.std.specs.Prelude.{◌≡◌, ◌<◌, ◌≤◌, ◌^◌, ◌%◌, None, IfOk, OnOk, IsOk, IfErr, IsSome};
+ghost use Rattle.std.specs.FinMap as map;
+ghost use Rattle.slotmap_core.specs.Key.{null_key};
+ghost use Rattle.slotmap_core.specs.Secondary.{keyed};
+ghost use Rattle.slotmap_core.specs.SecondaryWritten.{slot_of};
+ghost use Rattle.slotmap_core.specs.Contents.{contents};
+ghost use Rattle.slotmap_core.specs.Slots.{Accepts, RefusesStart};
+ghost use Rattle.slotmap_sparse.specs.Content.{IsContent};
+ghost use Rattle.slotmap_sparse.specs.Written.{Reaches, Writes, with_slot};
+
+use crate::SparseSecondaryMap;
+use slotmap_core::errors::{OutOfMemory, SlotsError};
+use slotmap_core::keys::{Key, KeyData};
+use slotmap_core::serial::{SlotRecord, check_slots};
+use std::alloc::Global;
+use std::hash::{BuildHasher, BuildHasherDefault};
+
+// A list that is read as a map is shorter.
+const LIMIT: usize = 4294967294;
+
+impl<K: Key, V: Drop, S: BuildHasher + Drop> SparseSecondaryMap<K, V, S> {
+    /// The map written as a list of slots, one for each place up to the greatest index, and for place
+    /// 0, with clones of the values.
+    ///
+    /// A key's place has its value and its odd version; every other place has no value and version
+    /// 0. The map that `from_slots` reads from the list holds the same.
+    ///
+    /// `OutOfMemory` where memory for the list or for a clone was refused; room for the whole list
+    /// is asked for first. Linear in the greatest index; each value is cloned once. A map that holds
+    /// a key of index 0, or one of index 4294967293, writes a list that `from_slots` refuses. In Rust
+    /// `Serialize` writes the same records.
+    ///
+    /// ```
+    /// let list = names.to_slots()?;
+    /// let again: SparseSecondaryMap<DefaultKey, u32> = SparseSecondaryMap::from_slots(alloc, list)?;
+    /// assert!(rt; again == names);
+    /// ```
+    pub fn to_slots(&self) -> Result<Vec<SlotRecord<V>>, OutOfMemory>
+    where
+        V: Clone,
+        // A clone has to equal its value.
+        requires { (x y : V) → V.is_clone x y → y ≡ x }
+        ensures writes { IfOk result (λ slots. Writes self.now.pairs slots.items) }
+        ensures contents { IfOk result (λ slots. contents slots.items ≡ keyed self.now.pairs) }
+        ensures valid { IsContent self.now }
+    {
+        let count = self.place_count();
+        let mut slots = Vec::with_capacity(self.alloc, count)?;
+        for index in 0..count {
+            slots.push_reserved(self.record(index as u32)?);
+        }
+        Ok(slots)
+    }
+
+    // How many places the map is written as.
+    fn place_count(&self) -> usize
+        ensures count { Reaches self.now.pairs result }
+        ensures fits { result ≤ 2 ^ 32 }
+        ensures valid { IsContent self.now }
+    {
+        let mut count = 1;
+        for key in self.keys() {
+            let places = key.data().idx() as usize + 1;
+            if places > count {
+                count = places;
+            }
+        }
+        count
+    }
+
+    // The slot of this place in a list, with a clone of the value.
+    fn record(&self, index: u32) -> Result<SlotRecord<V>, OutOfMemory>
+    where
+        V: Clone,
+        requires { (x y : V) → V.is_clone x y → y ≡ x }
+        ensures { IfOk result (λ slot. slot ≡ slot_of (map.get self.now.pairs index)) }
+    {
+        match self.slots.get(&index) {
+            Some((version, value)) => Ok(SlotRecord {
+                value: Some(value.clone()?),
+                version: *version,
+            }),
+            None => Ok(SlotRecord {
+                value: None,
+                version: 0,
+            }),
+        }
+    }
+}
+
+impl<K: Key, V: Drop> SparseSecondaryMap<K, V> {
+    /// The map that a list of slots describes, with the default hasher; its values are moved into the
+    /// map.
+    ///
+    /// Each odd version is that of a key, whose index is the position; the places of even versions
+    /// are empty.
+    ///
+    /// Refusals are looked for in this order, and the list is dropped: `TooMany` where the list has
+    /// 4294967294 slots or more; `FirstNotEmpty` where it is empty or its first version is odd;
+    /// `Inconsistent` with the least position at which a value stands beside an even version, or
+    /// none beside an odd one; `Memory` where memory for the keys was refused. Two passes over the
+    /// list. In Rust `Deserialize` reads such a list.
+    pub fn from_slots(alloc: Global, list: Vec<SlotRecord<V>>) -> Result<Self, SlotsError>
+        ensures contents { IfOk result (λ made. keyed made.pairs ≡ contents list.items) }
+        ensures valid { IfOk result IsContent }
+
+        // Refusals, the first of which is given.
+        ensures accepted { IsOk result → Accepts list.items 4294967294 }
+        ensures err { IfErr result (RefusesStart list.items 4294967294) }
+    {
+        check_slots(&list, LIMIT)?;
+        let mut made = SparseSecondaryMap::empty(alloc, BuildHasherDefault::new());
+        let mut index = 0;
+        let records = list.into_iter();
+        for slot in records {
+            made.read(index, slot)?;
+            index += 1;
+        }
+        Ok(made)
+    }
+
+    // Puts the value of a slot under the key of its version at this index, where nothing stands.
+    fn read(&mut self, index: u32, slot: SlotRecord<V>) -> Result<(), SlotsError>
+        requires below { index < null_key.index }
+        requires odd { IsSome slot.value → slot.version % 2 ≡ 1 }
+        requires absent { map.get self.old.pairs index ≡ None }
+        ensures ok { OnOk result (self.new.pairs ≡ with_slot self.old.pairs index slot) }
+        ensures err { IfErr result (λ error. error ≡ SlotsError.Memory) }
+        ensures valid { IsContent self.new }
+    {
+        // The map is looked at for the clause `valid`.
+        let _ = self.len();
+        let SlotRecord { value, version } = slot;
+        let Some(value) = value else {
+            return Ok(());
+        };
+        let key = K::from(KeyData::new(index, version));
+        match self.add(key, value) {
+            Ok(()) => Ok(()),
+            Err(_) => Err(SlotsError::Memory),
+        }
+    }
+}
