@@ -32,47 +32,145 @@ trait Walked: Drop {
     fn taken(self) -> Option<(DefaultKey, u64)>;
 }
 
-macro_rules! walked {
-    ($walks:ident, $map:ident, $($given:expr),+) => {
-        impl Walked for $walks::$map<DefaultKey, u64> {
-            fn one(alloc: Global) -> Result<Self, Fail> {
-                let mut map = $map::new(alloc)?;
-                map.insert($($given),+)?;
-                Ok(map)
-            }
+impl Walked for SlotMap<DefaultKey, u64> {
+    fn one(alloc: Global) -> Result<Self, Fail> {
+        let mut map = SlotMap::new(alloc)?;
+        map.insert(7)?;
+        Ok(map)
+    }
 
-            fn pair(&self) -> Option<(DefaultKey, &u64)> {
-                $walks::Iter::next(&mut self.iter())
-            }
+    fn pair(&self) -> Option<(DefaultKey, &u64)> {
+        basic::Iter::next(&mut self.iter())
+    }
 
-            fn key(&self) -> Option<DefaultKey> {
-                $walks::Keys::next(&mut self.keys())
-            }
+    fn key(&self) -> Option<DefaultKey> {
+        basic::Keys::next(&mut self.keys())
+    }
 
-            fn value(&self) -> Option<&u64> {
-                $walks::Values::next(&mut self.values())
-            }
+    fn value(&self) -> Option<&u64> {
+        basic::Values::next(&mut self.values())
+    }
 
-            fn drained(&mut self) -> Option<(DefaultKey, u64)> {
-                $walks::Drain::next(&mut self.drain())
-            }
+    fn drained(&mut self) -> Option<(DefaultKey, u64)> {
+        basic::Drain::next(&mut self.drain())
+    }
 
-            fn taken(self) -> Option<(DefaultKey, u64)> {
-                $walks::IntoIter::next(&mut self.into_iter())
-            }
-        }
-    };
+    fn taken(self) -> Option<(DefaultKey, u64)> {
+        basic::IntoIter::next(&mut self.into_iter())
+    }
 }
 
-walked!(basic, SlotMap, 7);
+impl Walked for DenseSlotMap<DefaultKey, u64> {
+    fn one(alloc: Global) -> Result<Self, Fail> {
+        let mut map = DenseSlotMap::new(alloc)?;
+        map.insert(7)?;
+        Ok(map)
+    }
 
-walked!(dense, DenseSlotMap, 7);
+    fn pair(&self) -> Option<(DefaultKey, &u64)> {
+        dense::Iter::next(&mut self.iter())
+    }
 
-walked!(hop, HopSlotMap, 7);
+    fn key(&self) -> Option<DefaultKey> {
+        dense::Keys::next(&mut self.keys())
+    }
 
-walked!(secondary, SecondaryMap, key(1, 1), 7);
+    fn value(&self) -> Option<&u64> {
+        dense::Values::next(&mut self.values())
+    }
 
-walked!(sparse_secondary, SparseSecondaryMap, key(1, 1), 7);
+    fn drained(&mut self) -> Option<(DefaultKey, u64)> {
+        dense::Drain::next(&mut self.drain())
+    }
+
+    fn taken(self) -> Option<(DefaultKey, u64)> {
+        dense::IntoIter::next(&mut self.into_iter())
+    }
+}
+
+impl Walked for HopSlotMap<DefaultKey, u64> {
+    fn one(alloc: Global) -> Result<Self, Fail> {
+        let mut map = HopSlotMap::new(alloc)?;
+        map.insert(7)?;
+        Ok(map)
+    }
+
+    fn pair(&self) -> Option<(DefaultKey, &u64)> {
+        hop::Iter::next(&mut self.iter())
+    }
+
+    fn key(&self) -> Option<DefaultKey> {
+        hop::Keys::next(&mut self.keys())
+    }
+
+    fn value(&self) -> Option<&u64> {
+        hop::Values::next(&mut self.values())
+    }
+
+    fn drained(&mut self) -> Option<(DefaultKey, u64)> {
+        hop::Drain::next(&mut self.drain())
+    }
+
+    fn taken(self) -> Option<(DefaultKey, u64)> {
+        hop::IntoIter::next(&mut self.into_iter())
+    }
+}
+
+impl Walked for SecondaryMap<DefaultKey, u64> {
+    fn one(alloc: Global) -> Result<Self, Fail> {
+        let mut map = SecondaryMap::new(alloc)?;
+        map.insert(key(1, 1), 7)?;
+        Ok(map)
+    }
+
+    fn pair(&self) -> Option<(DefaultKey, &u64)> {
+        secondary::Iter::next(&mut self.iter())
+    }
+
+    fn key(&self) -> Option<DefaultKey> {
+        secondary::Keys::next(&mut self.keys())
+    }
+
+    fn value(&self) -> Option<&u64> {
+        secondary::Values::next(&mut self.values())
+    }
+
+    fn drained(&mut self) -> Option<(DefaultKey, u64)> {
+        secondary::Drain::next(&mut self.drain())
+    }
+
+    fn taken(self) -> Option<(DefaultKey, u64)> {
+        secondary::IntoIter::next(&mut self.into_iter())
+    }
+}
+
+impl Walked for SparseSecondaryMap<DefaultKey, u64> {
+    fn one(alloc: Global) -> Result<Self, Fail> {
+        let mut map = SparseSecondaryMap::new(alloc)?;
+        map.insert(key(1, 1), 7)?;
+        Ok(map)
+    }
+
+    fn pair(&self) -> Option<(DefaultKey, &u64)> {
+        sparse_secondary::Iter::next(&mut self.iter())
+    }
+
+    fn key(&self) -> Option<DefaultKey> {
+        sparse_secondary::Keys::next(&mut self.keys())
+    }
+
+    fn value(&self) -> Option<&u64> {
+        sparse_secondary::Values::next(&mut self.values())
+    }
+
+    fn drained(&mut self) -> Option<(DefaultKey, u64)> {
+        sparse_secondary::Drain::next(&mut self.drain())
+    }
+
+    fn taken(self) -> Option<(DefaultKey, u64)> {
+        sparse_secondary::IntoIter::next(&mut self.into_iter())
+    }
+}
 
 fn hold_lent<M: Walked>(rt: &impl Abort, map: &M) {
     assert!(rt; map.pair() == Some((key(1, 1), &7)));
@@ -153,73 +251,179 @@ trait Called: Walked {
     fn try_insert_with_key(&mut self, value: u64) -> Result<DefaultKey, TryInsertError<u64>>;
 }
 
-macro_rules! called {
-    ($map:ident) => {
-        impl Called for $map<DefaultKey, u64> {
-            fn with_capacity_and_key(alloc: Global, capacity: usize) -> Result<Self, ReserveError> {
-                $map::with_capacity_and_key(alloc, capacity)
-            }
+impl Called for SlotMap<DefaultKey, u64> {
+    fn with_capacity_and_key(alloc: Global, capacity: usize) -> Result<Self, ReserveError> {
+        SlotMap::with_capacity_and_key(alloc, capacity)
+    }
 
-            fn reserve(&mut self, additional: usize) -> Result<(), ReserveError> {
-                $map::reserve(self, additional)
-            }
+    fn reserve(&mut self, additional: usize) -> Result<(), ReserveError> {
+        SlotMap::reserve(self, additional)
+    }
 
-            fn try_reserve(&mut self, additional: usize) -> Result<(), ReserveError> {
-                $map::try_reserve(self, additional)
-            }
+    fn try_reserve(&mut self, additional: usize) -> Result<(), ReserveError> {
+        SlotMap::try_reserve(self, additional)
+    }
 
-            fn capacity(&self) -> usize {
-                $map::capacity(self)
-            }
+    fn capacity(&self) -> usize {
+        SlotMap::capacity(self)
+    }
 
-            fn len(&self) -> usize {
-                $map::len(self)
-            }
+    fn len(&self) -> usize {
+        SlotMap::len(self)
+    }
 
-            fn is_empty(&self) -> bool {
-                $map::is_empty(self)
-            }
+    fn is_empty(&self) -> bool {
+        SlotMap::is_empty(self)
+    }
 
-            fn get(&self, key: DefaultKey) -> Option<&u64> {
-                $map::get(self, key)
-            }
+    fn get(&self, key: DefaultKey) -> Option<&u64> {
+        SlotMap::get(self, key)
+    }
 
-            fn replace(&mut self, key: DefaultKey, value: u64) -> Result<u64, u64> {
-                $map::replace(self, key, value)
-            }
+    fn replace(&mut self, key: DefaultKey, value: u64) -> Result<u64, u64> {
+        SlotMap::replace(self, key, value)
+    }
 
-            fn remove(&mut self, key: DefaultKey) -> Option<u64> {
-                $map::remove(self, key)
-            }
+    fn remove(&mut self, key: DefaultKey) -> Option<u64> {
+        SlotMap::remove(self, key)
+    }
 
-            fn clear(&mut self) {
-                $map::clear(self);
-            }
+    fn clear(&mut self) {
+        SlotMap::clear(self);
+    }
 
-            fn keys_into(&self, keys: &mut Vec<DefaultKey>) -> Result<(), OutOfMemory> {
-                $map::keys_into(self, keys)
-            }
+    fn keys_into(&self, keys: &mut Vec<DefaultKey>) -> Result<(), OutOfMemory> {
+        SlotMap::keys_into(self, keys)
+    }
 
-            fn drain_into(&mut self, pairs: &mut Vec<(DefaultKey, u64)>) -> Result<(), OutOfMemory> {
-                $map::drain_into(self, pairs)
-            }
+    fn drain_into(&mut self, pairs: &mut Vec<(DefaultKey, u64)>) -> Result<(), OutOfMemory> {
+        SlotMap::drain_into(self, pairs)
+    }
 
-            fn insert_with_key(&mut self, value: u64) -> Result<DefaultKey, InsertWithError> {
-                $map::insert_with_key(self, |_| value)
-            }
+    fn insert_with_key(&mut self, value: u64) -> Result<DefaultKey, InsertWithError> {
+        SlotMap::insert_with_key(self, |_| value)
+    }
 
-            fn try_insert_with_key(&mut self, value: u64) -> Result<DefaultKey, TryInsertError<u64>> {
-                $map::try_insert_with_key(self, |_| Ok(value))
-            }
-        }
-    };
+    fn try_insert_with_key(&mut self, value: u64) -> Result<DefaultKey, TryInsertError<u64>> {
+        SlotMap::try_insert_with_key(self, |_| Ok(value))
+    }
 }
 
-called!(SlotMap);
+impl Called for DenseSlotMap<DefaultKey, u64> {
+    fn with_capacity_and_key(alloc: Global, capacity: usize) -> Result<Self, ReserveError> {
+        DenseSlotMap::with_capacity_and_key(alloc, capacity)
+    }
 
-called!(DenseSlotMap);
+    fn reserve(&mut self, additional: usize) -> Result<(), ReserveError> {
+        DenseSlotMap::reserve(self, additional)
+    }
 
-called!(HopSlotMap);
+    fn try_reserve(&mut self, additional: usize) -> Result<(), ReserveError> {
+        DenseSlotMap::try_reserve(self, additional)
+    }
+
+    fn capacity(&self) -> usize {
+        DenseSlotMap::capacity(self)
+    }
+
+    fn len(&self) -> usize {
+        DenseSlotMap::len(self)
+    }
+
+    fn is_empty(&self) -> bool {
+        DenseSlotMap::is_empty(self)
+    }
+
+    fn get(&self, key: DefaultKey) -> Option<&u64> {
+        DenseSlotMap::get(self, key)
+    }
+
+    fn replace(&mut self, key: DefaultKey, value: u64) -> Result<u64, u64> {
+        DenseSlotMap::replace(self, key, value)
+    }
+
+    fn remove(&mut self, key: DefaultKey) -> Option<u64> {
+        DenseSlotMap::remove(self, key)
+    }
+
+    fn clear(&mut self) {
+        DenseSlotMap::clear(self);
+    }
+
+    fn keys_into(&self, keys: &mut Vec<DefaultKey>) -> Result<(), OutOfMemory> {
+        DenseSlotMap::keys_into(self, keys)
+    }
+
+    fn drain_into(&mut self, pairs: &mut Vec<(DefaultKey, u64)>) -> Result<(), OutOfMemory> {
+        DenseSlotMap::drain_into(self, pairs)
+    }
+
+    fn insert_with_key(&mut self, value: u64) -> Result<DefaultKey, InsertWithError> {
+        DenseSlotMap::insert_with_key(self, |_| value)
+    }
+
+    fn try_insert_with_key(&mut self, value: u64) -> Result<DefaultKey, TryInsertError<u64>> {
+        DenseSlotMap::try_insert_with_key(self, |_| Ok(value))
+    }
+}
+
+impl Called for HopSlotMap<DefaultKey, u64> {
+    fn with_capacity_and_key(alloc: Global, capacity: usize) -> Result<Self, ReserveError> {
+        HopSlotMap::with_capacity_and_key(alloc, capacity)
+    }
+
+    fn reserve(&mut self, additional: usize) -> Result<(), ReserveError> {
+        HopSlotMap::reserve(self, additional)
+    }
+
+    fn try_reserve(&mut self, additional: usize) -> Result<(), ReserveError> {
+        HopSlotMap::try_reserve(self, additional)
+    }
+
+    fn capacity(&self) -> usize {
+        HopSlotMap::capacity(self)
+    }
+
+    fn len(&self) -> usize {
+        HopSlotMap::len(self)
+    }
+
+    fn is_empty(&self) -> bool {
+        HopSlotMap::is_empty(self)
+    }
+
+    fn get(&self, key: DefaultKey) -> Option<&u64> {
+        HopSlotMap::get(self, key)
+    }
+
+    fn replace(&mut self, key: DefaultKey, value: u64) -> Result<u64, u64> {
+        HopSlotMap::replace(self, key, value)
+    }
+
+    fn remove(&mut self, key: DefaultKey) -> Option<u64> {
+        HopSlotMap::remove(self, key)
+    }
+
+    fn clear(&mut self) {
+        HopSlotMap::clear(self);
+    }
+
+    fn keys_into(&self, keys: &mut Vec<DefaultKey>) -> Result<(), OutOfMemory> {
+        HopSlotMap::keys_into(self, keys)
+    }
+
+    fn drain_into(&mut self, pairs: &mut Vec<(DefaultKey, u64)>) -> Result<(), OutOfMemory> {
+        HopSlotMap::drain_into(self, pairs)
+    }
+
+    fn insert_with_key(&mut self, value: u64) -> Result<DefaultKey, InsertWithError> {
+        HopSlotMap::insert_with_key(self, |_| value)
+    }
+
+    fn try_insert_with_key(&mut self, value: u64) -> Result<DefaultKey, TryInsertError<u64>> {
+        HopSlotMap::try_insert_with_key(self, |_| Ok(value))
+    }
+}
 
 fn hold_room<M: Called>(rt: &impl Abort, alloc: Global) -> Result<(), Fail> {
     let mut map = M::with_capacity_and_key(alloc, 1)?;
@@ -282,37 +486,53 @@ trait Entered: Walked {
     fn or_put(&mut self, key: DefaultKey, value: u64) -> OrPut<u64>;
 }
 
-macro_rules! entered {
-    ($entries:ident, $map:ident $(, $hasher:ident)?) => {
-        impl Entered for $map<DefaultKey, u64 $(, $entries::$hasher)?> {
-            fn occupied(&mut self, key: DefaultKey) -> Option<u64> {
-                match self.entry(key) {
-                    Ok(Some($entries::Entry::Occupied(entry))) => {
-                        Some(*$entries::OccupiedEntry::get(&entry))
-                    }
-                    _ => None,
-                }
+impl Entered for SecondaryMap<DefaultKey, u64> {
+    fn occupied(&mut self, key: DefaultKey) -> Option<u64> {
+        match self.entry(key) {
+            Ok(Some(secondary::Entry::Occupied(entry))) => {
+                Some(*secondary::OccupiedEntry::get(&entry))
             }
-
-            fn vacant(&mut self, key: DefaultKey) -> Option<DefaultKey> {
-                match self.entry(key) {
-                    Ok(Some($entries::Entry::Vacant(entry))) => {
-                        Some($entries::VacantEntry::key(&entry))
-                    }
-                    _ => None,
-                }
-            }
-
-            fn or_put(&mut self, key: DefaultKey, value: u64) -> OrPut<u64> {
-                $map::or_put(self, key, value)
-            }
+            _ => None,
         }
-    };
+    }
+
+    fn vacant(&mut self, key: DefaultKey) -> Option<DefaultKey> {
+        match self.entry(key) {
+            Ok(Some(secondary::Entry::Vacant(entry))) => {
+                Some(secondary::VacantEntry::key(&entry))
+            }
+            _ => None,
+        }
+    }
+
+    fn or_put(&mut self, key: DefaultKey, value: u64) -> OrPut<u64> {
+        SecondaryMap::or_put(self, key, value)
+    }
 }
 
-entered!(secondary, SecondaryMap);
+impl Entered for SparseSecondaryMap<DefaultKey, u64, sparse_secondary::DefaultHasher> {
+    fn occupied(&mut self, key: DefaultKey) -> Option<u64> {
+        match self.entry(key) {
+            Ok(Some(sparse_secondary::Entry::Occupied(entry))) => {
+                Some(*sparse_secondary::OccupiedEntry::get(&entry))
+            }
+            _ => None,
+        }
+    }
 
-entered!(sparse_secondary, SparseSecondaryMap, DefaultHasher);
+    fn vacant(&mut self, key: DefaultKey) -> Option<DefaultKey> {
+        match self.entry(key) {
+            Ok(Some(sparse_secondary::Entry::Vacant(entry))) => {
+                Some(sparse_secondary::VacantEntry::key(&entry))
+            }
+            _ => None,
+        }
+    }
+
+    fn or_put(&mut self, key: DefaultKey, value: u64) -> OrPut<u64> {
+        SparseSecondaryMap::or_put(self, key, value)
+    }
+}
 
 fn hold_entries<M: Entered>(rt: &impl Abort, alloc: Global) -> Result<(), Fail> {
     let mut map = M::one(alloc)?;

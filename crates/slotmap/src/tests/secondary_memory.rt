@@ -51,49 +51,71 @@ pub trait Refusing: Entering {
     fn put_all_refs(&mut self, pairs: &[(DefaultKey, u64)]) -> Result<(), (DefaultKey, u64)>;
 }
 
-macro_rules! refusing {
-    ($map:ident, $make:ident, $try_make:ident) => {
-        impl Refusing for $map<DefaultKey, u64> {
-            fn of_room(alloc: Global, room: usize) -> Result<Self, ReserveError> {
-                $map::with_capacity(alloc, room)
-            }
+impl Refusing for SecondaryMap<DefaultKey, u64> {
+    fn of_room(alloc: Global, room: usize) -> Result<Self, ReserveError> {
+        SecondaryMap::with_capacity(alloc, room)
+    }
 
-            fn room(&self) -> usize {
-                self.capacity()
-            }
+    fn room(&self) -> usize {
+        self.capacity()
+    }
 
-            fn make_room(&mut self, room: usize) -> Result<(), ReserveError> {
-                self.$make(room)
-            }
+    fn make_room(&mut self, room: usize) -> Result<(), ReserveError> {
+        self.set_capacity(room)
+    }
 
-            fn try_make_room(&mut self, room: usize) -> Result<(), ReserveError> {
-                self.$try_make(room)
-            }
+    fn try_make_room(&mut self, room: usize) -> Result<(), ReserveError> {
+        self.try_set_capacity(room)
+    }
 
-            fn of_all(
-                alloc: Global,
-                pairs: Vec<(DefaultKey, u64)>,
-            ) -> Result<Self, Option<(DefaultKey, u64)>> {
-                $map::from_iter(alloc, pairs)
-            }
+    fn of_all(
+        alloc: Global,
+        pairs: Vec<(DefaultKey, u64)>,
+    ) -> Result<Self, Option<(DefaultKey, u64)>> {
+        SecondaryMap::from_iter(alloc, pairs)
+    }
 
-            fn put_all(&mut self, pairs: Vec<(DefaultKey, u64)>) -> Result<(), (DefaultKey, u64)> {
-                self.extend(pairs)
-            }
+    fn put_all(&mut self, pairs: Vec<(DefaultKey, u64)>) -> Result<(), (DefaultKey, u64)> {
+        self.extend(pairs)
+    }
 
-            fn put_all_refs(
-                &mut self,
-                pairs: &[(DefaultKey, u64)],
-            ) -> Result<(), (DefaultKey, u64)> {
-                self.extend_refs(pairs.iter().map(|pair| (pair.0, &pair.1)))
-            }
-        }
-    };
+    fn put_all_refs(&mut self, pairs: &[(DefaultKey, u64)]) -> Result<(), (DefaultKey, u64)> {
+        self.extend_refs(pairs.iter().map(|pair| (pair.0, &pair.1)))
+    }
 }
 
-refusing!(SecondaryMap, set_capacity, try_set_capacity);
+impl Refusing for SparseSecondaryMap<DefaultKey, u64> {
+    fn of_room(alloc: Global, room: usize) -> Result<Self, ReserveError> {
+        SparseSecondaryMap::with_capacity(alloc, room)
+    }
 
-refusing!(SparseSecondaryMap, reserve, try_reserve);
+    fn room(&self) -> usize {
+        self.capacity()
+    }
+
+    fn make_room(&mut self, room: usize) -> Result<(), ReserveError> {
+        self.reserve(room)
+    }
+
+    fn try_make_room(&mut self, room: usize) -> Result<(), ReserveError> {
+        self.try_reserve(room)
+    }
+
+    fn of_all(
+        alloc: Global,
+        pairs: Vec<(DefaultKey, u64)>,
+    ) -> Result<Self, Option<(DefaultKey, u64)>> {
+        SparseSecondaryMap::from_iter(alloc, pairs)
+    }
+
+    fn put_all(&mut self, pairs: Vec<(DefaultKey, u64)>) -> Result<(), (DefaultKey, u64)> {
+        self.extend(pairs)
+    }
+
+    fn put_all_refs(&mut self, pairs: &[(DefaultKey, u64)]) -> Result<(), (DefaultKey, u64)> {
+        self.extend_refs(pairs.iter().map(|pair| (pair.0, &pair.1)))
+    }
+}
 
 // A map of three values.
 fn small<M: Refusing>(alloc: Global) -> Result<M, Fail> {
