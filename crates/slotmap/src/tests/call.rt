@@ -11,7 +11,7 @@ use std::process::Abort;
 use std::test::Fail;
 
 /// A call, with what it is given. Keys are given by index and version.
-#[derive(Clone, Copy, Debug)]
+#[derive(Clone, Copy)]
 pub enum Call {
     // Those that are commands of a run, too.
     Insert(u64),
@@ -98,6 +98,13 @@ pub fn answer<M: Calls>(alloc: Global, map: &mut M, call: Call) -> Result<String
                 None => word(alloc, "done"),
             }
         }
+        _ => return sized(alloc, map, call),
+    }?)
+}
+
+// Calls on no key, and on no pair that they answer.
+fn sized<M: Calls>(alloc: Global, map: &mut M, call: Call) -> Result<String, Fail> {
+    Ok(match call {
         Call::Retain => {
             map.retain(keep);
             word(alloc, "done")
@@ -127,22 +134,9 @@ fn insert_with<M: Calls>(alloc: Global, map: &mut M) -> Result<String, AllocErro
 // Calls that go over many pairs.
 fn many<M: Calls>(alloc: Global, map: &mut M, call: Call) -> Result<String, Fail> {
     Ok(match call {
-        Call::DrainInto => {
-            let mut pairs = Vec::new(alloc);
-            map.drain_into(&mut pairs)?;
-            pairs_text(alloc, &pairs)
-        }
-        Call::KeysInto => {
-            let mut keys = Vec::new(alloc);
-            map.keys_into(&mut keys)?;
-            keys_text(alloc, &keys)
-        }
-        Call::InsertMany(count) => {
-            for value in 0..count {
-                map.insert(value)?;
-            }
-            word(alloc, "done")
-        }
+        Call::DrainInto => return drained(alloc, map),
+        Call::KeysInto => return listed(alloc, map),
+        Call::InsertMany(count) => return insert_many(alloc, map, count),
         Call::RetainOddCalls => retain_odd_calls(alloc, map),
         Call::Drain(steps) => map.drain_some(alloc, steps)?.text(alloc),
         Call::Take(steps) => map.copy()?.take_some(alloc, steps)?.text(alloc),
@@ -153,6 +147,25 @@ fn many<M: Calls>(alloc: Global, map: &mut M, call: Call) -> Result<String, Fail
         }
         _ => return map.own(alloc, call),
     }?)
+}
+
+fn drained<M: Calls>(alloc: Global, map: &mut M) -> Result<String, Fail> {
+    let mut pairs = Vec::new(alloc);
+    map.drain_into(&mut pairs)?;
+    Ok(pairs_text(alloc, &pairs)?)
+}
+
+fn listed<M: Calls>(alloc: Global, map: &M) -> Result<String, Fail> {
+    let mut keys = Vec::new(alloc);
+    map.keys_into(&mut keys)?;
+    Ok(keys_text(alloc, &keys)?)
+}
+
+fn insert_many<M: Calls>(alloc: Global, map: &mut M, count: u64) -> Result<String, Fail> {
+    for value in 0..count {
+        map.insert(value)?;
+    }
+    Ok(word(alloc, "done")?)
 }
 
 fn retain_odd_calls<M: Calls>(alloc: Global, map: &mut M) -> Result<String, AllocError> {
@@ -185,7 +198,7 @@ pub fn holds<M: Calls>(
 ) -> Result<(), Fail> {
     for (position, (call, wanted)) in steps.iter().enumerate() {
         let text = answer(alloc, map, *call)?;
-        assert_eq!(rt; text.as_str(), *wanted, "{name}: {position}, {call:?}");
+        assert_eq!(rt; text.as_str(), *wanted, "{name}: {position}");
     }
     Ok(())
 }

@@ -35,6 +35,11 @@ fn hold_map<M: Calls>(rt: &impl Abort, alloc: Global) -> Result<(), Fail> {
     map.try_reserve(100000)?;
     assert!(rt; map.capacity() >= 199999);
     map.retain(|_, value| *value % 2 == 0);
+    hold_half(rt, alloc, map)
+}
+
+// A map of half of the values, which is then empty.
+fn hold_half<M: Calls>(rt: &impl Abort, alloc: Global, mut map: M) -> Result<(), Fail> {
     assert_eq!(rt; map.len(), 50000);
     let mut keys = Vec::new(alloc);
     map.keys_into(&mut keys)?;
@@ -51,9 +56,18 @@ fn hold_copies<M: Calls>(rt: &impl Abort, alloc: Global) -> Result<(), Fail> {
     let mut read = M::of_list(alloc, list)?;
     assert_eq!(rt; read.get(key(100000, 1)).copied(), Some(99999));
     read.copy_from(&map)?;
+    hold_drained(rt, alloc, read)?;
+    hold_taken(rt, alloc, map)
+}
+
+fn hold_drained<M: Calls>(rt: &impl Abort, alloc: Global, mut map: M) -> Result<(), Fail> {
     let mut pairs = Vec::new(alloc);
-    read.drain_into(&mut pairs)?;
+    map.drain_into(&mut pairs)?;
     assert_eq!(rt; pairs.len(), 100000);
+    Ok(())
+}
+
+fn hold_taken<M: Calls>(rt: &impl Abort, alloc: Global, map: M) -> Result<(), Fail> {
     let taken = map.copy()?.drain_some(alloc, 70000)?;
     assert_eq!(rt; (taken.pairs.len(), taken.left), (70000, 30000));
     let taken = map.take_some(alloc, 70000)?;
@@ -93,13 +107,18 @@ fn hold_runs<M: Calls>(rt: &impl Abort, alloc: Global) -> Result<(), Fail> {
         make,
     );
     let (mut map, replies) = made.ok().ok_or("the run was refused")?;
-    assert_eq!(rt; (map.len(), replies.len()), (5000, 5000));
-    assert!(rt; matches!(replies.last(), Some(Reply::Key(last)) if *last == key(5000, 1)));
+    assert_eq!(rt; map.len(), 5000);
+    hold_replies(rt, &replies, 5000);
     let replies = run(alloc, &mut map, many_inserts(alloc)?, look, keep, make);
-    let replies = replies.ok().ok_or("the run was refused")?;
-    assert_eq!(rt; (map.len(), replies.len()), (10000, 5000));
-    assert!(rt; matches!(replies.last(), Some(Reply::Key(last)) if *last == key(10000, 1)));
+    hold_replies(rt, &replies.ok().ok_or("the run was refused")?, 10000);
+    assert_eq!(rt; map.len(), 10000);
     Ok(())
+}
+
+// Replies to so many inserts, the last of which made the place of this index.
+fn hold_replies(rt: &impl Abort, replies: &[Reply<DefaultKey, u64, u64, u64>], index: u32) {
+    assert_eq!(rt; replies.len(), 5000);
+    assert!(rt; matches!(replies.last(), Some(Reply::Key(last)) if *last == key(index, 1)));
 }
 
 #[test]
@@ -109,23 +128,35 @@ fn runs_of_many_commands(rt: HostRuntime) -> Result<(), Fail> {
     hold_runs::<HopSlotMap<DefaultKey, u64>>(&rt, rt.alloc())
 }
 
+fn detach_half<M>(rt: &impl Abort, map: &mut M)
+where
+    M: Detaching<DefaultKey, u64>,
+{
+    for place in 1..50001 {
+        let value = u64::from(place).wrapping_sub(1);
+        assert_eq!(rt; map.detach(key(place, 1)), Some(value));
+    }
+}
+
+fn bind_half<M>(rt: &impl Abort, map: &mut M)
+where
+    M: Detaching<DefaultKey, u64>,
+{
+    for place in 1..50001 {
+        assert!(rt; map.reattach(key(place, 1), u64::from(place)).is_ok());
+    }
+}
+
 // Detaches half of the keys, and binds them again.
 fn hold_detached<M>(rt: &impl Abort, alloc: Global) -> Result<(), Fail>
 where
     M: Calls + Detaching<DefaultKey, u64>,
 {
     let mut map = filled::<M>(alloc, false)?;
-    for place in 1..50001 {
-        assert_eq!(rt;
-            map.detach(key(place, 1)),
-            Some(u64::from(place).wrapping_sub(1))
-        );
-    }
+    detach_half(rt, &mut map);
     assert_eq!(rt; map.len(), 50000);
     assert_eq!(rt; map.insert(7)?, key(100001, 1));
-    for place in 1..50001 {
-        assert!(rt; map.reattach(key(place, 1), u64::from(place)).is_ok());
-    }
+    bind_half(rt, &mut map);
     assert_eq!(rt; map.len(), 100001);
     assert_eq!(rt; map.get(key(50000, 1)).copied(), Some(50000));
     assert_eq!(rt; map.get(key(50001, 1)).copied(), Some(50000));
@@ -170,7 +201,11 @@ fn hold_copy<M: Refusing>(rt: &impl Abort, alloc: Global, map: &M) -> Result<(),
     assert_eq!(rt; copy.remove(key(70000, 1)), Some(70000));
     copy.copy_from(map)?;
     assert_eq!(rt; copy.get(key(70000, 1)).copied(), Some(70000));
-    let taken = copy.drain_some(alloc, 70000)?;
+    hold_half_drained(rt, alloc, copy)
+}
+
+fn hold_half_drained<M: Refusing>(rt: &impl Abort, alloc: Global, mut map: M) -> Result<(), Fail> {
+    let taken = map.drain_some(alloc, 70000)?;
     assert_eq!(rt; (taken.pairs.len(), taken.left), (70000, 30000));
     Ok(())
 }

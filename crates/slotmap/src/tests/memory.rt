@@ -248,15 +248,19 @@ pub fn hold<M: Calls>(rt: &impl Abort, alloc: Global, asked: Asked) -> Result<()
 /// Makes a map of room, one of a list, and one by a run: whether each was made.
 pub fn hold_makers<M: Calls>(rt: &impl Abort, alloc: Global) -> Result<bool, Fail> {
     let made = M::with_capacity_and_key(alloc, 3);
-    let Ok(_) = made else {
+    if made.is_err() {
         assert!(rt; matches!(made, Err(ReserveError::Memory)));
         return Ok(false);
-    };
+    }
     let read = M::of_list(alloc, needed(slots(alloc, &[(None, 0), (Some(7), 1)]))?);
-    let Ok(_) = read else {
+    if read.is_err() {
         assert!(rt; matches!(read, Err(SlotsError::Memory)));
         return Ok(false);
-    };
+    }
+    is_run_made::<M>(rt, alloc)
+}
+
+fn is_run_made<M: Calls>(rt: &impl Abort, alloc: Global) -> Result<bool, Fail> {
     let commands = needed(vec![in alloc; Command::Insert(9)])?;
     let made: Made<M, Command<DefaultKey, u64>> = run_new(alloc, commands, look, keep, make);
     match made {

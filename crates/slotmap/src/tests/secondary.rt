@@ -17,7 +17,7 @@ use std::test::Fail;
 pub type Pairs = &'static [(u32, u32, u64)];
 
 /// A call, with what it is given. Keys are given by index and version.
-#[derive(Clone, Copy, Debug)]
+#[derive(Clone, Copy)]
 pub enum Call {
     // Those that are commands of a run, too.
     Insert(u32, u32, u64),
@@ -104,9 +104,9 @@ pub trait Tested: Secondary<DefaultKey, u64> + Drop {
     fn enter(&mut self, alloc: Global, call: Call) -> Result<String, Fail>;
 }
 
-/// The calls on all pairs, or on several, that every map has under the same names.
+/// The calls on all pairs, or on several, that every map has under the same names; other calls go to a function.
 macro_rules! calls_on_many {
-    ($map:expr, $alloc:expr, $call:expr) => {
+    ($map:expr, $alloc:expr, $call:expr, $other:ident) => {
         match $call {
             Call::IsEmpty => format!(in $alloc; "{}", $map.is_empty()),
             Call::Retain => {
@@ -127,7 +127,7 @@ macro_rules! calls_on_many {
                 let all = $map.extend_refs(given.iter().map(|pair| (pair.0, &pair.1)));
                 done_text($alloc, all.map_err(|_| OutOfMemory))
             }
-            call => own_calls!($map, $alloc, call),
+            call => $other($alloc, $map, call),
         }
     };
 }
@@ -168,22 +168,35 @@ fn answer<M: Tested>(alloc: Global, map: &mut M, call: Call) -> Result<String, F
             or_put_text(alloc, map.or_put(key(index, version), value))
         }
         Call::Len => format!(in alloc; "{}", map.len()),
+        call => return many(alloc, map, call),
+    }?)
+}
+
+// Calls that go over all pairs.
+fn many<M: Tested>(alloc: Global, map: &mut M, call: Call) -> Result<String, Fail> {
+    Ok(match call {
         Call::Drain(steps) => map.drain_some(alloc, steps)?.text(alloc),
         Call::Take(steps) => map.copy()?.take_some(alloc, steps)?.text(alloc),
         Call::ToSlots => slots_text(alloc, &map.list()?),
-        Call::ThroughSlots => match M::of_list(alloc, map.list()?) {
-            Ok(read) => {
-                *map = read;
-                word(alloc, "done")
-            }
-            Err(error) => format!(in alloc; "{error}"),
-        },
+        Call::ThroughSlots => through_slots(alloc, map),
         Call::Equals(pairs) => {
             let other = M::of_pairs(alloc, given(alloc, pairs)?).ok_or("no map was made")?;
             format!(in alloc; "{}", map.is_same(&other))
         }
         call => return other(alloc, map, call),
     }?)
+}
+
+// Puts the map of its list of slots in its place.
+fn through_slots<M: Tested>(alloc: Global, map: &mut M) -> Result<String, AllocError> {
+    let list = map.list().map_err(|_| AllocError)?;
+    match M::of_list(alloc, list) {
+        Ok(read) => {
+            *map = read;
+            word(alloc, "done")
+        }
+        Err(error) => format!(in alloc; "{error}"),
+    }
 }
 
 fn other<M: Tested>(alloc: Global, map: &mut M, call: Call) -> Result<String, Fail> {
@@ -221,7 +234,7 @@ pub fn holds<M: Tested>(
 ) -> Result<(), Fail> {
     for (position, (call, wanted)) in steps.iter().enumerate() {
         let text = answer(alloc, map, *call)?;
-        assert_eq!(rt; text.as_str(), *wanted, "{name}: {position}, {call:?}");
+        assert_eq!(rt; text.as_str(), *wanted, "{name}: {position}");
     }
     Ok(())
 }
@@ -298,24 +311,43 @@ fn look(value: &u64) -> u64 {
     *value
 }
 
+fn commands(
+    alloc: Global,
+    steps: &[(Call, &str)],
+) -> Result<Vec<SecondaryCommand<DefaultKey, u64>>, Fail> {
+    let mut commands = Vec::new(alloc);
+    for (call, _) in steps {
+        commands.push(command(*call).ok_or("not a command")?)?;
+    }
+    Ok(commands)
+}
+
+type Told = SecondaryReply<u64, u64>;
+
+// Holds a run on a map to what its commands answer.
+fn hold_run<M: Tested>(
+    rt: &impl Abort,
+    alloc: Global,
+    map: &mut M,
+    steps: &[(Call, &str)],
+) -> Result<(), Fail> {
+    let replies = run_secondary(alloc, map, commands(alloc, steps)?, look);
+    let replies = replies.ok().ok_or("the run was refused")?;
+    assert_eq!(rt; replies.len(), steps.len());
+    for (reply, (_, wanted)) in replies.into_iter().zip(steps) {
+        let text = reply_text(alloc, reply)?;
+        assert_eq!(rt; text.as_str(), *wanted);
+    }
+    Ok(())
+}
+
 /// Holds runs on a kind of map to rows: each in two runs, one after the other on one map.
 pub fn hold_runs<M: Tested>(rt: &impl Abort, alloc: Global) -> Result<(), Fail> {
     for row in &COMMANDS {
         let mut map = M::made(alloc)?;
         let (first, second) = row.steps.split_at(row.steps.len() / 2);
-        for steps in [first, second] {
-            let mut commands = Vec::new(alloc);
-            for (call, _) in steps {
-                commands.push(command(*call).ok_or("not a command")?)?;
-            }
-            let replies = run_secondary(alloc, &mut map, commands, look);
-            let replies = replies.ok().ok_or("the run was refused")?;
-            assert_eq!(rt; replies.len(), steps.len());
-            for (reply, (call, wanted)) in replies.into_iter().zip(steps) {
-                let text = reply_text(alloc, reply)?;
-                assert_eq!(rt; text.as_str(), *wanted, "{}: {call:?}", row.name);
-            }
-        }
+        hold_run(rt, alloc, &mut map, first)?;
+        hold_run(rt, alloc, &mut map, second)?;
     }
     Ok(())
 }
@@ -348,31 +380,42 @@ fn some_command(state: &mut u64) -> SecondaryCommand<DefaultKey, u64> {
     }
 }
 
+// The replies to a list of 200 commands on a new map.
+fn replies_to<M: Tested>(alloc: Global, list: u64) -> Result<Vec<Told>, Fail> {
+    let mut state = list;
+    let mut commands = Vec::new(alloc);
+    for _ in 0..200 {
+        commands.push(some_command(&mut state))?;
+    }
+    let mut map = M::made(alloc)?;
+    let replies = run_secondary(alloc, &mut map, commands, look);
+    Ok(replies.ok().ok_or("the run was refused")?)
+}
+
+// Holds each reply to the one of the other map.
+fn hold_same(
+    rt: &impl Abort,
+    alloc: Global,
+    replies: Vec<Told>,
+    others: Vec<Told>,
+) -> Result<(), Fail> {
+    assert_eq!(rt; (replies.len(), others.len()), (200, 200));
+    for (reply, other) in replies.into_iter().zip(others) {
+        let (text, wanted) = (reply_text(alloc, other)?, reply_text(alloc, reply)?);
+        assert_eq!(rt; text.as_str(), wanted.as_str());
+    }
+    Ok(())
+}
+
 /// Holds two kinds of maps to the same replies to 20 lists of 200 commands.
 pub fn hold_alike<M: Tested, N: Tested>(rt: &impl Abort, alloc: Global) -> Result<(), Fail> {
     for list in 0..20u64 {
-        let mut left = M::made(alloc)?;
-        let mut right = N::made(alloc)?;
-        let (mut state, mut again) = (list, list);
-        let (mut first, mut second) = (Vec::new(alloc), Vec::new(alloc));
-        for _ in 0..200 {
-            first.push(some_command(&mut state))?;
-            second.push(some_command(&mut again))?;
-        }
-        let first = run_secondary(alloc, &mut left, first, look);
-        let second = run_secondary(alloc, &mut right, second, look);
-        let first = first.ok().ok_or("the run was refused")?;
-        let second = second.ok().ok_or("the run was refused")?;
-        assert_eq!(rt; first.len(), 200);
-        for (reply, other) in first.into_iter().zip(second) {
-            let wanted = reply_text(alloc, reply)?;
-            assert_eq!(rt;
-                reply_text(alloc, other)?.as_str(),
-                wanted.as_str(),
-                "list {list}"
-            );
-        }
-        assert_eq!(rt; left.len(), right.len());
+        hold_same(
+            rt,
+            alloc,
+            replies_to::<M>(alloc, list)?,
+            replies_to::<N>(alloc, list)?,
+        )?;
     }
     Ok(())
 }

@@ -7,7 +7,7 @@ use super::memory::{done_or_refused, needed};
 use super::secondary::{Tested, given};
 use super::text::key;
 use crate::{
-    DefaultKey, OrPut, PutError, ReserveError, SecondaryCommand, SecondaryMap, SecondaryReply,
+    DefaultKey, Key, OrPut, PutError, ReserveError, SecondaryCommand, SecondaryMap, SecondaryReply,
     SlotsError, SparseSecondaryMap, run_secondary,
 };
 use std::alloc::Global;
@@ -174,17 +174,21 @@ fn is_done<M: Refusing>(
     match asked {
         Asked::Insert => Ok(insert(rt, map, far)),
         Asked::OrPut => Ok(or_put(rt, map, far)),
-        Asked::OrInsert => {
-            let put = map.put_by_entry(far, 40);
-            assert!(rt; matches!(put, Ok(40) | Err(40)));
-            Ok(put.is_ok())
-        }
-        Asked::OrInsertWith => {
-            let calls = Cell::new(0);
-            let done = map.make_by_entry(far, &calls);
-            assert_eq!(rt; calls.get(), u32::from(done));
-            Ok(done)
-        }
+        Asked::OrInsert => Ok(or_insert(rt, map, far)),
+        Asked::OrInsertWith => Ok(or_insert_with(rt, map, far)),
+        Asked::Run => runs(rt, alloc, map, far),
+        _ => are_many_done(rt, alloc, map, asked),
+    }
+}
+
+// The same of calls that are not on one key.
+fn are_many_done<M: Refusing>(
+    rt: &impl Abort,
+    alloc: Global,
+    map: &mut M,
+    asked: Asked,
+) -> Result<bool, Fail> {
+    match asked {
         Asked::Capacity => {
             let made = map.make_room(1000);
             Ok(is_room_made(rt, map, made))
@@ -194,20 +198,30 @@ fn is_done<M: Refusing>(
             Ok(is_room_made(rt, map, made))
         }
         Asked::Extend => {
-            let pairs = needed(given(alloc, &MORE))?;
-            let put = map.put_all(pairs);
+            let put = map.put_all(needed(given(alloc, &MORE))?);
             Ok(is_extended(rt, map, put))
         }
         Asked::ExtendRefs => {
-            let pairs = needed(given(alloc, &MORE))?;
-            let put = map.put_all_refs(&pairs);
+            let put = map.put_all_refs(&needed(given(alloc, &MORE))?);
             Ok(is_extended(rt, map, put))
         }
         Asked::Clone => Ok(map.copy().is_ok()),
         Asked::CloneFrom => clone_from(rt, alloc, map),
-        Asked::ToSlots => Ok(map.list().is_ok()),
-        Asked::Run => runs(rt, alloc, map, far),
+        _ => Ok(map.list().is_ok()),
     }
+}
+
+fn or_insert<M: Refusing>(rt: &impl Abort, map: &mut M, far: DefaultKey) -> bool {
+    let put = map.put_by_entry(far, 40);
+    assert!(rt; matches!(put, Ok(40) | Err(40)));
+    put.is_ok()
+}
+
+fn or_insert_with<M: Refusing>(rt: &impl Abort, map: &mut M, far: DefaultKey) -> bool {
+    let calls = Cell::new(0);
+    let done = map.make_by_entry(far, &calls);
+    assert_eq!(rt; calls.get(), u32::from(done));
+    done
 }
 
 fn insert<M: Refusing>(rt: &impl Abort, map: &mut M, far: DefaultKey) -> bool {
@@ -255,16 +269,16 @@ fn is_extended<M: Refusing>(
         assert_eq!(rt; map.get(key(100000, 1)).copied(), Some(60));
         return true;
     };
-    let mut is_before = true;
+    let refused = refused.data();
+    assert!(rt; MORE.contains(&(refused.idx(), refused.version(), back)));
     for (index, version, value) in MORE {
-        if refused == key(index, version) {
-            assert_eq!(rt; back, value);
-            is_before = false;
-        }
-        let wanted = if is_before { Some(value) } else { None };
+        let wanted = if index < refused.idx() {
+            Some(value)
+        } else {
+            None
+        };
         assert_eq!(rt; map.remove(key(index, version)), wanted);
     }
-    assert!(rt; !is_before);
     false
 }
 
@@ -316,17 +330,28 @@ pub fn hold<M: Refusing>(rt: &impl Abort, alloc: Global, asked: Asked) -> Result
 /// Makes a map of room, one of a list and one of pairs: whether each was made.
 pub fn hold_makers<M: Refusing>(rt: &impl Abort, alloc: Global) -> Result<bool, Fail> {
     let made = M::of_room(alloc, 3);
-    let Ok(_) = made else {
+    if made.is_err() {
         assert!(rt; matches!(made, Err(ReserveError::Memory)));
         return Ok(false);
-    };
+    }
     let map = small::<M>(alloc)?;
-    let read = M::of_list(alloc, needed(map.list())?);
-    let Ok(read) = read else {
-        assert!(rt; matches!(read, Err(SlotsError::Memory)));
-        return Ok(false);
-    };
-    assert!(rt; is_small(&read, 3));
+    Ok(is_list_read(rt, alloc, &map)? && are_pairs_taken(rt, alloc, &map)?)
+}
+
+fn is_list_read<M: Refusing>(rt: &impl Abort, alloc: Global, map: &M) -> Result<bool, Fail> {
+    match M::of_list(alloc, needed(map.list())?) {
+        Ok(read) => {
+            assert!(rt; is_small(&read, 3));
+            Ok(true)
+        }
+        Err(error) => {
+            assert!(rt; matches!(error, SlotsError::Memory));
+            Ok(false)
+        }
+    }
+}
+
+fn are_pairs_taken<M: Refusing>(rt: &impl Abort, alloc: Global, map: &M) -> Result<bool, Fail> {
     let pairs = needed(given(alloc, &[(3, 1, 30), (1, 1, 10), (2, 3, 20)]))?;
     match M::of_all(alloc, pairs) {
         Ok(made) => {
@@ -342,6 +367,16 @@ pub fn hold_makers<M: Refusing>(rt: &impl Abort, alloc: Global) -> Result<bool, 
     }
 }
 
+fn hold_puts<M: Refusing>(rt: &impl Abort, map: &mut M, index: u32) {
+    assert!(rt; matches!(map.insert(key(index, 1), 5), Ok(None)), "{index}");
+    assert!(rt; matches!(map.insert(key(index, 3), 6), Ok(None)), "{index}");
+    assert!(rt;
+        matches!(map.or_put(key(index, 5), 7), OrPut::Placed),
+        "{index}"
+    );
+    assert_eq!(rt; map.put_by_entry(key(index, 7), 8), Ok(8), "{index}");
+}
+
 /// Fills a map of room with keys of these indices. Once there is room nothing is refused.
 pub fn hold_room<M: Refusing>(
     rt: &impl Abort,
@@ -354,13 +389,7 @@ pub fn hold_room<M: Refusing>(
     }
     assert!(rt; map.make_room(50).is_ok() && map.try_make_room(100).is_ok());
     for index in indices {
-        assert!(rt; matches!(map.insert(key(index, 1), 5), Ok(None)), "{index}");
-        assert!(rt; matches!(map.insert(key(index, 3), 6), Ok(None)), "{index}");
-        assert!(rt;
-            matches!(map.or_put(key(index, 5), 7), OrPut::Placed),
-            "{index}"
-        );
-        assert_eq!(rt; map.put_by_entry(key(index, 7), 8), Ok(8), "{index}");
+        hold_puts(rt, &mut map, index);
     }
     assert_eq!(rt; map.len(), 4);
     assert!(rt; map.room() >= 100);

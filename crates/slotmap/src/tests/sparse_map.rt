@@ -102,41 +102,57 @@ impl Tested for Map {
     }
 
     fn own(&mut self, alloc: Global, call: Call) -> Result<String, Fail> {
-        Ok(calls_on_many!(self, alloc, call)?)
+        Ok(calls_on_many!(self, alloc, call, own_call)?)
     }
 
     fn enter(&mut self, alloc: Global, call: Call) -> Result<String, Fail> {
-        Ok(match call {
-            Call::OrInsert(index, version, value) => {
-                at_entry!(self, alloc, key(index, version), entry => *entry.or_insert(value)?)
-            }
-            Call::OrInsertWith(index, version, value) => {
-                at_entry!(self, alloc, key(index, version), entry => *entry.or_insert_with(|| value)?)
-            }
-            Call::OrDefault(index, version) => {
-                at_entry!(self, alloc, key(index, version), entry => *entry.or_default()?)
-            }
-            Call::AddOrInsert(index, version, value) => {
-                at_entry!(self, alloc, key(index, version), entry => *entry
-                    .and_modify(|stored| *stored = stored.wrapping_add(1))
-                    .or_insert(value)?)
-            }
-            Call::Entry(index, version) => return entry_text(alloc, self, key(index, version)),
+        match call {
+            Call::Entry(index, version) => entry_text(alloc, self, key(index, version)),
             Call::WriteByEntry(index, version, value) => {
-                return write_by_entry(alloc, self, key(index, version), value);
+                write_by_entry(alloc, self, key(index, version), value)
             }
             Call::InsertByEntry(index, version, value) => {
-                return insert_by_entry(alloc, self, key(index, version), value);
+                insert_by_entry(alloc, self, key(index, version), value)
             }
             Call::DoubleByEntry(index, version) => {
-                return double_by_entry(alloc, self, key(index, version));
+                double_by_entry(alloc, self, key(index, version))
             }
             Call::RemoveByEntry(index, version) => {
-                return remove_by_entry(alloc, self, key(index, version));
+                remove_by_entry(alloc, self, key(index, version))
             }
-            _ => word(alloc, "no such call"),
-        }?)
+            _ => put_by_call(alloc, self, call),
+        }
     }
+}
+
+fn own_call(alloc: Global, map: &mut Map, call: Call) -> Result<String, AllocError> {
+    own_calls!(map, alloc, call)
+}
+
+// The calls on an entry that put a value.
+fn put_by_call(alloc: Global, map: &mut Map, call: Call) -> Result<String, Fail> {
+    Ok(match call {
+        Call::OrInsert(index, version, value) => {
+            at_entry!(map, alloc, key(index, version), entry => *entry.or_insert(value)?)
+        }
+        Call::OrInsertWith(index, version, value) => {
+            at_entry!(map, alloc, key(index, version), entry => *entry.or_insert_with(|| value)?)
+        }
+        Call::OrDefault(index, version) => {
+            at_entry!(map, alloc, key(index, version), entry => *entry.or_default()?)
+        }
+        _ => return add_or_insert(alloc, map, call),
+    }?)
+}
+
+fn add_or_insert(alloc: Global, map: &mut Map, call: Call) -> Result<String, Fail> {
+    let Call::AddOrInsert(index, version, value) = call else {
+        return Ok(word(alloc, "no such call")?);
+    };
+    let added = at_entry!(map, alloc, key(index, version), entry => *entry
+        .and_modify(|stored| *stored = stored.wrapping_add(1))
+        .or_insert(value)?);
+    Ok(added?)
 }
 
 impl Entering for Map {
@@ -484,6 +500,18 @@ fn act<'a>(
         Deed::Remove => {
             map.remove(key(0, 3));
         }
+        _ => act_on_all(alloc, drops, map, deed)?,
+    }
+    Ok(())
+}
+
+fn act_on_all<'a>(
+    alloc: Global,
+    drops: &'a Cell<u32>,
+    map: &mut Counts<'a>,
+    deed: Deed,
+) -> Result<(), Fail> {
+    match deed {
         Deed::Retain => map.retain(|_, _| false),
         Deed::Clear => map.clear(),
         Deed::Drain(steps) => {
@@ -497,6 +525,7 @@ fn act<'a>(
             map.clone_from(&other)?;
             mem::forget(other);
         }
+        _ => {}
     }
     Ok(())
 }

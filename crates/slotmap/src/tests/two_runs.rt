@@ -11,6 +11,32 @@ use crate::{
 use std::alloc::Global;
 use std::test::Fail;
 
+// What the first run is given.
+fn shown(value: &u64) -> u64 {
+    *value
+}
+
+fn keeps<K: Key>(_key: K, _value: &mut u64) -> bool {
+    true
+}
+
+fn refuses<K: Key>(_key: K) -> Result<u64, ()> {
+    Err(())
+}
+
+// What the second run is given.
+fn hidden(_value: &u64) -> u64 {
+    0
+}
+
+fn drops<K: Key>(_key: K, _value: &mut u64) -> bool {
+    false
+}
+
+fn gives<K: Key>(_key: K) -> Result<u64, ()> {
+    Ok(5)
+}
+
 // Runs two lists on a map, and answers the replies to both.
 fn run_twice<M, K>(
     alloc: Global,
@@ -26,10 +52,10 @@ where
     ensures laws { IfSome result (λ told.
         Laws K.data_of (first.items ++ second.items) (told.0.items ++ told.1.items)) }
 {
-    let Ok(earlier) = run(alloc, map, first, |value| *value, |_, _| true, |_| Err(())) else {
+    let Ok(earlier) = run(alloc, map, first, shown, keeps, refuses) else {
         return None;
     };
-    let Ok(later) = run(alloc, map, second, |_| 0, |_, _| false, |_| Ok(5)) else {
+    let Ok(later) = run(alloc, map, second, hidden, drops, gives) else {
         return None;
     };
     Some((earlier, later))
@@ -47,11 +73,11 @@ where
     ensures laws { IfSome result (λ made. DetachLaws K.data_of M.REUSES
         (first.items ++ second.items) (made.1.items ++ made.2.items)) }
 {
-    let made = run_detaching_new(alloc, first, |value| *value, |_, _| true, |_| Err(()));
+    let made = run_detaching_new(alloc, first, shown, keeps, refuses);
     let Ok((mut map, earlier)) = made else {
         return None;
     };
-    let Ok(later) = run_detaching(alloc, &mut map, second, |_| 0, |_, _| false, |_| Ok(5)) else {
+    let Ok(later) = run_detaching(alloc, &mut map, second, hidden, drops, gives) else {
         return None;
     };
     Some((map, earlier, later))
