@@ -1,9 +1,9 @@
 #!/usr/bin/env python3
 """stored.py RUSTRUN [basic|dense|hop]
 
-Prints the 100 numbers that the project's tests store for the Rust crate's replies to 100 lists of 200 commands, by its map of
-that kind, `basic` without a word. List N follows from the number N by `commands`; its replies become one number by `digest`.
-Keys count in the order of the map's own walk. Lists for `hop`, which detaches no key, are of a kind of their own.
+Prints the 10 numbers that the project's tests store for the Rust crate's replies to 100 lists of 200 commands, by its map of
+that kind, `basic` without a word. List N follows from the number N by `commands`; its replies become one number by `digest`,
+and the numbers of ten lists become one in the same way. Keys count in the order of the map's own walk. Lists for `hop`, which detaches no key, are of a kind of their own.
 """
 import subprocess
 import sys
@@ -59,25 +59,35 @@ def commands(seed, kind):
 KINDS = {"key": 1, "value": 2, "none": 3, "done": 4, "not": 5, "len": 6, "keys": 7}
 
 
-def digest(replies):
+def folded(numbers):
     value = 14695981039346656037
+    for number in numbers:
+        value = (value ^ number) * 1099511628211 % WORD
+    return value
+
+
+def digest(replies):
+    numbers = []
     for reply in replies:
         first, *rest = reply.split(" ")
-        for number in [KINDS[first], *map(int, rest if first != "not" else [])]:
-            value = (value ^ number) * 1099511628211 % WORD
-    return value
+        numbers += [KINDS[first], *map(int, rest if first != "not" else [])]
+    return folded(numbers)
+
+
+def digest_of_list(rustrun, kind, seed):
+    words = [rustrun, kind, "walked"]
+    run = subprocess.run(words, input=commands(seed, kind), capture_output=True, text=True, check=True)
+    replies = run.stdout.splitlines()
+    assert len(replies) == 200
+    return digest(replies)
 
 
 def main():
     kind = sys.argv[2] if len(sys.argv) == 3 else "basic"
     if len(sys.argv) not in [2, 3] or kind not in ["basic", "dense", "hop"]:
         sys.exit(__doc__)
-    for seed in range(1, 101):
-        words = [sys.argv[1], kind, "walked"]
-        run = subprocess.run(words, input=commands(seed, kind), capture_output=True, text=True, check=True)
-        replies = run.stdout.splitlines()
-        assert len(replies) == 200
-        print(digest(replies))
+    for first in range(1, 101, 10):
+        print(folded(digest_of_list(sys.argv[1], kind, seed) for seed in range(first, first + 10)))
 
 
 main()

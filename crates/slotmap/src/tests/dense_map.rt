@@ -6,7 +6,9 @@ use super::call::Call::{
 use super::call::{Call, Row, hold, hold_clones};
 use super::rows;
 use super::tested::{Calls, Taken, Tested, own_calls, taken};
-use super::text::{key, keys_text, pairs_text, puts_text, value_text, values_text, word};
+use super::text::{
+    key, keys_text, no_memory, pairs_text, puts_text, value_text, values_text, word,
+};
 use super::walks::{first_key, hold_walk};
 use crate::dense::Iter;
 use crate::{
@@ -291,7 +293,7 @@ fn a_list_frees_the_greatest_index_first(rt: HostRuntime) -> Result<(), Fail> {
 }
 
 // Walks go in packed order, what is taken out of the map comes from the back, and places are freed in that order.
-const ORDERS: [Row; 5] = [
+static ORDERS: [Row; 5] = [
     Row {
         name: "a drained map uses its places again",
         start: &[],

@@ -47,7 +47,7 @@ enum Deed {
 }
 
 // How many values are dropped once the deed is done, and once the map is dropped too.
-const DEEDS: [(Deed, u32, u32); 15] = [
+static DEEDS: [(Deed, u32, u32); 15] = [
     (Deed::Nothing, 0, 5),
     (Deed::Clear, 5, 5),
     (Deed::RetainTwo, 3, 5),

@@ -25,7 +25,7 @@ fn told_by_sparse(map: &mut SparseSecondaryMap<DefaultKey, u64>, key: DefaultKey
 }
 
 // Keys, and what they have in a map with 2v3 alone. The last one is newer.
-const TOLD: [(u32, u32, &str); 6] = [
+static TOLD: [(u32, u32, &str); 6] = [
     (2, 3, "occupied"),
     (2, 1, "older"),
     (2, 2147483651, "older"),

@@ -7,7 +7,9 @@ use super::call::Call::{
 use super::call::{Call, Row, hold, hold_clones};
 use super::rows;
 use super::tested::{Calls, Taken, Tested, own_calls, taken};
-use super::text::{key, keys_text, pairs_text, puts_text, slots, value_text, values_text, word};
+use super::text::{
+    key, keys_text, no_memory, pairs_text, puts_text, slots, value_text, values_text, word,
+};
 use super::walks::{first_key, hold_walk};
 use crate::hop::Iter;
 use crate::{DefaultKey, HopSlotMap, NodeKey, OutOfMemory, SlotRecord, SlotsError};
@@ -248,7 +250,7 @@ fn a_walk_passes_a_retired_place(rt: HostRuntime) -> Result<(), Fail> {
 }
 
 // Walks and calls that go over all keys go by ascending index.
-const ORDERS: [Row; 5] = [
+static ORDERS: [Row; 5] = [
     Row {
         name: "a drained map uses its places again",
         start: &[],
@@ -317,7 +319,7 @@ const ORDERS: [Row; 5] = [
 ];
 
 // Which place an insert uses, after removals whose neighbours are vacant or not.
-const BLOCKS: [Row; 7] = [
+static BLOCKS: [Row; 7] = [
     Row {
         name: "a block beside place 0 is used after the others",
         start: &[],

@@ -3,7 +3,7 @@
 
 use super::call::look;
 use super::secondary::Tested;
-use super::text::{key_text, value_text, word};
+use super::text::{key_text, no_memory, value_text, word};
 use crate::{
     DefaultKey, DenseSlotMap, Detaching, HopSlotMap, JoinedCommand, JoinedDetachCommand,
     JoinedReply, Primary, SecondaryMap, SlotMap, SparseSecondaryMap, run_joined,
@@ -124,7 +124,7 @@ where
 fn calls(alloc: Global, row: &Row) -> Result<Vec<Call>, AllocError> {
     let mut calls = Vec::new(alloc);
     for (call, _) in row.steps {
-        calls.push(*call).map_err(|_| AllocError)?;
+        calls.push(*call).map_err(no_memory)?;
     }
     Ok(calls)
 }
@@ -272,7 +272,7 @@ fn many_calls(alloc: Global, list: u64, with_detach: bool) -> Result<Vec<Call>, 
         } else {
             Call::Reattach(number, step)
         };
-        calls.push(call).map_err(|_| AllocError)?;
+        calls.push(call).map_err(no_memory)?;
     }
     Ok(calls)
 }
@@ -377,7 +377,7 @@ fn numbers_name_the_keys_of_one_list(rt: HostRuntime) -> Result<(), Fail> {
 
 use Call::{Detach, Insert, Look, Put, Reattach, Remove, Take};
 
-const ROWS: [Row; 3] = [
+static ROWS: [Row; 3] = [
     Row {
         name: "a value under a stale key is not seen under the live one",
         steps: &[
@@ -432,7 +432,7 @@ const ROWS: [Row; 3] = [
     },
 ];
 
-const DETACH_ROWS: [Row; 2] = [
+static DETACH_ROWS: [Row; 2] = [
     Row {
         name: "a detached key keeps its value in the secondary map",
         steps: &[
@@ -468,7 +468,7 @@ const DETACH_ROWS: [Row; 2] = [
 ];
 
 // One after the other on the same two maps.
-const TWO_LISTS: [Row; 2] = [
+static TWO_LISTS: [Row; 2] = [
     Row {
         name: "the first list",
         steps: &[(Insert(5), "1v1"), (Put(1, 50), "old none")],

@@ -11,7 +11,7 @@ use std::cell::Cell;
 use std::test::Fail;
 
 // Texts, and the keys that are read from them.
-const KEYS: [(&str, &str); 8] = [
+static KEYS: [(&str, &str); 8] = [
     ("{\"idx\":2,\"version\":3}", "2v3"),
     ("{\"idx\":0,\"version\":4}", "0v5"),
     ("{\"idx\":4294967295,\"version\":9}", "null"),
@@ -52,7 +52,7 @@ fn write_number(value: &u64) -> Result<Value, OutOfMemory> {
 }
 
 // Texts, and the lists that are read from them.
-const READ: [(&str, &str); 12] = [
+static READ: [(&str, &str); 12] = [
     ("[]", "slots"),
     ("[{\"version\":0},{\"version\":1}]", "slots -@0 -@1"),
     (
@@ -87,7 +87,7 @@ fn lists_are_read(rt: HostRuntime) -> Result<(), Fail> {
 }
 
 // Lists, and their texts.
-const WRITTEN: [(&[Slot], &str); 3] = [
+static WRITTEN: [(&[Slot], &str); 3] = [
     (&[], "[]"),
     (
         &[(None, 0), (None, 2)],

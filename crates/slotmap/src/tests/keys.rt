@@ -7,7 +7,7 @@ use std::process::Abort;
 use std::test::Fail;
 
 // Numbers, and the index, the version and the number of the key that is read from each.
-const NUMBERS: [(u64, u32, u32, u64); 6] = [
+static NUMBERS: [(u64, u32, u32, u64); 6] = [
     (0, 0, 1, 4294967296),
     (4294967297, 1, 1, 4294967297),
     (12884901889, 1, 3, 12884901889),

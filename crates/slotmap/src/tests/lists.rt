@@ -8,7 +8,7 @@ use std::process::Abort;
 use std::test::Fail;
 
 // Lists, limits, and what `check_slots` says.
-const CHECKED: [(&[Slot], usize, &str); 8] = [
+static CHECKED: [(&[Slot], usize, &str); 8] = [
     (&[(Some(7), 1), (None, 0), (None, 0)], 3, "too many"),
     (&[(Some(7), 1), (None, 0), (None, 0)], 4, "first not empty"),
     (&[], 0, "too many"),
@@ -30,7 +30,7 @@ fn faults_are_looked_for_in_order(rt: HostRuntime) -> Result<(), Fail> {
 }
 
 /// Lists that no map is read from.
-pub const REFUSED: [(&[Slot], &str); 5] = [
+pub static REFUSED: [(&[Slot], &str); 5] = [
     (&[], "first not empty"),
     (&[(Some(7), 1)], "first not empty"),
     (&[(None, 0), (None, 1)], "inconsistent 1"),

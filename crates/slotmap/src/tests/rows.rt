@@ -8,7 +8,7 @@ use super::call::Call::{
 use super::call::{Clones, Row};
 
 /// Calls that are commands of a run, for every map.
-pub const COMMANDS: [Row; 5] = [
+pub static COMMANDS: [Row; 5] = [
     Row {
         name: "a removed place is used again under a newer key",
         start: &[],
@@ -81,7 +81,7 @@ pub const COMMANDS: [Row; 5] = [
 ];
 
 /// The same, for maps whose keys can be detached.
-pub const DETACH_COMMANDS: [Row; 4] = [
+pub static DETACH_COMMANDS: [Row; 4] = [
     Row {
         name: "a detached key is bound again",
         start: &[],
@@ -163,7 +163,7 @@ macro_rules! stranger {
 
 /// The null key, a key of index 0, one of the greatest index but one, the last key of a place, a key that was removed, the
 /// next key, and a key of another map.
-pub const STRANGERS: [Row; 7] = [
+pub static STRANGERS: [Row; 7] = [
     stranger!(4294967295, 1),
     stranger!(0, 1),
     stranger!(4294967294, 1),
@@ -193,7 +193,7 @@ macro_rules! never_detached {
 }
 
 /// The same keys.
-pub const NEVER_DETACHED: [Row; 7] = [
+pub static NEVER_DETACHED: [Row; 7] = [
     never_detached!(4294967295, 1),
     never_detached!(0, 1),
     never_detached!(4294967294, 1),
@@ -204,7 +204,7 @@ pub const NEVER_DETACHED: [Row; 7] = [
 ];
 
 /// Further calls, for every map.
-pub const CALLS: [Row; 3] = [
+pub static CALLS: [Row; 3] = [
     Row {
         name: "more places than a map can have",
         start: &[],
@@ -250,7 +250,7 @@ pub const CALLS: [Row; 3] = [
 ];
 
 /// Lists of slots, for every map.
-pub const LISTS: [Row; 8] = [
+pub static LISTS: [Row; 8] = [
     Row {
         name: "the first version is read as 0",
         start: &[(None, 4), (Some(7), 3)],
@@ -327,7 +327,7 @@ pub const LISTS: [Row; 8] = [
 ];
 
 /// Lists of slots, for maps whose keys can be detached.
-pub const DETACHED_LISTS: [Row; 3] = [
+pub static DETACHED_LISTS: [Row; 3] = [
     Row {
         name: "a detached key is forgotten in a list",
         start: &[],
@@ -366,7 +366,7 @@ pub const DETACHED_LISTS: [Row; 3] = [
 ];
 
 /// A clone goes its own way, for every map.
-pub const CLONES: Clones = Clones {
+pub static CLONES: Clones = Clones {
     before: &[(Insert(1), "1v1"), (Insert(2), "2v1"), (Remove(1, 1), "1")],
     copy: &[(Insert(4), "1v3"), (Remove(2, 1), "2")],
     map: &[(Insert(3), "1v3"), (Get(2, 1), "2")],
@@ -374,7 +374,7 @@ pub const CLONES: Clones = Clones {
 };
 
 /// A clone keeps detached keys.
-pub const DETACHED_CLONES: Clones = Clones {
+pub static DETACHED_CLONES: Clones = Clones {
     before: &[(Insert(1), "1v1"), (Insert(2), "2v1"), (Detach(2, 1), "2")],
     copy: &[
         (Remove(1, 1), "1"),

@@ -4,7 +4,7 @@ ghost use Rattle.std.specs.Prelude.{◌≡◌};
 
 use super::call::keep;
 use super::tested::Taken;
-use super::text::{Slot, done_text, key, slots, slots_text, value_text, word};
+use super::text::{Slot, done_text, key, no_memory, slots, slots_text, value_text, word};
 use crate::{
     DefaultKey, OrPut, OutOfMemory, ReserveError, Secondary, SecondaryCommand, SecondaryReply,
     SlotRecord, SlotsError, run_secondary,
@@ -138,8 +138,7 @@ pub(crate) use calls_on_many;
 pub fn given(alloc: Global, pairs: Pairs) -> Result<Vec<(DefaultKey, u64)>, AllocError> {
     let mut all = Vec::new(alloc);
     for pair in pairs {
-        all.push((key(pair.0, pair.1), pair.2))
-            .map_err(|_| AllocError)?;
+        all.push((key(pair.0, pair.1), pair.2)).map_err(no_memory)?;
     }
     Ok(all)
 }
@@ -189,7 +188,7 @@ fn many<M: Tested>(alloc: Global, map: &mut M, call: Call) -> Result<String, Fai
 
 // Puts the map of its list of slots in its place.
 fn through_slots<M: Tested>(alloc: Global, map: &mut M) -> Result<String, AllocError> {
-    let list = map.list().map_err(|_| AllocError)?;
+    let list = map.list().map_err(no_memory)?;
     match M::of_list(alloc, list) {
         Ok(read) => {
             *map = read;
@@ -428,7 +427,7 @@ use Call::{
 };
 
 /// Calls that are commands of a run.
-pub const COMMANDS: [Row; 5] = [
+pub static COMMANDS: [Row; 5] = [
     Row {
         name: "a newer key takes the place of an older one, and never the other way round",
         start: &[],
@@ -504,7 +503,7 @@ pub const COMMANDS: [Row; 5] = [
 ];
 
 /// The other calls.
-pub const CALLS: [Row; 10] = [
+pub static CALLS: [Row; 10] = [
     Row {
         name: "index 0 is an index like any other",
         start: &[],
@@ -666,13 +665,13 @@ pub const CALLS: [Row; 10] = [
     },
 ];
 
-const BEFORE: Steps = &[
+static BEFORE: Steps = &[
     (Extend(&[(0, 1, 5), (1, 3, 10), (4, 1, 40)]), "done"),
     (Remove(4, 1), "40"),
 ];
 
-const COPY: Steps = &[(Remove(1, 3), "10"), (Insert(2, 1, 20), "none"), (Len, "2")];
+static COPY: Steps = &[(Remove(1, 3), "10"), (Insert(2, 1, 20), "none"), (Len, "2")];
 
-const STAYS: Steps = &[(Get(1, 3), "10"), (Get(2, 1), "none"), (Len, "2")];
+static STAYS: Steps = &[(Get(1, 3), "10"), (Get(2, 1), "none"), (Len, "2")];
 
-const AFTER: Steps = &[(Get(1, 3), "none"), (Get(2, 1), "20"), (Get(0, 1), "5")];
+static AFTER: Steps = &[(Get(1, 3), "none"), (Get(2, 1), "20"), (Get(0, 1), "5")];

@@ -30,10 +30,10 @@ fn hold_evens<M: Tested>(rt: &impl Abort, owner: &Owner, map: &M) {
     }
 }
 
-const KEPT: Steps = &[(Retain, "done"), (Len, "10")];
+static KEPT: Steps = &[(Retain, "done"), (Len, "10")];
 
 // One key twice, a key that was taken out, and keys of another version at an index of the map.
-const REFUSED: Steps = &[
+static REFUSED: Steps = &[
     (ReplaceTwo((1, 1, 5), (1, 1, 6)), "5 6 back"),
     (ReplaceTwo((1, 1, 5), (2, 1, 6)), "5 6 back"),
     (ReplaceTwo((2, 1, 5), (1, 1, 6)), "5 6 back"),
@@ -42,7 +42,7 @@ const REFUSED: Steps = &[
     (ReplaceNone, "true"),
 ];
 
-const REPLACED: Steps = &[
+static REPLACED: Steps = &[
     (ReplaceTwo((1, 1, 20), (3, 1, 0)), "0 20"),
     (ReplaceTwo((3, 1, 20), (1, 1, 0)), "0 20"),
 ];

@@ -10,7 +10,7 @@ use super::secondary::{
 use super::secondary_memory::Entering;
 use super::tested::{Taken, own_calls, taken};
 use super::text::{
-    done_text, key, keys_text, pairs_text, puts_text, value_text, values_text, word,
+    done_text, key, keys_text, no_memory, pairs_text, puts_text, value_text, values_text, word,
 };
 use super::walks::{first_key, hold_walk};
 use crate::secondary::{Entry, Iter};
@@ -284,7 +284,7 @@ fn clear_and_drain_keep_the_memory(rt: HostRuntime) -> Result<(), Fail> {
     let before = map.capacity();
     for steps in [9, 0] {
         map.extend(given(rt.alloc(), &[(1, 1, 5), (2, 1, 6)])?)
-            .map_err(|_| OutOfMemory)?;
+            .map_err(no_memory)?;
         map.clear();
         map.insert(key(1, 1), 5)?;
         map.insert(key(2, 1), 6)?;
@@ -360,7 +360,7 @@ enum Deed {
 }
 
 // How many values are dropped once the deed is done, and once the map is dropped too.
-const DEEDS: [(Deed, u32, u32); 14] = [
+static DEEDS: [(Deed, u32, u32); 14] = [
     (Deed::Nothing, 0, 5),
     (Deed::InsertAgain, 1, 6),
     (Deed::InsertNewer, 1, 6),
@@ -383,13 +383,13 @@ fn filled<'a>(alloc: Global, drops: &'a Cell<u32>) -> Result<Counts<'a>, Fail> {
     let mut map = SecondaryMap::new(alloc)?;
     for index in 0..5 {
         map.insert(key(index, 3), Counted { drops })
-            .map_err(|_| OutOfMemory)?;
+            .map_err(no_memory)?;
     }
     Ok(map)
 }
 
 fn put<'a>(map: &mut Counts<'a>, key: DefaultKey, drops: &'a Cell<u32>) -> Result<(), Fail> {
-    map.insert(key, Counted { drops }).map_err(|_| OutOfMemory)?;
+    map.insert(key, Counted { drops }).map_err(no_memory)?;
     Ok(())
 }
 
@@ -460,7 +460,7 @@ fn each_value_is_dropped_once(rt: HostRuntime) -> Result<(), Fail> {
 }
 
 // How many places there are, the order of walks, and what a vacant entry that is dropped unused leaves.
-const PLACES: [Row; 3] = [
+static PLACES: [Row; 3] = [
     Row {
         name: "walks go by ascending index, and a drain that is dropped takes the rest out",
         start: &[(None, 4), (Some(7), 3), (None, 0), (None, 6)],

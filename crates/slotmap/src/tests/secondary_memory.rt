@@ -257,7 +257,7 @@ fn is_room_made<M: Refusing>(rt: &impl Abort, map: &M, made: Result<(), ReserveE
 }
 
 // Pairs of which the first needs room, and the last, too.
-const MORE: [(u32, u32, u64); 3] = [(1000, 1, 40), (1001, 1, 50), (100000, 1, 60)];
+static MORE: [(u32, u32, u64); 3] = [(1000, 1, 40), (1001, 1, 50), (100000, 1, 60)];
 
 // Whether all of them are in the map. Where one came back those before it are, and no other; they are taken out again.
 fn is_extended<M: Refusing>(

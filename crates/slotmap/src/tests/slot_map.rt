@@ -6,7 +6,9 @@ use super::call::Call::{
 use super::call::{Call, Row, hold, hold_clones};
 use super::rows;
 use super::tested::{Calls, Taken, Tested, own_calls, taken};
-use super::text::{key, keys_text, pairs_text, puts_text, value_text, values_text, word};
+use super::text::{
+    key, keys_text, no_memory, pairs_text, puts_text, value_text, values_text, word,
+};
 use super::walks::{first_key, hold_walk};
 use crate::basic::Iter;
 use crate::{DefaultKey, NodeKey, OutOfMemory, ReattachError, SlotMap, SlotRecord, SlotsError};
@@ -145,7 +147,7 @@ fn walk_that_takes_the_map(rt: HostRuntime) -> Result<(), Fail> {
 }
 
 // Everything goes by ascending index, and places are freed in that order.
-const ORDERS: [Row; 5] = [
+static ORDERS: [Row; 5] = [
     Row {
         name: "a drained map uses its places again",
         start: &[],

@@ -13,7 +13,7 @@ use super::secondary::{
 use super::secondary_memory::Entering;
 use super::tested::{Taken, own_calls, taken};
 use super::text::{
-    done_text, key, keys_text, pairs_text, puts_text, value_text, values_text, word,
+    done_text, key, keys_text, no_memory, pairs_text, puts_text, value_text, values_text, word,
 };
 use crate::sparse_secondary::{Entry, Iter, Keys, Values};
 use crate::{
@@ -335,7 +335,7 @@ fn hashers_of_ones_own(rt: HostRuntime) -> Result<(), Fail> {
         Seed::new(),
     )?;
     assert!(rt; second.capacity() >= 7 && first != second);
-    second.extend_refs(first.iter()).map_err(|_| OutOfMemory)?;
+    second.extend_refs(first.iter()).map_err(no_memory)?;
     assert!(rt; first == second);
     Ok(())
 }
@@ -445,7 +445,7 @@ enum Deed {
 }
 
 // How many values are dropped once the deed is done, and once the map is dropped too.
-const DEEDS: [(Deed, u32, u32); 14] = [
+static DEEDS: [(Deed, u32, u32); 14] = [
     (Deed::Nothing, 0, 5),
     (Deed::InsertAgain, 1, 6),
     (Deed::InsertNewer, 1, 6),
@@ -468,13 +468,13 @@ fn filled<'a>(alloc: Global, drops: &'a Cell<u32>) -> Result<Counts<'a>, Fail> {
     let mut map = SparseSecondaryMap::new(alloc)?;
     for index in 0..5 {
         map.insert(key(index, 3), Counted { drops })
-            .map_err(|_| OutOfMemory)?;
+            .map_err(no_memory)?;
     }
     Ok(map)
 }
 
 fn put<'a>(map: &mut Counts<'a>, key: DefaultKey, drops: &'a Cell<u32>) -> Result<(), Fail> {
-    map.insert(key, Counted { drops }).map_err(|_| OutOfMemory)?;
+    map.insert(key, Counted { drops }).map_err(no_memory)?;
     Ok(())
 }
 
@@ -494,7 +494,7 @@ fn act<'a>(
         }
         Deed::OrInsert => {
             if let Some(entry) = map.entry(key(1, 3))? {
-                entry.or_insert(Counted { drops }).map_err(|_| OutOfMemory)?;
+                entry.or_insert(Counted { drops }).map_err(no_memory)?;
             }
         }
         Deed::Remove => {
@@ -545,7 +545,7 @@ fn each_value_is_dropped_once(rt: HostRuntime) -> Result<(), Fail> {
 }
 
 // What a vacant entry that is dropped unused leaves, and the places that lists have.
-const PLACES: [Row; 4] = [
+static PLACES: [Row; 4] = [
     Row {
         name: "an unused entry takes the older key out",
         start: &[],

@@ -64,7 +64,7 @@ macro_rules! taken {
         let mut walk = $walk;
         let mut pairs = Vec::new($alloc);
         for pair in walk.by_ref().take($steps) {
-            pairs.push(pair).map_err(|_| AllocError)?;
+            pairs.push(pair).map_err(no_memory)?;
         }
         let left = walk.len();
         Ok(Taken { pairs, left })

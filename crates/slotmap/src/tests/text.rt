@@ -87,6 +87,11 @@ pub fn slots_text(alloc: Global, slots: &[SlotRecord<u64>]) -> Result<String, Al
     Ok(text)
 }
 
+/// What is left of a refusal that hands something back.
+pub fn no_memory<E: Drop>(_refusal: E) -> AllocError {
+    AllocError
+}
+
 /// A value, if there is one, and a version.
 pub type Slot = (Option<u64>, u32);
 
@@ -98,7 +103,7 @@ pub fn slots(alloc: Global, rows: &[Slot]) -> Result<Vec<SlotRecord<u64>>, Alloc
             value: *value,
             version: *version,
         };
-        slots.push(slot).map_err(|_| AllocError)?;
+        slots.push(slot).map_err(no_memory)?;
     }
     Ok(slots)
 }
