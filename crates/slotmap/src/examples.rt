@@ -16,7 +16,5 @@ mod shown;
 mod side_table;
 mod sparse_table;
 mod stale;
-#[cfg(test)]
-mod tests;
 mod tour;
 mod walks;
