@@ -2,9 +2,9 @@
 //!
 //! `secondary secondary` prints those of `SecondaryMap`, and `secondary sparse` those of `SparseSecondaryMap`. Each list follows
 //! from its number by the rule of `Script`, and its answers are digested to one number by the rule of `Digest`, as in
-//! crates/slotmap/src/tests/scripted.rt. It prints one number for each ten of the lists 1 to 200. The versions that are half of all
-//! apart are left out, and for `SecondaryMap` index 0 and an entry of a great version at an empty place too: there the port
-//! answers otherwise.
+//! crates/slotmap/src/tests/scripted.rt. It prints one number for each ten of the lists 1 to 200. The versions that are half
+//! of all apart are left out, and for `SecondaryMap` index 0 and an entry of a great version at an empty place too: there the
+//! port answers otherwise.
 
 use slotmap::{DefaultKey, Key, KeyData, SecondaryMap, SparseSecondaryMap};
 use std::collections::hash_map::RandomState;

@@ -3,7 +3,8 @@
 
 Prints the 10 numbers that the project's tests store for the Rust crate's replies to 100 lists of 200 commands, by its map of
 that kind, `basic` without a word. List N follows from the number N by `commands`; its replies become one number by `digest`,
-and the numbers of ten lists become one in the same way. Keys count in the order of the map's own walk. Lists for `hop`, which detaches no key, are of a kind of their own.
+and the numbers of ten lists become one in the same way. Keys count in the order of the map's own walk. Lists for `hop`, which
+detaches no key, are of a kind of their own.
 """
 import subprocess
 import sys

@@ -16,5 +16,7 @@ mod shown;
 mod side_table;
 mod sparse_table;
 mod stale;
+#[cfg(test)]
+mod tests;
 mod tour;
 mod walks;

@@ -87,7 +87,7 @@ pub fn slots_text(alloc: Global, slots: &[SlotRecord<u64>]) -> Result<String, Al
     Ok(text)
 }
 
-/// What is left of a refusal that hands something back.
+/// Says that memory was refused, and drops what the refusal hands back.
 pub fn no_memory<E: Drop>(_refusal: E) -> AllocError {
     AllocError
 }
