@@ -1,4 +1,5 @@
 use Rattle.std.proofs.Common.{◌≡◌, ◌∙◌, Some, Err, ap, rules, arith}
+use Rattle.std.proofs.lemmas.Grind.{common_steps}
 use Rattle.serde_json.specs.View.{view, items_view}
 use Rattle.slotmap_core.specs.Json.{ReadsJson}
 use Rattle.slotmap_core.specs.declared.errors.JsonError.TheVariants.{Memory}
@@ -25,3 +26,9 @@ pub returns-in_err-push-clause-err : goal.returns-in_err-push-clause-err
 returns-in_err-push-clause-err g c =
     let lacking : c.from_residual-in_err-push.result ≡ Err Memory = search rules in
     rw lacking (has_elements (view c.args.value.now) c.deref-element-items.result.now (ap (λ vs. Some (items_view vs)) c.deref-element-items.ensures.value ∙ c.in-Some.ensures) (omega (arith, c.loop-element-test.true)))
+
+pub returns-clause-ok : goal.returns-clause-ok
+returns-clause-ok g c = grind (arith, common_steps)
+
+pub returns-in_default-clause-ok : goal.returns-in_default-clause-ok
+returns-in_default-clause-ok g c = search rules

@@ -1,4 +1,4 @@
-use Rattle.std.proofs.Common.{Option, Some, refl, subst}
+use Rattle.std.proofs.Common.{Option, Some, refl, subst, rules}
 use Rattle.slotmap_core.specs.SecondaryStep.{LooksAt, given_secondary}
 use Rattle.slotmap_run.proofs.secondary.GivenLookServesSecondaryCommandSecondaryReply.serve.Goals as goal
 
@@ -10,3 +10,9 @@ returns-in-Some-clause-step g c =
       subst (λ (x : Option g.row.V.Denot). LooksAt what.looks x (Some c.look.result)) c.in-Some.ensures.value (record { shown = c.in-Some.value; shows = refl; says = record { met = c.look.ensures } }),
       refl,
     )
+
+pub returns-in-Ok-clause-step : goal.returns-in-Ok-clause-step
+returns-in-Ok-clause-step g c = search rules
+
+pub returns-in-Contains-clause-step : goal.returns-in-Contains-clause-step
+returns-in-Contains-clause-step g c = search rules

@@ -1,0 +1,8 @@
+use Rattle.std.proofs.Common.{rules}
+use Rattle.slotmap_basic.proofs.SlotMap.clone_from.Goals as goal
+
+pub returns-clause-copies : goal.returns-clause-copies
+returns-clause-copies g c = search rules
+
+pub returns-clause-valid : goal.returns-clause-valid
+returns-clause-valid g c = search rules

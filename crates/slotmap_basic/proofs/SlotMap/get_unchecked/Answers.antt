@@ -1,0 +1,5 @@
+use Rattle.std.proofs.Common.{rules}
+use Rattle.slotmap_basic.proofs.SlotMap.get_unchecked.Goals as goal
+
+pub get_unchecked-requires : goal.get_unchecked-requires
+get_unchecked-requires g c = search rules

@@ -1,0 +1,5 @@
+use Rattle.std.proofs.Common.{rules}
+use Rattle.slotmap_basic.proofs.SlotMap.try_reserve.Goals as goal
+
+pub returns-clause-makes_room : goal.returns-clause-makes_room
+returns-clause-makes_room g c = search rules
