@@ -17,6 +17,9 @@ impl<K: Key, V: Drop> DenseSlotMap<K, V> {
     ghost use Rattle.slotmap_dense.specs.Lends.{lends_get, lends_value};
 
     /// Whether this key is live. Constant time.
+    ///
+    /// A detached key isn't, nor is the null key, nor a key of another map, as long as this map has
+    /// no live key of the same index and version.
     pub fn contains_key(&self, key: K) -> bool
         ensures value { result ≡ map.contains_key self.now.content.live (K.data_of key) }
         ensures valid { IsDense self.now }
@@ -33,7 +36,9 @@ impl<K: Key, V: Drop> DenseSlotMap<K, V> {
         Some(&self.values[position as usize])
     }
 
-    /// The value of a key that is live. Constant time.
+    /// The value of a key that is live. Constant time, with no check of the key.
+    ///
+    /// The caller has to know that the key is live; so the call is safe, where Rust's is `unsafe`.
     pub fn get_unchecked(&self, key: K) -> &V
         requires { IsLive self.now.content (K.data_of key) }
         ensures value { map.get self.now.content.live (K.data_of key) ≡ Some result.now }
@@ -44,10 +49,19 @@ impl<K: Key, V: Drop> DenseSlotMap<K, V> {
     }
 
     /// The value of a live key for writing, or none where the key isn't live. Constant time.
+    ///
+    /// Once the reference ends, the key has the last value written through it, and all else is as
+    /// before.
+    ///
+    /// ```
+    /// if let Some(value) = map.get_mut(key) {
+    ///     *value = 6;
+    /// }
+    /// ```
     pub fn get_mut(&mut self, key: K) -> Option<&mut V>
         ensures* writes_back { sem 𝓛 (lends_get K.row V.row K.Key self.entry (K.data_of key) result) }
         ensures value { option_copied_mut result ≡ map.get self.old.content.live (K.data_of key) }
-        ensures was_valid { IsDense self.old }
+        ensures valid { IsDense self.old }
     {
         if self.contains_key(key) {
             Some(self.get_unchecked_mut(key))
@@ -56,12 +70,14 @@ impl<K: Key, V: Drop> DenseSlotMap<K, V> {
         }
     }
 
-    /// The value of a key that is live, for writing. Constant time.
+    /// The value of a key that is live, for writing. Constant time, with no check of the key.
+    ///
+    /// The caller has to know that the key is live; so the call is safe, where Rust's is `unsafe`.
     pub fn get_unchecked_mut(&mut self, key: K) -> &mut V
         requires { IsLive self.old.content (K.data_of key) }
         ensures* writes_back { sem 𝓛 (lends_value K.row V.row K.Key self.entry (K.data_of key) result) }
         ensures value { map.get self.old.content.live (K.data_of key) ≡ Some result.now }
-        ensures was_valid { IsDense self.old }
+        ensures valid { IsDense self.old }
     {
         let position = *self.slots.get_unchecked(key.data()) as usize;
         &mut self.values[position]
@@ -69,8 +85,14 @@ impl<K: Key, V: Drop> DenseSlotMap<K, V> {
 
     /// Sets the value of a live key and answers the value before; where the key isn't live, hands
     /// the value back and changes nothing. Constant time. Rust lacks this call.
+    ///
+    /// ```
+    /// let key = map.insert(5).ok()?;
+    /// assert_eq!(rt; map.replace(key, 6), Ok(5));
+    /// assert_eq!(rt; map.replace(DefaultKey::null(), 7), Err(7));
+    /// ```
     pub fn replace(&mut self, key: K, value: V) -> Result<V, V>
-        ensures value { IfOk result (λ before. map.get self.old.content.live (K.data_of key) ≡ Some before) }
+        ensures ok { IfOk result (λ before. map.get self.old.content.live (K.data_of key) ≡ Some before) }
         ensures replaces { OnOk result (self.new ≡ with_value_of self.old (K.data_of key) value) }
         ensures err { IfErr result (λ back. ¬ (IsLive self.old.content (K.data_of key)) × (back ≡ value)) }
         ensures unchanged { OnErr result (self.new ≡ self.old) }
@@ -90,7 +112,8 @@ impl<K: Key, V: Drop> Index<K> for DenseSlotMap<K, V> {
 
     ghost index_gives = { λ m key value. map.get m.content.live (K.data_of key) ≡ Some value };
 
-    /// The value of a key that is live, which the caller shows. Constant time.
+    /// The value of a key that is live, which the caller shows; in Rust a dead key panics. Constant
+    /// time, with no check of the key.
     fn index(&self, key: K) -> &V {
         self.get_unchecked(key)
     }
@@ -99,12 +122,13 @@ impl<K: Key, V: Drop> Index<K> for DenseSlotMap<K, V> {
 impl<K: Key, V: Drop> IndexMut<K> for DenseSlotMap<K, V> {
     ghost use Rattle.slotmap_dense.specs.Lends.{lends_value};
 
-    /// The value of a key that is live, which the caller shows, for writing. Constant time.
+    /// The value of a key that is live, which the caller shows, for writing; in Rust a dead key
+    /// panics. Constant time, with no check of the key.
     fn index_mut(&mut self, key: K) -> &mut V
         requires { IsLive self.old.content (K.data_of key) }
         ensures* writes_back { sem 𝓛 (lends_value K.row V.row K.Key self.entry (K.data_of key) result) }
         ensures value { map.get self.old.content.live (K.data_of key) ≡ Some result.now }
-        ensures was_valid { IsDense self.old }
+        ensures valid { IsDense self.old }
     {
         self.get_unchecked_mut(key)
     }

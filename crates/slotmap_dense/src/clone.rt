@@ -11,6 +11,17 @@ use std::alloc::AllocError;
 impl<K: Key, V: Clone> DenseSlotMap<K, V> {
     /// A copy of the map: the same keys are live, with clones of their values, in the same order,
     /// the same are detached, and both maps will hand out the same keys.
+    ///
+    /// The caller answers for it that a clone of a value equals the value; so this is a function of
+    /// its own, and no impl of `Clone`. Where there is no memory it refuses, and what was copied by
+    /// then is dropped. It copies each place of the map, and each key and value. The copy has room
+    /// for what the map holds, and maybe for no more.
+    ///
+    /// ```
+    /// let mut copy = map.clone().ok()?;
+    /// copy.remove(key);
+    /// assert!(rt; map.contains_key(key));
+    /// ```
     pub fn clone(&self) -> Result<Self, AllocError>
         requires { (x y : V) → V.is_clone x y → y ≡ x }
         ensures copies { IfOk result (λ copy. IsCopy self.now.content copy.content) }
@@ -25,6 +36,10 @@ impl<K: Key, V: Clone> DenseSlotMap<K, V> {
     }
 
     /// Makes this map a copy of another, as [`DenseSlotMap::clone`] does, and drops what it had.
+    ///
+    /// A key that this map has handed out before may then stand for another value. Where there is
+    /// no memory it refuses, and the map stays as it is: the copy is made first, so for a while
+    /// there are both. It copies each place of the source, and each key and value.
     pub fn clone_from(&mut self, source: &Self) -> Result<(), AllocError>
     where
         V: Drop,

@@ -15,6 +15,18 @@ use slotmap_core::keys::Key;
 impl<K: Key, V: Drop> DenseSlotMap<K, V> {
     /// Takes a live key's value out and keeps its place for the key, or answers none where the key
     /// isn't live. Constant time.
+    ///
+    /// The key is detached: it finds nothing, and no insert uses its place, until `reattach` binds
+    /// it again. `clear`, `drain` and `retain` leave it so. Detaching retires no place. The last key
+    /// and its value take their place in the packed order, as at `remove`. Takes no memory.
+    ///
+    /// ```
+    /// let key = map.insert(5).ok()?;
+    /// assert_eq!(rt; map.detach(key), Some(5));
+    /// assert!(rt; !map.contains_key(key));
+    /// assert!(rt; map.reattach(key, 6).is_ok());
+    /// assert_eq!(rt; map.get(key).copied(), Some(6));
+    /// ```
     pub fn detach(&mut self, key: K) -> Option<V>
         ensures value { result ≡ map.get self.old.content.live (K.data_of key) }
         ensures detaches { OnSome result (Detaches self.old.content (K.data_of key) self.new.content) }
@@ -27,10 +39,12 @@ impl<K: Key, V: Drop> DenseSlotMap<K, V> {
         Some(close_gap(&mut self.slots, &mut self.keys, &mut self.values, position))
     }
 
-    /// Binds a detached key to a value again. Constant time where no vector moves.
+    /// Binds a detached key to a value again, at the end of the packed order. Constant time where
+    /// no vector moves.
     ///
-    /// `NotDetached` exactly where the key isn't detached, else `Memory` where memory was refused;
-    /// both hand the value back, and the map holds what it held.
+    /// `NotDetached` exactly where the key isn't detached, where Rust panics, else `Memory` where
+    /// room in the lists of keys and values was refused; both hand the value back, and the map holds
+    /// what it held. After a `reserve` no memory is asked for.
     pub fn reattach(&mut self, key: K, value: V) -> Result<(), ReattachError<V>>
         ensures ok { OnOk result (Reattaches self.old.content (K.data_of key) value self.new.content) }
         ensures order { OnOk result (Appends self.old (K.data_of key) value self.new) }

@@ -10,6 +10,8 @@ use std::iter::FusedIterator;
 
 /// A walk that takes the pairs out of a map, from the back of the packed order. Once it is dropped,
 /// no key of the map is live.
+///
+/// `DenseSlotMap::drain` makes it. Its drop removes the keys that are left.
 pub struct Drain<'a, K: Key, V> {
     map: &'a mut DenseSlotMap<K, V>,
 }
@@ -64,6 +66,16 @@ impl<K: Key, V: Drop> DenseSlotMap<K, V> {
     ghost use Rattle.slotmap_dense.specs.Drain.{drain_map, drain_lender, DrainLists};
 
     /// Takes the live keys with their values out, from the back of the packed order.
+    ///
+    /// Each key is removed as it comes, as `remove` does, and no pair moves. The walk may be dropped
+    /// at any step, and then the keys that are left are removed too. Detached keys stay detached.
+    /// Each step takes constant time.
+    ///
+    /// ```
+    /// for (key, value) in map.drain() {
+    ///     println!(rt; "{key:?}: {value}")?;
+    /// }
+    /// ```
     pub fn drain(&mut self) -> Drain<'_, K, V>
         ensures map { drain_map result ≡ self.old }
         ensures same_reference { drain_lender result ≡ self.entry.ghost_name }

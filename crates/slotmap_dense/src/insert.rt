@@ -47,7 +47,21 @@ impl<K: Key, V: Drop> DenseSlotMap<K, V> {
         key
     }
 
-    /// Stores a value under a new key, and answers the key. Constant time where no vector moves.
+    /// Stores a value under a new key, at the end of the packed order, and answers the key. Constant
+    /// time where no vector moves.
+    ///
+    /// The place that was freed last is used; where none is vacant a new place is made. `Full`
+    /// exactly where 4294967294 keys are live, detached or retired, else `Memory` where a new place,
+    /// or room in the lists of keys and values, was refused; both hand the value back, and the map
+    /// holds what it held. In Rust a full map panics, and want of memory aborts.
+    ///
+    /// ```
+    /// let first = map.insert(5).ok()?;
+    /// map.remove(first);
+    /// let second = map.insert(6).ok()?;
+    /// assert_eq!(rt; second.data().idx(), first.data().idx());
+    /// assert!(rt; second != first);
+    /// ```
     #[inline(always)]
     pub fn insert(&mut self, value: V) -> Result<K, InsertError<V>>
         ensures ok { IfOk result (λ key. Inserts self.old.content (K.data_of key) value self.new.content) }
@@ -64,7 +78,17 @@ impl<K: Key, V: Drop> DenseSlotMap<K, V> {
         Ok(self.append(value))
     }
 
-    /// Stores the value that the closure gives for the new key, and answers the key.
+    /// Stores the value that the closure gives for the new key, and answers the key. Costs as
+    /// `insert`.
+    ///
+    /// There is room before the closure is called, once and on the key that will be answered; in
+    /// Rust the closure runs before the vectors grow. On `Full` and `Memory`, which come as at
+    /// `insert`, the closure is dropped uncalled.
+    ///
+    /// ```
+    /// let key = map.insert_with_key(|key: DefaultKey| key.data().idx()).ok()?;
+    /// assert_eq!(rt; map.get(key).copied(), Some(key.data().idx()));
+    /// ```
     pub fn insert_with_key<F: FnOnce(K) -> V>(&mut self, f: F) -> Result<K, InsertWithError>
     where
         F: Drop,
@@ -87,7 +111,16 @@ impl<K: Key, V: Drop> DenseSlotMap<K, V> {
         Ok(key)
     }
 
-    /// Stores the value that the closure gives for the new key, and answers the key.
+    /// Stores the value that the closure gives for the new key, and answers the key. Costs as
+    /// `insert`.
+    ///
+    /// As `insert_with_key`; and where the closure answers an error nothing changes, the error is
+    /// handed on in `Closure`, and the next insert answers the key that the closure saw.
+    ///
+    /// ```
+    /// let refused = map.try_insert_with_key(|_| Err::<u32, u64>(9));
+    /// assert!(rt; matches!(refused, Err(TryInsertError::Closure(9))));
+    /// ```
     pub fn try_insert_with_key<F: FnOnce(K) -> Result<V, E>, E>(
         &mut self,
         f: F,

@@ -51,7 +51,8 @@ impl<K: Key, V: Clone> IntoIter<K, V> {
     /// A second walk over the pairs that are still to come, with clones of the values.
     ///
     /// The caller answers for it that a clone of a value equals the value. Where there is no memory
-    /// it refuses, and the walk stays as it is.
+    /// it refuses, and the walk stays as it is. It copies every key of the map, and clones the values
+    /// that are still to come.
     pub fn clone(&self) -> Result<Self, AllocError>
         requires { (x y : V) → V.is_clone x y → y ≡ x }
         ensures { IfOk result (λ copy. copy ≡ self.now) }

@@ -98,12 +98,18 @@ impl<K: Key, V: Drop> DenseSlotMap<K, V> {
     /// A walk over the live keys and their values, in packed order, each value lent for writing.
     ///
     /// Once the walk ends, each key has the last value written through its reference, and all else
-    /// is as before.
+    /// is as before. It is made in constant time, and takes no memory.
+    ///
+    /// ```
+    /// for (_key, value) in map.iter_mut() {
+    ///     *value = *value + 1;
+    /// }
+    /// ```
     pub fn iter_mut(&mut self) -> IterMut<'_, K, V>
         ensures* writes_back { sem 𝓛 (lends_walk K.row V.row K.Key self.entry (iter_mut_name result)) }
         ensures in_order { iter_mut_rest K.data_of result ≡ zip self.old.keys self.old.values }
         ensures ready { IterMutCanStep result }
-        ensures was_valid { IsDense self.old }
+        ensures valid { IsDense self.old }
     {
         IterMut {
             keys: self.keys.iter(),
@@ -111,12 +117,13 @@ impl<K: Key, V: Drop> DenseSlotMap<K, V> {
         }
     }
 
-    /// A walk over the values of the live keys, in packed order, each lent for writing.
+    /// A walk over the values of the live keys, in packed order, each lent for writing. It costs the
+    /// same as [`DenseSlotMap::iter_mut`], and ends as it does.
     pub fn values_mut(&mut self) -> ValuesMut<'_, K, V>
         ensures* writes_back { sem 𝓛 (lends_walk K.row V.row K.Key self.entry (values_mut_name result)) }
         ensures in_order { values_mut_rest result ≡ self.old.values }
         ensures runs { YieldsMutRefsInOrder (values_mut_steps {K = K} {V = V}) values_mut_rest }
-        ensures was_valid { IsDense self.old }
+        ensures valid { IsDense self.old }
     {
         ValuesMut {
             values: self.values.iter_mut(),

@@ -39,6 +39,26 @@ use std::alloc::{AllocError, Global};
 use std::marker::Model;
 
 /// Values under keys that the map hands out, in a vector with no gaps.
+///
+/// An insert answers a new key, and the key is live until its value is removed. Its place is then
+/// used again, the place that was freed last first, under a newer key: so a key that was removed is
+/// never found again, and no key is handed out twice. A key of the last version that is removed
+/// retires its place, which no insert uses from then on; in Rust its versions start again.
+///
+/// The live keys stand in a list, and their values at the same positions in another, with no gaps:
+/// the packed order. An insert appends to both; a removal puts the last pair where the removed one
+/// stood. A walk goes over these lists alone, however many places the map has.
+///
+/// A live key can be detached: its value is taken out, and its place is kept until the key is bound
+/// again by `reattach`. At most 4294967294 keys can be live or detached or have retired places.
+///
+/// ```
+/// let mut map: DenseSlotMap<DefaultKey, u32> = DenseSlotMap::new(alloc).ok()?;
+/// let key = map.insert(5).ok()?;
+/// assert_eq!(rt; map.get(key).copied(), Some(5));
+/// assert_eq!(rt; map.remove(key), Some(5));
+/// assert!(rt; !map.contains_key(key));
+/// ```
 #[derive(Drop)]
 pub struct DenseSlotMap<K: Key, V> {
     // The position of each live key.
@@ -78,7 +98,9 @@ pub(crate) fn make_room_in<T>(items: &mut Vec<T>, additional: usize) -> Result<(
 }
 
 impl<V: Drop> DenseSlotMap<DefaultKey, V> {
-    /// An empty map with the default key type.
+    /// An empty map with the default key type. Takes memory for the sentinel's place.
+    ///
+    /// `Memory` where that was refused.
     pub fn new(alloc: Global) -> Result<Self, ReserveError>
         ensures starts { IfOk result (λ made. IsNew made.content) }
         ensures empty { IfOk result IsEmpty }
@@ -90,6 +112,8 @@ impl<V: Drop> DenseSlotMap<DefaultKey, V> {
     }
 
     /// An empty map with the default key type, and with room for `capacity` keys.
+    ///
+    /// `TooGreat` exactly where that is over 4294967294, else `Memory` where memory was refused.
     pub fn with_capacity(alloc: Global, capacity: usize) -> Result<Self, ReserveError>
         ensures starts { IfOk result (λ made. IsNew made.content) }
         ensures empty { IfOk result IsEmpty }
@@ -104,7 +128,9 @@ impl<V: Drop> DenseSlotMap<DefaultKey, V> {
 }
 
 impl<K: Key, V: Drop> DenseSlotMap<K, V> {
-    /// An empty map.
+    /// An empty map. Takes memory for the sentinel's place.
+    ///
+    /// `Memory` where that was refused.
     pub fn with_key(alloc: Global) -> Result<Self, ReserveError>
         ensures starts { IfOk result (λ made. IsNew made.content) }
         ensures empty { IfOk result IsEmpty }
@@ -115,7 +141,10 @@ impl<K: Key, V: Drop> DenseSlotMap<K, V> {
         DenseSlotMap::with_capacity_and_key(alloc, 0)
     }
 
-    /// An empty map with room for `capacity` keys.
+    /// An empty map with room for `capacity` keys: so many inserts that follow aren't refused.
+    ///
+    /// `TooGreat` exactly where that is over 4294967294, else `Memory` where memory was refused.
+    /// Constant time beside the requests for memory.
     pub fn with_capacity_and_key(alloc: Global, capacity: usize) -> Result<Self, ReserveError>
         ensures starts { IfOk result (λ made. IsNew made.content) }
         ensures empty { IfOk result IsEmpty }
@@ -159,7 +188,8 @@ impl<K: Key, V: Drop> DenseSlotMap<K, V> {
         self.len() == 0
     }
 
-    /// For how many keys the map has memory. Constant time.
+    /// How many keys the map has memory for: the least that its places, its list of keys and its
+    /// list of values have room for. Constant time.
     pub fn capacity(&self) -> usize
         ensures value { result ≡ self.now.content.capacity }
         ensures valid { IsDense self.now }
@@ -173,8 +203,9 @@ impl<K: Key, V: Drop> DenseSlotMap<K, V> {
     ///
     /// `TooGreat` exactly where the live, detached and retired keys with `additional` are more than
     /// 4294967294, else `Memory` where memory was refused; either changes nothing but the capacity.
-    /// Where there is room already nothing is asked for. Linear in the number of places where they
-    /// move, else constant time.
+    /// Where there is room already nothing is asked for. Rust counts detached places as free.
+    ///
+    /// Linear in the number of places where the vectors move, else constant time.
     pub fn reserve(&mut self, additional: usize) -> Result<(), ReserveError>
         ensures makes_room { MakesRoom self.old additional (IsOk result) self.new }
         ensures err { IfErr result (RefusesCapacity (used self.old.content + additional)) }

@@ -47,7 +47,15 @@ pub(crate) fn close_gap<K: Key, V: Drop>(
 impl<K: Key, V: Drop> DenseSlotMap<K, V> {
     /// Takes a live key's value out, or answers none where the key isn't live. Constant time.
     ///
-    /// The last key and its value take their place in the packed order.
+    /// The last key and its value take their place in the packed order. The place is the first that
+    /// an insert uses from then on, under a newer key; after the last key of a place, of version
+    /// 4294967295, the place is retired, where in Rust its versions start again. Takes no memory.
+    ///
+    /// ```
+    /// let key = map.insert(5).ok()?;
+    /// assert_eq!(rt; map.remove(key), Some(5));
+    /// assert_eq!(rt; map.remove(key), None);
+    /// ```
     #[inline(always)]
     pub fn remove(&mut self, key: K) -> Option<V>
         ensures value { result ≡ map.get self.old.content.live (K.data_of key) }

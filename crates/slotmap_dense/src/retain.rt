@@ -1,7 +1,8 @@
 //! The calls that go over all live keys of a map.
 
-ghost use Rattle.std.specs.Prelude.{◌≡◌, ◌<◌, ◌+◌, ◌++◌, ◌∷◌, [], IfSome, IfNone, OnOk, OnErr, Some, List, map as list_map, length, slice_get};
+ghost use Rattle.std.specs.Prelude.{◌≡◌, ◌<◌, ◌+◌, ◌++◌, ◌∷◌, [], IfSome, IfNone, OnOk, OnErr, Some, List, map as list_map, length, slice_get, reverse};
 ghost use Rattle.std.specs.FinMap as map;
+ghost use Rattle.std.specs.List.{zip};
 ghost use Rattle.slotmap_core.specs.Transition.{Leaves, Removes};
 ghost use Rattle.slotmap_core.specs.Listing.{IsListing, IsKeyListing};
 ghost use Rattle.slotmap_core.specs.Retain.{RetainsBy, CallableOnEach};
@@ -27,58 +28,6 @@ impl<K: Key, V: Drop> DenseSlotMap<K, V> {
             Some(value) => Some((key, value)),
             None => unreachable!(),
         }
-    }
-
-    /// Removes every live key, and drops its value.
-    ///
-    /// The keys are removed from the back of the packed order, and the capacity stays.
-    pub fn clear(&mut self)
-        ensures empty { self.new.content.live ≡ map.empty }
-        ensures none { IsEmpty self.new }
-        ensures leaves { Leaves self.old.content self.new.content }
-        ensures order { FreesFromBack self.old self.new }
-        ensures valid { StaysValid self.old self.new }
-    {
-        self.note_valid();
-        while let Some(_pair) = self.take_last() {}
-    }
-
-    /// Appends every live key to `out`, in packed order.
-    ///
-    /// It first asks for all the room that it needs. Where there is no memory for it, it is refused,
-    /// and `out` stays as it is. Rust lacks this call.
-    pub fn keys_into(&self, out: &mut Vec<K>) -> Result<(), OutOfMemory>
-        ensures listed { OnOk result ((keys : List K) × (out.new.items ≡ out.old.items ++ keys) × IsKeyListing self.now.content.live (list_map K.data_of keys)) }
-        ensures unchanged { OnErr result (out.new.items ≡ out.old.items) }
-        ensures valid { IsDense self.now }
-    {
-        self.note_valid();
-        out.reserve(self.keys.len())?;
-        for index in 0..self.keys.len() {
-            out.push_reserved(self.keys[index]);
-        }
-        Ok(())
-    }
-
-    /// Takes every live key with its value out, and appends them to `out`, from the back of the
-    /// packed order.
-    ///
-    /// It first asks for all the room that it needs. Where there is no memory for it, it is refused,
-    /// and the map and `out` stay as they are. Rust lacks this call.
-    pub fn drain_into(&mut self, out: &mut Vec<(K, V)>) -> Result<(), OutOfMemory>
-        ensures listed { OnOk result ((pairs : List (K × V)) × (out.new.items ≡ out.old.items ++ pairs) × IsListing self.old.content.live (list_map (λ p. (K.data_of p.0, p.1)) pairs)) }
-        ensures empty { OnOk result (self.new.content.live ≡ map.empty) }
-        ensures leaves { OnOk result (Leaves self.old.content self.new.content) }
-        ensures order { OnOk result (FreesFromBack self.old self.new) }
-
-        ensures unchanged { OnErr result ((self.new ≡ self.old) × (out.new.items ≡ out.old.items)) }
-        ensures valid { StaysValid self.old self.new }
-    {
-        out.reserve(self.len())?;
-        while let Some(pair) = self.take_last() {
-            out.push_reserved(pair);
-        }
-        Ok(())
     }
 
     // The key at a position of the packed order.
@@ -111,7 +60,13 @@ impl<K: Key, V: Drop> DenseSlotMap<K, V> {
     ///
     /// What `f` writes to a value that stays is kept. The keys are visited in packed order, and
     /// where one is removed, the last one takes its place and is visited next. Detached keys aren't
-    /// visited, and stay detached.
+    /// visited, and stay detached. It goes over the live keys alone, in constant time each beside
+    /// the calls. The contract leaves open in which order the keys stand then, and which of the freed
+    /// places is used first.
+    ///
+    /// ```
+    /// map.retain(|_, value| *value % 2 == 0);
+    /// ```
     pub fn retain<F: FnMut(K, &mut V) -> bool>(&mut self, mut f: F)
     where
         F: Drop,
@@ -131,5 +86,66 @@ impl<K: Key, V: Drop> DenseSlotMap<K, V> {
                 self.take_at(position);
             }
         }
+    }
+
+    /// Removes every live key, and drops its value.
+    ///
+    /// The keys are removed from the back of the packed order, and the capacity stays. Detached keys
+    /// stay detached. It goes over the live keys alone.
+    ///
+    /// ```
+    /// map.clear();
+    /// assert!(rt; map.is_empty());
+    /// ```
+    pub fn clear(&mut self)
+        ensures empty { self.new.content.live ≡ map.empty }
+        ensures none { IsEmpty self.new }
+        ensures leaves { Leaves self.old.content self.new.content }
+        ensures order { FreesFromBack self.old self.new }
+        ensures valid { StaysValid self.old self.new }
+    {
+        self.note_valid();
+        while let Some(_pair) = self.take_last() {}
+    }
+
+    /// Appends every live key to `out`, in packed order.
+    ///
+    /// It first asks for all the room that it needs. Where there is no memory for it, it is refused,
+    /// and `out` stays as it is. It goes over the live keys alone. Rust lacks this call.
+    pub fn keys_into(&self, out: &mut Vec<K>) -> Result<(), OutOfMemory>
+        ensures ok { OnOk result ((keys : List K) × (out.new.items ≡ out.old.items ++ keys) × IsKeyListing self.now.content.live (list_map K.data_of keys)) }
+        ensures in_order { OnOk result (list_map K.data_of out.new.items ≡ list_map K.data_of out.old.items ++ self.now.keys) }
+        ensures unchanged { OnErr result (out.new.items ≡ out.old.items) }
+        ensures valid { IsDense self.now }
+    {
+        self.note_valid();
+        out.reserve(self.keys.len())?;
+        for index in 0..self.keys.len() {
+            out.push_reserved(self.keys[index]);
+        }
+        Ok(())
+    }
+
+    /// Takes every live key with its value out, and appends them to `out`, from the back of the
+    /// packed order.
+    ///
+    /// It first asks for all the room that it needs. Where there is no memory for it, it is refused,
+    /// and the map and `out` stay as they are. Detached keys stay detached. Rust lacks this call.
+    pub fn drain_into(&mut self, out: &mut Vec<(K, V)>) -> Result<(), OutOfMemory>
+        ensures ok { OnOk result ((pairs : List (K × V)) × (out.new.items ≡ out.old.items ++ pairs) × IsListing self.old.content.live (list_map (λ p. (K.data_of p.0, p.1)) pairs)) }
+        ensures in_order { OnOk result (list_map (λ p. (K.data_of p.0, p.1)) out.new.items
+            ≡ list_map (λ p. (K.data_of p.0, p.1)) out.old.items ++ reverse (zip self.old.keys self.old.values)) }
+        ensures empty { OnOk result (self.new.content.live ≡ map.empty) }
+        ensures leaves { OnOk result (Leaves self.old.content self.new.content) }
+        ensures order { OnOk result (FreesFromBack self.old self.new) }
+
+        ensures unchanged { OnErr result ((self.new ≡ self.old) × (out.new.items ≡ out.old.items)) }
+        ensures valid { StaysValid self.old self.new }
+    {
+        out.reserve(self.len())?;
+        while let Some(pair) = self.take_last() {
+            out.push_reserved(pair);
+        }
+        Ok(())
     }
 }

@@ -42,7 +42,7 @@ impl<K: Key, V: Drop> DenseSlotMap<K, V> {
     pub fn values_as_mut_slice(&mut self) -> &mut [V]
         ensures* writes_back { sem 𝓛 (lends_values K.row V.row K.Key self.entry result) }
         ensures value { result.now ≡ self.old.values }
-        ensures was_valid { IsDense self.old }
+        ensures valid { IsDense self.old }
     {
         self.values.as_mut_slice()
     }
@@ -52,7 +52,7 @@ impl<K: Key, V: Drop> DenseSlotMap<K, V> {
         ensures* writes_back { sem 𝓛 (lends_walk K.row V.row K.Key self.entry result.1.ghost_name) }
         ensures keys { list_map K.data_of result.0.now ≡ self.old.keys }
         ensures values { result.1.now ≡ self.old.values }
-        ensures was_valid { IsDense self.old }
+        ensures valid { IsDense self.old }
     {
         (self.keys.as_slice(), self.values.as_mut_slice())
     }

@@ -67,8 +67,8 @@ impl<K: Key, V: Drop> DenseSlotMap<K, V> {
         Ok(list)
     }
 
-    /// The map that a list of slots describes; its values are moved into the map, and packed in the
-    /// list's order.
+    /// The map that a list of slots describes; its values are moved into the map. They are packed in
+    /// the list's order, of which the contract says nothing.
     ///
     /// Each odd version from position 1 on is that of a live key, whose index is the position. An
     /// even version other than 0 is that of a vacant place, whose next key has the version after

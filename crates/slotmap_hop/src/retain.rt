@@ -36,7 +36,8 @@ impl<K: Key, V: Drop> HopSlotMap<K, V> {
     /// `false`.
     ///
     /// What `f` writes to a value that stays is kept. The keys are visited by ascending index. It
-    /// passes a block of vacant places in one step; retired places are passed one by one.
+    /// passes a block of vacant places in one step; retired places are passed one by one. The
+    /// contract leaves open in which order the blocks of vacant places stand then.
     ///
     /// ```
     /// map.retain(|_, value| *value % 2 == 0);
@@ -63,7 +64,8 @@ impl<K: Key, V: Drop> HopSlotMap<K, V> {
     /// Removes every live key, and drops its value.
     ///
     /// The keys are removed as `remove` does, and the capacity stays. It passes a block of vacant
-    /// places in one step.
+    /// places in one step. The contract leaves open in which order the blocks of vacant places stand
+    /// then.
     ///
     /// ```
     /// map.clear();

@@ -1,9 +1,10 @@
-use Rattle.std.proofs.Common.{◌++◌, ◌∷◌, [], length, map as list_map, append-nil, append_assoc, sym, ap, subst, ◌∙◌, arith}
+use Rattle.std.proofs.Common.{◌++◌, ◌∷◌, [], length, map as list_map, append-nil, append_assoc, reverse, refl, sym, ap, subst, ◌∙◌, arith}
 use Rattle.std.proofs.lemmas.List.{map-append, length_push}
+use Rattle.std.specs.List.{zip}
 use Rattle.slotmap_core.specs.Key.{Key}
 use Rattle.slotmap_core.specs.Listing.{IsListingBut}
 use Rattle.slotmap_core.proofs.ListingLemmas.{IsListingBut-start, IsListingBut-take, IsListingBut-done}
-use Rattle.slotmap_dense.proofs.SweepLemmas.{Taken-start, Taken-next, none_left, len_keys}
+use Rattle.slotmap_dense.proofs.SweepLemmas.{Taken-start, Taken-next, last_first, none_left, len_keys}
 use Rattle.slotmap_dense.proofs.DenseSlotMap.drain_into.Goals as goal
 
 pub loop-pair-init : goal.loop-pair-init
@@ -12,6 +13,7 @@ loop-pair-init g c = record {
   pairs = [];
   pushed = c.reserve.ensures.items ∙ sym (append-nil c.args.out.now.items);
   listed = IsListingBut-start c.args.self.now.content.live;
+  back = refl;
   room = omega (arith, c.in_ok-reserve.ensures.ok, c.len.ensures.value, len_keys c.args.self.now c.len.ensures.valid);
 }
 
@@ -27,11 +29,21 @@ loop-pair-preserved g c =
       pairs = at.invariant.pairs ++ pair ∷ [];
       pushed = c.push_reserved.ensures.items ∙ ap (λ xs. xs ++ pair ∷ []) at.invariant.pushed ∙ append_assoc c.args.out.now.items at.invariant.pairs (pair ∷ []);
       listed = rw (map-append {B = Key × g.row.V.Denot} (λ p. (g.K.Key.data_of p.0, p.1)) at.invariant.pairs (pair ∷ []), takes.1.live) (IsListingBut-take c.args.self.now.content.live before at.self.content.live key pair.1 at.invariant.listed takes.0);
+      back = at.invariant.back ∙ ap (λ es. before ++ es) (last_first g.K.Key.data_of at.self c.take_last.new.self pair takes c.in-Some.ensures.valid.after)
+          ∙ sym (rw (map-append {B = Key × g.row.V.Denot} (λ p. (g.K.Key.data_of p.0, p.1)) at.invariant.pairs (pair ∷ [])) (append_assoc before ((key, pair.1) ∷ []) (reverse (zip c.take_last.new.self.keys c.take_last.new.self.values))));
       room = omega (arith, at.invariant.room, ap length takes.2, length_push c.take_last.new.self.keys key, c.push_reserved.ensures.len, c.push_reserved.ensures.capacity);
     }
 
-pub returns-clause-listed : goal.returns-clause-listed
-returns-clause-listed g c =
+pub returns-clause-ok : goal.returns-clause-ok
+returns-clause-ok g c =
     let at = c.loop-pair in
     let none = none_left at.self at.invariant.taken.well c.in_default.ensures.takes.0 in
     (at.invariant.pairs, at.invariant.pushed, IsListingBut-done c.args.self.now.content.live _ (subst (IsListingBut c.args.self.now.content.live (list_map (λ p. (g.K.Key.data_of p.0, p.1)) at.invariant.pairs)) none.0 at.invariant.listed))
+
+pub returns-clause-in_order : goal.returns-clause-in_order
+returns-clause-in_order g c =
+    let at = c.loop-pair in
+    let none = none_left at.self at.invariant.taken.well c.in_default.ensures.takes.0 in
+    let all = at.invariant.back ∙ ap (λ ks. list_map (λ p. (g.K.Key.data_of p.0, p.1)) at.invariant.pairs ++ reverse (zip ks at.self.values)) none.1.keys ∙ append-nil (list_map (λ p. (g.K.Key.data_of p.0, p.1)) at.invariant.pairs) in
+    ap (list_map (λ p. (g.K.Key.data_of p.0, p.1))) at.invariant.pushed ∙ map-append {B = Key × g.row.V.Denot} (λ p. (g.K.Key.data_of p.0, p.1)) c.args.out.now.items at.invariant.pairs
+    ∙ ap (λ es. list_map (λ p. (g.K.Key.data_of p.0, p.1)) c.args.out.now.items ++ es) (sym all)

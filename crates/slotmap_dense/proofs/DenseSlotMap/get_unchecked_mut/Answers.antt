@@ -24,6 +24,6 @@ returns g c =
       record {
         writes_back = tt;
         value = rw (← c.data.ensures.value) (ap (λ m. map.get m.content.live c.data.result) (sym c.self.view_is) ∙ found.gives ∙ sym (ap Some (same_read c.self.inside.values.items _ _ _ c.index_mut.ensures.value found.there)));
-        was_valid = subst IsDense c.self.view_is (dense_valid g.K.Key.data_of c.self.inside.slots c.self.inside.keys c.self.inside.values c.self.invariant);
+        valid = subst IsDense c.self.view_is (dense_valid g.K.Key.data_of c.self.inside.slots c.self.inside.keys c.self.inside.values c.self.invariant);
       },
     )
