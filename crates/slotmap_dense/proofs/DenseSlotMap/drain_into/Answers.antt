@@ -44,6 +44,7 @@ pub returns-clause-in_order : goal.returns-clause-in_order
 returns-clause-in_order g c =
     let at = c.loop-pair in
     let none = none_left at.self at.invariant.taken.well c.in_default.ensures.takes.0 in
-    let all = at.invariant.back ∙ ap (λ ks. list_map (λ p. (g.K.Key.data_of p.0, p.1)) at.invariant.pairs ++ reverse (zip ks at.self.values)) none.1.keys ∙ append-nil (list_map (λ p. (g.K.Key.data_of p.0, p.1)) at.invariant.pairs) in
+    let given = list_map (λ p. (g.K.Key.data_of p.0, p.1)) at.invariant.pairs in
+    let all = at.invariant.back ∙ ap (λ ks. given ++ reverse (zip ks at.self.values)) none.1.keys ∙ append-nil given in
     ap (list_map (λ p. (g.K.Key.data_of p.0, p.1))) at.invariant.pushed ∙ map-append {B = Key × g.row.V.Denot} (λ p. (g.K.Key.data_of p.0, p.1)) c.args.out.now.items at.invariant.pairs
     ∙ ap (λ es. list_map (λ p. (g.K.Key.data_of p.0, p.1)) c.args.out.now.items ++ es) (sym all)
