@@ -8,5 +8,7 @@ pub mod GapLemmas
 pub mod SweepLemmas
 pub mod RestLemmas
 pub mod DrainLemmas
+pub mod RetainLemmas
 pub mod ListSlots
+pub mod OrderLemmas
 pub mod ListReads

@@ -1,5 +1,5 @@
 -- A list of slots that is read into a list of positions and two packed lists.
-use Rattle.std.proofs.Common.{◌≡◌, ◌≢◌, inl, inr, ℕ, zero, suc, ◌+◌, ◌≤◌, ◌%◌, Bool, true, false, ◌==◌, if◌then◌else◌, List, [], ◌∷◌, ◌++◌, length, slice_get, map as list_map, Option, None, Some, is_some, option_map, refl, sym, ap, subst, ◌∙◌, arith}
+use Rattle.std.proofs.Common.{◌≡◌, ◌≢◌, inl, inr, ℕ, zero, suc, ◌+◌, ◌<◌, ◌≤◌, ◌%◌, Bool, true, false, ◌==◌, if◌then◌else◌, List, [], ◌∷◌, ◌++◌, length, slice_get, map as list_map, Option, None, Some, is_some, option_map, refl, sym, ap, subst, ◌∙◌, arith}
 use Rattle.std.proofs.lemmas.Bool.{cases_eq}
 use Rattle.std.proofs.lemmas.List.{length_push, length-map, map_push}
 use Rattle.std.proofs.lemmas.Option.{slice_get-map, slice_get_within, same_Some}
@@ -17,12 +17,15 @@ use Rattle.slotmap_core.proofs.KeyLemmas.{keys_total, exact_keys}
 use Rattle.slotmap_core.proofs.Maps.{get_after_insert, get_inserted}
 use Rattle.slotmap_core.proofs.GatherLemmas.{slice_get_push, slice_get_push_other}
 use Rattle.slotmap_core.proofs.ContentsLemmas.{live_in, in_contents}
+use Rattle.slotmap_core.proofs.ContentLemmas.{some_is}
 use Rattle.slotmap_core.proofs.ListLemmas.{found_within}
+use Rattle.slotmap_core.proofs.OrderLemmas.{entries_none}
 use Rattle.slotmap_core.proofs.ListReadLemmas.{reads_as}
 use Rattle.slotmap_core.proofs.PlacesLemmas.{key}
 use Rattle.slotmap_dense.specs.Packed.{IsPacked, IsSound, live_of, dense_of}
 use Rattle.slotmap_dense.proofs.PackedLemmas.{IsPacked-push, live-push, get_other}
 use Rattle.slotmap_dense.proofs.WellFormed.{same_keys}
+use Rattle.slotmap_dense.proofs.OrderLemmas.{keys_last}
 
 same_option : {A : Type 0} (a b : Option A) → ((x : A) → a ≡ Some x → b ≡ Some x) → ((x : A) → b ≡ Some x → a ≡ Some x) → a ≡ b
 same_option None None f g = refl
@@ -90,6 +93,13 @@ module _ {V : Type 0} (records : List (SlotRecord V)) (made : SlotRecord V) wher
             | inr other ↦ rw (at.2.is) (in_contents records q.index at.0 w (earlier q.index at.0 other at.1) at.2.odd at.2.value)
           ]
 
+-- the index of a live key is that of a record
+listed_before : {V : Type 0} (records : List (SlotRecord V)) (q : Key) → map.contains_key (contents records) q ≡ true → q.index < length records
+listed_before records q there =
+    let value = some_is (map.get (contents records) q) there in
+    let at = live_in records q value.0 value.1 in
+    slice_get_within records q.index at.0 at.1
+
 abbrev pub versions : {V : Type 0} → List (SlotRecord V) → List ℕ
 versions records = list_map (λ (s : SlotRecord _). s.version) records
 
@@ -104,6 +114,7 @@ pub record AreSplit {V : Type 0} (records : List (SlotRecord V)) (positions : Li
   pub lives : live_of keys values ≡ contents records
   pub same_length : length values ≡ length keys
   pub fewer : length keys ≤ length records
+  pub ascending : keys ≡ map.keys (contents records)
 
 nothing : (V : Type 0) → contents {V = V} [] ≡ map.empty
 unfolding contents
@@ -121,6 +132,7 @@ AreSplit-start V = record {
   lives = sym (nothing V);
   same_length = refl;
   fewer = omega arith;
+  ascending = sym (ap (λ m. map.keys m) (nothing V) ∙ ap (λ es. list_map (λ (e : Key × V). e.0) es) entries_none);
 }
 
 module _ {V : Type 0} (records : List (SlotRecord V)) (positions : List (SlotRecord ℕ)) (keys : List Key) (values : List V) (split : AreSplit records positions keys values) where
@@ -150,6 +162,8 @@ module _ {V : Type 0} (records : List (SlotRecord V)) (positions : List (SlotRec
         lives = live-push (contents positions) keys split.packed values split.same_length k v none ∙ ap (λ m. map.insert m k v) split.lives ∙ ap (λ q. map.insert (contents records) q v) k_there ∙ sym (contents-live records made v valued odd);
         same_length = omega (arith, length_push values v, length_push keys k, split.same_length);
         fewer = omega (arith, length_push keys k, length_push records made, split.fewer);
+        ascending = ap (λ ks. ks ++ k ∷ []) split.ascending ∙ sym (keys_last (contents records) k v (λ q there. omega (arith, listed_before records q there, ap (λ (x : Key). x.index) k_there)))
+            ∙ ap (λ m. map.keys m) (ap (λ q. map.insert (contents records) q v) k_there ∙ sym (contents-live records made v valued odd));
       }
 
   -- one without
@@ -163,6 +177,7 @@ module _ {V : Type 0} (records : List (SlotRecord V)) (positions : List (SlotRec
         lives = split.lives ∙ sym (contents-none records made none);
         same_length = split.same_length;
         fewer = omega (arith, length_push records made, split.fewer);
+        ascending = split.ascending ∙ ap (λ m. map.keys m) (sym (contents-none records made none));
       }
 
 -- what is gathered from two lists that look alike

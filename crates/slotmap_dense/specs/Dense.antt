@@ -32,6 +32,11 @@ module _ {V : Type 0} where
     pub same_length : length d.values ≡ length d.keys
     pub listed : IsListing d.content.live (zip d.keys d.values)
 
+  -- the live keys with their values, in packed order
+  pub record ListsPairs (d : Dense V) (pairs : List (Key × V)) : Type 0 where
+    pub listing : IsListing d.content.live pairs
+    pub in_order : pairs ≡ zip d.keys d.values
+
   -- nothing is held
   pub record IsEmpty (d : Dense V) : Type 0 where
     pub keys : d.keys ≡ []

@@ -5,3 +5,4 @@ pub mod Lends
 pub mod Rest
 pub mod Drain
 pub mod WalkMut
+pub mod Retain

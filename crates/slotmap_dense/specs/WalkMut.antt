@@ -5,6 +5,7 @@ use Rattle.std.specs.List.{zip}
 use Rattle.std.specs.Slice.Iter as slice
 use Rattle.std.specs.Map.Iter.{TakesFirst}
 use Rattle.slotmap_core.specs.Key.{Key}
+use Rattle.slotmap_dense.specs.Dense.{Dense}
 use Rattle.slotmap_dense.specs.declared.iter_mut.IterMut.{IterMut}
 use Rattle.slotmap_dense.specs.declared.iter_mut.ValuesMut.{ValuesMut}
 
@@ -20,6 +21,11 @@ module _ {K V : Type 0} where
   -- `next` may be called: as many keys as values are left
   abbrev pub IterMutCanStep : IterMut K V → Type 0
   IterMutCanStep s = length (slice.iter_mut_rest s.values) ≡ length (slice.iter_rest s.keys)
+
+  -- a walk over what the map holds, before its first step
+  pub record StartsIterMut (data_of : K → Key) (d : Dense V) (s : IterMut K V) : Type 0 where
+    pub in_order : iter_mut_rest data_of s ≡ zip d.keys d.values
+    pub ready : IterMutCanStep s
 
   -- a call of `next` at s gave r, which shows the first pair of s, and left t
   abbrev pub iter_mut_steps : (K → Key) → IterMut K V → Option (K × MutBor V) → IterMut K V → Type 0

@@ -67,10 +67,20 @@ impl<K: Key, V: Drop> DenseSlotMap<K, V> {
         Ok(values)
     }
 
-    // Whether each key is live, and no two are equal.
-    fn can_replace(&self, keys: &[K]) -> bool
+    /// Whether each key is live, and no two are equal: exactly then `replace_disjoint` and
+    /// `get_disjoint_mut` succeed. It looks up each key, and compares each two. Rust lacks this call.
+    ///
+    /// ```
+    /// if map.can_replace(&[a, b]) {
+    ///     let (first, second) = map.get_disjoint_unchecked_mut([a, b]);
+    ///     *first = *second;
+    /// }
+    /// ```
+    pub fn can_replace(&self, keys: &[K]) -> bool
         ensures which { IsTrue result ↔ CanReplace value_of self.now (map_list K.data_of keys.now) }
+        ensures valid { IsDense self.now }
     {
+        self.note_valid();
         for i in 0..keys.len() {
             let key = keys[i];
             if !self.contains_key(key) || keys[..i].contains(&key) {
@@ -97,6 +107,7 @@ impl<K: Key, V: Drop> DenseSlotMap<K, V> {
         requires apart { K.data_of first ≢ K.data_of second }
         ensures first { map.get self.old.content.live (K.data_of first) ≡ Some result.0.now }
         ensures second { map.get self.old.content.live (K.data_of second) ≡ Some result.1.now }
+        ensures valid { IsDense self.old }
     {
         let i = *self.slots.get_unchecked(first.data()) as usize;
         let j = *self.slots.get_unchecked(second.data()) as usize;
@@ -106,12 +117,14 @@ impl<K: Key, V: Drop> DenseSlotMap<K, V> {
     /// The values of two keys for writing, or none where one of them is not live, or the two are
     /// equal. It takes no memory, and constant time.
     ///
-    /// Of the map that it leaves the contract says that it is well formed, and not what the values
-    /// are then: for that call [`DenseSlotMap::replace_disjoint`]. In Rust there may be any number of
-    /// keys.
+    /// The contract says what the map holds before, and not what it holds after: neither after
+    /// `None`, nor once the two references end. A caller who has to know calls
+    /// [`DenseSlotMap::replace_disjoint`], or asks [`DenseSlotMap::can_replace`] first. In Rust there
+    /// may be any number of keys.
     pub fn get_disjoint_mut(&mut self, keys: [K; 2]) -> Option<(&mut V, &mut V)>
         ensures which { IsSome result ↔ CanReplace value_of self.old (map_list K.data_of keys) }
         ensures value { IfSome result (λ pair. AreValuesOf value_of self.old (map_list K.data_of keys) (pair.0.now ∷ pair.1.now ∷ [])) }
+        ensures valid { IsDense self.old }
     {
         if self.can_replace(&keys) {
             Some(self.get_disjoint_unchecked_mut(keys))
@@ -128,6 +141,7 @@ impl<K: Key, V: Drop> DenseSlotMap<K, V> {
     pub fn get_disjoint_unchecked_mut(&mut self, keys: [K; 2]) -> (&mut V, &mut V)
         requires { CanReplace value_of self.old (map_list K.data_of keys) }
         ensures value { AreValuesOf value_of self.old (map_list K.data_of keys) (result.0.now ∷ result.1.now ∷ []) }
+        ensures valid { IsDense self.old }
     {
         self.lend_two(keys[0], keys[1])
     }

@@ -63,7 +63,7 @@ impl<'a, K: Key, V: Drop> ExactSizeIterator for Drain<'a, K, V> {
 impl<'a, K: Key, V: Drop> FusedIterator for Drain<'a, K, V> {}
 
 impl<K: Key, V: Drop> DenseSlotMap<K, V> {
-    ghost use Rattle.slotmap_dense.specs.Drain.{drain_map, drain_lender, DrainLists};
+    ghost use Rattle.slotmap_dense.specs.Drain.{drain_map, drain_lender, DrainKeepsAlong, DrainLists, DrainInOrder};
 
     /// Takes the live keys with their values out, from the back of the packed order.
     ///
@@ -79,7 +79,10 @@ impl<K: Key, V: Drop> DenseSlotMap<K, V> {
     pub fn drain(&mut self) -> Drain<'_, K, V>
         ensures map { drain_map result ≡ self.old }
         ensures same_reference { drain_lender result ≡ self.entry.ghost_name }
+        // Laws of the steps, for callers that walk on.
+        ensures stays { DrainKeepsAlong K.data_of result }
         ensures lists { DrainLists K.data_of result }
+        ensures in_order { DrainInOrder K.data_of result }
         ensures valid { IsDense self.old }
     {
         self.note_valid();

@@ -2,8 +2,7 @@
 
 ghost use Rattle.std.specs.Prelude.{◌≡◌, ◌≤◌, length, Some, IfSome, IfOk};
 ghost use Rattle.std.specs.Iterator.{YieldsFirstBy, item_count, at_most, UpTo};
-ghost use Rattle.std.specs.List.{zip};
-ghost use Rattle.slotmap_core.specs.Listing.{IsListing};
+ghost use Rattle.slotmap_dense.specs.Dense.{ListsPairs};
 
 use crate::DenseSlotMap;
 use slotmap_core::keys::Key;
@@ -98,7 +97,7 @@ impl<K: Key, V: Drop> IntoIterator for DenseSlotMap<K, V> {
 
     type IntoIter = IntoIter<K, V>;
 
-    ghost into_iter_gives = { λ m it. IsListing m.content.live it × (it ≡ zip m.keys m.values) };
+    ghost into_iter_gives = { λ m it. ListsPairs m it };
 
     fn into_iter(self) -> IntoIter<K, V> {
         let DenseSlotMap {

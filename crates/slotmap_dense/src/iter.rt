@@ -4,7 +4,7 @@ ghost use Rattle.std.specs.Prelude.{◌≡◌, ◌≤◌, length, Some, IfSome, 
 ghost use Rattle.std.specs.Iterator.{YieldsFirstBy, item_count, at_most, UpTo};
 ghost use Rattle.std.specs.List.{zip};
 ghost use Rattle.slotmap_core.specs.Listing.{IsListing, IsKeyListing, IsValueListing};
-ghost use Rattle.slotmap_dense.specs.Dense.{IsDense};
+ghost use Rattle.slotmap_dense.specs.Dense.{IsDense, ListsPairs};
 
 use crate::DenseSlotMap;
 use slotmap_core::keys::Key;
@@ -255,7 +255,7 @@ impl<'a, K: Key, V> IntoIterator for &'a DenseSlotMap<K, V> {
 
     type IntoIter = Iter<'a, K, V>;
 
-    ghost into_iter_gives = { λ m it. IsListing m.now.content.live it × (it ≡ zip m.now.keys m.now.values) };
+    ghost into_iter_gives = { λ m it. ListsPairs m.now it };
 
     fn into_iter(self) -> Iter<'a, K, V> {
         self.iter()

@@ -7,7 +7,7 @@ ghost use Rattle.std.specs.Iterator.{at_most, UpTo};
 ghost use Rattle.std.specs.Iterator.Runs.{YieldsMutRefsInOrder};
 ghost use Rattle.std.specs.List.{zip};
 ghost use Rattle.slotmap_dense.specs.Dense.{IsDense};
-ghost use Rattle.slotmap_dense.specs.WalkMut.{iter_mut_rest, iter_mut_name, iter_mut_steps, IterMutCanStep, values_mut_rest, values_mut_name, values_mut_steps};
+ghost use Rattle.slotmap_dense.specs.WalkMut.{iter_mut_rest, iter_mut_name, iter_mut_steps, IterMutCanStep, StartsIterMut, values_mut_rest, values_mut_name, values_mut_steps};
 ghost use Rattle.slotmap_dense.specs.Lends.{lends_walk};
 
 use crate::DenseSlotMap;
@@ -137,11 +137,11 @@ impl<'a, K: Key, V: Drop> IntoIterator for &'a mut DenseSlotMap<K, V> {
 
     type IntoIter = IterMut<'a, K, V>;
 
-    ghost into_iter_gives = { λ m it. (iter_mut_rest K.data_of it ≡ zip m.now.keys m.now.values) × IterMutCanStep it };
+    ghost into_iter_gives = { λ m it. StartsIterMut K.data_of m.now it };
 
     fn into_iter(self) -> IterMut<'a, K, V>
         ensures* writes_back { sem 𝓛 (lends_walk K.row V.row K.Key self.entry (iter_mut_name result)) }
-        ensures into_iter_gives { (iter_mut_rest K.data_of result ≡ zip self.old.keys self.old.values) × IterMutCanStep result }
+        ensures into_iter_gives { StartsIterMut K.data_of self.old result }
     {
         self.iter_mut()
     }

@@ -10,6 +10,7 @@ ghost use Rattle.slotmap_core.specs.Key.{Key as KeyOf};
 ghost use Rattle.slotmap_dense.specs.Rest.{Comes, LeavesFrom};
 ghost use Rattle.slotmap_dense.specs.Dense.{IsDense, IsEmpty, TakesLast, FreesFromBack};
 ghost use Rattle.slotmap_dense.specs.Call.{StaysValid};
+ghost use Rattle.slotmap_dense.specs.Retain.{RetainsPacked};
 
 use crate::DenseSlotMap;
 use crate::remove::close_gap;
@@ -59,10 +60,9 @@ impl<K: Key, V: Drop> DenseSlotMap<K, V> {
     /// `false`.
     ///
     /// What `f` writes to a value that stays is kept. The keys are visited in packed order, and
-    /// where one is removed, the last one takes its place and is visited next. Detached keys aren't
-    /// visited, and stay detached. It goes over the live keys alone, in constant time each beside
-    /// the calls. The contract leaves open in which order the keys stand then, and which of the freed
-    /// places is used first.
+    /// where one is removed, as `remove` does, the last one takes its place and is visited next.
+    /// Detached keys aren't visited, and stay detached. It goes over the live keys alone, in
+    /// constant time each beside the calls.
     ///
     /// ```
     /// map.retain(|_, value| *value % 2 == 0);
@@ -73,6 +73,7 @@ impl<K: Key, V: Drop> DenseSlotMap<K, V> {
         // At each entry, as calls at other entries leave the closure.
         requires { CallableOnEach F.FnMut K.data_of f self.old.content.live }
         ensures retained { RetainsBy F.FnMut K.data_of f self.old.content.live self.new.content.live }
+        ensures packed { RetainsPacked F.FnMut K.data_of f self.old self.new }
         ensures leaves { Leaves self.old.content self.new.content }
         ensures valid { StaysValid self.old self.new }
     {

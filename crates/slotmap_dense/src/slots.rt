@@ -1,6 +1,7 @@
 //! Lists of slots: a map written out, and a map read back.
 
 ghost use Rattle.std.specs.Prelude.{◌≡◌, ◌<◌, ◌^◌, IfOk, IsOk, IfErr, IfSome, Some, false, length};
+ghost use Rattle.std.specs.FinMap as map;
 ghost use Rattle.slotmap_core.specs.Contents.{contents, start_stack};
 ghost use Rattle.slotmap_core.specs.ListRead.{ReadsAs};
 ghost use Rattle.slotmap_core.specs.Slots.{Accepts, RefusesStart};
@@ -58,7 +59,9 @@ impl<K: Key, V: Drop> DenseSlotMap<K, V> {
         requires { (x y : V) → V.is_clone x y → y ≡ x }
         ensures writes { IfOk result (λ list. Writes self.now.content list.items) }
         ensures contents { IfOk result (λ list. contents list.items ≡ self.now.content.live) }
+        ensures valid { IsDense self.now }
     {
+        self.note_valid();
         let positions = self.slots.to_slots()?;
         let mut list = Vec::with_capacity(*self.values.allocator(), positions.len())?;
         for index in 0..positions.len() {
@@ -67,8 +70,8 @@ impl<K: Key, V: Drop> DenseSlotMap<K, V> {
         Ok(list)
     }
 
-    /// The map that a list of slots describes; its values are moved into the map. They are packed in
-    /// the list's order, of which the contract says nothing.
+    /// The map that a list of slots describes; its values are moved into the map. The packed order
+    /// is that of the list, by ascending index.
     ///
     /// Each odd version from position 1 on is that of a live key, whose index is the position. An
     /// even version other than 0 is that of a vacant place, whose next key has the version after
@@ -87,6 +90,7 @@ impl<K: Key, V: Drop> DenseSlotMap<K, V> {
         ensures reads { IfOk result (λ made. ReadsAs false list.items made.content) }
         ensures stack { IfOk result (λ made. made.content.stack ≡ Some (start_stack list.items)) }
         ensures accepted { IsOk result → Accepts list.items 4294967295 }
+        ensures in_order { IfOk result (λ made. made.keys ≡ map.keys made.content.live) }
         ensures err { IfErr result (RefusesStart list.items 4294967295) }
         ensures valid { IfOk result IsDense }
     {

@@ -16,3 +16,4 @@ pub mod Walking
 pub mod Sweeping
 pub mod DrainLemmas
 pub mod ReadLemmas
+pub mod BlocksLeft

@@ -26,7 +26,7 @@ use Rattle.slotmap_hop.specs.Blocks.{Begins}
 use Rattle.slotmap_hop.specs.Links.{vacant_at, end_at}
 use Rattle.slotmap_hop.specs.HopContent.{HopContent, IsHopContent, IsNextLive, MayStand, hop_with_value}
 use Rattle.slotmap_hop.specs.Slots.{place_in, layout, places_of, hop_content, IsSound}
-use Rattle.slotmap_hop.specs.Walk.{StandsAt}
+use Rattle.slotmap_hop.specs.Walk.{StandsAt, CanGoOn}
 use Rattle.slotmap_hop.proofs.BlockLemmas.{clash}
 use Rattle.slotmap_hop.proofs.SlotReads.{length-places, place_at, free_when, links_read}
 use Rattle.slotmap_hop.proofs.SlotLemmas.{vacant_place, place_not_vacant, same_counts}
@@ -47,9 +47,13 @@ module _ {V : Type 0} (slots : List (Slot V)) (vacant elems : ℕ) (sound : IsSo
       begins (inl first) = λ left next. absurd (omega arith)
       begins (inr used) = λ left next. let same : start - 1 ≡ left = omega arith in ap (vacant_at (layout slots)) (sym same) ∙ sym (ap (λ f. f (start - 1)) (same_counts slots vacant elems sound c)) ∙ used
 
+  -- a look may begin there
+  pub look_begins : (c : ℕ) → MayStand (hop_content slots c).content start → CanGoOn slots 0 start
+  look_begins c may = record { stands = record { vacant = vacant; elems = elems; sound = sound; at_front = (passed-start c may).at_front }; passed = omega arith }
+
   module _ (place : ℕ) (passed : Passed slots start place) (inside : place < length slots) (s : Slot V) (found : slice_get slots place ≡ Some s) where
     stands : StandsAt slots place
-    stands = record { vacant = vacant; elems = elems; sound = sound; inside = omega arith; at_front = passed.at_front }
+    stands = record { vacant = vacant; elems = elems; sound = sound; at_front = passed.at_front }
 
     here : (st : State V) → s.state ≡ st → slice_get (places_of slots) place ≡ Some (place_in s.version st)
     here st is = place_at slots place s found ∙ ap (λ st. Some (place_in s.version st)) is
@@ -113,6 +117,10 @@ module _ {V : Type 0} (slots : List (Slot V)) (vacant elems : ℕ) (sound : IsSo
     | inl before ↦ before
     | inr from ↦ let at = live_at (places_of slots) q there in absurd (omega (arith, passed.none q there (omega arith), slice_get_within (places_of slots) q.index (Live q.version at.0) at.1, length-places slots))
   ]
+
+-- a look begins where it stands
+pub look_starts : {V : Type 0} (slots : List (Slot V)) (reads start : ℕ) → CanGoOn slots reads start → Passed slots start start
+look_starts slots reads start can = record { from = omega arith; at_front = can.stands.at_front; none = λ q there from. from }
 
 -- by which a loop over the live keys ends
 abbrev pub indices_left : {K : Type 0} → (K → Key) → Option K → ℕ

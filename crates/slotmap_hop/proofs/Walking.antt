@@ -1,6 +1,5 @@
 -- A walk passes a block of vacant places in one step.
-use Rattle.std.proofs.Common.{◌≡◌, ◌≢◌, ℕ, zero, suc, ◌+◌, ◌-◌, ◌*◌, ◌<◌, ◌≤◌, ◌^◌, ◌%◌, true, List, [], ◌∷◌, length, drop, get_or, set, slice_get, Some, refl, sym, ap, subst, ◌∙◌, inl, inr, arith}
-use Rattle.std.proofs.lemmas.Bool.{cases_lt}
+use Rattle.std.proofs.Common.{◌≡◌, ◌≢◌, ℕ, zero, suc, ◌+◌, ◌-◌, ◌*◌, ◌<◌, ◌≤◌, ◌^◌, ◌%◌, true, List, [], ◌∷◌, length, drop, get_or, set, slice_get, Some, refl, sym, ap, subst, ◌∙◌, arith}
 use Rattle.std.proofs.lemmas.Option.{slice_get_within, get_or_from_slice_get}
 use Rattle.std.proofs.lemmas.List.{drop_more, drop_all, drop-set-lt}
 use Rattle.std.specs.FinMap as map
@@ -19,12 +18,12 @@ use Rattle.slotmap_hop.specs.declared.links.State.TheVariants.{Occupied, Free, U
 use Rattle.slotmap_hop.specs.Blocks.{Begins, IsBlock}
 use Rattle.slotmap_hop.specs.Links.{vacant_at, end_at, fronts_of}
 use Rattle.slotmap_hop.specs.Slots.{place_in, layout, places_of, IsSound}
-use Rattle.slotmap_hop.specs.Walk.{retired_among, pairs_left, retired_left, StandsAt, IsWalk, CanGoOn, FindsLive, ReadsOnTheWay}
+use Rattle.slotmap_hop.specs.Walk.{retired_among, pairs_left, retired_left, StandsAt, IsWalk, CanGoOn, FindsLive, FindsNone, ReadsOnTheWay}
 use Rattle.slotmap_hop.proofs.BlockLemmas.{clash, back_of}
 use Rattle.slotmap_hop.proofs.Circle.{bounded_by_length, circle_block}
 use Rattle.slotmap_hop.proofs.Vacating.{zero_in_circle}
 use Rattle.slotmap_hop.proofs.SlotReads.{length-places, slot_within, place_at, free_when, links_read}
-use Rattle.slotmap_hop.proofs.SlotLemmas.{vacant_place, place_not_vacant, slots_fit, same_length, sound-used_up}
+use Rattle.slotmap_hop.proofs.SlotLemmas.{vacant_place, place_not_vacant, slots_fit, sound-used_up}
 
 drop-found : {X : Type 0} (xs : List X) (i : ℕ) (x : X) → slice_get xs i ≡ Some x → drop i xs ≡ x ∷ drop (i + 1) xs
 drop-found xs i x found = drop_more xs i x (slice_get_within xs i x found) ∙ ap (λ y. y ∷ drop (i + 1) xs) (get_or_from_slice_get xs i x x found)
@@ -67,14 +66,6 @@ module _ {V : Type 0} (slots : List (Slot V)) where
       let all = skip (back + 1 - front) front (λ x low high. block.inside x low (omega (arith, block.ordered))) in
       (all.0 ∙ ap (pairs_left slots) same, all.1 ∙ ap (retired_left slots) same)
 
-  pub more_inside : (i : ℕ) → 0 < length (pairs_left slots i) → i < length slots
-  more_inside i more = elim (cases_lt i (length slots)) [
-    | inl inside ↦ inside
-    | inr past ↦
-        let none : pairs_left slots i ≡ [] = ap (at_list i) (drop_all i (places_of slots) (omega (arith, length-places slots))) in
-        absurd (omega (arith, ap length none))
-  ]
-
   -- the block that begins where a walk stands
   pub block_here : (i : ℕ) → StandsAt slots i → vacant_at (layout slots) i ≡ true → IsBlock (vacant_at (layout slots)) i (end_at (layout slots) i)
   block_here i stands vacant =
@@ -91,7 +82,6 @@ module _ {V : Type 0} (slots : List (Slot V)) (reads0 start : ℕ) where
   -- on the way from one place to the next live one
   pub record OnTheWay (reads place : ℕ) : Type 0 where
     pub stands : StandsAt slots place
-    pub more : 0 < length (pairs_left slots place)
     pub same : pairs_left slots start ≡ pairs_left slots place
     pub few_vacant : vacant_at (layout slots) place ≡ true → reads + 2 * retired_left slots place ≤ reads0 + 2 * retired_left slots start
     pub few : reads + 2 * retired_left slots place ≤ reads0 + 2 * retired_left slots start + 1
@@ -102,7 +92,6 @@ module _ {V : Type 0} (slots : List (Slot V)) (reads0 start : ℕ) where
   pub way_begins : CanGoOn slots reads0 start → OnTheWay reads0 start
   way_begins can = record {
     stands = can.stands;
-    more = can.more;
     same = refl;
     few_vacant = λ vacant. omega arith;
     few = omega arith;
@@ -111,10 +100,11 @@ module _ {V : Type 0} (slots : List (Slot V)) (reads0 start : ℕ) where
     before = can.passed;
   }
 
-  module _ (reads place : ℕ) (way : OnTheWay reads place) where
-    pub way_inside : place < length slots
-    way_inside = more_inside slots place way.more
+  -- past all places nothing is left
+  pub way_ends : (reads place : ℕ) → OnTheWay reads place → length slots ≤ place → pairs_left slots start ≡ []
+  way_ends reads place way past = way.same ∙ ap (at_list slots place) (drop_all place (places_of slots) (omega (arith, length-places slots)))
 
+  module _ (reads place : ℕ) (way : OnTheWay reads place) (way_inside : place < length slots) where
     pub way_room : reads + 1 < 2 ^ 64
     way_room = omega (arith, way_inside, way.passed, way.before, slots_fit slots _ _ way.stands.sound)
 
@@ -134,10 +124,8 @@ module _ {V : Type 0} (slots : List (Slot V)) (reads0 start : ℕ) where
               vacant = way.stands.vacant;
               elems = way.stands.elems;
               sound = way.stands.sound;
-              inside = omega arith;
               at_front = λ again. clash (vacant_at (layout slots)) (end_at (layout slots) place + 1) again block.ends;
             };
-            more = omega (arith, way.more, ap length past.0);
             same = way.same ∙ past.0;
             few_vacant = λ again. clash (vacant_at (layout slots)) (end_at (layout slots) place + 1) again block.ends;
             few = omega (arith, past.1);
@@ -172,10 +160,8 @@ module _ {V : Type 0} (slots : List (Slot V)) (reads0 start : ℕ) where
               vacant = way.stands.vacant;
               elems = way.stands.elems;
               sound = way.stands.sound;
-              inside = omega (arith, way_inside);
               at_front = λ vacant left next. let same : left ≡ place = omega arith in rw same live;
             };
-            more = omega (arith, way.more, ap length past);
             same = way.same ∙ past;
             few_vacant = λ vacant. omega (arith, way.few, retired-retired slots place spent);
             few = omega (arith, way.few, retired-retired slots place spent);
@@ -185,8 +171,8 @@ module _ {V : Type 0} (slots : List (Slot V)) (reads0 start : ℕ) where
           }
 
       -- a live place is what the walk looks for
-      pub way_finds : (x : V) → s.state ≡ Occupied x → FindsLive slots start place s.version x
-      way_finds x is = let at = here (Occupied x) is in record { there = at; first = way.same ∙ pairs-live slots place s.version x at }
+      pub way_finds : (x : V) → s.state ≡ Occupied x → ((k : Key) → map.contains_key (live (places_of slots)) k ≡ true → start ≤ k.index → place ≤ k.index) → FindsLive slots start place s.version x
+      way_finds x is least = let at = here (Occupied x) is in record { there = at; first = way.same ∙ pairs-live slots place s.version x at; least = least }
 
       pub way_reads : (x : V) → s.state ≡ Occupied x → ReadsOnTheWay slots reads0 start (reads + 1) place
       way_reads x is =
@@ -211,8 +197,12 @@ module _ {V : Type 0} where
   len-retired ps = len-retired_from 0 ps
 
 module _ {V : Type 0} (slots : List (Slot V)) (reads place left : ℕ) (walk : IsWalk slots reads place left) where
-  pub can_go_on : 0 < left → CanGoOn slots reads place
-  can_go_on some = record { stands = walk.stands; more = omega (arith, walk.counted); passed = walk.passed }
+  pub can_go_on : CanGoOn slots reads place
+  can_go_on = record { stands = walk.stands; passed = walk.passed }
+
+  -- where something is left it is found
+  pub not_none : 0 < left → FindsNone slots place → ⊥
+  not_none some finds = omega (arith, walk.counted, ap length finds.none)
 
   module _ (found version : ℕ) (value : V) (reads' : ℕ) (finds : FindsLive slots place found version value) (way : ReadsOnTheWay slots reads place reads' found) where
     pub found_inside : found < length slots
@@ -227,7 +217,6 @@ module _ {V : Type 0} (slots : List (Slot V)) (reads place left : ℕ) (walk : I
         vacant = walk.stands.vacant;
         elems = walk.stands.elems;
         sound = walk.stands.sound;
-        inside = omega (arith, found_inside);
         at_front = λ vacant before next. let same : before ≡ found = omega arith in rw same (place_not_vacant slots found (Live version value) finds.there (λ n e. absurd (cc)));
       };
       counted = omega (arith, walk.counted, ap length finds.first);
@@ -245,7 +234,6 @@ module _ {V : Type 0} (slots : List (Slot V)) (reads place left : ℕ) (walk : I
           vacant = walk.stands.vacant;
           elems = walk.stands.elems - 1;
           sound = sound-used_up slots walk.stands.vacant walk.stands.elems walk.stands.sound found version value finds.there new same after;
-          inside = omega (arith, found_inside, same_length slots new found Retired after);
           at_front = subst (λ es. vacant_at es (found + 1) ≡ true → Begins (vacant_at es) (found + 1)) (sym same) walk_on.stands.at_front;
         };
         counted = walk_on.counted ∙ ap length (sym pairs-taken);
@@ -271,7 +259,6 @@ module _ {V : Type 0} (slots : List (Slot V)) (vacant elems : ℕ) (sound : IsSo
           vacant = vacant;
           elems = elems;
           sound = sound;
-          inside = omega arith;
           at_front = λ here. clash (vacant_at (layout slots)) (end_at (layout slots) 0 + 1) here first_place.ends;
         };
         counted = sym sound.elems_live ∙ map.len-entries (live (places_of slots)) ∙ ap length (sym pairs-start);

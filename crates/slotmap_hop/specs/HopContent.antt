@@ -1,12 +1,14 @@
 -- What a map that hops over its vacant places holds: a content, and the blocks that the vacant places form.
-use Rattle.std.specs.Prelude.{◌≡◌, ◌⊎◌, ℕ, ◌+◌, ◌-◌, ◌<◌, ◌≤◌, refl, Bool, true, false, Option, Some, None, if◌then◌else◌, ◌==◌, ◌||◌, List, []}
+use Rattle.std.specs.Prelude.{◌≡◌, ◌⊎◌, ℕ, ◌+◌, ◌-◌, ◌<◌, ◌≤◌, refl, Bool, true, false, Option, Some, None, if◌then◌else◌, ◌==◌, ◌||◌, List, [], ◌∷◌}
+use Rattle.std.specs.Ordering.{nat_cmp}
 use Rattle.std.specs.FinMap as map
 use Rattle.std.specs.FinSet as set
 use Rattle.std.specs.Coded.{Coded, code_by, coded×}
 use Rattle.slotmap_core.specs.Key.{Key, is_last}
 use Rattle.slotmap_core.specs.Content.{Content, content_code, IsContent, IsLive, used, places, most}
-use Rattle.slotmap_core.specs.Transition.{with_value}
+use Rattle.slotmap_core.specs.Transition.{freed, with_value}
 use Rattle.slotmap_core.specs.Call.{MakesRoom}
+use Rattle.slotmap_core.specs.Listing.{IsListing}
 use Rattle.slotmap_core.specs.Disjoint.{with_values}
 use Rattle.slotmap_hop.specs.Blocks.{Blocks, coded_blocks, HasMaximalBlocks, vacated, offer_place}
 
@@ -21,14 +23,28 @@ hop_code {V} code = code_by (Content V × Blocks) (coded× (content_code code) c
 abbrev pub NoBlocks : Blocks → Type 0
 NoBlocks b = (b.sentinel_end ≡ 0) × (b.others ≡ [])
 
+-- place 0 counts as vacant, beside the places with a next version
+abbrev pub is_vacant_in : map.FinMap nat_cmp ℕ → ℕ → Bool
+is_vacant_in next i = (i == 0) || map.contains_key next i
+
+-- the blocks once these keys have left, one after the other, where each vacant place has its next version: as a key leaves
+-- its place joins the blocks, but for its last key
+abbrev pub blocks_left : map.FinMap nat_cmp ℕ → Blocks → List Key → Blocks
+blocks_left next b [] = b
+blocks_left next b (k ∷ ks) = blocks_left (freed next k) (if is_last k then b else vacated (is_vacant_in next) b k.index) ks
+
 module _ {V : Type 0} where
   -- place 0 counts as vacant
   abbrev pub counts_vacant : Content V → ℕ → Bool
-  counts_vacant c i = (i == 0) || map.contains_key c.next i
+  counts_vacant c i = is_vacant_in c.next i
 
   -- the blocks once k has left: its place joins them, but for its last key
   abbrev pub blocks_without : HopContent V → Key → Blocks
   blocks_without m k = if is_last k then m.blocks else vacated (counts_vacant m.content) m.blocks k.index
+
+  -- the blocks once these keys have left, one after the other
+  abbrev pub blocks_without_all : HopContent V → List Key → Blocks
+  blocks_without_all m ks = blocks_left m.content.next m.blocks ks
 
   -- the live key k has the value v, and all else stays
   abbrev pub hop_with_value : HopContent V → Key → V → HopContent V
@@ -45,6 +61,11 @@ module _ {V : Type 0} where
     pub none_detached : m.content.detached ≡ set.empty
     pub maximal : HasMaximalBlocks (counts_vacant m.content) m.blocks
     pub offers : used m.content < most → m.content.offer.index ≡ offer_place m.blocks (places m.content + 1)
+
+  -- the live keys with their values, by ascending index
+  pub record ListsEntries (m : HopContent V) (entries : List (Key × V)) : Type 0 where
+    pub listing : IsListing m.content.live entries
+    pub in_order : entries ≡ map.entries m.content.live
 
   -- the live key of the least index from i on, or none where no live key has such an index
   abbrev pub IsNextLive : {K : Type 0} → (K → Key) → Content V → ℕ → Option K → Type 0

@@ -1,10 +1,13 @@
 -- What a contract sees of a walk that hops over the vacant places.
 use Rattle.std.specs.Prelude.{◌≡◌, ℕ, suc, ◌+◌, ◌*◌, ◌<◌, ◌≤◌, List, [], ◌∷◌, length, drop, true, Option, None, Some, slice_get}
+use Rattle.std.specs.FinMap as map
+use Rattle.std.specs.FinSet as set
 use Rattle.slotmap_core.specs.Key.{Key}
 use Rattle.slotmap_core.specs.Gather.{gather}
-use Rattle.slotmap_core.specs.Places.{Place, Live, Detached, Vacant, Retired, live_entry}
+use Rattle.slotmap_core.specs.Places.{Place, Live, Detached, Vacant, Retired, live, live_entry}
 use Rattle.slotmap_hop.specs.declared.links.Slot.{Slot}
 use Rattle.slotmap_hop.specs.Blocks.{Begins}
+use Rattle.slotmap_hop.specs.HopContent.{HopContent, ListsEntries}
 use Rattle.slotmap_hop.specs.Links.{vacant_at}
 use Rattle.slotmap_hop.specs.Slots.{layout, places_of, IsSound}
 
@@ -13,6 +16,12 @@ pub record Walking (A : Type 0) : Type 0 where
   pub rest : List A
   pub retired : ℕ
   pub reads : ℕ
+
+-- a walk over the live keys and their values, before its first step
+pub record StartsIter {V : Type 0} (m : HopContent V) (it : Walking (Key × V)) : Type 0 where
+  pub lists : ListsEntries m it.rest
+  pub retired : it.retired ≡ set.len m.content.retired
+  pub reads : it.reads ≡ 0
 
 -- slots, and the number of reads of one of them
 pub record Counted (V : Type 0) : Type 0 where
@@ -46,12 +55,11 @@ module _ {V : Type 0} where
   abbrev pub retired_left : List (Slot V) → ℕ → ℕ
   retired_left slots i = retired_among (drop i (places_of slots))
 
-  -- sound slots, and a place that is in use, at the front of a block, or the end
+  -- sound slots, and a place that is in use, at the front of a block, or past the last one
   pub record StandsAt (slots : List (Slot V)) (place : ℕ) : Type 0 where
     pub vacant : ℕ
     pub elems : ℕ
     pub sound : IsSound slots vacant elems
-    pub inside : place ≤ length slots
     pub at_front : vacant_at (layout slots) place ≡ true → Begins (vacant_at (layout slots)) place
 
   -- a walk has read no more slots than it has passed
@@ -60,19 +68,28 @@ module _ {V : Type 0} where
     pub counted : left ≡ length (pairs_left slots place)
     pub passed : reads ≤ place
 
-  -- a walk has something left from this place on
+  -- a walk may look from this place on for the next live slot
   pub record CanGoOn (slots : List (Slot V)) (reads place : ℕ) : Type 0 where
     pub stands : StandsAt slots place
-    pub more : 0 < length (pairs_left slots place)
     pub passed : reads ≤ place
+
+  -- no live slot is left from this place on
+  pub record FindsNone (slots : List (Slot V)) (place : ℕ) : Type 0 where
+    pub none : pairs_left slots place ≡ []
+    pub below : (k : Key) → map.contains_key (live (places_of slots)) k ≡ true → k.index < place
 
   -- the first live slot from a place on, whose version and value these are, stands here
   pub record FindsLive (slots : List (Slot V)) (place found version : ℕ) (value : V) : Type 0 where
     pub there : slice_get (places_of slots) found ≡ Some (Live version value)
     pub first : pairs_left slots place ≡ (record { index = found; version = version }, value) ∷ pairs_left slots (found + 1)
+    pub least : (k : Key) → map.contains_key (live (places_of slots)) k ≡ true → place ≤ k.index → found ≤ k.index
 
   -- what was read on the way from one place to another, found one
   pub record ReadsOnTheWay (slots : List (Slot V)) (reads place reads' found : ℕ) : Type 0 where
     pub some : reads + 1 ≤ reads'
     pub few : reads' + 2 * retired_left slots (found + 1) ≤ reads + 2 * retired_left slots place + 2
     pub passed : reads' + place ≤ reads + found + 1
+
+  -- what was read where none is left
+  abbrev pub ReadsToTheEnd : List (Slot V) → ℕ → ℕ → ℕ → Type 0
+  ReadsToTheEnd slots reads place reads' = reads' ≤ reads + 2 * retired_left slots place + 1

@@ -2,8 +2,7 @@
 
 ghost use Rattle.std.specs.Prelude.{◌≡◌, ◌≤◌, length, Some, IfSome, IfOk};
 ghost use Rattle.std.specs.Iterator.{YieldsFirstBy, item_count, at_most, UpTo};
-ghost use Rattle.std.specs.FinMap as map;
-ghost use Rattle.slotmap_core.specs.Listing.{IsListing};
+ghost use Rattle.slotmap_hop.specs.HopContent.{ListsEntries};
 
 use crate::HopSlotMap;
 use crate::clone::clone_slots;
@@ -82,7 +81,7 @@ impl<K: Key, V: Drop> Iterator for IntoIter<K, V> {
             return None;
         }
         let mut counted = CountedSlots::new(self.slots.as_slice());
-        let (place, version, _) = find_live(&mut counted, self.place);
+        let (place, version, _) = find_live(&mut counted, self.place)?;
         self.left -= 1;
         self.place = place + 1;
         let key = K::from(KeyData::new(place as u32, version));
@@ -104,7 +103,7 @@ impl<K: Key, V: Drop> IntoIterator for HopSlotMap<K, V> {
 
     type IntoIter = IntoIter<K, V>;
 
-    ghost into_iter_gives = { λ m it. IsListing m.content.live it × (it ≡ map.entries m.content.live) };
+    ghost into_iter_gives = { λ m it. ListsEntries m it };
 
     fn into_iter(self) -> IntoIter<K, V> {
         let HopSlotMap {

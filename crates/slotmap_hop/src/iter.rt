@@ -1,11 +1,12 @@
 //! Walks over the keys and values of a map, by ascending index.
 
-ghost use Rattle.std.specs.Prelude.{◌≡◌, ◌≤◌, length, Some, IfSome, ⊤};
+ghost use Rattle.std.specs.Prelude.{◌≡◌, ◌≤◌, length, Some, IfSome, IfNone, ⊤};
 ghost use Rattle.std.specs.Iterator.{YieldsFirstBy, item_count, at_most, UpTo};
 ghost use Rattle.std.specs.FinMap as map;
 ghost use Rattle.std.specs.FinSet as set;
 ghost use Rattle.slotmap_core.specs.Listing.{IsListing, IsKeyListing, IsValueListing};
-ghost use Rattle.slotmap_hop.specs.Walk.{CanGoOn, FindsLive, ReadsOnTheWay, CountsReads};
+ghost use Rattle.slotmap_hop.specs.HopContent.{IsHopContent};
+ghost use Rattle.slotmap_hop.specs.Walk.{CanGoOn, FindsLive, FindsNone, ReadsOnTheWay, ReadsToTheEnd, CountsReads, StartsIter};
 
 use crate::HopSlotMap;
 use crate::counted::CountedSlots;
@@ -41,25 +42,29 @@ impl<'a, K, V> Model for Iter<'a, K, V> {
     ghost invariant = { λ it. IsWalk it.counted.slots it.counted.reads it.place it.left };
 }
 
-// The place of the first live slot from this one on, with its version and value.
+// The place of the first live slot from this one on, with its version and value. All that goes over
+// live slots finds them here.
 pub(crate) fn find_live<'a, V>(
     counted: &mut CountedSlots<'a, V>,
     start: usize,
-) -> (usize, u32, &'a V)
+) -> Option<(usize, u32, &'a V)>
     requires { CanGoOn counted.old.slots counted.old.reads start }
-    ensures found { FindsLive counted.old.slots start result.0 result.1 result.2.now }
+    ensures found { IfSome result (λ r. FindsLive counted.old.slots start r.0 r.1 r.2.now) }
+    ensures none { IfNone result (FindsNone counted.old.slots start) }
     ensures slots { counted.new.slots ≡ counted.old.slots }
-    ensures reads { ReadsOnTheWay counted.old.slots counted.old.reads start counted.new.reads result.0 }
+    ensures reads { IfSome result (λ r. ReadsOnTheWay counted.old.slots counted.old.reads start counted.new.reads r.0) }
+    ensures reads_none { IfNone result (ReadsToTheEnd counted.old.slots counted.old.reads start counted.new.reads) }
 {
     let mut place = start;
-    loop {
+    while place < counted.len() {
         let slot = counted.read(place);
         match &slot.state {
-            State::Occupied(value) => return (place, slot.version, value),
+            State::Occupied(value) => return Some((place, slot.version, value)),
             State::Free(links) => place = links.other_end as usize + 1,
             State::UsedUp => place += 1,
         }
     }
+    None
 }
 
 impl<'a, K, V> Iter<'a, K, V> {
@@ -104,7 +109,7 @@ impl<'a, K: Key, V> Iterator for Iter<'a, K, V> {
         if self.left == 0 {
             return None;
         }
-        let (place, version, value) = find_live(&mut self.counted, self.place);
+        let (place, version, value) = find_live(&mut self.counted, self.place)?;
         self.left -= 1;
         self.place = place + 1;
         let key = K::from(KeyData::new(place as u32, version));
@@ -276,6 +281,7 @@ impl<K: Key, V> HopSlotMap<K, V> {
         ensures in_order { result.rest ≡ map.entries self.now.content.live }
         ensures retired { result.retired ≡ set.len self.now.content.retired }
         ensures reads { result.reads ≡ 0 }
+        ensures valid { IsHopContent self.now }
     {
         let sentinel = links_at(self.slots.as_slice(), 0);
         Iter {
@@ -299,6 +305,7 @@ impl<K: Key, V> HopSlotMap<K, V> {
         ensures in_order { result.rest ≡ map.keys self.now.content.live }
         ensures retired { result.retired ≡ set.len self.now.content.retired }
         ensures reads { result.reads ≡ 0 }
+        ensures valid { IsHopContent self.now }
     {
         Keys { pairs: self.iter() }
     }
@@ -311,6 +318,7 @@ impl<K: Key, V> HopSlotMap<K, V> {
         ensures in_order { result.rest ≡ map.values self.now.content.live }
         ensures retired { result.retired ≡ set.len self.now.content.retired }
         ensures reads { result.reads ≡ 0 }
+        ensures valid { IsHopContent self.now }
     {
         Values { pairs: self.iter() }
     }
@@ -321,7 +329,7 @@ impl<'a, K: Key, V> IntoIterator for &'a HopSlotMap<K, V> {
 
     type IntoIter = Iter<'a, K, V>;
 
-    ghost into_iter_gives = { λ m it. IsListing m.now.content.live it.rest × (it.rest ≡ map.entries m.now.content.live) × (it.reads ≡ 0) };
+    ghost into_iter_gives = { λ m it. StartsIter m.now it };
 
     fn into_iter(self) -> Iter<'a, K, V> {
         self.iter()

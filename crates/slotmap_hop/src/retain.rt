@@ -4,10 +4,12 @@ ghost use Rattle.std.specs.Prelude.{◌≡◌, ◌++◌, OnOk, OnErr, List, map 
 ghost use Rattle.std.specs.FinMap as map;
 ghost use Rattle.slotmap_core.specs.Transition.{Leaves, FreesByIndex};
 ghost use Rattle.slotmap_core.specs.Retain.{RetainsBy, CallableOnEach};
-ghost use Rattle.slotmap_hop.specs.HopContent.{IsHopContent, IsNextLive, MayStand, StaysHop};
+ghost use Rattle.slotmap_hop.specs.HopContent.{IsHopContent, IsNextLive, MayStand, StaysHop, blocks_without_all};
+ghost use Rattle.slotmap_hop.specs.Retain.{RetainsByIndex};
 
 use crate::HopSlotMap;
-use crate::links::State;
+use crate::counted::CountedSlots;
+use crate::iter::find_live;
 use slotmap_core::errors::OutOfMemory;
 use slotmap_core::keys::{Key, KeyData};
 
@@ -18,26 +20,17 @@ impl<K: Key, V: Drop> HopSlotMap<K, V> {
         ensures comes { IsNextLive K.data_of self.now.content start result }
         ensures valid { IsHopContent self.now }
     {
-        let mut place = start;
-        while place < self.slots.len() {
-            let slot = &self.slots[place];
-            match &slot.state {
-                State::Occupied(_) => {
-                    return Some(K::from(KeyData::new(place as u32, slot.version)));
-                }
-                State::Free(links) => place = links.other_end as usize + 1,
-                State::UsedUp => place += 1,
-            }
-        }
-        None
+        let mut counted = CountedSlots::new(self.slots.as_slice());
+        let (place, version, _) = find_live(&mut counted, start)?;
+        Some(K::from(KeyData::new(place as u32, version)))
     }
 
     /// Calls `f` once at each live key and its value, and removes the keys at which it answers
     /// `false`.
     ///
-    /// What `f` writes to a value that stays is kept. The keys are visited by ascending index. It
-    /// passes a block of vacant places in one step; retired places are passed one by one. The
-    /// contract leaves open in which order the blocks of vacant places stand then.
+    /// What `f` writes to a value that stays is kept. The keys are visited by ascending index, and
+    /// in that order those that leave are removed, as `remove` does. It passes a block of vacant
+    /// places in one step; retired places are passed one by one.
     ///
     /// ```
     /// map.retain(|_, value| *value % 2 == 0);
@@ -48,6 +41,7 @@ impl<K: Key, V: Drop> HopSlotMap<K, V> {
         // At each entry, as calls at other entries leave the closure.
         requires { CallableOnEach F.FnMut K.data_of f self.old.content.live }
         ensures retained { RetainsBy F.FnMut K.data_of f self.old.content.live self.new.content.live }
+        ensures by_index { RetainsByIndex F.FnMut K.data_of f self.old self.new }
         ensures leaves { Leaves self.old.content self.new.content }
         ensures valid { StaysHop self.old self.new }
     {
@@ -63,9 +57,8 @@ impl<K: Key, V: Drop> HopSlotMap<K, V> {
 
     /// Removes every live key, and drops its value.
     ///
-    /// The keys are removed as `remove` does, and the capacity stays. It passes a block of vacant
-    /// places in one step. The contract leaves open in which order the blocks of vacant places stand
-    /// then.
+    /// The keys are removed by ascending index, as `remove` does, and the capacity stays. It passes
+    /// a block of vacant places in one step.
     ///
     /// ```
     /// map.clear();
@@ -75,6 +68,7 @@ impl<K: Key, V: Drop> HopSlotMap<K, V> {
         ensures empty { self.new.content.live ≡ map.empty }
         ensures leaves { Leaves self.old.content self.new.content }
         ensures order { FreesByIndex self.old.content self.new.content }
+        ensures blocks { self.new.blocks ≡ blocks_without_all self.old (map.keys self.old.content.live) }
         ensures valid { StaysHop self.old self.new }
     {
         let mut first = self.first_live(0);
@@ -113,6 +107,7 @@ impl<K: Key, V: Drop> HopSlotMap<K, V> {
             × (list_map (λ p. (K.data_of p.0, p.1)) pairs ≡ map.entries self.old.content.live)) }
         ensures empty { OnOk result (self.new.content.live ≡ map.empty) }
         ensures leaves { OnOk result (Leaves self.old.content self.new.content) }
+        ensures blocks { OnOk result (self.new.blocks ≡ blocks_without_all self.old (map.keys self.old.content.live)) }
 
         ensures unchanged { OnErr result ((self.new ≡ self.old) × (out.new.items ≡ out.old.items)) }
         ensures valid { StaysHop self.old self.new }

@@ -73,6 +73,7 @@ impl<K: Key, V: Drop> HopSlotMap<K, V> {
         requires { (x y : V) → V.is_clone x y → y ≡ x }
         ensures writes { IfOk result (λ slots. Writes self.now.content slots.items) }
         ensures contents { IfOk result (λ slots. contents slots.items ≡ self.now.content.live) }
+        ensures valid { IsHopContent self.now }
     {
         let mut slots = Vec::with_capacity(*self.slots.allocator(), self.slots.len())?;
         for index in 0..self.slots.len() {

@@ -56,8 +56,7 @@ where
 ///
 /// The room for the replies is asked for first. Where it is refused no command is run, the map is
 /// as before, and the commands come back. From then on the commands run in order, and one for which
-/// memory is refused is answered so; it changes nothing, but that a refused `OrPut` of a sparse map
-/// has taken out an older pair at that index.
+/// memory is refused is answered so, and changes nothing of what the map holds.
 ///
 /// Each command costs one call of the map.
 ///

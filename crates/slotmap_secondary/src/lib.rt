@@ -8,8 +8,9 @@
 //! the content always.
 #![tactic(auto)]
 
-ghost use Rattle.std.specs.Prelude.{◌≡◌, ◌≤◌, ◌+◌, ◌↔◌, IsTrue, IfOk, IfErr};
+ghost use Rattle.std.specs.Prelude.{◌≡◌, ◌≤◌, ◌+◌, ◌↔◌, IsTrue, IfOk, OnOk, IfErr};
 ghost use Rattle.std.specs.FinMap as map;
+ghost use Rattle.slotmap_core.specs.Content.{most};
 ghost use Rattle.slotmap_core.specs.Refusal.{RefusesCapacity};
 ghost use Rattle.slotmap_secondary.specs.Content.{IsContent, SetsCapacity};
 
@@ -96,6 +97,7 @@ impl<K: Key, V: Drop> SecondaryMap<K, V> {
     /// ```
     pub fn new(alloc: Global) -> Result<Self, ReserveError>
         ensures empty { IfOk result (λ made. made.pairs ≡ map.empty) }
+        ensures places { IfOk result (λ made. made.places ≡ 1) }
         ensures err { IfErr result (λ error. error ≡ ReserveError.Memory) }
         ensures valid { IfOk result IsContent }
     {
@@ -108,7 +110,9 @@ impl<K: Key, V: Drop> SecondaryMap<K, V> {
     /// Constant time beside the request for memory.
     pub fn with_capacity(alloc: Global, capacity: usize) -> Result<Self, ReserveError>
         ensures empty { IfOk result (λ made. made.pairs ≡ map.empty) }
+        ensures places { IfOk result (λ made. made.places ≡ 1) }
         ensures capacity { IfOk result (λ made. capacity ≤ made.capacity) }
+        ensures fits { OnOk result (capacity ≤ most) }
         ensures err { IfErr result (RefusesCapacity capacity) }
         ensures valid { IfOk result IsContent }
     {

@@ -1,19 +1,57 @@
 -- What a closure that is shown each entry of a hash map leaves, as visits of keys.
-use Rattle.std.proofs.Common.{◌≡◌, ℕ, Bool, true, false, cond, nat_eq, List, [], ◌∷◌, refl, sym, ap, subst, ◌∙◌}
+use Rattle.std.proofs.Common.{◌≡◌, ℕ, ◌+◌, Bool, true, false, cond, nat_eq, List, [], ◌∷◌, ◌++◌, length, Some, None, is_some, refl, sym, ap, subst, ◌∙◌, arith}
+use Rattle.std.specs.Cmp.{nat_eq_equiv}
 use Rattle.std.specs.Fn.{Mut}
 use Rattle.std.specs.Borrow.{MutBor}
 use Rattle.std.specs.List.{FoldsTo, IsDistinct}
 use Rattle.std.specs.FinMap as map
 use Rattle.std.specs.Map.{keys_of}
 use Rattle.std.specs.Map.Calls.{RetainsPairs, SomeCallAtPair}
-use Rattle.slotmap_core.specs.Key.{Key, IsKey, key_from}
-use Rattle.slotmap_core.specs.Listing.{IsListing}
-use Rattle.slotmap_core.specs.Retain.{Visit, CallsAt, RetainsBy, seen, kept}
-use Rattle.slotmap_core.specs.Secondary.{Pairs, keyed, keyed_entry}
+use Rattle.std.proofs.lemmas.Map.Entries.{lookup_head}
+use Rattle.slotmap_core.specs.Key.{Key, IsKey, key_cmp, key_from}
+use Rattle.slotmap_core.specs.Listing.{IsListing, IsListingBut, with_entries}
+use Rattle.slotmap_core.specs.Retain.{Visit, CallsAt, RetainsBy, MayCome, seen, kept}
+use Rattle.slotmap_core.specs.Secondary.{Pairs, keyed, keyed_entry, value_at}
 use Rattle.slotmap_core.proofs.KeyLemmas.{key_from-odd}
-use Rattle.slotmap_sparse.specs.Entries.{pairs_of}
+use Rattle.slotmap_core.proofs.KeyedLemmas.{get-keyed}
+use Rattle.slotmap_core.proofs.VisitLemmas.{Visits-rest}
+use Rattle.slotmap_sparse.specs.Entries.{pairs_of, IsSound}
 use Rattle.slotmap_sparse.specs.Walk.{key_pairs, IsOfKey, AreOfKeys}
-use Rattle.slotmap_sparse.proofs.WalkLemmas.{listing}
+use Rattle.slotmap_sparse.proofs.EntriesLemmas.{get-pairs}
+use Rattle.slotmap_sparse.proofs.WalkLemmas.{listing, of_keys}
+
+module _ {V : Type 0} where
+  -- entries in a row, and what is known of those before some and of those from there on
+  of_split : (xs ys : List (ℕ × (ℕ × V))) → AreOfKeys (xs ++ ys) → AreOfKeys xs × AreOfKeys ys
+  of_split [] ys of = (tt, of)
+  of_split (x ∷ xs) ys of = let rest = of_split xs ys of.1 in ((of.0, rest.0), rest.1)
+
+  distinct_from : (xs ys : List (ℕ × (ℕ × V))) → IsDistinct nat_eq (keys_of (xs ++ ys)) → IsDistinct nat_eq (keys_of ys)
+  unfolding IsDistinct
+  distinct_from [] ys unique = unique
+  distinct_from (x ∷ xs) ys unique = distinct_from xs ys unique.1
+
+  with_first : (xs ys : List (ℕ × (ℕ × V))) → map.from_entries {R = key_cmp} (key_pairs (xs ++ ys)) ≡ with_entries (map.from_entries (key_pairs ys)) (key_pairs xs)
+  with_first [] ys = refl
+  with_first (x ∷ xs) ys = ap (λ m. map.insert m (keyed_entry x).0 (keyed_entry x).1) (with_first xs ys)
+
+  len_split : (xs ys : List (ℕ × (ℕ × V))) → length (key_pairs (xs ++ ys)) ≡ length (key_pairs xs) + length (key_pairs ys)
+  len_split [] ys = omega arith
+  len_split (x ∷ xs) ys = omega (arith, len_split xs ys)
+
+  listed_before : (xs ys : List (ℕ × (ℕ × V))) (p : Pairs V) → pairs_of (xs ++ ys) ≡ p → IsDistinct nat_eq (keys_of (xs ++ ys)) → IsListingBut (keyed p) (key_pairs xs) (keyed (pairs_of ys))
+  listed_before xs ys p is unique =
+      let all = listing (xs ++ ys) p is unique in
+      let rest = listing ys (pairs_of ys) refl (distinct_from xs ys unique) in
+      record {
+        all = ap (λ m. with_entries m (key_pairs xs)) (sym rest.all) ∙ sym (with_first xs ys) ∙ all.all;
+        once = omega (arith, all.once, rest.once, len_split xs ys);
+      }
+
+  first_there : (e : ℕ × (ℕ × V)) (es : List (ℕ × (ℕ × V))) → map.get (keyed (pairs_of (e ∷ es))) (keyed_entry e).0 ≡ Some e.1.1
+  first_there e es =
+      get-keyed (pairs_of (e ∷ es)) (keyed_entry e).0 ∙ ap (value_at e.1.0) (get-pairs (e ∷ es) e.0 ∙ lookup_head (nat_eq e.0) e es (nat_eq_equiv.refl e.0))
+      ∙ ap (λ b. cond b (Some e.1.1) None) (nat_eq_equiv.refl e.1.0)
 
 module _ {F G K V : Type 0} (g : Mut F (K × (MutBor V × Unit {0})) (Bool × (MutBor V × Unit {0}))) (data_of : K → Key) (T : G → ℕ → ℕ × V → Bool → ℕ × V → G → Type 0) (state : G → F) where
   -- a call at an entry shows the key and the value, and leaves the version
@@ -28,6 +66,39 @@ module _ {F G K V : Type 0} (g : Mut F (K × (MutBor V × Unit {0})) (Bool × (M
     pub saw : seen data_of visits ≡ key_pairs es
     pub stay : kept data_of visits ≡ key_pairs left
     pub of : AreOfKeys left
+
+  -- the calls at the entries before one, as visits
+  record Came (c d : G) (es : List (ℕ × (ℕ × V))) : Type 0 where
+    pub visits : List (Visit K V)
+    pub calls : FoldsTo (CallsAt g) (state c) visits (state d)
+    pub saw : seen data_of visits ≡ key_pairs es
+
+  came : ShowsEach → (c d : G) (es : List (ℕ × (ℕ × V))) → AreOfKeys es → FoldsTo (SomeCallAtPair T) c es d → Came c d es
+  came shows c d [] of run = record { visits = []; calls = ap state run; saw = refl }
+  came shows c d (e ∷ es) of run =
+      let call = shows c e.0 e.1 run.1.0 run.1.1 run.0 run.1.2 in
+      let named : data_of call.1.0 ≡ record { index = e.0; version = e.1.0 } = call.1.1 ∙ key_from-odd e.0 e.1.0 of.0.1 of.0.0.odd in
+      let more = came shows run.0 d es of.1 run.2 in
+      let one : Visit K V = record { key = call.1.0; before = e.1.1; after = run.1.1.1; stays = run.1.0 } in
+      record {
+        visits = one ∷ more.visits;
+        calls = (state run.0, call.1.2, more.calls);
+        saw = λ i. (named i, e.1.1) ∷ more.saw i;
+      }
+
+  -- the closure comes to an entry as the calls at those before it leave it, and the entry is one of the map
+  pub comes_to : ShowsEach → (c d : G) (xs ys : List (ℕ × (ℕ × V))) (e : ℕ × (ℕ × V)) (p : Pairs V) → pairs_of (xs ++ e ∷ ys) ≡ p → IsSound (xs ++ e ∷ ys) → FoldsTo (SomeCallAtPair T) c xs d
+      → IsOfKey e × MayCome g data_of (state c) (keyed p) (keyed_entry e).0 (state d) × (map.get (keyed p) (keyed_entry e).0 ≡ Some e.1.1)
+  comes_to shows c d xs ys e p is sound run =
+      let of = of_split xs (e ∷ ys) (of_keys (xs ++ e ∷ ys) sound) in
+      let before = came shows c d xs of.0 run in
+      let rest = keyed (pairs_of (e ∷ ys)) in
+      let listed : IsListingBut (keyed p) (seen data_of before.visits) rest = subst (λ (x : List (Key × V)). IsListingBut (keyed p) x rest) (sym before.saw) (listed_before xs (e ∷ ys) p is sound.unique) in
+      let here = first_there e ys in (
+        of.1.0,
+        record { visits = before.visits; calls = before.calls; rest = rest; listed = listed; to_come = ap is_some here },
+        Visits-rest data_of (keyed p) before.visits rest (with_entries rest (kept data_of before.visits)) (record { listed = listed; stay = refl }) (keyed_entry e).0 e.1.1 here,
+      )
 
   pub visited : ShowsEach → (c : G) (es left : List (ℕ × (ℕ × V))) → AreOfKeys es → RetainsPairs T c es left → Visited c es left
   visited shows c [] left of run = record { visits = []; last = state c; calls = refl; saw = refl; stay = ap key_pairs (sym run); of = subst (λ (x : List (ℕ × (ℕ × V))). AreOfKeys x) (sym run) tt }
@@ -77,9 +148,3 @@ module _ {F K V : Type 0} (g : Mut F (K × (MutBor V × Unit {0})) (Bool × (Mut
   shown_at i j p p' q q' b f f' at before after call version =
       subst (λ (s : ℕ × ((ℕ × V) × (ℕ × V))). (s.1.1.0 ≡ s.1.0.0) × ((key : K) × (data_of key ≡ key_from s.0 s.1.0.0) × CallsAt g f (record { key = key; before = s.1.0.1; after = s.1.1.1; stays = b }) f'))
       (λ l. (at l, (before l, after l))) (version, call)
-
-module _ {F G X : Type 0} (T : G → ℕ → X → Bool → X → G → Type 0) (state : G → F) (P : F → Type 0) where
-  -- what each call leaves holds after calls in a row
-  pub holds_along : ((c : G) (i : ℕ) (p : X) (b : Bool) (q : X) (d : G) → T c i p b q d → P (state d)) → (c d : G) (es : List (ℕ × X)) → P (state c) → FoldsTo (SomeCallAtPair T) c es d → P (state d)
-  holds_along each c d [] holds run = subst (λ (x : G). P (state x)) run holds
-  holds_along each c d (e ∷ es) holds run = holds_along each run.0 d es (each c e.0 e.1 run.1.0 run.1.1 run.0 run.1.2) run.2

@@ -1,9 +1,12 @@
 -- What the hash map of a sparse map says of its content. No public clause cites this module.
-use Rattle.std.specs.Prelude.{ℕ, ◌+◌, List, nat_eq}
+use Rattle.std.specs.Prelude.{◌≡◌, ℕ, ◌+◌, Bool, List, nat_eq}
+use Rattle.std.specs.Fn.{Mut, Takes}
+use Rattle.std.specs.Borrow.{MutBor}
 use Rattle.std.specs.FinMap as map
 use Rattle.std.specs.HashMap.{HashMap, hash_map_len, spare}
 use Rattle.std.specs.List.{IsDistinct}
 use Rattle.std.specs.Map.{keys_of}
+use Rattle.slotmap_core.specs.Key.{Key, key_from}
 use Rattle.slotmap_core.specs.Secondary.{Pairs, IsSecondary}
 use Rattle.slotmap_sparse.specs.Content.{Content}
 
@@ -19,3 +22,7 @@ module _ {V : Type 0} where
   pub record IsSound (entries : List (ℕ × (ℕ × V))) : Type 0 where
     pub unique : IsDistinct nat_eq (keys_of entries)
     pub keys : IsSecondary (pairs_of entries)
+
+-- the closure f may be called at the key of this index and version, and at its value
+abbrev pub TakesPair : {F K V : Type 0} → Mut F (K × (MutBor V × Unit {0})) (Bool × (MutBor V × Unit {0})) → (K → Key) → F → ℕ → ℕ × V → Type 0
+TakesPair {F} {K} {V} g data_of f index p = (key : K) (shown : MutBor V) → data_of key ≡ key_from index p.0 → shown.now ≡ p.1 → Takes g f (key, (shown, tt))

@@ -75,6 +75,9 @@ module _ {K V S Z : Type 0} where
       pub key : entry_key e ≡ k
       pub pairs : (entry_map e).pairs ≡ entry_leaves m.now.pairs (data_of k)
       pub room : room m.now ≤ room (entry_map e)
+      -- where no older pair is at k's index, the map is as it was
+      pub occupied : contains_key m.now.pairs (data_of k) ≡ true → entry_map e ≡ m.now
+      pub empty : map.get m.now.pairs (data_of k).index ≡ None → entry_map e ≡ m.now
       pub value : entry_value e ≡ get m.now.pairs (data_of k)
       pub in_place : IsInPlace e
 

@@ -3,7 +3,7 @@
 ghost use Rattle.std.specs.Prelude.{◌≡◌, ◌≤◌, ◌<◌, Some, None, IsOk, IfOk, IfErr, OnErr, unwrap_or};
 ghost use Rattle.std.specs.FinMap as map;
 ghost use Rattle.std.specs.Option.{UnwrapsOrElse};
-ghost use Rattle.std.specs.Borrow.{sem};
+ghost use Rattle.std.specs.Borrow.{sem, MutBor};
 ghost use Rattle.std.specs.Map.Calls.{ModifiesValue};
 ghost use Rattle.slotmap_sparse.specs.Content.{room};
 
@@ -49,8 +49,8 @@ impl<K: Key, V: Drop, S: BuildHasher + Drop> SparseSecondaryMap<K, V, S> {
     /// its index.
     ///
     /// Where an older key stands at its index, that is taken out at once and its value is dropped; so
-    /// in a sparse map a vacant entry that is dropped unused leaves nothing there. It takes no memory
-    /// and always answers `Ok`. Constant time.
+    /// in a sparse map a vacant entry that is dropped unused leaves nothing there. Else the map is as
+    /// before. It takes no memory and always answers `Ok`. Constant time.
     ///
     /// Where it answers none the map is as before; a proof takes that from `try_entry`, of which this
     /// call hands on the answers.
@@ -115,6 +115,8 @@ impl<'a, K: Key, V: Drop, S: BuildHasher + Drop> Entry<'a, K, V, S> {
 
     /// Lets `f` change the value, where there is one; else `f` isn't called. The entry is the same.
     ///
+    /// The caller shows that `f` may be called at the value that there is, and at no other.
+    ///
     /// ```
     /// *entry.and_modify(|name| *name = 1).or_insert(2)
     /// ```
@@ -122,7 +124,8 @@ impl<'a, K: Key, V: Drop, S: BuildHasher + Drop> Entry<'a, K, V, S> {
     where
         F: Drop,
         requires in_place { IsInPlace K.data_of self }
-        requires callable { F.IsAlwaysCallable f }
+        // At the value that there is.
+        requires callable { (shown : MutBor V) → entry_value K.data_of self ≡ Some shown.now → F.pre f shown }
         ensures same_map { entry_lender result ≡ entry_lender self.entry }
         ensures key { entry_key result ≡ entry_key self.entry }
         ensures in_place { IsInPlace K.data_of result }

@@ -1,6 +1,6 @@
 //! Many pairs at once.
 
-ghost use Rattle.std.specs.Prelude.{◌≡◌, List, IfOk, IfErr, Some};
+ghost use Rattle.std.specs.Prelude.{◌≡◌, ◌≤◌, List, IfOk, IfErr, OnErr, Some};
 ghost use Rattle.std.specs.Iterator.{IsFinite, Drains, YieldsThen};
 ghost use Rattle.std.specs.FinMap as map;
 ghost use Rattle.slotmap_sparse.specs.Content.{IsContent};
@@ -16,7 +16,8 @@ impl<K: Key, V: Drop, S: BuildHasher + Drop> SparseSecondaryMap<K, V, S> {
     /// or older than the one that stands at its index is dropped.
     ///
     /// Where memory was refused for a pair it comes back; the pairs before it are in, and the rest
-    /// of the iterator is dropped. The iterator has to end. Rust has it as `Extend`.
+    /// of the iterator is dropped. Nothing is refused before the map holds as many keys as
+    /// `capacity()` told. The iterator has to end. Rust has it as `Extend`.
     ///
     /// ```
     /// names.extend(others)?;
@@ -26,6 +27,11 @@ impl<K: Key, V: Drop, S: BuildHasher + Drop> SparseSecondaryMap<K, V, S> {
             I.IntoIter.can_next it × IsFinite (I.IntoIter.remaining it) }
         ensures extends { (it : I.IntoIter) × I.into_iter_gives iter it
             × Extends K.data_of it self.old.pairs result self.new.pairs I.IntoIter.next_gives }
+        ensures capacity { self.old.capacity ≤ self.new.capacity }
+
+        // A pair comes back only once the map holds as many keys as it had memory for.
+        ensures full { OnErr result (self.old.capacity ≤ map.len self.new.pairs) }
+
         ensures valid { IsContent self.new }
     {
         // The map is looked at for the clause `valid`.
@@ -50,6 +56,11 @@ impl<K: Key, V: Drop, S: BuildHasher + Drop> SparseSecondaryMap<K, V, S> {
             I.IntoIter.can_next it × IsFinite (I.IntoIter.remaining it) }
         ensures extends { (it : I.IntoIter) × I.into_iter_gives iter it
             × ExtendsBy K.data_of it self.old.pairs result self.new.pairs I.IntoIter.next_gives }
+        ensures capacity { self.old.capacity ≤ self.new.capacity }
+
+        // A pair comes back only once the map holds as many keys as it had memory for.
+        ensures full { OnErr result (self.old.capacity ≤ map.len self.new.pairs) }
+
         ensures valid { IsContent self.new }
     {
         // The map is looked at for the clause `valid`.
@@ -61,6 +72,40 @@ impl<K: Key, V: Drop, S: BuildHasher + Drop> SparseSecondaryMap<K, V, S> {
         }
         Ok(())
     }
+
+    /// A map of these pairs with this hasher, inserted in the order of the iterator, as `extend` does.
+    ///
+    /// Where memory was refused there is no map, and the pair comes back for which it was refused; an
+    /// empty map takes none. The iterator has to end. Rust has it as `FromIterator`, for a hasher that
+    /// has a default.
+    ///
+    /// For keys that a stranger picks, hand in a `RandomState`.
+    ///
+    /// ```
+    /// let hasher = RandomState::new(&rt)?;
+    /// let names = SparseSecondaryMap::from_iter_with_hasher(alloc, pairs, hasher);
+    /// ```
+    pub fn from_iter_with_hasher<I: IntoIterator<Item = (K, V)>>(
+        alloc: Global,
+        iter: I,
+        hash_builder: S,
+    ) -> Result<Self, Option<(K, V)>>
+    where
+        I: Drop,
+        requires { (it : I.IntoIter) → I.into_iter_gives iter it →
+            I.IntoIter.can_next it × IsFinite (I.IntoIter.remaining it) }
+        ensures ok { IfOk result (λ all. (it : I.IntoIter) × (pairs : List (K × V)) × I.into_iter_gives iter it
+            × Drains I.IntoIter.next_gives it pairs × AllPut K.data_of map.empty pairs all.pairs) }
+        ensures err { IfErr result (λ back. (pair : K × V) × (back ≡ Some pair) × (it : I.IntoIter) × (pairs : List (K × V)) × (rest : I.IntoIter)
+            × I.into_iter_gives iter it × YieldsThen I.IntoIter.next_gives it pairs (Some pair) rest) }
+        ensures valid { IfOk result IsContent }
+    {
+        let mut all = SparseSecondaryMap::empty(alloc, hash_builder);
+        match all.extend(iter) {
+            Ok(()) => Ok(all),
+            Err(pair) => Err(Some(pair)),
+        }
+    }
 }
 
 impl<K: Key, V: Drop> SparseSecondaryMap<K, V> {
@@ -68,8 +113,9 @@ impl<K: Key, V: Drop> SparseSecondaryMap<K, V> {
     /// `extend` does.
     ///
     /// Where memory was refused there is no map, and the pair comes back for which it was refused; an
-    /// empty map takes none. The iterator has to end. Rust has it as `FromIterator`; with another
-    /// hasher `with_hasher` and `extend` serve.
+    /// empty map takes none. The iterator has to end. Rust has it as `FromIterator`. For keys that a
+    /// stranger picks call [`SparseSecondaryMap::from_iter_with_hasher`]: the default hasher's seed is
+    /// fixed and public.
     ///
     /// ```
     /// let names: SparseSecondaryMap<DefaultKey, u32> = SparseSecondaryMap::from_iter(alloc, pairs).ok()?;
@@ -88,10 +134,6 @@ impl<K: Key, V: Drop> SparseSecondaryMap<K, V> {
             × I.into_iter_gives iter it × YieldsThen I.IntoIter.next_gives it pairs (Some pair) rest) }
         ensures valid { IfOk result IsContent }
     {
-        let mut all = SparseSecondaryMap::empty(alloc, BuildHasherDefault::new());
-        match all.extend(iter) {
-            Ok(()) => Ok(all),
-            Err(pair) => Err(Some(pair)),
-        }
+        SparseSecondaryMap::from_iter_with_hasher(alloc, iter, BuildHasherDefault::new())
     }
 }

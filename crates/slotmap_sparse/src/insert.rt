@@ -1,6 +1,6 @@
 //! The calls that put one value under a key.
 
-ghost use Rattle.std.specs.Prelude.{◌≡◌, ◌<◌, ◌≤◌, ◌+◌, Some, None, IfOk, OnOk, OnErr, IfErr, IsOk, false};
+ghost use Rattle.std.specs.Prelude.{◌≡◌, ◌<◌, ◌≤◌, ◌+◌, Some, None, IfOk, OnOk, OnErr, IfErr, IsOk, true, false};
 ghost use Rattle.std.specs.FinMap as map;
 ghost use Rattle.slotmap_core.specs.Secondary.{get, put, bind, is_null, value_at, RefusesPut};
 ghost use Rattle.slotmap_core.specs.OrPut.{OrPuts};
@@ -107,6 +107,10 @@ impl<K: Key, V: Drop, S: BuildHasher + Drop> SparseSecondaryMap<K, V, S> {
         ensures unchanged { OnErr result (self.new.pairs ≡ self.old.pairs) }
         ensures room { map.len self.old.pairs < self.old.capacity → IsOk result }
 
+        // Memory is asked for only where nothing stands at the index, and never for the null key.
+        ensures stood { map.contains_key self.old.pairs (K.data_of key).index ≡ true
+            → self.new.capacity ≡ self.old.capacity }
+        ensures null { is_null (K.data_of key) ≡ true → self.new ≡ self.old }
         ensures capacity { self.old.capacity ≤ self.new.capacity }
         ensures valid { IsContent self.new }
     {
@@ -135,6 +139,11 @@ impl<K: Key, V: Drop, S: BuildHasher + Drop> SparseSecondaryMap<K, V, S> {
     pub fn or_put(&mut self, key: K, value: V) -> OrPut<V>
         ensures does { OrPuts false self.old.pairs (K.data_of key) value result self.new.pairs }
         ensures room { result ≡ or_put.Memory value → self.old.capacity ≤ map.len self.old.pairs }
+
+        // Memory is asked for only where nothing stands at the index, and never for the null key.
+        ensures stood { map.contains_key self.old.pairs (K.data_of key).index ≡ true
+            → self.new.capacity ≡ self.old.capacity }
+        ensures null { is_null (K.data_of key) ≡ true → self.new ≡ self.old }
         ensures capacity { self.old.capacity ≤ self.new.capacity }
         ensures valid { IsContent self.new }
     {

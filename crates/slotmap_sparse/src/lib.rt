@@ -40,8 +40,12 @@ use std::collections::HashMap;
 use std::hash::{BuildHasher, BuildHasherDefault, FoldHasher};
 use std::marker::{Model, PhantomData};
 
-/// The hasher of a map that names no other. Its seed is fixed; where a stranger picks the keys, hand
-/// a `RandomState` to [`SparseSecondaryMap::with_hasher`].
+/// The hasher of a map that names no other.
+///
+/// Its seed is fixed and public: who picks the keys can pick many whose hashes collide, and then each
+/// call takes time linear in their number. Where a stranger picks keys, or writes a list that is read,
+/// hand a `RandomState` to [`SparseSecondaryMap::with_hasher`],
+/// [`SparseSecondaryMap::from_slots_with_hasher`] or [`SparseSecondaryMap::from_iter_with_hasher`].
 pub type DefaultHasher = BuildHasherDefault<FoldHasher>;
 
 /// Values under keys that another map hands out: what a program keeps beside a map, for few of its
@@ -56,6 +60,12 @@ pub type DefaultHasher = BuildHasherDefault<FoldHasher>;
 /// It takes memory for the keys that it holds alone, where `SecondaryMap` takes it for each place up
 /// to the greatest index. A call on one key takes constant time, as far as the hasher spreads the
 /// indices. The order of its walks is open.
+///
+/// The default hasher's seed is fixed and public, so keys can be picked that make it slow. Where a
+/// stranger picks the keys name another hasher, a `RandomState` for one ([`DefaultHasher`] says more).
+///
+/// The hash map below holds 2415919104 keys at most. Beyond that a call for memory is refused, as if
+/// memory ran out, though no limit of this map is met.
 ///
 /// ```
 /// let mut ages: SlotMap<DefaultKey, u32> = SlotMap::new(alloc)?;

@@ -88,11 +88,8 @@ impl<K: Key, V: Drop, S: BuildHasher + Drop> SparseSecondaryMap<K, V, S> {
             }),
         }
     }
-}
 
-impl<K: Key, V: Drop> SparseSecondaryMap<K, V> {
-    /// The map that a list of slots describes, with the default hasher; its values are moved into the
-    /// map.
+    /// The map that a list of slots describes, with this hasher; its values are moved into the map.
     ///
     /// Each odd version is that of a key, whose index is the position; the places of even versions
     /// are empty.
@@ -101,8 +98,19 @@ impl<K: Key, V: Drop> SparseSecondaryMap<K, V> {
     /// 4294967294 slots or more; `FirstNotEmpty` where it is empty or its first version is odd;
     /// `Inconsistent` with the least position at which a value stands beside an even version, or
     /// none beside an odd one; `Memory` where memory for the keys was refused. Two passes over the
-    /// list. In Rust `Deserialize` reads such a list.
-    pub fn from_slots(alloc: Global, list: Vec<SlotRecord<V>>) -> Result<Self, SlotsError>
+    /// list. In Rust `Deserialize` reads such a list, for a hasher that has a default.
+    ///
+    /// For a list that a stranger wrote, hand in a `RandomState`.
+    ///
+    /// ```
+    /// let hasher = RandomState::new(&rt)?;
+    /// let names = SparseSecondaryMap::from_slots_with_hasher(alloc, list, hasher)?;
+    /// ```
+    pub fn from_slots_with_hasher(
+        alloc: Global,
+        list: Vec<SlotRecord<V>>,
+        hash_builder: S,
+    ) -> Result<Self, SlotsError>
         ensures contents { IfOk result (λ made. keyed made.pairs ≡ contents list.items) }
         ensures valid { IfOk result IsContent }
 
@@ -111,7 +119,7 @@ impl<K: Key, V: Drop> SparseSecondaryMap<K, V> {
         ensures err { IfErr result (RefusesStart list.items 4294967294) }
     {
         check_slots(&list, LIMIT)?;
-        let mut made = SparseSecondaryMap::empty(alloc, BuildHasherDefault::new());
+        let mut made = SparseSecondaryMap::empty(alloc, hash_builder);
         let mut index = 0;
         let records = list.into_iter();
         for slot in records {
@@ -141,5 +149,21 @@ impl<K: Key, V: Drop> SparseSecondaryMap<K, V> {
             Ok(()) => Ok(()),
             Err(_) => Err(SlotsError::Memory),
         }
+    }
+}
+
+impl<K: Key, V: Drop> SparseSecondaryMap<K, V> {
+    /// The map that a list of slots describes, with the default hasher; its values are moved into the
+    /// map. It reads and refuses as [`SparseSecondaryMap::from_slots_with_hasher`], which is the one
+    /// to call where a stranger wrote the list: the default hasher's seed is fixed and public.
+    pub fn from_slots(alloc: Global, list: Vec<SlotRecord<V>>) -> Result<Self, SlotsError>
+        ensures contents { IfOk result (λ made. keyed made.pairs ≡ contents list.items) }
+        ensures valid { IfOk result IsContent }
+
+        // Refusals, the first of which is given.
+        ensures accepted { IsOk result → Accepts list.items 4294967294 }
+        ensures err { IfErr result (RefusesStart list.items 4294967294) }
+    {
+        SparseSecondaryMap::from_slots_with_hasher(alloc, list, BuildHasherDefault::new())
     }
 }

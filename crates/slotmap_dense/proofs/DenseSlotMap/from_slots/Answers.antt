@@ -1,4 +1,5 @@
 use Rattle.std.proofs.Common.{◌≡◌, ◌+◌, ◌-◌, ◌^◌, ◌<◌, ◌∷◌, [], ◌++◌, length, Some, min, vec_capacity, refl, sym, ap, subst, ◌∙◌, append_assoc, append-nil, arith, rules, add-one}
+use Rattle.std.specs.FinMap as map
 use Rattle.std.specs.Vec.Iter.{into_iter_items}
 use Rattle.std.proofs.lemmas.List.{length_push, length-map, nil_from_length, map-append}
 use Rattle.slotmap_core.specs.Slots.{Accepts}
@@ -102,3 +103,11 @@ returns-clause-stack g c =
     let all : at.yielded ≡ c.args.list.items = sym (append-nil at.yielded) ∙ ap (λ xs. at.yielded ++ xs) (sym none) ∙ at.invariant.all in
     let split = rw all at at.invariant.split in
     c.in_ok-slots.ensures.stack ∙ ap Some (stack_alike c.args.list.items at.positions.items split.same_versions)
+
+pub returns-clause-in_order : goal.returns-clause-in_order
+returns-clause-in_order g c =
+    let at = c.loop-slot in
+    let none : into_iter_items at.slot-iterator ≡ [] = nil_from_length _ (sym at.invariant.left ∙ c.in-None.ensures.steps.0) in
+    let all : at.yielded ≡ c.args.list.items = sym (append-nil at.yielded) ∙ ap (λ xs. at.yielded ++ xs) (sym none) ∙ at.invariant.all in
+    let split = rw all at at.invariant.split in
+    split.ascending ∙ ap (λ m. map.keys m) (sym split.lives)

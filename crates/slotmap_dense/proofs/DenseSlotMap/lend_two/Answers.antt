@@ -1,7 +1,8 @@
-use Rattle.std.proofs.Common.{length, slice_get, map as list_map, sym, ap, ◌∙◌, arith}
+use Rattle.std.proofs.Common.{length, slice_get, map as list_map, sym, ap, subst, ◌∙◌, arith}
 use Rattle.std.proofs.lemmas.Option.{same_Some}
 use Rattle.std.specs.FinMap as map
-use Rattle.slotmap_dense.proofs.WellFormed.{present, same_keys}
+use Rattle.slotmap_dense.specs.Dense.{IsDense}
+use Rattle.slotmap_dense.proofs.WellFormed.{dense_valid, present, same_keys}
 use Rattle.slotmap_dense.proofs.DenseSlotMap.lend_two.Goals as goal
 
 pub get_unchecked-requires : goal.get_unchecked-requires
@@ -38,3 +39,6 @@ pub returns-clause-second : goal.returns-clause-second
 returns-clause-second g c =
     let found = present _ _ _ c.self.invariant c.data-2.result _ c.get_unchecked-2.ensures.value in
     rw (← c.data-2.ensures.value) (ap (λ d. map.get d.content.live c.data-2.result) (sym c.self.view_is) ∙ found.gives ∙ sym found.there ∙ ap (λ xs. slice_get xs c.get_unchecked-2.result.now) (ap (λ d. d.values) c.self.view_is ∙ sym c.values_as_mut_slice.ensures.value) ∙ c.two_of.ensures.second)
+
+pub returns-clause-valid : goal.returns-clause-valid
+returns-clause-valid g c = subst IsDense c.self.view_is (dense_valid g.K.Key.data_of c.self.inside.slots c.self.inside.keys c.self.inside.values c.self.invariant)

@@ -1,14 +1,18 @@
-use Rattle.std.proofs.Common.{◌≡◌, false, Some, cond, [], ◌∷◌, ◌++◌, refl, sym, ap, subst, ◌∙◌, arith, is_some}
+use Rattle.std.proofs.Common.{◌≡◌, ◌≤◌, false, Some, cond, [], ◌∷◌, ◌++◌, append-nil, length, refl, sym, ap, subst, ◌∙◌, arith, is_some}
 use Rattle.std.specs.FinMap as map
 use Rattle.std.proofs.lemmas.Fn.{FoldsTo-push}
-use Rattle.slotmap_core.specs.Transition.{with_value}
+use Rattle.std.proofs.lemmas.Iterator.Adapters.{option_map_id}
+use Rattle.std.specs.Option.{option_map}
+use Rattle.slotmap_core.specs.Transition.{with_value, pushed_all}
 use Rattle.slotmap_core.specs.Retain.{Visit, CallsAt}
 use Rattle.slotmap_core.proofs.ListingLemmas.{remove-insert}
 use Rattle.slotmap_core.proofs.LeaveLemmas.{Leaves-refl, Leaves-trans, Leaves-with_value, Leaves-removed, same_live}
 use Rattle.slotmap_core.proofs.VisitLemmas.{Visits, CallsAt-called, Visits-start, Visits-call, Visits-rest, Visits-listed, Visits-stay}
 use Rattle.slotmap_dense.specs.Dense.{with_value_of}
 use Rattle.slotmap_dense.specs.Rest.{rest_of}
+use Rattle.slotmap_dense.specs.Retain.{dropped, PacksBy}
 use Rattle.slotmap_dense.proofs.RestLemmas.{rest-start, rest-end}
+use Rattle.slotmap_dense.proofs.RetainLemmas.{SoFar-start, SoFar-kept, SoFar-dropped}
 use Rattle.slotmap_dense.proofs.SweepLemmas.{len_keys}
 use Rattle.slotmap_dense.proofs.WellFormed.{IsDense-with_value}
 use Rattle.slotmap_dense.proofs.DenseSlotMap.retain.Goals as goal
@@ -24,6 +28,7 @@ loop-position-init g c =
       visits = [];
       calls = refl;
       visited = subst (λ rest. Visits g.K.Key.data_of c.args.self.now.content.live [] rest c.args.self.now.content.live) (sym (rest-start c.args.self.now well)) (Visits-start g.K.Key.data_of c.args.self.now.content.live);
+      so_far = SoFar-start g.K.Key.data_of c.args.self.now;
     }
 
 pub key_at-key-requires : goal.key_at-key-requires
@@ -67,6 +72,7 @@ loop-position-preserved-then-f g c =
       calls = FoldsTo-push (CallsAt g.F.FnMut) c.args.f at.invariant.visits at.f visit c.f.new.self at.invariant.calls (CallsAt-called g.F.FnMut c.f.ensures);
       visited = subst (λ rest. Visits g.K.Key.data_of old.live (at.invariant.visits ++ visit ∷ []) rest (map.insert at.self.content.live key visit.after)) (sym (comes.next visit.after))
           (subst (Visits g.K.Key.data_of old.live (at.invariant.visits ++ visit ∷ []) (map.remove rest key)) live seen);
+      so_far = SoFar-kept g.K.Key.data_of c.args.self.now at.self at.invariant.visits at.position at.invariant.so_far visit comes.stands (with_value_of at.self key visit.after) c.if-f.true refl refl;
     }
 
 pub loop-position-preserved : goal.loop-position-preserved
@@ -94,6 +100,7 @@ loop-position-preserved g c =
       calls = FoldsTo-push (CallsAt g.F.FnMut) c.args.f at.invariant.visits at.f visit c.f.new.self at.invariant.calls (CallsAt-called g.F.FnMut c.f.ensures);
       visited = subst (λ rest. Visits g.K.Key.data_of old.live (at.invariant.visits ++ visit ∷ []) rest c.take_at.new.self.content.live) (sym (gone.rest ∙ comes.written visit.after))
           (subst (Visits g.K.Key.data_of old.live (at.invariant.visits ++ visit ∷ []) (map.remove rest key)) live seen);
+      so_far = SoFar-dropped g.K.Key.data_of c.args.self.now at.self at.invariant.visits at.position at.invariant.so_far visit comes.stands c.take_at.new.self c.if-f.false gone.keys gone.removes.stack;
     }
 
 pub returns-clause-retained : goal.returns-clause-retained
@@ -108,4 +115,23 @@ returns-clause-retained g c =
       calls = at.invariant.calls;
       listed = Visits-listed g.K.Key.data_of old.live at.invariant.visits at.self.content.live visited;
       stay = Visits-stay g.K.Key.data_of old.live at.invariant.visits at.self.content.live visited;
+    }
+
+pub returns-clause-packed : goal.returns-clause-packed
+returns-clause-packed g c =
+    let at = c.loop-position in
+    let old = c.args.self.now.content in
+    let past : length at.self.keys ≤ at.position = omega (arith, c.loop-position-test.false, c.len.ensures.value, len_keys at.self c.len.ensures.valid) in
+    let visited = subst (λ rest. Visits g.K.Key.data_of old.live at.invariant.visits rest at.self.content.live) (rest-end at.position at.self.keys at.self.values past) at.invariant.visited in
+    let dropped_all = dropped g.K.Key.data_of at.invariant.visits in
+    record {
+      retains = record {
+        visits = at.invariant.visits;
+        last = at.f;
+        calls = at.invariant.calls;
+        listed = Visits-listed g.K.Key.data_of old.live at.invariant.visits at.self.content.live visited;
+        stay = Visits-stay g.K.Key.data_of old.live at.invariant.visits at.self.content.live visited;
+      };
+      packs = subst (λ xs. PacksBy g.K.Key.data_of 0 c.args.self.now.keys xs at.self.keys) (append-nil at.invariant.visits) (at.invariant.so_far.packs [] at.self.keys (past, refl));
+      stack = sym (ap (λ ks. option_map (λ stack. pushed_all stack ks) old.stack) (sym (append-nil dropped_all)) ∙ at.invariant.so_far.stack [] ∙ option_map_id at.self.content.stack);
     }

@@ -5,6 +5,7 @@ use Rattle.slotmap_core.specs.Transition.{Leaves}
 use Rattle.slotmap_core.proofs.VisitLemmas.{Visits}
 use Rattle.slotmap_dense.specs.Dense.{IsDense}
 use Rattle.slotmap_dense.specs.Rest.{rest_of}
+use Rattle.slotmap_dense.proofs.RetainLemmas.{SoFar}
 use Rattle.slotmap_dense.proofs.DenseSlotMap.retain.Given as goal
 
 abbrev pub invariant-loop-position : goal.invariant-loop-position
@@ -16,6 +17,7 @@ invariant-loop-position g l = record {
   visits : List (Visit g.row.K.Denot g.row.V.Denot);
   calls : FoldsTo (CallsAt g.F.FnMut) l.fn.f visits l.f;
   visited : Visits g.K.Key.data_of l.fn.self.content.live visits (rest_of l.position l.self.keys l.self.values) l.self.content.live;
+  so_far : SoFar g.K.Key.data_of l.fn.self visits l.position l.self;
 }
 
 abbrev pub decreases-loop-position : goal.decreases-loop-position

@@ -52,6 +52,7 @@ returns-clause-leaves g c = λ k stands.
     rw (← c.self.view_is, keys, c.close_gap.ensures.values, c.close_gap.ensures.keys_capacity, c.close_gap.ensures.values_capacity)
     (record {
       removes = removes-dense m.slots _ _ c.self.invariant c.take.new.self c.close_gap.new.slots k c.close_gap.result _ at closed (min (vec_capacity m.keys) (vec_capacity m.values)) rem c.close_gap.ensures.rest;
+      keys = refl;
       rest = rest-closed m.slots.live c.close_gap.new.slots.live _ _ c.self.invariant.packed c.self.invariant.same_length k c.close_gap.result _ at closed;
     })
 

@@ -1,14 +1,18 @@
-use Rattle.std.proofs.Common.{◌≡◌, ◌+◌, cond, [], ◌∷◌, ◌++◌, refl, sym, ap, subst, ◌∙◌, inl}
+use Rattle.std.proofs.Common.{◌≡◌, ◌+◌, cond, [], ◌∷◌, ◌++◌, append-nil, is_some, refl, sym, ap, subst, ◌∙◌, inl, arith}
 use Rattle.std.specs.FinMap as map
 use Rattle.std.proofs.lemmas.Fn.{FoldsTo-push}
 use Rattle.slotmap_core.specs.Key.{Key}
 use Rattle.slotmap_core.specs.Content.{IsLive}
-use Rattle.slotmap_core.specs.Retain.{Visit, CallsAt}
+use Rattle.slotmap_core.specs.Retain.{Visit, CallsAt, seen}
+use Rattle.slotmap_core.proofs.IndexLemmas.{from_index, from_index-start, none_live, in_from}
 use Rattle.slotmap_core.proofs.LeaveLemmas.{same_live}
+use Rattle.slotmap_core.proofs.OrderLemmas.{entries_none}
 use Rattle.slotmap_core.proofs.ListingLemmas.{remove-insert}
 use Rattle.slotmap_core.proofs.VisitLemmas.{CallsAt-called, Visits-listed, Visits-stay}
 use Rattle.slotmap_core.proofs.KeyedVisits.{Keyed-from_start, Keyed-at, Keyed-same, Keyed-may_come}
-use Rattle.slotmap_hop.specs.HopContent.{IsNextLive}
+use Rattle.slotmap_hop.specs.HopContent.{IsNextLive, blocks_without_all, hop_with_value}
+use Rattle.slotmap_hop.specs.Retain.{dropped}
+use Rattle.slotmap_hop.proofs.BlocksLeft.{InOrder-kept, InOrder-dropped}
 use Rattle.slotmap_hop.proofs.Sweeping.{Sweeping, sweep_starts, sweep_written, sweep_dropped, Visits-here, Visits-end}
 use Rattle.slotmap_hop.proofs.HopSlotMap.retain.Goals as goal
 
@@ -21,6 +25,7 @@ loop-next-init g c =
       visits = [];
       calls = refl;
       visited = Keyed-from_start g.K.Key.data_of c.args.self.now.content.live;
+      in_order = record { ascending = ap (λ m. map.entries m) (sym (from_index-start c.args.self.now.content.live)); blocks = λ ks. refl };
     }
 
 pub f-requires : goal.f-requires
@@ -61,6 +66,7 @@ loop-next-preserved-then-not-f g c =
       visits = at.invariant.visits ++ visit ∷ [];
       calls = FoldsTo-push (CallsAt g.F.FnMut) c.args.f at.invariant.visits at.f visit c.f.new.self at.invariant.calls (CallsAt-called g.F.FnMut c.f.ensures);
       visited = rw live (Keyed-at g.K.Key.data_of old.content.live alone at.invariant.visits key.index at.self.content.live visit visited refl c.get_unchecked_mut.ensures.value);
+      in_order = InOrder-dropped g.K.Key.data_of old at.self at.invariant.visits at.invariant.index at.invariant.in_order well at.invariant.visited visit sweep.comes c.get_unchecked_mut.ensures.value (hop_with_value at.self key visit.after) c.take_live.new.self c.if-not-f.true refl refl c.take_live.ensures.removes c.take_live.ensures.blocks;
     }
 
 pub loop-next-preserved : goal.loop-next-preserved
@@ -83,6 +89,7 @@ loop-next-preserved g c =
       visits = at.invariant.visits ++ visit ∷ [];
       calls = FoldsTo-push (CallsAt g.F.FnMut) c.args.f at.invariant.visits at.f visit c.f.new.self at.invariant.calls (CallsAt-called g.F.FnMut c.f.ensures);
       visited = rw live (Keyed-at g.K.Key.data_of old.content.live alone at.invariant.visits key.index at.self.content.live visit visited refl c.get_unchecked_mut.ensures.value);
+      in_order = InOrder-kept g.K.Key.data_of old at.self at.invariant.visits at.invariant.index at.invariant.in_order well at.invariant.visited visit sweep.comes c.get_unchecked_mut.ensures.value (hop_with_value at.self key visit.after) c.if-not-f.false refl refl;
     }
 
 pub returns-clause-retained : goal.returns-clause-retained
@@ -97,4 +104,29 @@ returns-clause-retained g c =
       calls = at.invariant.calls;
       listed = Visits-listed g.K.Key.data_of old.content.live at.invariant.visits at.self.content.live visited;
       stay = Visits-stay g.K.Key.data_of old.content.live at.invariant.visits at.self.content.live visited;
+    }
+
+pub returns-clause-by_index : goal.returns-clause-by_index
+returns-clause-by_index g c =
+    let at = c.loop-next in
+    let old = c.args.self.now in
+    let sweep = subst (Sweeping g.K.Key.data_of old at.self at.invariant.index) c.in_default.is at.invariant.sweep in
+    let visited = at.invariant.visited in
+    let none : from_index at.invariant.index old.content.live ≡ map.empty = none_live _ (λ q there.
+    let both = in_from at.invariant.index old.content.live q there in
+    let still = ap is_some (sym (Keyed-same g.K.Key.data_of old.content.live at.invariant.visits at.invariant.index at.self.content.live visited q both.0)) ∙ both.1 in
+    absurd (omega (arith, both.0, sweep.comes q still))) in
+    let ended = Visits-end g.K.Key.data_of old at.invariant.visits at.invariant.index at.self sweep.comes visited in
+    let seen_all = seen g.K.Key.data_of at.invariant.visits in
+    let dropped_all = dropped g.K.Key.data_of at.invariant.visits in
+    record {
+      retains = record {
+        visits = at.invariant.visits;
+        last = at.f;
+        calls = at.invariant.calls;
+        listed = Visits-listed g.K.Key.data_of old.content.live at.invariant.visits at.self.content.live ended;
+        stay = Visits-stay g.K.Key.data_of old.content.live at.invariant.visits at.self.content.live ended;
+      };
+      ascending = sym (at.invariant.in_order.ascending ∙ ap (λ es. seen_all ++ es) (ap (λ m. map.entries m) none ∙ entries_none) ∙ append-nil seen_all);
+      blocks = sym (ap (blocks_without_all old) (sym (append-nil dropped_all)) ∙ at.invariant.in_order.blocks []);
     }

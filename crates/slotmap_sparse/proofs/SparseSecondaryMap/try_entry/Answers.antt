@@ -1,4 +1,5 @@
-use Rattle.std.proofs.Common.{refl, sym, arith}
+use Rattle.std.proofs.Common.{◌≡◌, ℕ, Bool, true, false, Option, None, Some, is_some, refl, sym, ap, ◌∙◌, arith}
+use Rattle.slotmap_core.specs.Secondary.{get}
 use Rattle.slotmap_sparse.proofs.EntryLemmas.{vacant_nothing, leaves_outdated, in_place_outdated, leaves_empty}
 use Rattle.slotmap_sparse.proofs.SparseSecondaryMap.try_entry.Goals as goal
 
@@ -17,6 +18,8 @@ returns g c =
           key = refl;
           pairs = leaves_outdated m valid k is _ out;
           room = c.take_slot.ensures.room;
+          occupied = λ there. absurd (let none : get m k ≡ None = vacant_nothing m valid k is in let no : is_some (get m k) ≡ false = ap is_some none in let both : ◌≡◌ {A = Bool} true false = sym there ∙ no in cc);
+          empty = λ none. absurd (let both : ◌≡◌ {A = Option (ℕ × g.row.V.Denot)} None (Some c.in-Outdated.ensures.found.1.0) = sym none ∙ c.in-Outdated.ensures.found.1.1 in cc);
           value = sym (vacant_nothing m valid k is);
           in_place = in_place_outdated m valid k is _ out;
         };
@@ -39,6 +42,8 @@ returns-in-Empty g c =
           key = refl;
           pairs = leaves_empty m valid k found.0 found.1;
           room = omega arith;
+          occupied = λ there. refl;
+          empty = λ none. refl;
           value = sym (vacant_nothing m valid k found.0);
           in_place = found;
         };

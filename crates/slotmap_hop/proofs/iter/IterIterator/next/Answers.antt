@@ -5,16 +5,16 @@ use Rattle.slotmap_hop.proofs.SlotLemmas.{slots_fit}
 use Rattle.slotmap_hop.proofs.Walking.{walk_on, found_inside, found_version}
 use Rattle.slotmap_hop.proofs.iter.IterIterator.next.Goals as goal
 
-pub invariant_of-self : goal.invariant_of-self
-invariant_of-self g c =
-    let found = c.find_live-place.ensures in
+pub invariant_of-self-2 : goal.invariant_of-self-2
+invariant_of-self-2 g c =
+    let found = c.in_ok-place.ensures in
     rw found.slots (walk_on _ _ _ _ c.self.invariant _ _ _ _ found.found found.reads)
 
 pub returns-clause-steps : goal.returns-clause-steps
 returns-clause-steps g c =
-    let found = c.find_live-place.ensures in
+    let found = c.in_ok-place.ensures in
     let inside = found_inside _ _ _ _ c.self.invariant _ _ _ _ found.found found.reads in
-    let is : g.K.Key.data_of c.from-key.result ≡ key c.find_live-place.result.0 c.find_live-place.result.1 =
+    let is : g.K.Key.data_of c.from-key.result ≡ key c.in_ok-place.place c.in_ok-place.version =
     ap g.K.Key.data_of (g.met.K.Key.from_gives_key _ _ c.from-key.ensures) ∙ g.met.K.Key.from_data _ c.new.ensures.valid ∙ c.new.ensures.value
     ∙ key_from-odd _ _ (omega (arith, slots_fit _ _ _ c.self.invariant.stands.sound)) (found_version _ _ _ _ c.self.invariant _ _ _ _ found.found found.reads) in
     (ap (λ w. w.rest) (sym c.self.view_is) ∙ found.found.first ∙ rw (is, found.slots) refl, search rules)

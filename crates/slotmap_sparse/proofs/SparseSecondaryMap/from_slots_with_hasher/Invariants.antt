@@ -2,7 +2,7 @@ use Rattle.std.proofs.Common.{◌≡◌, ◌++◌, length}
 use Rattle.std.specs.Vec.Iter.{into_iter_items, into_iter_len}
 use Rattle.slotmap_sparse.specs.Content.{IsContent}
 use Rattle.slotmap_sparse.proofs.SlotsLemmas.{Read}
-use Rattle.slotmap_sparse.proofs.slots.SparseSecondaryMap+K+V.from_slots.Given as goal
+use Rattle.slotmap_sparse.proofs.SparseSecondaryMap.from_slots_with_hasher.Given as goal
 
 abbrev pub invariant-loop-slot : goal.invariant-loop-slot
 invariant-loop-slot g l = record {

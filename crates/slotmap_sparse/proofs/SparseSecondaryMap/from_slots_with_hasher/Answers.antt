@@ -7,7 +7,7 @@ use Rattle.slotmap_core.specs.Slots.{Accepts}
 use Rattle.slotmap_core.proofs.SecondaryWrittenLemmas.{contents_by_place}
 use Rattle.slotmap_sparse.specs.Written.{with_slot}
 use Rattle.slotmap_sparse.proofs.SlotsLemmas.{Read, Read-absent, Read-slot, slice_get_next}
-use Rattle.slotmap_sparse.proofs.slots.SparseSecondaryMap+K+V.from_slots.Goals as goal
+use Rattle.slotmap_sparse.proofs.SparseSecondaryMap.from_slots_with_hasher.Goals as goal
 
 pub loop-slot-init : goal.loop-slot-init
 loop-slot-init g c =

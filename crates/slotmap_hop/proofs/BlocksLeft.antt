@@ -1,0 +1,81 @@
+-- The blocks after several removals, one after the other.
+use Rattle.std.proofs.Common.{◌≡◌, ℕ, ◌+◌, ◌≤◌, Bool, true, false, List, [], ◌∷◌, ◌++◌, cond, map as list_map, Some, append_assoc, append-nil, is_some, refl, sym, ap, ◌∙◌}
+use Rattle.std.specs.FinMap as map
+use Rattle.slotmap_core.specs.Key.{Key, key_cmp}
+use Rattle.slotmap_core.specs.Retain.{Visit, seen}
+use Rattle.slotmap_core.specs.Transition.{Removes}
+use Rattle.slotmap_core.proofs.IndexLemmas.{from_index}
+use Rattle.slotmap_core.proofs.KeyedVisits.{Keyed-same}
+use Rattle.slotmap_core.proofs.OrderLemmas.{entries_none}
+use Rattle.slotmap_core.proofs.SweepLemmas.{next_entry}
+use Rattle.slotmap_core.proofs.VisitLemmas.{Visits}
+use Rattle.slotmap_hop.specs.HopContent.{HopContent, IsHopContent, IsNextLive, blocks_without, blocks_without_all}
+use Rattle.slotmap_hop.specs.Retain.{dropped}
+
+module _ {V : Type 0} where
+  -- after one of them is removed, the others are left
+  pub blocks_taken : (now new : HopContent V) (k : Key) (ks : List Key) → Removes now.content k new.content → new.blocks ≡ blocks_without now k → blocks_without_all now (k ∷ ks) ≡ blocks_without_all new ks
+  blocks_taken now new k ks removes blocks =
+      λ j. blocks_without_all (record { content = record now.content { next = sym removes.next j }; blocks = sym blocks j }) ks
+
+  -- the keys of a map whose first entry this is
+  pub keys_first : (m n : map.FinMap key_cmp V) (k : Key) (v : V) → map.entries m ≡ (k, v) ∷ map.entries n → map.keys m ≡ k ∷ map.keys n
+  keys_first m n k v first = ap (list_map (λ (e : Key × V). e.0)) first
+
+  pub keys_none : (m : map.FinMap key_cmp V) → m ≡ map.empty → map.keys m ≡ []
+  keys_none m none = ap (λ n. map.keys n) none ∙ ap (list_map (λ (e : Key × V). e.0)) entries_none
+
+module _ {K V : Type 0} (data_of : K → Key) where
+  seen_push : (xs : List (Visit K V)) (x : Visit K V) → seen data_of (xs ++ x ∷ []) ≡ seen data_of xs ++ (data_of x.key, x.before) ∷ []
+  seen_push [] x = refl
+  seen_push (y ∷ xs) x = ap (λ es. (data_of y.key, y.before) ∷ es) (seen_push xs x)
+
+  dropped_push : (xs : List (Visit K V)) (x : Visit K V) → dropped data_of (xs ++ x ∷ []) ≡ dropped data_of xs ++ cond x.stays [] (data_of x.key ∷ [])
+  dropped_push [] x = by x.stays
+    where
+      by : (b : Bool) → cond b [] (data_of x.key ∷ []) ≡ cond b [] (data_of x.key ∷ [])
+      by b = refl
+  dropped_push (y ∷ xs) x = by y.stays (dropped_push xs x)
+    where
+      by : (b : Bool) → dropped data_of (xs ++ x ∷ []) ≡ dropped data_of xs ++ cond x.stays [] (data_of x.key ∷ [])
+          → cond b (dropped data_of (xs ++ x ∷ [])) (data_of y.key ∷ dropped data_of (xs ++ x ∷ [])) ≡ cond b (dropped data_of xs) (data_of y.key ∷ dropped data_of xs) ++ cond x.stays [] (data_of x.key ∷ [])
+      by true rest = rest
+      by false rest = ap (λ ks. data_of y.key ∷ ks) rest
+
+  -- the calls so far, in order, and what they removed
+  pub record InOrder (old : HopContent V) (visits : List (Visit K V)) (index : ℕ) (now : HopContent V) : Type 0 where
+    pub ascending : map.entries old.content.live ≡ seen data_of visits ++ map.entries (from_index index old.content.live)
+    pub blocks : (ks : List Key) → blocks_without_all old (dropped data_of visits ++ ks) ≡ blocks_without_all now ks
+
+  module _ (old now : HopContent V) (visits : List (Visit K V)) (index : ℕ) (so_far : InOrder old visits index now) (well : IsHopContent old) (visited : Visits data_of old.content.live visits (from_index index old.content.live) now.content.live)
+      (x : Visit K V) (comes : IsNextLive data_of now.content index (Some x.key)) (found : map.get now.content.live (data_of x.key) ≡ Some x.before) where
+    next_seen : map.entries old.content.live ≡ seen data_of (visits ++ x ∷ []) ++ map.entries (from_index ((data_of x.key).index + 1) old.content.live)
+    next_seen =
+        let k = data_of x.key in
+        let same : (q : Key) → index ≤ q.index → map.get old.content.live q ≡ map.get now.content.live q = λ q from. Keyed-same data_of old.content.live visits index now.content.live visited q from in
+        let first = next_entry old.content well.valid index k (λ q there from. comes.2 q (sym (ap is_some (same q from)) ∙ there) from) x.before comes.1 (same k comes.1 ∙ found) in
+        so_far.ascending ∙ ap (λ es. seen data_of visits ++ es) first
+        ∙ sym (append_assoc (seen data_of visits) ((k, x.before) ∷ []) (map.entries (from_index (k.index + 1) old.content.live)))
+        ∙ ap (λ es. es ++ map.entries (from_index (k.index + 1) old.content.live)) (sym (seen_push visits x))
+
+    -- the entry stays, and no block changes
+    pub InOrder-kept : (new : HopContent V) → x.stays ≡ true → new.content.next ≡ now.content.next → new.blocks ≡ now.blocks → InOrder old (visits ++ x ∷ []) ((data_of x.key).index + 1) new
+    InOrder-kept new stays next blocks = record {
+      ascending = next_seen;
+      blocks = λ ks.
+          ap (λ ds. blocks_without_all old (ds ++ ks)) (dropped_push visits x ∙ ap (λ b. dropped data_of visits ++ cond b [] (data_of x.key ∷ [])) stays ∙ append-nil (dropped data_of visits))
+          ∙ so_far.blocks ks ∙ λ j. blocks_without_all (record { content = record now.content { next = sym next j }; blocks = sym blocks j }) ks;
+    }
+
+    -- the key leaves
+    pub InOrder-dropped : (written new : HopContent V) → x.stays ≡ false → written.content.next ≡ now.content.next → written.blocks ≡ now.blocks → Removes written.content (data_of x.key) new.content → new.blocks ≡ blocks_without written (data_of x.key)
+        → InOrder old (visits ++ x ∷ []) ((data_of x.key).index + 1) new
+    InOrder-dropped written new stays next same removes blocks = record {
+      ascending = next_seen;
+      blocks = λ ks.
+          ap (λ ds. blocks_without_all old (ds ++ ks)) (dropped_push visits x ∙ ap (λ b. dropped data_of visits ++ cond b [] (data_of x.key ∷ [])) stays)
+          ∙ ap (blocks_without_all old) (append_assoc (dropped data_of visits) (data_of x.key ∷ []) ks)
+          ∙ so_far.blocks (data_of x.key ∷ ks)
+          ∙ (λ j. blocks_without_all (record { content = record now.content { next = sym next j }; blocks = sym same j }) (data_of x.key ∷ ks))
+          ∙ blocks_taken written new (data_of x.key) ks removes blocks;
+    }
