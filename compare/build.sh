@@ -1,23 +1,31 @@
 #!/bin/sh
-# build.sh SOURCE OUT [lists]
+# build.sh SOURCE OUT [lists [CRATES]]
 #
-# Builds OUT/rustrun over the source of the Rust crate slotmap 1.1.1, whose folder SOURCE has src/lib.rs. With the word
-# `lists` cargo builds it, with serde and serde_json from wherever cargo finds them, and it knows `slots` and `load`.
-# Without it rustc alone is needed. OUT has to be outside the repository.
+# Builds OUT/rows and OUT/rustrun over the source of the Rust crate slotmap 1.1.1, whose folder SOURCE has src/lib.rs.
+# rustc alone is needed. With the word `lists` cargo builds rustrun over serde and serde_json, and it knows the lines `slots`
+# and `load`; SOURCE then has Cargo.toml too. CRATES is a folder of crates' sources, and with it cargo asks no network.
+# OUT has to be outside the repository.
 set -eu
-[ $# -ge 2 ] || { sed -n '2,6s/^# \{0,1\}//p' "$0"; exit 2; }
+[ $# -ge 2 ] || { sed -n '2,7s/^# \{0,1\}//p' "$0"; exit 2; }
 here=$(cd "$(dirname "$0")" && pwd)
 source=$(cd "$1" && pwd)
 mkdir -p "$2"
 out=$(cd "$2" && pwd)
+rustc --edition 2021 --crate-name slotmap --crate-type rlib -O --cap-lints allow --cfg 'feature="std"' \
+    "$source/src/lib.rs" -o "$out/libslotmap.rlib"
+
+# build NAME FILE: a program over the crate.
+build() {
+    rustc --edition 2021 --crate-name "$1" -O --cap-lints allow --extern slotmap="$out/libslotmap.rlib" \
+        "$here/$2" -o "$out/$1"
+}
+
+build rows rows/main.rs
 if [ "${3:-}" != lists ]; then
-    rustc --edition 2021 --crate-name slotmap --crate-type rlib -O --cap-lints allow --cfg 'feature="std"' \
-        "$source/src/lib.rs" -o "$out/libslotmap.rlib"
-    rustc --edition 2021 --crate-name rustrun -O --cap-lints allow --extern slotmap="$out/libslotmap.rlib" \
-        "$here/rustrun.rs" -o "$out/rustrun"
+    build rustrun rustrun.rs
     exit 0
 fi
-mkdir -p "$out/cargo/src"
+mkdir -p "$out/cargo/src" "$out/cargo/.cargo"
 cp "$here/rustrun.rs" "$out/cargo/src/main.rs"
 cat >"$out/cargo/Cargo.toml" <<END
 [package]
@@ -32,6 +40,18 @@ slotmap = { path = "$source", features = ["serde"] }
 serde_json = "1"
 [workspace]
 END
+rm -f "$out/cargo/.cargo/config.toml" "$out/cargo/Cargo.lock"
+if [ -n "${4:-}" ]; then
+    crates=$(cd "$4" && pwd)
+    cat >"$out/cargo/.cargo/config.toml" <<END
+[source.crates-io]
+replace-with = "given"
+[source.given]
+directory = "$crates"
+[net]
+offline = true
+END
+fi
 cd "$out/cargo"
 RUSTFLAGS='--cap-lints allow' cargo build --quiet --release
 cp target/release/rustrun "$out/rustrun"

@@ -256,4 +256,5 @@ def main():
                 file.write(script.write(args.lines))
 
 
-main()
+if __name__ == "__main__":
+    main()

@@ -1,32 +1,194 @@
-#!/bin/sh
-# Refuses the first request for memory of each test in the files of crates/slotmap/src/tests whose names end in `memory`, one
-# for each map, then the second, and so on, until no request is left to refuse. A test may then end in one of two ways: its call
-# was refused and all is as before, or what the test stands on was refused. Some 25 turns, each about a minute, unproved. The
-# status is 0 where nothing else was seen, and each test had a call refused.
-cd "$(dirname "$0")/../crates/slotmap" || exit 2
-turns=${1:-60}
-seen=$(mktemp) || exit 2
-trap 'rm -f "$seen"' EXIT
-turn=0
-while [ "$turn" -lt "$turns" ]; do
-    turn=$((turn + 1))
-    said=$(rt try --test --fail-alloc "$turn" -- memory:: 2>&1)
-    tests=$(echo "$said" | grep -c '^test tests::[a-z_]*memory::')
-    passed=$(echo "$said" | grep -c '^test tests::[a-z_]*memory::.* ok$')
-    refused=$(echo "$said" | grep -c 'error: "refused, and all is as before"$')
-    needed=$(echo "$said" | grep -c 'error: "no memory for what the test needs"$')
-    echo "request $turn refused: $passed tests passed, $refused calls refused, $needed tests not begun"
-    if [ "$tests" -eq 0 ] || [ $((passed + refused + needed)) -ne "$tests" ]; then
-        echo "$said"
+#!/usr/bin/env bash
+# tests/memory.sh [PROGRAM ..]
+#
+# Runs the programs primary_rows, secondary_rows and slotrun with refused memory, or those that are named. Each program
+# runs once for each of its requests for memory, with this request refused alone, and once with all from it on refused.
+#
+# - A row program with one refused request prints what it prints without, and ends with status 0: the refused call left
+#   all as it was, and was made once more. Where memory for the program's own work is refused, for the text of a file or
+#   for its maps before the first row, it ends with 3: these requests are counted. With all requests from one on refused
+#   it ends with 0, 1 or 3, and each difference that it prints says `out of memory`.
+# - `slotrun` prints what it prints without, up to a line that says `memory`, or `no script` at the end. Where one request
+#   was refused, the other lines are then those of the script without the refused line.
+#
+# Row files with a call that is repeated over 1,000 times are left out, and the random rows of secondary_rows, which count
+# drops after an `extend`: it keeps the pairs before the fault, and is called again with the rest. The first fault is
+# printed, and ends the script with status 1. It uses the programs as they were built, by `rt run` in their folders or by
+# the gate, needs a C compiler, and takes some minutes on four cores. JOBS=N sets how many runs there are at a time.
+set -euo pipefail
+top=$(cd "$(dirname "$0")/.." && pwd)
+
+# A case is a program with its words and its input. It has a folder of its own:
+#   program, words, input, folder   what runs, and where
+#   full, status                    what it prints and how it ends where no memory is refused
+#   own                             the requests for the program's own work
+
+# read_text FILE: the whole file as `text`.
+read_text() {
+    IFS= read -r -d '' text <"$1" || true
+}
+export -f read_text
+
+# run_case OUT VARIABLE NUMBER: runs the program of this case, with its status as `status`.
+run_case() {
+    status=0
+    # shellcheck disable=SC2086
+    env -C "$folder" "LD_PRELOAD=$case/../refuse.so" "$2=$3" "$program" $words <"$input" >"$1" 2>"$1.errors" || status=$?
+}
+export -f run_case
+
+# fault WHY SEEN EXPECTED: prints what went wrong, and ends the run of all cases.
+fault() {
+    echo "fault: $program $words <$input with $refused: $1; its status is $status, and its output differs so:"
+    diff "$3" "$2" | head -n 10 | cut -c 1-300
+    exit 255
+}
+export -f fault
+
+# check_rows OUT: what a row program printed.
+check_rows() {
+    local text seen
+    read_text "$1"
+    seen=$text
+    read_text "$case/full"
+    if [ "$status" = 0 ] && [ "$seen" = "$text" ]; then
+        return
+    elif [ "${refused%=*}" = REFUSE_AT ]; then
+        [[ $status = 3 && $text = "$seen"* ]] || fault "it has to print the same" "$1" "$case/full"
+        echo "$refused" >>"$case/own"
+    else
+        [[ $status = [13] ]] || fault "the status has to be 0, 1 or 3" "$1" "$case/full"
+        grep -v -e ' differences$' -e '-> out of memory, expected ' -e ': extend.* as memory ran out, expected ' \
+            "$1" >"$1.other" || return 0
+        fault "each difference has to say: out of memory" "$1" "$case/full"
+    fi
+}
+export -f check_rows
+
+# check_slotrun OUT: what slotrun printed.
+check_slotrun() {
+    local text seen line
+    read_text "$1"
+    seen=$text
+    read_text "$case/full"
+    [ "$seen" = "$text" ] && [ "$status" = "$(<"$case/status")" ] && return
+    line=$(cmp "$1" "$case/full" 2>&1 | sed -n 's/.*line \([0-9]*\).*/\1/p')
+    case $status,$(sed -n "${line:-1}p" "$1") in
+        0,memory) ;;
+        3,memory)
+            [[ $refused = REFUSE_FROM=* && $(tail -n 1 "$1") = "no script" ]] && return 0
+            fault "the last line has to be: no script" "$1" "$case/full"
+            ;;
+        3, | 3,"no script")
+            [ "$refused" = "REFUSE_AT=${refused#*=}" ] && echo "$refused" >>"$case/own"
+            return 0
+            ;;
+        *) fault "the first other line has to be: memory" "$1" "$case/full" ;;
+    esac
+    [ "${refused%=*}" = REFUSE_AT ] || return 0
+    # The refused line changed nothing.
+    sed "${line}d" "$1" >"$1.rest"
+    sed "${line}d" "$input" | "$program" "$words" >"$1.expected"
+    cmp -s "$1.rest" "$1.expected" || fault "line $line was refused and changed something" "$1.rest" "$1.expected"
+}
+export -f check_slotrun
+
+# enter_case CASE: what runs, and where.
+enter_case() {
+    case=$1
+    program=$(<"$case/program")
+    words=$(<"$case/words")
+    input=$(<"$case/input")
+    folder=$(<"$case/folder")
+}
+export -f enter_case
+
+# try_requests CASE CHECK N ..: refuses each of these requests alone, and all from it on.
+try_requests() {
+    local case program words input folder status refused number out=$1/out.$BASHPID check=$2
+    enter_case "$1"
+    shift 2
+    # A program that hangs is ended.
+    ulimit -t 60
+    for number in "$@"; do
+        for refused in REFUSE_AT REFUSE_FROM; do
+            run_case "$out" $refused "$number"
+            refused=$refused=$number
+            "$check" "$out"
+        done
+    done
+}
+export -f try_requests
+
+# try_case CHECK FOLDER PROGRAM WORDS INPUT STATUS: refuses each request of a program in turn, which ends with this status
+# where none is refused.
+try_case() {
+    local case program words input folder status requests own
+    case=$(mktemp -d "$scratch/case.XXXXXX")
+    echo "$2" >"$case/folder"
+    echo "$3" >"$case/program"
+    echo "$4" >"$case/words"
+    echo "$5" >"$case/input"
+    : >"$case/own"
+    enter_case "$case"
+    run_case "$case/full" REFUSE_COUNT 1
+    echo "$status" >"$case/status"
+    requests=$(sed -n 's/^requests //p' "$case/full.errors")
+    if [ "$status" != "$6" ] || [ -z "$requests" ]; then
+        echo "fault: $program $words <$input ends with status $status where no memory is refused"
         exit 1
     fi
-    echo "$said" | grep -B1 'error: "refused, and all is as before"$' | sed -n 's/^test \(.*\) \.\.\..*/\1/p' >>"$seen"
-    if [ "$passed" -eq "$tests" ]; then
-        calls=$(sort -u "$seen" | wc -l)
-        echo "$calls of $tests tests had a call refused, $(wc -l <"$seen") calls in all"
-        [ "$calls" -eq "$tests" ]
-        exit
+    seq 1 "$requests" | xargs -P "${JOBS:-4}" -n 64 bash -c 'try_requests "$@"' try_requests "$case" "$1" || exit 1
+    own=$(wc -l <"$case/own")
+    echo "$(basename "$program") $words ${input#"$top/"}: $requests requests, $own for the program's own work"
+    all_requests=$((all_requests + requests))
+    all_own=$((all_own + own))
+    cases=$((cases + 1))
+}
+
+# try_rows PROGRAM: the row files that the program's file `args` names.
+try_rows() {
+    local data=$top/crates/$1/data file
+    while read -r file; do
+        if grep -qE '^repeat [0-9]{4,} ' "$data/$file"; then
+            echo "$1 $file: left out, since a call is repeated over 1,000 times"
+        elif [[ $1/$file = secondary_rows/random-* ]]; then
+            echo "$1 $file: left out, since it counts drops after an extend, which is called again with the rest"
+        else
+            try_case check_rows "$data" "$top/crates/$1/out/$1" "$file" /dev/null 0
+        fi
+    done <"$top/crates/$1/args"
+}
+
+# try_slotrun: the scripts of tests/memory, for the kinds that their names end in. A bad script ends with status 2.
+try_slotrun() {
+    local script kinds kind status
+    for script in "$top"/tests/memory/*.txt; do
+        kinds=${script%.txt}
+        case $script in */bad*) status=2 ;; *) status=0 ;; esac
+        for kind in $(echo "${kinds#*.}" | tr . ' '); do
+            try_case check_slotrun "$top" "$top/crates/slotrun/out/slotrun" "$kind" "$script" $status
+        done
+    done
+}
+
+[ $# -gt 0 ] || set -- primary_rows secondary_rows slotrun
+for program in "$@"; do
+    if [ ! -x "$top/crates/$program/out/$program" ]; then
+        echo "memory.sh: crates/$program/out/$program isn't built: run \`rt run\` in crates/$program first" >&2
+        exit 2
     fi
 done
-echo "a request was still refused after $turns turns"
-exit 1
+scratch=$(mktemp -d)
+trap 'rm -rf "$scratch"' EXIT
+"${CC:-cc}" -O2 -shared -fPIC -o "$scratch/refuse.so" "$top/tests/refuse.c"
+all_requests=0
+all_own=0
+cases=0
+for program in "$@"; do
+    case $program in
+        slotrun) try_slotrun ;;
+        *) try_rows "$program" ;;
+    esac
+done
+echo "$cases files and scripts, $all_requests requests, $all_own for programs' own work; $((2 * all_requests)) runs, no fault"

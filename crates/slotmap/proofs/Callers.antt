@@ -3,6 +3,7 @@ use Rattle.slotmap_core.proofs.Callers as core
 use Rattle.slotmap_core.proofs.SecondaryCallers as side
 pub use Rattle.slotmap_core.proofs.AgainLemmas.{offer_unused, live_removed_again, live_bound_again, detached_bound_again}
 pub use Rattle.slotmap_core.proofs.Callers.{inserted_fresh, inserted_len, removed_len}
+pub use Rattle.slotmap_core.proofs.KeyedLemmas.{get-keyed}
 pub use Rattle.slotmap_core.proofs.KeyLemmas.{keys_total, exact_keys, same_or_other}
 pub use Rattle.slotmap_core.proofs.Maps.{item_inserted}
 pub use Rattle.slotmap_core.proofs.RetainLemmas.{retained_as, retained_counted, retained_unwritten}
@@ -16,5 +17,5 @@ pub use Rattle.slotmap_core.proofs.Walks.{Walks, walk_start, walk_here, walk_nex
 
 pub ruleset keys = (core.keys)
 
--- the same on what a secondary map holds
-pub ruleset secondary = (side.secondary)
+-- the same on what a secondary map holds, by its indices or by its keys
+pub ruleset secondary = (side.secondary, get-keyed)

@@ -9,4 +9,5 @@ pub use Rattle.slotmap_core.specs.Call.{StaysValid, MayGrow, MakesRoom}
 pub use Rattle.slotmap_core.specs.Retain.{RetainsBy, CallableOnEach}
 pub use Rattle.slotmap_core.specs.Copy.{IsCopy}
 pub use Rattle.slotmap_core.specs.Disjoint.{CanReplace, AreValuesOf, with_values}
-pub use Rattle.slotmap_core.specs.Secondary.{Pairs, get, entry, has_entry, put, bind, remove}
+pub use Rattle.slotmap_core.specs.Secondary.{Pairs, get, entry, has_entry, put, bind, remove, keyed}
+pub use Rattle.slotmap_core.specs.Contents.{contents}

@@ -14,8 +14,10 @@ mod scheduler;
 #[cfg(test)]
 mod shown;
 mod side_table;
+mod side_writes;
 mod sparse_table;
 mod stale;
+mod strangers;
 #[cfg(test)]
 mod tests;
 mod tour;

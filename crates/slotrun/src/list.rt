@@ -117,8 +117,8 @@ fn number(value: &Value) -> Result<i32, JsonError> {
     i32::try_from(number).map_err(|_| JsonError::Shape)
 }
 
-// Writes why a map wasn't read.
-fn write_refusal(output: &mut impl Write, error: &LoadError) -> io::Result<()> {
+/// Writes why a map wasn't read.
+pub fn write_refusal(output: &mut impl Write, error: &LoadError) -> io::Result<()> {
     match error {
         LoadError::Json(JsonError::Shape) => writeln!(output, "shape"),
         LoadError::Slots(SlotsError::TooMany) => writeln!(output, "too many"),

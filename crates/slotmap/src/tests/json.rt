@@ -2,8 +2,8 @@
 
 use super::text::{Slot, done_text, key, key_text, slots, slots_text};
 use crate::{
-    DefaultKey, JsonError, OutOfMemory, SlotRecord, key_from_value, key_to_value, slots_from_value,
-    slots_to_value,
+    DefaultKey, JsonError, Key, OutOfMemory, SlotMap, SlotRecord, key_from_value, key_to_value,
+    slots_from_value, slots_to_value,
 };
 use serde_json::Value;
 use std::alloc::Global;
@@ -153,5 +153,31 @@ fn each_value_of_a_long_list_is_shown_once(rt: HostRuntime) -> Result<(), Fail> 
     let text = slots_text(rt.alloc(), &list)?;
     let again = slots_text(rt.alloc(), &read)?;
     assert!(rt; text.as_str() == again.as_str());
+    Ok(())
+}
+
+type Linked = SlotMap<DefaultKey, DefaultKey>;
+
+fn linked_json(alloc: Global, map: &Linked) -> Result<Value, Fail> {
+    let list = map.to_slots()?;
+    let write_key = |key: &DefaultKey| key_to_value(alloc, *key);
+    Ok(slots_to_value(alloc, &list, write_key)?)
+}
+
+fn read_linked(alloc: Global, value: &Value) -> Result<Linked, Fail> {
+    let read_key = |value: &Value| key_from_value::<DefaultKey>(value);
+    let list = slots_from_value(alloc, value, read_key)?;
+    Ok(SlotMap::from_slots(alloc, list)?)
+}
+
+#[test]
+fn values_that_hold_keys_come_back(rt: HostRuntime) -> Result<(), Fail> {
+    let mut map: Linked = SlotMap::new(rt.alloc())?;
+    let first = map.insert(DefaultKey::null())?;
+    let second = map.insert(first)?;
+    let value = linked_json(rt.alloc(), &map)?;
+    let read = read_linked(rt.alloc(), &value)?;
+    assert_eq!(rt; read.get(second).copied(), Some(first));
+    assert_eq!(rt; read.get(first).copied(), Some(DefaultKey::null()));
     Ok(())
 }

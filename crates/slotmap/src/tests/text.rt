@@ -1,4 +1,4 @@
-//! What calls answer, as text: a key as `2v3`, a pair as `2v3:5`, a slot as `5@3` or `-@2`.
+//! Results as text: a key as `2v3`, a slot as `5@3` or `-@2`.
 
 use crate::{DefaultKey, Key, KeyData, SlotRecord};
 use std::alloc::{AllocError, Global};
@@ -9,35 +9,8 @@ pub fn key(index: u32, version: u32) -> DefaultKey {
     DefaultKey::from(KeyData::new(index, version))
 }
 
-pub fn word(alloc: Global, text: &str) -> Result<String, AllocError> {
-    text.to_string(alloc)
-}
-
 pub fn key_text<K: Key>(alloc: Global, key: K) -> Result<String, AllocError> {
     format!(in alloc; "{:?}", key.data())
-}
-
-pub fn value_text(alloc: Global, value: Option<u64>) -> Result<String, AllocError> {
-    match value {
-        Some(value) => format!(in alloc; "{value}"),
-        None => word(alloc, "none"),
-    }
-}
-
-/// The value before, or the value that came back.
-pub fn put_text(alloc: Global, put: Result<u64, u64>) -> Result<String, AllocError> {
-    match put {
-        Ok(before) => format!(in alloc; "{before}"),
-        Err(back) => format!(in alloc; "{back} back"),
-    }
-}
-
-/// The same of two values.
-pub fn puts_text(alloc: Global, put: Result<[u64; 2], [u64; 2]>) -> Result<String, AllocError> {
-    match put {
-        Ok(before) => format!(in alloc; "{} {}", before[0], before[1]),
-        Err(back) => format!(in alloc; "{} {} back", back[0], back[1]),
-    }
 }
 
 /// `done`, or the refusal's message.
@@ -46,37 +19,13 @@ pub fn done_text<E: Display + Drop>(
     done: Result<(), E>,
 ) -> Result<String, AllocError> {
     match done {
-        Ok(()) => word(alloc, "done"),
+        Ok(()) => "done".to_string(alloc),
         Err(error) => format!(in alloc; "{error}"),
     }
 }
 
-pub fn keys_text<K: Key>(alloc: Global, keys: &[K]) -> Result<String, AllocError> {
-    let mut text = word(alloc, "keys")?;
-    for key in keys {
-        text.push_str(&format!(in alloc; " {:?}", key.data())?)?;
-    }
-    Ok(text)
-}
-
-pub fn values_text(alloc: Global, values: &[u64]) -> Result<String, AllocError> {
-    let mut text = word(alloc, "values")?;
-    for value in values {
-        text.push_str(&format!(in alloc; " {value}")?)?;
-    }
-    Ok(text)
-}
-
-pub fn pairs_text<K: Key>(alloc: Global, pairs: &[(K, u64)]) -> Result<String, AllocError> {
-    let mut text = word(alloc, "pairs")?;
-    for (key, value) in pairs {
-        text.push_str(&format!(in alloc; " {:?}:{value}", key.data())?)?;
-    }
-    Ok(text)
-}
-
 pub fn slots_text(alloc: Global, slots: &[SlotRecord<u64>]) -> Result<String, AllocError> {
-    let mut text = word(alloc, "slots")?;
+    let mut text = "slots".to_string(alloc)?;
     for slot in slots {
         let slot = match slot.value {
             Some(value) => format!(in alloc; " {value}@{}", slot.version)?,
@@ -87,7 +36,7 @@ pub fn slots_text(alloc: Global, slots: &[SlotRecord<u64>]) -> Result<String, Al
     Ok(text)
 }
 
-/// Says that memory was refused, and drops what the refusal hands back.
+/// Drops what a refusal hands back.
 pub fn no_memory<E: Drop>(_refusal: E) -> AllocError {
     AllocError
 }

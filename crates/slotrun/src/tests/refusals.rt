@@ -1,13 +1,13 @@
 //! Replies that no small script can bring, and maps that have fewer lines.
 
 use crate::commands::{Commands, Plain};
-use crate::list::{Listed, load, write_slots};
+use crate::list::{Listed, LoadError, write_refusal};
 use crate::reply::{LineReply, write_reply};
 use crate::run::{finish, run_on, run_stretches};
 use crate::script::parse;
 use slotmap_basic::SlotMap;
 use slotmap_core::commands::Reply;
-use slotmap_core::errors::{OutOfMemory, SlotsError};
+use slotmap_core::errors::{JsonError, OutOfMemory, SlotsError};
 use slotmap_core::keys::DefaultKey;
 use slotmap_core::serial::SlotRecord;
 use std::alloc::Global;
@@ -24,6 +24,23 @@ fn words(rt: HostRuntime) -> Result<(), Fail> {
     for (reply, want) in &mut table {
         let mut output = Vec::new(rt.alloc());
         write_reply(&mut output, reply)?;
+        assert_eq!(rt; output.as_slice(), want.as_bytes());
+    }
+    Ok(())
+}
+
+// Why a list isn't read.
+#[test]
+fn refusals_of_lists(rt: HostRuntime) -> Result<(), Fail> {
+    let table: [(LoadError, &str); 4] = [
+        (LoadError::Json(JsonError::Shape), "shape\n"),
+        (LoadError::Json(JsonError::Memory), "memory\n"),
+        (LoadError::Slots(SlotsError::Memory), "memory\n"),
+        (LoadError::Slots(SlotsError::TooMany), "too many\n"),
+    ];
+    for (error, want) in &table {
+        let mut output = Vec::new(rt.alloc());
+        write_refusal(&mut output, error)?;
         assert_eq!(rt; output.as_slice(), want.as_bytes());
     }
     Ok(())

@@ -6,7 +6,7 @@ use std::process::Abort;
 use std::test::Fail;
 
 // Each line of a script, and its reply.
-const SCRIPTS: [&[(&str, &str)]; 16] = [
+static SCRIPTS: [&[(&str, &str)]; 16] = [
     &[],
     &[
         ("insert 5", "key 4294967297"),
@@ -179,6 +179,10 @@ const SCRIPTS: [&[(&str, &str)]; 16] = [
             "load [{\"version\":0},{\"value\":\"x\",\"version\":1}]",
             "shape",
         ),
+        (
+            "load [{\"version\":0},{\"value\":true,\"version\":1}]",
+            "shape",
+        ),
         ("len", "len 2"),
     ],
     &[
@@ -212,7 +216,7 @@ const SCRIPTS: [&[(&str, &str)]; 16] = [
 ];
 
 // The packed order shows in no reply: keys come by ascending index. It decides which place a cleared map uses first.
-const DENSE_SCRIPTS: [&[(&str, &str)]; 1] = [&[
+static DENSE_SCRIPTS: [&[(&str, &str)]; 1] = [&[
     ("insert 1", "key 4294967297"),
     ("insert 2", "key 4294967298"),
     ("insert 3", "key 4294967299"),
@@ -238,7 +242,7 @@ const DENSE_SCRIPTS: [&[(&str, &str)]; 1] = [&[
 ]];
 
 // The same on a map whose walks hop.
-const HOP_SCRIPTS: [&[(&str, &str)]; 3] = [
+static HOP_SCRIPTS: [&[(&str, &str)]; 3] = [
     &[
         ("insert 5", "key 4294967297"),
         ("insert 6", "key 4294967298"),
@@ -286,6 +290,75 @@ const HOP_SCRIPTS: [&[(&str, &str)]; 3] = [
     ],
 ];
 
+// Which slot an insert uses tells the kinds of map apart. These replies are the Rust crate's.
+static STACK_SLOTS: [&[(&str, &str)]; 1] = [&[
+    ("insert 1", "key 4294967297"),
+    ("insert 2", "key 4294967298"),
+    ("insert 3", "key 4294967299"),
+    ("insert 4", "key 4294967300"),
+    ("remove 4294967298", "value 2"),
+    ("remove 4294967300", "value 4"),
+    ("remove 4294967299", "value 3"),
+    ("insert 5", "key 12884901891"),
+    ("insert 6", "key 12884901892"),
+    ("insert 7", "key 12884901890"),
+    ("insert 8", "key 4294967301"),
+]];
+
+static BASIC_SLOTS: [&[(&str, &str)]; 1] = [&[
+    ("insert 1", "key 4294967297"),
+    ("insert 2", "key 4294967298"),
+    ("clear", "done"),
+    ("insert 3", "key 12884901890"),
+]];
+
+static DENSE_SLOTS: [&[(&str, &str)]; 1] = [&[
+    ("insert 1", "key 4294967297"),
+    ("insert 2", "key 4294967298"),
+    ("clear", "done"),
+    ("insert 3", "key 12884901889"),
+]];
+
+static HOP_SLOTS: [&[(&str, &str)]; 1] = [&[
+    ("insert 1", "key 4294967297"),
+    ("insert 2", "key 4294967298"),
+    ("insert 3", "key 4294967299"),
+    ("insert 4", "key 4294967300"),
+    ("remove 4294967298", "value 2"),
+    ("remove 4294967300", "value 4"),
+    ("remove 4294967299", "value 3"),
+    ("insert 5", "key 12884901892"),
+    ("insert 6", "key 12884901891"),
+    ("insert 7", "key 12884901890"),
+    ("insert 8", "key 4294967301"),
+]];
+
+// A list of eight records, which is longer than 200 bytes, and an insert whose line is.
+static LONG_LINES: [&[(&str, &str)]; 1] = [&[
+    (
+        "load [{\"value\":null,\"version\":0},{\"value\":1,\"version\":1},{\"value\":2,\"version\":3},\
+        {\"value\":3,\"version\":5},{\"value\":4,\"version\":7},{\"value\":5,\"version\":9},\
+        {\"value\":6,\"version\":11},{\"value\":null,\"version\":2}]",
+        "done",
+    ),
+    ("len", "len 6"),
+    ("get 47244640262", "value 6"),
+    (
+        "slots",
+        "[{\"value\":null,\"version\":0},{\"value\":1,\"version\":1},{\"value\":2,\"version\":3},\
+        {\"value\":3,\"version\":5},{\"value\":4,\"version\":7},{\"value\":5,\"version\":9},\
+        {\"value\":6,\"version\":11},{\"value\":null,\"version\":2}]",
+    ),
+    (
+        "insert 0000000000000000000000000000000000000000000000000000000000000000000000000000000000\
+        00000000000000000000000000000000000000000000000000000000000000000000000000000000000000000\
+        00000000000000000000000000000000000000000000000000000000000000000000000000000000000000007",
+        "key 12884901895",
+    ),
+    ("get 12884901895", "value 7"),
+    ("insert 8", "key 4294967304"),
+]];
+
 fn hold_replies(
     rt: &impl Abort,
     alloc: Global,
@@ -313,8 +386,25 @@ fn replies(rt: HostRuntime) -> Result<(), Fail> {
     hold_replies(&rt, rt.alloc(), "hop", &HOP_SCRIPTS)
 }
 
+#[test]
+fn kinds(rt: HostRuntime) -> Result<(), Fail> {
+    hold_replies(&rt, rt.alloc(), "basic", &STACK_SLOTS)?;
+    hold_replies(&rt, rt.alloc(), "dense", &STACK_SLOTS)?;
+    hold_replies(&rt, rt.alloc(), "basic", &BASIC_SLOTS)?;
+    hold_replies(&rt, rt.alloc(), "dense", &DENSE_SLOTS)?;
+    hold_replies(&rt, rt.alloc(), "hop", &HOP_SLOTS)
+}
+
+#[test]
+fn long_lines(rt: HostRuntime) -> Result<(), Fail> {
+    for kind in ["basic", "dense", "hop"] {
+        hold_replies(&rt, rt.alloc(), kind, &LONG_LINES)?;
+    }
+    Ok(())
+}
+
 // Scripts, and which of their lines is the first that is bad.
-const BAD: [(&[u8], usize); 45] = [
+static BAD: [(&[u8], usize); 50] = [
     (b"insert", 1),
     (b"insert ", 1),
     (b"insert -", 1),
@@ -345,6 +435,11 @@ const BAD: [(&[u8], usize); 45] = [
     (b"len 1", 1),
     (b"len ", 1),
     (b"len\r\n", 1),
+    (b"len\r", 1),
+    (b"insert\t1", 1),
+    (b"get\t1\n", 1),
+    (b"\xef\xbb\xbflen\n", 1),
+    (b"\xef\xbb\xbfload [{\"version\":0}]", 1),
     (b"len\xff\n", 1),
     (b"keys ", 1),
     (b"clear ", 1),
@@ -363,7 +458,7 @@ const BAD: [(&[u8], usize); 45] = [
 ];
 
 // Lines that a map whose keys can't be detached has not.
-const BAD_HOP: [(&[u8], usize); 2] = [
+static BAD_HOP: [(&[u8], usize); 2] = [
     (b"insert 1\ndetach 4294967297\n", 2),
     (b"reattach 4294967297 1", 1),
 ];

@@ -1,0 +1,76 @@
+//! Values that are counted.
+
+use std::cell::Cell;
+use std::rc::Rc;
+
+/// How many values were made, cloned and dropped in a row.
+#[derive(Default)]
+pub struct Counts {
+    made: Cell<u64>,
+    cloned: Cell<u64>,
+    dropped: Cell<u64>,
+    cloned_before: Cell<u64>,
+    dropped_before: Cell<u64>,
+}
+
+impl Counts {
+    /// How many values were made or cloned, and not dropped.
+    pub fn alive(&self) -> u64 {
+        self.made.get() + self.cloned.get() - self.dropped.get()
+    }
+
+    /// How many values were cloned since this was asked last.
+    pub fn take_cloned(&self) -> u64 {
+        let cloned = self.cloned.get();
+        cloned - self.cloned_before.replace(cloned)
+    }
+
+    /// How many values were dropped since this was asked last.
+    pub fn take_dropped(&self) -> u64 {
+        let dropped = self.dropped.get();
+        dropped - self.dropped_before.replace(dropped)
+    }
+}
+
+fn count(counter: &Cell<u64>) {
+    counter.set(counter.get() + 1);
+}
+
+/// A number that is counted when it is made, cloned and dropped.
+pub struct Number {
+    pub value: u64,
+    counts: Rc<Counts>,
+}
+
+impl Number {
+    pub fn new(counts: &Rc<Counts>, value: u64) -> Number {
+        count(&counts.made);
+        Number { value, counts: counts.clone() }
+    }
+}
+
+impl Clone for Number {
+    fn clone(&self) -> Number {
+        count(&self.counts.cloned);
+        Number { value: self.value, counts: self.counts.clone() }
+    }
+}
+
+/// For `or_default`; such a number is counted nowhere.
+impl Default for Number {
+    fn default() -> Number {
+        Number { value: 0, counts: Rc::default() }
+    }
+}
+
+impl Drop for Number {
+    fn drop(&mut self) {
+        count(&self.counts.dropped);
+    }
+}
+
+impl PartialEq for Number {
+    fn eq(&self, other: &Number) -> bool {
+        self.value == other.value
+    }
+}

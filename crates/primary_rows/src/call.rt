@@ -1,0 +1,129 @@
+//! The words of a call as plain values.
+
+use slotmap::DefaultKey;
+use slotmap_rows::Word;
+
+/// A word that says what is meant.
+#[derive(Clone, Copy)]
+pub enum Mode {
+    Even,
+    EveryOther,
+    Fails,
+    Rest,
+    Iter,
+    Keys,
+    Values,
+}
+
+// A word of a call.
+#[derive(Clone, Copy)]
+enum Part {
+    Number(u64),
+    Key(DefaultKey),
+    Mode(Mode),
+    Other,
+}
+
+/// The words of a call, by their form.
+#[derive(Clone, Copy)]
+pub enum Words {
+    Nothing,
+    Number(u64),
+    Numbers(u64, u64),
+    Key(DefaultKey),
+    Keys(DefaultKey, DefaultKey),
+    Put(DefaultKey, u64),
+    PutTwo(DefaultKey, u64, DefaultKey, u64),
+    Mode(Mode),
+    Named(Mode, u64),
+    /// A mode, a number, and bounds of another one.
+    Bounded(Mode, u64, u64, u64),
+    Other,
+}
+
+/// Reads the words of a call.
+pub fn read_words(words: &[Word<'_>]) -> Words {
+    match words {
+        [] => Words::Nothing,
+        [first] => read_one(read_part(first)),
+        [first, second] => read_two(read_part(first), read_part(second)),
+        [first, second, third, fourth] => {
+            let front = read_two(read_part(first), read_part(second));
+            let back = read_two(read_part(third), read_part(fourth));
+            read_four(front, back)
+        }
+        _ => Words::Other,
+    }
+}
+
+fn read_part(word: &Word<'_>) -> Part {
+    match word {
+        Word::Number(number) => Part::Number(*number),
+        Word::Key(key) => Part::Key(*key),
+        Word::Name(name) => match read_mode(name) {
+            Some(mode) => Part::Mode(mode),
+            None => Part::Other,
+        },
+        _ => Part::Other,
+    }
+}
+
+fn read_mode(name: &str) -> Option<Mode> {
+    Some(match name {
+        "even" => Mode::Even,
+        "every_other" => Mode::EveryOther,
+        "fails" => Mode::Fails,
+        "rest" => Mode::Rest,
+        "iter" => Mode::Iter,
+        "keys" => Mode::Keys,
+        "values" => Mode::Values,
+        _ => return None,
+    })
+}
+
+fn read_one(word: Part) -> Words {
+    match word {
+        Part::Number(number) => Words::Number(number),
+        Part::Key(key) => Words::Key(key),
+        Part::Mode(mode) => Words::Mode(mode),
+        Part::Other => Words::Other,
+    }
+}
+
+fn read_two(first: Part, second: Part) -> Words {
+    match first {
+        Part::Number(number) => match second {
+            Part::Number(other) => Words::Numbers(number, other),
+            _ => Words::Other,
+        },
+        Part::Key(key) => read_after_key(key, second),
+        Part::Mode(mode) => match second {
+            Part::Number(number) => Words::Named(mode, number),
+            _ => Words::Other,
+        },
+        Part::Other => Words::Other,
+    }
+}
+
+fn read_after_key(key: DefaultKey, second: Part) -> Words {
+    match second {
+        Part::Key(other) => Words::Keys(key, other),
+        Part::Number(value) => Words::Put(key, value),
+        _ => Words::Other,
+    }
+}
+
+// Four words, by the first two and the last two.
+fn read_four(front: Words, back: Words) -> Words {
+    match front {
+        Words::Put(key, value) => match back {
+            Words::Put(second, other) => Words::PutTwo(key, value, second, other),
+            _ => Words::Other,
+        },
+        Words::Named(mode, steps) => match back {
+            Words::Numbers(least, most) => Words::Bounded(mode, steps, least, most),
+            _ => Words::Other,
+        },
+        _ => Words::Other,
+    }
+}

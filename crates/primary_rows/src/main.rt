@@ -1,0 +1,177 @@
+//! Holds the maps that hand out their keys to rows of calls with their results.
+//!
+//! The arguments are the names of files of rows, whose form `slotmap_rows` says. Each file is held to each kind of map that its
+//! rows are for: `basic`, `dense` and `hop` are `SlotMap`, `DenseSlotMap` and `HopSlotMap`, on which each call is made. In
+//! `run-basic`, `run-dense` and `run-hop` the row's calls up to this one are the commands of a run by `run_new`, and then once
+//! more of two by `run_new` and `run`, and the result is the last reply. In `detaching-basic` and `detaching-dense` the runs are
+//! those of maps whose keys can be detached. The status is 1 where a result differs, and 3 where a file can't be read, the
+//! output can't be written or memory runs out twice.
+//!
+//! A key `K` is written `2v3` or `null`, a value `V` and a number `N` in digits, a slot `5@3` or `-@2`. These are the calls of
+//! the maps, with their results:
+//!
+//! | Call | Result |
+//! |---|---|
+//! | `new`, `with_key`, `with_capacity N`, `with_capacity_and_key N`, `drop` | a new map takes the place of the row's, or `too great` |
+//! | `len`, `is_empty`, `contains_key K` | the number, or `true` or `false` |
+//! | `has_capacity N`, `capacity_is_within N` | whether `capacity()` is at least, or at most, that number |
+//! | `reserve N`, `try_reserve N` | `done` or `too great` |
+//! | `insert V` | the new key |
+//! | `insert_with_key V`, `try_insert_with_key V` | the new key; the closure returns V and the key's index |
+//! | `try_insert_with_key fails N` | `failed` and N with the key's index, which is the closure's error |
+//! | `insert_made` | the new key, whose number is the value; at index 2 `failed 9` |
+//! | `get K`, `index K`, `get_unchecked K`, `remove K`, `detach K` | the value or `none` |
+//! | `replace K V`, `get_mut K V`, `index_mut K V`, `get_unchecked_mut K V` | V is stored: the value before, or `V back` |
+//! | `reattach K V` | `done`, or `V back` |
+//! | `replace_disjoint K V K V`, `replace_disjoint` | both values before, or `V V back`; with no key `true` |
+//! | `clear` | `done` |
+//! | `retain even` | even values are kept, and each is made ten times as great |
+//! | `retain every_other` | what the first, third, fifth call sees is kept, and each value doubled: the values that it saw |
+//! | `iter N`, `keys N`, `values N` | the items of N steps, how many are left then, and these; a clone has to yield them too |
+//! | `for` | the pairs of `for` over `&map` |
+//! | `drain N` | the pairs of N steps, and how many are left as it is dropped |
+//! | `into_iter N`, `into_iter rest N` | the same of a clone of the map, or as at `iter` |
+//! | `drain_into`, `keys_into` | the pairs, or the keys |
+//! | `to_slots`, `from_slots SLOT ..`, `through_slots` | the list; the map of the list, or why it is refused; both |
+//! | `check_slots LIMIT SLOT ..` | `done`, or why the list is refused |
+//! | `clone`, `drop_clone`, `exchange`, `clone_from` | a clone is set beside the map, dropped, exchanged with it, or cloned |
+//!
+//! Of more than a thousand items a result has only how many they are: `keys (100000)`.
+//!
+//! Calls of `DenseSlotMap` alone: `iter_mut N`, `values_mut N` and `for_mut` show the items of N steps, or all, and append the
+//! digit 1, 2 or 3 to each value. `keys_as_slice`, `values_as_slice` and `as_slices` show the slices.
+//! `values_as_mut_slice N V` and `as_mut_slices N V` store V at a position: the value before, or `none`.
+//! `get_disjoint_mut K K` and `get_disjoint_unchecked_mut K K` exchange two values: what they were, or `none`.
+//!
+//! Calls of `HopSlotMap` alone: `reads WALK N LEAST MOST`, with `iter`, `keys` or `values`, is whether N steps read a number of slots
+//! within bounds; a clone has to count as many.
+//!
+//! Calls in runs: `insert V`, `insert_made`, `insert_many N` of the values from 1 on, `get K`, `contains_key K`, `replace K V`,
+//! `remove K`, `retain even`, `clear`, `drain_into`, `keys_into`, `len` and `reserve N`; where keys can be detached also `detach K`
+//! and `reattach K V`.
+#![tactic(auto)]
+
+mod basic;
+mod call;
+mod dense;
+mod detached;
+mod held;
+mod hop;
+mod inserts;
+mod keyed;
+mod lists;
+mod many;
+mod maps;
+mod packed;
+mod runs;
+mod sized;
+mod steps;
+mod walks;
+
+use crate::held::Held;
+use crate::maps::Maps;
+use crate::runs::{Detachable, Plain, Runner, Runs};
+use slotmap::{DefaultKey, DenseSlotMap, HopSlotMap, Primary, SlotMap};
+use slotmap_rows::{Counts, Number, Stop, hold};
+use std::alloc::Global;
+use std::io::Write;
+use std::process::ExitCode;
+use std::{env, fs};
+
+type Basic<'a> = SlotMap<DefaultKey, Number<'a>>;
+
+type Dense<'a> = DenseSlotMap<DefaultKey, Number<'a>>;
+
+type Hop<'a> = HopSlotMap<DefaultKey, Number<'a>>;
+
+// Holds a map, on which each call is made, to the rows of a file: whether no result differs.
+fn hold_map<'a, M: Held<'a> + Primary<DefaultKey, Number<'a>>>(
+    alloc: Global,
+    counts: &'a Counts,
+    place: (&str, &str),
+    text: &str,
+    output: &mut impl Write,
+) -> Result<bool, Stop> {
+    let mut maps: Maps<'a, M> = Maps::new(alloc, counts)?;
+    hold(alloc, &mut maps, counts, place, text, output)
+}
+
+// The same of runs.
+fn hold_runs<'a, M: Drop, R: Runner<'a, M>>(
+    alloc: Global,
+    counts: &'a Counts,
+    place: (&str, &str),
+    text: &str,
+    output: &mut impl Write,
+) -> Result<bool, Stop> {
+    let mut runs: Runs<'a, M, R> = Runs::new(alloc, counts)?;
+    hold(alloc, &mut runs, counts, place, text, output)
+}
+
+// Holds a kind of map or of runs to the rows of a file.
+fn hold_kind(
+    alloc: Global,
+    counts: &Counts,
+    place: (&str, &str),
+    text: &str,
+    output: &mut impl Write,
+) -> Result<bool, Stop> {
+    match place.0 {
+        "basic" => hold_map::<Basic<'_>>(alloc, counts, place, text, output),
+        "dense" => hold_map::<Dense<'_>>(alloc, counts, place, text, output),
+        "hop" => hold_map::<Hop<'_>>(alloc, counts, place, text, output),
+        "run-basic" => hold_runs::<Basic<'_>, Plain>(alloc, counts, place, text, output),
+        "run-dense" => hold_runs::<Dense<'_>, Plain>(alloc, counts, place, text, output),
+        "run-hop" => hold_runs::<Hop<'_>, Plain>(alloc, counts, place, text, output),
+        "detaching-basic" => hold_runs::<Basic<'_>, Detachable>(alloc, counts, place, text, output),
+        _ => hold_runs::<Dense<'_>, Detachable>(alloc, counts, place, text, output),
+    }
+}
+
+const KINDS: [&str; 8] = [
+    "basic",
+    "dense",
+    "hop",
+    "run-basic",
+    "run-dense",
+    "run-hop",
+    "detaching-basic",
+    "detaching-dense",
+];
+
+// Holds all kinds to the rows of a file.
+fn hold_file(
+    alloc: Global,
+    counts: &Counts,
+    file: &str,
+    text: &str,
+    output: &mut impl Write,
+) -> Result<bool, Stop> {
+    let mut is_well = true;
+    for kind in KINDS {
+        is_well = hold_kind(alloc, counts, (kind, file), text, output)? && is_well;
+    }
+    Ok(is_well)
+}
+
+// Holds all kinds to the rows of the files that the arguments name.
+fn hold_files(rt: &HostRuntime, output: &mut impl Write) -> Result<bool, Stop> {
+    let counts = Counts::new();
+    let mut is_well = true;
+    for file in env::args(rt)?.skip(1) {
+        let text = fs::read_to_string(rt, file.as_str()).map_err(|_| Stop::Input)?;
+        let is_same = hold_file(rt.alloc(), &counts, file.as_str(), text.as_str(), output)?;
+        is_well = is_same && is_well;
+    }
+    output.flush()?;
+    Ok(is_well)
+}
+
+fn main(rt: HostRuntime) -> ExitCode {
+    let mut output = rt.stdout();
+    match hold_files(&rt, &mut output) {
+        Ok(true) => ExitCode::SUCCESS,
+        Ok(false) => ExitCode::from(1),
+        Err(_) => ExitCode::from(3),
+    }
+}

@@ -1,0 +1,124 @@
+//! Hashers of a sparse map.
+
+use slotmap::sparse_secondary::DefaultHasher;
+use slotmap::{DefaultKey, ReserveError, SlotRecord, SlotsError, SparseSecondaryMap};
+use slotmap_rows::Number;
+use std::alloc::Global;
+use std::collections::hash_map::RandomState;
+use std::hash::{BuildHasher, Hasher};
+
+/// A sparse map of numbers.
+pub type Sparse<'a, S> = SparseSecondaryMap<DefaultKey, Number<'a>, S>;
+
+/// Pairs that are put into a map.
+pub type Pairs<'a> = Vec<(DefaultKey, Number<'a>)>;
+
+/// A hasher, with the calls that make a map of it. Only the default hasher has all of them: with
+/// another one a map is made by `with_hasher`, and filled by `extend`.
+pub trait Seed: BuildHasher + Copy + Drop {
+    /// `new`, or `with_capacity`.
+    fn made<'a>(
+        self,
+        alloc: Global,
+        capacity: Option<usize>,
+    ) -> Result<Sparse<'a, Self>, ReserveError> {
+        match capacity {
+            None => SparseSecondaryMap::with_hasher(alloc, self),
+            Some(capacity) => SparseSecondaryMap::with_capacity_and_hasher(alloc, capacity, self),
+        }
+    }
+
+    /// `from_slots`.
+    fn of_list<'a>(
+        self,
+        alloc: Global,
+        list: Vec<SlotRecord<Number<'a>>>,
+    ) -> Result<Sparse<'a, Self>, SlotsError> {
+        let read: Sparse<'a, DefaultHasher> = SparseSecondaryMap::from_slots(alloc, list)?;
+        let Ok(mut map) = SparseSecondaryMap::with_hasher(alloc, self) else {
+            return Err(SlotsError::Memory);
+        };
+        match map.extend(read) {
+            Ok(()) => Ok(map),
+            Err(_) => Err(SlotsError::Memory),
+        }
+    }
+
+    /// `from_iter`.
+    fn of_pairs<'a>(
+        self,
+        alloc: Global,
+        pairs: Pairs<'a>,
+    ) -> Result<Sparse<'a, Self>, Option<(DefaultKey, Number<'a>)>> {
+        let Ok(mut map) = SparseSecondaryMap::with_hasher(alloc, self) else {
+            return Err(None);
+        };
+        match map.extend(pairs) {
+            Ok(()) => Ok(map),
+            Err(pair) => Err(Some(pair)),
+        }
+    }
+}
+
+impl Seed for DefaultHasher {
+    fn made<'a>(
+        self,
+        alloc: Global,
+        capacity: Option<usize>,
+    ) -> Result<Sparse<'a, Self>, ReserveError> {
+        match capacity {
+            None => SparseSecondaryMap::new(alloc),
+            Some(capacity) => SparseSecondaryMap::with_capacity(alloc, capacity),
+        }
+    }
+
+    fn of_list<'a>(
+        self,
+        alloc: Global,
+        list: Vec<SlotRecord<Number<'a>>>,
+    ) -> Result<Sparse<'a, Self>, SlotsError> {
+        SparseSecondaryMap::from_slots(alloc, list)
+    }
+
+    fn of_pairs<'a>(
+        self,
+        alloc: Global,
+        pairs: Pairs<'a>,
+    ) -> Result<Sparse<'a, Self>, Option<(DefaultKey, Number<'a>)>> {
+        SparseSecondaryMap::from_iter(alloc, pairs)
+    }
+}
+
+impl Seed for RandomState {}
+
+/// What a map has that needs no hasher.
+#[derive(Clone, Copy)]
+pub struct NoHasher;
+
+/// A hasher that gives one number for every key: each call of a map has to be right, only slow.
+#[derive(Clone, Copy)]
+pub struct Constant;
+
+impl Hasher for Constant {
+    ghost write = { λ hasher _. hasher };
+
+    ghost finish = { λ _. 7 };
+
+    fn finish(&self) -> u64 {
+        7
+    }
+
+    fn write(&mut self, _bytes: &[u8]) {}
+}
+
+impl BuildHasher for Constant {
+    type Hasher = Constant;
+
+    ghost build_hasher = { λ hasher. hasher };
+
+    fn build_hasher(&self) -> Constant {
+        *self
+    }
+}
+
+impl Seed for Constant {}

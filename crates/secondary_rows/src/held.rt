@@ -1,0 +1,188 @@
+//! A map that is held to rows.
+
+use crate::hashers::Pairs;
+use crate::walks::{Walk, Walked};
+use slotmap::{DefaultKey, OutOfMemory, ReserveError, SlotRecord, SlotsError};
+use slotmap_rows::{Counts, Number, Stop};
+use std::alloc::{AllocError, Global};
+
+/// A way to the value of a key.
+#[derive(Clone, Copy, PartialEq, Eq)]
+pub enum Way {
+    /// `get_mut`.
+    Get,
+    /// `Index` and `IndexMut`.
+    Index,
+    /// `get_unchecked` and `get_unchecked_mut`.
+    Unchecked,
+}
+
+/// What a `retain` keeps.
+#[derive(Clone, Copy)]
+pub enum Keep {
+    /// The even values, and each value is ten times as great.
+    Even,
+    /// What the first, third, fifth call and so on sees; each value is twice as great.
+    OddCalls,
+    Nothing,
+}
+
+/// What the entry of a key is.
+#[derive(Clone, Copy)]
+pub enum Told {
+    /// There is none.
+    None,
+    Vacant(DefaultKey),
+    Occupied(DefaultKey, u64),
+}
+
+/// A call that puts a value by an entry.
+#[derive(Clone, Copy)]
+pub enum Put {
+    OrInsert,
+    OrInsertWith,
+    /// `and_modify` adds 1, and `or_insert` puts the value.
+    AddOrInsert,
+    /// `insert` of an entry of either kind.
+    Insert,
+}
+
+/// A call on an occupied entry.
+#[derive(Clone, Copy)]
+pub enum Change {
+    /// `get_mut`: the value is exchanged, and the entry is then dropped.
+    Write,
+    /// `into_mut`: the value is doubled.
+    Double,
+    Remove,
+    RemoveEntry,
+}
+
+/// What a map can do beside the calls of `Secondary`; `H` is its hasher. Each method makes the
+/// map's own call.
+pub trait Held<'a, H>: Drop {
+    /// Whether iterators go by ascending index. Else their order is open.
+    const IS_ORDERED: bool;
+
+    /// `new`, or `with_capacity`.
+    fn made(alloc: Global, hasher: H, capacity: Option<usize>) -> Result<Self, ReserveError>;
+
+    /// `with_hasher`, or `with_capacity_and_hasher`; none where the map has no hasher.
+    fn hashed(
+        alloc: Global,
+        hasher: H,
+        capacity: Option<usize>,
+    ) -> Option<Result<Self, ReserveError>>;
+
+    /// `from_slots`.
+    fn of_list(
+        alloc: Global,
+        hasher: H,
+        list: Vec<SlotRecord<Number<'a>>>,
+    ) -> Result<Self, SlotsError>;
+
+    /// `from_iter`.
+    fn of_pairs(
+        alloc: Global,
+        hasher: H,
+        pairs: Pairs<'a>,
+    ) -> Result<Self, Option<(DefaultKey, Number<'a>)>>;
+
+    /// `to_slots`.
+    fn list(&self) -> Result<Vec<SlotRecord<Number<'a>>>, OutOfMemory>;
+
+    /// `clone`.
+    fn copy(&self) -> Result<Self, AllocError>;
+
+    /// `clone_from`.
+    fn copy_from(&mut self, source: &Self) -> Result<(), AllocError>;
+
+    /// `==`.
+    fn is_same(&self, other: &Self) -> bool;
+
+    /// `is_empty`.
+    fn is_vacant(&self) -> bool;
+
+    /// `capacity`.
+    fn room(&self) -> usize;
+
+    /// The call of this name that makes room, where the map has it.
+    fn make_room(&mut self, name: &str, room: usize) -> Option<Result<(), ReserveError>>;
+
+    /// The value of a key, or none where it is not in the map.
+    fn look(&self, way: Way, key: DefaultKey) -> Option<u64>;
+
+    /// Exchanges the value of a key: the value before, or the given one where the key is not in
+    /// the map.
+    fn write(
+        &mut self,
+        way: Way,
+        key: DefaultKey,
+        value: Number<'a>,
+    ) -> Result<Number<'a>, Number<'a>>;
+
+    /// `replace_disjoint` of two keys.
+    fn replace_two(
+        &mut self,
+        keys: [DefaultKey; 2],
+        values: [Number<'a>; 2],
+    ) -> Result<[Number<'a>; 2], [Number<'a>; 2]>;
+
+    /// `replace_disjoint` of no key: whether it succeeds.
+    fn replace_none(&mut self) -> bool;
+
+    /// `extend`.
+    fn put_all(&mut self, pairs: Pairs<'a>) -> Result<(), (DefaultKey, Number<'a>)>;
+
+    /// `clear`.
+    fn clear_all(&mut self);
+
+    /// `retain`; writes the values that the calls see, where those are asked for.
+    fn retain_some(&mut self, keep: Keep, reply: &mut String);
+
+    /// So many steps of an iterator, and the rest of it.
+    fn walk(&self, alloc: Global, walk: Walk, steps: usize) -> Result<Walked, Stop>;
+
+    /// So many steps of `drain`, which is then dropped.
+    fn drain_some(&mut self, alloc: Global, steps: usize) -> Result<Walked, Stop>;
+
+    /// So many steps of `into_iter`, which is then dropped.
+    fn take_some(self, alloc: Global, steps: usize) -> Result<Walked, Stop>;
+
+    /// The pairs of `into_iter`.
+    fn into_pairs(self, alloc: Global) -> Result<Pairs<'a>, Stop>;
+
+    /// What the entry of a key is, by `entry`; it is dropped unused.
+    fn tell(&mut self, key: DefaultKey) -> Result<Told, Stop>;
+
+    /// The same by `try_entry`.
+    fn try_tell(&mut self, key: DefaultKey) -> Result<Told, Stop>;
+
+    /// The key of the entry of a key, or none where there is no entry.
+    fn entry_key(&mut self, key: DefaultKey) -> Result<Option<DefaultKey>, Stop>;
+
+    /// Puts a value by an entry: the value that stands there then, or none where there is no
+    /// entry. Of `insert` on an occupied entry the value before. `calls` counts the calls of a
+    /// closure.
+    fn put_by_entry(
+        &mut self,
+        put: Put,
+        key: DefaultKey,
+        value: (&'a Counts, u64),
+        calls: &mut u64,
+    ) -> Result<Option<u64>, Stop>;
+
+    /// Changes a value by an occupied entry: the key with the value before, or none where there
+    /// is no such entry.
+    fn change_by_entry(
+        &mut self,
+        change: Change,
+        key: DefaultKey,
+        value: u64,
+    ) -> Result<Option<(DefaultKey, u64)>, Stop>;
+}
+
+/// Says that memory ran out, and drops what a refused call hands back.
+pub fn no_memory<E: Drop>(_refusal: E) -> Stop {
+    Stop::Memory
+}

@@ -1,0 +1,102 @@
+//! Calls that ask more of the values: `or_default` and `extend_refs`, on maps of plain numbers.
+
+use crate::call::{Words, read_pair, read_words};
+use crate::fresh::Fresh;
+use slotmap::{DefaultKey, OutOfMemory, Secondary, SecondaryMap, SparseSecondaryMap};
+use slotmap_rows::{Stop, Subject, Word, write_option};
+use std::alloc::Global;
+
+/// What such a map can do beside the calls of `Secondary`. Each method makes the map's own call.
+pub trait Plain: Secondary<DefaultKey, u64> + Fresh + Drop {
+    /// `or_default` of a key's entry: the value that stands there then, or none where there is no
+    /// entry.
+    fn put_default(&mut self, key: DefaultKey) -> Result<Option<u64>, OutOfMemory>;
+
+    /// `extend_refs`.
+    fn put_refs(&mut self, pairs: &[(DefaultKey, u64)]) -> Result<(), (DefaultKey, u64)>;
+}
+
+impl Plain for SecondaryMap<DefaultKey, u64> {
+    fn put_default(&mut self, key: DefaultKey) -> Result<Option<u64>, OutOfMemory> {
+        match self.entry(key)? {
+            Some(entry) => Ok(Some(*entry.or_default())),
+            None => Ok(None),
+        }
+    }
+
+    fn put_refs(&mut self, pairs: &[(DefaultKey, u64)]) -> Result<(), (DefaultKey, u64)> {
+        self.extend_refs(pairs.iter().map(|pair| (pair.0, &pair.1)))
+    }
+}
+
+impl Plain for SparseSecondaryMap<DefaultKey, u64> {
+    fn put_default(&mut self, key: DefaultKey) -> Result<Option<u64>, OutOfMemory> {
+        match self.entry(key)? {
+            Some(entry) => Ok(Some(*entry.or_default()?)),
+            None => Ok(None),
+        }
+    }
+
+    fn put_refs(&mut self, pairs: &[(DefaultKey, u64)]) -> Result<(), (DefaultKey, u64)> {
+        self.extend_refs(pairs.iter().map(|pair| (pair.0, &pair.1)))
+    }
+}
+
+/// The map of a row.
+#[derive(Drop)]
+pub struct PlainMap<M> {
+    alloc: Global,
+    map: M,
+}
+
+impl<M: Plain> PlainMap<M> {
+    /// A new map.
+    pub fn new(alloc: Global) -> Result<PlainMap<M>, Stop> {
+        Ok(PlainMap {
+            alloc,
+            map: M::fresh(alloc).map_err(|_| Stop::Memory)?,
+        })
+    }
+}
+
+impl<M: Plain> Subject for PlainMap<M> {
+    fn begin(&mut self) -> Result<(), Stop> {
+        self.map = M::fresh(self.alloc).map_err(|_| Stop::Memory)?;
+        Ok(())
+    }
+
+    fn call(&mut self, name: &str, words: &[Word<'_>], reply: &mut String) -> Result<(), Stop> {
+        match (name, read_words(words)) {
+            ("extend_refs", _) => extend_refs(self.alloc, &mut self.map, words)?,
+            ("or_default", Words::Key(key)) => write_option(reply, self.map.put_default(key)?)?,
+            ("insert", Words::Put(key, value)) => {
+                let before = self.map.insert(key, value).map_err(|_| Stop::Memory)?;
+                write_option(reply, before)?;
+            }
+            ("get", Words::Key(key)) => write_option(reply, self.map.get(key).copied())?,
+            ("len", Words::Nothing) => write!(reply, "{}", self.map.len())?,
+            _ => return Err(Stop::Unknown),
+        }
+        Ok(())
+    }
+}
+
+// `extend_refs`. Where memory runs out for a pair, those before it are in the map; then it is
+// called once more.
+fn extend_refs<M: Plain>(alloc: Global, map: &mut M, words: &[Word<'_>]) -> Result<(), Stop> {
+    let mut pairs = Vec::new(alloc);
+    for word in words {
+        match read_pair(word) {
+            Some(pair) => pairs.push(pair)?,
+            None => return Err(Stop::Unknown),
+        }
+    }
+    let Err(refused) = map.put_refs(&pairs) else {
+        return Ok(());
+    };
+    let position = pairs.iter().position(|pair| *pair == refused);
+    match pairs.get(position.unwrap_or(0)..) {
+        Some(rest) => map.put_refs(rest).map_err(|_| Stop::Memory),
+        None => Err(Stop::Memory),
+    }
+}

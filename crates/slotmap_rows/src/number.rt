@@ -1,0 +1,113 @@
+//! Values that are counted.
+
+use std::alloc::AllocError;
+use std::cell::Cell;
+
+/// How many values were made, cloned and dropped.
+#[derive(Drop)]
+pub struct Counts {
+    made: Cell<u64>,
+    cloned: Cell<u64>,
+    dropped: Cell<u64>,
+}
+
+impl Counts {
+    /// No value yet.
+    pub fn new() -> Counts {
+        Counts {
+            made: Cell::new(0),
+            cloned: Cell::new(0),
+            dropped: Cell::new(0),
+        }
+    }
+
+    /// How many values are there now: made or cloned, and not dropped.
+    pub fn alive(&self) -> u64 {
+        let there = self.made.get().wrapping_add(self.cloned.get());
+        there.wrapping_sub(self.dropped.get())
+    }
+
+    /// How many values were dropped since this was asked last.
+    pub(crate) fn take_dropped(&self) -> u64 {
+        let dropped = self.dropped.get();
+        self.made.set(self.made.get().wrapping_sub(dropped));
+        self.dropped.set(0);
+        dropped
+    }
+
+    /// How many values were cloned since this was asked last.
+    pub(crate) fn take_cloned(&self) -> u64 {
+        let cloned = self.cloned.get();
+        self.made.set(self.made.get().wrapping_add(cloned));
+        self.cloned.set(0);
+        cloned
+    }
+
+    /// All numbers as they are now.
+    pub(crate) fn seen(&self) -> [u64; 3] {
+        [self.made.get(), self.cloned.get(), self.dropped.get()]
+    }
+
+    /// Sets all numbers back to what was seen.
+    pub(crate) fn set_back(&self, seen: [u64; 3]) {
+        self.made.set(seen[0]);
+        self.cloned.set(seen[1]);
+        self.dropped.set(seen[2]);
+    }
+}
+
+// One more.
+fn count(counter: &Cell<u64>) {
+    counter.set(counter.get().wrapping_add(1));
+}
+
+/// A number that is counted when it is made, cloned and dropped.
+pub struct Number<'a> {
+    /// The number.
+    pub value: u64,
+    counts: &'a Counts,
+}
+
+impl<'a> Number<'a> {
+    /// Makes a number, and counts it.
+    pub fn new(counts: &'a Counts, value: u64) -> Number<'a> {
+        count(&counts.made);
+        Number { value, counts }
+    }
+}
+
+impl<'a> Drop for Number<'a> {
+    fn drop(self) {
+        let Number { value: _, counts } = self;
+        count(&counts.dropped);
+    }
+}
+
+impl<'a> Clone for Number<'a> {
+    ghost use Rattle.std.specs.Prelude.{◌≡◌};
+
+    ghost is_clone = { λ value copy. copy ≡ value };
+
+    fn clone(&self) -> Result<Self, AllocError> {
+        count(&self.counts.cloned);
+        Ok(Number {
+            value: self.value,
+            counts: self.counts,
+        })
+    }
+}
+
+impl<'a> PartialEq for Number<'a> {
+    ghost use Rattle.std.proofs.Common.{rules};
+    ghost use Rattle.std.specs.Cmp.Rules.{comparing};
+    ghost use Rattle.std.specs.Ordering.{on};
+    ghost use Rattle.std.specs.Prelude.{nat_eq};
+
+    ghost eq = { on (λ number. number.value) nat_eq };
+
+    ghost laws = { Prim.search (comparing, rules) };
+
+    fn eq(&self, other: &Self) -> bool {
+        self.value == other.value
+    }
+}

@@ -1,0 +1,42 @@
+//! Why a call has no result.
+
+use slotmap_core::errors::OutOfMemory;
+use std::alloc::{AllocError, AllocFailed};
+use std::io;
+
+/// Why a call has no result.
+#[derive(Clone, Copy, Debug, PartialEq, Eq, Drop)]
+pub enum Stop {
+    /// The line names no call that the map has.
+    Unknown,
+    /// Memory ran out, and all is as before the call.
+    Memory,
+    /// A file of rows could not be read.
+    Input,
+    /// The output could not be written.
+    Output,
+}
+
+impl From<AllocError> for Stop {
+    fn from(_error: AllocError) -> Stop {
+        Stop::Memory
+    }
+}
+
+impl<T: Drop> From<AllocFailed<T>> for Stop {
+    fn from(_error: AllocFailed<T>) -> Stop {
+        Stop::Memory
+    }
+}
+
+impl From<OutOfMemory> for Stop {
+    fn from(_error: OutOfMemory) -> Stop {
+        Stop::Memory
+    }
+}
+
+impl From<io::Error> for Stop {
+    fn from(_error: io::Error) -> Stop {
+        Stop::Output
+    }
+}

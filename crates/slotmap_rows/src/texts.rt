@@ -1,0 +1,66 @@
+//! Results as text, written behind a reply: a key as `2v3`, a pair as `2v3:5`, a slot as `5@3` or `-@2`.
+
+use crate::number::Number;
+use slotmap_core::keys::{DefaultKey, Key};
+use slotmap_core::serial::SlotRecord;
+use std::alloc::AllocError;
+
+/// Writes a key.
+pub fn write_key(reply: &mut String, key: DefaultKey) -> Result<(), AllocError> {
+    write!(reply, "{:?}", key.data())
+}
+
+/// Writes a number, or `none`.
+pub fn write_option(reply: &mut String, number: Option<u64>) -> Result<(), AllocError> {
+    match number {
+        Some(number) => write!(reply, "{number}"),
+        None => write!(reply, "none"),
+    }
+}
+
+/// Writes a blank and a pair.
+pub fn write_pair(reply: &mut String, key: DefaultKey, value: u64) -> Result<(), AllocError> {
+    write!(reply, " {:?}:{value}", key.data())
+}
+
+/// Writes `keys`, and each key after a blank.
+pub fn write_keys(reply: &mut String, keys: &[DefaultKey]) -> Result<(), AllocError> {
+    write!(reply, "keys")?;
+    for key in keys {
+        write!(reply, " {:?}", key.data())?;
+    }
+    Ok(())
+}
+
+/// Writes `values`, and each number after a blank.
+pub fn write_numbers(reply: &mut String, numbers: &[u64]) -> Result<(), AllocError> {
+    write!(reply, "values")?;
+    for number in numbers {
+        write!(reply, " {number}")?;
+    }
+    Ok(())
+}
+
+/// Writes `pairs`, and each pair after a blank.
+pub fn write_pairs(
+    reply: &mut String,
+    pairs: &[(DefaultKey, Number<'_>)],
+) -> Result<(), AllocError> {
+    write!(reply, "pairs")?;
+    for (key, value) in pairs {
+        write_pair(reply, *key, value.value)?;
+    }
+    Ok(())
+}
+
+/// Writes `slots`, and each slot after a blank.
+pub fn write_slots(reply: &mut String, slots: &[SlotRecord<Number<'_>>]) -> Result<(), AllocError> {
+    write!(reply, "slots")?;
+    for slot in slots {
+        match &slot.value {
+            Some(value) => write!(reply, " {}@{}", value.value, slot.version)?,
+            None => write!(reply, " -@{}", slot.version)?,
+        }
+    }
+    Ok(())
+}

@@ -1,0 +1,68 @@
+//! The words of a call.
+
+use slotmap_core::keys::{DefaultKey, Key, KeyData};
+
+/// A word of a call.
+#[derive(Clone, Copy)]
+pub enum Word<'t> {
+    /// A key: `2v3` of index 2 and version 3, or `null`.
+    Key(DefaultKey),
+    /// A number: `17`.
+    Number(u64),
+    /// A key with a value: `2v3:5`.
+    Pair(DefaultKey, u64),
+    /// A slot of a list: `5@3`, or `-@2` without a value.
+    Slot(Option<u64>, u32),
+    /// Anything else.
+    Name(&'t str),
+}
+
+impl<'t> Word<'t> {
+    /// Reads a word in turn `turn` of a repeated call: `#` stands for the turn.
+    pub(crate) fn read(word: &'t str, turn: u64) -> Word<'t> {
+        if let Some(number) = read_number(word, turn) {
+            return Word::Number(number);
+        }
+        if let Some(key) = read_key(word, turn) {
+            return Word::Key(key);
+        }
+        read_two(word, turn)
+    }
+}
+
+// Reads a word of two parts.
+fn read_two(word: &str, turn: u64) -> Word<'_> {
+    if let Some((key, value)) = word.split_once(':') {
+        if let (Some(key), Some(value)) = (read_key(key, turn), read_number(value, turn)) {
+            return Word::Pair(key, value);
+        }
+    }
+    if let Some((value, version)) = word.split_once('@') {
+        if let Ok(version) = version.parse() {
+            if value == "-" {
+                return Word::Slot(None, version);
+            }
+            if let Some(value) = read_number(value, turn) {
+                return Word::Slot(Some(value), version);
+            }
+        }
+    }
+    Word::Name(word)
+}
+
+fn read_number(word: &str, turn: u64) -> Option<u64> {
+    if word == "#" {
+        Some(turn)
+    } else {
+        word.parse().ok()
+    }
+}
+
+fn read_key(word: &str, turn: u64) -> Option<DefaultKey> {
+    if word == "null" {
+        return Some(DefaultKey::null());
+    }
+    let (index, version) = word.split_once('v')?;
+    let index = u32::try_from(read_number(index, turn)?).ok()?;
+    Some(DefaultKey::from(KeyData::new(index, version.parse().ok()?)))
+}
