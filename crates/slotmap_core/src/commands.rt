@@ -1,75 +1,104 @@
-//! The commands of a run, and the replies to them.
+//! The commands of a run on a primary map, and the replies to them.
 
-/// A command to a map that hands out its keys.
+/// A command to a primary map.
+///
+/// Each variant names its reply, a variant of [`Reply`]. `look`, `keep` and `make` are the closures
+/// that the run is given.
+///
+/// ```
+/// let mut map: SlotMap<DefaultKey, u64> = SlotMap::new(alloc)?;
+/// let commands = vec![in alloc; Command::Insert(5), Command::Len]?;
+/// let replies = run(alloc, &mut map, commands, |value| *value, |_, _| true, |_| Err(()))
+///     .map_err(|_| OutOfMemory)?;
+/// assert!(rt; matches!(replies[1], Reply::Len(1)));
+/// ```
 #[derive(Drop)]
 pub enum Command<K, V> {
-    /// Store this value under a new key: `Key`, or `Full` or `Memory` with the value.
+    /// Inserts this value: `Key`; or `Full` or `Memory`, with the value.
     Insert(V),
-    /// Store what the run's `make` gives for the new key: `Key`, `Full`, `Memory` or `Failed`.
+    /// Inserts what `make` returns for the new key: `Key`, `Full`, `Memory` or `Failed`.
     InsertWith,
-    /// Look at the value of this key: `Looked`.
+    /// Looks at the value of this key: `Looked`.
     Get(K),
-    /// Whether this key is live: `Flag`.
+    /// Asks whether this key is live: `Flag`.
     Contains(K),
-    /// Set the value of this key: `Put`, with the value before, or with this one where the key isn't
+    /// Sets the value of this key: `Put`, with the old value, or with this one if the key isn't
     /// live.
     Replace(K, V),
-    /// Take the value of this key out: `Taken`.
+    /// Removes this key: `Taken`.
     Remove(K),
-    /// Keep the pairs that the run's `keep` accepts: `Done`.
+    /// Keeps the pairs that `keep` accepts, and removes the others: `Done`.
     Retain,
-    /// Take every value out and drop it: `Done`.
+    /// Removes every live key and drops its value: `Done`.
     Clear,
-    /// Take every pair out: `Drained`, or `Memory`.
+    /// Removes every live key and returns the pairs: `Drained`, or `Memory`.
     Drain,
-    /// List the live keys: `Keys`, or `Memory`.
+    /// Lists the live keys: `Keys`, or `Memory`.
     Keys,
-    /// Count the live keys: `Len`.
+    /// Counts the live keys: `Len`.
     Len,
-    /// Make room for so many more keys: `Done`, `TooGreat` or `Memory`.
+    /// Reserves room for this many more keys: `Done`, `TooGreat` or `Memory`.
     Reserve(usize),
 }
 
 /// A command to a map whose keys can be detached.
+///
+/// ```
+/// let mut map: SlotMap<DefaultKey, u64> = SlotMap::new(alloc)?;
+/// let key = map.insert(5)?;
+/// let commands = vec![in alloc; DetachCommand::Detach(key), DetachCommand::Reattach(key, 6)]?;
+/// let replies = run_detaching(alloc, &mut map, commands, |value| *value, |_, _| true, |_| Err(()))
+///     .map_err(|_| OutOfMemory)?;
+/// assert!(rt; matches!(replies[0], Reply::Taken(Some(5))));
+/// assert!(rt; matches!(replies[1], Reply::Done));
+/// ```
 #[derive(Drop)]
 pub enum DetachCommand<K, V> {
-    /// A command that every map has.
+    /// A command that every primary map has.
     Plain(Command<K, V>),
-    /// Take the value of this key out, and keep its place: `Taken`.
+    /// Takes out the value of this key and keeps its slot: `Taken`.
     Detach(K),
-    /// Bind this detached key to the value: `Done`, or `NotDetached` or `Memory` with the value.
+    /// Binds this detached key to the value: `Done`; or `NotDetached` or `Memory`, with the value.
     Reattach(K, V),
 }
 
-/// What a command is answered.
+/// The reply to a command.
+///
+/// ```
+/// let mut map: SlotMap<DefaultKey, u64> = SlotMap::new(alloc)?;
+/// let commands = vec![in alloc; Command::Remove(DefaultKey::null())]?;
+/// let replies = run(alloc, &mut map, commands, |value| *value, |_, _| true, |_| Err(()))
+///     .map_err(|_| OutOfMemory)?;
+/// assert!(rt; matches!(replies[0], Reply::Taken(None)));
+/// ```
 #[derive(Drop)]
 pub enum Reply<K, V, R, E> {
     /// The new key.
     Key(K),
-    /// No place is left; with the value of an `Insert`.
+    /// The map is full; with the value of an `Insert`.
     Full(Option<V>),
-    /// Memory was refused; with the value of an `Insert` or a `Reattach`.
+    /// Memory ran out; with the value of an `Insert` or a `Reattach`.
     Memory(Option<V>),
-    /// More room than a map can have.
+    /// The room is for more keys than a map can have.
     TooGreat,
-    /// The error that `make` gave.
+    /// The error that `make` returned.
     Failed(E),
-    /// What `look` gave at the value, if the key is live.
+    /// What `look` returned for the value, if the key is live.
     Looked(Option<R>),
     /// Whether the key is live.
     Flag(bool),
-    /// The value before, or the value back where the key isn't live.
+    /// The old value; or, as an error, the new value if the key isn't live.
     Put(Result<V, V>),
     /// The value, if the key was live.
     Taken(Option<V>),
-    /// It is done.
+    /// The command is done.
     Done,
-    /// The pairs that were taken out, each once.
+    /// The pairs that were removed, each once.
     Drained(Vec<(K, V)>),
     /// The live keys, each once.
     Keys(Vec<K>),
     /// The number of live keys.
     Len(usize),
-    /// The key isn't detached; with the value back.
+    /// The key isn't detached; with the value.
     NotDetached(V),
 }

@@ -1,8 +1,8 @@
-//! Why a call is refused.
+//! The errors of the maps.
 //!
-//! A refused call leaves what the map holds as it was. A value that was to be stored comes back in
-//! the error; a closure or a list is dropped. Each of these is an `Error` with a short message, so
-//! `?` hands it on, to `anyhow` too.
+//! A call that fails leaves the contents of the map as they were. A value that was to be stored is
+//! returned in the error; a closure or a list is dropped. Each type is an `Error` with a short
+//! message, so `?` passes it on, to `anyhow` too.
 
 ghost use Rattle.std.specs.Prelude.{◌≡◌};
 ghost use Rattle.slotmap_core.specs.declared.errors.JsonError.TheVariants.{Memory as JsonMemory};
@@ -12,110 +12,144 @@ use std::alloc::{AllocError, AllocFailed};
 use std::fmt::Display;
 use thiserror::Error;
 
-/// No memory was left for what a call makes.
+/// Memory ran out.
+///
+/// ```
+/// assert_eq!(rt; format!(in alloc; "{OutOfMemory}")?.as_str(), "out of memory");
+/// ```
 #[derive(Debug, Drop, Error)]
 #[error("out of memory")]
 pub struct OutOfMemory;
 
-/// A value was not inserted; it is handed back.
+/// The error of an insert, with the value.
 ///
 /// ```
-/// let refused = InsertError::Full(5);
-/// assert_eq!(rt; format!(in alloc; "{refused}")?.as_str(), "full");
+/// let error = InsertError::Full(5);
+/// assert_eq!(rt; format!(in alloc; "{error}")?.as_str(), "full");
+/// assert!(rt; matches!(error, InsertError::Full(5)));
 /// ```
 #[derive(Debug, Drop, Error)]
 pub enum InsertError<V> {
-    /// As many places are taken as a map can have, 4294967294.
+    /// 4294967294 keys are live, detached or retired, as many as a map can have.
     #[error("full")]
     Full(V),
-    /// No memory was left for one place more.
+    /// Memory ran out for one more slot.
     #[error("out of memory")]
     Memory(V),
 }
 
-/// A closure that makes a value was not called, and nothing was inserted.
+/// The error of an insert by a closure that returns a value. The closure wasn't called.
+///
+/// ```
+/// assert_eq!(rt; format!(in alloc; "{}", InsertWithError::Full)?.as_str(), "full");
+/// ```
 #[derive(Debug, Drop, Error)]
 pub enum InsertWithError {
-    /// As many places are taken as a map can have, 4294967294.
+    /// 4294967294 keys are live, detached or retired, as many as a map can have.
     #[error("full")]
     Full,
-    /// No memory was left for one place more.
+    /// Memory ran out for one more slot.
     #[error("out of memory")]
     Memory,
 }
 
-/// Nothing was inserted; the closure was called only where the error is its own.
+/// The error of an insert by a closure that may fail. Only for `Closure` was the closure called.
+///
+/// ```
+/// let error: TryInsertError<&str> = TryInsertError::Closure("not now");
+/// assert_eq!(rt; format!(in alloc; "{error}")?.as_str(), "not now");
+/// ```
 #[derive(Debug, Drop, Error)]
 #[error_bound(E: Display)]
 pub enum TryInsertError<E> {
-    /// As many places are taken as a map can have, 4294967294.
+    /// 4294967294 keys are live, detached or retired, as many as a map can have.
     #[error("full")]
     Full,
-    /// No memory was left for one place more.
+    /// Memory ran out for one more slot.
     #[error("out of memory")]
     Memory,
-    /// The closure's own error, whose message is shown.
+    /// The closure's own error. Its message is the message of this one.
     #[error("{0}")]
     Closure(E),
 }
 
-/// A key was not bound again; the value is handed back.
+/// The error of `reattach`, with the value.
+///
+/// ```
+/// let mut map: SlotMap<DefaultKey, u64> = SlotMap::new(alloc)?;
+/// let key = map.insert(5)?;
+/// assert!(rt; matches!(map.reattach(key, 6), Err(ReattachError::NotDetached(6))));
+/// ```
 #[derive(Debug, Drop, Error)]
 pub enum ReattachError<V> {
     /// The key isn't detached in this map.
     #[error("not detached")]
     NotDetached(V),
-    /// No memory was left for the value.
+    /// Memory ran out for the value.
     #[error("out of memory")]
     Memory(V),
 }
 
-/// No room was made.
+/// The error of a call that reserves room.
+///
+/// ```
+/// let mut map: SlotMap<DefaultKey, u64> = SlotMap::new(alloc)?;
+/// assert!(rt; matches!(map.reserve(4294967295), Err(ReserveError::TooGreat)));
+/// ```
 #[derive(Debug, Drop, Error)]
 pub enum ReserveError {
-    /// More places were asked for than a map can have.
+    /// The room is for more keys than a map can have.
     #[error("too great")]
     TooGreat,
-    /// No memory was left for so much room.
+    /// Memory ran out for that much room.
     #[error("out of memory")]
     Memory,
 }
 
-/// A secondary map had no memory for a value, which is handed back.
+/// The error of an insert into a secondary map, with the value. Memory ran out.
+///
+/// ```
+/// assert_eq!(rt; format!(in alloc; "{}", PutError(5))?.as_str(), "out of memory");
+/// ```
 #[derive(Debug, Drop, Error)]
 #[error("out of memory")]
 pub struct PutError<V>(pub V);
 
-/// A list of slots was not read as a map.
+/// The error of a list of slots that isn't read as a map.
 ///
 /// ```
-/// let refused = SlotsError::Inconsistent(3);
-/// assert_eq!(rt; format!(in alloc; "{refused}")?.as_str(), "inconsistent 3");
+/// let error = SlotsError::Inconsistent(3);
+/// assert_eq!(rt; format!(in alloc; "{error}")?.as_str(), "inconsistent 3");
 /// ```
 #[derive(Debug, Drop, Error)]
 pub enum SlotsError {
-    /// The list is as long as the limit, or longer.
+    /// The list has as many slots as the limit, or more.
     #[error("too many")]
     TooMany,
     /// The list is empty, or its first version is odd.
     #[error("first not empty")]
     FirstNotEmpty,
-    /// The first position at which a value stands beside an even version, or none beside an odd
-    /// one.
+    /// The first position with a value and an even version, or with no value and an odd version.
     #[error("inconsistent {0}")]
     Inconsistent(usize),
-    /// No memory was left for the map.
+    /// Memory ran out for the map.
     #[error("out of memory")]
     Memory,
 }
 
-/// JSON was not read as a key, or as a list of slots.
+/// The error of JSON that isn't read as a key or as a list of slots.
+///
+/// ```
+/// let value = Value::from_str(alloc, "[1, 2]")?;
+/// let key: Result<DefaultKey, JsonError> = key_from_value(&value);
+/// assert!(rt; matches!(key, Err(JsonError::Shape)));
+/// ```
 #[derive(Debug, Drop, Error)]
 pub enum JsonError {
     /// The JSON has another form.
     #[error("shape")]
     Shape,
-    /// No memory was left for what was read.
+    /// Memory ran out for the result.
     #[error("out of memory")]
     Memory,
 }

@@ -1,64 +1,95 @@
-//! The commands of a run on two maps, the primary one, which hands out the keys, and the secondary
-//! one beside it, which holds values under them; and the replies to them.
+//! The commands of a run on a primary map and a secondary map beside it, and the replies to them.
 //!
-//! A number n in a command names the key that the n-th successful insert of its list answered, from
+//! A number n in a command names the key that the n-th successful insert of the list returned, from
 //! 1 on.
 
-/// A command to a primary map and a secondary one beside it.
+/// A command to a primary map and a secondary map beside it.
+///
+/// Each variant names its reply, a variant of [`JoinedReply`]. `look` is the closure that the run
+/// is given. The reply is `NoKey` or a variant of it if the number names no key.
+///
+/// ```
+/// let mut map: SlotMap<DefaultKey, u64> = SlotMap::new(alloc)?;
+/// let mut side: SecondaryMap<DefaultKey, u64> = SecondaryMap::new(alloc)?;
+/// let commands = vec![in alloc; JoinedCommand::Insert(5), JoinedCommand::Put(1, 6)]?;
+/// let replies = run_joined(alloc, &mut map, &mut side, commands, |value: &u64| *value)
+///     .map_err(|_| OutOfMemory)?;
+/// assert!(rt; matches!(replies[1], JoinedReply::Old(None)));
+/// assert_eq!(rt; side.len(), 1);
+/// ```
 #[derive(Drop)]
 pub enum JoinedCommand<V, W> {
-    /// Insert this value into the primary map: `Key`; `Full` or `Memory` with the value.
+    /// Inserts this value into the primary map: `Key`; or `Full` or `Memory`, with the value.
     Insert(V),
-    /// Remove this key from the primary map: `Taken`, or `NoKey`.
+    /// Removes this key from the primary map: `Taken`, or `NoKey`.
     Remove(usize),
-    /// Give this key the value in the secondary map: `Old`, or `NoRoom` or `NoKeySecond` with the
-    /// value.
+    /// Inserts the value under this key into the secondary map: `Old`; or `NoRoom` or
+    /// `NoKeySecond`, with the value.
     Put(usize, W),
-    /// Look at the value of this key in the secondary map: `Looked`, or `NoKey`.
+    /// Looks at the value of this key in the secondary map: `Looked`, or `NoKey`.
     Look(usize),
-    /// Take the value of this key out of the secondary map: `TakenSecond`, or `NoKey`.
+    /// Removes this key from the secondary map: `TakenSecond`, or `NoKey`.
     Take(usize),
 }
 
-/// A command to a primary map whose keys can be detached and a secondary one beside it.
+/// A command to a primary map whose keys can be detached and a secondary map beside it.
+///
+/// ```
+/// let mut map: SlotMap<DefaultKey, u64> = SlotMap::new(alloc)?;
+/// let mut side: SecondaryMap<DefaultKey, u64> = SecondaryMap::new(alloc)?;
+/// let insert = JoinedDetachCommand::Plain(JoinedCommand::Insert(5));
+/// let commands = vec![in alloc; insert, JoinedDetachCommand::Detach(1)]?;
+/// let replies = run_joined_detaching(alloc, &mut map, &mut side, commands, |value: &u64| *value)
+///     .map_err(|_| OutOfMemory)?;
+/// assert!(rt; matches!(replies[1], JoinedReply::Taken(Some(5))));
+/// ```
 #[derive(Drop)]
 pub enum JoinedDetachCommand<V, W> {
-    /// A command of either kind of map.
+    /// A command that every primary map has.
     Plain(JoinedCommand<V, W>),
-    /// Take the value of this key out, and keep its place: `Taken`, or `NoKey`.
+    /// Takes out the value of this key and keeps its slot: `Taken`, or `NoKey`.
     Detach(usize),
-    /// Give this detached key the value: `Done`; `NotDetached`, `Memory` or `NoKeyFirst` with the
-    /// value.
+    /// Binds this detached key to the value: `Done`; or `NotDetached`, `Memory` or `NoKeyFirst`,
+    /// with the value.
     Reattach(usize, V),
 }
 
-/// What a joined command is answered.
+/// The reply to a joined command.
+///
+/// ```
+/// let mut map: SlotMap<DefaultKey, u64> = SlotMap::new(alloc)?;
+/// let mut side: SecondaryMap<DefaultKey, u64> = SecondaryMap::new(alloc)?;
+/// let commands = vec![in alloc; JoinedCommand::Take(1)]?;
+/// let replies = run_joined(alloc, &mut map, &mut side, commands, |value: &u64| *value)
+///     .map_err(|_| OutOfMemory)?;
+/// assert!(rt; matches!(replies[0], JoinedReply::NoKey));
+/// ```
 #[derive(Drop)]
 pub enum JoinedReply<K, V, W, R> {
-    /// The key of the value that was inserted.
+    /// The new key.
     Key(K),
-    /// No place is left; the value is back.
+    /// The primary map is full; with the value.
     Full(V),
-    /// The primary map was refused memory; the value is back.
+    /// Memory ran out for the primary map; with the value.
     Memory(V),
     /// The value, if the key was live.
     Taken(Option<V>),
-    /// The value that the key had in the secondary map.
+    /// The value that the key had in the secondary map, if any.
     Old(Option<W>),
-    /// The secondary map was refused memory; the value is back.
+    /// Memory ran out for the secondary map; with the value.
     NoRoom(W),
-    /// What `look` gave at the value, if the key is in the secondary map.
+    /// What `look` returned for the value, if the key is in the secondary map.
     Looked(Option<R>),
     /// The value, if the key was in the secondary map.
     TakenSecond(Option<W>),
-    /// The key has the value.
+    /// The key is bound to the value.
     Done,
-    /// The key isn't detached; the value is back.
+    /// The key isn't detached; with the value.
     NotDetached(V),
     /// The number names no key yet.
     NoKey,
-    /// The number names no key yet; the value for the primary map is back.
+    /// The number names no key yet; with the value for the primary map.
     NoKeyFirst(V),
-    /// The number names no key yet; the value for the secondary map is back.
+    /// The number names no key yet; with the value for the secondary map.
     NoKeySecond(W),
 }

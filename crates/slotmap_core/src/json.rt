@@ -12,9 +12,9 @@ use crate::serial::SlotRecord;
 use serde_json::{Value, json};
 use std::alloc::Global;
 
-/// The JSON of a key, as in `{"idx":2,"version":3}`.
+/// Returns the JSON of a key, as in `{"idx":2,"version":3}`.
 ///
-/// `OutOfMemory` where no memory is left for it. Constant time.
+/// It fails only if memory runs out. Constant time.
 ///
 /// ```
 /// let value = key_to_value(alloc, DefaultKey::from(KeyData::new(2, 3)))?;
@@ -27,12 +27,12 @@ pub fn key_to_value<K: Key>(alloc: Global, key: K) -> Result<Value, OutOfMemory>
     Ok(json!(in alloc; {"idx": data.idx(), "version": data.version()})?)
 }
 
-/// Reads a key, which need not be one that `key_to_value` wrote.
+/// Reads a key from JSON.
 ///
-/// The members `idx` and `version` have to be whole numbers from 0 to 4294967295, and other
-/// members are passed over. The version is made odd, and 1 where `idx` is 4294967295, as
-/// `KeyData::new` does. Anything else is `JsonError::Shape`, and `Memory` is never answered. Two
-/// look-ups among the members.
+/// The members `idx` and `version` must be whole numbers from 0 to 4294967295; if not, the call
+/// fails with `JsonError::Shape`. Other members are ignored. The key is that of `KeyData::new`: an
+/// even version is raised to the next odd one, and the index 4294967295 gives the null key. The
+/// call allocates nothing. It costs two look-ups among the members.
 ///
 /// ```
 /// let value = Value::from_str(alloc, "{\"version\":4,\"idx\":0,\"x\":true}")?;
@@ -48,7 +48,7 @@ pub fn key_from_value<K: Key>(value: &Value) -> Result<K, JsonError>
     Ok(K::from(KeyData::new(idx, version)))
 }
 
-/// The whole number of 32 bits that stands under this name.
+/// Returns the member of this name, if it is a whole number of 32 bits.
 fn u32_member(value: &Value, name: &str) -> Option<u32>
     ensures { result ≡ u32_at name.now (view value.now) }
 {
@@ -56,18 +56,20 @@ fn u32_member(value: &Value, name: &str) -> Option<u32>
     u32::try_from(number).ok()
 }
 
-/// The JSON of a list of slots: an array of `{"value":X,"version":N}`, X null where there is no
-/// value. `f` turns a value into JSON.
+/// Returns the JSON of a list of slots: an array with `{"value":X,"version":N}` for each slot.
 ///
-/// `OutOfMemory` where no memory is left for it, and where `f` answers so; an empty list is always
-/// written. One call of `f` for each value. A value that `f` turns into null is read back as none.
+/// X is what `f` returns for the value, and null if there is no value. So a value that `f` turns
+/// into null is read back as no value.
+///
+/// It fails with `OutOfMemory` if memory runs out or `f` fails; an empty list never fails. `f` is
+/// called once for each value.
 ///
 /// ```
 /// let list = [
 ///     SlotRecord { value: None, version: 0 },
 ///     SlotRecord { value: Some(7), version: 1 },
 /// ];
-/// let value = slots_to_value(alloc, &list, |value: &i32| Ok(Value::from(*value)))?;
+/// let value = slots_to_value(alloc, &list, |value: &u64| Ok(Value::from(*value)))?;
 /// let text = "[{\"value\":null,\"version\":0},{\"value\":7,\"version\":1}]";
 /// assert_eq!(rt; value.to_string(alloc)?.as_str(), text);
 /// ```
@@ -109,15 +111,20 @@ fn slot_value(alloc: Global, value: Value, version: u32) -> Result<Value, OutOfM
     Ok(json!(in alloc; {"value": value, "version": version})?)
 }
 
-/// Reads a list of slots, which may still be one that no map is read from: see `check_slots`. `g`
-/// reads the JSON of a value.
+/// Reads a list of slots from JSON, with `g` for the values.
 ///
-/// `JsonError::Shape` for what isn't an array; then room for the whole list is asked for, and the
-/// elements are read in order. In each, `version` has to be a whole number from 0 to 4294967295
-/// and is read first; a `value` that is null or not there is no value, any other is read by `g`;
-/// further members are passed over, and anything else is `Shape`. The first refusal, of an element
-/// or by `g`, ends the reading and is answered. An empty array is always read. One call of `g` at
-/// most for each element.
+/// `check_slots` tells whether the list can be read as a map. The steps are these:
+///
+/// - JSON that isn't an array fails with `Shape`. An empty array never fails.
+/// - Room for the whole list is allocated first, which can fail with `Memory`.
+/// - The elements are read in order. The first that fails ends the call with its error.
+/// - In an element `version` is read first: a whole number from 0 to 4294967295, or the element
+///   fails with `Shape`.
+/// - A `value` that is null or absent is no value. Any other is read by `g`, and may fail as `g`
+///   does.
+/// - Other members are ignored.
+///
+/// `g` is called at most once for each element.
 ///
 /// ```
 /// let value = Value::from_str(alloc, "[{\"version\":0},{\"value\":7,\"version\":1}]")?;
@@ -168,7 +175,7 @@ fn slot_from_value<V: Drop, G: Fn(&Value) -> Result<V, JsonError>>(
     }
 }
 
-/// The value in the JSON of a slot: null stands for none.
+/// Returns the member `value` of an element, unless it is null.
 fn value_member(element: &Value) -> Option<&Value>
     ensures { option_map (λ v. view v.now) result ≡ value_at (view element.now) }
 {

@@ -1,8 +1,8 @@
 //! Keys: an index, and a version that tells the keys of one index apart.
 //!
-//! A map hands out a key for each value that it takes. The index says where the value stands, and
-//! the version is greater than that of each earlier key of that index, so a key whose value is gone
-//! is never taken for a later one.
+//! A primary map makes a key for each value that is inserted. The index names the value's slot. The
+//! version is larger than that of each earlier key of the slot, so a stale key finds no later
+//! value.
 
 ghost use Rattle.std.specs.Prelude.{◌≡◌, ◌↔◌, ◌/◌, ◌%◌, ◌^◌, IsTrue, refl};
 ghost use Rattle.slotmap_core.specs.Key.{Key as KeyOf, IsKey, null_key, ffi, key_from, is_older};
@@ -15,12 +15,20 @@ mod node_key;
 
 pub use node_key::NodeKey;
 
-/// What every key type wraps: an index and an odd version, both of 32 bits.
+/// The data that every key type wraps: an index and an odd version, both of 32 bits.
 ///
-/// There is one null key, of index 4294967295 and version 1; no other key has that index. Keys are
-/// ordered by index and then by version, and hashed as the one number that `as_ffi` gives. The
-/// debug text is `null`, or the index, `v` and the version, as in `2v3`. The default is the null
-/// key.
+/// - There is one null key, of index 4294967295 and version 1. No other key has that index.
+/// - Keys are ordered by index, then by version.
+/// - A key is hashed as the number that `as_ffi` returns.
+/// - The debug text is `null`, or the index, `v` and the version.
+/// - The default is the null key.
+///
+/// ```
+/// let data = KeyData::new(2, 3);
+/// assert_eq!(rt; format!(in alloc; "{data:?}")?.as_str(), "2v3");
+/// assert!(rt; data < KeyData::new(2, 5));
+/// assert!(rt; data < KeyData::default());
+/// ```
 #[derive(Clone, Copy, PartialEq, Eq, PartialOrd, Ord)]
 pub struct KeyData {
     idx: u32,
@@ -40,10 +48,11 @@ impl Model for KeyData {
 }
 
 impl KeyData {
-    /// The key data of an index and a version. Constant time.
+    /// Returns the key data of an index and a version.
     ///
-    /// An even version is raised to the odd one after it. The greatest index gives the null key,
-    /// whatever the version. It is `from_ffi` of `version * 2^32 + idx`. Rust lacks this call.
+    /// An even version is raised to the odd one after it. The index 4294967295 gives the null key,
+    /// whatever the version. The result is that of `from_ffi` at `version * 2^32 + idx`. Constant
+    /// time. Rust lacks this call.
     ///
     /// ```
     /// assert_eq!(rt; KeyData::new(2, 4), KeyData::new(2, 5));
@@ -63,7 +72,7 @@ impl KeyData {
         }
     }
 
-    // The key data of an index and a version that make a key as they are.
+    // Returns the key data of an index and a version that are those of a key.
     pub(crate) fn exact(idx: u32, version: u32) -> KeyData
         requires { IsKey (record { index = idx; version = version }) }
         ensures { result ≡ record { index = idx; version = version } }
@@ -71,7 +80,14 @@ impl KeyData {
         KeyData { idx, version }
     }
 
-    /// The index. Constant time. Rust lacks this call.
+    /// Returns the index.
+    ///
+    /// Constant time. Rust lacks this call.
+    ///
+    /// ```
+    /// assert_eq!(rt; KeyData::new(2, 3).idx(), 2);
+    /// assert_eq!(rt; KeyData::default().idx(), 4294967295);
+    /// ```
     pub fn idx(self) -> u32
         ensures value { result ≡ self.index }
         ensures valid { IsKey self }
@@ -79,7 +95,14 @@ impl KeyData {
         self.idx
     }
 
-    /// The version, which is odd. Constant time. Rust lacks this call.
+    /// Returns the version, which is odd.
+    ///
+    /// Constant time. Rust lacks this call.
+    ///
+    /// ```
+    /// assert_eq!(rt; KeyData::new(2, 3).version(), 3);
+    /// assert_eq!(rt; KeyData::default().version(), 1);
+    /// ```
     pub fn version(self) -> u32
         ensures value { result ≡ self.version }
         ensures valid { IsKey self }
@@ -87,9 +110,10 @@ impl KeyData {
         self.version
     }
 
-    /// The key as one number, `version * 2^32 + idx`, for code in other languages. Constant time.
+    /// Returns the key as one number, `version * 2^32 + idx`.
     ///
-    /// `from_ffi` gives the key back.
+    /// Code in other languages can hold a key as this number. `from_ffi` returns the key again.
+    /// Constant time.
     ///
     /// ```
     /// assert_eq!(rt; KeyData::new(1, 3).as_ffi(), 12884901889);
@@ -102,11 +126,11 @@ impl KeyData {
         u64::from(self.version) << 32 | u64::from(self.idx)
     }
 
-    /// The key of a number, as `as_ffi` gives it. Constant time.
+    /// Returns the key of a number that `as_ffi` returned.
     ///
-    /// Every number is read: its low 32 bits are the index, and its high 32 bits, with the lowest
-    /// bit set, are the version. Where the index is 4294967295 the version becomes 1, so there is
-    /// one null key; Rust keeps the version there, and its null keys can differ.
+    /// Any other number is read as well. Its low 32 bits are the index. Its high 32 bits, with the
+    /// lowest bit set, are the version. If the index is 4294967295, the version becomes 1, so there
+    /// is one null key. Rust keeps the version there, so its null keys can differ. Constant time.
     ///
     /// ```
     /// assert_eq!(rt; KeyData::from_ffi(12884901889), KeyData::new(1, 3));
@@ -121,10 +145,10 @@ impl KeyData {
     }
 }
 
-/// Whether version `a` is older than version `b`, where the versions of 32 bits go round: whether
-/// `(a - b) mod 2^32` is at least 2^31. Constant time.
+/// Returns whether version `a` is older than version `b`, where versions of 32 bits wrap around.
 ///
-/// At a distance of exactly 2^31 each of the two is older than the other.
+/// It is older if `(a - b) mod 2^32` is at least 2^31. So at a distance of exactly 2^31 each of the
+/// two is older than the other. Constant time.
 ///
 /// ```
 /// assert!(rt; is_older_version(1, 3));
@@ -174,27 +198,43 @@ impl fmt::Debug for KeyData {
 
 /// A type of keys: a wrapper around `KeyData` and nothing more.
 ///
-/// A program may have one key type for each of its maps, so that the keys of one map aren't handed
-/// to another by mistake. `DefaultKey` serves where one type is enough, and `NodeKey` is written
-/// out as the pattern to copy for further types.
+/// Give each map a key type of its own, and the compiler tells their keys apart. `DefaultKey` is
+/// the key type of a map that names no other. To make a key type, copy the file of `NodeKey`.
 ///
-/// A key type is as its data in every way: `K::from(key.data()) == key`, `K::from(data).data() ==
-/// data`, two keys are equal, in order and hashed as their data are, and the default is the null
-/// key. Each key type proves this.
+/// Every key type proves that it behaves as its data do:
+///
+/// - `K::from(key.data()) == key` and `K::from(data).data() == data`
+/// - keys are equal, ordered and hashed as their data are
+/// - the default is the null key
+///
+/// ```
+/// let key = NodeKey::from(KeyData::new(2, 3));
+/// assert_eq!(rt; key.data(), KeyData::new(2, 3));
+/// assert!(rt; key < NodeKey::null());
+/// ```
 pub trait Key: From<KeyData> + Copy + Default + Eq + Ord + Hash + fmt::Debug {
     ghost use Rattle.slotmap_core.specs.Key.{Key, IsKey, key_cmp, hashed, null_key};
 
     /// The data of a key.
     ghost data_of: { Self → Key };
 
-    /// The key of data.
+    /// The key of some data.
     ghost of_data: { Key → Self };
 
-    /// The null key, which is in no map. It is the default, too. Constant time.
+    /// Returns the null key, which is in no map.
+    ///
+    /// It is the default, too. Constant time.
+    ///
+    /// ```
+    /// assert_eq!(rt; DefaultKey::null(), DefaultKey::default());
+    /// assert_eq!(rt; DefaultKey::null().data(), KeyData::new(4294967295, 1));
+    /// ```
     fn null() -> Self
         ensures { data_of result ≡ null_key };
 
-    /// Whether this is the null key. Constant time.
+    /// Returns whether this is the null key.
+    ///
+    /// Constant time.
     ///
     /// ```
     /// assert!(rt; DefaultKey::null().is_null());
@@ -203,7 +243,9 @@ pub trait Key: From<KeyData> + Copy + Default + Eq + Ord + Hash + fmt::Debug {
     fn is_null(&self) -> bool
         ensures { IsTrue result ↔ data_of self.now ≡ null_key };
 
-    /// The data of this key, of which `from` makes the key again. Constant time.
+    /// Returns the data of this key, of which `from` makes the key again.
+    ///
+    /// Constant time.
     ///
     /// ```
     /// let key = DefaultKey::from(KeyData::new(2, 3));
@@ -282,7 +324,7 @@ impl Key for DefaultKey {
 
     fn data(&self) -> KeyData {
         let data = self.0;
-        // by what `idx` promises, the data is within its bounds
+        // by the contract of `idx`, the data is within its bounds
         let _ = data.idx();
         data
     }

@@ -15,84 +15,84 @@ pub use columns::Columns;
 pub(crate) use columns::{next_odd, version_in};
 pub use rows::Rows;
 
-/// What the slot of a place is used for.
+/// What a slot is used for.
 #[derive(Clone, Copy)]
 pub enum Link {
     /// It has a payload.
     InUse,
-    /// It is vacant, and names the next place of the free list, or place 0 at the list's end.
+    /// It is vacant, and names the next slot of the free list, or slot 0 at the list's end.
     Free(u32),
-    /// Its key's payload is out, and the place is kept for the key.
+    /// Its key is detached: the payload was taken out, and the slot is kept for the key.
     Detached,
-    /// No key can follow its last one.
+    /// It is retired: no key can follow its last one.
     Retired,
 }
 
-/// A list of slots in memory: each has a version, a link and, where it is in use, a payload.
+/// A list of slots in memory: each has a version, a link and, if it is in use, a payload.
 ///
-/// `Columns` keeps three vectors, `Rows` one. What a map means by its slots is said above, by
-/// `Slots`; a layout says alone what each call does to the list.
+/// `Columns` keeps three vectors, `Rows` one. `Slots` says what a map means by its slots. A layout
+/// says only what each call does to the list.
 pub trait Layout<P>: Sized {
-    // The slots, from place 0 on.
+    // The slots, from slot 0 on.
     ghost slots: { Self → List (Slot P) };
 
-    // So many slots fit with no memory asked for.
+    // This many slots fit without allocating.
     ghost fits: { Self → ℕ };
 
-    // The same with another payload at an index.
+    // The same slots with another payload at an index.
     ghost with_payload_at: { Self → ℕ → P → Self };
 
-    /// No slots, with room for so many.
+    /// Makes an empty list with room for `count` slots.
     fn with_capacity(alloc: Global, count: usize) -> Result<Self, AllocError>
         requires { count < 2 ^ 32 }
         ensures none { IfOk result (λ made. slots made ≡ []) }
         ensures room { IfOk result (λ made. count ≤ fits made) };
 
-    /// The allocator.
+    /// Returns the allocator.
     fn allocator(&self) -> Global;
 
-    /// The number of slots.
+    /// Returns the number of slots.
     fn len(&self) -> usize
         ensures { result ≡ length (slots self.now) };
 
-    /// So many slots fit with no memory asked for.
+    /// Returns how many slots fit without allocating.
     fn capacity(&self) -> usize
         ensures value { result ≡ fits self.now }
         ensures limit { result < 2 ^ 32 };
 
-    /// Makes room for so many more slots.
+    /// Makes room for `additional` more slots.
     fn reserve(&mut self, additional: usize) -> Result<(), AllocError>
         requires { length (slots self.old) + additional < 2 ^ 32 }
         ensures room { OnOk result (length (slots self.old) + additional ≤ fits self.new) }
         ensures grows { fits self.old ≤ fits self.new }
         ensures same { slots self.new ≡ slots self.old };
 
-    /// The version at an index, where there is a slot.
+    /// Returns the version at an index, or `None` past the end.
     fn find_version(&self, index: usize) -> Option<u32>
         ensures { result ≡ version_at (slots self.now) index };
 
-    /// The version at an index.
+    /// Returns the version at an index.
     fn version(&self, index: usize) -> u32
         requires { index < length (slots self.now) }
         ensures { version_at (slots self.now) index ≡ Some result };
 
-    /// The link at an index.
+    /// Returns the link at an index.
     fn link(&self, index: usize) -> Link
         requires { index < length (slots self.now) }
         ensures { link_at (slots self.now) index ≡ Some result };
 
-    /// The payload at an index.
+    /// Returns the payload at an index.
     fn payload(&self, index: usize) -> &P
         requires { IsSome (payload_at (slots self.now) index) }
         ensures { payload_at (slots self.now) index ≡ Some result.now };
 
-    /// The payload at an index, for writing.
+    /// Returns a mutable reference to the payload at an index.
     fn payload_mut(&mut self, index: usize) -> &mut P
         requires { IsSome (payload_at (slots self.old) index) }
         ensures* writes_back { sem 𝓛 (lends_payload Self.row P.row with_payload_at self.entry index result) }
         ensures value { payload_at (slots self.old) index ≡ Some result.now };
 
-    /// Takes the payload at an index out, and leaves this version and link there.
+    /// Takes out the payload at an index, and leaves this version and link there.
     fn take(&mut self, index: usize, version: u32, link: Link) -> P
         requires there { IsSome (payload_at (slots self.old) index) }
         requires out { link ≢ InUse }
@@ -100,7 +100,7 @@ pub trait Layout<P>: Sized {
         ensures left { slots self.new ≡ slice_set (slots self.old) index (empty version link) }
         ensures same_room { fits self.new ≡ fits self.old };
 
-    /// Puts a payload at an index, under this version; what stood there is dropped.
+    /// Puts a payload at an index, under this version, and drops what was there.
     fn put(&mut self, index: usize, version: u32, payload: P)
     where
         P: Drop,
@@ -108,20 +108,20 @@ pub trait Layout<P>: Sized {
         ensures put { slots self.new ≡ slice_set (slots self.old) index (full version payload) }
         ensures same_room { fits self.new ≡ fits self.old };
 
-    /// Adds a slot with a payload, where there is room for it.
+    /// Adds a slot with a payload, for which there is room.
     fn push(&mut self, version: u32, payload: P)
         requires { length (slots self.old) < fits self.old }
         ensures pushed { slots self.new ≡ slots self.old ++ full version payload ∷ [] }
         ensures same_room { fits self.new ≡ fits self.old };
 
-    /// Adds a slot with no payload, where there is room for it.
+    /// Adds a slot with no payload, for which there is room.
     fn push_empty(&mut self, version: u32, link: Link)
         requires room { length (slots self.old) < fits self.old }
         requires out { link ≢ InUse }
         ensures pushed { slots self.new ≡ slots self.old ++ empty version link ∷ [] }
         ensures same_room { fits self.new ≡ fits self.old };
 
-    /// The first index from `start` on at which the version is odd, or the number of slots.
+    /// Returns the first index from `start` on with an odd version, or the number of slots.
     fn next_live(&self, start: usize) -> usize
         requires { start ≤ length (slots self.now) }
         ensures on { start ≤ result }
@@ -129,7 +129,7 @@ pub trait Layout<P>: Sized {
         ensures passed { NoneLive (slots self.now) start result }
         ensures odd { (v : ℕ) → version_at (slots self.now) result ≡ Some v → v % 2 ≡ 1 };
 
-    /// A copy of the slots, with clones of the payloads.
+    /// Returns a copy of the slots, with clones of the payloads.
     fn copy(&self) -> Result<Self, AllocError>
     where
         P: Clone,

@@ -1,8 +1,9 @@
-//! How much a map can hold.
+//! The limits of a map's size.
 
-/// As many keys can be live or detached or have retired places at once: an index and the sentinel's
-/// place are a number of 32 bits each.
+/// The largest number of live, detached and retired keys of one map.
+///
+/// An index has 32 bits. Of the 2^32 indices, 0 is the sentinel's and 4294967295 is the null key's.
 pub const MOST_KEYS: usize = 4294967294;
 
-/// A list that is read as a primary map is shorter.
+/// A list that is read as a primary map has fewer slots than this.
 pub const LIST_LIMIT: usize = 4294967295;

@@ -1,8 +1,11 @@
-//! What the maps that hand out their keys have in common.
+//! What the primary maps have in common: the maps that make keys.
 //!
-//! A clause here sees a map by its content alone: the live keys with their values, the detached and
-//! the retired keys, the version that the next key at each vacant index will have, the key that the
-//! next insert answers, and for how many more keys there is room.
+//! A clause here sees a map by its content alone:
+//!
+//! - the live keys with their values, the detached keys and the retired keys
+//! - the version that the next key at each vacant index will have
+//! - the key that the next insert returns
+//! - for how many more keys there is room
 
 ghost use Rattle.std.specs.Prelude.{◌≡◌, ◌↔◌, ◌+◌, ◌<◌, ◌≤◌, IsTrue, IfOk, IfErr, IfNone, OnErr, OnOk, OnSome, IsOk, IsErr, IsSome, option_copied, Bool, true, false, Ok, Err, Some, List, ◌++◌, map as list_map};
 ghost use Rattle.std.specs.FinMap as map;
@@ -19,33 +22,53 @@ use crate::errors::{
 use crate::keys::Key;
 use std::alloc::Global;
 
-/// A map that hands out its keys.
+/// A primary map: it makes a new key for each value that is inserted.
 ///
-/// Each call changes the content as one of the transitions of the definitions says, for every key,
-/// and says when it is refused and that it then keeps what the map holds. Calls on one key take
-/// constant time, where no vector moves; what a call costs beyond that is said by the map.
+/// Each contract says, for every key, what the call changes. It also says when the call fails, and
+/// that the map then holds the same keys and values. A call on one key takes constant time, unless
+/// the vectors grow. The methods of each map say more about cost.
+///
+/// ```
+/// let mut map: SlotMap<DefaultKey, u64> = Primary::with_key(alloc)?;
+/// let key = Primary::insert(&mut map, 5)?;
+/// assert_eq!(rt; Primary::get(&map, key), Some(&5));
+/// assert_eq!(rt; Primary::remove(&mut map, key), Some(5));
+/// ```
 pub trait Primary<K: Key, V>: Sized {
-    /// Whether an insert into a vacant place takes no memory, nor a reattach of a detached key.
+    /// Whether an insert into a vacant slot allocates nothing, nor a reattach of a detached key.
     const REUSES: bool;
 
     ghost REUSES: { Bool };
 
-    // Whether the map uses the place that was freed last first; its content then has a stack.
+    // Whether the map reuses the slot freed last first; its content then has a stack.
     ghost STACKED: { Bool };
 
     // What the map holds now.
     ghost content: { Self → Content V };
 
-    /// An empty map. `Memory` where the memory for it was refused.
+    /// Makes an empty map.
+    ///
+    /// It fails only if memory runs out.
+    ///
+    /// ```
+    /// let map: SlotMap<NodeKey, u64> = Primary::with_key(alloc)?;
+    /// assert!(rt; map.is_empty());
+    /// ```
     fn with_key(alloc: Global) -> Result<Self, ReserveError>
         ensures starts { IfOk result (λ m. IsNew (content m)) }
         ensures stack { IfOk result (λ m. STACKED ≡ true → IsSome (content m).stack) }
         ensures err { IfErr result (RefusesCapacity 0) }
         ensures valid { IfOk result (λ m. IsContent REUSES (content m)) };
 
-    /// An empty map with room for so many keys: so many inserts that follow aren't refused.
+    /// Makes an empty map with room for `capacity` keys.
     ///
-    /// `TooGreat` exactly where that is over 4294967294, else `Memory` where memory was refused.
+    /// The next `capacity` inserts succeed. It fails with `TooGreat` if `capacity` is over
+    /// 4294967294, and with `Memory` if memory runs out.
+    ///
+    /// ```
+    /// let map: SlotMap<NodeKey, u64> = Primary::with_capacity_and_key(alloc, 10)?;
+    /// assert!(rt; map.capacity() >= 10);
+    /// ```
     fn with_capacity_and_key(alloc: Global, capacity: usize) -> Result<Self, ReserveError>
         ensures starts { IfOk result (λ m. IsNew (content m)) }
         ensures stack { IfOk result (λ m. STACKED ≡ true → IsSome (content m).stack) }
@@ -55,47 +78,96 @@ pub trait Primary<K: Key, V>: Sized {
         ensures err { IfErr result (RefusesCapacity capacity) }
         ensures valid { IfOk result (λ m. IsContent REUSES (content m)) };
 
-    /// The number of live keys.
+    /// Returns the number of live keys.
+    ///
+    /// ```
+    /// let mut map: SlotMap<DefaultKey, u64> = SlotMap::new(alloc)?;
+    /// map.insert(5)?;
+    /// assert_eq!(rt; Primary::len(&map), 1);
+    /// ```
     fn len(&self) -> usize
         ensures value { result ≡ map.len (content self.now).live }
         ensures valid { IsContent REUSES (content self.now) };
 
-    /// Whether no key is live.
+    /// Returns whether no key is live.
+    ///
+    /// ```
+    /// let map: SlotMap<DefaultKey, u64> = SlotMap::new(alloc)?;
+    /// assert!(rt; Primary::is_empty(&map));
+    /// ```
     fn is_empty(&self) -> bool
         ensures value { IsTrue result ↔ map.len (content self.now).live ≡ 0 }
         ensures valid { IsContent REUSES (content self.now) };
 
-    /// For how many places there is memory, live, detached, vacant and retired ones together.
+    /// Returns the number of slots for which memory is allocated.
+    ///
+    /// It counts the slots of live, detached, vacant and retired keys together.
+    ///
+    /// ```
+    /// let map: SlotMap<DefaultKey, u64> = SlotMap::with_capacity(alloc, 10)?;
+    /// assert!(rt; Primary::capacity(&map) >= 10);
+    /// ```
     fn capacity(&self) -> usize
         ensures value { result ≡ (content self.now).capacity }
         ensures valid { IsContent REUSES (content self.now) };
 
-    /// Whether this key is live; one that was removed or detached isn't, nor is the null key.
+    /// Returns whether this key is live.
+    ///
+    /// A removed or detached key isn't live, nor is the null key.
+    ///
+    /// ```
+    /// let mut map: SlotMap<DefaultKey, u64> = SlotMap::new(alloc)?;
+    /// let key = map.insert(5)?;
+    /// assert!(rt; Primary::contains_key(&map, key));
+    /// assert!(rt; !Primary::contains_key(&map, DefaultKey::null()));
+    /// ```
     fn contains_key(&self, key: K) -> bool
         ensures value { result ≡ map.contains_key (content self.now).live (K.data_of key) }
         ensures valid { IsContent REUSES (content self.now) };
 
-    /// The value of a live key, or none where the key isn't live.
+    /// Returns the value of a live key, or `None` if the key isn't live.
+    ///
+    /// ```
+    /// let mut map: SlotMap<DefaultKey, u64> = SlotMap::new(alloc)?;
+    /// let key = map.insert(5)?;
+    /// assert_eq!(rt; Primary::get(&map, key), Some(&5));
+    /// assert_eq!(rt; Primary::get(&map, DefaultKey::null()), None);
+    /// ```
     fn get(&self, key: K) -> Option<&V>
         ensures value { option_copied result ≡ map.get (content self.now).live (K.data_of key) }
         ensures valid { IsContent REUSES (content self.now) };
 
-    /// Stores a value under a new key, and answers the key.
+    /// Inserts a value and returns its new key.
     ///
-    /// `Full` exactly where 4294967294 keys are live, detached or retired, else `Memory` where the
-    /// memory for it was refused; both hand the value back.
+    /// It fails with `Full` if 4294967294 keys are live, detached or retired, and with `Memory` if
+    /// memory runs out. The error holds the value.
+    ///
+    /// ```
+    /// let mut map: SlotMap<DefaultKey, u64> = SlotMap::new(alloc)?;
+    /// let key = Primary::insert(&mut map, 5)?;
+    /// assert_eq!(rt; map.get(key), Some(&5));
+    /// ```
     fn insert(&mut self, value: V) -> Result<K, InsertError<V>>
         ensures ok { IfOk result (λ key.
             Inserts (content self.old) (K.data_of key) value (content self.new)) }
         ensures err { IfErr result (λ error. Refuses (content self.old) value error) }
 
-        // Where a place is vacant, in a map that reuses it, nothing is asked for.
+        // If a slot is vacant, in a map that reuses it, nothing is allocated.
         ensures reuses { REUSES ≡ true → 0 < map.len (content self.old).next → IsOk result }
 
         ensures valid { MayGrow REUSES (content self.old) (IsErr result) (content self.new) };
 
-    /// Takes a live key's value out, and frees its place, or retires it after its last key. None
-    /// where the key isn't live. Takes no memory.
+    /// Removes a live key and returns its value, or `None` if the key isn't live.
+    ///
+    /// Its slot becomes vacant; after the slot's last key it is retired. The call allocates
+    /// nothing.
+    ///
+    /// ```
+    /// let mut map: SlotMap<DefaultKey, u64> = SlotMap::new(alloc)?;
+    /// let key = map.insert(5)?;
+    /// assert_eq!(rt; Primary::remove(&mut map, key), Some(5));
+    /// assert_eq!(rt; Primary::remove(&mut map, key), None);
+    /// ```
     fn remove(&mut self, key: K) -> Option<V>
         ensures value { result ≡ map.get (content self.old).live (K.data_of key) }
         ensures removes { OnSome result
@@ -104,19 +176,27 @@ pub trait Primary<K: Key, V>: Sized {
         ensures live { (content self.new).live ≡ map.remove (content self.old).live (K.data_of key) }
         ensures valid { StaysValid REUSES (content self.old) (content self.new) };
 
-    /// Stores the value that the closure gives for the new key, once there is room, and answers the
-    /// key.
+    /// Inserts the value that a closure returns for the new key, and returns the key.
     ///
-    /// Where the closure answers an error nothing changes, and the error is handed on in `Closure`;
-    /// the next insert offers the same key. On `Full` and `Memory`, which come as at `insert`, the
-    /// closure is dropped uncalled.
+    /// Room is made first. Then the closure is called with the key that the call will return. If
+    /// the closure fails, nothing changes, the error is returned in `Closure`, and the next insert
+    /// uses the same key. The other errors are those of `insert`; for these the closure isn't
+    /// called.
+    ///
+    /// ```
+    /// let mut map: SlotMap<DefaultKey, u64> = SlotMap::new(alloc)?;
+    /// let made: Result<DefaultKey, TryInsertError<u64>> =
+    ///     Primary::try_insert_with_key(&mut map, |_| Err(7));
+    /// assert!(rt; matches!(made, Err(TryInsertError::Closure(7))));
+    /// assert!(rt; map.is_empty());
+    /// ```
     fn try_insert_with_key<E, F: FnOnce(K) -> Result<V, E>>(
         &mut self,
         f: F,
     ) -> Result<K, TryInsertError<E>>
     where
         F: Drop,
-        // It is called where a place is left, on the key that it will have.
+        // It is called if there is a slot, with the key that the value will have.
         requires { used (content self.old) < most → (key : K) →
             K.data_of key ≡ (content self.old).offer → F.pre f key }
 
@@ -125,16 +205,24 @@ pub trait Primary<K: Key, V>: Sized {
         ensures err { IfErr result (λ error.
             RefusesWith K.data_of (F.post f) (content self.old) error) }
 
-        // Where a place is vacant, in a map that reuses it, nothing is asked for.
+        // If a slot is vacant, in a map that reuses it, nothing is allocated.
         ensures reuses { REUSES ≡ true → 0 < map.len (content self.old).next → (result ≡ Err TryInsertError.Memory → ⊥) }
 
         ensures valid { MayGrow REUSES (content self.old) (IsErr result) (content self.new) };
 
-    /// The same with a closure that gives a value always.
+    /// Inserts the value that a closure returns for the new key, and returns the key.
+    ///
+    /// It behaves as `try_insert_with_key`, with a closure that can't fail.
+    ///
+    /// ```
+    /// let mut map: SlotMap<DefaultKey, u64> = SlotMap::new(alloc)?;
+    /// let key = Primary::insert_with_key(&mut map, |key: DefaultKey| key.data().as_ffi())?;
+    /// assert_eq!(rt; map.get(key), Some(&key.data().as_ffi()));
+    /// ```
     fn insert_with_key<F: FnOnce(K) -> V>(&mut self, f: F) -> Result<K, InsertWithError>
     where
         F: Drop,
-        // It is called where a place is left, on the key that it will have.
+        // It is called if there is a slot, with the key that the value will have.
         requires { used (content self.old) < most → (key : K) →
             K.data_of key ≡ (content self.old).offer → F.pre f key }
 
@@ -142,13 +230,22 @@ pub trait Primary<K: Key, V>: Sized {
             × Inserts (content self.old) (K.data_of key) v (content self.new)) }
         ensures err { IfErr result (RefusesInsert (content self.old)) }
 
-        // Where a place is vacant, in a map that reuses it, nothing is asked for.
+        // If a slot is vacant, in a map that reuses it, nothing is allocated.
         ensures reuses { REUSES ≡ true → 0 < map.len (content self.old).next → IsOk result }
 
         ensures valid { MayGrow REUSES (content self.old) (IsErr result) (content self.new) };
 
-    /// Sets the value of a live key and answers the one before; where the key isn't live, hands the
-    /// value back. Takes no memory.
+    /// Sets the value of a live key and returns the old value.
+    ///
+    /// If the key isn't live, nothing changes, and the new value is returned as the error. The call
+    /// allocates nothing.
+    ///
+    /// ```
+    /// let mut map: SlotMap<DefaultKey, u64> = SlotMap::new(alloc)?;
+    /// let key = map.insert(5)?;
+    /// assert_eq!(rt; Primary::replace(&mut map, key, 6), Ok(5));
+    /// assert_eq!(rt; Primary::replace(&mut map, DefaultKey::null(), 7), Err(7));
+    /// ```
     fn replace(&mut self, key: K, value: V) -> Result<V, V>
         ensures ok { IfOk result (λ before.
             map.get (content self.old).live (K.data_of key) ≡ Some before) }
@@ -159,11 +256,18 @@ pub trait Primary<K: Key, V>: Sized {
         ensures unchanged { OnErr result (content self.new ≡ content self.old) }
         ensures valid { StaysValid REUSES (content self.old) (content self.new) };
 
-    /// Makes room for so many more keys: so many inserts and reattaches that follow aren't refused.
+    /// Reserves room for `additional` more keys.
     ///
-    /// `TooGreat` exactly where the live, detached and retired keys with `additional` are more than
-    /// 4294967294, else `Memory` where memory was refused; either changes nothing but the capacity.
-    /// Where there is room already nothing is asked for.
+    /// The next `additional` inserts and reattaches succeed. It fails with `TooGreat` if the live,
+    /// detached and retired keys plus `additional` are more than 4294967294, and with `Memory` if
+    /// memory runs out. Then nothing changes but, perhaps, the capacity. If there is room already,
+    /// nothing is allocated.
+    ///
+    /// ```
+    /// let mut map: SlotMap<DefaultKey, u64> = SlotMap::new(alloc)?;
+    /// Primary::reserve(&mut map, 10)?;
+    /// assert!(rt; map.capacity() >= 10);
+    /// ```
     fn reserve(&mut self, additional: usize) -> Result<(), ReserveError>
         ensures makes_room { MakesRoom REUSES
             (content self.old) additional (IsOk result) (content self.new) }
@@ -171,7 +275,13 @@ pub trait Primary<K: Key, V>: Sized {
         ensures reuses { REUSES ≡ true →
             additional ≤ map.len (content self.old).next → IsOk result };
 
-    /// The same as `reserve`.
+    /// Reserves room for `additional` more keys, as `reserve` does.
+    ///
+    /// ```
+    /// let mut map: SlotMap<DefaultKey, u64> = SlotMap::new(alloc)?;
+    /// assert!(rt; Primary::try_reserve(&mut map, 10).is_ok());
+    /// assert!(rt; Primary::try_reserve(&mut map, 4294967295).is_err());
+    /// ```
     fn try_reserve(&mut self, additional: usize) -> Result<(), ReserveError>
         ensures makes_room { MakesRoom REUSES
             (content self.old) additional (IsOk result) (content self.new) }
@@ -179,13 +289,23 @@ pub trait Primary<K: Key, V>: Sized {
         ensures reuses { REUSES ≡ true →
             additional ≤ map.len (content self.old).next → IsOk result };
 
-    /// Calls the closure once at each live key and its value, which stay where it answers true, with
-    /// what it wrote to the value. At most linear in the number of places. Takes no memory.
+    /// Calls a closure once for each live key, and removes the keys for which it returns `false`.
+    ///
+    /// The closure gets the key and a mutable reference to its value. What it writes is kept. At
+    /// most linear in the number of slots. Allocates nothing.
+    ///
+    /// ```
+    /// let mut map: SlotMap<DefaultKey, u64> = SlotMap::new(alloc)?;
+    /// let (a, b) = (map.insert(1)?, map.insert(2)?);
+    /// Primary::retain(&mut map, |_, value: &mut u64| *value % 2 == 0);
+    /// assert_eq!(rt; map.get(a), None);
+    /// assert_eq!(rt; map.get(b), Some(&2));
+    /// ```
     fn retain<F: FnMut(K, &mut V) -> bool>(&mut self, f: F)
     where
         F: Drop,
         V: Drop,
-        // At each entry, as calls at other entries leave the closure.
+        // For each entry, in each state in which calls for other entries leave the closure.
         requires { CallableOnEach F.FnMut K.data_of f (content self.old).live }
 
         ensures retained { RetainsBy F.FnMut K.data_of f
@@ -193,8 +313,16 @@ pub trait Primary<K: Key, V>: Sized {
         ensures leaves { Leaves (content self.old) (content self.new) }
         ensures valid { StaysValid REUSES (content self.old) (content self.new) };
 
-    /// Removes every live key, and drops its value. At most linear in the number of places. Takes no
-    /// memory.
+    /// Removes every live key and drops its value.
+    ///
+    /// At most linear in the number of slots. Allocates nothing.
+    ///
+    /// ```
+    /// let mut map: SlotMap<DefaultKey, u64> = SlotMap::new(alloc)?;
+    /// let key = map.insert(5)?;
+    /// Primary::clear(&mut map);
+    /// assert!(rt; !map.contains_key(key));
+    /// ```
     fn clear(&mut self)
     where
         V: Drop,
@@ -202,8 +330,19 @@ pub trait Primary<K: Key, V>: Sized {
         ensures leaves { Leaves (content self.old) (content self.new) }
         ensures valid { StaysValid REUSES (content self.old) (content self.new) };
 
-    /// Appends every live key and its value to `out`, and takes them out of the map. Room for all is
-    /// asked for first; a refusal changes neither. At most linear in the number of places.
+    /// Removes every live key, and appends the keys with their values to `out`.
+    ///
+    /// Room for all pairs is allocated first. If that fails, neither the map nor the list changes.
+    /// At most linear in the number of slots.
+    ///
+    /// ```
+    /// let mut map: SlotMap<DefaultKey, u64> = SlotMap::new(alloc)?;
+    /// let key = map.insert(5)?;
+    /// let mut pairs = Vec::new(alloc);
+    /// Primary::drain_into(&mut map, &mut pairs)?;
+    /// assert_eq!(rt; pairs[0], (key, 5));
+    /// assert!(rt; map.is_empty());
+    /// ```
     fn drain_into(&mut self, out: &mut Vec<(K, V)>) -> Result<(), OutOfMemory>
         ensures ok { OnOk result ((pairs : List (K × V))
             × (out.new.items ≡ out.old.items ++ pairs)
@@ -215,8 +354,18 @@ pub trait Primary<K: Key, V>: Sized {
             ((content self.new ≡ content self.old) × (out.new.items ≡ out.old.items)) }
         ensures valid { StaysValid REUSES (content self.old) (content self.new) };
 
-    /// Appends every live key to `out`. Room for all is asked for first; a refusal changes nothing.
-    /// At most linear in the number of places.
+    /// Appends every live key to `out`.
+    ///
+    /// Room for all keys is allocated first. If that fails, the list doesn't change. At most linear
+    /// in the number of slots.
+    ///
+    /// ```
+    /// let mut map: SlotMap<DefaultKey, u64> = SlotMap::new(alloc)?;
+    /// let key = map.insert(5)?;
+    /// let mut keys = Vec::new(alloc);
+    /// Primary::keys_into(&map, &mut keys)?;
+    /// assert_eq!(rt; keys[0], key);
+    /// ```
     fn keys_into(&self, out: &mut Vec<K>) -> Result<(), OutOfMemory>
         ensures ok { OnOk result ((keys : List K)
             × (out.new.items ≡ out.old.items ++ keys)
@@ -225,11 +374,31 @@ pub trait Primary<K: Key, V>: Sized {
         ensures valid { IsContent REUSES (content self.now) };
 }
 
-/// A map whose keys can be detached: the value is out, the place is kept, and the key can be bound
-/// again. Such a map uses the place that was freed last first.
+/// A primary map whose keys can be detached.
+///
+/// The value of a detached key is taken out, and its slot is kept until the key is bound to a value
+/// again. Such a map reuses the slot freed last first.
+///
+/// ```
+/// let mut map: SlotMap<DefaultKey, u64> = SlotMap::new(alloc)?;
+/// let key = map.insert(5)?;
+/// assert_eq!(rt; Detaching::detach(&mut map, key), Some(5));
+/// Detaching::reattach(&mut map, key, 6)?;
+/// assert_eq!(rt; map.get(key), Some(&6));
+/// ```
 pub trait Detaching<K: Key, V>: Primary<K, V> {
-    /// Takes a live key's value out, and keeps its place for the key: no insert answers it. None
-    /// where the key isn't live. Takes no memory.
+    /// Takes out the value of a live key and keeps its slot, or returns `None` if the key isn't
+    /// live.
+    ///
+    /// The key is detached then: no insert returns it, and only `reattach` makes it live again. The
+    /// call allocates nothing.
+    ///
+    /// ```
+    /// let mut map: SlotMap<DefaultKey, u64> = SlotMap::new(alloc)?;
+    /// let key = map.insert(5)?;
+    /// assert_eq!(rt; Detaching::detach(&mut map, key), Some(5));
+    /// assert!(rt; !map.contains_key(key));
+    /// ```
     fn detach(&mut self, key: K) -> Option<V>
         ensures value { result ≡ map.get (Self.content self.old).live (K.data_of key) }
         ensures detaches { OnSome result
@@ -241,8 +410,16 @@ pub trait Detaching<K: Key, V>: Primary<K, V> {
 
     /// Binds a detached key to a value again.
     ///
-    /// `NotDetached` exactly where the key isn't detached, else `Memory` where there is no room for
-    /// the value, never in a map that reuses its places; both hand the value back.
+    /// It fails with `NotDetached` if the key isn't detached, and with `Memory` if memory runs out.
+    /// A map that reuses its slots without allocating never fails with `Memory`. The error holds
+    /// the value.
+    ///
+    /// ```
+    /// let mut map: SlotMap<DefaultKey, u64> = SlotMap::new(alloc)?;
+    /// let key = map.insert(5)?;
+    /// let error = Detaching::reattach(&mut map, key, 6);
+    /// assert!(rt; matches!(error, Err(ReattachError::NotDetached(6))));
+    /// ```
     fn reattach(&mut self, key: K, value: V) -> Result<(), ReattachError<V>>
         ensures ok { OnOk result
             (Reattaches (Self.content self.old) (K.data_of key) value (Self.content self.new)) }

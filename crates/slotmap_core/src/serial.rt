@@ -1,6 +1,6 @@
-//! Lists of slots, in which a map is written out and read back, and their JSON.
+//! Lists of slots, as which a map is written and read back, and their JSON.
 //!
-//! A list has one `SlotRecord` for each place of a map, from place 0 on.
+//! A list has one `SlotRecord` for each slot of a map, from slot 0 on.
 
 ghost use Rattle.std.specs.Prelude.{◌≡◌, ◌↔◌, ◌^◌, ◌<◌, length, IsTrue, IsOk, IfErr, OnOk};
 ghost use Rattle.slotmap_core.specs.Slots.{IsConsistent, Accepts, AllFitBelow, Refuses};
@@ -8,19 +8,31 @@ ghost use Rattle.slotmap_core.specs.Slots.{IsConsistent, Accepts, AllFitBelow, R
 use crate::errors::SlotsError;
 pub use crate::json::{key_from_value, key_to_value, slots_from_value, slots_to_value};
 
-/// What a list says of one place: its value, if there is one, and its version.
+/// One slot of a list: its value, if there is one, and its version.
 ///
-/// In the list of a map that hands out its keys, the place of a live key has its value and its odd
-/// version. Every other place from 1 on has no value and an even version: one more than the version
-/// of its last key, and 0 after the last version, 4294967295. So an even version other than 0 is
-/// read as a vacant place, whose next key has the version after it, and 0 as a place that is used
-/// up. A detached key is written as if it had left, and isn't detached in the map that is read.
-/// Place 0 has no value and version 0, and any even version there is read as 0.
+/// In the list of a primary map:
 ///
-/// In the list of a secondary map, a place that holds nothing has no value and version 0.
+/// - The slot of a live key has its value and its odd version.
+/// - Slot 0 has no value and version 0. Any even version there is read as 0.
+/// - Any other slot has no value and an even version, one more than that of its last key.
+/// - After the last version, 4294967295, that is 0, since versions wrap around.
+///
+/// So version 0 is read as a retired slot. Any other even version is read as a vacant slot, and its
+/// next key has the version after it. A detached key is written as if it were removed, so it isn't
+/// detached in the map that is read.
+///
+/// In the list of a secondary map, a slot that holds nothing has no value and version 0.
+///
+/// ```
+/// let mut map: SlotMap<DefaultKey, u64> = SlotMap::new(alloc)?;
+/// map.insert(5)?;
+/// let list = map.to_slots()?;
+/// assert_eq!(rt; (list[0].value, list[0].version), (None, 0));
+/// assert_eq!(rt; (list[1].value, list[1].version), (Some(5), 1));
+/// ```
 #[derive(Debug, Drop)]
 pub struct SlotRecord<V> {
-    /// The value, where the version is odd.
+    /// The value, if the version is odd.
     pub value: Option<V>,
     /// The version.
     pub version: u32,
@@ -35,30 +47,31 @@ impl<V> SlotRecord<V> {
     }
 }
 
-/// Whether a list can be read as a map, want of memory aside, and why not.
+/// Checks that a list can be read as a map, unless memory runs out.
 ///
-/// It can where it isn't empty, is shorter than the limit, has an even first version, and has a
-/// value exactly where the version is odd. The limit is 4294967295 for the maps that hand out
-/// their keys, and 4294967294 for secondary maps.
+/// The errors, in this order of precedence:
 ///
-/// Refusals are looked for in this order: `TooMany` where the list isn't shorter than the limit;
-/// `FirstNotEmpty` where it is empty or its first version is odd; `Inconsistent` with the least
-/// position at which a value stands beside an even version, or none beside an odd one. `Memory` is
-/// never answered. At most one pass over the list.
+/// - `TooMany`: the list has `limit` slots or more. Primary maps have the limit 4294967295,
+///   secondary maps 4294967294.
+/// - `FirstNotEmpty`: the list is empty, or its first version is odd.
+/// - `Inconsistent(i)`: slot i is the first with a value and an even version, or with no value and
+///   an odd version.
+///
+/// It never fails with `Memory`. At most one pass over the list.
 ///
 /// ```
 /// let list = [
 ///     SlotRecord { value: None, version: 0 },
 ///     SlotRecord { value: Some(7), version: 2 },
 /// ];
-/// let refused = check_slots(&list, 4294967295);
-/// assert!(rt; matches!(refused, Err(SlotsError::Inconsistent(1))));
+/// let checked = check_slots(&list, 4294967295);
+/// assert!(rt; matches!(checked, Err(SlotsError::Inconsistent(1))));
 /// ```
 pub fn check_slots<V>(list: &[SlotRecord<V>], limit: usize) -> Result<(), SlotsError>
     ensures ok { IsOk result ↔ Accepts list.now limit }
     ensures err { IfErr result (Refuses list.now limit) }
 
-    // For a caller that goes on to read the list: its versions are numbers of 32 bits.
+    // For a caller that goes on to read the list: each version has 32 bits.
     ensures versions_fit { OnOk result (AllFitBelow list.now (length list.now)) }
 {
     if list.len() >= limit {

@@ -1,8 +1,8 @@
-//! The slots of a map that uses the place freed last first, by key data alone.
+//! The slots of a map that reuses the slot freed last first, by key data alone.
 //!
-//! Free list, retired and detached places, room and growth stand here, once for each map over
-//! places. A map is slots with a key type of its own (`SlotMap`), or slots that hold positions
-//! (`DenseSlotMap`). The layout says how the slots lie in memory.
+//! The free list, retired and detached slots, room and growth are here, once for every map that has
+//! slots. `SlotMap` is slots with a key type of its own, `DenseSlotMap` is slots that hold
+//! positions. The layout says how the slots lie in memory.
 
 ghost use Rattle.std.specs.Prelude.{◌≡◌, [], Some, ◌+◌, ◌<◌, ◌≤◌, ◌^◌, IfOk, IfErr, IsOk, IsTrue, true};
 ghost use Rattle.std.specs.FinMap as map;
@@ -32,7 +32,7 @@ pub use walk::{SlotIntoIter, SlotIter};
 pub struct Slots<P, L: Layout<P>> {
     // Slot 0 is the sentinel.
     layout: L,
-    // The first place of the free list, or 0 where there is none.
+    // The first slot of the free list, or 0 if no slot is vacant.
     first_vacant: u32,
     vacant_count: u32,
     live_count: u32,
@@ -55,7 +55,7 @@ impl<P, L: Layout<P>> Model for Slots<P, L> {
 }
 
 impl<P: Drop, L: Layout<P> + Drop> Slots<P, L> {
-    /// No places but the sentinel's, with room for `capacity` keys.
+    /// Makes slots with no key, with room for `capacity` keys.
     pub fn with_capacity(alloc: Global, capacity: usize) -> Result<Self, ReserveError>
         ensures starts { IfOk result IsNew }
         ensures stack { IfOk result (λ made. made.stack ≡ Some []) }
@@ -80,7 +80,7 @@ impl<P: Drop, L: Layout<P> + Drop> Slots<P, L> {
 }
 
 impl<P, L: Layout<P>> Slots<P, L> {
-    /// The number of live keys.
+    /// Returns the number of live keys.
     pub fn len(&self) -> usize
         ensures value { result ≡ map.len self.now.live }
         ensures valid { IsContent true self.now }
@@ -88,7 +88,7 @@ impl<P, L: Layout<P>> Slots<P, L> {
         self.live_count as usize
     }
 
-    /// Does nothing: callers learn that what the slots hold is well formed.
+    /// Does nothing; its contract tells a caller that what the slots hold is well formed.
     #[inline(always)]
     pub fn note_valid(&self)
         ensures { IsContent true self.now }
@@ -96,7 +96,7 @@ impl<P, L: Layout<P>> Slots<P, L> {
         let _ = &self.live_count;
     }
 
-    /// For how many places there is memory.
+    /// Returns the number of slots for which memory is allocated.
     pub fn capacity(&self) -> usize
         ensures value { result ≡ self.now.capacity }
         ensures valid { IsContent true self.now }
@@ -104,7 +104,7 @@ impl<P, L: Layout<P>> Slots<P, L> {
         self.layout.capacity() - 1
     }
 
-    /// The number of places, the sentinel's aside.
+    /// Returns the number of slots, without the sentinel.
     pub fn place_count(&self) -> usize
         ensures value { result ≡ places self.now }
         ensures valid { IsContent true self.now }
@@ -112,7 +112,7 @@ impl<P, L: Layout<P>> Slots<P, L> {
         self.layout.len() - 1
     }
 
-    /// The number of places that no insert can take.
+    /// Returns the number of slots that no insert can use.
     fn used(&self) -> usize
         ensures value { result ≡ used self.now }
         ensures below { result ≤ most }
@@ -140,7 +140,7 @@ impl<P, L: Layout<P>> Slots<P, L> {
         Ok(())
     }
 
-    // Whether the next insert asks for no memory.
+    // Returns whether the next insert allocates nothing.
     #[inline(always)]
     fn has_room(&self) -> bool
         ensures room { IsTrue result → 0 < self.now.room }

@@ -1,6 +1,6 @@
-//! A second key type, in a file of its own as the pattern for further ones.
+//! A second key type, in a file of its own: the pattern for further ones.
 //!
-//! To have a key type of your own, copy this file and write its name in place of `NodeKey`.
+//! To make a key type, copy this file and replace `NodeKey` by its name.
 
 ghost use Rattle.std.specs.Prelude.{◌≡◌, refl};
 ghost use Rattle.slotmap_core.specs.Key.{null_key};
@@ -8,8 +8,9 @@ ghost use Rattle.slotmap_core.specs.Key.{null_key};
 use crate::keys::{Key, KeyData};
 use std::marker::Model;
 
-/// A key type that is `DefaultKey` under another name, so that no key of a map under one of them
-/// is handed to a map under the other.
+/// A second key type, with the same behavior as `DefaultKey`.
+///
+/// A key of this type can't be passed to a map of `DefaultKey`, nor the other way round.
 ///
 /// ```
 /// let mut words = SlotMap::with_key(alloc)?;
@@ -60,7 +61,7 @@ impl Key for NodeKey {
 
     fn data(&self) -> KeyData {
         let data = self.0;
-        // by what `idx` promises, the data is within its bounds
+        // by the contract of `idx`, the data is within its bounds
         let _ = data.idx();
         data
     }

@@ -8,14 +8,15 @@ use super::{Layout, Link};
 use std::alloc::{AllocError, Global};
 use std::marker::Model;
 
-/// Versions, links and payloads, each in a vector of its own: a walk reads the versions alone, and
-/// a look-up a version and a payload.
+/// Versions, links and payloads, each in a vector of its own.
+///
+/// An iterator reads the versions alone, and a look-up a version and a payload.
 #[derive(Drop)]
 pub struct Columns<P> {
     versions: Vec<u32>,
     links: Vec<Link>,
     payloads: Vec<Option<P>>,
-    // So many slots fit in each of the three.
+    // This many slots fit in each of the three.
     capacity: usize,
 }
 
@@ -31,16 +32,16 @@ impl<P> Model for Columns<P> {
     ghost invariant = { λ m. IsColumns m.versions.items m.links.items m.payloads.items m.capacity (vec_capacity m.versions) (vec_capacity m.links) (vec_capacity m.payloads) };
 }
 
-// A slot's place is found in any of the vectors by its index alone.
+// A slot is found in any of the vectors by its index alone.
 const LIMIT: usize = 4294967295;
 
-// Below so many slots three vectors grow to four times their length, and above to twice theirs.
+// With fewer slots than this the three vectors grow to four times their length, with more to twice.
 const FEW: usize = 512;
 
-// How many places are looked at together.
+// How many versions are looked at together.
 const BLOCK: usize = 16;
 
-// Passes over whole blocks of even versions, from this index on.
+// Skips whole blocks of even versions, from this index on.
 #[inline(never)]
 fn skip_even(versions: &[u32], start: usize) -> usize
     requires { start ≤ length versions.now }
@@ -62,7 +63,7 @@ fn skip_even(versions: &[u32], start: usize) -> usize
     at
 }
 
-// The first index from `start` on with an odd version, or the number of versions.
+// Returns the first index from `start` on with an odd version, or the number of versions.
 pub(crate) fn next_odd(versions: &[u32], start: usize) -> usize
     requires { start ≤ length versions.now }
     ensures on { start ≤ result }
@@ -83,7 +84,7 @@ pub(crate) fn next_odd(versions: &[u32], start: usize) -> usize
     index
 }
 
-// The version at an index.
+// Returns the version at an index.
 pub(crate) fn version_in(versions: &[u32], index: usize) -> u32
     requires { index < length versions.now }
     ensures { slice_get versions.now index ≡ Some result }
@@ -91,8 +92,8 @@ pub(crate) fn version_in(versions: &[u32], index: usize) -> u32
     versions[index]
 }
 
-// So many more slots are asked for where so many are wanted: each growth moves three vectors, so it
-// pays to have few of them.
+// Returns how many more slots to allocate if `additional` are needed. Each growth moves three
+// vectors, so it pays to have few of them.
 fn growth(len: usize, additional: usize) -> usize
     ensures { additional ≤ result }
 {
@@ -104,7 +105,7 @@ fn growth(len: usize, additional: usize) -> usize
 }
 
 impl<P> Columns<P> {
-    // So many slots fit in each of these.
+    // Returns how many slots fit in each of these.
     fn room(versions: &Vec<u32>, links: &Vec<Link>, payloads: &Vec<Option<P>>) -> usize
         ensures limit { result < 2 ^ 32 }
         ensures versions_fit { result ≤ vec_capacity versions.now }
@@ -116,7 +117,7 @@ impl<P> Columns<P> {
         versions.capacity().min(others).min(LIMIT)
     }
 
-    // The versions and the payloads.
+    // Returns the versions and the payloads.
     pub(crate) fn as_slices(&self) -> (&[u32], &[Option<P>])
         ensures { (links : List LinkOf) × (length links ≡ length result.0.now) × (length result.1.now ≡ length result.0.now) × (zip_slots result.0.now links result.1.now ≡ self.now.slots) }
     {
@@ -125,7 +126,7 @@ impl<P> Columns<P> {
 }
 
 impl<P> Columns<P> {
-    // The versions and the payloads; the links are dropped.
+    // Returns the versions and the payloads, and drops the links.
     pub(crate) fn into_parts(self) -> (Vec<u32>, Vec<Option<P>>)
         ensures { (links : List LinkOf) × (length links ≡ length result.0.items) × (length result.1.items ≡ length result.0.items) × (zip_slots result.0.items links result.1.items ≡ self.slots) }
     {
@@ -177,7 +178,7 @@ impl<P> Layout<P> for Columns<P> {
 
     fn reserve(&mut self, additional: usize) -> Result<(), AllocError> {
         let more = growth(self.versions.len(), additional);
-        // The largest first: what it leaves takes the others.
+        // The largest vector first: the memory that it leaves can hold the others.
         self.payloads.reserve(more)?;
         self.links.reserve(more)?;
         self.versions.reserve(more)?;

@@ -12,23 +12,23 @@ use std::alloc::{AllocError, Global};
 use std::marker::Model;
 use std::mem;
 
-// What a slot is used for, with its payload where it is in use.
+// What a slot is used for, with its payload if it is in use.
 #[derive(Clone, Drop)]
 enum Use<P> {
     // It has a payload.
     Full(P),
-    // It is vacant, and names the next place of the free list, or place 0 at the list's end.
+    // It is vacant, and names the next slot of the free list, or slot 0 at the list's end.
     Free(u32),
-    // Its key's payload is out, and the place is kept for the key.
+    // Its key is detached: the payload was taken out, and the slot is kept for the key.
     Detached,
-    // No key can follow its last one.
+    // It is retired: no key can follow its last one.
     Retired,
 }
 
 impl<P> Use<P> {
     ghost use Rattle.slotmap_core.specs.RowsLend.{lends_full};
 
-    // The payload for writing, where there is one.
+    // Returns a mutable reference to the payload, if there is one.
     #[inline(always)]
     fn payload_mut(&mut self) -> Option<&mut P>
         ensures* writes_back { sem 𝓛 (lends_full P.row self.entry result) }
@@ -48,9 +48,10 @@ struct Row<P> {
     used: Use<P>,
 }
 
-/// Versions, links and payloads side by side in one vector: a look-up reads one place in memory.
+/// Versions, links and payloads side by side in one vector.
 ///
-/// It suits small payloads, as positions in another vector; a walk passes over the payloads too.
+/// A look-up reads one spot of memory, and an iterator passes over the payloads too. So it suits
+/// small payloads, such as positions in another vector.
 #[derive(Drop)]
 pub struct Rows<P> {
     rows: Vec<Row<P>>,
@@ -66,10 +67,10 @@ impl<P> Model for Rows<P> {
     ghost view = { λ m. record { slots = slots_of m.rows.items; capacity = min (vec_capacity m.rows) most_rows } };
 }
 
-// So many slots are counted as fitting, at most.
+// At most this many slots are counted as fitting.
 const LIMIT: usize = 4294967295;
 
-// What a slot with no payload is used for.
+// Returns the use of a slot with no payload.
 fn vacant<P>(link: Link) -> Use<P>
     requires { link ≢ InUse }
     ensures same { link_of result ≡ link }
@@ -83,7 +84,7 @@ fn vacant<P>(link: Link) -> Use<P>
     }
 }
 
-// The first index from `start` on with an odd version, or the number of slots.
+// Returns the first index from `start` on with an odd version, or the number of slots.
 fn next_odd_row<P>(rows: &[Row<P>], start: usize) -> usize
     requires { start ≤ length rows.now }
     ensures on { start ≤ result }

@@ -13,7 +13,7 @@ use crate::layout::Layout;
 impl<P, L: Layout<P>> Slots<P, L> {
     ghost use Rattle.slotmap_core.specs.SlotsLend.{lends_value};
 
-    // The index of a key that is live.
+    // Returns the index of a live key.
     fn live_index(&self, key: KeyData) -> Option<usize>
         ensures live { IfSome result (λ index. IsLive self.now key × (index ≡ key.index)) }
         ensures absent { IfNone result (map.contains_key self.now.live key ≡ false) }
@@ -27,7 +27,7 @@ impl<P, L: Layout<P>> Slots<P, L> {
         }
     }
 
-    /// Whether this key is live.
+    /// Returns whether this key is live.
     pub fn contains_key(&self, key: KeyData) -> bool
         ensures value { result ≡ map.contains_key self.now.live key }
         ensures valid { IsContent true self.now }
@@ -35,7 +35,7 @@ impl<P, L: Layout<P>> Slots<P, L> {
         self.live_index(key).is_some()
     }
 
-    /// The payload of a live key, or none where the key isn't live.
+    /// Returns the payload of a live key, or `None` if the key isn't live.
     pub fn get(&self, key: KeyData) -> Option<&P>
         ensures value { option_copied result ≡ map.get self.now.live key }
         ensures valid { IsContent true self.now }
@@ -44,7 +44,7 @@ impl<P, L: Layout<P>> Slots<P, L> {
         Some(self.layout.payload(index))
     }
 
-    /// The payload of a key that is live, with no look-up.
+    /// Returns the payload of a live key, with no look-up.
     pub fn get_unchecked(&self, key: KeyData) -> &P
         requires { IsLive self.now key }
         ensures value { map.get self.now.live key ≡ Some result.now }
@@ -53,7 +53,7 @@ impl<P, L: Layout<P>> Slots<P, L> {
         self.layout.payload(key.idx() as usize)
     }
 
-    /// The payload of a key that is live, for writing, with no look-up.
+    /// Returns a mutable reference to the payload of a live key, with no look-up.
     pub fn get_unchecked_mut(&mut self, key: KeyData) -> &mut P
         requires { IsLive self.old key }
         ensures* writes_back { sem 𝓛 (lends_value P.row L.row L.Layout self.entry key result) }
@@ -63,7 +63,7 @@ impl<P, L: Layout<P>> Slots<P, L> {
         self.layout.payload_mut(key.idx() as usize)
     }
 
-    /// The live key with the least index from `start` on.
+    /// Returns the live key with the smallest index from `start` on.
     pub fn live_from(&self, start: usize) -> Option<KeyData>
         ensures live { IfSome result (λ key. IsLive self.now key × (start ≤ key.index)) }
         ensures first { IfSome result (λ key. (other : Key) → IsLive self.now other → start ≤ other.index → key.index ≤ other.index) }

@@ -10,7 +10,7 @@ use std::alloc::AllocError;
 use std::marker::PhantomData;
 
 impl<P: Clone, L: Layout<P>> Slots<P, L> {
-    /// A copy, with clones of the payloads.
+    /// Returns a copy, with clones of the payloads.
     pub fn copy(&self) -> Result<Self, AllocError>
         requires { (x y : P) → P.is_clone x y → y ≡ x }
         ensures copies { IfOk result (IsCopy self.now) }

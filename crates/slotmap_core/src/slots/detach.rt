@@ -1,4 +1,4 @@
-//! Keys whose payload is out and whose place is kept.
+//! Detached keys: the payload is taken out, and the slot is kept.
 
 ghost use Rattle.std.specs.Prelude.{◌≡◌, OnSome, IfNone, Some, true};
 ghost use Rattle.std.specs.FinMap as map;
@@ -12,8 +12,8 @@ use crate::keys::KeyData;
 use crate::layout::{Layout, Link};
 
 impl<P, L: Layout<P>> Slots<P, L> {
-    /// Takes a live key's payload out and keeps its place for the key, or answers none where the key
-    /// isn't live.
+    /// Takes out the payload of a live key and keeps its slot, or returns `None` if the key isn't
+    /// live.
     #[tactic(auto, using(crate::proofs::Callers::remove_stale))]
     pub fn detach(&mut self, key: KeyData) -> Option<P>
         ensures value { result ≡ map.get self.old.live key }
@@ -29,7 +29,7 @@ impl<P, L: Layout<P>> Slots<P, L> {
         }
     }
 
-    // Takes the payload of a key that is live out, and keeps its place.
+    // Takes out the payload of a live key, and keeps its slot.
     fn take_aside(&mut self, key: KeyData) -> P
         requires { IsLive self.old key }
         ensures value { map.get self.old.live key ≡ Some result }
@@ -41,7 +41,7 @@ impl<P, L: Layout<P>> Slots<P, L> {
         self.layout.take(key.idx() as usize, after, Link::Detached)
     }
 
-    /// Whether this key is detached.
+    /// Returns whether this key is detached.
     pub fn is_detached(&self, key: KeyData) -> bool
         ensures value { result ≡ set.contains self.now.detached key }
         ensures valid { IsContent true self.now }
@@ -56,7 +56,7 @@ impl<P, L: Layout<P>> Slots<P, L> {
         }
     }
 
-    /// Binds a key that is detached to a payload again.
+    /// Binds a detached key to a payload again.
     pub fn reattach(&mut self, key: KeyData, payload: P)
     where
         P: Drop,

@@ -9,7 +9,7 @@ use crate::keys::KeyData;
 use crate::layout::{Layout, Link};
 
 impl<P, L: Layout<P>> Slots<P, L> {
-    /// The key that the next insert answers, where there is room for it.
+    /// Returns the key that the next insert will return, if there is room for it.
     pub fn next_key(&self) -> KeyData
         requires { 0 < self.now.room }
         ensures { result ≡ self.now.offer }
@@ -21,7 +21,7 @@ impl<P, L: Layout<P>> Slots<P, L> {
         KeyData::exact(index, self.layout.version(index as usize) + 1)
     }
 
-    /// Binds the next key to a payload, where there is room for it, and answers the key.
+    /// Binds the next key to a payload, for which there is room, and returns the key.
     #[inline(always)]
     pub fn fill(&mut self, payload: P) -> KeyData
     where

@@ -1,4 +1,4 @@
-//! Lists of slots: slots written out, and read back.
+//! Lists of slots: slots are written out, and read back.
 
 ghost use Rattle.std.specs.Prelude.{◌≡◌, ◌<◌, ◌^◌, ◌↔◌, ◌%◌, ℕ, length, IfOk, IsOk, IfErr, IsSome, true, Some};
 ghost use Rattle.slotmap_core.specs.Content.{IsContent};
@@ -16,7 +16,7 @@ use crate::serial::{SlotRecord, check_slots};
 use std::alloc::Global;
 use std::marker::PhantomData;
 
-// The record of a slot, with a clone of its payload.
+// Returns the record of a slot, with a clone of its payload.
 fn record_at<P: Clone, L: Layout<P>>(layout: &L, index: usize) -> Result<SlotRecord<P>, OutOfMemory>
     requires clones { (x y : P) → P.is_clone x y → y ≡ x }
     requires within { index < length (L.slots layout.now) }
@@ -37,7 +37,7 @@ fn record_at<P: Clone, L: Layout<P>>(layout: &L, index: usize) -> Result<SlotRec
 }
 
 impl<P, L: Layout<P>> Slots<P, L> {
-    /// The slots written as a list, one record for each place, with clones of the payloads.
+    /// Returns the slots as a list, one record for each slot, with clones of the payloads.
     pub fn to_slots(&self) -> Result<Vec<SlotRecord<P>>, OutOfMemory>
     where
         P: Clone,
@@ -54,7 +54,7 @@ impl<P, L: Layout<P>> Slots<P, L> {
 }
 
 impl<P: Drop, L: Layout<P> + Drop> Slots<P, L> {
-    /// The slots that a list describes; its values are moved.
+    /// Makes the slots that a list describes; its values are moved.
     pub fn from_slots(alloc: Global, list: Vec<SlotRecord<P>>) -> Result<Self, SlotsError>
         ensures reads { IfOk result (ReadsAs true list.items) }
         ensures stack { IfOk result (λ made. made.stack ≡ Some (start_stack list.items)) }

@@ -1,4 +1,4 @@
-//! Keys that leave.
+//! Removals.
 
 ghost use Rattle.std.specs.Prelude.{◌≡◌, ◌+◌, ◌<◌, ◌≤◌, OnSome, IfNone, Some, true};
 ghost use Rattle.std.specs.FinMap as map;
@@ -13,7 +13,7 @@ use crate::keys::KeyData;
 use crate::layout::{Layout, Link};
 
 impl<P, L: Layout<P>> Slots<P, L> {
-    /// Takes a live key's payload out, or answers none where the key isn't live.
+    /// Removes a live key and returns its payload, or `None` if the key isn't live.
     #[tactic(auto, using(crate::proofs::Callers::remove_stale))]
     pub fn remove(&mut self, key: KeyData) -> Option<P>
         ensures value { result ≡ map.get self.old.live key }
@@ -29,7 +29,7 @@ impl<P, L: Layout<P>> Slots<P, L> {
         }
     }
 
-    /// Takes the payload of a key that is live out, with no look-up.
+    /// Removes a live key and returns its payload, with no look-up.
     pub fn take(&mut self, key: KeyData) -> P
         requires { IsLive self.old key }
         ensures value { map.get self.old.live key ≡ Some result }

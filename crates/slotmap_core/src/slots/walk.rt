@@ -1,4 +1,4 @@
-//! Walks over slots in three vectors, by ascending index.
+//! Iterators over slots in three vectors, by ascending index.
 
 ghost use Rattle.std.specs.Prelude.{◌≡◌, ◌≤◌, length, Some, IfSome, IfOk, ⊤};
 ghost use Rattle.std.specs.Iterator.{YieldsFirstBy, item_count, at_most, UpTo};
@@ -10,15 +10,15 @@ use crate::layout::{Columns, next_odd, version_in};
 use std::alloc::AllocError;
 use std::marker::Model;
 
-/// A walk over the live keys and their payloads. A contract sees it as the list of the pairs that
-/// are still to come.
+/// An iterator over the live keys and their payloads. A contract sees it as the list of the pairs
+/// that it will still yield.
 #[derive(Drop)]
 pub struct SlotIter<'a, P> {
     versions: &'a [u32],
     payloads: &'a [Option<P>],
-    // The place that comes next.
+    // The next slot to look at.
     index: usize,
-    // How many payloads are still to come.
+    // How many payloads are left.
     left: usize,
 }
 
@@ -35,7 +35,7 @@ impl<'a, P> Model for SlotIter<'a, P> {
 }
 
 impl<'a, P> SlotIter<'a, P> {
-    /// How many pairs are still to come.
+    /// Returns how many pairs are left.
     pub fn len(&self) -> usize
         ensures { result ≡ length self.now }
     {
@@ -88,15 +88,15 @@ impl<'a, P> Iterator for SlotIter<'a, P> {
     }
 }
 
-/// A walk that takes the payloads out. A contract sees it as the list of the pairs that are still to
-/// come.
+/// An iterator over the live keys and their payloads, by value. A contract sees it as the list of
+/// the pairs that it will still yield.
 #[derive(Drop)]
 pub struct SlotIntoIter<P> {
     versions: Vec<u32>,
     payloads: Vec<Option<P>>,
-    // The place that comes next.
+    // The next slot to look at.
     index: usize,
-    // How many payloads are still to come.
+    // How many payloads are left.
     left: usize,
 }
 
@@ -113,7 +113,7 @@ impl<P> Model for SlotIntoIter<P> {
 }
 
 impl<P> SlotIntoIter<P> {
-    /// How many pairs are still to come.
+    /// Returns how many pairs are left.
     pub fn len(&self) -> usize
         ensures { result ≡ length self.now }
     {
@@ -122,7 +122,7 @@ impl<P> SlotIntoIter<P> {
 }
 
 impl<P: Clone> SlotIntoIter<P> {
-    /// A second walk over the pairs that are still to come, with clones of the payloads.
+    /// Returns a second iterator over the pairs that are left, with clones of the payloads.
     pub fn copy(&self) -> Result<Self, AllocError>
         requires { (x y : P) → P.is_clone x y → y ≡ x }
         ensures { IfOk result (λ copy. copy ≡ self.now) }
@@ -166,7 +166,7 @@ impl<P: Drop> Iterator for SlotIntoIter<P> {
 }
 
 impl<P> Slots<P, Columns<P>> {
-    /// A walk over the live keys and their payloads.
+    /// Returns an iterator over the live keys and their payloads.
     pub fn iter(&self) -> SlotIter<'_, P>
         ensures { result ≡ map.entries self.now.live }
     {
@@ -179,7 +179,7 @@ impl<P> Slots<P, Columns<P>> {
         }
     }
 
-    /// A walk that takes the payloads of the live keys out.
+    /// Returns an iterator over the live keys and their payloads, by value.
     pub fn into_iter(self) -> SlotIntoIter<P>
         ensures { result ≡ map.entries self.live }
     {
