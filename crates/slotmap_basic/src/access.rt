@@ -16,10 +16,17 @@ use std::ops::{Index, IndexMut};
 impl<K: Key, V: Drop> SlotMap<K, V> {
     ghost use Rattle.slotmap_basic.specs.Lends.{lends_get, lends_value};
 
-    /// Whether this key is live. Constant time.
+    /// Returns whether this key is live.
     ///
-    /// A detached key isn't, nor is the null key, nor a key of another map, as long as this map has
-    /// no live key of the same index and version.
+    /// A removed or detached key isn't live, nor is the null key. A key of another map is live here
+    /// only if this map has a live key of the same index and version. Constant time.
+    ///
+    /// ```
+    /// assert!(rt; map.contains_key(a));
+    /// map.remove(a);
+    /// assert!(rt; !map.contains_key(a));
+    /// assert!(rt; !map.contains_key(DefaultKey::null()));
+    /// ```
     pub fn contains_key(&self, key: K) -> bool
         ensures value { result ≡ map.contains_key self.now.live (K.data_of key) }
         ensures valid { IsContent true self.now }
@@ -27,7 +34,15 @@ impl<K: Key, V: Drop> SlotMap<K, V> {
         self.slots.contains_key(key.data())
     }
 
-    /// The value of a live key, or none where the key isn't live. Constant time.
+    /// Returns the value of a live key, or `None` if the key isn't live.
+    ///
+    /// Constant time.
+    ///
+    /// ```
+    /// assert_eq!(rt; map.get(b), Some(&2));
+    /// map.remove(b);
+    /// assert_eq!(rt; map.get(b), None);
+    /// ```
     pub fn get(&self, key: K) -> Option<&V>
         ensures value { option_copied result ≡ map.get self.now.live (K.data_of key) }
         ensures valid { IsContent true self.now }
@@ -35,9 +50,14 @@ impl<K: Key, V: Drop> SlotMap<K, V> {
         self.slots.get(key.data())
     }
 
-    /// The value of a key that is live. Constant time, with no look-up.
+    /// Returns the value of a key that is live, with no look-up.
     ///
-    /// The caller has to know that the key is live; so the call is safe, where Rust's is `unsafe`.
+    /// The contract requires that the key is live. So this call is safe; Rust's is `unsafe`.
+    /// Constant time.
+    ///
+    /// ```
+    /// assert_eq!(rt; *map.get_unchecked(a), 1);
+    /// ```
     pub fn get_unchecked(&self, key: K) -> &V
         requires { IsLive self.now (K.data_of key) }
         ensures value { map.get self.now.live (K.data_of key) ≡ Some result.now }
@@ -46,10 +66,17 @@ impl<K: Key, V: Drop> SlotMap<K, V> {
         self.slots.get_unchecked(key.data())
     }
 
-    /// The value of a live key for writing, or none where the key isn't live. Constant time.
+    /// Returns a mutable reference to the value of a live key, or `None` if the key isn't live.
     ///
-    /// Once the reference ends, the key has the last value written through it, and all else is as
-    /// before.
+    /// Once the reference ends, the key has the last value written through it. All else is as
+    /// before. Constant time.
+    ///
+    /// ```
+    /// if let Some(value) = map.get_mut(a) {
+    ///     *value = 5;
+    /// }
+    /// assert_eq!(rt; map.get(a), Some(&5));
+    /// ```
     pub fn get_mut(&mut self, key: K) -> Option<&mut V>
         ensures* writes_back { sem 𝓛 (lends_get K.row V.row self.entry (K.data_of key) result) }
         ensures value { option_copied_mut result ≡ map.get self.old.live (K.data_of key) }
@@ -62,9 +89,15 @@ impl<K: Key, V: Drop> SlotMap<K, V> {
         }
     }
 
-    /// The value of a key that is live, for writing. Constant time, with no look-up.
+    /// Returns a mutable reference to the value of a key that is live, with no look-up.
     ///
-    /// The caller has to know that the key is live; so the call is safe, where Rust's is `unsafe`.
+    /// The contract requires that the key is live. So this call is safe; Rust's is `unsafe`.
+    /// Constant time.
+    ///
+    /// ```
+    /// *map.get_unchecked_mut(a) = 5;
+    /// assert_eq!(rt; map.get(a), Some(&5));
+    /// ```
     pub fn get_unchecked_mut(&mut self, key: K) -> &mut V
         requires { IsLive self.old (K.data_of key) }
         ensures* writes_back { sem 𝓛 (lends_value K.row V.row self.entry (K.data_of key) result) }
@@ -74,8 +107,16 @@ impl<K: Key, V: Drop> SlotMap<K, V> {
         self.slots.get_unchecked_mut(key.data())
     }
 
-    /// Sets the value of a live key and answers the value before; where the key isn't live, hands
-    /// the value back and changes nothing. Constant time. Rust lacks this call.
+    /// Sets the value of a live key and returns the old value.
+    ///
+    /// If the key isn't live, nothing changes, and the new value is returned as the error. Constant
+    /// time. Rust lacks this call.
+    ///
+    /// ```
+    /// assert_eq!(rt; map.replace(a, 5), Ok(1));
+    /// map.remove(a);
+    /// assert_eq!(rt; map.replace(a, 6), Err(6));
+    /// ```
     pub fn replace(&mut self, key: K, value: V) -> Result<V, V>
         ensures ok { IfOk result (λ before. map.get self.old.live (K.data_of key) ≡ Some before) }
         ensures replaces { OnOk result (self.new ≡ with_value self.old (K.data_of key) value) }
@@ -97,8 +138,13 @@ impl<K: Key, V: Drop> Index<K> for SlotMap<K, V> {
 
     ghost index_gives = { λ m key value. map.get m.live (K.data_of key) ≡ Some value };
 
-    /// The value of a key that is live, which the caller shows; in Rust a dead key panics. Constant
-    /// time, with no look-up.
+    /// Returns the value of a key that is live, with no look-up.
+    ///
+    /// The contract requires that the key is live; in Rust any other key panics. Constant time.
+    ///
+    /// ```
+    /// assert_eq!(rt; map[a] + map[b], 3);
+    /// ```
     fn index(&self, key: K) -> &V {
         self.get_unchecked(key)
     }
@@ -107,8 +153,14 @@ impl<K: Key, V: Drop> Index<K> for SlotMap<K, V> {
 impl<K: Key, V: Drop> IndexMut<K> for SlotMap<K, V> {
     ghost use Rattle.slotmap_basic.specs.Lends.{lends_value};
 
-    /// The value of a key that is live, which the caller shows, for writing; in Rust a dead key
-    /// panics. Constant time, with no look-up.
+    /// Returns a mutable reference to the value of a key that is live, with no look-up.
+    ///
+    /// The contract requires that the key is live; in Rust any other key panics. Constant time.
+    ///
+    /// ```
+    /// map[a] = 5;
+    /// assert_eq!(rt; map.get(a), Some(&5));
+    /// ```
     fn index_mut(&mut self, key: K) -> &mut V
         requires { IsLive self.old (K.data_of key) }
         ensures* writes_back { sem 𝓛 (lends_value K.row V.row self.entry (K.data_of key) result) }

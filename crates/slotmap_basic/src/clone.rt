@@ -10,18 +10,22 @@ use std::alloc::AllocError;
 use std::marker::PhantomData;
 
 impl<K: Key, V: Clone> SlotMap<K, V> {
-    /// A copy of the map: the same keys are live, with clones of their values, the same are
-    /// detached, and both maps will hand out the same keys.
+    /// Returns a copy of the map, with clones of the values.
     ///
-    /// The caller answers for it that a clone of a value equals the value; so this is a function of
-    /// its own, and no impl of `Clone`. Where there is no memory it refuses, and what was copied by
-    /// then is dropped. It copies each place of the map. The copy has room for the keys of the
-    /// vacant places, and maybe for no more.
+    /// The same keys are live, the same keys are detached, and both maps will return the same new
+    /// keys. The copy has room for the keys of the vacant slots, and perhaps for no more.
+    ///
+    /// The contract requires that a clone of a value equals the value. The trait `Clone` can't
+    /// require that, so this is a method and not an impl of `Clone`.
+    ///
+    /// If memory runs out, the call fails, and what was copied is dropped. Linear in the number of
+    /// slots.
     ///
     /// ```
-    /// let mut copy = map.clone().ok()?;
-    /// copy.remove(key);
-    /// // The map still has the key.
+    /// let mut copy = map.clone()?;
+    /// copy.remove(a);
+    /// assert_eq!(rt; copy.get(b), Some(&2));
+    /// assert_eq!(rt; map.get(a), Some(&1));
     /// ```
     pub fn clone(&self) -> Result<Self, AllocError>
         requires { (x y : V) → V.is_clone x y → y ≡ x }
@@ -36,9 +40,16 @@ impl<K: Key, V: Clone> SlotMap<K, V> {
 
     /// Makes this map a copy of another, as [`SlotMap::clone`] does, and drops what it had.
     ///
-    /// A key that this map has handed out before may then stand for another value. Where there is
-    /// no memory it refuses, and the map stays as it is: the copy is made first, so for a while
-    /// there are both. It copies each place of the source.
+    /// A key that this map returned earlier may then have another value. The copy is made before
+    /// the old content is dropped. So if memory runs out, the call fails and the map stays as it
+    /// was. Linear in the number of slots of the source.
+    ///
+    /// ```
+    /// let mut copy: SlotMap<DefaultKey, u64> = SlotMap::new(alloc)?;
+    /// copy.clone_from(&map)?;
+    /// assert_eq!(rt; copy.get(a), Some(&1));
+    /// assert_eq!(rt; copy.len(), map.len());
+    /// ```
     pub fn clone_from(&mut self, source: &Self) -> Result<(), AllocError>
     where
         V: Drop,

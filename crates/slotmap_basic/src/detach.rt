@@ -1,4 +1,4 @@
-//! Keys whose value is out and whose place is kept.
+//! Detached keys: the value is taken out, and the slot is kept.
 
 ghost use Rattle.std.specs.Prelude.{◌≡◌, OnSome, IfNone, OnOk, OnErr, IfErr, true};
 ghost use Rattle.std.specs.FinMap as map;
@@ -11,19 +11,18 @@ use slotmap_core::errors::ReattachError;
 use slotmap_core::keys::Key;
 
 impl<K: Key, V: Drop> SlotMap<K, V> {
-    /// Takes a live key's value out and keeps its place for the key, or answers none where the key
-    /// isn't live. Constant time.
+    /// Takes out the value of a live key and keeps its slot, or returns `None` if the key isn't
+    /// live.
     ///
-    /// The key is detached: it finds nothing, and no insert uses its place, until `reattach` binds
-    /// it again. `clear`, `drain` and `retain` leave it so. Detaching retires no place. Takes no
-    /// memory.
+    /// The key is detached then. It isn't found, and no insert uses its slot, until `reattach`
+    /// binds it to a value again. `clear`, `drain` and `retain` leave it detached. Detaching
+    /// retires no slot and allocates nothing. Constant time.
     ///
     /// ```
-    /// let key = map.insert(5).ok()?;
-    /// assert_eq!(map.detach(key), Some(5));
-    /// assert!(map.get(key).is_none());
-    /// assert!(map.reattach(key, 6).is_ok());
-    /// assert_eq!(map.get(key), Some(&6));
+    /// assert_eq!(rt; map.detach(a), Some(1));
+    /// assert_eq!(rt; map.get(a), None);
+    /// map.reattach(a, 6)?;
+    /// assert_eq!(rt; map.get(a), Some(&6));
     /// ```
     pub fn detach(&mut self, key: K) -> Option<V>
         ensures value { result ≡ map.get self.old.live (K.data_of key) }
@@ -35,10 +34,17 @@ impl<K: Key, V: Drop> SlotMap<K, V> {
         self.slots.detach(key.data())
     }
 
-    /// Binds a detached key to a value again. Constant time.
+    /// Binds a detached key to a value again.
     ///
-    /// `NotDetached`, with the value back and nothing changed, exactly where the key isn't
-    /// detached; Rust panics there. Takes no memory, so `Memory` is never answered.
+    /// If the key isn't detached, nothing changes, and the error `NotDetached` holds the value;
+    /// Rust panics. The call allocates nothing, so it never fails with `Memory`. Constant time.
+    ///
+    /// ```
+    /// map.detach(a);
+    /// map.reattach(a, 5)?;
+    /// assert_eq!(rt; map.get(a), Some(&5));
+    /// assert!(rt; matches!(map.reattach(b, 6), Err(ReattachError::NotDetached(6))));
+    /// ```
     pub fn reattach(&mut self, key: K, value: V) -> Result<(), ReattachError<V>>
         ensures ok { OnOk result (Reattaches self.old (K.data_of key) value self.new) }
         ensures err { IfErr result (λ error. (error ≡ ReattachError.NotDetached value)

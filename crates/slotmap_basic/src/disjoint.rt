@@ -12,17 +12,17 @@ use slotmap_core::keys::Key;
 use std::mem;
 
 impl<K: Key, V: Drop> SlotMap<K, V> {
-    /// Gives each key the value at its place, and answers the values that the keys had.
+    /// Replaces the value of `keys[i]` by `values[i]`, for each i, and returns the old values.
     ///
-    /// Where one of the keys is not live, or two are equal, it hands the values back, and the map
-    /// stays as it is. It takes no memory, and its time does not depend on the size of the map: it
-    /// looks up each key, and compares each two. In Rust `get_disjoint_mut` lends the values
-    /// instead.
+    /// If one of the keys isn't live, or two are equal, nothing changes, and the new values are
+    /// returned as the error. It looks up each key and compares each two, and allocates nothing.
+    /// Its time doesn't depend on the size of the map. In Rust `get_disjoint_mut` returns
+    /// references instead.
     ///
     /// ```
-    /// if let Ok([old_a, old_b]) = map.replace_disjoint([a, b], [1, 2]) {
-    ///     // Both were live, and a is not b.
-    /// }
+    /// assert_eq!(rt; map.replace_disjoint([a, b], [5, 6]), Ok([1, 2]));
+    /// assert_eq!(rt; map.get(b), Some(&6));
+    /// assert_eq!(rt; map.replace_disjoint([a, a], [7, 8]), Err([7, 8]));
     /// ```
     pub fn replace_disjoint<const N: usize>(
         &mut self,
@@ -46,7 +46,7 @@ impl<K: Key, V: Drop> SlotMap<K, V> {
         Ok(values)
     }
 
-    // Whether each key is live, and no two are equal.
+    // Returns whether each key is live, and no two are equal.
     fn can_replace(&self, keys: &[K]) -> bool
         ensures which { IsTrue result ↔ CanReplace self.now (map_list K.data_of keys.now) }
         ensures valid { IsContent true self.now }

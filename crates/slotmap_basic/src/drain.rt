@@ -1,4 +1,4 @@
-//! A walk that takes the pairs out of a map.
+//! The iterator that takes the pairs out of a map.
 
 ghost use Rattle.std.specs.Prelude.{◌≡◌, ◌≤◌, true, Some, IfSome};
 ghost use Rattle.std.specs.Iterator.{size, UpTo};
@@ -9,13 +9,13 @@ use crate::SlotMap;
 use slotmap_core::keys::Key;
 use std::iter::FusedIterator;
 
-/// A walk that takes the pairs out of a map, by ascending index. Once it is dropped, no key of the
-/// map is live.
+/// An iterator that takes the pairs out of a map, by ascending index.
 ///
-/// `SlotMap::drain` makes it. Its drop goes on from where the walk stands.
+/// `SlotMap::drain` makes it. Dropping it removes the keys that it hasn't yielded. So no key of the
+/// map is live then.
 pub struct Drain<'a, K: Key, V> {
     map: &'a mut SlotMap<K, V>,
-    // The first place that is still to be visited.
+    // The next slot to look at.
     index: usize,
 }
 
@@ -71,23 +71,27 @@ impl<'a, K: Key, V: Drop> FusedIterator for Drain<'a, K, V> {}
 impl<K: Key, V: Drop> SlotMap<K, V> {
     ghost use Rattle.slotmap_basic.specs.Drain.{drain_map, drain_lender, DrainCanStep, DrainKeepsAlong, DrainLists, DrainInOrder};
 
-    /// Takes the live keys with their values out, by ascending index.
+    /// Returns an iterator that removes the live keys and yields them with their values, by
+    /// ascending index.
     ///
-    /// Each key is removed as it comes, as `remove` does. The walk may be dropped at any step, and
-    /// then the keys that are left are removed too. Detached keys stay detached. All steps and the
-    /// drop together go over all places of the map once.
+    /// Each key is removed when it is yielded, as `remove` does. Dropping the iterator early
+    /// removes the remaining keys too. Detached keys stay detached. All steps and the drop together
+    /// are linear in the number of slots.
     ///
     /// ```
-    /// for (key, value) in map.drain() {
-    ///     println!(rt; "{key:?}: {value}")?;
+    /// let mut sum = 0;
+    /// for (_, value) in map.drain() {
+    ///     sum += value;
     /// }
+    /// assert_eq!(rt; sum, 3);
+    /// assert!(rt; map.is_empty());
     /// ```
     pub fn drain(&mut self) -> Drain<'_, K, V>
         ensures map { drain_map result ≡ self.old }
         ensures same_reference { drain_lender result ≡ self.entry.ghost_name }
         ensures ready { DrainCanStep result }
 
-        // Laws of the steps, for callers that walk on.
+        // Laws of the steps, for callers that take more of them.
         ensures stays { DrainKeepsAlong K.data_of result }
         ensures lists { DrainLists K.data_of result }
         ensures in_order { DrainInOrder K.data_of result }

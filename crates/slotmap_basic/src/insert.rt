@@ -12,26 +12,25 @@ use slotmap_core::errors::{InsertError, InsertWithError, ReserveError, TryInsert
 use slotmap_core::keys::Key;
 
 impl<K: Key, V: Drop> SlotMap<K, V> {
-    /// Stores a value under a new key, and answers the key. Constant time where no vector moves.
+    /// Inserts a value and returns its new key.
     ///
-    /// The place that was freed last is used, with no memory asked for; where none is vacant a new
-    /// place is made. `Full` exactly where 4294967294 keys are live, detached or retired, else
-    /// `Memory` where a new place was refused; both hand the value back, and the map holds what it
-    /// held. In Rust a full map panics, and want of memory aborts.
+    /// The slot freed last is reused, without allocating. If no slot is vacant, one is added. It
+    /// fails with `Full` if 4294967294 keys are live, detached or retired, and with `Memory` if
+    /// memory runs out. The error holds the value, and the map holds what it held. In Rust a full
+    /// map panics, and running out of memory aborts. Constant time, unless the vectors grow.
     ///
     /// ```
-    /// let first = map.insert(5).ok()?;
-    /// map.remove(first);
-    /// let second = map.insert(6).ok()?;
-    /// assert_eq!(second.data().idx(), first.data().idx());
-    /// assert!(second != first);
+    /// map.remove(a);
+    /// let c = map.insert(3)?;
+    /// assert_eq!(rt; c.data().idx(), a.data().idx());
+    /// assert!(rt; c != a);
     /// ```
     #[inline(always)]
     pub fn insert(&mut self, value: V) -> Result<K, InsertError<V>>
         ensures ok { IfOk result (λ key. Inserts self.old (K.data_of key) value self.new) }
         ensures err { IfErr result (λ error. Refuses self.old value error) }
 
-        // Where a place is vacant nothing is asked for.
+        // If a slot is vacant, nothing is allocated.
         ensures reuses { 0 < map.len self.old.next → IsOk result }
 
         ensures valid { MayGrow true self.old (IsErr result) self.new }
@@ -43,28 +42,27 @@ impl<K: Key, V: Drop> SlotMap<K, V> {
         }
     }
 
-    /// Stores the value that the closure gives for the new key, and answers the key. Costs as
-    /// `insert`.
+    /// Inserts the value that a closure returns for the new key, and returns the key.
     ///
-    /// There is room before the closure is called, once and on the key that will be answered; in
-    /// Rust the closure runs before the vectors grow. On `Full` and `Memory`, which come as at
-    /// `insert`, the closure is dropped uncalled.
+    /// Room is made first. Then the closure is called with the key that the call will return. In
+    /// Rust the closure runs before the vectors grow. It fails as `insert` does, without calling
+    /// the closure. Costs as `insert`.
     ///
     /// ```
-    /// let key = map.insert_with_key(|key: DefaultKey| key.data().as_ffi()).ok()?;
-    /// assert_eq!(map.get(key), Some(&key.data().as_ffi()));
+    /// let c = map.insert_with_key(|key: DefaultKey| key.data().as_ffi())?;
+    /// assert_eq!(rt; map.get(c), Some(&c.data().as_ffi()));
     /// ```
     pub fn insert_with_key<F: FnOnce(K) -> V>(&mut self, f: F) -> Result<K, InsertWithError>
     where
         F: Drop,
-        // It is called where a place is left, on the key that it will have.
+        // It is called if there is a slot, with the key that the value will have.
         requires { used self.old < most → (key : K) → K.data_of key ≡ self.old.offer → F.pre f key }
 
         ensures ok { IfOk result (λ key. (v : V) × F.post f key v
             × Inserts self.old (K.data_of key) v self.new) }
         ensures err { IfErr result (RefusesInsert self.old) }
 
-        // Where a place is vacant nothing is asked for.
+        // If a slot is vacant, nothing is allocated.
         ensures reuses { 0 < map.len self.old.next → IsOk result }
 
         ensures valid { MayGrow true self.old (IsErr result) self.new }
@@ -79,25 +77,31 @@ impl<K: Key, V: Drop> SlotMap<K, V> {
         Ok(key)
     }
 
-    /// Stores the value that the closure gives for the new key, and answers the key. Costs as
-    /// `insert`.
+    /// Inserts the value that a closure returns for the new key, or fails as the closure does.
     ///
-    /// As `insert_with_key`; and where the closure answers an error nothing changes, the error is
-    /// handed on in `Closure`, and the next insert answers the key that the closure saw.
+    /// It behaves as `insert_with_key`. If the closure fails, nothing changes, and its error is
+    /// returned in `Closure`. The next insert returns the key that the closure was called with.
+    /// Costs as `insert`.
+    ///
+    /// ```
+    /// let made: Result<DefaultKey, TryInsertError<u64>> = map.try_insert_with_key(|_| Err(7));
+    /// assert!(rt; matches!(made, Err(TryInsertError::Closure(7))));
+    /// assert_eq!(rt; map.len(), 2);
+    /// ```
     pub fn try_insert_with_key<F: FnOnce(K) -> Result<V, E>, E>(
         &mut self,
         f: F,
     ) -> Result<K, TryInsertError<E>>
     where
         F: Drop,
-        // It is called where a place is left, on the key that it will have.
+        // It is called if there is a slot, with the key that the value will have.
         requires { used self.old < most → (key : K) → K.data_of key ≡ self.old.offer → F.pre f key }
 
         ensures ok { IfOk result (λ key. (v : V) × F.post f key (Ok v)
             × Inserts self.old (K.data_of key) v self.new) }
         ensures err { IfErr result (λ error. RefusesWith K.data_of (F.post f) self.old error) }
 
-        // Where a place is vacant nothing is asked for.
+        // If a slot is vacant, nothing is allocated.
         ensures reuses { result ≡ Err TryInsertError.Memory → map.len self.old.next ≡ 0 }
 
         ensures valid { MayGrow true self.old (IsErr result) self.new }

@@ -1,4 +1,4 @@
-//! The walk that takes a map apart.
+//! The iterator over a map by value.
 
 ghost use Rattle.std.specs.Prelude.{◌≡◌, ◌≤◌, length, Some, IfSome, IfOk};
 ghost use Rattle.std.specs.Iterator.{YieldsFirstBy, item_count, at_most, UpTo};
@@ -11,12 +11,18 @@ use slotmap_core::slots::SlotIntoIter;
 use std::alloc::AllocError;
 use std::marker::{Model, PhantomData};
 
-/// A walk over the live keys of a map and their values, by value and by ascending index: what a
-/// `for` over a map takes.
+/// An iterator over the live keys and their values, by value and by ascending index.
 ///
-/// A contract sees it as the list of the pairs that are still to come. At its end it stays there. A
-/// full walk reads the version of each place once, up to the last live one, and takes no memory.
-/// Values that it has not handed out are dropped with it.
+/// A `for` over a map takes it. A contract sees it as the list of the pairs that it will still
+/// yield. After its end it yields nothing. All its steps together read each version once, up to the
+/// last live slot, and allocate nothing. Dropping it drops the values that are left.
+///
+/// ```
+/// let mut pairs = map.into_iter();
+/// assert_eq!(rt; pairs.next(), Some((a, 1)));
+/// assert_eq!(rt; pairs.next(), Some((b, 2)));
+/// assert_eq!(rt; pairs.next(), None);
+/// ```
 #[derive(Drop)]
 pub struct IntoIter<K, V> {
     pairs: SlotIntoIter<V>,
@@ -33,7 +39,15 @@ impl<K, V> Model for IntoIter<K, V> {
 }
 
 impl<K, V> IntoIter<K, V> {
-    /// How many pairs are still to come, in constant time.
+    /// Returns how many pairs are left.
+    ///
+    /// Constant time.
+    ///
+    /// ```
+    /// let mut pairs = map.into_iter();
+    /// pairs.next();
+    /// assert_eq!(rt; pairs.len(), 1);
+    /// ```
     pub fn len(&self) -> usize
         ensures { result ≡ length self.now }
     {
@@ -42,10 +56,17 @@ impl<K, V> IntoIter<K, V> {
 }
 
 impl<K, V: Clone> IntoIter<K, V> {
-    /// A second walk over the pairs that are still to come, with clones of the values.
+    /// Returns a second iterator over the pairs that are left, with clones of the values.
     ///
-    /// The caller answers for it that a clone of a value equals the value. Where there is no memory
-    /// it refuses, and the walk stays as it is. It copies each place of the map.
+    /// The contract requires that a clone of a value equals the value. If memory runs out, the call
+    /// fails, and this iterator stays as it is. Linear in the number of slots of the map.
+    ///
+    /// ```
+    /// let pairs = map.into_iter();
+    /// let mut copy = pairs.clone()?;
+    /// assert_eq!(rt; copy.next(), Some((a, 1)));
+    /// assert_eq!(rt; pairs.len(), 2);
+    /// ```
     pub fn clone(&self) -> Result<Self, AllocError>
         requires { (x y : V) → V.is_clone x y → y ≡ x }
         ensures { IfOk result (λ copy. copy ≡ self.now) }

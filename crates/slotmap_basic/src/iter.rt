@@ -1,4 +1,4 @@
-//! Walks over the keys and values of a map, by ascending index.
+//! Iterators over the keys and values of a map, by ascending index.
 
 ghost use Rattle.std.specs.Prelude.{◌≡◌, ◌≤◌, length, Some, IfSome, ⊤};
 ghost use Rattle.std.specs.Iterator.{YieldsFirstBy, item_count, at_most, UpTo};
@@ -11,10 +11,10 @@ use slotmap_core::slots::SlotIter;
 use std::alloc::AllocError;
 use std::marker::{Model, PhantomData};
 
-/// A walk over the live keys of a map and their values, by ascending index: see [`SlotMap::iter`].
+/// An iterator over the live keys and their values, by ascending index: see [`SlotMap::iter`].
 ///
-/// A contract sees it as the list of the pairs that are still to come. At its end it stays there. A
-/// clone of it walks over the same pairs, and takes no memory.
+/// A contract sees it as the list of the pairs that it will still yield. After its end it yields
+/// nothing. A clone yields the same pairs; cloning allocates nothing.
 #[derive(Drop)]
 pub struct Iter<'a, K, V> {
     pairs: SlotIter<'a, V>,
@@ -31,7 +31,15 @@ impl<'a, K, V> Model for Iter<'a, K, V> {
 }
 
 impl<'a, K, V> Iter<'a, K, V> {
-    /// How many pairs are still to come, in constant time.
+    /// Returns how many pairs are left.
+    ///
+    /// Constant time.
+    ///
+    /// ```
+    /// let mut pairs = map.iter();
+    /// pairs.next();
+    /// assert_eq!(rt; pairs.len(), 1);
+    /// ```
     pub fn len(&self) -> usize
         ensures { result ≡ length self.now }
     {
@@ -76,10 +84,10 @@ impl<'a, K: Key, V> Iterator for Iter<'a, K, V> {
     }
 }
 
-/// A walk over the live keys of a map, by ascending index: see [`SlotMap::keys`].
+/// An iterator over the live keys, by ascending index: see [`SlotMap::keys`].
 ///
-/// A contract sees it as the list of the keys that are still to come. At its end it stays there. A
-/// clone of it walks over the same keys, and takes no memory.
+/// A contract sees it as the list of the keys that it will still yield. After its end it yields
+/// nothing. A clone yields the same keys; cloning allocates nothing.
 #[derive(Drop)]
 pub struct Keys<'a, K, V> {
     pairs: Iter<'a, K, V>,
@@ -95,7 +103,15 @@ impl<'a, K, V> Model for Keys<'a, K, V> {
 }
 
 impl<'a, K, V> Keys<'a, K, V> {
-    /// How many keys are still to come, in constant time.
+    /// Returns how many keys are left.
+    ///
+    /// Constant time.
+    ///
+    /// ```
+    /// let mut keys = map.keys();
+    /// keys.next();
+    /// assert_eq!(rt; keys.len(), 1);
+    /// ```
     pub fn len(&self) -> usize
         ensures { result ≡ length self.now }
     {
@@ -138,10 +154,10 @@ impl<'a, K: Key, V> Iterator for Keys<'a, K, V> {
     }
 }
 
-/// A walk over the values of a map, by ascending index of their keys: see [`SlotMap::values`].
+/// An iterator over the values, by ascending index of their keys: see [`SlotMap::values`].
 ///
-/// A contract sees it as the list of the values that are still to come. At its end it stays there.
-/// A clone of it walks over the same values, and takes no memory.
+/// A contract sees it as the list of the values that it will still yield. After its end it yields
+/// nothing. A clone yields the same values; cloning allocates nothing.
 #[derive(Drop)]
 pub struct Values<'a, K, V> {
     pairs: Iter<'a, K, V>,
@@ -156,7 +172,15 @@ impl<'a, K, V> Model for Values<'a, K, V> {
 }
 
 impl<'a, K, V> Values<'a, K, V> {
-    /// How many values are still to come, in constant time.
+    /// Returns how many values are left.
+    ///
+    /// Constant time.
+    ///
+    /// ```
+    /// let mut values = map.values();
+    /// values.next();
+    /// assert_eq!(rt; values.len(), 1);
+    /// ```
     pub fn len(&self) -> usize
         ensures { result ≡ length self.now }
     {
@@ -200,19 +224,17 @@ impl<'a, K: Key, V> Iterator for Values<'a, K, V> {
 }
 
 impl<K: Key, V> SlotMap<K, V> {
-    /// A walk over the live keys and their values, by ascending index.
+    /// Returns an iterator over the live keys and their values, by ascending index.
     ///
-    /// It is made in constant time. A full walk reads the version of each place once, up to the
-    /// last live one, and takes no memory. No walk lends the values for writing: call `retain` with
-    /// a closure that writes and answers true.
+    /// It is made in constant time. All its steps together read each version once, up to the last
+    /// live slot, and allocate nothing. No iterator yields mutable references: use `retain` with a
+    /// closure that writes and returns `true`.
     ///
     /// ```
-    /// for (key, value) in map.iter() {
-    ///     if *value > most {
-    ///         most = *value;
-    ///         best = key;
-    ///     }
-    /// }
+    /// let mut pairs = map.iter();
+    /// assert_eq!(rt; pairs.next(), Some((a, &1)));
+    /// assert_eq!(rt; pairs.next(), Some((b, &2)));
+    /// assert_eq!(rt; pairs.next(), None);
     /// ```
     pub fn iter(&self) -> Iter<'_, K, V>
         ensures listing { IsListing self.now.live result }
@@ -224,9 +246,16 @@ impl<K: Key, V> SlotMap<K, V> {
         }
     }
 
-    /// A walk over the live keys, by ascending index.
+    /// Returns an iterator over the live keys, by ascending index.
     ///
     /// It costs the same as [`SlotMap::iter`].
+    ///
+    /// ```
+    /// let mut keys = map.keys();
+    /// assert_eq!(rt; keys.next(), Some(a));
+    /// assert_eq!(rt; keys.next(), Some(b));
+    /// assert_eq!(rt; keys.next(), None);
+    /// ```
     pub fn keys(&self) -> Keys<'_, K, V>
         ensures listing { IsKeyListing self.now.live result }
         ensures in_order { result ≡ map.keys self.now.live }
@@ -234,10 +263,16 @@ impl<K: Key, V> SlotMap<K, V> {
         Keys { pairs: self.iter() }
     }
 
-    /// A walk over the values of the live keys, by ascending index of their keys.
+    /// Returns an iterator over the values of the live keys, by ascending index of their keys.
     ///
-    /// It costs the same as [`SlotMap::iter`]. No walk lends the values for writing: call `retain`
-    /// with a closure that writes and answers true.
+    /// It costs the same as [`SlotMap::iter`]. No iterator yields mutable references: use `retain`
+    /// with a closure that writes and returns `true`.
+    ///
+    /// ```
+    /// let mut values = map.values();
+    /// assert_eq!(rt; values.next(), Some(&1));
+    /// assert_eq!(rt; values.next(), Some(&2));
+    /// ```
     pub fn values(&self) -> Values<'_, K, V>
         ensures listing { IsValueListing self.now.live result }
         ensures in_order { result ≡ map.values self.now.live }

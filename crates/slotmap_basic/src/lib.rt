@@ -1,9 +1,12 @@
-//! `SlotMap`: values under keys that the map hands out, each key once.
+//! `SlotMap`: values under keys that the map makes, each key once.
 //!
-//! Clauses see a map as its content (`Content` of the core): the live keys with their values, the
-//! detached keys, the retired ones, the version that the next key at each vacant index will have,
-//! the key that the next insert answers, the vacant indices with the last freed first, the room and
-//! the capacity.
+//! A clause sees a map as its content, the type `Content` of `slotmap_core`:
+//!
+//! - the live keys with their values, the detached keys and the retired keys
+//! - the version that the next key at each vacant index will have
+//! - the key that the next insert returns
+//! - the vacant indices, with the one freed last first
+//! - the room and the capacity
 #![tactic(auto)]
 
 ghost use Rattle.std.specs.Prelude.{◌≡◌, [], Some, ◌+◌, ◌≤◌, ◌↔◌, IsTrue, IfOk, IfErr, IsOk, true};
@@ -36,22 +39,21 @@ use slotmap_core::slots::Slots;
 use std::alloc::Global;
 use std::marker::{Model, PhantomData};
 
-/// Values under keys that the map hands out.
+/// A map that makes a key for each value that is inserted.
 ///
-/// An insert answers a new key, and the key is live until its value is removed. Its place is then
-/// used again, the place that was freed last first, under a newer key: so a key that was removed is
-/// never found again, and no key is handed out twice. A key of the last version that is removed
-/// retires its place, which no insert uses from then on; in Rust its versions start again.
+/// `insert` returns a new key, and the key is live until it is removed. The slot of a removed key
+/// is reused under a newer key, and the slot freed last is reused first. So a removed key is never
+/// found again, and no key is returned twice. After its key of version 4294967295, the last one, a
+/// slot is retired and never used again. In Rust its versions wrap around.
 ///
-/// A live key can be detached: its value is taken out, and its place is kept until the key is bound
-/// again by `reattach`. At most 4294967294 keys can be live or detached or have retired places.
+/// A live key can be detached: its value is taken out, and its slot is kept until `reattach` binds
+/// the key to a value again. At most 4294967294 keys can be live, detached or retired.
 ///
 /// ```
-/// let mut map: SlotMap<DefaultKey, u32> = SlotMap::new(alloc).ok()?;
-/// let key = map.insert(5).ok()?;
-/// assert_eq!(map.get(key), Some(&5));
-/// assert_eq!(map.remove(key), Some(5));
-/// assert!(!map.contains_key(key));
+/// let key = map.insert(5)?;
+/// assert_eq!(rt; map.get(key), Some(&5));
+/// assert_eq!(rt; map.remove(key), Some(5));
+/// assert!(rt; !map.contains_key(key));
 /// ```
 #[derive(Drop)]
 pub struct SlotMap<K, V> {
@@ -71,9 +73,15 @@ impl<K, V> Model for SlotMap<K, V> {
 }
 
 impl<V: Drop> SlotMap<DefaultKey, V> {
-    /// An empty map with the default key type. Takes memory for the sentinel's place.
+    /// Makes an empty map with the default key type.
     ///
-    /// `Memory` where that was refused.
+    /// It allocates the sentinel's slot, and fails with `Memory` if memory runs out.
+    ///
+    /// ```
+    /// let mut empty: SlotMap<DefaultKey, u64> = SlotMap::new(alloc)?;
+    /// assert!(rt; empty.is_empty());
+    /// assert_eq!(rt; empty.insert(5)?.data(), KeyData::new(1, 1));
+    /// ```
     pub fn new(alloc: Global) -> Result<Self, ReserveError>
         ensures starts { IfOk result IsNew }
         ensures stack { IfOk result (λ made. made.stack ≡ Some []) }
@@ -83,9 +91,16 @@ impl<V: Drop> SlotMap<DefaultKey, V> {
         SlotMap::with_key(alloc)
     }
 
-    /// An empty map with the default key type, and with room for `capacity` keys.
+    /// Makes an empty map with the default key type and with room for `capacity` keys.
     ///
-    /// `TooGreat` exactly where that is over 4294967294, else `Memory` where memory was refused.
+    /// The next `capacity` inserts succeed. It fails with `TooGreat` if `capacity` is over
+    /// 4294967294, and with `Memory` if memory runs out.
+    ///
+    /// ```
+    /// let roomy: SlotMap<DefaultKey, u64> = SlotMap::with_capacity(alloc, 10)?;
+    /// assert!(rt; roomy.is_empty());
+    /// assert!(rt; roomy.capacity() >= 10);
+    /// ```
     pub fn with_capacity(alloc: Global, capacity: usize) -> Result<Self, ReserveError>
         ensures starts { IfOk result IsNew }
         ensures stack { IfOk result (λ made. made.stack ≡ Some []) }
@@ -99,9 +114,15 @@ impl<V: Drop> SlotMap<DefaultKey, V> {
 }
 
 impl<K: Key, V: Drop> SlotMap<K, V> {
-    /// An empty map. Takes memory for the sentinel's place.
+    /// Makes an empty map with any key type.
     ///
-    /// `Memory` where that was refused.
+    /// It allocates the sentinel's slot, and fails with `Memory` if memory runs out.
+    ///
+    /// ```
+    /// let mut nodes: SlotMap<NodeKey, u64> = SlotMap::with_key(alloc)?;
+    /// let key: NodeKey = nodes.insert(5)?;
+    /// assert_eq!(rt; nodes.get(key), Some(&5));
+    /// ```
     pub fn with_key(alloc: Global) -> Result<Self, ReserveError>
         ensures starts { IfOk result IsNew }
         ensures stack { IfOk result (λ made. made.stack ≡ Some []) }
@@ -111,9 +132,15 @@ impl<K: Key, V: Drop> SlotMap<K, V> {
         SlotMap::with_capacity_and_key(alloc, 0)
     }
 
-    /// An empty map with room for `capacity` keys: so many inserts that follow aren't refused.
+    /// Makes an empty map with any key type and with room for `capacity` keys.
     ///
-    /// `TooGreat` exactly where that is over 4294967294, else `Memory` where memory was refused.
+    /// The next `capacity` inserts succeed. It fails with `TooGreat` if `capacity` is over
+    /// 4294967294, and with `Memory` if memory runs out.
+    ///
+    /// ```
+    /// let nodes: SlotMap<NodeKey, u64> = SlotMap::with_capacity_and_key(alloc, 10)?;
+    /// assert!(rt; nodes.capacity() >= 10);
+    /// ```
     pub fn with_capacity_and_key(alloc: Global, capacity: usize) -> Result<Self, ReserveError>
         ensures starts { IfOk result IsNew }
         ensures stack { IfOk result (λ made. made.stack ≡ Some []) }
@@ -128,7 +155,15 @@ impl<K: Key, V: Drop> SlotMap<K, V> {
         })
     }
 
-    /// The number of live keys. Constant time.
+    /// Returns the number of live keys.
+    ///
+    /// Constant time.
+    ///
+    /// ```
+    /// assert_eq!(rt; map.len(), 2);
+    /// map.detach(a);
+    /// assert_eq!(rt; map.len(), 1);
+    /// ```
     pub fn len(&self) -> usize
         ensures value { result ≡ map.len self.now.live }
         ensures valid { IsContent true self.now }
@@ -136,7 +171,15 @@ impl<K: Key, V: Drop> SlotMap<K, V> {
         self.slots.len()
     }
 
-    /// Whether no key is live. Constant time.
+    /// Returns whether no key is live.
+    ///
+    /// Constant time.
+    ///
+    /// ```
+    /// assert!(rt; !map.is_empty());
+    /// map.clear();
+    /// assert!(rt; map.is_empty());
+    /// ```
     pub fn is_empty(&self) -> bool
         ensures value { IsTrue result ↔ (map.len self.now.live ≡ 0) }
         ensures valid { IsContent true self.now }
@@ -144,8 +187,15 @@ impl<K: Key, V: Drop> SlotMap<K, V> {
         self.len() == 0
     }
 
-    /// How many places the map has memory for, live, detached, vacant and retired ones together.
-    /// Constant time.
+    /// Returns the number of slots for which memory is allocated.
+    ///
+    /// It counts the slots of live, detached, vacant and retired keys together. Constant time.
+    ///
+    /// ```
+    /// let before = map.capacity();
+    /// map.clear();
+    /// assert_eq!(rt; map.capacity(), before);
+    /// ```
     pub fn capacity(&self) -> usize
         ensures value { result ≡ self.now.capacity }
         ensures valid { IsContent true self.now }
@@ -153,14 +203,26 @@ impl<K: Key, V: Drop> SlotMap<K, V> {
         self.slots.capacity()
     }
 
-    /// Makes room for `additional` more keys: so many inserts and reattaches that follow aren't
-    /// refused.
+    /// Reserves room for `additional` more keys.
     ///
-    /// `TooGreat` exactly where the live, detached and retired keys with `additional` are more than
-    /// 4294967294, else `Memory` where memory was refused; either changes nothing but the capacity.
-    /// Where there is room already nothing is asked for. Rust counts detached places as free.
+    /// The next `additional` inserts and reattaches succeed. The errors are these; either changes
+    /// nothing but, perhaps, the capacity:
     ///
-    /// Linear in the number of places where the vectors move, else constant time.
+    /// - `TooGreat`: the live, detached and retired keys plus `additional` are more than
+    ///   4294967294.
+    /// - `Memory`: memory runs out.
+    ///
+    /// If there is room already, nothing is allocated. Rust counts detached slots as free. Linear
+    /// in the number of slots if the vectors grow, else constant time.
+    ///
+    /// ```
+    /// map.reserve(10)?;
+    /// let capacity = map.capacity();
+    /// for i in 0..10 {
+    ///     map.insert(i)?;
+    /// }
+    /// assert_eq!(rt; map.capacity(), capacity);
+    /// ```
     pub fn reserve(&mut self, additional: usize) -> Result<(), ReserveError>
         ensures makes_room { MakesRoom true self.old additional (IsOk result) self.new }
         ensures err { IfErr result (RefusesCapacity (used self.old + additional)) }
@@ -169,7 +231,14 @@ impl<K: Key, V: Drop> SlotMap<K, V> {
         self.slots.reserve(additional)
     }
 
-    /// The same as `reserve`, which answers a `Result` here too.
+    /// Reserves room for `additional` more keys, as `reserve` does.
+    ///
+    /// Here `reserve` returns a `Result` too; in Rust it aborts if memory runs out.
+    ///
+    /// ```
+    /// assert!(rt; map.try_reserve(10).is_ok());
+    /// assert!(rt; matches!(map.try_reserve(4294967295), Err(ReserveError::TooGreat)));
+    /// ```
     pub fn try_reserve(&mut self, additional: usize) -> Result<(), ReserveError>
         ensures makes_room { MakesRoom true self.old additional (IsOk result) self.new }
         ensures err { IfErr result (RefusesCapacity (used self.old + additional)) }

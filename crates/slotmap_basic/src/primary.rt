@@ -1,4 +1,4 @@
-//! `SlotMap` as one of the maps that hand out their keys: each call is the map's own.
+//! `SlotMap` as a primary map: each call is the map's own.
 
 ghost use Rattle.std.specs.Prelude.{true, refl};
 

@@ -1,4 +1,4 @@
-//! Removals, and what a walk over the places does.
+//! Removals, and one step of an iteration over the slots.
 
 ghost use Rattle.std.specs.Prelude.{◌≡◌, ◌<◌, ◌≤◌, OnSome, IfNone, IfSome, Some, true};
 ghost use Rattle.std.specs.FinMap as map;
@@ -11,11 +11,17 @@ use crate::SlotMap;
 use slotmap_core::keys::Key;
 
 impl<K: Key, V: Drop> SlotMap<K, V> {
-    /// Takes a live key's value out, or answers none where the key isn't live. Constant time.
+    /// Removes a live key and returns its value, or `None` if the key isn't live.
     ///
-    /// The place is the first that an insert uses from then on, under a newer key; after the last
-    /// key of a place, of version 4294967295, the place is retired, where in Rust its versions
-    /// start again. Takes no memory.
+    /// The next insert reuses the slot, under a newer key. But if the version of the key is
+    /// 4294967295, the last one, the slot is retired; in Rust its versions wrap around. Constant
+    /// time; allocates nothing.
+    ///
+    /// ```
+    /// assert_eq!(rt; map.remove(a), Some(1));
+    /// assert_eq!(rt; map.remove(a), None);
+    /// assert_eq!(rt; map.get(b), Some(&2));
+    /// ```
     pub fn remove(&mut self, key: K) -> Option<V>
         ensures value { result ≡ map.get self.old.live (K.data_of key) }
         ensures removes { OnSome result (Removes self.old (K.data_of key) self.new) }
@@ -26,7 +32,7 @@ impl<K: Key, V: Drop> SlotMap<K, V> {
         self.slots.remove(key.data())
     }
 
-    // Takes the value of a live key out, with no look-up.
+    // Removes a live key and returns its value, with no look-up.
     pub(crate) fn take_live(&mut self, key: K) -> V
         requires { IsLive self.old (K.data_of key) }
         ensures value { map.get self.old.live (K.data_of key) ≡ Some result }
@@ -36,7 +42,7 @@ impl<K: Key, V: Drop> SlotMap<K, V> {
         self.slots.take(key.data())
     }
 
-    // The live key with the least index from `start` on.
+    // Returns the live key with the smallest index from `start` on.
     pub(crate) fn live_from(&self, start: usize) -> Option<K>
         ensures live { IfSome result (λ key.
             IsLive self.now (K.data_of key) × (start ≤ (K.data_of key).index)) }

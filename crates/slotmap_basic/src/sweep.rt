@@ -12,19 +12,21 @@ use slotmap_core::errors::OutOfMemory;
 use slotmap_core::keys::Key;
 
 impl<K: Key, V: Drop> SlotMap<K, V> {
-    /// Calls `f` once at each live key and its value, and removes the keys at which it answers
-    /// `false`.
+    /// Calls a closure once for each live key, and removes the keys for which it returns `false`.
     ///
-    /// What `f` writes to a value that stays is kept. The keys are visited by ascending index.
-    /// Detached keys aren't visited, and stay detached. It goes over all places of the map once.
+    /// The closure gets the key and a mutable reference to its value. What it writes is kept. The
+    /// keys are visited by ascending index. Detached keys aren't visited, and stay detached. Linear
+    /// in the number of slots.
     ///
     /// ```
     /// map.retain(|_, value| *value % 2 == 0);
+    /// assert_eq!(rt; map.get(a), None);
+    /// assert_eq!(rt; map.get(b), Some(&2));
     /// ```
     pub fn retain<F: FnMut(K, &mut V) -> bool>(&mut self, mut f: F)
     where
         F: Drop,
-        // At each entry, as calls at other entries leave the closure.
+        // For each entry, in each state in which calls for other entries leave the closure.
         requires { CallableOnEach F.FnMut K.data_of f self.old.live }
         ensures retained { RetainsBy F.FnMut K.data_of f self.old.live self.new.live }
         ensures leaves { Leaves self.old self.new }
@@ -41,10 +43,16 @@ impl<K: Key, V: Drop> SlotMap<K, V> {
         }
     }
 
-    /// Removes every live key, and drops its value.
+    /// Removes every live key and drops its value.
     ///
     /// The keys are removed as `remove` does, and the capacity stays. Detached keys stay detached.
-    /// It goes over all places of the map once.
+    /// Linear in the number of slots.
+    ///
+    /// ```
+    /// map.clear();
+    /// assert!(rt; map.is_empty());
+    /// assert!(rt; !map.contains_key(a));
+    /// ```
     pub fn clear(&mut self)
         ensures empty { self.new.live ≡ map.empty }
         ensures leaves { Leaves self.old self.new }
@@ -56,9 +64,15 @@ impl<K: Key, V: Drop> SlotMap<K, V> {
 
     /// Appends every live key to `out`, by ascending index.
     ///
-    /// It first asks for all the room that it needs. Where there is no memory for it, it is
-    /// refused, and `out` stays as it is. It goes over all places of the map once. Rust lacks this
-    /// call.
+    /// Room for all keys is allocated first. If that fails, the list doesn't change. Linear in the
+    /// number of slots. Rust lacks this call.
+    ///
+    /// ```
+    /// let mut keys = Vec::new(alloc);
+    /// map.keys_into(&mut keys)?;
+    /// assert_eq!(rt; keys.len(), 2);
+    /// assert_eq!(rt; keys[0], a);
+    /// ```
     pub fn keys_into(&self, out: &mut Vec<K>) -> Result<(), OutOfMemory>
         ensures ok { OnOk result ((keys : List K) × (out.new.items ≡ out.old.items ++ keys)
             × (list_map K.data_of keys ≡ map.keys self.now.live)) }
@@ -74,11 +88,18 @@ impl<K: Key, V: Drop> SlotMap<K, V> {
         Ok(())
     }
 
-    /// Takes every live key with its value out, and appends them to `out`, by ascending index.
+    /// Removes every live key, and appends the keys with their values to `out`, by ascending index.
     ///
-    /// The keys are removed as `remove` does, and detached keys stay detached. It first asks for
-    /// all the room that it needs. Where there is no memory for it, it is refused, and the map and
-    /// `out` stay as they are. It goes over all places of the map once. Rust lacks this call.
+    /// The keys are removed as `remove` does, and detached keys stay detached. Room for all pairs
+    /// is allocated first. If that fails, neither the map nor the list changes. Linear in the
+    /// number of slots. Rust lacks this call.
+    ///
+    /// ```
+    /// let mut pairs = Vec::new(alloc);
+    /// map.drain_into(&mut pairs)?;
+    /// assert_eq!(rt; pairs[1], (b, 2));
+    /// assert!(rt; map.is_empty());
+    /// ```
     pub fn drain_into(&mut self, out: &mut Vec<(K, V)>) -> Result<(), OutOfMemory>
         ensures ok { OnOk result ((pairs : List (K × V)) × (out.new.items ≡ out.old.items ++ pairs)
             × (list_map (λ p. (K.data_of p.0, p.1)) pairs ≡ map.entries self.old.live)) }
