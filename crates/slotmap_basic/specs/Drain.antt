@@ -18,21 +18,21 @@ module _ {K V : Type 0} where
   abbrev pub drain_lender : Drain K V → GName
   drain_lender d = d.map.ghost_name
 
-  -- so many pairs are left
+  -- the number of pairs that are left
   abbrev pub drain_count : Drain K V → Count
   drain_count d = at_most (map.len (drain_map d).live)
 
-  -- no key at a place that was visited is live
+  -- no key at an index before that of the drain is live
   abbrev pub DrainCanStep : Drain K V → Type 0
   DrainCanStep d = NoneBelow (drain_map d).live d.index
 
-  -- old and new borrow the same map, and as what new ends, once every key has left, old ends too
+  -- Old and new borrow the same map. What new ends as, once every key is removed, old ends as too
   abbrev pub DrainKeeps : Drain K V → Drain K V → Type 0
   DrainKeeps old new = (drain_lender new ≡ drain_lender old)
       × ((end : Content V) → EmptiesByIndex (drain_map new) end → EmptiesByIndex (drain_map old) end)
 
   module _ (data_of : K → Key) where
-    -- `next` took old to new, and answered the item
+    -- `next` took old to new, and yielded the item
     abbrev pub DrainSteps : Drain K V → Option (K × V) → Drain K V → Type 0
     DrainSteps old item new = TakesPair data_of (drain_map old) item (drain_map new)
         × DrainKeeps old new × DrainCanStep new × TakesFirst data_of (drain_map old) item (drain_map new)
@@ -42,12 +42,12 @@ module _ {K V : Type 0} where
     DrainKeepsAlong first = (pairs : List (K × V)) (later : Drain K V) → Yields DrainSteps first pairs later
         → DrainKeeps first later
 
-    -- the pairs that calls of `next` give, and those that the map still holds then, are those that it held
+    -- the pairs that calls of `next` yield, and those that the map still holds then, are those that it held
     abbrev pub DrainLists : Drain K V → Type 0
     DrainLists first = (pairs : List (K × V)) (later : Drain K V) → Yields DrainSteps first pairs later
         → IsListingBut (drain_map first).live (list_map (λ p. (data_of p.0, p.1)) pairs) (drain_map later).live
 
-    -- they come by ascending index, before those that the map still holds
+    -- they are yielded by ascending index, before those that the map still holds
     abbrev pub DrainInOrder : Drain K V → Type 0
     DrainInOrder first = (pairs : List (K × V)) (later : Drain K V) → Yields DrainSteps first pairs later
         → map.entries (drain_map first).live ≡ list_map (λ p. (data_of p.0, p.1)) pairs ++ map.entries (drain_map later).live

@@ -1,4 +1,4 @@
--- What a slot map ends as, where a `&mut` to one of its values is returned.
+-- What a slot map ends as, once a `&mut` to one of its values was returned.
 use Rattle.std.specs.Prelude.{Option}
 use Rattle.std.specs.Borrow.{Lends, LendsIf, Fml, RattleType, MutBor}
 use Rattle.slotmap_core.specs.Key.{Key}
@@ -11,6 +11,6 @@ module _ (K V : RattleType) (m : MutBor (Content V.Denot)) (k : Key) where
   abbrev pub lends_value : MutBor V.Denot → Fml
   lends_value r = Lends (the_row K V) V m r (with_value m.now k)
 
-  -- the same where r is a reference, and at `None` the map stays as it is
+  -- the same for an optional reference; at `None` the map stays as it is
   abbrev pub lends_get : Option (MutBor V.Denot) → Fml
   lends_get r = LendsIf (the_row K V) V m r (with_value m.now k) m.now

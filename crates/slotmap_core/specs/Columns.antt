@@ -15,7 +15,8 @@ module _ {P : Type 0} where
   zip_slots (v ∷ versions) (l ∷ links) [] = []
   zip_slots (v ∷ versions) (l ∷ links) (p ∷ payloads) = record { version = v; link = l; payload = p } ∷ zip_slots versions links payloads
 
-  -- the three have one length, and each holds at least `capacity` elements with no memory asked for: a, b and c
+  -- the three have one length, and each holds at least `capacity` elements without allocating: a, b and c are their
+  -- capacities
   pub record IsColumns (versions : List ℕ) (links : List Link) (payloads : List (Option P)) (capacity a b c : ℕ) : Type 0 where
     pub links_length : length links ≡ length versions
     pub payloads_length : length payloads ≡ length versions

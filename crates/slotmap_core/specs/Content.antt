@@ -1,4 +1,4 @@
--- What a primary map holds now.
+-- The content of a primary map: what it holds now.
 use Rattle.std.specs.Prelude.{◌≡◌, ℕ, ◌+◌, ◌-◌, ◌^◌, ◌<◌, ◌≤◌, refl, Option, Some, Bool, true, List, ◌∷◌, length, ◌⊎◌}
 use Rattle.std.specs.Ordering.{nat_cmp}
 use Rattle.std.specs.FinMap as map
@@ -9,17 +9,17 @@ use Rattle.slotmap_core.specs.Key.{Key, IsKey, is_last, key_cmp, coded_key}
 pub record Content (V : Type 0) : Type 0 where
   pub live : map.FinMap key_cmp V
   pub detached : set.FinSet key_cmp
-  -- the last key of each place that is used up
+  -- the last key of each place whose versions are used up
   pub retired : set.FinSet key_cmp
   -- the version that the next key at each vacant index will have
   pub next : map.FinMap nat_cmp ℕ
-  -- the key that the next insert answers
+  -- the key that the next insert returns
   pub offer : Key
-  -- the vacant indices, last freed first, where the map keeps them so
+  -- the vacant indices, last freed first, if the map reuses them in that order
   pub stack : Option (List ℕ)
-  -- so many inserts and reattaches aren't refused for memory
+  -- this many inserts and reattaches can't run out of memory
   pub room : ℕ
-  -- for so many places there is memory
+  -- there is memory for this many places
   pub capacity : ℕ
 
 -- by which a proof tells two contents apart
@@ -32,12 +32,12 @@ content_code {V} code =
     (λ p. record { live = p.0; detached = p.1.0; retired = p.1.1.0; next = p.1.1.1.0; offer = p.1.1.1.1.0; stack = p.1.1.1.1.1.0; room = p.1.1.1.1.1.1.0; capacity = p.1.1.1.1.1.1.1 })
     (λ _. refl)
 
--- the number of places that a map has at most
+-- the largest number of places of a map
 abbrev pub most : ℕ
 most = 2 ^ 32 - 2
 
 module _ {V : Type 0} where
-  -- the number of places that no insert can take: those of live, detached and retired keys
+  -- the number of places that no insert can use: those of live, detached and retired keys
   abbrev pub used : Content V → ℕ
   used c = map.len c.live + set.len c.detached + set.len c.retired
 
@@ -60,7 +60,7 @@ module _ {V : Type 0} where
   abbrev pub Stands : Content V → Key → Type 0
   Stands c k = IsLive c k ⊎ IsDetached c k
 
-  -- live, detached or retired: k has a place that no insert can take
+  -- live, detached or retired: k has a place that no insert can use
   abbrev pub Uses : Content V → Key → Type 0
   Uses c k = Stands c k ⊎ IsRetired c k
 
@@ -77,7 +77,7 @@ module _ {V : Type 0} where
     -- a vacant place had a key before, so its next one isn't the first, of version 1
     pub had_keys : (i v : ℕ) → map.get c.next i ≡ Some v → 1 < v
     pub last : (k : Key) → IsRetired c k → is_last k ≡ true
-    -- each index from 1 to `places` belongs to exactly one of the four
+    -- each index from 1 to `places` belongs to exactly one of the four kinds
     pub within : (k : Key) → Uses c k → (1 ≤ k.index) × (k.index ≤ places c)
     pub vacant : (i : ℕ) → IsVacant c i → (1 ≤ i) × (i ≤ places c)
     pub apart : (a b : Key) → Uses c a → Uses c b → a.index ≡ b.index → a ≡ b
@@ -89,5 +89,5 @@ module _ {V : Type 0} where
     pub stacked : (stack : List ℕ) → c.stack ≡ Some stack → IsStack c stack
     pub room_fits : c.room + used c ≤ most
     pub reused : reuses ≡ true → map.len c.next ≤ c.room
-    -- for the live keys and those that there is room for there is memory
+    -- there is memory for the live keys and those that there is room for
     pub capacity_fits : map.len c.live + c.room ≤ c.capacity

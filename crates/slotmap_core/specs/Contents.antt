@@ -1,4 +1,4 @@
--- What a map holds that is read from a list of slots.
+-- The content of a map that is read from a list of slots.
 use Rattle.std.specs.Prelude.{◌≡◌, ℕ, zero, suc, ◌+◌, ◌-◌, ◌%◌, ◌==◌, ◌&&◌, Bool, not, List, [], ◌∷◌, ◌++◌, length, map as list_map, Option, Some, None, option_map, if◌then◌else◌}
 use Rattle.std.specs.Ordering.{nat_cmp}
 use Rattle.std.specs.FinMap as map
@@ -14,11 +14,12 @@ use Rattle.slotmap_core.specs.declared.serial.SlotRecord.{SlotRecord}
 abbrev pub is_odd : ℕ → Bool
 is_odd version = version % 2 == 1
 
--- an even version other than 0 is that of a vacant place
+-- an even version other than 0 is that of a vacant slot
 abbrev pub is_vacant_version : ℕ → Bool
 is_vacant_version version = version % 2 == 0 && not (version == 0)
 
--- the version of the last key at a place of this version: an odd one is that key's own, an even one is one more than it, and 0 follows the last version
+-- The version of the last key of a slot of this version. An odd version is that key's own, an even one is one more than it,
+-- and 0 follows the last version
 abbrev pub last_issued : ℕ → ℕ
 last_issued version = if is_odd version then version else (if version == 0 then last_version else version - 1)
 
@@ -28,17 +29,17 @@ module _ {V : Type 0} where
   live_slot i slot =
       if is_odd slot.version then option_map (λ v. (record { index = i; version = slot.version }, v)) slot.value else None
 
-  -- a vacant slot gives its index, and the version after its own: that of the next key there; index 0 is handed out to no key
+  -- a vacant slot gives its index and the version of its next key, which is the slot's version plus 1; index 0 has no key
   abbrev pub vacant_slot : ℕ → SlotRecord V → Option (ℕ × ℕ)
   vacant_slot zero slot = None
   vacant_slot (suc i) slot = if is_vacant_version slot.version then Some (suc i, slot.version + 1) else None
 
-  -- a slot of version 0 is used up, and gives the last key of its index
+  -- a slot of version 0 is retired, and gives the last key of its index
   abbrev pub retired_slot : ℕ → SlotRecord V → Option (Key × Unit {0})
   retired_slot zero slot = None
   retired_slot (suc i) slot = if slot.version == 0 then Some (record { index = suc i; version = last_version }, tt) else None
 
-  -- each slot but the first gives the last key that was issued at its index
+  -- each slot but the first gives the last key that was made at its index
   abbrev pub issued_slot : ℕ → SlotRecord V → Option (Key × Unit {0})
   issued_slot zero slot = None
   issued_slot (suc i) slot = Some (record { index = suc i; version = last_issued slot.version }, tt)
@@ -51,30 +52,30 @@ module _ {V : Type 0} where
   unfoldable pub start_next : List (SlotRecord V) → map.FinMap nat_cmp ℕ
   start_next = gather map.empty (λ m e. map.insert m e.0 e.1) vacant_slot 0
 
-  -- the last key of each place that is used up
+  -- the last key of each retired slot
   unfoldable pub start_retired : List (SlotRecord V) → set.FinSet key_cmp
   start_retired = gather set.empty (λ s e. set.insert s e.0) retired_slot 0
 
-  -- the last key that was issued at each index from 1 on
+  -- the last key that was made at each index from 1 on
   unfoldable pub start_issued : List (SlotRecord V) → set.FinSet key_cmp
   start_issued = gather set.empty (λ s e. set.insert s e.0) issued_slot 0
 
-  -- the vacant indices, the greatest first
+  -- the vacant indices, the largest first
   unfoldable pub start_stack : List (SlotRecord V) → List ℕ
   start_stack = gather [] (λ is e. is ++ e.0 ∷ []) vacant_slot 0
 
-  -- c is what a map that hands out its keys holds, just after it was read from this list
+  -- c is the content of a primary map that was just read from this list
   pub record StartsFrom (slots : List (SlotRecord V)) (c : Content V) : Type 0 where
     pub live : c.live ≡ contents slots
     pub detached : c.detached ≡ set.empty
     pub retired : c.retired ≡ start_retired slots
     pub next : c.next ≡ start_next slots
-    -- the greatest vacant index is handed out first, where the map keeps a stack
+    -- the largest vacant index is used first, if the map keeps a stack
     pub stack : (stack : List ℕ) → c.stack ≡ Some stack → stack ≡ start_stack slots
     -- each slot but the first is a place
     pub places : places c + 1 ≡ length slots
 
-  -- the machine's state that goes with such a map
+  -- the state of the machine for such a map
   abbrev pub start_state : List (SlotRecord V) → State V
   start_state slots =
       record {
@@ -87,7 +88,7 @@ module _ {V : Type 0} where
 
 -- the list of places behind a map that is read from a list of slots
 module _ {V : Type 0} where
-  -- the place of this version and value: live where it has a value, else used up at version 0, or vacant
+  -- the place of this version and value: live if it has a value, else retired at version 0, else vacant
   abbrev pub place_from : ℕ → Option V → Place V
   place_from version (Some v) = Live version v
   place_from version None = if version == 0 then Retired else Vacant (version + 1)

@@ -1,4 +1,4 @@
--- What a user of two joined maps sees, who knows nothing of ages and indices: a plain dictionary.
+-- Two joined maps as their user sees them: a plain dictionary, with no ages or indices.
 use Rattle.std.specs.Prelude.{◌≡◌, ◌^◌, ◌<◌, Option, Some, None, List, [], length}
 use Rattle.std.specs.FinMap as map
 use Rattle.slotmap_core.specs.Key.{Key, key_cmp}
@@ -16,11 +16,11 @@ use Rattle.slotmap_core.specs.declared.joined.JoinedDetachCommand.TheVariants as
 use Rattle.slotmap_core.specs.declared.joined.JoinedReply.{JoinedReply}
 use Rattle.slotmap_core.specs.declared.joined.JoinedReply.TheVariants as reply
 
--- under each key the value that was last put under exactly it, and not taken since
+-- under each key the value that was last put under exactly this key, and not taken since
 abbrev pub Dictionary : Type 0 → Type 0
 Dictionary W = map.FinMap key_cmp W
 
--- where both maps' machines are, and the dictionary
+-- the states of both maps' machines, and the dictionary
 pub record WithDictionary (K V W : Type 0) : Type 0 where
   pub joined : Joined K V W
   pub dictionary : Dictionary W
@@ -35,13 +35,13 @@ module _ {K W : Type 0} (data_of : K → Key) where
   after_take d None = d
 
 module _ {K V W R : Type 0} (given : Given K W R) where
-  -- a put that had memory binds the key that it names to its value, a take takes that key out, and nothing else changes
+  -- a put that had memory binds the key that it names to its value, a take removes that key, and nothing else changes
   abbrev pub noted : List K → Dictionary W → JoinedCommand V W → JoinedReply K V W R → Dictionary W
   noted keys d (command.Put n w) (reply.Old before) = after_put given.data_of d (named keys n) w
   noted keys d (command.Take n) (reply.TakenSecond taken) = after_take given.data_of d (named keys n)
   noted keys d _ _ = d
 
-  -- what a live or detached key is answered, the dictionary has
+  -- the reply to a command on a live or detached key is the dictionary's
   abbrev pub Tells : Joined K V W → Dictionary W → JoinedCommand V W → JoinedReply K V W R → Type 0
   Tells s d (command.Put n w) (reply.Old before) = (k : K) → named s.keys n ≡ Some k → IsHeld s.primary (given.data_of k) → before ≡ map.get d (given.data_of k)
   Tells s d (command.Look n) (reply.Looked seen) = (k : K) → named s.keys n ≡ Some k → IsHeld s.primary (given.data_of k) → LooksAt given.looks (map.get d (given.data_of k)) seen
@@ -54,17 +54,17 @@ module _ {K V W R : Type 0} (given : Given K W R) where
     pub tells : Tells old.joined old.dictionary c r
     pub notes : new.dictionary ≡ noted old.joined.keys old.dictionary c r
 
-  -- the same for a primary map whose keys can be detached: that changes nothing in the dictionary
+  -- the same for a primary map whose keys can be detached; that changes nothing in the dictionary
   abbrev pub DetachTellingStep : WithDictionary K V W → JoinedDetachCommand V W → JoinedReply K V W R → WithDictionary K V W → Type 0
   DetachTellingStep old (detaching.Plain c) r new = TellingStep old c r new
   DetachTellingStep old c r new = DetachStep given old.joined c r new.joined × (new.dictionary ≡ old.dictionary)
 
--- no place was made and nothing was stored, and no key was put under
+-- no slot was made, nothing was stored, and nothing was put under a key
 abbrev pub unused : {K V W : Type 0} → WithDictionary K V W
 unused = record { joined = record { primary = empty_state; secondary = map.empty; keys = [] }; dictionary = map.empty }
 
--- on two maps that were never used, and by so few commands that no version is older than one below it, the replies are
--- a run that the dictionary tells
+-- On two maps that were never used, the replies are a run that the dictionary tells. There have to be so few commands that no
+-- version counts as older than one below it
 abbrev pub RunsTold : {K V W C R : Type 0} → (WithDictionary K V W → C → R → WithDictionary K V W → Type 0) → Content V → Pairs W → List C → List R → Content V → Pairs W → Type 0
 RunsTold {K} {V} {W} Step old_first old_second commands replies new_first new_second =
     places old_first ≡ 0 → old_second ≡ map.empty → length commands < 2 ^ 31

@@ -1,4 +1,4 @@
--- Several live keys that are given new values at once.
+-- Several live keys that get new values at once.
 use Rattle.std.specs.Prelude.{◌≡◌, ◌≢◌, List, [], ◌∷◌, Some, map as map_list}
 use Rattle.std.specs.List.{All, AllPairs}
 use Rattle.std.specs.FinMap as map
@@ -16,7 +16,7 @@ module _ {V : Type 0} where
   abbrev pub AreValuesOf : Content V → List Key → List V → Type 0
   AreValuesOf c keys values = map_list (map.get c.live) keys ≡ map_list Some values
 
-  -- each key has the value that stands at its place in the list, and all else stays
+  -- each key has the value at its position in the list, and all else is as before
   abbrev pub with_values : Content V → List Key → List V → Content V
   with_values c [] values = c
   with_values c (k ∷ keys) [] = c

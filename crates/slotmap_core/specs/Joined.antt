@@ -27,8 +27,8 @@ use Rattle.slotmap_core.specs.declared.joined.JoinedDetachCommand.TheVariants as
 use Rattle.slotmap_core.specs.declared.joined.JoinedReply.{JoinedReply}
 use Rattle.slotmap_core.specs.declared.joined.JoinedReply.TheVariants as reply
 
--- what a run is given: the data of a key, what may be seen of a value of the secondary map, and whether the primary
--- map takes no memory for a place that was made before
+-- What a run is given: the data of a key, and what may be seen of a value of the secondary map. And whether the primary map
+-- allocates nothing for an existing slot
 pub record Given (K W R : Type 0) : Type 1 where
   pub data_of : K → Key
   pub looks : W → R → Type 0
@@ -38,11 +38,11 @@ pub record Given (K W R : Type 0) : Type 1 where
 abbrev pub given_joined : {K W R L : Type 0} → (K → Key) → Shared L (Bor W × Unit {0}) R → L → Bool → Given K W R
 given_joined data_of look_calls look reuses = record { data_of = data_of; looks = FnReturnsAt look_calls look; reuses = reuses }
 
--- where both machines are
+-- the states of both machines
 pub record Joined (K V W : Type 0) : Type 0 where
   pub primary : State V
   pub secondary : Pairs W
-  -- the keys that the inserts of this list answered, in order
+  -- the keys that the inserts of this list returned, in order
   pub keys : List K
 
 -- the key that a number names, from 1 on
@@ -63,14 +63,14 @@ module _ {K V W R : Type 0} (given : Given K W R) where
       secondary_step.Step (record { data_of = given.data_of; looks = given.looks; takes_older = false }) old.secondary c r new.secondary
       × (new.primary ≡ old.primary) × (new.keys ≡ old.keys)
 
-  -- the key that is answered is the next one to be named by a number
+  -- the key that is returned is the next one that a number names
   abbrev pub StepInsert : Joined K V W → V → JoinedReply K V W R → Joined K V W → Type 0
   StepInsert old v (reply.Key k) new = First old (Plain (first.Insert v)) (first_reply.Key k) new × (new.keys ≡ old.keys ++ k ∷ [])
   StepInsert old v (reply.Full back) new = First old (Plain (first.Insert v)) (first_reply.Full (Some back)) new × (new.keys ≡ old.keys)
   StepInsert old v (reply.Memory back) new = First old (Plain (first.Insert v)) (first_reply.Memory (Some back)) new × (new.keys ≡ old.keys)
   StepInsert old v _ new = ⊥
 
-  -- by the key that the number named, or nothing where it named none
+  -- with the key that the number names, or with no key if it names none
   abbrev pub StepRemove : Joined K V W → Option K → JoinedReply K V W R → Joined K V W → Type 0
   StepRemove old (Some k) (reply.Taken taken) new = First old (Plain (first.Remove k)) (first_reply.Taken taken) new × (new.keys ≡ old.keys)
   StepRemove old None reply.NoKey new = new ≡ old
@@ -92,7 +92,7 @@ module _ {K V W R : Type 0} (given : Given K W R) where
   StepTake old None reply.NoKey new = new ≡ old
   StepTake old _ _ new = ⊥
 
-  -- from old, the machine may give this reply to the command and go on to new: a step of one of the two maps, or none
+  -- from old, the machine may give this reply to the command and go on to new: a step of one of the two maps, or no step
   abbrev pub Step : Joined K V W → JoinedCommand V W → JoinedReply K V W R → Joined K V W → Type 0
   Step old (command.Insert v) r new = StepInsert old v r new
   Step old (command.Remove n) r new = StepRemove old (named old.keys n) r new
@@ -118,8 +118,8 @@ module _ {K V W R : Type 0} (given : Given K W R) where
   DetachStep old (detaching.Detach n) r new = StepDetach old (named old.keys n) r new
   DetachStep old (detaching.Reattach n v) r new = StepReattach old (named old.keys n) v r new
 
--- from each state that fits the primary map, and what the secondary one holds, the replies are a run, to a state that
--- fits the one then, and what the other one holds then
+-- The replies are a run from each state that fits the primary map and from the pairs of the secondary one. It leads to a
+-- state that fits the primary map afterwards, and to the secondary map's pairs then
 abbrev pub RunsBeside : {K V W C R : Type 0} → (Joined K V W → C → R → Joined K V W → Type 0) → Content V → Pairs W → List C → List R → Content V → Pairs W → Type 0
 RunsBeside {K} {V} {W} Step old_first old_second commands replies new_first new_second =
     (s : State V) → Fits s old_first

@@ -25,20 +25,20 @@ slot_json value version =
     object (member (codes "value") value
     (member (codes "version") (number (unsigned version)) no_members))
 
--- a number, where it fits 32 bits
+-- a number, if it fits 32 bits
 abbrev pub as_u32 : ℕ → Option ℕ
 as_u32 n = if nat_lt n (2 ^ 32) then Some n else None
 
--- the whole number from 0 to 2^32 - 1 that an object has under this name; other members are passed over
+-- the whole number from 0 to 2^32 - 1 that an object has under this name; other members are ignored
 abbrev pub u32_at : List ℕ → Data → Option ℕ
 u32_at name d = option_and_then as_u32 (option_and_then as_u64 (option_and_then as_number (get name d)))
 
--- JSON, where it isn't null
+-- JSON, unless it is null
 abbrev pub not_null : Data → Option Data
 not_null null = None
 not_null d = Some d
 
--- what an object has under the name "value", where there is such a member and it isn't null
+-- what an object has under the name "value", if there is such a member and it isn't null
 abbrev pub value_at : Data → Option Data
 value_at d = option_and_then not_null (get (codes "value") d)
 
@@ -46,11 +46,11 @@ value_at d = option_and_then not_null (get (codes "value") d)
 abbrev pub version_at : Data → Option ℕ
 version_at d = u32_at (codes "version") d
 
--- the key that JSON is read as: both numbers have to be there, and the version is made odd
+-- the key that JSON is read as: both numbers must be there, and the version is made odd
 abbrev pub read_key : Data → Option Key
 read_key d = option_and_then (λ index. option_map (key_from index) (version_at d)) (u32_at (codes "idx") d)
 
--- the answer with f of its value
+-- the result, with f of its value
 abbrev pub ok_map : {A B : Type 0} → (A → B) → Result A JsonError → Result B JsonError
 ok_map f (Ok a) = Ok (f a)
 ok_map f (Err e) = Err e
@@ -60,15 +60,15 @@ abbrev pub HasElements : Data → Type 0
 HasElements d = (first : Data) × (rest : List Data) × (d ≡ array (items_of (first ∷ rest)))
 
 module _ {V : Type 0} where
-  -- the closure f may answer this JSON for a value
+  -- the closure f may return this JSON for a value
   abbrev pub GivesJson : {F : Type 0} → Shared F (Bor V × Unit {0}) (Result Value OutOfMemory) → F → V → Data → Type 0
   GivesJson calls f v d = (x : Value) × FnReturnsAt calls f v (Ok x) × (view x ≡ d)
 
-  -- the closure g may answer so where it reads this JSON
+  -- the closure g may return this result for this JSON
   abbrev pub ReadsJson : {G : Type 0} → Shared G (Bor Value × Unit {0}) (Result V JsonError) → G → Data → Result V JsonError → Type 0
   ReadsJson calls g d r = (x : Value) × (view x ≡ d) × FnReturnsAt calls g x r
 
-  -- the JSON of a slot: its value's JSON, or null where it has none, and its version
+  -- the JSON of a slot: its value's JSON, or null if it has none, and its version
   abbrev pub IsSlotJson : (V → Data → Type 0) → SlotRecord V → Data → Type 0
   IsSlotJson gives slot d =
       MatchOption slot.value (d ≡ slot_json null slot.version)
@@ -78,7 +78,7 @@ module _ {V : Type 0} where
   abbrev pub IsSlotsJson : (V → Data → Type 0) → List (SlotRecord V) → Data → Type 0
   IsSlotsJson gives slots d = (ds : List Data) × (d ≡ array (items_of ds)) × AllZip (IsSlotJson gives) slots ds
 
-  -- what the reading of one element may answer: its version is read first, and its value after that
+  -- the possible results of reading one element: its version is read first, and its value after that
   abbrev pub ReadsSlot : (Data → Result V JsonError → Type 0) → Data → Result (SlotRecord V) JsonError → Type 0
   ReadsSlot reads d r =
       MatchOption (version_at d) (r ≡ Err Shape)
@@ -93,13 +93,13 @@ module _ {V : Type 0} where
   abbrev pub IsReadAs : (Data → Result V JsonError → Type 0) → Data → List (SlotRecord V) → Type 0
   IsReadAs reads d slots = (ds : List Data) × (d ≡ array (items_of ds)) × ReadsAll reads ds slots
 
-  -- the JSON is an array of which one element is refused, and those before it are read
+  -- the JSON is an array, one of its elements fails to be read, and those before it are read
   abbrev pub HasRefusal : (Data → Result V JsonError → Type 0) → Data → JsonError → Type 0
   HasRefusal reads d e =
       (before : List Data) × (refused : Data) × (after : List Data) × (d ≡ array (items_of (before ++ refused ∷ after)))
       × ((slots : List (SlotRecord V)) × ReadsAll reads before slots) × ReadsSlot reads refused (Err e)
 
-  -- why JSON isn't read as a list of slots; room is asked for where there are elements
+  -- why JSON isn't read as a list of slots; `Memory` only if there are elements
   abbrev pub IsRefused : (Data → Result V JsonError → Type 0) → Data → JsonError → Type 0
   IsRefused reads d Shape = (as_array d ≡ None) ⊎ HasRefusal reads d Shape
   IsRefused reads d Memory = HasElements d

@@ -1,4 +1,4 @@
--- What a layout ends as, where a `&mut` to one of its payloads is returned.
+-- What a layout ends as, once a `&mut` to one of its payloads was returned.
 use Rattle.std.specs.Prelude.{ℕ}
 use Rattle.std.specs.Borrow.{Lends, Fml, RattleType, MutBor}
 

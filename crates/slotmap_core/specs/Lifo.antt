@@ -1,5 +1,5 @@
--- The machine of the maps that use the place freed last first. The commands alone decide its states, and the
--- keys that inserts answer.
+-- The machine of the maps that reuse the place freed last first. The commands alone decide its states and the keys that
+-- inserts return.
 use Rattle.std.specs.Prelude.{ℕ, ◌+◌, List, [], ◌∷◌, ◌++◌, drop, if◌then◌else◌, ⊤}
 use Rattle.std.specs.Option.{unwrap_or}
 use Rattle.std.specs.Ordering.{nat_cmp}
@@ -14,7 +14,7 @@ use Rattle.slotmap_core.specs.declared.commands.DetachCommand.TheVariants as det
 pub record Lifo : Type 0 where
   -- the keys that have a value
   pub live : set.FinSet key_cmp
-  -- the keys whose value was taken out, and that may be bound again
+  -- the keys whose value was taken out, and that may be bound to a value again
   pub detached : set.FinSet key_cmp
   -- the version that the next key at each vacant index will have
   pub next : map.FinMap nat_cmp ℕ
@@ -32,16 +32,16 @@ abbrev pub top_key : map.FinMap nat_cmp ℕ → ℕ → List ℕ → Key
 top_key next places [] = record { index = places + 1; version = 1 }
 top_key next places (i ∷ rest) = record { index = i; version = unwrap_or (map.get next i) 1 }
 
--- the key that the next insert answers
+-- the key that the next insert returns
 abbrev pub offer_of : Lifo → Key
 offer_of s = top_key s.next s.places s.stack
 
--- the number of places after an insert: one is made where none is vacant
+-- the number of places after an insert: one more, unless a place is vacant
 abbrev pub places_after : ℕ → List ℕ → ℕ
 places_after places [] = places + 1
 places_after places (i ∷ rest) = places
 
--- the offer is live, and its index vacant no longer
+-- the offer is live, and its index is no longer vacant
 abbrev pub after_insert : Lifo → Lifo
 after_insert s = record {
   live = set.insert s.live (offer_of s);
@@ -51,15 +51,15 @@ after_insert s = record {
   places = places_after s.places s.stack;
 }
 
--- k is live no longer, and its index is on top of the stack, if a key can follow k there
+-- k is no longer live, and its index is on top of the stack, if a key can follow k there
 abbrev pub after_remove : Lifo → Key → Lifo
 after_remove s k = record s { live = set.remove s.live k; next = freed s.next k; stack = pushed s.stack k }
 
--- k is detached, and live no longer
+-- k is detached, and no longer live
 abbrev pub after_detach : Lifo → Key → Lifo
 after_detach s k = record s { live = set.remove s.live k; detached = set.insert s.detached k }
 
--- k is live, and detached no longer
+-- k is live, and no longer detached
 abbrev pub after_reattach : Lifo → Key → Lifo
 after_reattach s k = record s { live = set.insert s.live k; detached = set.remove s.detached k }
 
@@ -80,12 +80,12 @@ module _ {K V : Type 0} (data_of : K → Key) where
   after_command s (detaching.Detach k) = if set.contains s.live (data_of k) then after_detach s (data_of k) else s
   after_command s (detaching.Reattach k v) = if set.contains s.detached (data_of k) then after_reattach s (data_of k) else s
 
-  -- the key that a command is answered: an insert's
+  -- the key in a command's reply, if it is an insert
   abbrev pub answer : Lifo → DetachCommand K V → List Key
   answer s (detaching.Plain (command.Insert v)) = offer_of s ∷ []
   answer s _ = []
 
-  -- the keys that a list of commands is answered, in order
+  -- the keys in the replies to a list of commands, in order
   abbrev pub answers : Lifo → List (DetachCommand K V) → List Key
   answers s [] = []
   answers s (c ∷ cs) = answer s c ++ answers (after_command s c) cs

@@ -1,4 +1,4 @@
--- What a map holds that was read from a list of slots, and what runs and lists go on from there.
+-- The content of a map that was read from a list of slots, and the runs and lists that go on from there.
 use Rattle.std.specs.Prelude.{Bool, List}
 use Rattle.slotmap_core.specs.Content.{Content, IsContent}
 use Rattle.slotmap_core.specs.Contents.{StartsFrom, start_state}
@@ -10,9 +10,9 @@ pub record ReadsAs {V : Type 0} (reuses : Bool) (slots : List (SlotRecord V)) (c
   -- what the list says
   pub starts : StartsFrom slots c
   pub valid : IsContent reuses c
-  -- runs of commands go on from the list's state: no key that it counts as handed out is handed out again
+  -- runs of commands go on from the list's state: no key that counts as returned in it is returned again
   pub fits : Fits (start_state slots) c
-  -- where a map wrote this list, what was live there is live here, and what was detached has left
+  -- if a map wrote this list, what was live there is live here, and what was detached is gone
   pub restores : (any : Bool) (old : Content V) → IsContent any old → Writes old slots → Restores old c
-  -- the map is written as this list, but for the version of the first slot
+  -- the map is written as this list again, except for the version of the first slot
   pub writes_back : Writes c (read_slots slots)

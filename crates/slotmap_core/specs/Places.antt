@@ -6,7 +6,7 @@ use Rattle.std.specs.FinSet as set
 use Rattle.slotmap_core.specs.Key.{Key, key_cmp, last_version, is_last, next_version}
 use Rattle.slotmap_core.specs.Gather.{gather}
 
--- what stands at an index: a value under a version, a version that is kept, the version that the next key here will have, or nothing any more
+-- what is at an index: a value under a version, a version that is kept, the version of the next key here, or nothing any more
 pub data Place (V : Type 0) : Type 0 where
   Live : (version : ℕ) → V → Place V
   Detached : (version : ℕ) → Place V
@@ -32,7 +32,7 @@ module _ {V : Type 0} where
   retired_entry i (Vacant next) = None
   retired_entry i Retired = Some (record { index = i; version = last_version }, tt)
 
-  -- index 0 is handed out to no key
+  -- index 0 has no key
   abbrev pub next_entry : ℕ → Place V → Option (ℕ × ℕ)
   next_entry zero p = None
   next_entry (suc i) (Live version value) = None
@@ -47,7 +47,7 @@ module _ {V : Type 0} where
   unfoldable pub detached : List (Place V) → set.FinSet key_cmp
   detached = gather set.empty (λ s e. set.insert s e.0) detached_entry 0
 
-  -- the last key of each place that is used up
+  -- the last key of each place that is retired
   unfoldable pub retired : List (Place V) → set.FinSet key_cmp
   retired = gather set.empty (λ s e. set.insert s e.0) retired_entry 0
 
@@ -71,6 +71,6 @@ module _ {V : Type 0} where
   is_kept wanted (Some (Vacant next)) = false
   is_kept wanted (Some Retired) = false
 
-  -- what the place of a key is once the key has left: vacant, or retired after the last one
+  -- the place of a key once the key was removed: vacant, or retired after the last key
   abbrev pub left_by : Key → Place V
   left_by k = if is_last k then Retired else Vacant (next_version k)

@@ -7,7 +7,7 @@ use Rattle.slotmap_core.specs.declared.layout.rows.Use.{Use}
 use Rattle.slotmap_core.specs.declared.layout.rows.Use.TheVariants.{Full, Free, Detached, Retired}
 use Rattle.slotmap_core.specs.declared.layout.rows.Row.{Row}
 
--- so many slots are counted as fitting, at most
+-- at most this many slots are counted as fitting
 abbrev pub most_rows : ℕ
 most_rows = 2 ^ 32 - 1
 

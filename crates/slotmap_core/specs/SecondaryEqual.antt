@@ -33,7 +33,7 @@ module _ {V : Type 0} where
   same_entries_equiv laws =
       lists_equiv (and_equiv (and_equiv (on_equiv (λ a. a.0.index) nat_eq_equiv) (on_equiv (λ a. a.0.version) nat_eq_equiv)) (on_equiv (λ a. a.1) laws))
 
-  -- it is symmetric and transitive where the equality of values is, and reflexive where that is
+  -- it is symmetric and transitive if the equality of values is, and reflexive if that is
   pub are_equal_laws : {eq : V → V → Bool} → IsPartialEquivalence eq → IsPartialEquivalence (are_equal eq)
   are_equal_laws laws = on_per (λ m. map.entries (keyed m)) (same_entries_laws laws)
 

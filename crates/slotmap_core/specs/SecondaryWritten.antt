@@ -4,12 +4,12 @@ use Rattle.slotmap_core.specs.Written.{filled_slot, empty_slot}
 use Rattle.slotmap_core.specs.declared.serial.SlotRecord.{SlotRecord}
 
 module _ {V : Type 0} where
-  -- the slot of a place at which this stands
+  -- the slot of an index that holds this
   abbrev pub slot_of : Option (ℕ × V) → SlotRecord V
   slot_of None = empty_slot 0
   slot_of (Some p) = filled_slot p.0 p.1
 
-  -- what stands at the place of a slot
+  -- what the index of a slot holds
   abbrev pub slot_pair : Option (SlotRecord V) → Option (ℕ × V)
   slot_pair None = None
   slot_pair (Some slot) = option_map (λ v. (slot.version, v)) slot.value

@@ -1,4 +1,5 @@
--- Several keys of a map that are given new values at once, in a map of any kind: `get` looks a key up in it, and `put` gives a key of it another value.
+-- Several keys of a map that get new values at once, in a map of any kind. `get` looks a key up in it, and `put` sets a key's
+-- value.
 use Rattle.std.specs.Prelude.{◌≡◌, ◌≢◌, List, [], ◌∷◌, Option, Some, true, is_some, map as map_list}
 use Rattle.std.specs.List.{All, AllPairs}
 use Rattle.slotmap_core.specs.Key.{Key}
@@ -14,7 +15,7 @@ module _ {M V : Type 0} (get : M → Key → Option V) where
   AreValuesOf m keys values = map_list (get m) keys ≡ map_list Some values
 
 module _ {M V : Type 0} (put : M → Key → V → M) where
-  -- each key has the value that stands at its place in the list, and all else stays
+  -- each key has the value at its position in the list, and all else is as before
   abbrev pub with_values : M → List Key → List V → M
   with_values m [] values = m
   with_values m (k ∷ keys) [] = m

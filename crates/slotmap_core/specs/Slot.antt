@@ -6,7 +6,7 @@ use Rattle.slotmap_core.specs.StackMap.{StackMap, IsStacked}
 use Rattle.slotmap_core.specs.declared.layout.Link.{Link}
 use Rattle.slotmap_core.specs.declared.layout.Link.TheVariants.{InUse, Free, Detached, Retired}
 
--- a version, what the slot is used for, and a payload where it is in use
+-- a version, what the slot is used for, and a payload if it is in use
 pub record Slot (P : Type 0) : Type 0 where
   pub version : ℕ
   pub link : Link
@@ -41,12 +41,12 @@ module _ {P : Type 0} where
   abbrev pub NoneLive : List (Slot P) → ℕ → ℕ → Type 0
   NoneLive slots start end = (i v : ℕ) → start ≤ i → i < end → version_at slots i ≡ Some v → v % 2 ≡ 0
 
--- slots as they lie in memory: from place 0 on, and how many fit with no memory asked for
+-- slots as they lie in memory: from slot 0 on, and how many fit without allocating
 pub record Laid (P : Type 0) : Type 0 where
   pub slots : List (Slot P)
   pub capacity : ℕ
 
--- the version before this one, which goes round
+-- the version before this one, where versions wrap around
 abbrev pub version_before : ℕ → ℕ
 version_before v = (v + (2 ^ 32 - 1)) % 2 ^ 32
 
@@ -85,7 +85,7 @@ module _ {P : Type 0} where
   IsFreeList slots [] head = head ≡ 0
   IsFreeList slots (i ∷ is) head = (head ≡ i) × ((next : ℕ) × (link_at slots i ≡ Some (Free next)) × IsFreeList slots is next)
 
-  -- a payload stands exactly where the slot is in use, and there alone the version is odd; a slot that is used up has version 0
+  -- there is a payload if and only if the slot is in use, and then alone the version is odd; a retired slot has version 0
   pub record IsSlot (s : Slot P) : Type 0 where
     pub odd : IsSome s.payload ↔ s.version % 2 ≡ 1
     pub in_use : IsSome s.payload ↔ s.link ≡ InUse
@@ -100,11 +100,11 @@ module _ {P : Type 0} where
     pub live_counted : map.len (live (places_of slots)) ≡ count
     pub stacked : IsStacked (places_of slots) stack
 
--- what the slots are, as a map that has memory for so many places
+-- what the slots are, as a map that has memory for this many places
 abbrev pub map_of : {P : Type 0} → List (Slot P) → ℕ → ℕ → ℕ → StackMap P
 map_of slots head free capacity = record { places = places_of slots; vacant = walk slots free head; capacity = capacity }
 
--- what slots in a layout with room for `fits` of them are between calls
+-- what holds of the slots between calls, in a layout with room for `fits` of them
 pub record IsHeld {P : Type 0} (slots : List (Slot P)) (fits head free count : ℕ) : Type 0 where
   pub sound : IsSound slots head free count
   pub holds : length slots ≤ fits

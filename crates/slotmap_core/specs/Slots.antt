@@ -1,11 +1,11 @@
--- Lists of slots: for each place of a map, from place 0 on, its value, if there is one, and its version.
+-- Lists of slots: for each slot of a map, from slot 0 on, its value, if there is one, and its version.
 use Rattle.std.specs.Prelude.{◌≡◌, ℕ, ◌%◌, ◌^◌, ◌<◌, ◌≤◌, ◌↔◌, List, length, slice_get, Some, IsSome}
 use Rattle.slotmap_core.specs.declared.serial.SlotRecord.{SlotRecord}
 use Rattle.slotmap_core.specs.declared.errors.SlotsError.{SlotsError}
 use Rattle.slotmap_core.specs.declared.errors.SlotsError.TheVariants.{TooMany, FirstNotEmpty, Inconsistent, Memory}
 
 module _ {V : Type 0} where
-  -- a value stands exactly where the version is odd
+  -- there is a value if and only if the version is odd
   abbrev pub IsConsistent : SlotRecord V → Type 0
   IsConsistent slot = IsSome slot.value ↔ (slot.version % 2 ≡ 1)
 
@@ -29,19 +29,19 @@ module _ {V : Type 0} where
     pub first_empty : HasEmptyFirst slots
     pub consistent : AllConsistentBelow slots (length slots)
 
-  -- the first slot that isn't consistent stands at this position
+  -- the first slot that isn't consistent is at this position
   pub record IsFirstInconsistent (slots : List (SlotRecord V)) (i : ℕ) : Type 0 where
     pub before : AllConsistentBelow slots i
     pub here : (slot : SlotRecord V) × (slice_get slots i ≡ Some slot) × ¬ IsConsistent slot
 
-  -- why a list is refused: where several reasons hold, the first of these is given
+  -- why a list isn't read: the first reason that applies is returned
   abbrev pub Refuses : List (SlotRecord V) → ℕ → SlotsError → Type 0
   Refuses slots limit TooMany = limit ≤ length slots
   Refuses slots limit FirstNotEmpty = (length slots < limit) × ¬ HasEmptyFirst slots
   Refuses slots limit (Inconsistent i) = (length slots < limit) × HasEmptyFirst slots × IsFirstInconsistent slots i
   Refuses slots limit Memory = ⊥
 
-  -- why a map isn't started from a list: the list is refused, or it is accepted and memory is lacking
+  -- why a map isn't made from a list: the list isn't accepted, or it is and memory runs out
   abbrev pub RefusesStart : List (SlotRecord V) → ℕ → SlotsError → Type 0
   RefusesStart slots limit TooMany = Refuses slots limit TooMany
   RefusesStart slots limit FirstNotEmpty = Refuses slots limit FirstNotEmpty

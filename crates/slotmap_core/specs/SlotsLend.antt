@@ -1,4 +1,4 @@
--- What the slots of a map end as, where a `&mut` to a payload is returned.
+-- What the slots of a map end as, once a `&mut` to a payload was returned.
 use Rattle.std.specs.Borrow.{Lends, Fml, RattleType, MutBor}
 use Rattle.slotmap_core.specs.Key.{Key}
 use Rattle.slotmap_core.specs.Content.{Content}

@@ -1,5 +1,5 @@
--- The steps of the machine: which replies may come to a command, and what state each leaves.
--- No reply comes but those that are named.
+-- The steps of the machine: which replies may come to a command, and what state each leaves. Only the replies that are named
+-- here may come.
 use Rattle.std.specs.Prelude.{◌≡◌, ◌≢◌, ℕ, ◌+◌, ◌<◌, ◌≤◌, Some, None, Bool, true, false, Ok, Err, if◌then◌else◌, map as list_map}
 use Rattle.std.specs.FinMap as map
 use Rattle.std.specs.FinSet as set
@@ -16,33 +16,33 @@ use Rattle.slotmap_core.specs.declared.commands.Reply.{Reply}
 use Rattle.slotmap_core.specs.declared.commands.Reply.TheVariants as reply
 
 module _ {V : Type 0} (reuses : Bool) (s : State V) where
-  -- an insert may be refused for memory
+  -- an insert may run out of memory
   pub record MayLackMemory : Type 0 where
-    -- places are left
+    -- the limit isn't reached
     pub below_limit : used s ≢ most
     -- no insert is owed
     pub not_promised : s.promised ≡ 0
-    -- where old places take no memory, no old one is vacant
+    -- if existing slots need no memory, none of them is vacant
     pub at_peak : reuses ≡ true → used s ≡ s.peak
 
-  -- a reserve of n may be refused for memory
+  -- a reserve of n may run out of memory
   pub record MayLackRoom (n : ℕ) : Type 0 where
-    -- so many places are left
+    -- n more keys are within the limit
     pub within_limit : used s + n ≤ most
-    -- fewer inserts and reattaches are owed
+    -- fewer than n inserts and reattaches are owed
     pub beyond_promise : s.promised < n
-    -- where old places take no memory, fewer old ones are vacant
+    -- if existing slots need no memory, fewer than n of them are vacant
     pub beyond_peak : reuses ≡ true → s.peak < used s + n
 
 module _ {K V R E : Type 0} (given : Given K V R E) where
-  -- a fresh key is answered, and bound to v; `Full` comes exactly where no place is left; both refusals have v
+  -- a fresh key is returned, and bound to v; `Full` comes if and only if the limit is reached; both errors have v
   abbrev pub StepInsert : State V → V → Reply K V R E → State V → Type 0
   StepInsert old v (reply.Key k) new = (used old ≢ most) × Fresh old (given.data_of k) × (new ≡ after_insert old (given.data_of k) v)
   StepInsert old v (reply.Full back) new = (used old ≡ most) × (back ≡ Some v) × (new ≡ old)
   StepInsert old v (reply.Memory back) new = MayLackMemory given.reuses old × (back ≡ Some v) × (new ≡ old)
   StepInsert old v _ new = ⊥
 
-  -- the same with a value that `make` may give for the key; or an error that it may give for a fresh key
+  -- the same with a value that `make` may return for the key; or an error that it may return for a fresh key
   abbrev pub StepInsertWith : State V → Reply K V R E → State V → Type 0
   StepInsertWith old (reply.Key k) new = (used old ≢ most) × Fresh old (given.data_of k) × ((v : V) × given.makes k (Ok v) × (new ≡ after_insert old (given.data_of k) v))
   StepInsertWith old (reply.Full back) new = (used old ≡ most) × (back ≡ None) × (new ≡ old)
@@ -50,14 +50,14 @@ module _ {K V R E : Type 0} (given : Given K V R E) where
   StepInsertWith old (reply.Failed e) new = (used old ≢ most) × ((k : K) × Fresh old (given.data_of k) × given.makes k (Err e)) × (new ≡ old)
   StepInsertWith old _ new = ⊥
 
-  -- `TooGreat` comes exactly where n more keys would pass the limit; `Done` promises n inserts or reattaches
+  -- `TooGreat` comes if and only if n more keys are over the limit; `Done` promises n inserts or reattaches
   abbrev pub StepReserve : State V → ℕ → Reply K V R E → State V → Type 0
   StepReserve old n reply.Done new = (used old + n ≤ most) × (new ≡ after_reserve old n)
   StepReserve old n reply.TooGreat new = (most < used old + n) × (new ≡ old)
   StepReserve old n (reply.Memory back) new = MayLackRoom given.reuses old n × (back ≡ None) × (new ≡ old)
   StepReserve old n _ new = ⊥
 
-  -- what `look` may answer at k's value, exactly where k is live
+  -- what `look` may return for k's value, if and only if k is live
   abbrev pub StepGet : State V → Key → Reply K V R E → State V → Type 0
   StepGet old k (reply.Looked None) new = (map.get old.live k ≡ None) × (new ≡ old)
   StepGet old k (reply.Looked (Some r)) new = ((v : V) × (map.get old.live k ≡ Some v) × given.looks v r) × (new ≡ old)
@@ -73,33 +73,33 @@ module _ {K V R E : Type 0} (given : Given K V R E) where
   StepLen old (reply.Len n) new = (n ≡ map.len old.live) × (new ≡ old)
   StepLen old _ new = ⊥
 
-  -- where k is live, its value comes out and v is bound; else v comes back
+  -- if k is live, its value is returned and v is bound; else v is returned
   abbrev pub StepReplace : State V → Key → V → Reply K V R E → State V → Type 0
   StepReplace old k v (reply.Put (Ok before)) new = (map.get old.live k ≡ Some before) × (new ≡ after_replace old k v)
   StepReplace old k v (reply.Put (Err back)) new = (map.get old.live k ≡ None) × (back ≡ v) × (new ≡ old)
   StepReplace old k v _ new = ⊥
 
-  -- where k is live, its value comes out and k is live no longer; else none
+  -- if k is live, its value is returned and k is no longer live; else `None` is returned
   abbrev pub StepRemove : State V → Key → Reply K V R E → State V → Type 0
   StepRemove old k (reply.Taken (Some v)) new = (map.get old.live k ≡ Some v) × (new ≡ after_remove old k)
   StepRemove old k (reply.Taken None) new = (map.get old.live k ≡ None) × (new ≡ old)
   StepRemove old k _ new = ⊥
 
-  -- where k is live, its value comes out and k is detached; else none
+  -- if k is live, its value is returned and k is detached; else `None` is returned
   abbrev pub StepDetach : State V → Key → Reply K V R E → State V → Type 0
   StepDetach old k (reply.Taken (Some v)) new = (map.get old.live k ≡ Some v) × (new ≡ after_detach old k)
   StepDetach old k (reply.Taken None) new = (map.get old.live k ≡ None) × (new ≡ old)
   StepDetach old k _ new = ⊥
 
-  -- where k is detached, it is bound to v, or `Memory` has v, but only where old places may take memory and no
-  -- reattach is owed; else `NotDetached` has v
+  -- if k is detached, it is bound to v; or `Memory` has v, but only if existing slots may need memory and no reattach is
+  -- owed. If k isn't detached, `NotDetached` has v
   abbrev pub StepReattach : State V → Key → V → Reply K V R E → State V → Type 0
   StepReattach old k v reply.Done new = (set.contains old.detached k ≡ true) × (new ≡ after_reattach old k v)
   StepReattach old k v (reply.NotDetached back) new = (set.contains old.detached k ≡ false) × (back ≡ v) × (new ≡ old)
   StepReattach old k v (reply.Memory back) new = (given.reuses ≡ false) × (set.contains old.detached k ≡ true) × (old.promised ≡ 0) × (back ≡ Some v) × (new ≡ old)
   StepReattach old k v _ new = ⊥
 
-  -- at each live key `keep` leaves a value and answers whether the key stays: it has that value, or is live no longer
+  -- for each live key `keep` writes a value and returns whether the key stays: the key has that value, or is no longer live
   pub record Retains (old new : State V) : Type 0 where
     pub each : (k : Key) (v : V) → map.get old.live k ≡ Some v → (key : K) × (w : V) × (stays : Bool) × (given.data_of key ≡ k) × given.keeps key v w stays × (map.get new.live k ≡ (if stays then Some w else None))
     -- no other key becomes live
@@ -107,7 +107,7 @@ module _ {K V R E : Type 0} (given : Given K V R E) where
     -- the rest of the state is as before
     pub rest : new ≡ record old { live = new.live }
 
-  -- `keep` decides of each live key
+  -- `keep` decides for each live key
   abbrev pub StepRetain : State V → Reply K V R E → State V → Type 0
   StepRetain old reply.Done new = Retains old new
   StepRetain old _ new = ⊥
@@ -117,13 +117,13 @@ module _ {K V R E : Type 0} (given : Given K V R E) where
   StepClear old reply.Done new = new ≡ after_clear old
   StepClear old _ new = ⊥
 
-  -- each live key comes out with its value, once, and none is live any longer
+  -- each live key is returned with its value, once, and no key is live any longer
   abbrev pub StepDrain : State V → Reply K V R E → State V → Type 0
   StepDrain old (reply.Drained pairs) new = IsListing old.live (list_map (λ p. (given.data_of p.0, p.1)) pairs.items) × (new ≡ after_clear old)
   StepDrain old (reply.Memory back) new = (back ≡ None) × (new ≡ old)
   StepDrain old _ new = ⊥
 
-  -- each live key is answered, once
+  -- each live key is returned once
   abbrev pub StepKeys : State V → Reply K V R E → State V → Type 0
   StepKeys old (reply.Keys keys) new = IsKeyListing old.live (list_map given.data_of keys.items) × (new ≡ old)
   StepKeys old (reply.Memory back) new = (back ≡ None) × (new ≡ old)

@@ -1,9 +1,9 @@
--- What a walk has still to visit, in the vectors of slots. No public clause cites this module.
+-- What an iterator will still yield, in the vectors of slots. No public clause cites this module.
 use Rattle.std.specs.Prelude.{◌≡◌, ◌↔◌, ℕ, ◌+◌, ◌%◌, ◌^◌, ◌<◌, ◌≤◌, List, [], ◌∷◌, length, drop, Option, None, Some, IsSome, slice_get}
 use Rattle.slotmap_core.specs.Key.{Key}
 
 module _ {V : Type 0} where
-  -- the keys and values of these places, where the first has index i
+  -- the keys and values of these slots, the first of which has index i
   abbrev pub pairs_from : ℕ → List ℕ → List (Option V) → List (Key × V)
   pairs_from i [] values = []
   pairs_from i (v ∷ versions) [] = []
@@ -14,10 +14,10 @@ module _ {V : Type 0} where
   abbrev pub pairs_left : ℕ → List ℕ → List (Option V) → List (Key × V)
   pairs_left i versions values = pairs_from i (drop i versions) (drop i values)
 
-  -- a walk that comes to index i next, and to `left` values from there on
+  -- an iterator that is at index i, and yields `left` more pairs
   pub record IsWalk (versions : List ℕ) (values : List (Option V)) (i left : ℕ) : Type 0 where
     pub values_length : length values ≡ length versions
     pub fits : length versions < 2 ^ 32
-    -- a value stands exactly where the version is odd
+    -- there is a value if and only if the version is odd
     pub placed : (j v : ℕ) (value : Option V) → i ≤ j → slice_get versions j ≡ Some v → slice_get values j ≡ Some value → IsSome value ↔ v % 2 ≡ 1
     pub counted : left ≡ length (pairs_left i versions values)

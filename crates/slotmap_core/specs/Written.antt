@@ -1,4 +1,4 @@
--- The list of slots that a map is written as, and what a map holds that is read from it.
+-- The list of slots that a map is written as, and the content of a map that is read from it.
 use Rattle.std.specs.Prelude.{◌≡◌, ℕ, ◌+◌, ◌-◌, ◌%◌, ◌^◌, ◌≤◌, ◌↔◌, ◌⊎◌, true, false, List, [], ◌∷◌, length, slice_get, map as list_map, Some, None}
 use Rattle.std.specs.FinMap as map
 use Rattle.std.specs.FinSet as set
@@ -7,7 +7,7 @@ use Rattle.slotmap_core.specs.Content.{Content, IsDetached, IsRetired, IsVacant,
 use Rattle.slotmap_core.specs.Places.{Place, Live, Detached, Vacant, Retired}
 use Rattle.slotmap_core.specs.declared.serial.SlotRecord.{SlotRecord}
 
--- the version that follows one, in 32 bits: 0 follows the last one
+-- the version after one, in 32 bits: 0 follows the last one
 abbrev pub following_version : ℕ → ℕ
 following_version version = (version + 1) % 2 ^ 32
 
@@ -20,7 +20,7 @@ module _ {V : Type 0} where
   abbrev pub empty_slot : ℕ → SlotRecord V
   empty_slot version = record { value = None; version = version }
 
-  -- a map that holds c is written as this list: a slot for place 0, and one for each place from 1 on
+  -- a map with the content c is written as this list: a slot for place 0, and one for each place from 1 on
   pub record Writes (c : Content V) (slots : List (SlotRecord V)) : Type 0 where
     pub all : length slots ≡ places c + 1
     pub first : slice_get slots 0 ≡ Some (empty_slot 0)
@@ -31,7 +31,8 @@ module _ {V : Type 0} where
     -- each place from 1 on is one of these
     pub each : (i : ℕ) → 1 ≤ i → i ≤ places c → IsVacant c i ⊎ ((k : Key) × (k.index ≡ i) × Uses c k)
 
-  -- new is what a map holds that is read from the list that old is written as: the live keys are the same, and each detached key has left, so its place is vacant, or retired after the last version
+  -- new is the content of a map that is read from the list that old is written as. The live keys are the same. Each detached
+  -- key is gone: its place is vacant, or retired after the last version
   pub record Restores (old new : Content V) : Type 0 where
     pub live : new.live ≡ old.live
     pub detached : new.detached ≡ set.empty
@@ -56,6 +57,6 @@ module _ {V : Type 0} where
   read_slots [] = []
   read_slots (first ∷ rest) = empty_slot 0 ∷ rest
 
-  -- whenever a map that holds c is written as a list, it is this one
+  -- whenever a map with the content c is written as a list, it is this one
   abbrev pub WritesAlone : Content V → List (SlotRecord V) → Type 0
   WritesAlone c slots = (again : List (SlotRecord V)) → Writes c again → again ≡ slots
