@@ -19,7 +19,7 @@ pub record Content (V : Type 0) : Type 0 where
   pub stack : Option (List ℕ)
   -- this many inserts and reattaches can't run out of memory
   pub room : ℕ
-  -- there is memory for this many places
+  -- there is memory for this many keys; each map says what it counts
   pub capacity : ℕ
 
 -- by which a proof tells two contents apart

@@ -99,9 +99,10 @@ pub trait Primary<K: Key, V>: Sized {
         ensures value { IsTrue result ↔ map.len (content self.now).live ≡ 0 }
         ensures valid { IsContent REUSES (content self.now) };
 
-    /// Returns the number of slots for which memory is allocated.
+    /// Returns for how many keys memory is allocated.
     ///
-    /// It counts the slots of live, detached, vacant and retired keys together.
+    /// It is at least the number of live keys plus those that there is room for. Each map says what
+    /// it counts.
     ///
     /// ```
     /// let map: SlotMap<DefaultKey, u64> = SlotMap::with_capacity(alloc, 10)?;
