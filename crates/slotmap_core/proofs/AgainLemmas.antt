@@ -1,4 +1,4 @@
--- Calls after which a map holds again what it held.
+-- Calls after which a map holds what it held before.
 use Rattle.std.proofs.Common.{◌≡◌, ◌<◌, Bool, false, arith}
 use Rattle.std.specs.FinMap as map
 use Rattle.std.specs.FinSet as set
@@ -13,7 +13,7 @@ pub remove-insert_item : (s : set.FinSet key_cmp) (k : Key) → set.contains s k
 remove-insert_item s k none = set.same_set keys_total exact_keys _ _ (λ q. grind (arith, set.contains-remove keys_total, set.contains-insert keys_total, tied keys_total exact_keys q k))
 
 module _ {V : Type 0} {reuses : Bool} (old : Content V) (well : IsContent reuses old) where
-  -- the key that the next insert answers has no place yet
+  -- the key that the next insert returns has no place yet
   pub offer_unused : used old < most → Uses old old.offer → ⊥
   offer_unused below uses = grind (arith, well.offers below, well.used_or_vacant old.offer uses, well.within old.offer uses)
 
@@ -22,7 +22,7 @@ module _ {V : Type 0} {reuses : Bool} (old : Content V) (well : IsContent reuses
     pub live_removed_again : Inserts old k v mid → Removes mid k new → new.live ≡ old.live
     live_removed_again inserts removes = grind (arith, offer_unused inserts.below_limit, remove-insert old.live k v, remove_absent keys_total exact_keys old.live k)
 
-    -- a key that is detached and bound again
+    -- a key that is detached and bound to a value again
     pub live_bound_again : Detaches old k mid → Reattaches mid k v new → new.live ≡ map.insert old.live k v
     live_bound_again detaches binds = grind (arith, insert-remove old.live k v)
 

@@ -31,11 +31,11 @@ module _ {V : Type 0} where
   pub remove_stale : (m : map.FinMap key_cmp V) (k : Key) → map.get m k ≡ None → map.remove m k ≡ m
   remove_stale m k none = remove_absent keys_total exact_keys m k none
 
-  -- a key that is put in and taken out again, or the other way round
+  -- a key that is inserted and removed again, or the other way round
   pub remove-insert_new : (m : map.FinMap key_cmp V) (k : Key) (v : V) → map.contains_key m k ≡ false → map.remove (map.insert m k v) k ≡ m
   remove-insert_new m k v new = remove_inserted keys_total exact_keys m k v ∙ remove_absent keys_total exact_keys m k (none_of (map.get m k) new)
 
-  -- which keys are live then
+  -- which keys are live after an insert or a removal
   pub live-insert_here : (m : map.FinMap key_cmp V) (k : Key) (v : V) → map.contains_key (map.insert m k v) k ≡ true
   live-insert_here m k v = in_inserted keys_total exact_keys m k v
 
@@ -48,12 +48,12 @@ module _ {V : Type 0} where
   pub live-remove_other : (m : map.FinMap key_cmp V) (k q : Key) → q ≢ k → map.contains_key m q ≡ true → map.contains_key (map.remove m k) q ≡ true
   live-remove_other m k q other there = left_in keys_total exact_keys m k q other there
 
-  -- how many keys it has then
+  -- how many keys the map has after an insert or a removal
   pub len-insert_live : (m : map.FinMap key_cmp V) (k : Key) (v w : V) → map.get m k ≡ Some w → map.len (map.insert m k v) ≡ map.len m
   len-insert_live m k v w there = map.len-insert keys_total m k v ∙ ap (λ o. cond (is_some o) (map.len m) (map.len m + 1)) there
 
   module _ (reuses : Bool) (old : Content V) (k : Key) (v : V) (new : Content V) where
-    -- the key that an insert answers was not live
+    -- the key that an insert returns wasn't live
     pub inserted_fresh : IsContent reuses old → Inserts old k v new → map.contains_key old.live k ≡ false
     inserted_fresh well inserts = false_of (map.contains_key old.live k) (λ there.
         offer_unused old well inserts.below_limit (inl (inl (sym (ap (map.contains_key old.live) inserts.offered) ∙ there))))
@@ -61,7 +61,7 @@ module _ {V : Type 0} where
     pub inserted_len : IsContent reuses old → Inserts old k v new → map.len new.live ≡ map.len old.live + 1
     inserted_len well inserts = ap map.len inserts.live ∙ len_inserted keys_total exact_keys old.live k v (inserted_fresh well inserts)
 
-  -- the same in the forms that a tactic finds: for the maps that reuse their places with no memory, and for the others
+  -- the same in the forms that a tactic finds: for the maps that reuse their slots without allocating, and for the others
   module _ (old : Content V) (k : Key) (v : V) (new : Content V) where
     pub inserted_fresh-reuses : IsContent true old → Inserts old k v new → map.contains_key old.live k ≡ false
     inserted_fresh-reuses = inserted_fresh true old k v new

@@ -28,7 +28,7 @@ module _ {P : Type 0} where
   zip-within (v ∷ vs) (l ∷ ls) (x ∷ xs) (suc i) some = omega (arith, zip-within vs ls xs i some)
   zip-within vs ls xs i some = absurd (cc)
 
-  -- what the tactics need of three vectors of one length: their slots first, and what each read of the vectors says of these
+  -- What the tactics need of three vectors of one length: their slots first, then what each read of the vectors says of these
   pub zip-known : (vs : List ℕ) (ls : List Link) (xs : List (Option P)) → length ls ≡ length vs → length xs ≡ length vs → (zip_slots vs ls xs ≡ zip_slots vs ls xs) × (length (zip_slots vs ls xs) ≡ length vs)
       × ((i : ℕ) → version_at (zip_slots vs ls xs) i ≡ slice_get vs i)
       × ((i v : ℕ) → i < length vs → v ≡ get_or vs i v → version_at (zip_slots vs ls xs) i ≡ Some v)
@@ -62,7 +62,7 @@ module _ {P : Type 0} where
   zip-with_payload (v ∷ vs) (l ∷ ls) (x ∷ xs) (suc i) p = ap (λ ss. record { version = v; link = l; payload = x } ∷ ss) (zip-with_payload vs ls xs i p)
   zip-with_payload vs ls xs i p = refl
 
--- the same of vectors that hold slots, by what they hold
+-- the same for vectors that hold slots, by what they hold
 pub laid-length : {P : Type 0} {vs : List ℕ} {ls : List Link} {xs : List (Option P)} {n a b d : ℕ} → IsColumns vs ls xs n a b d → {l : Laid P} → record { slots = zip_slots vs ls xs; capacity = n } ≡ l → (length l.slots ≡ length vs) × (l.capacity ≡ n)
 laid-length {P} {vs} {ls} {xs} columns view = (ap (λ l. length l.slots) (sym view) ∙ zip-length vs ls xs columns.links_length columns.payloads_length, ap (λ l. l.capacity) (sym view))
 

@@ -1,4 +1,4 @@
--- What places and a stack that are well hold, as a content of a primary map.
+-- Well-formed places and stack, as the content of a primary map.
 use Rattle.std.proofs.Common.{◌≡◌, ◌⊎◌, ◌↔◌, inl, inr, ℕ, ◌+◌, ◌<◌, ◌≤◌, Bool, true, cond, nat_eq, List, [], ◌∷◌, length, slice_get, Option, None, Some, is_some, refl, sym, ap, subst, ◌∙◌, arith, eq-eqb}
 use Rattle.std.proofs.lemmas.Bool.Decides.{nat_tests}
 use Rattle.std.specs.List.{list_any}
@@ -86,7 +86,7 @@ module _ {V : Type 0} (m : StackMap V) (stacked : IsStacked m.places m.vacant) w
         top = λ below i rest starts. ap (λ vs. (offer m.places vs).index) (is ∙ starts);
       }
 
--- another value under a live key keeps a content well
+-- another value under a live key keeps a content well formed
 module _ {V : Type 0} (reuses : Bool) (c : Content V) (well : IsContent reuses c) (k : Key) (is_live : IsLive c k) (w : V) where
   same_len : map.len (map.insert c.live k w) ≡ map.len c.live
   same_len = map.len-insert keys_total c.live k w ∙ ap (λ b. cond b (map.len c.live) (map.len c.live + 1)) is_live

@@ -11,7 +11,7 @@ use Rattle.slotmap_core.proofs.GatherLemmas.{IsFinite, get-gather}
 use Rattle.slotmap_core.proofs.MapLaws.{live_laws, detached_laws, next_laws, is_marked}
 use Rattle.slotmap_core.proofs.PlacesLemmas.{key}
 
--- the element behind what a gathered map has at a key, and the other way round
+-- the element behind what a gathered map has at a key, and the converse
 module _ {P K X M : Type 0} {same_key : K → K → Bool} {empty : M} {get : M → K → Option X} {put : M → K × X → M} {remove : M → K → M} {len : M → ℕ} (laws : IsFinite same_key empty get put remove len) (index : K → ℕ) (entry : ℕ → P → Option (K × X)) (fits : (i : ℕ) (p : P) (e : K × X) → entry i p ≡ Some e → index e.0 ≡ i) where
   pub gathered : (ps : List P) (q : K) (x : X) → get (gather empty put entry 0 ps) q ≡ Some x → (p : P) × (slice_get ps (index q) ≡ Some p) × (entry (index q) p ≡ Some (q, x))
   gathered ps q x is = grind (arith, get-gather laws index entry fits ps q, laws.is_same)
@@ -26,7 +26,7 @@ pub vacant_is : (version : ℕ) → version % 2 ≡ 0 → version ≢ 0 → is_v
 vacant_is version even other = grind (arith, nat_tests)
 
 module _ {V : Type 0} where
-  -- the slot gives this key, and this value
+  -- the slot is that of this key and this value
   pub record LiveSlot (i : ℕ) (slot : SlotRecord V) (k : Key) (v : V) : Type 0 where
     pub odd : slot.version % 2 ≡ 1
     pub value : slot.value ≡ Some v
@@ -44,7 +44,7 @@ module _ {V : Type 0} where
   unfolding contents
   in_contents slots i slot v found odd valued = gathers live_laws (λ k. k.index) live_slot live_fits slots (key i slot.version) v slot found (grind (arith, nat_tests))
 
-  -- the slot is vacant, and this is the version that comes next
+  -- the slot is vacant, and this is the version of its next key
   pub record VacantSlot (i : ℕ) (slot : SlotRecord V) (next : ℕ) : Type 0 where
     pub positive : 0 < i
     pub even : slot.version % 2 ≡ 0
@@ -69,7 +69,7 @@ module _ {V : Type 0} where
   unfolding start_next
   in_start_next slots i slot found positive even other = gathers next_laws (λ i. i) vacant_slot vacant_fits slots i (slot.version + 1) slot found (slot_vacant i slot positive even other)
 
-  -- the slot is used up, and this was the last key there
+  -- the slot is retired, and this was the last key there
   pub record RetiredSlot (i : ℕ) (slot : SlotRecord V) (k : Key) : Type 0 where
     pub positive : 0 < i
     pub spent : slot.version ≡ 0
@@ -88,7 +88,7 @@ module _ {V : Type 0} where
   in_start_retired slots i slot found positive spent =
       sym (is_marked _) ∙ ap is_some (gathers detached_laws (λ k. k.index) retired_slot retired_fits slots (key i last_version) tt slot found (grind (arith, nat_tests)))
 
-  -- the slot shows that this key was the last one issued at its index
+  -- the slot shows that this key was the last one made at its index
   pub record IssuedSlot (i : ℕ) (slot : SlotRecord V) (k : Key) : Type 0 where
     pub positive : 0 < i
     pub is : k ≡ key i (last_issued slot.version)

@@ -1,4 +1,4 @@
--- How values are put under several live keys, one after another: the contents of a map are one kind of what SeveralLemmas speaks of.
+-- Several live keys get new values, one after another. The contents of a map are one case of SeveralLemmas.
 use Rattle.std.proofs.Common.{◌≡◌, ◌↔◌, ℕ, ◌+◌, ◌<◌, Bool, true, false, List, ◌∷◌, length, get_or, set, take, drop, Option, Some, is_some, map as map_list, refl, sym, ap, ◌∙◌}
 use Rattle.std.specs.List.{list_any}
 use Rattle.std.specs.FinMap as map
@@ -26,12 +26,12 @@ module _ {V : Type 0} where
   values_as_several c (k ∷ ks) (v ∷ vs) = values_as_several (with_value c k v) ks vs
   values_as_several c ks vs = refl
 
-  -- the memory stays
+  -- the capacity stays
   pub capacity-with_values : (c : Content V) (ks : List Key) (vs : List V) → (with_values c ks vs).capacity ≡ c.capacity
   capacity-with_values c (k ∷ ks) (v ∷ vs) = capacity-with_values (with_value c k v) ks vs
   capacity-with_values c ks vs = refl
 
-  -- the values under the keys below i were exchanged, and the others are as they were
+  -- the values of the keys below i were exchanged, and the others are as they were
   pub record Exchanged (old : Content V) (ks : List Key) (vs : List V) (now : Content V) (ws : List V) (i : ℕ) : Type 0 where
     pub can : CanReplace old ks
     pub long : length ws ≡ length vs
@@ -47,7 +47,7 @@ module _ {V : Type 0} (old : Content V) (ks : List Key) (vs : List V) (now : Con
   pub next_live : (d : Key) → i < length ks → IsLive now (get_or ks i d)
   next_live = each.next_there look with_value writes old ks vs now ws i exchanged
 
-  -- the value at place i was put under the key there, and w came out
+  -- the value at position i was put under the key there, and w is the old value
   pub Exchanged-step : (k : Key) (v w : V) → length ks ≡ length vs → i < length ks → k ≡ get_or ks i k → v ≡ get_or ws i v → map.get now.live k ≡ Some w → Exchanged old ks vs (with_value now k v) (set ws i w) (i + 1)
   Exchanged-step k v w even within key value was =
       let step = each.Exchanged-step look with_value writes old ks vs now ws i exchanged k v w even within key value was in
@@ -60,7 +60,7 @@ module _ {V : Type 0} (old : Content V) (ks : List Key) (vs : List V) (now : Con
         well = IsContent-with_value true now done.well k (ap is_some was) v;
       }
 
--- a look at keys of any type, one after another
+-- keys of any type are looked at, one after another
 module _ {V K : Type 0} (c : Content V) (data_of : K → Key) (ks : List K) (i : ℕ) (k : K) (within : i < length ks) (at : k ≡ get_or ks i k) where
   pub refuses_absent : map.contains_key c.live (data_of k) ≡ false → CanReplace c (map_list data_of ks) → ⊥
   refuses_absent absent can = each.refuses_absent look c data_of ks i k within at absent (as_several c (map_list data_of ks) can)

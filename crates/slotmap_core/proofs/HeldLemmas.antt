@@ -1,4 +1,4 @@
--- What calls know of slots by what the map holds.
+-- What calls know of slots, by what the map holds.
 use Rattle.std.proofs.Common.{◌≡◌, ℕ, ◌+◌, ◌-◌, ◌<◌, ◌≤◌, ◌^◌, ◌%◌, min, true, List, length, set, slice_get, Some, None, option_map, is_some, refl, sym, ap, subst, ◌∙◌, arith}
 use Rattle.std.proofs.lemmas.List.{length-set}
 use Rattle.std.proofs.lemmas.Option.{slice_get_within}
@@ -23,7 +23,7 @@ module _ {P : Type 0} (slots : List (Slot P)) (fits head free count : ℕ) (held
   pub held_present : (k : Key) → IsLive now k → Present slots head free count held.sound k
   held_present k is_live = present slots head free count held.sound k (ap (λ c. map.contains_key c.live k) view ∙ is_live)
 
-  -- what is read at the index of a live key is its value
+  -- the payload that is read at the index of a live key is its value
   pub held_value : (k : Key) → IsLive now k → (i : ℕ) → i ≡ k.index → (x : P) → payload_at slots i ≡ Some x → map.get now.live k ≡ Some x
   held_value k is_live i at x read =
       let found = held_present k is_live in
@@ -47,12 +47,12 @@ module _ {P : Type 0} (slots : List (Slot P)) (fits head free count : ℕ) (held
   pub held_fits : length slots < 2 ^ 32
   held_fits = slots_fit slots head free count held.sound
 
-  -- where n keys more fit the limit and not the memory, there is no room for them
+  -- if n more keys fit the limit and not the memory, there is no room for them
   pub held_lacks : (n : ℕ) → n + used now ≤ most → now.capacity < n + used now → now.room < n
   held_lacks n few more =
       omega (arith, ap used (sym view), ap (λ c. c.room) (sym view), ap (λ c. c.capacity) (sym view), taken-slots slots head free count held.sound, held.holds)
 
-  -- where a place is vacant, or a slot more fits, there is room
+  -- if a place is vacant, or one more slot fits, there is room
   pub held_reuses : 0 < free → 0 < now.room
   held_reuses positive = omega (arith, ap (λ c. c.room) (sym view), taken-slots slots head free count held.sound, held.holds, held_fits)
 
@@ -65,7 +65,7 @@ module _ {P : Type 0} (slots : List (Slot P)) (fits head free count : ℕ) (held
       let there = live_slot slots head free count held.sound i v found odd in
       ap (λ c. map.contains_key c.live (key i v)) (sym view) ∙ ap is_some (get-live_slot slots head free count held.sound (key i v) there.0 there.1)
 
-  -- no live key stands where no version is odd
+  -- no live key is between two indices if no version there is odd
   pub held_passed : (start end : ℕ) → NoneLive slots start end → (q : Key) → IsLive now q → start ≤ q.index → end ≤ q.index
   held_passed start end passed q is_live from =
       let found = held_present q is_live in
@@ -78,7 +78,7 @@ module _ {P : Type 0} (slots : List (Slot P)) (fits head free count : ℕ) (held
       let past = past_end slots end (mapped_none (λ s. s.version) (slice_get slots end) ended) in
       grind (arith, held_passed start end passed q is_live)
 
--- what is held after a call that asks for no memory
+-- what is held after a call that allocates nothing
 pub held_stays : {P : Type 0} (slots : List (Slot P)) (fits head free count : ℕ) → IsHeld slots fits head free count → {now : Content P} → content (map_of slots head free (fits - 1)) ≡ now
     → (slots2 : List (Slot P)) (fits2 head2 free2 count2 : ℕ) → IsHeld slots2 fits2 head2 free2 count2 → fits2 ≡ fits → StaysValid true now (content (map_of slots2 head2 free2 (fits2 - 1)))
 held_stays slots fits head free count held view slots2 fits2 head2 free2 count2 after same = record {
@@ -96,7 +96,7 @@ pub with_payload-held : {P : Type 0} (slots : List (Slot P)) (fits head free cou
 with_payload-held slots fits head free count held i v x there w =
     rw (with_payload-is slots head free count held.sound i v x there w) (held-set slots fits head free count held i (full v w) (rewritten slots head free count held.sound i v x there w).sound)
 
--- where there is room for n keys more, nothing has to be asked for
+-- if there is room for n more keys, nothing has to be allocated
 pub room_had : {P : Type 0} (c : Content P) (n : ℕ) (ok : Type 0) → ok → IsContent true c → n ≤ c.room → MakesRoom true c n ok c
 room_had c n ok is well room = record {
   before = well;
@@ -110,7 +110,7 @@ room_had c n ok is well room = record {
   capacity = omega arith;
 }
 
--- room for n keys more was asked for, which there wasn't, and granted or not
+-- room for n more keys had to be allocated, and was allocated or not
 pub grown : {P : Type 0} (slots : List (Slot P)) (fits head free count : ℕ) → IsHeld slots fits head free count → {now : Content P} → content (map_of slots head free (fits - 1)) ≡ now
     → (more : ℕ) → fits ≤ more → (n : ℕ) (ok : Type 0) → now.room < n → (ok → (used now + n ≤ most) × (used now + n + 1 ≤ more)) → MakesRoom true now n ok (content (map_of slots head free (more - 1)))
 grown slots fits head free count held {now} view more on n ok none enough =

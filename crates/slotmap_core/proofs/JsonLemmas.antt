@@ -1,4 +1,4 @@
--- Lists that go along with one another an element further, and what one element of an array is read as.
+-- Lists that agree with one another for one more element, and what one element of an array is read as.
 use Rattle.std.proofs.Common.{◌≡◌, ℕ, suc, ◌+◌, ◌<◌, drop-cons, add-one, List, [], ◌∷◌, ◌++◌, length, get_or, take, drop, map, Result, Ok, Err, IsOk, IfOk, Option, Some, inr, sym, ap, ◌∙◌, arith}
 use Rattle.std.proofs.lemmas.List.{take_more, map_more, map_push, map-append, take-append-drop}
 use Rattle.std.proofs.lemmas.Slice.Zip.{all_zipped_more}
@@ -13,7 +13,7 @@ use Rattle.slotmap_core.specs.declared.errors.JsonError.TheVariants.{Shape, Memo
 use Rattle.slotmap_core.specs.declared.errors.OutOfMemory.{OutOfMemory}
 use Rattle.slotmap_core.specs.declared.serial.SlotRecord.{SlotRecord}
 
--- one more of xs goes with one more value
+-- one more element of xs agrees with one more value
 pub goes_further : {A : Type 0} (R : A → Data → Type 0) (xs : List A) (before after : List Value) (i : ℕ) (x : A) (y : Value) → i < length xs → x ≡ get_or xs i x → AllZip R (take i xs) (map view before) → R x (view y)
     → after ≡ before ++ y ∷ [] → AllZip R (take (i + 1) xs) (map view after)
 goes_further {A} R xs before after i x y within read so_far here pushed =
@@ -23,7 +23,7 @@ goes_further {A} R xs before after i x y within read so_far here pushed =
 pub slot_json_given : {V : Type 0} (gives : V → Data → Type 0) (slot : SlotRecord V) (v : V) (x : Data) (r : Result Value OutOfMemory) → slot.value ≡ Some v → gives v x → IfOk r (λ y. view y ≡ slot_json x slot.version) → IfOk r (λ y. IsSlotJson gives slot (view y))
 slot_json_given gives slot v x r is given h = grind arith
 
--- the answer of an element that has a value
+-- the result of reading an element that has a value
 pub reads_value : {V : Type 0} (reads : Data → Result V JsonError → Type 0) (d x : Data) (version : ℕ) (read : Result V JsonError) (r : Result (SlotRecord V) JsonError) (u : Option ℕ) → u ≡ version_at d → u ≡ Some version → value_at d ≡ Some x → reads x read → r ≡ ok_map (λ v. record { value = Some v; version = version }) read → ReadsSlot reads d r
 reads_value reads d x version read r u looked versioned valued reading is = rw (sym looked ∙ versioned, valued) (read, reading, is)
 
@@ -35,11 +35,11 @@ parted vs i x within read =
     let rest : drop i vs ≡ x ∷ drop (i + 1) vs = rw (add-one i) (drop-cons vs i x within ∙ ap (λ z. z ∷ drop (suc i) vs) (sym read)) in
     ap (map view) (sym (take-append-drop i vs) ∙ ap (λ zs. take i vs ++ zs) rest) ∙ map-append view (take i vs) (x ∷ drop (i + 1) vs)
 
--- memory was lacking, so it was asked for
+-- memory ran out, so some was needed
 pub some_asked : {A E : Type 0} (n : ℕ) (r : Result A E) (e : E) → (n ≡ 0 → IsOk r) → r ≡ Err e → 0 < n
 some_asked n r e succeeds is = grind arith
 
--- an array of which there is an element has elements
+-- an array with one element or more has elements
 pub has_elements : (d : Data) (vs : List Value) → Some (items_view vs) ≡ as_array d → 0 < length vs → HasElements d
 has_elements d [] listed some = absurd (omega arith)
 has_elements d (v ∷ vs) listed some = (view v, map view vs, is_array d (items_view (v ∷ vs)) listed)
@@ -51,7 +51,7 @@ module _ {V : Type 0} (reads : Data → Result V JsonError → Type 0) where
   reads_further vs slots after i x slot within read so_far here pushed =
       rw (pushed, map_more view vs i x within, ← read) (all_zipped_more (λ d s. ReadsSlot reads d (Ok s)) (map view (take i vs)) slots (view x) slot so_far here)
 
-  -- an element is refused
+  -- an element fails to be read
   pub refuses_at : (d : Data) (vs : List Value) (slots : List (SlotRecord V)) (i : ℕ) (x : Value) (e : JsonError) → Some (items_view vs) ≡ as_array d → i < length vs → x ≡ get_or vs i x → ReadsAll reads (map view (take i vs)) slots
       → ReadsSlot reads (view x) (Err e) → IsRefused reads d e
   refuses_at d vs slots i x Shape listed within read so_far here =

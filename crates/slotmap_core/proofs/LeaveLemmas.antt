@@ -1,4 +1,4 @@
--- How keys leave, one after the other.
+-- Keys are removed, one after the other.
 use Rattle.std.proofs.Common.{⊎_elim, ◌≡◌, ℕ, ◌+◌, ◌≤◌, Bool, true, false, cond, not, ◌&&◌, inl, inr, Some, None, is_some, true≢false, refl, sym, ap, ◌∙◌, arith}
 use Rattle.std.specs.Ordering.{eq_by_cmp}
 use Rattle.std.proofs.lemmas.Cmp.{nat_cmp_total}
@@ -23,7 +23,7 @@ module _ {V : Type 0} where
   pub has_left_if : (old new : Content V) (k : Key) → IsLive old k → (IsLive new k → ⊥) → has_left old new k ≡ true
   has_left_if old new k was gone = ap (λ b. b && not (map.contains_key new.live k)) was ∙ not_of (map.contains_key new.live k) gone
 
-  -- where the same keys are live, none has left
+  -- if the same keys are live, none was removed
   Leaves-same : (a b : Content V) → ((q : Key) → map.contains_key b.live q ≡ map.contains_key a.live q) → map.len b.live ≡ map.len a.live → b.detached ≡ a.detached → b.retired ≡ a.retired → b.next ≡ a.next → a.room ≤ b.room → Leaves a b
   Leaves-same a b live len detached retired next room = record {
     no_more = λ q there. sym (live q) ∙ there;
@@ -74,7 +74,7 @@ module _ {V : Type 0} where
       by {i} {v} k left other index version false gone =
           (second.next i v).1 (inl ((first.next i v).1 (inr (k, has_left_if a b k (was_live a c k left) (λ there. absurd (true≢false (sym there ∙ gone))), other, index, version))))
 
-  -- what is live once k has left
+  -- what is live once k is removed
   pub get_left : (b c : Content V) (k : Key) → Removes b k c → (q : Key) → map.get c.live q ≡ cond (eq_by_cmp key_cmp q k) None (map.get b.live q)
   get_left b c k removes q = ap (λ m. map.get m q) removes.live ∙ map.get-remove keys_total b.live k q
 
@@ -82,7 +82,7 @@ module _ {V : Type 0} where
   live_no_more b c k removes = ap is_some (get_left b c k removes k ∙ ap (λ t. cond t None (map.get b.live k)) (itself keys_total exact_keys k))
 
   module _ (reuses : Bool) (b : Content V) (well : IsContent reuses b) (k : Key) (is_live : IsLive b k) (c : Content V) (removes : Removes b k c) where
-    -- a removal is a key that leaves
+    -- a removal removes one key
     pub Leaves-removes : Leaves b c
     Leaves-removes = record {
       no_more = λ q there. (in_after_remove keys_total exact_keys b.live k q (sym (ap (λ m. map.contains_key m q) removes.live) ∙ there)).1;

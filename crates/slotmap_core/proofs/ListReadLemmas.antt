@@ -1,4 +1,4 @@
--- Slots as a list is read into them, and the list that they are written as.
+-- The slots that a list is read into, and the list that they are written as.
 use Rattle.std.proofs.Common.{◌≡◌, ◌≢◌, ℕ, ◌+◌, ◌^◌, ◌<◌, ◌≤◌, Bool, cond, List, [], ◌∷◌, ◌++◌, length, take, slice_get, Option, None, Some, option_map, is_some, refl, sym, ap, subst, ◌∙◌, arith}
 use Rattle.std.proofs.lemmas.Bool.Decides.{nat_tests}
 use Rattle.std.proofs.lemmas.Grind.{common_steps}
@@ -44,7 +44,7 @@ module _ {P : Type 0} where
   record_is : (s : Slot P) → IsSlot s → s.version < 2 ^ 32 → slot_of (place_of s) ≡ record { value = s.payload; version = s.version }
   record_is s slot fits = grind (arith, nat_tests)
 
-  -- a loop that writes the records in order comes to the next one
+  -- a loop that writes the records in order goes on to the next one
   pub records-next : (slots : List (Slot P)) → ((i : ℕ) (s : Slot P) → slice_get slots i ≡ Some s → IsSlot s) → (i : ℕ) (made : SlotRecord P) → version_at slots i ≡ Some made.version → payload_at slots i ≡ made.value → made.version < 2 ^ 32
       → take (i + 1) (slots_of (places_of slots)) ≡ take i (slots_of (places_of slots)) ++ made ∷ []
   records-next slots each i made version value fits =
@@ -81,7 +81,7 @@ AreRead-first {V} first =
     }
 
 module _ {V : Type 0} (records : List (SlotRecord V)) (slots : List (Slot V)) (head free count : ℕ) (read : AreRead records slots head free count) (made : SlotRecord V) (consistent : IsConsistent made) where
-  -- one record more, which becomes this slot, and after which these indices are vacant
+  -- one more record, which becomes this slot, and after which these indices are vacant
   one_more : 0 < length records → (s : Slot V) (stack : List ℕ) (head2 free2 count2 : ℕ) → start_stack (records ++ made ∷ []) ≡ stack → IsSlot s → place_of s ≡ start_place made
       → IsFreeList (slots ++ s ∷ []) stack head2 → length stack ≡ free2 → count + cond (is_some (live_entry (length (places_of slots)) (place_of s))) 1 0 ≡ count2
       → AreRead (records ++ made ∷ []) (slots ++ s ∷ []) head2 free2 count2
@@ -96,24 +96,24 @@ module _ {V : Type 0} (records : List (SlotRecord V)) (slots : List (Slot V)) (h
         places = pushed ∙ ap (λ ps. ps ++ place_of s ∷ []) read.places ∙ ap (λ p. start_places records ++ p ∷ []) same ∙ sym (start_places-push records made some);
       }
 
-  -- one that isn't vacant leaves the free list as it is
+  -- a record that isn't that of a vacant slot leaves the free list as it is
   not_free : 0 < length records → (s : Slot V) (count2 : ℕ) → vacant_slot (length records) made ≡ None → IsSlot s → place_of s ≡ start_place made
       → count + cond (is_some (live_entry (length (places_of slots)) (place_of s))) 1 0 ≡ count2 → AreRead (records ++ made ∷ []) (slots ++ s ∷ []) head free count2
   not_free some s count2 none slot same =
       one_more some s (start_stack records) head free count2 (rw none at (start_stack-push records made)) slot same (IsFreeList-push slots s (start_stack records) head read.linked) read.counted
 
-  -- a record with a value gives a live place
+  -- a record with a value becomes a live place
   pub AreRead-live : 0 < length records → (v : V) → made.value ≡ Some v → AreRead (records ++ made ∷ []) (slots ++ full made.version v ∷ []) head free (count + 1)
   AreRead-live some v valued =
       let odd = odd_of made consistent v valued in
       not_free some (full made.version v) (count + 1) (grind (arith, nat_tests)) (IsSlot-full made.version v odd) (rw valued) refl
 
-  -- one of version 0 without a value gives a place that is used up
+  -- a record of version 0 without a value becomes a retired place
   pub AreRead-retired : 0 < length records → made.value ≡ None → made.version ≡ 0 → AreRead (records ++ made ∷ []) (slots ++ empty 0 Retired ∷ []) head free count
   AreRead-retired some none spent =
       not_free some (empty 0 Retired) count (grind (arith, nat_tests)) (IsSlot-empty 0 Retired refl (λ e. absurd (cc)) (λ _. refl)) (rw (none, spent)) (omega arith)
 
-  -- any other gives a vacant place, the first of the free list from then on
+  -- any other becomes a vacant place, the first of the free list
   pub AreRead-vacant : 0 < length records → made.value ≡ None → made.version ≢ 0 → AreRead (records ++ made ∷ []) (slots ++ empty made.version (Free head) ∷ []) (length slots) (free + 1) count
   AreRead-vacant some none unspent =
       let s = empty made.version (Free head) in
@@ -123,12 +123,12 @@ module _ {V : Type 0} (records : List (SlotRecord V)) (slots : List (Slot V)) (h
       (IsSlot-empty made.version (Free head) even (λ e. absurd (cc)) (λ e. absurd (cc))) (sym (vacant_place made consistent even unspent))
       (read.length_is, (head, ap (option_map (λ s. s.link)) there, IsFreeList-push slots s (start_stack records) head read.linked)) (omega (arith, read.counted)) (omega arith)
 
--- the record that comes next in an accepted list
+-- the next record of an accepted list
 pub next_consistent : {V : Type 0} (records before after : List (SlotRecord V)) (made : SlotRecord V) (limit : ℕ) → Accepts records limit → before ++ made ∷ after ≡ records → IsConsistent made
 next_consistent records before after made limit accepted whole =
     grind (arith, common_steps, accepted.consistent (length before) made, slice_get-get_or records (length before) made)
 
--- the first element that a walk takes out, where there is one
+-- the first element that an iterator yields, if there is one
 pub taken_first : {X : Type 0} (items rest : List X) (len left : ℕ) (taken : Option X) → MatchOption taken ((len ≡ 0) × (left ≡ 0)) (λ x. (items ≡ x ∷ rest) × (left + 1 ≡ len)) → 0 < len → (x : X) × (items ≡ x ∷ rest) × (left + 1 ≡ len)
 taken_first items rest len left taken steps some = grind arith
 

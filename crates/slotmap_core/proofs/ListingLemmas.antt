@@ -1,4 +1,4 @@
--- Listings that grow an entry at a time, and what a listing says of each key.
+-- Listings that grow by one entry at a time, and what a listing says of each key.
 use Rattle.std.proofs.Common.{◌≡◌, ℕ, zero, suc, ◌+◌, ◌<◌, ◌≤◌, true, false, List, [], ◌∷◌, ◌++◌, length, get_or, map as list_map, Some, None, All, Contains, inl, inr, refl, sym, ap, ◌∙◌, arith}
 use Rattle.std.proofs.lemmas.Bool.{cases_Bool}
 use Rattle.std.specs.Option.{option_or}
@@ -31,7 +31,7 @@ module _ {V : Type 0} where
   pub remove-insert : (m : map.FinMap key_cmp V) (k : Key) (w : V) → map.remove (map.insert m k w) k ≡ map.remove m k
   remove-insert m k w = map.same_map keys_total exact_keys _ _ (λ q. grind (arith, map.get-insert {X = V} keys_total, map.get-remove {X = V} keys_total))
 
-  -- an entry whose key isn't in the list may be put in, or taken out, before the list
+  -- an entry whose key isn't in the list may be inserted or removed before the list
   pub insert-with_entries : (m : map.FinMap key_cmp V) (es : List (Key × V)) (k : Key) (w : V) → find key_cmp k es ≡ None → map.insert (with_entries m es) k w ≡ with_entries (map.insert m k w) es
   insert-with_entries m es k w none = map.same_map keys_total exact_keys _ _ (λ q.
       grind (arith, map.get-insert {X = V} keys_total, get-with_entries m es q, get-with_entries (map.insert m k w) es q, tied keys_total exact_keys q k))
@@ -44,7 +44,7 @@ module _ {V : Type 0} where
   len-with_entries m [] = omega arith
   len-with_entries m (e ∷ es) = grind (arith, map.len-insert keys_total (with_entries m es) e.0 e.1, len-with_entries m es)
 
-  -- no key stands twice, if the list makes the map so much longer
+  -- no key is there twice, if the list makes the map longer by its length
   pub fresh_first : (m : map.FinMap key_cmp V) (e : Key × V) (es : List (Key × V)) → length (e ∷ es) + map.len m ≡ map.len (with_entries m (e ∷ es)) → (map.contains_key (with_entries m es) e.0 ≡ false) × (length es + map.len m ≡ map.len (with_entries m es))
   fresh_first m e es once = grind (arith, map.len-insert keys_total (with_entries m es) e.0 e.1, len-with_entries m es)
 
@@ -56,7 +56,7 @@ module _ {V : Type 0} where
   pub unlisted : (m : map.FinMap key_cmp V) (es : List (Key × V)) (rest : map.FinMap key_cmp V) (k : Key) → IsListingBut m es rest → map.contains_key rest k ≡ true → find key_cmp k es ≡ None
   unlisted m es rest k listing there = apart_from rest es k (listing.once ∙ ap map.len (sym listing.all)) there
 
-  -- nor is a key at which the rest and the map say the same
+  -- nor is a key for which the rest and the map say the same
   pub unlisted_where_same : (m : map.FinMap key_cmp V) (es : List (Key × V)) (rest : map.FinMap key_cmp V) (k : Key) → IsListingBut m es rest → map.get rest k ≡ map.get m k → find key_cmp k es ≡ None
   unlisted_where_same m es rest k listing same = grind (arith, unlisted m es rest k listing, get-with_entries rest es k, listing.all)
 
@@ -69,7 +69,7 @@ module _ {V : Type 0} where
       let kept = insert-remove rest k v ∙ insert_same keys_total exact_keys rest k v found in
       grind (arith, with_entries_push (map.remove rest k) es (k, v), kept, length_push es (k, v), len_removed keys_total exact_keys rest k)
 
-  -- an entry that was taken out before is listed first
+  -- an entry that was removed before is listed first
   pub IsListingBut-first : (m rest : map.FinMap key_cmp V) (es : List (Key × V)) (k : Key) (v : V) → map.get m k ≡ Some v → IsListingBut (map.remove m k) es rest → IsListingBut m ((k, v) ∷ es) rest
   IsListingBut-first m rest es k v found listing = grind (arith, insert-remove m k v, insert_same keys_total exact_keys m k v found, len_removed keys_total exact_keys m k)
 
@@ -93,7 +93,7 @@ module _ {V : Type 0} where
     | inr other ↦ let there = contained es k v (rw other at found) in (suc there.0, omega (arith, there.1), there.2)
   ]
 
-  -- a live key stands in each listing, with its value
+  -- a live key is in each listing, with its value
   pub listed : (m : map.FinMap key_cmp V) (es : List (Key × V)) (k : Key) (v : V) → IsListing m es → map.get m k ≡ Some v → Contains es (k, v)
   listed m es k v listing found = contained es k v (sym (map.get-from_entries keys_total es k) ∙ ap (λ n. map.get n k) listing.all ∙ found)
 
@@ -103,7 +103,7 @@ module _ {V : Type 0} where
   found_at (e ∷ es) (suc i) d once within =
       grind (arith, fresh_first map.empty e es once, found_at es i d, get-with_entries map.empty es e.0, tied keys_total exact_keys (get_or es i d).0 e.0)
 
-  -- what stands in a listing is a live key with its value
+  -- what is in a listing is a live key with its value
   pub all_live : (m : map.FinMap key_cmp V) (es : List (Key × V)) → IsListing m es → All (λ e. map.get m e.0 ≡ Some e.1) es
   all_live m es listing i d within =
       grind (arith, map.get-from_entries keys_total es (get_or es i d).0, with_entries-empty es, map.len-empty key_cmp V, found_at es i d)

@@ -1,4 +1,4 @@
--- Finite maps and sets meet the laws that gathering rests on.
+-- Finite maps and sets satisfy the laws that gathering relies on.
 use Rattle.std.proofs.Common.{◌≡◌, ℕ, Bool, cond, ◌==◌, Ordering, Option, None, Some, is_some, sym, ap, ◌∙◌, nat_cmp, arith}
 use Rattle.std.proofs.lemmas.Bool.Decides.{nat_tests}
 use Rattle.std.proofs.lemmas.Cmp.{nat_cmp_total}

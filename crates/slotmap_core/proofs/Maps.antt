@@ -1,4 +1,4 @@
--- Finite maps whose keys are numbers or keys: what holds after a change holds before, or is the change.
+-- Finite maps from numbers or keys: what holds after a change held before, or is the change.
 use Rattle.std.proofs.Common.{◌≡◌, ◌≢◌, ◌+◌, ◌≤◌, Option, Some, None, Bool, true, false, not, ◌⊎◌, inl, inr, sym, ◌∙◌, subst, ap, arith, is_some}
 use Rattle.std.specs.declared.cmp.Ordering.{Ordering}
 use Rattle.std.specs.Cmp.{IsTotalOrder}
@@ -33,14 +33,14 @@ module _ {K X : Type 0} {R : K → K → Ordering} (total : IsTotalOrder R) (exa
   pub get_removed : (m : map.FinMap R X) (k : K) → map.get (map.remove m k) k ≡ None
   get_removed m k = grind (arith, map.get-remove total m k k, itself total exact k)
 
-  -- other keys find what they found
+  -- other keys find the same as before
   pub get_other : (m : map.FinMap R X) (k : K) (v : X) (q : K) → q ≢ k → map.get (map.insert m k v) q ≡ map.get m q
   get_other m k v q other = grind (arith, map.get-insert total m k v q, tied total exact q k)
 
   pub get_left : (m : map.FinMap R X) (k q : K) → q ≢ k → map.get (map.remove m k) q ≡ map.get m q
   get_left m k q other = grind (arith, map.get-remove total m k q, tied total exact q k)
 
-  -- maps that agree at one key and at all others are one
+  -- maps that agree at one key and at all others are equal
   pub same_at : (m n : map.FinMap R X) (k : K) → map.get m k ≡ map.get n k → ((q : K) → q ≢ k → map.get m q ≡ map.get n q) → m ≡ n
   same_at m n k here elsewhere = map.same_map total exact m n (λ q. elim (alike_or_apart total exact q k) [ inl same ↦ subst (λ x. map.get m x ≡ map.get n x) (sym same) here | inr other ↦ elsewhere q other ])
 
@@ -65,11 +65,11 @@ module _ {K X : Type 0} {R : K → K → Ordering} (total : IsTotalOrder R) (exa
   pub in_inserted : (m : map.FinMap R X) (k : K) (v : X) → map.contains_key (map.insert m k v) k ≡ true
   in_inserted m k v = ap is_some (get_inserted m k v)
 
-  -- what was there still is, after an insert
+  -- what was there is still there after an insert
   pub still_in : (m : map.FinMap R X) (k : K) (v : X) (q : K) → map.contains_key m q ≡ true → map.contains_key (map.insert m k v) q ≡ true
   still_in m k v q h = grind (arith, map.get-insert total m k v q)
 
-  -- what was there and isn't the one removed still is
+  -- what was there is still there after the removal of another key
   pub left_in : (m : map.FinMap R X) (k q : K) → q ≢ k → map.contains_key m q ≡ true → map.contains_key (map.remove m k) q ≡ true
   left_in m k q other h = grind (arith, map.get-remove total m k q, tied total exact q k)
 

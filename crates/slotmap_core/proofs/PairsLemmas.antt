@@ -1,4 +1,4 @@
--- What a walk over the vectors of slots visits.
+-- What an iterator over the vectors of slots yields.
 use Rattle.std.proofs.Common.{◌≡◌, ℕ, zero, suc, ◌+◌, ◌-◌, ◌<◌, ◌≤◌, ◌%◌, ◌^◌, List, [], ◌∷◌, length, set, drop, slice_get, Option, Some, None, IsSome, ◌↔◌, refl, sym, ap, subst, ◌∙◌, arith}
 use Rattle.std.proofs.lemmas.Option.{slice_get_within, get_or_from_slice_get}
 use Rattle.std.proofs.lemmas.List.{length-set, length-drop, drop_more, drop-set-lt}
@@ -43,7 +43,7 @@ module _ {V : Type 0} (vs : List ℕ) (ls : List Link) (xs : List (Option V)) (s
     counted = sym sound.live_counted ∙ map.len-entries (live (places_of (zip_slots vs ls xs))) ∙ ap length (sym pairs-entries);
   }
 
--- a walk from the first place of vectors that are these slots, and visits the entries of the map
+-- an iterator from the first place of the vectors of these slots; it yields the entries of the map
 pub walk_from : {V : Type 0} {slots : List (Slot V)} {head free count : ℕ} → IsSound slots head free count → (vs : List ℕ) (xs : List (Option V))
     → ((ls : List Link) × (length ls ≡ length vs) × (length xs ≡ length vs) × (zip_slots vs ls xs ≡ slots)) → IsWalk vs xs 0 count × (pairs_left 0 vs xs ≡ map.entries (live (places_of slots)))
 walk_from {V} {slots} {head} {free} {count} sound vs xs parts =
@@ -59,7 +59,7 @@ module _ {V : Type 0} where
   length-pairs i (v ∷ vs) (Some x ∷ xs) = omega (arith, length-pairs (i + 1) vs xs)
   length-pairs i vs xs = omega arith
 
--- what comes next on a walk from i: the place `end`, with its version and its value
+-- what an iterator from i comes to next: the place `end`, with its version and its value
 pub record Next {V : Type 0} (vs : List ℕ) (xs : List (Option V)) (i left end : ℕ) : Type 0 where
   pub version : ℕ
   pub value : V
@@ -81,7 +81,7 @@ module _ {V : Type 0} (vs : List ℕ) (xs : List (Option V)) (i left : ℕ) (wal
     counted = counted;
   }
 
-  -- a place with an even version is passed over
+  -- a place with an even version is skipped
   pass : (v : ℕ) → slice_get vs i ≡ Some v → (v % 2 ≡ 1 → ⊥) → IsWalk vs xs (i + 1) left × (pairs_left (i + 1) vs xs ≡ pairs_left i vs xs)
   pass v at_v even =
       let there = found_within xs i (omega (arith, slice_get_within vs i v at_v, walk.values_length)) in
@@ -92,7 +92,7 @@ module _ {V : Type 0} (vs : List ℕ) (xs : List (Option V)) (i left : ℕ) (wal
       by None placed = refl
       by (Some x) placed = absurd (even (placed.0 refl))
 
-  -- at an odd version comes the next pair, also of a walk from an earlier start
+  -- at an odd version the next pair is yielded, also by an iterator with an earlier start
   comes : (start : ℕ) → pairs_left i vs xs ≡ pairs_left start vs xs → (v : ℕ) (o : Option V) → slice_get vs i ≡ Some v → slice_get xs i ≡ Some o → v % 2 ≡ 1 → Next vs xs start left i
   comes start same v None at_v at_x odd = let some = (walk.placed i v None (omega arith) at_v at_x).1 odd in absurd (cc)
   comes start same v (Some x) at_v at_x odd =
@@ -108,7 +108,7 @@ module _ {V : Type 0} (vs : List ℕ) (xs : List (Option V)) (i left : ℕ) (wal
         walk_on = later (left - 1) (omega (arith, walk.counted, ap length first));
       }
 
--- the value at a place that was passed is no more of the walk's
+-- the value at a place that was passed isn't yielded any more
 module _ {V : Type 0} (vs : List ℕ) (xs : List (Option V)) (i : ℕ) (o : Option V) where
   pub left-taken : pairs_left (i + 1) vs (set xs i o) ≡ pairs_left (i + 1) vs xs
   left-taken = ap (pairs_from (i + 1) (drop (i + 1) vs)) (drop-set-lt (i + 1) xs i o (omega arith))
@@ -121,7 +121,7 @@ module _ {V : Type 0} (vs : List ℕ) (xs : List (Option V)) (i : ℕ) (o : Opti
     counted = on.counted ∙ ap length (sym left-taken);
   }
 
--- places with even versions are passed over
+-- places with even versions are skipped
 pass_all : {V : Type 0} (vs : List ℕ) (xs : List (Option V)) (left n i : ℕ) → IsWalk vs xs i left → i + n ≤ length vs → AllEven vs i (i + n) → IsWalk vs xs (i + n) left × (pairs_left (i + n) vs xs ≡ pairs_left i vs xs)
 pass_all vs xs left zero i walk within even = subst (λ m. IsWalk vs xs m left × (pairs_left m vs xs ≡ pairs_left i vs xs)) (omega arith) (walk, refl)
 pass_all vs xs left (suc n) i walk within even =
@@ -130,7 +130,7 @@ pass_all vs xs left (suc n) i walk within even =
     let rest = pass_all vs xs left n (i + 1) one.0 (omega arith) (λ j v from below. even j v (omega arith) (omega arith)) in
     subst (λ m. IsWalk vs xs m left × (pairs_left m vs xs ≡ pairs_left i vs xs)) (omega arith) (rest.0, rest.1 ∙ one.1)
 
--- while a value is still to come, the next one is at the first odd version, also where the versions were read as another list
+-- while a value is left, the next one is at the first odd version, also if the versions were read as another list
 pub next_on : {V : Type 0} {vs : List ℕ} {xs : List (Option V)} {i left : ℕ} → IsWalk vs xs i left → 0 < left → {seen : List ℕ} → seen ≡ vs
     → {end : ℕ} → i ≤ end → end ≤ length seen → AllEven seen i end → ((v : ℕ) → slice_get seen end ≡ Some v → v % 2 ≡ 1) → Next vs xs i left end
 next_on {V} {vs} {xs} {i} {left} walk some {seen} whole {end} on within even odd =

@@ -1,4 +1,4 @@
--- What the live, detached and next keys of a list of places are, and how a change of one place changes them.
+-- The live, detached and next keys of a list of places, and how a change of one place changes them.
 use Rattle.std.proofs.Common.{◌≡◌, ◌≢◌, ℕ, ◌+◌, ◌<◌, ◌≤◌, true, cond, List, [], ◌∷◌, ◌++◌, length, set, slice_get, Option, None, Some, is_some, refl, arith, nat_cmp, eq-eqb}
 use Rattle.std.proofs.lemmas.Option.{slice_get_past}
 use Rattle.std.proofs.lemmas.Cmp.{nat_cmp_total}
@@ -28,7 +28,7 @@ module _ {V : Type 0} where
   next_fits : (i : ℕ) (p : Place V) (e : ℕ × ℕ) → next_entry i p ≡ Some e → e.0 ≡ i
   next_fits i p e is = grind arith
 
-  -- what is live, detached, retired and next, where place i turns from `old` to `new`
+  -- what is live, detached, retired and next, if place i turns from `old` to `new`
   pub live-set : (ps : List (Place V)) (i : ℕ) (old new : Place V) → slice_get ps i ≡ Some old → live (set ps i new) ≡ add (λ m e. map.insert m e.0 e.1) (live_entry i new) (add (λ m e. map.remove m e.0) (live_entry i old) (live ps))
   unfolding live
   live-set ps i old new found = gather-set live_laws (λ k. k.index) live_entry live_fits ps i old new found
@@ -41,7 +41,7 @@ module _ {V : Type 0} where
   unfolding retired
   retired-set ps i old new found = gather-set detached_laws (λ k. k.index) retired_entry retired_fits ps i old new found
 
-  -- what a place but the first gives to the vacancies
+  -- what a place other than the first adds to the vacant indices
   abbrev pub vacancy : ℕ → Place V → Option (ℕ × ℕ)
   vacancy i (Live version value) = None
   vacancy i (Detached version) = None
@@ -58,7 +58,7 @@ module _ {V : Type 0} where
   unfolding next
   next-set ps i old new positive found = rw (next-vacancy i new positive, next-vacancy i old positive) at (gather-set next_laws (λ k. k) next_entry next_fits ps i old new found)
 
-  -- and where a live place is added at the end
+  -- and if a live place is added at the end
   pub live-push : (ps : List (Place V)) (version : ℕ) (value : V) → live (ps ++ Live version value ∷ []) ≡ map.insert (live ps) (key (length ps) version) value
   unfolding live
   live-push ps version value = gather-push live_laws (λ k. k.index) live_entry live_fits ps (Live version value)
@@ -80,7 +80,7 @@ module _ {V : Type 0} where
   unfolding live
   get-live ps k = grind (arith, get-gather live_laws (λ k. k.index) live_entry live_fits ps k, key_tie k)
 
-  -- a vacancy reads the place at its index
+  -- a look-up of a vacant index reads the place there
   get-next : (ps : List (Place V)) (i : ℕ) → map.get (next ps) i ≡ look next_laws (λ k. k) next_entry next_fits i (slice_get ps i)
   unfolding next
   get-next ps i = get-gather next_laws (λ k. k) next_entry next_fits ps i
@@ -91,7 +91,7 @@ module _ {V : Type 0} where
   pub vacant_at : (ps : List (Place V)) (i n : ℕ) → map.get (next ps) i ≡ Some n → (0 < i) × (slice_get ps i ≡ Some (Vacant n))
   vacant_at ps i n is = grind (arith, get-next ps i, itself nat_cmp_total exact_unsigned i)
 
--- the place of the sentinel alone holds nothing
+-- the sentinel's place alone holds nothing
 pub sentinel_alone : (V : Type 0) (n : ℕ) → (live {V = V} (Vacant n ∷ []) ≡ map.empty) × (detached {V = V} (Vacant n ∷ []) ≡ set.empty) × (retired {V = V} (Vacant n ∷ []) ≡ set.empty) × (next {V = V} (Vacant n ∷ []) ≡ map.empty)
 unfolding live detached retired next
 sentinel_alone V n = (refl, refl, refl, refl)

@@ -10,7 +10,7 @@ use Rattle.slotmap_core.proofs.KeyLemmas.{alike_or_apart}
 use Rattle.slotmap_core.proofs.Maps.{get_after_insert, get_after_remove, get_inserted, get_other}
 pub use Rattle.slotmap_core.proofs.StandLemmas.{removed_gone, others_stay}
 
--- versions of the lower half are older exactly where they are less
+-- versions of the lower half are older if and only if they are smaller
 not_older : (a b : ℕ) → b ≤ a → a < 2 ^ 31 → is_older a b ≡ false
 not_older a b le half = grind (arith, common_steps)
 
@@ -18,7 +18,7 @@ older : (a b : ℕ) → a < b → b < 2 ^ 31 → is_older a b ≡ true
 older a b lt half = grind (arith, common_steps)
 
 module _ {V : Type 0} where
-  -- what stands after a version was put where o stood
+  -- what is at an index after a version was put there, where o was
   abbrev put_at : ℕ → V → Option (ℕ × V) → Option (ℕ × V)
   put_at version v o = if has_entry (entry_at version o) then Some (version, v) else o
 
@@ -27,7 +27,7 @@ module _ {V : Type 0} where
   bound_at version v None half newest = grind (arith, common_steps)
   bound_at version v (Some p) half newest = let late = newest p refl in let known = not_older version p.0 late half in grind (arith, common_steps)
 
-  -- a greater version stays, or is still not there
+  -- a larger version stays, or is still absent
   kept_at : (version greater : ℕ) (v : V) (o : Option (ℕ × V)) → version < greater → greater < 2 ^ 31 → value_at greater (put_at version v o) ≡ value_at greater o
   kept_at version greater v None less half = grind (arith, common_steps)
   kept_at version greater v (Some p) less half = let known = older version greater less half in grind (arith, common_steps)
@@ -39,7 +39,7 @@ module _ {V : Type 0} where
     put_elsewhere : (i : ℕ) → i ≢ k.index → map.get (put m k v) i ≡ map.get m i
     put_elsewhere i other = grind (arith, get_other nat_cmp_total exact_unsigned m k.index (k.version, v) i other)
 
-    -- what stands after k was put is k, or stood before
+    -- what is there after k was put is k, or was there before
     pub stands_after_put : (i : ℕ) (p : ℕ × V) → map.get (put m k v) i ≡ Some p → ((i ≡ k.index) × (p.0 ≡ k.version)) ⊎ (map.get m i ≡ Some p)
     stands_after_put i p h = grind (arith, get_after_insert nat_cmp_total exact_unsigned m k.index (k.version, v) i p)
 
@@ -47,13 +47,13 @@ module _ {V : Type 0} where
     pub newest_put : is_null k ≡ false → k.version < 2 ^ 31 → ((p : ℕ × V) → map.get m k.index ≡ Some p → p.0 ≤ k.version) → get (put m k v) k ≡ Some v
     newest_put key half newest = ap (value_at k.version) (put_value key) ∙ bound_at k.version v (map.get m k.index) half newest
 
-    -- a newer key finds what it found, and so does a key of another index
+    -- a newer key finds the same as before, and so does a key of another index
     pub newer_stays : (q : Key) → is_null k ≡ false → q.version < 2 ^ 31 → (q.index ≡ k.index → k.version < q.version) → get (put m k v) q ≡ get m q
     newer_stays q key half newer = elim (alike_or_apart nat_cmp_total exact_unsigned q.index k.index) [
       | inl same ↦ ap (λ i. value_at q.version (map.get (put m k v) i)) same ∙ ap (value_at q.version) (put_value key) ∙ kept_at k.version q.version v (map.get m k.index) (newer same) half ∙ ap (λ i. value_at q.version (map.get m i)) (sym same)
       | inr apart ↦ ap (value_at q.version) (put_elsewhere q.index apart)
     ]
 
-  -- what stands after k was removed stood before
+  -- what is there after k was removed was there before
   pub stands_after_remove : (m : Pairs V) (k : Key) (i : ℕ) (p : ℕ × V) → map.get (remove m k) i ≡ Some p → map.get m i ≡ Some p
   stands_after_remove m k i p h = grind (arith, get_after_remove nat_cmp_total exact_unsigned m k.index i p)

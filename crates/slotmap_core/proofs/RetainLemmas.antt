@@ -23,13 +23,13 @@ unlisted_if_absent : {V : Type 0} (es : List (Key × V)) (k : Key) → map.conta
 unlisted_if_absent es k none = sym (ap (λ m. map.get m k) (with_entries-empty es) ∙ map.get-from_entries keys_total es k) ∙ none_of (map.get (with_entries map.empty es) k) none
 
 module _ {F K V : Type 0} (g : Mut F (K × (MutBor V × Unit {0})) (Bool × (MutBor V × Unit {0}))) (data_of : K → Key) where
-  -- an entry that was not there isn't there afterwards
+  -- an entry that wasn't there isn't there afterwards
   pub retained_none : {f : F} {old new : map.FinMap key_cmp V} → RetainsBy g data_of f old new → (k : Key) → map.get old k ≡ None → map.get new k ≡ None
   retained_none ran k none =
       ap (λ m. map.get m k) ran.stay ∙ map.get-from_entries keys_total (kept data_of ran.visits) k
       ∙ unkept data_of k ran.visits (sym (map.get-from_entries keys_total (seen data_of ran.visits) k) ∙ ap (λ m. map.get m k) ran.listed.all ∙ none)
 
-  -- what a look-up of the first visit's key finds, and of another one
+  -- what a look-up of the first visit's key finds, and of another key
   at_first : (x : Visit K V) (xs : List (Visit K V)) (k : Key) → k ≡ data_of x.key
       → (find key_cmp k (seen data_of (x ∷ xs)) ≡ Some x.before) × (find key_cmp (data_of x.key) (kept data_of xs) ≡ None → find key_cmp k (kept data_of (x ∷ xs)) ≡ left_by x)
   at_first x xs k same = grind (arith, itself keys_total exact_keys k)
@@ -54,7 +54,7 @@ module _ {F K V : Type 0} (g : Mut F (K × (MutBor V × Unit {0})) (Bool × (Mut
               (there.0, there.1, there.2, there.3, (past_first x xs k other).1 ∙ there.4)
         ]
 
-    -- each entry was visited, and the visit left it as it is afterwards; Holds is kept by the calls
+    -- each entry was visited, and the visit left it as it is afterwards; the calls keep Holds
     pub retained_at : {f : F} {old new : map.FinMap key_cmp V} → Holds f → RetainsBy g data_of f old new → (k : Key) (v : V) → map.get old k ≡ Some v
         → (x : Visit K V) × Does x × (data_of x.key ≡ k) × (x.before ≡ v) × (map.get new k ≡ left_by x)
     retained_at {f} {old} {new} holds ran k v found =
@@ -62,7 +62,7 @@ module _ {F K V : Type 0} (g : Mut F (K × (MutBor V × Unit {0})) (Bool × (Mut
         let there = visit_of f ran.last ran.visits holds ran.calls (all.once ∙ ap map.len (sym all.all)) k v (sym (map.get-from_entries keys_total (seen data_of ran.visits) k) ∙ ap (λ m. map.get m k) ran.listed.all ∙ found) in
         (there.0, there.1, there.2, there.3, ap (λ m. map.get m k) ran.stay ∙ map.get-from_entries keys_total (kept data_of ran.visits) k ∙ there.4)
 
-  -- what each call makes of the entry that it is shown, the walk makes of each entry
+  -- what each call does to its entry, the whole iteration does to each entry
   retained : (Made : Key → Option V → Option V → Type 0) → ((q : Key) → Made q None None) → (Holds : F → Type 0)
       → ((f f' : F) (x : Visit K V) → Holds f → CallsAt g f x f' → Holds f' × Made (data_of x.key) (Some x.before) (left_by x))
       → {f : F} {old new : map.FinMap key_cmp V} → Holds f → RetainsBy g data_of f old new → (k : Key) → Made k (map.get old k) (map.get new k)
@@ -74,7 +74,7 @@ module _ {F K V : Type 0} (g : Mut F (K × (MutBor V × Unit {0})) (Bool × (Mut
           let there = retained_at Holds (λ x. Made (data_of x.key) (Some x.before) (left_by x)) each holds ran k v found in
           subst (Made k (Some v)) (sym there.4) (subst (λ w. Made k (Some w) (left_by there.0)) there.3 (subst (λ q. Made q (Some there.0.before) (left_by there.0)) there.2 there.1))
 
-  -- where each call leaves `left` of the entry that it is shown, so does the whole walk
+  -- if each call leaves `left` of its entry, so does the whole iteration
   pub retained_as : (left : Key → V → Option V) (Holds : F → Type 0)
       → ((f f' : F) (key : K) (shown after : MutBor V) (stays : Bool) → Holds f → Called g f (key, (shown, tt)) (stays, (after, tt)) f' → Holds f' × (cond stays (Some after.now) None ≡ left (data_of key) shown.now))
       → {f : F} {old new : map.FinMap key_cmp V} → Holds f → RetainsBy g data_of f old new → (k : Key) → map.get new k ≡ option_and_then (left k) (map.get old k)
@@ -82,7 +82,7 @@ module _ {F K V : Type 0} (g : Mut F (K × (MutBor V × Unit {0})) (Bool × (Mut
       let one = each f f' x.key call.shown call.left x.stays holds call.called in
       (one.0, ap (λ v. cond x.stays (Some v) None) (sym call.leaves) ∙ one.1 ∙ ap (left (data_of x.key)) call.shows))
 
-  -- where each call leaves the value, so does the whole walk
+  -- if no call writes, no value changes
   pub retained_unwritten : ((f f' : F) (key : K) (shown after : MutBor V) (stays : Bool) → Called g f (key, (shown, tt)) (stays, (after, tt)) f' → after.now ≡ shown.now)
       → {f : F} {old new : map.FinMap key_cmp V} → RetainsBy g data_of f old new → (k : Key) → map.contains_key new k ≡ true → map.get new k ≡ map.get old k
   retained_unwritten same {f} {old} {new} = retained (λ q o p. is_some p ≡ true → p ≡ o) (λ q is. refl) (λ f. Unit {0})
@@ -107,7 +107,8 @@ module _ {F K V : Type 0} (g : Mut F (K × (MutBor V × Unit {0})) (Bool × (Mut
         let later = along (calls + 1) (stay + cond x.stays 1 0) ran.0 last xs (each calls stay f ran.0 x.key ran.1.shown ran.1.left x.stays holds ran.1.called) ran.2 in
         subst (λ n. Holds n (stay + length (kept data_of (x ∷ xs))) last) (omega arith) (subst (λ n. Holds (calls + 1 + length xs) n last) (grind arith) later)
 
-  -- what the calls keep true of their number, of the number of entries that stay, and of the closure's state, holds after the walk
+  -- if each call keeps a fact about the number of calls, the number of entries that stay, and the closure's state, the fact
+  -- holds at the end
   pub retained_counted : (Holds : (calls stay : ℕ) → F → Type 0)
       → ((calls stay : ℕ) (f f' : F) (key : K) (shown after : MutBor V) (stays : Bool) → Holds calls stay f → Called g f (key, (shown, tt)) (stays, (after, tt)) f' → Holds (calls + 1) (stay + cond stays 1 0) f')
       → {f : F} {old new : map.FinMap key_cmp V} → Holds 0 0 f → RetainsBy g data_of f old new → (last : F) × Holds (map.len old) (map.len new) last

@@ -49,6 +49,6 @@ module _ {V : Type 0} where
   pub retired_is : (s : State V) (d : set.FinSet key_cmp) → ((k : Key) → Spent s k → set.contains d k ≡ true) → ((k : Key) → set.contains d k ≡ true → Spent s k) → retired s ≡ d
   retired_is s d f g = set.same_set keys_total exact_keys (retired s) d (λ k. same_bool _ _ (λ h. f k (spent_of_retired s k h)) (λ h. retired_of_spent s k (g k h)))
 
-  -- where the same keys are issued and held, the same are retired
+  -- if the same keys are issued and held, the same are retired
   pub retired_same : (s t : State V) → t.issued ≡ s.issued → ((k : Key) → IsHeld t k → IsHeld s k) → ((k : Key) → IsHeld s k → IsHeld t k) → retired t ≡ retired s
   retired_same s t e f g = set.same_set keys_total exact_keys (retired t) (retired s) (λ k. grind (arith, in_retired s k, in_retired t k, f k, g k))

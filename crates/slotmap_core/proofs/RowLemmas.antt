@@ -18,7 +18,7 @@ module _ {P : Type 0} where
   in_use (Full p) some = refl
   in_use u some = absurd (cc)
 
-  -- what a read of a row with a payload gives
+  -- the value that a read of a row with a payload returns
   pub row-payload : (rows : List (Row P)) (i : ℕ) (r : Row P) → r ≡ get_or rows i r → IsSome (payload_at (slots_of rows) i) → payload_at (slots_of rows) i ≡ payload_of r.used
   row-payload [] i r read some = absurd (cc)
   row-payload (q ∷ rows) zero r read some = ap (λ (x : Row P). payload_of x.used) (sym read)

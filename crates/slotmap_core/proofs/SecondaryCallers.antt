@@ -16,11 +16,11 @@ module _ {V : Type 0} where
   pub get_none : (k : Key) → get {V = V} map.empty k ≡ None
   get_none k = ap (value_at k.version) (map.get-empty nat_cmp k.index)
 
-  -- a key that has an entry has what was put under it
+  -- a key that has an entry has the value that was put under it
   pub get-put_here : (m : Pairs V) (k : Key) (v : V) → has_entry (entry m k) ≡ true → get (put m k v) k ≡ Some v
   get-put_here m k v has = ap (λ n. get n k) (put_bound m k v has) ∙ get_bound m k v
 
-  -- what is put under a key isn't seen under another one of its index
+  -- a value that is put under a key isn't found under another key of its index
   pub get-bind_follower : (m : Pairs V) (k q : Key) (v : V) → q.index ≡ k.index → q.version ≢ k.version → get (bind m k v) q ≡ None
   get-bind_follower m k q v at other = grind (arith, common_steps, get_inserted nat_cmp_total exact_unsigned m k.index (k.version, v))
 
@@ -31,7 +31,7 @@ module _ {V : Type 0} where
   pub get-put_elsewhere : (m : Pairs V) (k q : Key) (v : V) → q.index ≢ k.index → get (put m k v) q ≡ get m q
   get-put_elsewhere m k q v other = grind (arith, get_other nat_cmp_total exact_unsigned m k.index (k.version, v) q.index other)
 
-  -- what stands at other indices stays where a key is taken out
+  -- removing a key changes nothing at other indices
   pub get-remove_elsewhere : (m : Pairs V) (k q : Key) → q.index ≢ k.index → get (remove m k) q ≡ get m q
   get-remove_elsewhere m k q other = grind (arith, get_left nat_cmp_total exact_unsigned m k.index q.index other)
 

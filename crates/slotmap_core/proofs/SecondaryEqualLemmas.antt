@@ -1,4 +1,4 @@
--- Two secondary maps are equal exactly where they hold the same keys with equal values.
+-- Two secondary maps are equal if and only if they hold the same keys with equal values.
 use Rattle.std.proofs.Common.{◌≡◌, ◌↔◌, Bool, true, false, cond, ◌&&◌, T, List, [], ◌∷◌, None, Some, refl, sym, ap, ◌∙◌, subst, arith}
 use Rattle.std.specs.declared.cmp.Ordering.{Ordering}
 use Rattle.std.specs.declared.cmp.Ordering.TheVariants.{Less, Equal, Greater}
@@ -30,12 +30,12 @@ module _ {V : Type 0} where
   found_first : (e : Key × V) (es : List (Key × V)) → find key_cmp e.0 (e ∷ es) ≡ Some e.1
   found_first e es = grind (arith, itself keys_total exact_keys e.0)
 
-  -- a key below those of a list isn't found in it
+  -- a key smaller than those of a list isn't found in it
   missed : (k : Key) (f : Key × V) (fs : List (Key × V)) → key_cmp k f.0 ≡ Less → T (below_all key_cmp f.0 fs) → find key_cmp k (f ∷ fs) ≡ None
   missed k f fs p h = grind (arith, none_below k fs (less_than_all k f.0 fs p h))
 
 module _ {V : Type 0} (eq : V → V → Bool) where
-  -- entries that are equal one by one give each key equal values
+  -- entries that are equal one by one have equal values at each key
   alike : (es fs : List (Key × V)) → same_entries eq es fs ≡ true → (k : Key) → SameValue eq (find key_cmp k es) (find key_cmp k fs)
   alike [] [] t k = tt
   alike [] (f ∷ fs) t k = absurd (cc)
@@ -47,7 +47,7 @@ module _ {V : Type 0} (eq : V → V → Bool) where
       subst (λ q. SameValue eq (find key_cmp k (e ∷ es)) (cond (eq_by_cmp key_cmp k q) (Some f.1) (find key_cmp k fs))) key
       (elim (eq_by_cmp key_cmp k e.0) as (λ b. SameValue eq (cond b (Some e.1) (find key_cmp k es)) (cond b (Some f.1) (find key_cmp k fs))) [ true ↦ heads.1 | false ↦ alike es fs parts.1 k ])
 
-  -- and the other way round, where the keys strictly rise
+  -- and the converse, if the keys strictly rise
   one_by_one : (es fs : List (Key × V)) → T (is_sorted key_cmp es) → T (is_sorted key_cmp fs) → ((k : Key) → SameValue eq (find key_cmp k es) (find key_cmp k fs)) → same_entries eq es fs ≡ true
   one_by_one [] [] g h is = refl
   one_by_one [] (f ∷ fs) g h is = absurd (subst (λ o. SameValue eq None o) (found_first f fs) (is f.0))
@@ -80,7 +80,7 @@ module _ {V : Type 0} (eq : V → V → Bool) where
   found-keyed : (m : Pairs V) (k : Key) → find key_cmp k (map.entries (keyed m)) ≡ get m k
   found-keyed m k = sym (map.get-entries (keyed m) k) ∙ get-keyed m k
 
-  -- the test tells exactly whether both maps hold the same keys with equal values
+  -- the test tells whether both maps hold the same keys with equal values
   pub equal_where : (a b : Pairs V) → are_equal eq a b ≡ true ↔ AreEqual eq a b
   equal_where a b =
       let es = map.entries (keyed a) in

@@ -1,4 +1,4 @@
--- A secondary map holds what a list of slots says where at each index stands what the slot there has.
+-- A secondary map holds what a list of slots says, if at each index it holds what the slot there has.
 use Rattle.std.proofs.Common.{◌≡◌, ℕ, ◌%◌, ◌<◌, List, length, slice_get, Option, None, Some, true, false, cond, eq-eqb, is_some, option_map, refl, sym, ap, subst, ◌∙◌, arith, nat_lt, ltb-true, ltb-false}
 use Rattle.std.proofs.lemmas.Option.{slice_get_past}
 use Rattle.std.specs.FinMap as map
@@ -37,7 +37,7 @@ module _ {V : Type 0} where
         get-keyed m k ∙ ap (value_at k.version) (by_place k.index ∙ ap slot_pair live.1 ∙ ap (option_map (λ v. (live.0.version, v))) live.2.value)
         ∙ ap (λ b. cond b (Some v) None) (eq-eqb live.0.version k.version (sym (ap (λ q. q.version) live.2.is)))))
 
-  -- a list in which each place is written, as far as something stands there
+  -- a list in which each index is written, up to the last one of the map
   module _ (slots : List (SlotRecord V)) (m : Pairs V) (valid : IsSecondary m) (within : (i : ℕ) → map.contains_key m i ≡ true → i < length slots) (each : (i : ℕ) → i < length slots → slice_get slots i ≡ Some (slot_of (map.get m i))) where
     written_by_place : (i : ℕ) → map.get m i ≡ slot_pair (slice_get slots i)
     written_by_place i = elim (nat_lt i (length slots)) as (λ b. nat_lt i (length slots) ≡ b → map.get m i ≡ slot_pair (slice_get slots i)) [

@@ -1,4 +1,4 @@
--- How values are put under several keys of a map, one after another, in a map of any kind.
+-- Several keys of a map get new values, one after another, in a map of any kind.
 use Rattle.std.proofs.Common.{◌≡◌, ◌≢◌, ◌↔◌, ℕ, suc, ◌+◌, ◌<◌, Bool, true, false, List, [], ◌∷◌, ◌++◌, length, get_or, set, take, drop, Option, Some, is_some, map as map_list, refl, sym, ap, subst, ◌∙◌, arith, All}
 use Rattle.std.proofs.lemmas.List.{length-set, take_more, take_more_set, drop_more, drop-set-lt, map_push, length-take-le, get_or-take, get_or_default, get_or-map, length-map}
 use Rattle.std.proofs.lemmas.List.Elements.{All-push}
@@ -11,12 +11,12 @@ use Rattle.slotmap_core.specs.Several.{CanReplace, AreValuesOf, with_values}
 use Rattle.slotmap_core.proofs.KeyLemmas.{same_or_other}
 
 module _ {M V : Type 0} (get : M → Key → Option V) where
-  -- one more key that is in the map and none of the others
+  -- one more key, which is in the map and differs from the others
   pub CanReplace-push : (m : M) (ks : List Key) (k : Key) → CanReplace get m ks → is_some (get m k) ≡ true → ((j : ℕ) (d : Key) → j < length ks → get_or ks j d ≢ k) → CanReplace get m (ks ++ k ∷ [])
   CanReplace-push m ks k can has other = record { there = All-push (λ k. is_some (get m k) ≡ true) ks k can.there has; distinct = all_pairs_push (λ a b. a ≢ b) ks k can.distinct other }
 
 module _ {M V : Type 0} (get : M → Key → Option V) (put : M → Key → V → M) where
-  -- a write under a key that is in the map is seen there, and nowhere else
+  -- a write under a key of the map is seen there, and nowhere else
   pub record WriteLaws : Type 0 where
     pub here : (m : M) (k : Key) (v : V) → get (put m k v) k ≡ Some v
     pub elsewhere : (m : M) (k q : Key) (v : V) → is_some (get m k) ≡ true → k ≢ q → get (put m k v) q ≡ get m q
@@ -29,7 +29,7 @@ module _ {M V : Type 0} (get : M → Key → Option V) (put : M → Key → V �
   still_there : WriteLaws → (m : M) (k q : Key) (v : V) → is_some (get m k) ≡ true → is_some (get m q) ≡ true → is_some (get (put m k v) q) ≡ true
   still_there writes m k q v has_k has_q = grind (arith, same_or_other k q, writes.here m k v, writes.elsewhere m k q v has_k)
 
-  -- a key that is none of the keys keeps its value
+  -- a key that isn't among the keys keeps its value
   get-with_values : WriteLaws → (m : M) (ks : List Key) (vs : List V) (q : Key) → All (λ k. is_some (get m k) ≡ true) ks → ((i : ℕ) (d : Key) → i < length ks → get_or ks i d ≢ q) → get (with_values put m ks vs) q ≡ get m q
   get-with_values writes m (k ∷ ks) (v ∷ vs) q there other =
       let first = there 0 k (omega arith) in
@@ -37,7 +37,7 @@ module _ {M V : Type 0} (get : M → Key → Option V) (put : M → Key → V �
       ∙ writes.elsewhere m k q v first (other 0 q (omega arith))
   get-with_values writes m ks vs q there other = refl
 
-  -- the values under the keys below i were exchanged, and the others are as they were
+  -- the values of the keys below i were exchanged, and the others are as they were
   pub record Exchanged (old : M) (ks : List Key) (vs : List V) (now : M) (ws : List V) (i : ℕ) : Type 0 where
     pub can : CanReplace get old ks
     pub long : length ws ≡ length vs
@@ -56,7 +56,7 @@ module _ {M V : Type 0} (get : M → Key → Option V) (put : M → Key → V �
   pub next_there : (d : Key) → i < length ks → is_some (get now (get_or ks i d)) ≡ true
   next_there d within = ap is_some (next_value d within) ∙ done.can.there i d within
 
-  -- the value at place i was put under the key there, and w came out
+  -- the value at position i was put under the key there, and w is the old value
   pub Exchanged-step : (k : Key) (v w : V) → length ks ≡ length vs → i < length ks → k ≡ get_or ks i k → v ≡ get_or ws i v → get now k ≡ Some w → Exchanged get put old ks vs (put now k v) (set ws i w) (i + 1)
   Exchanged-step k v w even within key value was =
       let heads = sym (drop_more ws i v (omega (arith, done.long))) ∙ done.rest ∙ drop_more vs i v (omega arith) in
@@ -72,7 +72,7 @@ module _ {M V : Type 0} (get : M → Key → Option V) (put : M → Key → V �
         rest = drop-set-lt (i + 1) ws i w (omega arith) ∙ drop_more_same ws vs i done.rest;
       }
 
--- a look at keys of any type, one after another
+-- keys of any type are looked at, one after another
 module _ {M V K : Type 0} (get : M → Key → Option V) (m : M) (data_of : K → Key) (ks : List K) (i : ℕ) (k : K) (within : i < length ks) (at : k ≡ get_or ks i k) where
   at_key : (d : Key) → get_or (map_list data_of ks) i d ≡ data_of k
   at_key d = get_or-map data_of ks i k d within ∙ ap data_of (sym at)
@@ -80,12 +80,12 @@ module _ {M V K : Type 0} (get : M → Key → Option V) (m : M) (data_of : K �
   map_within : i < length (map_list data_of ks)
   map_within = omega (arith, length-map ks data_of)
 
-  -- the next key is not in the map
+  -- the next key isn't in the map
   pub refuses_absent : is_some (get m (data_of k)) ≡ false → CanReplace get m (map_list data_of ks) → ⊥
   refuses_absent absent can = let there : is_some (get m (data_of k)) ≡ true = subst (λ q. is_some (get m q) ≡ true) (at_key (data_of k)) (can.there i (data_of k) map_within) in absurd (cc)
 
   module _ (eq : K → K → Bool) (by_data : (a b : K) → eq a b ≡ true ↔ data_of a ≡ data_of b) where
-    -- the next key stands among those before it
+    -- the next key is among those before it
     pub refuses_again : list_any (λ y. eq y k) (take i ks) ≡ true → CanReplace get m (map_list data_of ks) → ⊥
     refuses_again again can =
         let one = Any-from_list_any (λ y. eq y k) (take i ks) again in
@@ -94,7 +94,7 @@ module _ {M V K : Type 0} (get : M → Key → Option V) (m : M) (data_of : K �
         get_or-map data_of ks one.0 one.1 (data_of k) (omega arith) ∙ ap data_of (sym (get_or-take i ks one.0 one.1 before) ∙ one.3) in
         can.distinct one.0 i (data_of k) before map_within (here ∙ (by_data one.1 k).0 one.4 ∙ sym (at_key (data_of k)))
 
-    -- the next key is in the map, and none of those before it
+    -- the next key is in the map, and isn't among those before it
     pub CanReplace-next : CanReplace get m (map_list data_of (take i ks)) → is_some (get m (data_of k)) ≡ true → list_any (λ y. eq y k) (take i ks) ≡ false → CanReplace get m (map_list data_of (take (i + 1) ks))
     CanReplace-next can has new =
         let more : map_list data_of (take (i + 1) ks) ≡ map_list data_of (take i ks) ++ data_of k ∷ [] =

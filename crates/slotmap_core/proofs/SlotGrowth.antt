@@ -46,7 +46,7 @@ module _ {P : Type 0} where
     };
   }
 
-  -- one slot more at the end
+  -- one more slot at the end
   pub each-push : (slots : List (Slot P)) (s : Slot P) → ((i : ℕ) (t : Slot P) → slice_get slots i ≡ Some t → IsSlot t) → IsSlot s → (i : ℕ) (t : Slot P) → slice_get (slots ++ s ∷ []) i ≡ Some t → IsSlot t
   each-push slots s each slot i t there = ⊎_elim (λ same. subst IsSlot same.1 slot) (λ other. each i t other.1) (at_push slots s i t there)
 

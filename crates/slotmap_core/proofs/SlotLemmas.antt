@@ -57,12 +57,12 @@ module _ {P : Type 0} where
       let within = slice_get_within slots j there.0 there.1 in
       (linked.0, (linked.1.0, ap (option_map (λ s. s.link)) (slice_get_push_other slots s j (λ e. omega arith)) ∙ linked.1.1, IsFreeList-push slots s js linked.1.0 linked.1.2))
 
-  -- the walk along a free list gives its indices
+  -- iterating over a free list yields its indices
   pub walk-is : (slots : List (Slot P)) (is : List ℕ) (head : ℕ) → IsFreeList slots is head → walk slots (length is) head ≡ is
   walk-is slots [] head linked = refl
   walk-is slots (j ∷ js) head linked = rw linked.0 (ap (λ ks. j ∷ ks) (ap (λ l. walk slots (length js) (link_next l)) linked.1.1 ∙ walk-is slots js linked.1.0 linked.1.2))
 
--- the slots are sound once another one is written at an index, and the map is one with another place and this stack
+-- the slots are sound once another one is written at an index, and the map has another place and this stack
 pub record Written {P : Type 0} (slots : List (Slot P)) (i : ℕ) (t : Slot P) (vacant : List ℕ) (head free count : ℕ) : Type 0 where
   pub sound : IsSound (set slots i t) head free count
   pub map_is : (c : ℕ) → map_of (set slots i t) head free c ≡ record { places = set (places_of slots) i (place_of t); vacant = vacant; capacity = c }
@@ -87,7 +87,7 @@ module _ {P : Type 0} (slots : List (Slot P)) (head free count : ℕ) (sound : I
   pub valid : (c : ℕ) → length slots ≤ c → IsContent true (content (map_of slots head free (c - 1)))
   valid c holds = IsContent-stacked (map_of slots head free (c - 1)) stacked_walk (omega (arith, length-map slots place_of))
 
-  -- the places that no insert can take, the vacant ones and the sentinel are all
+  -- the places that no insert can use, the vacant ones and the sentinel are all of them
   pub taken-slots : taken (places_of slots) + free + 1 ≡ length slots
   taken-slots = omega (arith, total (places_of slots) 1 sound.stacked.sentinel, length-map slots place_of, sound.stacked.counted, sound.counted)
 
@@ -152,7 +152,7 @@ module _ {P : Type 0} (slots : List (Slot P)) (head free count : ℕ) (sound : I
     off_walk : IsOn (walk slots free head) i → ⊥
     off_walk = not_on (places_of slots) (walk slots free head) stacked_walk i (place_of s) (place_at slots i s at) was
 
-    -- where neither place is vacant, the stack stays
+    -- if neither place is vacant, the stack stays
     kept : (t : Slot P) (count2 : ℕ) → IsSlot t → ((n : ℕ) → place_of t ≢ Vacant n) → HasVersion (place_of t)
         → ((n : ℕ) → n + cond (is_some (live_entry i (place_of s))) 1 0 ≡ count + cond (is_some (live_entry i (place_of t))) 1 0 → n ≡ count2) → Written slots i t (walk slots free head) head free count2
     kept t count2 slot is good number =
@@ -170,7 +170,7 @@ module _ {P : Type 0} (slots : List (Slot P)) (head free count : ℕ) (sound : I
     pub count_positive : 1 ≤ count
     count_positive = omega (arith, len-live-set (places_of slots) i (Live v x) UsedUp found_live, sound.live_counted)
 
-    -- it turns free
+    -- it becomes free
     pub freed : nat_eq v last_version ≡ false → Written slots i (empty (v + 1) (Free head)) (i ∷ walk slots free head) i (free + 1) (count - 1)
     freed other =
         let good = version_is in
@@ -188,7 +188,7 @@ module _ {P : Type 0} (slots : List (Slot P)) (head free count : ℕ) (sound : I
         (freed other).map_is c ∙ rw other (ap (λ n. record { places = set (places_of slots) i (Vacant n); vacant = i ∷ walk slots free head; capacity = c }) (omega arith)) in
         subst (λ n. Removes (content (map_of slots head free c)) (key i v) (content n)) (sym after) (removes (map_of slots head free c) stacked_walk (key i v) x found_live)
 
-    -- or is retired
+    -- or it is retired
     pub retired : nat_eq v last_version ≡ true → Written slots i (empty 0 Retired) (walk slots free head) head free (count - 1)
     retired last = kept i (full v x) at (λ n e. absurd (cc)) (empty 0 Retired) (count - 1) (IsSlot-empty 0 Retired refl (λ e. absurd (cc)) (λ _. refl)) (λ n e. absurd (cc)) tt (λ n is. omega arith)
 
@@ -229,7 +229,7 @@ module _ {P : Type 0} (slots : List (Slot P)) (head free count : ℕ) (sound : I
         detached.map_is c ∙ ap (λ u. record (map_of slots head free c) { places = set (places_of slots) i (Kept u) }) before_after in
         subst (λ n. Detaches (content (map_of slots head free c)) (key i v) (content n)) (sym after) (detaches (map_of slots head free c) stacked_walk (key i v) x found_live)
 
-  -- a detached key is bound again
+  -- a detached key is bound to a payload again
   module _ (i u v : ℕ) (at : slice_get slots i ≡ Some (empty u Detached)) (of : version_before u ≡ v) where
     here_kept : slice_get (places_of slots) i ≡ Some (Kept v)
     here_kept = place_at slots i (empty u Detached) at ∙ ap (λ v. Some (Kept v)) of

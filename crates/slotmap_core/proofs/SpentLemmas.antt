@@ -1,4 +1,4 @@
--- Which keys are spent after a call: those that were, and each live key that has left.
+-- Which keys are spent after a call: those that were, and each live key that was removed.
 use Rattle.std.proofs.Common.{⊎_elim, ◌≡◌, ◌≢◌, ℕ, Bool, false, ◌⊎◌, inl, inr, Option, None, Some, OnSome, IfNone, Result, Ok, Err, IfOk, IsErr, List, [], ◌∷◌, All, is_some, refl, ap, sym, ◌∙◌, arith}
 use Rattle.std.specs.FinMap as map
 use Rattle.std.specs.FinSet as set
@@ -31,7 +31,7 @@ module _ {V : Type 0} where
   pub live_not_spent : (c : Content V) (q k : Key) → IsLive c q → IsSpent c k → q ≢ k
   live_not_spent c q k live spent e = grind (arith, spent.stands q (inl live))
 
-  -- as many places are there, a new vacancy is that after a key that stood, and no key comes to stand
+  -- there are as many places, a new vacant index follows a key that was live or detached, and no key becomes so
   record Frees (old new : Content V) : Type 0 where
     same_places : places new ≡ places old
     next : (i v : ℕ) → map.get new.next i ≡ Some v → (map.get old.next i ≡ Some v) ⊎ ((q : Key) × Stands old q × (q.index ≡ i) × (next_version q ≡ v))
@@ -59,7 +59,7 @@ module _ {V : Type 0} where
       stands = λ u there e. spent.stands u (frees.stood u there) e;
     }
 
-    -- a key that stood and does so no longer
+    -- a key that was live or detached, and is no longer
     gone_spent : (reuses : Bool) → IsContent reuses old → Frees old new → (k : Key) → Stands old k → ((u : Key) → Stands new u → u ≢ k) → IsSpent new k
     gone_spent reuses well frees k stood none = record {
       within = omega (arith, frees.same_places, well.within k (inl stood));
@@ -67,7 +67,7 @@ module _ {V : Type 0} where
       stands = λ u there e. absurd (none u there (well.apart u k (inl (frees.stood u there)) (inl stood) e));
     }
 
-    -- where as many places are there, the same are vacant, and no key comes to stand
+    -- if there are as many places, the same vacant indices, and no new live or detached key, spent keys stay so
     spent_stands : places new ≡ places old → new.next ≡ old.next → ((q : Key) → Stands new q → Stands old q) → KeepsSpent old new
     spent_stands same next stood = spent_frees (record { same_places = same; next = λ i v is. inl (rw (← next) is); stood = stood })
 
@@ -82,7 +82,7 @@ module _ {V : Type 0} where
         let same : places new ≡ places old = omega (arith, ap map.len copy.live, ap set.len copy.detached, ap set.len copy.retired, ap map.len copy.next) in
         spent_stands same copy.next (λ q there. elim there [ inl h ↦ inl (rw (← copy.live) h) | inr h ↦ inr (rw (← copy.detached) h) ])
 
-    -- what is read back from the list that a map was written as
+    -- a map that is read back from the list that a map was written as
     pub spent_restores : Restores old new → KeepsSpent old new
     spent_restores restores = spent_frees (Frees-restores restores)
 
@@ -97,7 +97,7 @@ module _ {V : Type 0} where
         ];
       }
 
-      -- an insert answers no key that is spent
+      -- an insert returns no key that is spent
       pub inserted_not_spent : (j : Key) (v : V) → Inserts old j v new → (k : Key) → IsSpent old k → j ≢ k
       inserted_not_spent j v inserts k spent =
           live_not_spent new j k (ap (λ m. map.contains_key m j) inserts.live ∙ in_inserted keys_total exact_keys old.live j v) (spent_inserts j v inserts k spent)
@@ -111,7 +111,7 @@ module _ {V : Type 0} where
       pub spent_reattaches : (k : Key) (v : V) → Reattaches old k v new → KeepsSpent old new
       spent_reattaches k v binds = spent_stands (reattached_places reuses old new well k v binds) binds.next (reattached_stands old new k v binds)
 
-      -- a live key that has left
+      -- a live key that was removed
       pub left_spent : (k : Key) → Leaves old new → IsLive old k → map.contains_key new.live k ≡ false → IsSpent new k
       left_spent k leaves live gone = gone_spent reuses well (Frees-leaves leaves) k (inl live) (λ u there e. elim there [
         | inl h ↦ absurd (let is = rw e at h in cc)
@@ -128,7 +128,7 @@ module _ {V : Type 0} where
         | inr h ↦ absurd (let none = set.contains-empty key_cmp u in let is = ap (λ d. set.contains d u) restores.detached in cc)
       ])
 
-  -- a new value under a key that is live, and new values under several
+  -- a new value under a live key, and new values under several
   pub spent_with_value : (c : Content V) (k : Key) (v : V) → IsLive c k → KeepsSpent c (with_value c k v)
   spent_with_value c k v live = spent_leaves c (with_value c k v) (Leaves-with_value c k v live)
 
@@ -143,7 +143,7 @@ module _ {V : Type 0} where
   pub spent_with_values : (c : Content V) (keys : List Key) (values : List V) → CanReplace c keys → KeepsSpent c (with_values c keys values)
   spent_with_values c keys values can = spent_leaves c (with_values c keys values) (Leaves-with_values c keys values can.live)
 
-  -- by the clauses of an insert, whatever it answers
+  -- by the clauses of an insert, whatever it returns
   module _ (old new : Content V) (reuses : Bool) {K E : Type 0} (answer : Result K E) (valid : MayGrow reuses old (IsErr answer) new) (data_of : K → Key) (v : V) where
     pub spent_insert : IfOk answer (λ key. Inserts old (data_of key) v new) → KeepsSpent old new
     spent_insert ok = elim answer as (λ r. IfOk r (λ key. Inserts old (data_of key) v new) → (IsErr r → Keeps old new) → KeepsSpent old new) [
@@ -157,7 +157,7 @@ module _ {V : Type 0} where
       | Err e ↦ λ none. tt
     ] ok
 
-  -- by the clauses of a removal, whatever it answers
+  -- by the clauses of a removal, whatever it returns
   module _ (old new : Content V) (reuses : Bool) (valid : StaysValid reuses old new) (j : Key) (answer : Option V) (is : answer ≡ map.get old.live j) where
     either : {P C : Type 0} → OnSome answer P → IfNone answer (new ≡ old) → (IsLive old j → P → C) → (new ≡ old → C) → C
     either {P} {C} some none left stays = elim answer as (λ o. o ≡ map.get old.live j → OnSome o P → IfNone o (new ≡ old) → C) [

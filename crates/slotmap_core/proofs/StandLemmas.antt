@@ -1,4 +1,4 @@
--- What stands at the index of a key in a secondary map, what a change leaves there, and that keys alone stand in it.
+-- What is at the index of a key in a secondary map, what a change leaves there, and that only keys are in it.
 use Rattle.std.proofs.Common.{◌≡◌, ◌≢◌, ℕ, ◌+◌, ◌-◌, ◌^◌, ◌<◌, true, false, nat_eq, eqb-true, eq-eqb, if◌then◌else◌, Option, Some, None, is_some, refl, sym, ap, ◌∙◌, inl, inr, arith, rules, nat_cmp}
 use Rattle.std.proofs.lemmas.Grind.{common_steps}
 use Rattle.std.specs.Cmp.{nat_cmp_total}
@@ -18,7 +18,7 @@ less_of_not_null : (i : ℕ) → i < 2 ^ 32 → nat_eq i (2 ^ 32 - 1) ≡ false 
 less_of_not_null i fits other = grind (arith, common_steps)
 
 module _ {V : Type 0} where
-  -- a version that finds a value is the one that stands there
+  -- a version that finds a value is the one that is there
   pub pair_found : (version : ℕ) (o : Option (ℕ × V)) (v : V) → value_at version o ≡ Some v → o ≡ Some (version, v)
   pair_found version None v h = absurd (cc)
   pair_found version (Some p) v h = grind (arith, common_steps)
@@ -35,7 +35,7 @@ module _ {V : Type 0} where
     pub entry_absent : is_null k ≡ false → map.get m k.index ≡ None → entry m k ≡ vacant
     entry_absent key none = entry_of_key key ∙ ap (entry_at k.version) none
 
-    -- where p stands at the index of k
+    -- if p is at the index of k
     module _ (p : ℕ × V) (stands : map.get m k.index ≡ Some p) where
       pub get_here : nat_eq p.0 k.version ≡ true → get m k ≡ Some p.1
       get_here same = ap (value_at k.version) stands ∙ ap (λ b. if b then Some p.1 else None) same
@@ -92,7 +92,7 @@ module _ {V : Type 0} where
       remove_there : remove m k ≡ map.remove m k.index
       remove_there = ap (λ b. if b then map.remove m k.index else m) has
 
-      -- what stands at the index of a key of the map
+      -- what is at the index of a key of the map
       pub pair_of : (p : ℕ × V) × (map.get m k.index ≡ Some p)
       pair_of = let found = some_is (get m k) has in ((k.version, found.0), pair_found k.version (map.get m k.index) found.0 found.1)
 
@@ -108,7 +108,7 @@ module _ {V : Type 0} where
       pub len_taken : map.len (remove m k) + 1 ≡ map.len m
       len_taken = ap (λ (x : Pairs V). map.len x + 1) remove_there ∙ len_removed nat_cmp_total exact_unsigned m k.index index_stands
 
-      -- where what stands at its index alone changes, and no other version finds anything there, each other key finds what it found
+      -- if only its index changes, and no other version finds anything there, each other key finds the same as before
       others_find : (n : Pairs V) → ((i : ℕ) → i ≢ k.index → map.get n i ≡ map.get m i) → ((v : ℕ) → k.version ≢ v → value_at v (map.get n k.index) ≡ None) → (q : Key) → q ≢ k → get n q ≡ get m q
       others_find n elsewhere here q other = elim (alike_or_apart nat_cmp_total exact_unsigned q.index k.index) [
         | inl same ↦
@@ -120,20 +120,20 @@ module _ {V : Type 0} where
       pub others_bound : (v : V) (q : Key) → q ≢ k → get (bind m k v) q ≡ get m q
       others_bound v = others_find (bind m k v) (get_other nat_cmp_total exact_unsigned m k.index (k.version, v)) (λ w apart. other_version (map.get (bind m k v) k.index) k.version w apart (in_own v))
 
-    -- each other key finds what it found
+    -- each other key finds the same as before
     pub others_stay : (q : Key) → q ≢ k → get (remove m k) q ≡ get m q
     others_stay q other = elim (contains_key m k) as (λ b. contains_key m k ≡ b → get (if b then map.remove m k.index else m) q ≡ get m q) [
       | true ↦ λ has. others_find has (map.remove m k.index) (get_left nat_cmp_total exact_unsigned m k.index) (λ w apart. ap (value_at w) removed) q other
       | false ↦ λ none. refl
     ] refl
 
-  -- what is bound where the key stood goes with the key
+  -- removing a key also removes the value that was just bound to it
   pub without_own : (m : Pairs V) (k : Key) (v : V) → contains_key m k ≡ true → remove (bind m k v) k ≡ remove m k
   without_own m k v has = remove_there (bind m k v) k (in_own m k v) ∙ remove_inserted nat_cmp_total exact_unsigned m k.index (k.version, v) ∙ sym (remove_there m k has)
 
   pub IsSecondary-remove : (m : Pairs V) (i : ℕ) → IsSecondary m → IsSecondary (map.remove m i)
   IsSecondary-remove m i valid j p h = valid j p (get_after_remove nat_cmp_total exact_unsigned m i j p h).1
 
-  -- a value that was bound is the one that is lent
+  -- the value that the key finds once v was bound is v
   pub lent_is : (m n : Pairs V) (k : Key) (v w : V) → n ≡ bind m k v → get n k ≡ Some w → w ≡ v
   lent_is m n k v w is lent = same_Some _ _ (sym lent ∙ ap (λ (x : Pairs V). get x k) is ∙ get_bound m k v)

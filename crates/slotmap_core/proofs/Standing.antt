@@ -1,4 +1,4 @@
--- What stood before a call, and which vacancies it leaves.
+-- Which keys were live or detached before a call, and which vacant indices it leaves.
 use Rattle.std.proofs.Common.{◌≡◌, ◌≢◌, ℕ, Some, false, ◌⊎◌, inl, inr, sym, ap, ◌∙◌, is_some, ⊎_elim, arith}
 use Rattle.std.specs.Cmp.{nat_cmp_total}
 use Rattle.std.proofs.lemmas.Map.Lookups.{exact_unsigned}
@@ -12,7 +12,7 @@ use Rattle.slotmap_core.proofs.Maps.{of_and, get_after_remove, in_after_insert, 
 use Rattle.slotmap_core.proofs.Retired.{in_freed}
 
 module _ {V : Type 0} (old new : Content V) where
-  -- each vacancy is an old one, or goes on from a live key
+  -- each vacant index was vacant before with the same version, or follows a live key
   abbrev pub Vacates : Type 0
   Vacates = (i v : ℕ) → map.get new.next i ≡ Some v → ((k : Key) × IsLive old k × (k.index ≡ i) × (next_version k ≡ v)) ⊎ (map.get old.next i ≡ Some v)
 
@@ -50,7 +50,7 @@ module _ {V : Type 0} (old new : Content V) where
   pub left_vacant : Leaves old new → Vacates
   left_vacant l i v h = ⊎_elim (λ g. inr g) (λ p. inl (p.0, (of_and _ _ p.1).0, p.3, p.4)) ((l.next i v).0 h)
 
--- nothing stands in a new content
+-- no key is live or detached in a new content
 pub new_stands : {V : Type 0} (c : Content V) → IsNew c → (k : Key) → Stands c k → ⊥
 new_stands c new k (inl h) = let none : map.contains_key c.live k ≡ false = ap (λ (m : map.FinMap key_cmp _). map.contains_key m k) new.live ∙ ap is_some (map.get-empty key_cmp k) in absurd (cc)
 new_stands c new k (inr h) = let none : set.contains c.detached k ≡ false = ap (λ (d : set.FinSet key_cmp). set.contains d k) new.detached ∙ set.contains-empty key_cmp k in absurd (cc)

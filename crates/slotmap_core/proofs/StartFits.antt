@@ -1,4 +1,4 @@
--- What a map holds that is read from a list, and the machine's state that goes with it.
+-- The content of a map that is read from a list, and the state of the machine for it.
 use Rattle.std.proofs.Common.{◌≡◌, ◌≢◌, inl, inr, ℕ, ◌+◌, ◌%◌, Bool, true, List, slice_get, Some, sym, ap, ◌∙◌, arith}
 use Rattle.std.proofs.lemmas.Bool.Decides.{nat_tests}
 use Rattle.std.proofs.lemmas.Option.{slice_get_within, same_Some}
@@ -19,7 +19,7 @@ use Rattle.slotmap_core.proofs.Retired.{Spent, retired_is}
 use Rattle.slotmap_core.proofs.StartLemmas.{consistent_at, length-start_places, sentinel-start_places, live-start_places, retired-start_places, next-start_places, detached-start_places}
 
 module _ {V : Type 0} (slots : List (SlotRecord V)) (limit : ℕ) (accepted : Accepts slots limit) where
-  -- where the places are those of the slots, and the stack is that of the vacant ones
+  -- if the places are those of the slots, and the stack is that of the vacant ones
   pub starts-stack : (m : StackMap V) → m.places ≡ start_places slots → m.vacant ≡ start_stack slots → StartsFrom slots (content m)
   starts-stack m is_places is_vacant_version = record {
     live = rw is_places (live-start_places slots limit accepted);

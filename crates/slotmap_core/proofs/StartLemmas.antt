@@ -1,4 +1,4 @@
--- What a map holds whose places are made of the slots of an accepted list.
+-- The content of a map whose places come from the slots of an accepted list.
 use Rattle.std.proofs.Common.{◌≡◌, ◌≢◌, ℕ, suc, ◌+◌, ◌%◌, ◌^◌, ◌<◌, List, [], ◌∷◌, ◌++◌, length, map as list_map, slice_get, Option, None, Some, is_some, refl, ap, arith}
 use Rattle.std.proofs.lemmas.Bool.Decides.{nat_tests}
 use Rattle.std.proofs.lemmas.List.{length-map, map-append}
@@ -23,11 +23,11 @@ module _ {V : Type 0} (slot : SlotRecord V) (consistent : IsConsistent slot) whe
   pub has_version : slot.version < 2 ^ 32 → HasVersion (place_of slot)
   has_version fits = grind (arith, nat_tests)
 
-  -- a slot of even version but 0 becomes a vacant place
+  -- a slot of an even version other than 0 becomes a vacant place
   pub vacant_place : slot.version % 2 ≡ 0 → slot.version ≢ 0 → place_of slot ≡ Vacant (slot.version + 1)
   vacant_place even other = grind (arith, nat_tests)
 
--- what places give is what their slots give, if it is so for each place and its slot
+-- what is gathered from places is what is gathered from their slots, if each place agrees with its slot
 module _ {V E M : Type 0} (empty : M) (put : M → E → M) (entry : ℕ → Place V → Option E) (slot_entry : ℕ → SlotRecord V → Option E) (alike : (i : ℕ) (slot : SlotRecord V) → 0 < i → IsConsistent slot → entry i (place_of slot) ≡ slot_entry i slot) where
   gather-places : (i : ℕ) (slots : List (SlotRecord V)) → 0 < i → AllConsistentBelow slots (length slots)
       → gather empty put entry i (list_map place_of slots) ≡ gather empty put slot_entry i slots
@@ -52,12 +52,12 @@ module _ {V : Type 0} where
   length-start_places [] = refl
   length-start_places (first ∷ rest) = ap suc (length-map rest place_of)
 
-  -- one slot more becomes one place more
+  -- one more slot becomes one more place
   pub start_places-push : (slots : List (SlotRecord V)) (slot : SlotRecord V) → 0 < length slots → start_places (slots ++ slot ∷ []) ≡ start_places slots ++ place_of slot ∷ []
   start_places-push [] slot positive = absurd (omega arith)
   start_places-push (first ∷ rest) slot positive = ap (λ ps. Vacant 1 ∷ ps) (map-append place_of rest (slot ∷ []))
 
-  -- the slot that a place is made of
+  -- the slot that a place comes from
   pub start_place_at : (slots : List (SlotRecord V)) (i : ℕ) (p : Place V) → 0 < i → slice_get (start_places slots) i ≡ Some p → (slot : SlotRecord V) × (slice_get slots i ≡ Some slot) × (p ≡ place_of slot)
   start_place_at slots i p positive found = grind (arith, slice_get-map)
 

@@ -1,4 +1,4 @@
--- The stack of a map that is read from a list: it has each vacant index once, and its places and it are well.
+-- The stack of a map that is read from a list. It has each vacant index once, and it and the places are well formed.
 use Rattle.std.proofs.Common.{◌≡◌, ◌⊎◌, ◌↔◌, ℕ, zero, suc, ◌+◌, ◌^◌, ◌<◌, ◌≤◌, true, List, [], ◌∷◌, ◌++◌, length, slice_get, Option, None, Some, is_some, refl, sym, ap, subst, ◌∙◌, arith}
 use Rattle.std.proofs.lemmas.Bool.Decides.{nat_tests}
 use Rattle.std.proofs.lemmas.List.{length_push}
@@ -27,13 +27,13 @@ once_pushed : (is : List ℕ) (i : ℕ) → IsOnce is → (IsOn is i → ⊥) �
 once_pushed [] i once new = (λ on. on, tt)
 once_pushed (x ∷ xs) i once new = grind (arith, once_pushed xs i, on_pushed xs i x)
 
--- the index of one slot more comes first, if it is vacant
+-- the index of one more slot comes first, if it is vacant
 abbrev pub with_index : Option (ℕ × ℕ) → List ℕ → List ℕ
 with_index None is = is
 with_index (Some e) is = e.0 ∷ is
 
 module _ {V : Type 0} where
-  -- the vacant indices of slots of which the first has index i, as a stack, and with their versions
+  -- the vacant indices of slots, the first of which has index i: as a stack, and with their versions
   abbrev stack_from : ℕ → List (SlotRecord V) → List ℕ
   stack_from = gather [] (λ is e. is ++ e.0 ∷ []) vacant_slot
 

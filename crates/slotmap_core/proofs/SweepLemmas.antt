@@ -1,4 +1,4 @@
--- A walk by ascending index along which keys leave.
+-- An iteration by ascending index that removes keys.
 use Rattle.std.proofs.Common.{⊎_elim, ◌≡◌, ◌≢◌, ℕ, ◌+◌, ◌<◌, ◌≤◌, Bool, true, Some, is_some, ◌∷◌, refl, sym, ap, ◌∙◌, inl, arith}
 use Rattle.std.proofs.lemmas.Bool.{cases_eq}
 use Rattle.std.specs.FinMap as map
@@ -14,7 +14,7 @@ use Rattle.slotmap_core.proofs.LeaveLemmas.{was_live, is_gone, get_left, same_li
 use Rattle.slotmap_core.proofs.OrderLemmas.{FreesByIndex-start, FreesByIndex-with_value, FreesByIndex-removed, FreesByIndex-first, entries_first}
 
 module _ {V : Type 0} where
-  -- on the way to now, keys below the index have left, by ascending index
+  -- on the way to now, keys below the index were removed, by ascending index
   pub record Swept (reuses : Bool) (old now : Content V) (i : ℕ) : Type 0 where
     pub leaves : Leaves old now
     pub order : FreesByIndex old now
@@ -52,7 +52,7 @@ module _ {V : Type 0} where
   pub Swept-next : {reuses : Bool} (old now : Content V) (i : ℕ) (k : Key) (w : V) → Swept reuses old now i → IsLive now k → i ≤ k.index → Swept reuses old (with_value now k w) k.index
   Swept-next old now i k w swept is_live on = Swept-written old now k.index k w (Swept-to old now i k.index swept on) is_live
 
-  -- the key at the index leaves
+  -- the key at the index is removed
   pub Swept-removed : {reuses : Bool} (old now new : Content V) (i : ℕ) (k : Key) → Swept reuses old now i → IsLive now k → k.index ≡ i → Removes now k new → new.capacity ≡ now.capacity → IsContent reuses new → Swept reuses old new (i + 1)
   Swept-removed {reuses} old now new i k swept is_live at removes capacity well = record {
     leaves = Leaves-removed reuses now swept.well k is_live new removes old swept.leaves;
@@ -62,7 +62,7 @@ module _ {V : Type 0} where
     below = λ q left. grind (arith, swept.below q, get_left now new k removes q, tied keys_total exact_keys q k);
   }
 
-  -- what the rest ends as after the first key has left, the whole ends as
+  -- what the rest ends as once the first key is removed, the whole ends as
   pub Empties-first : {reuses : Bool} (a b end : Content V) (k : Key) → IsContent reuses a → IsLive a k → Removes a k b → b.capacity ≡ a.capacity → ((q : Key) → IsLive b q → k.index < q.index) → EmptiesByIndex b end → EmptiesByIndex a end
   Empties-first {reuses} a b end k well is_live removes capacity above ends = record {
     empties = record {
@@ -73,7 +73,7 @@ module _ {V : Type 0} where
     order = FreesByIndex-first a b end k is_live removes above ends.empties.leaves.no_more ends.order;
   }
 
-  -- the live key of the least index from i on
+  -- the live key of the smallest index from i on
   abbrev pub IsNextLive : Content V → ℕ → Key → Type 0
   IsNextLive c i k = (q : Key) → IsLive c q → i ≤ q.index → k.index ≤ q.index
 
@@ -82,7 +82,7 @@ module _ {V : Type 0} where
     before_others is_live q other there from =
         ⊎_elim (λ same. absurd (other (well.apart q k (inl (inl there)) (inl (inl is_live)) (sym same)))) (λ apart. omega (arith, next q there from)) (cases_eq k.index q.index)
 
-    -- its entry is the first, where no live key is below i
+    -- its entry is the first, if no live key is below i
     pub first_entry : (v : V) → NoneBelow c.live i → map.get c.live k ≡ Some v → map.entries c.live ≡ (k, v) ∷ map.entries (map.remove c.live k)
     first_entry v above found = entries_first c.live k v found (λ q there. let both = in_after_remove keys_total exact_keys c.live k q there in before_others (ap is_some found) q both.0 both.1 (above q both.1))
 
@@ -94,6 +94,6 @@ module _ {V : Type 0} where
         entries_first m k v (get_from i c.live k from ∙ found) (λ q there. let both = in_after_remove keys_total exact_keys m k q there in let here = in_from i c.live q both.1 in before_others (ap is_some found) q both.0 here.1 here.0)
         ∙ ap (λ n. (k, v) ∷ map.entries n) rest
 
-    -- once it is taken out, no live key is below the index after its own
+    -- once it is removed, no live key is below the index after its own
     pub above_next : IsLive c k → NoneBelow c.live i → NoneBelow (map.remove c.live k) (k.index + 1)
     above_next is_live above = NoneBelow-removed c.live k.index k (alone_at c well k k.index is_live refl) (λ q there. next q there (above q there))

@@ -1,4 +1,4 @@
--- What a walk that calls a closure at each entry, and keeps or drops it, leaves of a map.
+-- What an iteration leaves of a map, if it calls a closure for each entry and keeps or drops the entry.
 use Rattle.std.proofs.Common.{◌≡◌, Bool, true, false, cond, List, [], ◌∷◌, ◌++◌, append-nil, Some, None, is_some, refl, sym, ap, subst, ◌∙◌, arith}
 use denote.Param.Always.{always_mut, mut_next}
 use Rattle.std.specs.Fn.{Mut, Called, Takes}
@@ -31,7 +31,7 @@ module _ {K V : Type 0} (data_of : K → Key) where
   unkept k [] none = refl
   unkept k (x ∷ xs) none = let rest = unkept k xs in grind arith
 
-  -- the calls saw the entries of the old map outside of the rest, and the map holds what they kept, and the rest
+  -- The calls saw the entries of the old map outside of the rest. The map holds what they kept, and the rest
   pub record Visits (old : map.FinMap key_cmp V) (visits : List (Visit K V)) (rest now : map.FinMap key_cmp V) : Type 0 where
     pub listed : IsListingBut old (seen data_of visits) rest
     pub stay : now ≡ with_entries rest (kept data_of visits)
@@ -45,7 +45,7 @@ module _ {K V : Type 0} (data_of : K → Key) where
       ap (λ n. map.get n k) visits.stay ∙ get-with_entries rest (kept data_of xs) k
       ∙ ap (λ o. option_or o (map.get rest k)) (unkept k xs (unlisted_where_same old (seen data_of xs) rest k visits.listed same)) ∙ same
 
-  -- one more call, at an entry of the rest
+  -- one more call, for an entry of the rest
   pub Visits-call : (old : map.FinMap key_cmp V) (xs : List (Visit K V)) (rest now : map.FinMap key_cmp V) (x : Visit K V) → Visits old xs rest now → map.get rest (data_of x.key) ≡ Some x.before
       → Visits old (xs ++ x ∷ []) (map.remove rest (data_of x.key)) (cond x.stays (map.insert now (data_of x.key) x.after) (map.remove now (data_of x.key)))
   Visits-call old xs rest now x visits found =
@@ -80,17 +80,17 @@ module _ {K V : Type 0} (data_of : K → Key) where
   Visits-stay old xs now visits = visits.stay ∙ with_entries-empty (kept data_of xs)
 
 module _ {F K V : Type 0} (g : Mut F (K × (MutBor V × Unit {0})) (Bool × (MutBor V × Unit {0}))) (data_of : K → Key) where
-  -- what a closure keeps along its calls
+  -- what the calls of a closure keep true of it
   kept_along : (I : F → Type 0) → ((f f' : F) (x : Visit K V) → I f → CallsAt g f x f' → I f') → (f f' : F) (xs : List (Visit K V)) → I f → FoldsTo (CallsAt g) f xs f' → I f'
   kept_along I each f f' [] holds run = subst I run holds
   kept_along I each f f' (x ∷ xs) holds run = kept_along I each run.0 f' xs (each f run.0 x holds run.1) run.2
 
-  -- a closure may be called at each entry where what gives that holds of it, and each call keeps it
+  -- a closure may be called for each entry, if a fact allows a call and each call keeps the fact
   pub callable_by : (I : F → Type 0) → ((f f' : F) (x : Visit K V) → I f → CallsAt g f x f' → I f') → (f : F) (m : map.FinMap key_cmp V) → I f
       → ((f' : F) (key : K) (shown : MutBor V) → I f' → map.get m (data_of key) ≡ Some shown.now → Takes g f' (key, (shown, tt))) → CallableOnEach g data_of f m
   callable_by I each f m holds takes = record { at = λ f' key shown come found. takes f' key shown (kept_along I each f f' come.visits holds come.calls) found }
 
-  -- a closure that can be called always
+  -- a closure that can always be called
   pub callable_on_each : (f : F) (m : map.FinMap key_cmp V) → always_mut g f → CallableOnEach g data_of f m
   callable_on_each f m always =
       callable_by (always_mut g) (λ f f' x holds call. mut_next g f _ _ f' f' call.called refl holds) f m always (λ f' key shown holds found. (holds.at ((key, (shown, tt)) ∷ [])).0)

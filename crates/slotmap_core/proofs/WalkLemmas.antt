@@ -1,4 +1,4 @@
--- The live keys of a list of places and their values, by ascending index, are the entries of the map that they make.
+-- The live keys of a list of places and their values, by ascending index, are the entries of the map of these places.
 use Rattle.std.proofs.Common.{◌≡◌, ℕ, ◌+◌, ◌<◌, T, List, [], ◌∷◌, refl, sym, ap, ◌∙◌, arith}
 use Rattle.std.proofs.lemmas.Bool.Decides.{nat_tests}
 use Rattle.std.specs.FinMap as map

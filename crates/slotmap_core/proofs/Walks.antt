@@ -1,4 +1,4 @@
--- A loop over a map: what is ahead of it, and what it passed.
+-- A loop over a map: the pairs ahead of it, and those that it passed.
 use Rattle.std.proofs.Common.{◌≡◌, List, [], ◌∷◌, Some, All, Contains, ◌⊎◌, inl, arith}
 use Rattle.std.specs.FinMap as map
 use Rattle.std.proofs.lemmas.List.Elements.{All-head, All-tail}
@@ -18,22 +18,22 @@ module _ {V : Type 0} where
 
   module _ (m : map.FinMap key_cmp V) (ahead : List (Key × V)) (Passed : Key → V → Type 0) (walks : Walks m ahead Passed) where
     module _ (k : Key) (v : V) (rest : List (Key × V)) (next : ahead ≡ (k, v) ∷ rest) where
-      -- the pair that comes next is one of the map
+      -- the next pair is one of the map
       pub walk_here : map.get m k ≡ Some v
       walk_here = All-head (λ e. map.get m e.0 ≡ Some e.1) (k, v) rest (rw next at walks.all)
 
-      -- a step: the fact of what was passed still holds, and holds of this pair
+      -- a step: the fact still holds of what was passed, and holds of this pair
       pub walk_step : (After : Key → V → Type 0) → ((q : Key) (x : V) → Passed q x → After q x) → After k v → Walks m rest After
       walk_step After still here = record {
         all = All-tail (λ e. map.get m e.0 ≡ Some e.1) (k, v) rest (rw next at walks.all);
         each = λ q x found. grind (arith, walks.each q x found, still q x);
       }
 
-      -- the same where the fact names nothing that the loop changes
+      -- the same if the fact names nothing that the loop changes
       pub walk_next : Passed k v → Walks m rest Passed
       walk_next = walk_step Passed (λ q x past. past)
 
-    -- behind the loop each pair was passed
+    -- after the loop each pair was passed
     pub walk_end : ahead ≡ [] → (k : Key) (v : V) → map.get m k ≡ Some v → Passed k v
     walk_end done k v found = grind (arith, walks.each k v found)
 

@@ -1,4 +1,4 @@
--- The list that a map is written as: from its places, whether it is accepted, and what is read from it.
+-- The list that a map is written as: from its places, that it is accepted, and what is read from it.
 use Rattle.std.proofs.Common.{◌≡◌, ◌≢◌, ◌⊎◌, inl, inr, ℕ, zero, suc, ◌+◌, ◌-◌, ◌%◌, ◌<◌, ◌≤◌, Bool, true, false, List, length, slice_get, Some, is_some, refl, sym, ap, get_or, ◌∙◌, arith, eq-eqb}
 use Rattle.std.proofs.lemmas.Bool.Decides.{nat_tests}
 use Rattle.std.proofs.lemmas.List.{length-map, same_lists}
@@ -21,12 +21,12 @@ use Rattle.slotmap_core.proofs.StartLemmas.{consistent_at}
 use Rattle.slotmap_core.proofs.PlacesLemmas.{key, get-live, get-live_at, get-next_at, vacant_at, retired_at, contains-detached, total, retired_fits}
 
 module _ {V : Type 0} where
-  -- the last key of a place that is used up is retired
+  -- the last key of a retired place is retired
   retired_there : (ps : List (Place V)) (i : ℕ) → slice_get ps i ≡ Some Retired → set.contains (retired ps) (key i last_version) ≡ true
   unfolding retired
   retired_there ps i found = sym (is_marked _) ∙ ap is_some (gathers detached_laws (λ k. k.index) retired_entry retired_fits ps (key i last_version) tt Retired found refl)
 
--- the slots that places are written as, in a map that holds what those places say
+-- the slots that places are written as, in a map with the content of those places
 module _ {V : Type 0} (ps : List (Place V)) (c : Content V) (is_live : c.live ≡ live ps) (is_detached : c.detached ≡ detached ps) (is_retired : c.retired ≡ retired ps) (is_next : c.next ≡ next ps) (sentinel : slice_get ps 0 ≡ Some (Vacant 1)) where
   places_of : places c + 1 ≡ length ps
   places_of = omega (arith, total ps 1 sentinel, ap map.len is_live, ap set.len is_detached, ap set.len is_retired, ap map.len is_next)
@@ -54,7 +54,7 @@ pub writes-stack : {V : Type 0} (m : StackMap V) → IsStacked m.places m.vacant
 writes-stack m stacked = writes-places m.places (content m) refl refl refl refl stacked.sentinel
 
 module _ {V : Type 0} (reuses : Bool) (c : Content V) (valid : IsContent reuses c) (slots : List (SlotRecord V)) (writes : Writes c slots) where
-  -- what a slot from 1 on stands for: a live, a detached, a retired or a vacant place
+  -- what a slot from 1 on is the slot of: a live, a detached, a retired or a vacant place
   abbrev Stands : ℕ → SlotRecord V → Type 0
   Stands i slot =
       ((version : ℕ) × (v : V) × (map.get c.live (key i version) ≡ Some v) × (slot ≡ filled_slot version v) × IsKey (key i version))
@@ -79,7 +79,7 @@ module _ {V : Type 0} (reuses : Bool) (c : Content V) (valid : IsContent reuses 
       of_key k (inl (inr is)) there = inr (inl (k.version, is, cc (writes.detached k is), valid.keys k (inl (inr is))))
       of_key k (inr is) there = inr (inr (inl (grind (arith, nat_tests, valid.last k), cc (writes.retired k is))))
 
-  -- such a list is accepted, where it is short enough
+  -- such a list is accepted, if it is short enough
   pub written-accepted : (limit : ℕ) → length slots < limit → Accepts slots limit
   written-accepted limit short = record {
     short = short;
@@ -127,7 +127,7 @@ module _ {V : Type 0} (reuses : Bool) (c : Content V) (valid : IsContent reuses 
         let uses : Uses c k = inl (inr is) in
         rw (starts.next, ← here) (grind (arith, nat_tests, in_start_next slots k.index _ (writes.detached k is), valid.within k uses, valid.keys k uses))
 
-    -- a map that is read from such a list has the same live keys, and the detached ones have left
+    -- a map that is read from such a list has the same live keys, and the detached ones are gone
     pub written-restores : Restores c read
     written-restores = record {
       live = starts.live ∙ written-contents;
@@ -137,7 +137,7 @@ module _ {V : Type 0} (reuses : Bool) (c : Content V) (valid : IsContent reuses 
       same_places = omega (arith, starts.places, writes.all);
     }
 
--- a map that was read from a list is written as that list again, the first version apart
+-- a map that was read from a list is written as that list again, except for the first version
 module _ {V : Type 0} (slots : List (SlotRecord V)) (limit : ℕ) (accepted : Accepts slots limit) (read : Content V) (starts : StartsFrom slots read) (again : List (SlotRecord V)) (writes : Writes read again) where
   slot_again : (i : ℕ) (slot : SlotRecord V) → 0 < i → slice_get slots i ≡ Some slot → slice_get again i ≡ Some slot
   slot_again i slot positive found =

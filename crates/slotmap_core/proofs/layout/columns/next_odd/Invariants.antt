@@ -2,7 +2,7 @@ use Rattle.std.proofs.Common.{◌≤◌, ◌-◌, length}
 use Rattle.slotmap_core.specs.Columns.{AllEven}
 use Rattle.slotmap_core.proofs.layout.columns.next_odd.Given as goal
 
--- only even versions were passed over
+-- only even versions were skipped
 abbrev pub invariant-loop-index : goal.invariant-loop-index
 invariant-loop-index l = (l.start ≤ l.index) × ((l.index ≤ length l.versions) × AllEven l.versions l.start l.index)
 

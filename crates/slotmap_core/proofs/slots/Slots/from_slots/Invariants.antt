@@ -4,7 +4,7 @@ use Rattle.slotmap_core.specs.declared.serial.SlotRecord.{SlotRecord}
 use Rattle.slotmap_core.proofs.ListReadLemmas.{AreRead}
 use Rattle.slotmap_core.proofs.slots.Slots.from_slots.Given as goal
 
--- these records were read, after the first one
+-- after the first record, these were read
 abbrev pub invariant-loop-record : goal.invariant-loop-record
 invariant-loop-record g l = record {
   first : SlotRecord g.row.P.Denot;
