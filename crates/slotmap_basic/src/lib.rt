@@ -43,8 +43,8 @@ use std::marker::{Model, PhantomData};
 ///
 /// `insert` returns a new key, and the key is live until it is removed. The slot of a removed key
 /// is reused under a newer key, and the slot freed last is reused first. So a removed key is never
-/// found again, and no key is returned twice. After its key of version 4294967295, the last one, a
-/// slot is retired and never used again. In Rust its versions wrap around.
+/// found again, and no key is returned twice. Once its last key, of version 4294967295, is removed,
+/// a slot is retired and never used again. In Rust its versions wrap around.
 ///
 /// A live key can be detached: its value is taken out, and its slot is kept until `reattach` binds
 /// the key to a value again. At most 4294967294 keys can be live, detached or retired.

@@ -198,8 +198,8 @@ impl fmt::Debug for KeyData {
 
 /// A type of keys: a wrapper around `KeyData` and nothing more.
 ///
-/// Give each map a key type of its own, and the compiler tells their keys apart. `DefaultKey` is
-/// the key type of a map that names no other. To make a key type, copy the file of `NodeKey`.
+/// If each map has a key type of its own, the compiler rejects a key of another map. `DefaultKey`
+/// is the key type of a map that names no other. To make a key type, copy the file of `NodeKey`.
 ///
 /// Every key type proves that it behaves as its data do:
 ///
@@ -276,9 +276,9 @@ pub trait Key: From<KeyData> + Copy + Default + Eq + Ord + Hash + fmt::Debug {
 /// The key type of a map that names no other.
 ///
 /// ```
-/// let mut words = SlotMap::new(alloc)?;
-/// let key: DefaultKey = words.insert("hill")?;
-/// assert_eq!(rt; words[key], "hill");
+/// let mut map: SlotMap<DefaultKey, u64> = SlotMap::new(alloc)?;
+/// let key: DefaultKey = map.insert(5)?;
+/// assert_eq!(rt; map.get(key), Some(&5));
 /// ```
 #[derive(Clone, Copy, PartialEq, Eq, PartialOrd, Ord, Hash, Debug)]
 pub struct DefaultKey(KeyData);

@@ -35,7 +35,7 @@ use std::alloc::Global;
 /// assert_eq!(rt; Primary::remove(&mut map, key), Some(5));
 /// ```
 pub trait Primary<K: Key, V>: Sized {
-    /// Whether an insert into a vacant slot allocates nothing, nor a reattach of a detached key.
+    /// Whether an insert into a vacant slot and a reattach of a detached key allocate nothing.
     const REUSES: bool;
 
     ghost REUSES: { Bool };
@@ -179,7 +179,7 @@ pub trait Primary<K: Key, V>: Sized {
 
     /// Inserts the value that a closure returns for the new key, and returns the key.
     ///
-    /// Room is made first. Then the closure is called with the key that the call will return. If
+    /// Room is made first. Then the closure is called once, with the key that the call returns. If
     /// the closure fails, nothing changes, the error is returned in `Closure`, and the next insert
     /// uses the same key. The other errors are those of `insert`; for these the closure isn't
     /// called.

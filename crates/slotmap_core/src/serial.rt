@@ -1,4 +1,4 @@
-//! Lists of slots, as which a map is written and read back, and their JSON.
+//! Lists of slots, the form in which a map is written and read back, and their JSON.
 //!
 //! A list has one `SlotRecord` for each slot of a map, from slot 0 on.
 

@@ -13,9 +13,9 @@ use std::marker::Model;
 /// A key of this type can't be passed to a map of `DefaultKey`, nor the other way round.
 ///
 /// ```
-/// let mut words = SlotMap::with_key(alloc)?;
-/// let key: NodeKey = words.insert("hill")?;
-/// assert_eq!(rt; words[key], "hill");
+/// let mut map: SlotMap<NodeKey, u64> = SlotMap::with_key(alloc)?;
+/// let key: NodeKey = map.insert(5)?;
+/// assert_eq!(rt; map.get(key), Some(&5));
 /// ```
 #[derive(Clone, Copy, PartialEq, Eq, PartialOrd, Ord, Hash, Debug)]
 pub struct NodeKey(KeyData);
