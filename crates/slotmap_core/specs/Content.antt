@@ -9,7 +9,7 @@ use Rattle.slotmap_core.specs.Key.{Key, IsKey, is_last, key_cmp, coded_key}
 pub record Content (V : Type 0) : Type 0 where
   pub live : map.FinMap key_cmp V
   pub detached : set.FinSet key_cmp
-  -- the last key of each place whose versions are used up
+  -- the last key of each retired place
   pub retired : set.FinSet key_cmp
   -- the version that the next key at each vacant index will have
   pub next : map.FinMap nat_cmp ℕ
