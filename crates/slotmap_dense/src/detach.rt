@@ -1,4 +1,4 @@
-//! Keys whose value is out and whose place is kept.
+//! Detached keys: the value is out, and the slot is kept.
 
 ghost use Rattle.std.specs.Prelude.{◌≡◌, OnSome, IfSome, IfNone, OnOk, IfErr, IsErr, false};
 ghost use Rattle.std.specs.FinMap as map;
@@ -13,19 +13,19 @@ use slotmap_core::errors::ReattachError;
 use slotmap_core::keys::Key;
 
 impl<K: Key, V: Drop> DenseSlotMap<K, V> {
-    /// Takes a live key's value out and keeps its place for the key, or answers none where the key
-    /// isn't live. Constant time.
+    /// Takes out the value of a live key and keeps its slot, or returns `None` if the key isn't
+    /// live. Constant time.
     ///
-    /// The key is detached: it finds nothing, and no insert uses its place, until `reattach` binds
-    /// it again. `clear`, `drain` and `retain` leave it so. Detaching retires no place. The last key
-    /// and its value take their place in the packed order, as at `remove`. Takes no memory.
+    /// The key is then detached: it has no value, and no insert uses its slot, until `reattach`
+    /// binds it again. `clear`, `drain` and `retain` leave it detached. Detaching never retires a
+    /// slot. The last key and its value move to the detached pair's position in the packed order.
+    /// The call allocates nothing.
     ///
     /// ```
-    /// let key = map.insert(5).ok()?;
-    /// assert_eq!(rt; map.detach(key), Some(5));
-    /// assert!(rt; !map.contains_key(key));
-    /// assert!(rt; map.reattach(key, 6).is_ok());
-    /// assert_eq!(rt; map.get(key).copied(), Some(6));
+    /// assert_eq!(rt; map.detach(a), Some(1));
+    /// assert!(rt; !map.contains_key(a));
+    /// map.reattach(a, 5)?;
+    /// assert_eq!(rt; map.get(a).copied(), Some(5));
     /// ```
     pub fn detach(&mut self, key: K) -> Option<V>
         ensures value { result ≡ map.get self.old.content.live (K.data_of key) }
@@ -39,12 +39,19 @@ impl<K: Key, V: Drop> DenseSlotMap<K, V> {
         Some(close_gap(&mut self.slots, &mut self.keys, &mut self.values, position))
     }
 
-    /// Binds a detached key to a value again, at the end of the packed order. Constant time where
-    /// no vector moves.
+    /// Binds a detached key to a value again. Constant time if no vector moves.
     ///
-    /// `NotDetached` exactly where the key isn't detached, where Rust panics, else `Memory` where
-    /// room in the lists of keys and values was refused; both hand the value back, and the map holds
-    /// what it held. After a `reserve` no memory is asked for.
+    /// The key and the value are appended to the packed order. Fails with `NotDetached` exactly if
+    /// the key isn't detached, where Rust panics. Else fails with `Memory` if the lists of keys and
+    /// values have to grow and the allocation fails. The error holds the value, and the map holds
+    /// what it held. After a `reserve` it allocates nothing.
+    ///
+    /// ```
+    /// map.detach(a);
+    /// map.reattach(a, 5)?;
+    /// assert_eq!(rt; map.get(a).copied(), Some(5));
+    /// assert!(rt; matches!(map.reattach(a, 6), Err(ReattachError::NotDetached(6))));
+    /// ```
     pub fn reattach(&mut self, key: K, value: V) -> Result<(), ReattachError<V>>
         ensures ok { OnOk result (Reattaches self.old.content (K.data_of key) value self.new.content) }
         ensures order { OnOk result (Appends self.old (K.data_of key) value self.new) }

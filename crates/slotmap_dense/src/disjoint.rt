@@ -13,7 +13,7 @@ use crate::DenseSlotMap;
 use slotmap_core::keys::Key;
 use std::mem;
 
-// Two elements of a slice, for writing.
+// Mutable references to two elements of a slice.
 fn two_of<V>(values: &mut [V], first: usize, second: usize) -> (&mut V, &mut V)
     requires apart { first ≢ second }
     requires first { first < length values.old }
@@ -32,16 +32,15 @@ fn two_of<V>(values: &mut [V], first: usize, second: usize) -> (&mut V, &mut V)
 }
 
 impl<K: Key, V: Drop> DenseSlotMap<K, V> {
-    /// Gives each key the value at its place, and answers the values that the keys had.
+    /// Replaces the value of `keys[i]` by `values[i]`, for each i, and returns the old values.
     ///
-    /// Exactly where one of the keys is not live, or two are equal, it hands the values back, and
-    /// the map stays as it is. It takes no memory, and its time does not depend on the size of the
-    /// map: it looks up each key, and compares each two.
+    /// Fails exactly if a key isn't live or two keys are equal. The error holds the new values, and
+    /// nothing changes. It allocates nothing. It looks up each key and compares each two keys, so
+    /// its time doesn't depend on the size of the map.
     ///
     /// ```
-    /// if let Ok([old_a, old_b]) = map.replace_disjoint([a, b], [1, 2]) {
-    ///     // Both were live, and a is not b.
-    /// }
+    /// assert_eq!(rt; map.replace_disjoint([a, b], [10, 20]), Ok([1, 2]));
+    /// assert_eq!(rt; map.replace_disjoint([a, a], [3, 4]), Err([3, 4]));
     /// ```
     pub fn replace_disjoint<const N: usize>(
         &mut self,
@@ -67,14 +66,14 @@ impl<K: Key, V: Drop> DenseSlotMap<K, V> {
         Ok(values)
     }
 
-    /// Whether each key is live, and no two are equal: exactly then `replace_disjoint` and
-    /// `get_disjoint_mut` succeed. It looks up each key, and compares each two. Rust lacks this call.
+    /// Returns whether each key is live and no two are equal.
+    ///
+    /// Exactly then `replace_disjoint` and `get_disjoint_mut` succeed. It looks up each key and
+    /// compares each two keys. Rust lacks this call.
     ///
     /// ```
-    /// if map.can_replace(&[a, b]) {
-    ///     let (first, second) = map.get_disjoint_unchecked_mut([a, b]);
-    ///     *first = *second;
-    /// }
+    /// assert!(rt; map.can_replace(&[a, b]));
+    /// assert!(rt; !map.can_replace(&[a, a]));
     /// ```
     pub fn can_replace(&self, keys: &[K]) -> bool
         ensures which { IsTrue result ↔ CanReplace value_of self.now (map_list K.data_of keys.now) }
@@ -100,7 +99,7 @@ impl<K: Key, V: Drop> DenseSlotMap<K, V> {
         mem::swap(self.get_unchecked_mut(key), value);
     }
 
-    // The values of two keys that are live and not equal, for writing.
+    // Mutable references to the values of two keys that are live and not equal.
     fn lend_two(&mut self, first: K, second: K) -> (&mut V, &mut V)
         requires first { IsLive self.old.content (K.data_of first) }
         requires second { IsLive self.old.content (K.data_of second) }
@@ -114,13 +113,19 @@ impl<K: Key, V: Drop> DenseSlotMap<K, V> {
         two_of(self.values_as_mut_slice(), i, j)
     }
 
-    /// The values of two keys for writing, or none where one of them is not live, or the two are
-    /// equal. It takes no memory, and constant time.
+    /// Returns mutable references to the values of two keys, or `None` if a key isn't live or the
+    /// two are equal. Constant time.
     ///
-    /// The contract says what the map holds before, and not what it holds after: neither after
-    /// `None`, nor once the two references end. A caller who has to know calls
-    /// [`DenseSlotMap::replace_disjoint`], or asks [`DenseSlotMap::can_replace`] first. In Rust there
-    /// may be any number of keys.
+    /// The call allocates nothing. Its contract says what the references show, but not what the map
+    /// holds once they end, nor after `None`. For that call [`DenseSlotMap::replace_disjoint`], or
+    /// ask [`DenseSlotMap::can_replace`] first. In Rust there may be any number of keys.
+    ///
+    /// ```
+    /// if let Some((first, second)) = map.get_disjoint_mut([a, b]) {
+    ///     *first = *second;
+    /// }
+    /// assert_eq!(rt; map.get(a).copied(), Some(2));
+    /// ```
     pub fn get_disjoint_mut(&mut self, keys: [K; 2]) -> Option<(&mut V, &mut V)>
         ensures which { IsSome result ↔ CanReplace value_of self.old (map_list K.data_of keys) }
         ensures value { IfSome result (λ pair. AreValuesOf value_of self.old (map_list K.data_of keys) (pair.0.now ∷ pair.1.now ∷ [])) }
@@ -133,11 +138,18 @@ impl<K: Key, V: Drop> DenseSlotMap<K, V> {
         }
     }
 
-    /// The values of two keys that are live and not equal, for writing, with no look-up. Constant
+    /// Returns mutable references to the values of two keys, without checking the keys. Constant
     /// time.
     ///
-    /// The caller has to know both; so the call is safe, where Rust's is `unsafe`. What it says of
-    /// the map that it leaves is as at `get_disjoint_mut`.
+    /// The caller has to prove that both keys are live and not equal. So the call is safe; in Rust
+    /// it is `unsafe`. As with `get_disjoint_mut`, its contract doesn't say what the map holds once
+    /// the references end.
+    ///
+    /// ```
+    /// let (first, second) = map.get_disjoint_unchecked_mut([a, b]);
+    /// *first = *second;
+    /// assert_eq!(rt; map.get(a).copied(), Some(2));
+    /// ```
     pub fn get_disjoint_unchecked_mut(&mut self, keys: [K; 2]) -> (&mut V, &mut V)
         requires { CanReplace value_of self.old (map_list K.data_of keys) }
         ensures value { AreValuesOf value_of self.old (map_list K.data_of keys) (result.0.now ∷ result.1.now ∷ []) }

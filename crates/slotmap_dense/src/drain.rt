@@ -1,4 +1,4 @@
-//! A walk that takes the pairs out of a map.
+//! An iterator that removes the pairs from a map.
 
 ghost use Rattle.std.specs.Prelude.{◌≡◌, ◌≤◌, Some, IfSome};
 ghost use Rattle.std.specs.Iterator.{size, UpTo};
@@ -8,10 +8,11 @@ use crate::DenseSlotMap;
 use slotmap_core::keys::Key;
 use std::iter::FusedIterator;
 
-/// A walk that takes the pairs out of a map, from the back of the packed order. Once it is dropped,
-/// no key of the map is live.
+/// An iterator that removes the live keys from a map and yields them with their values, from the
+/// back of the packed order.
 ///
-/// `DenseSlotMap::drain` makes it. Its drop removes the keys that are left.
+/// [`DenseSlotMap::drain`] returns it. When it is dropped, it removes the keys that are left. No
+/// key of the map is live then.
 pub struct Drain<'a, K: Key, V> {
     map: &'a mut DenseSlotMap<K, V>,
 }
@@ -65,21 +66,24 @@ impl<'a, K: Key, V: Drop> FusedIterator for Drain<'a, K, V> {}
 impl<K: Key, V: Drop> DenseSlotMap<K, V> {
     ghost use Rattle.slotmap_dense.specs.Drain.{drain_map, drain_lender, DrainKeepsAlong, DrainLists, DrainInOrder};
 
-    /// Takes the live keys with their values out, from the back of the packed order.
+    /// Returns an iterator that removes the live keys and yields them with their values, from the
+    /// back of the packed order.
     ///
-    /// Each key is removed as it comes, as `remove` does, and no pair moves. The walk may be dropped
-    /// at any step, and then the keys that are left are removed too. Detached keys stay detached.
+    /// Each key is removed when it is yielded, as `remove` does, and no pair moves. The iterator
+    /// may be dropped early; it then removes the keys that are left. Detached keys stay detached.
     /// Each step takes constant time.
     ///
     /// ```
-    /// for (key, value) in map.drain() {
-    ///     println!(rt; "{key:?}: {value}")?;
+    /// let mut sum = 0;
+    /// for (_key, value) in map.drain() {
+    ///     sum += value;
     /// }
+    /// assert!(rt; sum == 3 && map.is_empty());
     /// ```
     pub fn drain(&mut self) -> Drain<'_, K, V>
         ensures map { drain_map result ≡ self.old }
         ensures same_reference { drain_lender result ≡ self.entry.ghost_name }
-        // Laws of the steps, for callers that walk on.
+        // Laws of the steps, for callers that go on with the iterator.
         ensures stays { DrainKeepsAlong K.data_of result }
         ensures lists { DrainLists K.data_of result }
         ensures in_order { DrainInOrder K.data_of result }

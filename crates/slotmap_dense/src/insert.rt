@@ -12,7 +12,7 @@ use slotmap_core::errors::{InsertError, InsertWithError, ReserveError, TryInsert
 use slotmap_core::keys::Key;
 
 impl<K: Key, V: Drop> DenseSlotMap<K, V> {
-    // The key that the next insert answers.
+    // The key that the next insert returns.
     fn next_key(&self) -> K
         requires { 0 < self.now.content.room }
         ensures { K.data_of result ≡ self.now.content.offer }
@@ -47,20 +47,21 @@ impl<K: Key, V: Drop> DenseSlotMap<K, V> {
         key
     }
 
-    /// Stores a value under a new key, at the end of the packed order, and answers the key. Constant
-    /// time where no vector moves.
+    /// Inserts a value and returns its new key. Constant time if no vector moves.
     ///
-    /// The place that was freed last is used; where none is vacant a new place is made. `Full`
-    /// exactly where 4294967294 keys are live, detached or retired, else `Memory` where a new place,
-    /// or room in the lists of keys and values, was refused; both hand the value back, and the map
-    /// holds what it held. In Rust a full map panics, and want of memory aborts.
+    /// Reuses the slot freed last; if none is vacant, adds one. The key and its value are appended
+    /// to the packed order. Even if a slot is vacant, the lists of keys and values may have to
+    /// grow, unless room was reserved.
+    ///
+    /// Fails with `Full` exactly if 4294967294 slots are live, detached or retired, else with
+    /// `Memory` if an allocation fails. The error holds the value, and the map holds what it held.
+    /// Rust panics if the map is full, and aborts if memory runs out.
     ///
     /// ```
-    /// let first = map.insert(5).ok()?;
-    /// map.remove(first);
-    /// let second = map.insert(6).ok()?;
-    /// assert_eq!(rt; second.data().idx(), first.data().idx());
-    /// assert!(rt; second != first);
+    /// map.remove(b);
+    /// let c = map.insert(3)?;
+    /// assert_eq!(rt; c.data().idx(), b.data().idx());
+    /// assert!(rt; c != b);
     /// ```
     #[inline(always)]
     pub fn insert(&mut self, value: V) -> Result<K, InsertError<V>>
@@ -78,16 +79,15 @@ impl<K: Key, V: Drop> DenseSlotMap<K, V> {
         Ok(self.append(value))
     }
 
-    /// Stores the value that the closure gives for the new key, and answers the key. Costs as
-    /// `insert`.
+    /// Inserts the value that a closure makes from the new key, and returns the key.
     ///
-    /// There is room before the closure is called, once and on the key that will be answered; in
-    /// Rust the closure runs before the vectors grow. On `Full` and `Memory`, which come as at
-    /// `insert`, the closure is dropped uncalled.
+    /// It reserves room first, then calls the closure once, with the key that it will return. In
+    /// Rust the closure runs before the vectors grow. Fails with `Full` or `Memory` as `insert`
+    /// does; the closure is then dropped without a call. Costs as much as `insert`.
     ///
     /// ```
-    /// let key = map.insert_with_key(|key: DefaultKey| key.data().idx()).ok()?;
-    /// assert_eq!(rt; map.get(key).copied(), Some(key.data().idx()));
+    /// let c = map.insert_with_key(|key: DefaultKey| key.data().idx() as u64)?;
+    /// assert_eq!(rt; map.get(c).copied(), Some(3));
     /// ```
     pub fn insert_with_key<F: FnOnce(K) -> V>(&mut self, f: F) -> Result<K, InsertWithError>
     where
@@ -111,15 +111,17 @@ impl<K: Key, V: Drop> DenseSlotMap<K, V> {
         Ok(key)
     }
 
-    /// Stores the value that the closure gives for the new key, and answers the key. Costs as
-    /// `insert`.
+    /// Inserts the value that a closure makes from the new key, and returns the key, unless the
+    /// closure fails.
     ///
-    /// As `insert_with_key`; and where the closure answers an error nothing changes, the error is
-    /// handed on in `Closure`, and the next insert answers the key that the closure saw.
+    /// It does what `insert_with_key` does. If the closure returns an error, the call fails with
+    /// `Closure`, which holds that error. The map then holds what it held, and the next insert
+    /// returns the key that the closure was given. Costs as much as `insert`.
     ///
     /// ```
-    /// let refused = map.try_insert_with_key(|_| Err::<u32, u64>(9));
-    /// assert!(rt; matches!(refused, Err(TryInsertError::Closure(9))));
+    /// let failed = map.try_insert_with_key(|_| Err::<u64, u64>(9));
+    /// assert!(rt; matches!(failed, Err(TryInsertError::Closure(9))));
+    /// assert_eq!(rt; map.len(), 2);
     /// ```
     pub fn try_insert_with_key<F: FnOnce(K) -> Result<V, E>, E>(
         &mut self,

@@ -1,4 +1,4 @@
-//! The walk that takes a map apart.
+//! The iterator that consumes a map.
 
 ghost use Rattle.std.specs.Prelude.{◌≡◌, ◌≤◌, length, Some, IfSome, IfOk};
 ghost use Rattle.std.specs.Iterator.{YieldsFirstBy, item_count, at_most, UpTo};
@@ -10,12 +10,11 @@ use std::alloc::AllocError;
 use std::collections::VecDeque;
 use std::marker::Model;
 
-/// A walk over the live keys of a map and their values, by value and in packed order: what a `for`
-/// over a map takes.
+/// An iterator that consumes a map and yields its live keys and their values, in packed order.
 ///
-/// A contract sees it as the list of the pairs that are still to come. At its end it stays there. A
-/// full walk takes time linear in the number of live keys, and no memory. Values that it has not
-/// handed out are dropped with it.
+/// A `for` over a map takes it. Contracts see it as the list of the pairs still to come. After the
+/// last pair it yields `None` forever. Dropping it drops the values that it hasn't yielded. All
+/// steps together take time linear in the number of live keys, and allocate nothing.
 #[derive(Drop)]
 pub struct IntoIter<K: Key, V> {
     keys: Vec<K>,
@@ -38,7 +37,13 @@ impl<K: Key, V> Model for IntoIter<K, V> {
 }
 
 impl<K: Key, V> IntoIter<K, V> {
-    /// How many pairs are still to come, in constant time.
+    /// Returns the number of pairs still to come. Constant time.
+    ///
+    /// ```
+    /// let mut pairs = map.into_iter();
+    /// pairs.next();
+    /// assert_eq!(rt; pairs.len(), 1);
+    /// ```
     pub fn len(&self) -> usize
         ensures { result ≡ length self.now }
     {
@@ -47,11 +52,18 @@ impl<K: Key, V> IntoIter<K, V> {
 }
 
 impl<K: Key, V: Clone> IntoIter<K, V> {
-    /// A second walk over the pairs that are still to come, with clones of the values.
+    /// Returns a second iterator over the pairs still to come, with clones of the values.
     ///
-    /// The caller answers for it that a clone of a value equals the value. Where there is no memory
-    /// it refuses, and the walk stays as it is. It copies every key of the map, and clones the values
-    /// that are still to come.
+    /// The caller has to prove that a clone of a value equals the value. Fails if an allocation or
+    /// a clone fails; this iterator stays as it is. It copies each key of the map, and clones the
+    /// values still to come.
+    ///
+    /// ```
+    /// let pairs = map.into_iter();
+    /// let mut copy = pairs.clone()?;
+    /// assert_eq!(rt; copy.next(), Some((a, 1)));
+    /// assert_eq!(rt; pairs.len(), 2);
+    /// ```
     pub fn clone(&self) -> Result<Self, AllocError>
         requires { (x y : V) → V.is_clone x y → y ≡ x }
         ensures { IfOk result (λ copy. copy ≡ self.now) }

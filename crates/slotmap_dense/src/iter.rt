@@ -1,4 +1,4 @@
-//! Walks over the keys and values of a map, in packed order.
+//! Iterators over the keys and values of a map, in packed order.
 
 ghost use Rattle.std.specs.Prelude.{◌≡◌, ◌≤◌, length, Some, IfSome, ⊤};
 ghost use Rattle.std.specs.Iterator.{YieldsFirstBy, item_count, at_most, UpTo};
@@ -11,11 +11,11 @@ use slotmap_core::keys::Key;
 use std::alloc::AllocError;
 use std::marker::Model;
 
-/// A walk over the live keys of a map and their values, in packed order: see
-/// [`DenseSlotMap::iter`].
+/// An iterator over the live keys and their values, in packed order; [`DenseSlotMap::iter`] returns
+/// it.
 ///
-/// A contract sees it as the list of the pairs that are still to come. At its end it stays there. A
-/// clone of it walks over the same pairs, and takes no memory.
+/// Contracts see it as the list of the pairs still to come. After the last pair it yields `None`
+/// forever. A clone of it yields the same pairs, and allocates nothing.
 #[derive(Drop)]
 pub struct Iter<'a, K: Key, V> {
     keys: &'a [K],
@@ -37,7 +37,13 @@ impl<'a, K: Key, V> Model for Iter<'a, K, V> {
 }
 
 impl<'a, K: Key, V> Iter<'a, K, V> {
-    /// How many pairs are still to come, in constant time.
+    /// Returns the number of pairs still to come. Constant time.
+    ///
+    /// ```
+    /// let mut pairs = map.iter();
+    /// pairs.next();
+    /// assert_eq!(rt; pairs.len(), 1);
+    /// ```
     pub fn len(&self) -> usize
         ensures { result ≡ length self.now }
     {
@@ -86,10 +92,10 @@ impl<'a, K: Key, V> Iterator for Iter<'a, K, V> {
     }
 }
 
-/// A walk over the live keys of a map, in packed order: see [`DenseSlotMap::keys`].
+/// An iterator over the live keys, in packed order; [`DenseSlotMap::keys`] returns it.
 ///
-/// A contract sees it as the list of the keys that are still to come. At its end it stays there. A
-/// clone of it walks over the same keys, and takes no memory.
+/// Contracts see it as the list of the keys still to come. After the last key it yields `None`
+/// forever. A clone of it yields the same keys, and allocates nothing.
 #[derive(Drop)]
 pub struct Keys<'a, K: Key, V> {
     pairs: Iter<'a, K, V>,
@@ -105,7 +111,13 @@ impl<'a, K: Key, V> Model for Keys<'a, K, V> {
 }
 
 impl<'a, K: Key, V> Keys<'a, K, V> {
-    /// How many keys are still to come, in constant time.
+    /// Returns the number of keys still to come. Constant time.
+    ///
+    /// ```
+    /// let mut keys = map.keys();
+    /// keys.next();
+    /// assert_eq!(rt; keys.len(), 1);
+    /// ```
     pub fn len(&self) -> usize
         ensures { result ≡ length self.now }
     {
@@ -147,10 +159,11 @@ impl<'a, K: Key, V> Iterator for Keys<'a, K, V> {
     }
 }
 
-/// A walk over the values of a map, in packed order: see [`DenseSlotMap::values`].
+/// An iterator over the values of the live keys, in packed order; [`DenseSlotMap::values`] returns
+/// it.
 ///
-/// A contract sees it as the list of the values that are still to come. At its end it stays there.
-/// A clone of it walks over the same values, and takes no memory.
+/// Contracts see it as the list of the values still to come. After the last value it yields `None`
+/// forever. A clone of it yields the same values, and allocates nothing.
 #[derive(Drop)]
 pub struct Values<'a, K: Key, V> {
     pairs: Iter<'a, K, V>,
@@ -165,7 +178,13 @@ impl<'a, K: Key, V> Model for Values<'a, K, V> {
 }
 
 impl<'a, K: Key, V> Values<'a, K, V> {
-    /// How many values are still to come, in constant time.
+    /// Returns the number of values still to come. Constant time.
+    ///
+    /// ```
+    /// let mut values = map.values();
+    /// values.next();
+    /// assert_eq!(rt; values.len(), 1);
+    /// ```
     pub fn len(&self) -> usize
         ensures { result ≡ length self.now }
     {
@@ -208,15 +227,15 @@ impl<'a, K: Key, V> Iterator for Values<'a, K, V> {
 }
 
 impl<K: Key, V> DenseSlotMap<K, V> {
-    /// A walk over the live keys and their values, in packed order.
+    /// Returns an iterator over the live keys and their values, in packed order.
     ///
-    /// It is made in constant time, and a full walk takes time linear in the number of live keys,
-    /// however many places the map has. It takes no memory.
+    /// It is made in constant time and allocates nothing. All steps together take time linear in
+    /// the number of live keys, however many slots the map has.
     ///
     /// ```
-    /// for (key, value) in map.iter() {
-    ///     println!(rt; "{key:?}: {value}")?;
-    /// }
+    /// let mut pairs = map.iter();
+    /// assert_eq!(rt; pairs.next().map(|(key, value)| (key, *value)), Some((a, 1)));
+    /// assert_eq!(rt; pairs.len(), 1);
     /// ```
     pub fn iter(&self) -> Iter<'_, K, V>
         ensures listing { IsListing self.now.content.live result }
@@ -230,7 +249,15 @@ impl<K: Key, V> DenseSlotMap<K, V> {
         }
     }
 
-    /// A walk over the live keys, in packed order. It costs the same as [`DenseSlotMap::iter`].
+    /// Returns an iterator over the live keys, in packed order.
+    ///
+    /// It costs as much as [`DenseSlotMap::iter`].
+    ///
+    /// ```
+    /// let mut keys = map.keys();
+    /// assert_eq!(rt; (keys.next(), keys.next()), (Some(a), Some(b)));
+    /// assert_eq!(rt; keys.next(), None);
+    /// ```
     pub fn keys(&self) -> Keys<'_, K, V>
         ensures listing { IsKeyListing self.now.content.live result }
         ensures in_order { result ≡ self.now.keys }
@@ -239,8 +266,17 @@ impl<K: Key, V> DenseSlotMap<K, V> {
         Keys { pairs: self.iter() }
     }
 
-    /// A walk over the values of the live keys, in packed order. It costs the same as
-    /// [`DenseSlotMap::iter`].
+    /// Returns an iterator over the values of the live keys, in packed order.
+    ///
+    /// It costs as much as [`DenseSlotMap::iter`].
+    ///
+    /// ```
+    /// let mut sum = 0;
+    /// for value in map.values() {
+    ///     sum += *value;
+    /// }
+    /// assert_eq!(rt; sum, 3);
+    /// ```
     pub fn values(&self) -> Values<'_, K, V>
         ensures listing { IsValueListing self.now.content.live result }
         ensures in_order { result ≡ self.now.values }

@@ -1,5 +1,5 @@
-//! Walks that lend the values for writing, in packed order. They have no model, so that a contract
-//! can follow the loan.
+//! Iterators that yield mutable references to the values, in packed order. They have no model, so
+//! that a contract can follow the loan.
 
 ghost use Rattle.std.specs.Prelude.{◌≡◌, ◌≤◌, length, IfSome, Some};
 ghost use Rattle.std.specs.Borrow.{sem};
@@ -15,8 +15,8 @@ use slotmap_core::keys::Key;
 use std::marker::PhantomData;
 use std::slice;
 
-/// A walk over the live keys of a map and their values, which it lends for writing, in packed
-/// order: see [`DenseSlotMap::iter_mut`].
+/// An iterator over the live keys and mutable references to their values, in packed order;
+/// [`DenseSlotMap::iter_mut`] returns it.
 #[derive(Drop)]
 pub struct IterMut<'a, K, V> {
     keys: slice::Iter<'a, K>,
@@ -48,7 +48,13 @@ impl<'a, K: Key, V> Iterator for IterMut<'a, K, V> {
 }
 
 impl<'a, K: Key, V> IterMut<'a, K, V> {
-    /// How many pairs are still to come, in constant time.
+    /// Returns the number of pairs still to come. Constant time.
+    ///
+    /// ```
+    /// let mut pairs = map.iter_mut();
+    /// pairs.next();
+    /// assert_eq!(rt; pairs.len(), 1);
+    /// ```
     pub fn len(&self) -> usize
         ensures { result ≡ length (iter_mut_rest K.data_of self.now) }
     {
@@ -56,8 +62,8 @@ impl<'a, K: Key, V> IterMut<'a, K, V> {
     }
 }
 
-/// A walk over the values of the live keys of a map, which it lends for writing, in packed order:
-/// see [`DenseSlotMap::values_mut`].
+/// An iterator over mutable references to the values of the live keys, in packed order;
+/// [`DenseSlotMap::values_mut`] returns it.
 #[derive(Drop)]
 pub struct ValuesMut<'a, K, V> {
     values: slice::IterMut<'a, V>,
@@ -86,7 +92,13 @@ impl<'a, K, V> Iterator for ValuesMut<'a, K, V> {
 }
 
 impl<'a, K, V> ValuesMut<'a, K, V> {
-    /// How many values are still to come, in constant time.
+    /// Returns the number of values still to come. Constant time.
+    ///
+    /// ```
+    /// let mut values = map.values_mut();
+    /// values.next();
+    /// assert_eq!(rt; values.len(), 1);
+    /// ```
     pub fn len(&self) -> usize
         ensures { result ≡ length (values_mut_rest self.now) }
     {
@@ -95,15 +107,17 @@ impl<'a, K, V> ValuesMut<'a, K, V> {
 }
 
 impl<K: Key, V: Drop> DenseSlotMap<K, V> {
-    /// A walk over the live keys and their values, in packed order, each value lent for writing.
+    /// Returns an iterator over the live keys and mutable references to their values, in packed
+    /// order.
     ///
-    /// Once the walk ends, each key has the last value written through its reference, and all else
-    /// is as before. It is made in constant time, and takes no memory.
+    /// Once the iterator ends, each key has the last value written through its reference. Nothing
+    /// else changes. It is made in constant time and allocates nothing.
     ///
     /// ```
     /// for (_key, value) in map.iter_mut() {
-    ///     *value = *value + 1;
+    ///     *value = *value + 10;
     /// }
+    /// assert_eq!(rt; map.get(a).copied(), Some(11));
     /// ```
     pub fn iter_mut(&mut self) -> IterMut<'_, K, V>
         ensures* writes_back { sem 𝓛 (lends_walk K.row V.row K.Key self.entry (iter_mut_name result)) }
@@ -117,8 +131,16 @@ impl<K: Key, V: Drop> DenseSlotMap<K, V> {
         }
     }
 
-    /// A walk over the values of the live keys, in packed order, each lent for writing. It costs the
-    /// same as [`DenseSlotMap::iter_mut`], and ends as it does.
+    /// Returns an iterator over mutable references to the values of the live keys, in packed order.
+    ///
+    /// It costs as much as [`DenseSlotMap::iter_mut`], and its writes have the same effect.
+    ///
+    /// ```
+    /// for value in map.values_mut() {
+    ///     *value = *value + 10;
+    /// }
+    /// assert_eq!(rt; map.get(b).copied(), Some(12));
+    /// ```
     pub fn values_mut(&mut self) -> ValuesMut<'_, K, V>
         ensures* writes_back { sem 𝓛 (lends_walk K.row V.row K.Key self.entry (values_mut_name result)) }
         ensures in_order { values_mut_rest result ≡ self.old.values }

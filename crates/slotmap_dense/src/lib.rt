@@ -1,7 +1,8 @@
-//! `DenseSlotMap`: values under keys that the map hands out, stored with no gaps.
+//! `DenseSlotMap`: values under keys that the map makes, stored with no gaps.
 //!
-//! Clauses see a map as a content (`Content` of the core) and its packed order (`Dense`): the live
-//! keys in a list, and their values at the same positions in another.
+//! Contracts see a map as its content (`Content` of the core) and its packed order (`Dense`). The
+//! packed order is the list of the live keys, with their values at the same positions of another
+//! list.
 #![tactic(auto)]
 
 ghost use Rattle.std.specs.Prelude.{◌≡◌, [], Some, ◌+◌, ◌≤◌, ◌↔◌, IsTrue, IfOk, IfErr, IsOk, OnOk, vec_len, vec_capacity};
@@ -38,26 +39,27 @@ use slotmap_core::slots::Slots;
 use std::alloc::{AllocError, Global};
 use std::marker::Model;
 
-/// Values under keys that the map hands out, in a vector with no gaps.
+/// A map that makes a key for each value, and stores the values with no gaps.
 ///
-/// An insert answers a new key, and the key is live until its value is removed. Its place is then
-/// used again, the place that was freed last first, under a newer key: so a key that was removed is
-/// never found again, and no key is handed out twice. A key of the last version that is removed
-/// retires its place, which no insert uses from then on; in Rust its versions start again.
+/// `insert` returns a new key, which is live until its value is removed. The slot of a removed key
+/// is used again under a newer key; the slot freed last is used first. So a removed key is never
+/// found again, and no key is returned twice. After the key of version 4294967295 is removed, its
+/// slot is retired and never used again. In Rust its versions wrap around.
 ///
-/// The live keys stand in a list, and their values at the same positions in another, with no gaps:
-/// the packed order. An insert appends to both; a removal puts the last pair where the removed one
-/// stood. A walk goes over these lists alone, however many places the map has.
+/// The live keys are in one list, and their values are at the same positions in another list. This
+/// is the packed order. An insert appends to both lists. A removal moves the last pair to the
+/// position of the removed one. Iterators read these two lists alone, so vacant slots cost them
+/// nothing.
 ///
-/// A live key can be detached: its value is taken out, and its place is kept until the key is bound
-/// again by `reattach`. At most 4294967294 keys can be live or detached or have retired places.
+/// A live key can be detached: its value is taken out, and its slot is kept until `reattach` binds
+/// the key to a value again. At most 4294967294 slots can be live, detached or retired.
 ///
 /// ```
-/// let mut map: DenseSlotMap<DefaultKey, u32> = DenseSlotMap::new(alloc).ok()?;
-/// let key = map.insert(5).ok()?;
-/// assert_eq!(rt; map.get(key).copied(), Some(5));
-/// assert_eq!(rt; map.remove(key), Some(5));
-/// assert!(rt; !map.contains_key(key));
+/// let mut numbers: DenseSlotMap<DefaultKey, u64> = DenseSlotMap::new(alloc)?;
+/// let key = numbers.insert(5)?;
+/// assert_eq!(rt; numbers.get(key).copied(), Some(5));
+/// assert_eq!(rt; numbers.remove(key), Some(5));
+/// assert!(rt; !numbers.contains_key(key));
 /// ```
 #[derive(Drop)]
 pub struct DenseSlotMap<K: Key, V> {
@@ -82,7 +84,7 @@ impl<K: Key, V> Model for DenseSlotMap<K, V> {
     ghost invariant = { λ m. IsSound m.slots (list_map K.data_of m.keys.items) m.values.items };
 }
 
-// Makes room in a vector for `additional` more elements; where there is room nothing is asked for.
+// Makes room in a vector for `additional` more elements. If there is room, it allocates nothing.
 #[inline(always)]
 pub(crate) fn make_room_in<T>(items: &mut Vec<T>, additional: usize) -> Result<(), AllocError>
     ensures keeps { items.new.items ≡ items.old.items }
@@ -98,9 +100,14 @@ pub(crate) fn make_room_in<T>(items: &mut Vec<T>, additional: usize) -> Result<(
 }
 
 impl<V: Drop> DenseSlotMap<DefaultKey, V> {
-    /// An empty map with the default key type. Takes memory for the sentinel's place.
+    /// Makes an empty map with the default key type.
     ///
-    /// `Memory` where that was refused.
+    /// It allocates slot 0, which no key uses. Fails with `Memory` if the allocation fails.
+    ///
+    /// ```
+    /// let empty: DenseSlotMap<DefaultKey, u64> = DenseSlotMap::new(alloc)?;
+    /// assert!(rt; empty.is_empty());
+    /// ```
     pub fn new(alloc: Global) -> Result<Self, ReserveError>
         ensures starts { IfOk result (λ made. IsNew made.content) }
         ensures empty { IfOk result IsEmpty }
@@ -111,9 +118,15 @@ impl<V: Drop> DenseSlotMap<DefaultKey, V> {
         DenseSlotMap::with_key(alloc)
     }
 
-    /// An empty map with the default key type, and with room for `capacity` keys.
+    /// Makes an empty map with the default key type and room for `capacity` keys.
     ///
-    /// `TooGreat` exactly where that is over 4294967294, else `Memory` where memory was refused.
+    /// The next `capacity` inserts succeed. Fails with `TooGreat` exactly if `capacity` is over
+    /// 4294967294, else with `Memory` if an allocation fails.
+    ///
+    /// ```
+    /// let empty: DenseSlotMap<DefaultKey, u64> = DenseSlotMap::with_capacity(alloc, 8)?;
+    /// assert!(rt; empty.is_empty() && empty.capacity() >= 8);
+    /// ```
     pub fn with_capacity(alloc: Global, capacity: usize) -> Result<Self, ReserveError>
         ensures starts { IfOk result (λ made. IsNew made.content) }
         ensures empty { IfOk result IsEmpty }
@@ -128,9 +141,15 @@ impl<V: Drop> DenseSlotMap<DefaultKey, V> {
 }
 
 impl<K: Key, V: Drop> DenseSlotMap<K, V> {
-    /// An empty map. Takes memory for the sentinel's place.
+    /// Makes an empty map with any key type.
     ///
-    /// `Memory` where that was refused.
+    /// It allocates slot 0, which no key uses. Fails with `Memory` if the allocation fails.
+    ///
+    /// ```
+    /// let mut nodes: DenseSlotMap<NodeKey, u64> = DenseSlotMap::with_key(alloc)?;
+    /// let node = nodes.insert(5)?;
+    /// assert_eq!(rt; nodes.get(node).copied(), Some(5));
+    /// ```
     pub fn with_key(alloc: Global) -> Result<Self, ReserveError>
         ensures starts { IfOk result (λ made. IsNew made.content) }
         ensures empty { IfOk result IsEmpty }
@@ -141,10 +160,16 @@ impl<K: Key, V: Drop> DenseSlotMap<K, V> {
         DenseSlotMap::with_capacity_and_key(alloc, 0)
     }
 
-    /// An empty map with room for `capacity` keys: so many inserts that follow aren't refused.
+    /// Makes an empty map with any key type and room for `capacity` keys.
     ///
-    /// `TooGreat` exactly where that is over 4294967294, else `Memory` where memory was refused.
-    /// Constant time beside the requests for memory.
+    /// The next `capacity` inserts succeed. Fails with `TooGreat` exactly if `capacity` is over
+    /// 4294967294, else with `Memory` if an allocation fails. Constant time apart from the
+    /// allocations.
+    ///
+    /// ```
+    /// let nodes: DenseSlotMap<NodeKey, u64> = DenseSlotMap::with_capacity_and_key(alloc, 8)?;
+    /// assert!(rt; nodes.is_empty() && nodes.capacity() >= 8);
+    /// ```
     pub fn with_capacity_and_key(alloc: Global, capacity: usize) -> Result<Self, ReserveError>
         ensures starts { IfOk result (λ made. IsNew made.content) }
         ensures empty { IfOk result IsEmpty }
@@ -164,7 +189,7 @@ impl<K: Key, V: Drop> DenseSlotMap<K, V> {
         })
     }
 
-    // Does nothing: callers learn that what the map holds is well formed.
+    // Does nothing. From its contract a caller learns that what the map holds is well formed.
     #[inline(always)]
     pub(crate) fn note_valid(&self)
         ensures { IsDense self.now }
@@ -172,7 +197,12 @@ impl<K: Key, V: Drop> DenseSlotMap<K, V> {
         let _ = &self.slots;
     }
 
-    /// The number of live keys. Constant time.
+    /// Returns the number of live keys. Constant time.
+    ///
+    /// ```
+    /// map.remove(a);
+    /// assert_eq!(rt; map.len(), 1);
+    /// ```
     pub fn len(&self) -> usize
         ensures value { result ≡ map.len self.now.content.live }
         ensures valid { IsDense self.now }
@@ -180,7 +210,13 @@ impl<K: Key, V: Drop> DenseSlotMap<K, V> {
         self.keys.len()
     }
 
-    /// Whether no key is live. Constant time.
+    /// Returns whether no key is live. Constant time.
+    ///
+    /// ```
+    /// assert!(rt; !map.is_empty());
+    /// map.clear();
+    /// assert!(rt; map.is_empty());
+    /// ```
     pub fn is_empty(&self) -> bool
         ensures value { IsTrue result ↔ (map.len self.now.content.live ≡ 0) }
         ensures valid { IsDense self.now }
@@ -188,8 +224,14 @@ impl<K: Key, V: Drop> DenseSlotMap<K, V> {
         self.len() == 0
     }
 
-    /// How many keys the map has memory for: the least that its places, its list of keys and its
-    /// list of values have room for. Constant time.
+    /// Returns the number of keys for which the map has memory. Constant time.
+    ///
+    /// It is the smallest capacity of the map's vectors of slots, keys and values.
+    ///
+    /// ```
+    /// map.reserve(10)?;
+    /// assert!(rt; map.capacity() >= map.len() + 10);
+    /// ```
     pub fn capacity(&self) -> usize
         ensures value { result ≡ self.now.content.capacity }
         ensures valid { IsDense self.now }
@@ -198,14 +240,20 @@ impl<K: Key, V: Drop> DenseSlotMap<K, V> {
         self.slots.capacity().min(packed)
     }
 
-    /// Makes room for `additional` more keys: so many inserts and reattaches that follow aren't
-    /// refused.
+    /// Reserves room for `additional` more keys: the next `additional` inserts and reattaches
+    /// succeed.
     ///
-    /// `TooGreat` exactly where the live, detached and retired keys with `additional` are more than
-    /// 4294967294, else `Memory` where memory was refused; either changes nothing but the capacity.
-    /// Where there is room already nothing is asked for. Rust counts detached places as free.
+    /// Fails with `TooGreat` exactly if the live, detached and retired slots and `additional` are
+    /// together more than 4294967294, else with `Memory` if an allocation fails. Neither changes
+    /// anything but the capacity.
     ///
-    /// Linear in the number of places where the vectors move, else constant time.
+    /// If there is room already, it allocates nothing. Otherwise it takes time linear in the number
+    /// of slots if a vector moves, else constant time. Rust counts detached slots as free.
+    ///
+    /// ```
+    /// map.reserve(10)?;
+    /// assert!(rt; map.capacity() >= map.len() + 10);
+    /// ```
     pub fn reserve(&mut self, additional: usize) -> Result<(), ReserveError>
         ensures makes_room { MakesRoom self.old additional (IsOk result) self.new }
         ensures err { IfErr result (RefusesCapacity (used self.old.content + additional)) }
@@ -216,7 +264,12 @@ impl<K: Key, V: Drop> DenseSlotMap<K, V> {
         Ok(())
     }
 
-    /// The same as `reserve`, which answers a `Result` here too.
+    /// Does the same as `reserve`, which returns a `Result` here too.
+    ///
+    /// ```
+    /// assert!(rt; matches!(map.try_reserve(4294967295), Err(ReserveError::TooGreat)));
+    /// assert_eq!(rt; map.len(), 2);
+    /// ```
     pub fn try_reserve(&mut self, additional: usize) -> Result<(), ReserveError>
         ensures makes_room { MakesRoom self.old additional (IsOk result) self.new }
         ensures err { IfErr result (RefusesCapacity (used self.old.content + additional)) }

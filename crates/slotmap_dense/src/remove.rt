@@ -15,8 +15,8 @@ use slotmap_core::keys::Key;
 use slotmap_core::layout::Rows;
 use slotmap_core::slots::Slots;
 
-// Takes out the pair at a position whose key has left the slots: the last pair takes its place, and
-// its key's position is corrected.
+// Takes out the pair at a position whose key is no longer in the slots. The last pair moves to that
+// position, and the slot of its key is updated.
 pub(crate) fn close_gap<K: Key, V: Drop>(
     slots: &mut Slots<u32, Rows<u32>>,
     keys: &mut Vec<K>,
@@ -45,16 +45,18 @@ pub(crate) fn close_gap<K: Key, V: Drop>(
 }
 
 impl<K: Key, V: Drop> DenseSlotMap<K, V> {
-    /// Takes a live key's value out, or answers none where the key isn't live. Constant time.
+    /// Removes a live key and returns its value, or returns `None` if the key isn't live. Constant
+    /// time.
     ///
-    /// The last key and its value take their place in the packed order. The place is the first that
-    /// an insert uses from then on, under a newer key; after the last key of a place, of version
-    /// 4294967295, the place is retired, where in Rust its versions start again. Takes no memory.
+    /// The last key and its value move to the removed pair's position in the packed order. The next
+    /// insert uses the slot, under a newer key.
+    ///
+    /// If the removed key has version 4294967295, the slot is retired instead; in Rust its versions
+    /// wrap around. The call allocates nothing.
     ///
     /// ```
-    /// let key = map.insert(5).ok()?;
-    /// assert_eq!(rt; map.remove(key), Some(5));
-    /// assert_eq!(rt; map.remove(key), None);
+    /// assert_eq!(rt; map.remove(a), Some(1));
+    /// assert_eq!(rt; map.remove(a), None);
     /// ```
     #[inline(always)]
     pub fn remove(&mut self, key: K) -> Option<V>

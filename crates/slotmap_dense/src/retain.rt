@@ -1,4 +1,4 @@
-//! The calls that go over all live keys of a map.
+//! The calls that visit all live keys of a map.
 
 ghost use Rattle.std.specs.Prelude.{◌≡◌, ◌<◌, ◌+◌, ◌++◌, ◌∷◌, [], IfSome, IfNone, OnOk, OnErr, Some, List, map as list_map, length, slice_get, reverse};
 ghost use Rattle.std.specs.FinMap as map;
@@ -18,7 +18,7 @@ use slotmap_core::errors::OutOfMemory;
 use slotmap_core::keys::Key;
 
 impl<K: Key, V: Drop> DenseSlotMap<K, V> {
-    // Takes the last pair of the packed order out, or answers none where no key is live.
+    // Takes out the last pair of the packed order, or returns `None` if no key is live.
     pub(crate) fn take_last(&mut self) -> Option<(K, V)>
         ensures takes { TakesLast K.data_of self.old result self.new }
         ensures valid { StaysValid self.old self.new }
@@ -56,21 +56,22 @@ impl<K: Key, V: Drop> DenseSlotMap<K, V> {
         )
     }
 
-    /// Calls `f` once at each live key and its value, and removes the keys at which it answers
+    /// Calls `f` once with each live key and its value, and removes each key for which `f` returns
     /// `false`.
     ///
-    /// What `f` writes to a value that stays is kept. The keys are visited in packed order, and
-    /// where one is removed, as `remove` does, the last one takes its place and is visited next.
-    /// Detached keys aren't visited, and stay detached. It goes over the live keys alone, in
-    /// constant time each beside the calls.
+    /// A value that `f` writes to a kept key stays. The keys are visited in packed order. If one is
+    /// removed, the last pair moves to its position, as with `remove`, and is visited next.
+    /// Detached keys aren't visited and stay detached. Takes time linear in the number of live
+    /// keys, the calls of `f` aside.
     ///
     /// ```
     /// map.retain(|_, value| *value % 2 == 0);
+    /// assert!(rt; !map.contains_key(a) && map.contains_key(b));
     /// ```
     pub fn retain<F: FnMut(K, &mut V) -> bool>(&mut self, mut f: F)
     where
         F: Drop,
-        // At each entry, as calls at other entries leave the closure.
+        // At each entry, in the state that calls at other entries leave the closure in.
         requires { CallableOnEach F.FnMut K.data_of f self.old.content.live }
         ensures retained { RetainsBy F.FnMut K.data_of f self.old.content.live self.new.content.live }
         ensures packed { RetainsPacked F.FnMut K.data_of f self.old self.new }
@@ -89,14 +90,14 @@ impl<K: Key, V: Drop> DenseSlotMap<K, V> {
         }
     }
 
-    /// Removes every live key, and drops its value.
+    /// Removes each live key and drops its value.
     ///
-    /// The keys are removed from the back of the packed order, and the capacity stays. Detached keys
-    /// stay detached. It goes over the live keys alone.
+    /// The keys are removed from the back of the packed order. The capacity stays, and detached
+    /// keys stay detached. Takes time linear in the number of live keys.
     ///
     /// ```
     /// map.clear();
-    /// assert!(rt; map.is_empty());
+    /// assert!(rt; map.is_empty() && !map.contains_key(a));
     /// ```
     pub fn clear(&mut self)
         ensures empty { self.new.content.live ≡ map.empty }
@@ -109,10 +110,16 @@ impl<K: Key, V: Drop> DenseSlotMap<K, V> {
         while let Some(_pair) = self.take_last() {}
     }
 
-    /// Appends every live key to `out`, in packed order.
+    /// Appends each live key to `out`, in packed order.
     ///
-    /// It first asks for all the room that it needs. Where there is no memory for it, it is refused,
-    /// and `out` stays as it is. It goes over the live keys alone. Rust lacks this call.
+    /// It reserves all room in `out` first. If that allocation fails, the call fails and the list
+    /// in `out` stays as it is. Takes time linear in the number of live keys. Rust lacks this call.
+    ///
+    /// ```
+    /// let mut keys = Vec::new(alloc);
+    /// map.keys_into(&mut keys)?;
+    /// assert_eq!(rt; (keys[0], keys[1]), (a, b));
+    /// ```
     pub fn keys_into(&self, out: &mut Vec<K>) -> Result<(), OutOfMemory>
         ensures ok { OnOk result ((keys : List K) × (out.new.items ≡ out.old.items ++ keys) × IsKeyListing self.now.content.live (list_map K.data_of keys)) }
         ensures in_order { OnOk result (list_map K.data_of out.new.items ≡ list_map K.data_of out.old.items ++ self.now.keys) }
@@ -127,11 +134,18 @@ impl<K: Key, V: Drop> DenseSlotMap<K, V> {
         Ok(())
     }
 
-    /// Takes every live key with its value out, and appends them to `out`, from the back of the
-    /// packed order.
+    /// Removes each live key and appends it with its value to `out`, from the back of the packed
+    /// order.
     ///
-    /// It first asks for all the room that it needs. Where there is no memory for it, it is refused,
-    /// and the map and `out` stay as they are. Detached keys stay detached. Rust lacks this call.
+    /// It reserves all room in `out` first. If that allocation fails, the call fails, and the map
+    /// and the list in `out` stay as they are. Detached keys stay detached. Rust lacks this call.
+    ///
+    /// ```
+    /// let mut pairs = Vec::new(alloc);
+    /// map.drain_into(&mut pairs)?;
+    /// assert_eq!(rt; (pairs[0], pairs[1]), ((b, 2), (a, 1)));
+    /// assert!(rt; map.is_empty());
+    /// ```
     pub fn drain_into(&mut self, out: &mut Vec<(K, V)>) -> Result<(), OutOfMemory>
         ensures ok { OnOk result ((pairs : List (K × V)) × (out.new.items ≡ out.old.items ++ pairs) × IsListing self.old.content.live (list_map (λ p. (K.data_of p.0, p.1)) pairs)) }
         ensures in_order { OnOk result (list_map (λ p. (K.data_of p.0, p.1)) out.new.items

@@ -1,4 +1,4 @@
-//! The keys and the values as slices, in one order.
+//! The keys and the values as slices, in packed order.
 
 ghost use Rattle.std.specs.Prelude.{◌≡◌, map as list_map};
 ghost use Rattle.std.specs.Borrow.{sem};
@@ -10,7 +10,12 @@ use slotmap_core::keys::Key;
 impl<K: Key, V: Drop> DenseSlotMap<K, V> {
     ghost use Rattle.slotmap_dense.specs.Lends.{lends_values, lends_walk};
 
-    /// The live keys, in packed order. Constant time.
+    /// Returns the live keys as a slice, in packed order. Constant time.
+    ///
+    /// ```
+    /// let keys = map.keys_as_slice();
+    /// assert_eq!(rt; (keys[0], keys[1]), (a, b));
+    /// ```
     pub fn keys_as_slice(&self) -> &[K]
         ensures keys { list_map K.data_of result.now ≡ self.now.keys }
         ensures valid { IsDense self.now }
@@ -18,7 +23,12 @@ impl<K: Key, V: Drop> DenseSlotMap<K, V> {
         self.keys.as_slice()
     }
 
-    /// The values of the live keys, in packed order. Constant time.
+    /// Returns the values of the live keys as a slice, in packed order. Constant time.
+    ///
+    /// ```
+    /// let values = map.values_as_slice();
+    /// assert_eq!(rt; (values[0], values[1]), (1, 2));
+    /// ```
     pub fn values_as_slice(&self) -> &[V]
         ensures values { result.now ≡ self.now.values }
         ensures valid { IsDense self.now }
@@ -26,7 +36,12 @@ impl<K: Key, V: Drop> DenseSlotMap<K, V> {
         self.values.as_slice()
     }
 
-    /// The live keys, and at the same positions their values. Constant time.
+    /// Returns the live keys and their values as two slices, in packed order. Constant time.
+    ///
+    /// ```
+    /// let (keys, values) = map.as_slices();
+    /// assert_eq!(rt; (keys[1], values[1]), (b, 2));
+    /// ```
     pub fn as_slices(&self) -> (&[K], &[V])
         ensures keys { list_map K.data_of result.0.now ≡ self.now.keys }
         ensures values { result.1.now ≡ self.now.values }
@@ -35,10 +50,15 @@ impl<K: Key, V: Drop> DenseSlotMap<K, V> {
         (self.keys.as_slice(), self.values.as_slice())
     }
 
-    /// The values of the live keys for writing, in packed order. Constant time.
+    /// Returns the values of the live keys as a mutable slice, in packed order. Constant time.
     ///
-    /// What is written there becomes the values of the keys at the same positions; sorting it moves
-    /// values from key to key.
+    /// A value written at a position is then the value of the key at this position. So sorting the
+    /// slice moves values from key to key.
+    ///
+    /// ```
+    /// map.values_as_mut_slice()[0] = 5;
+    /// assert_eq!(rt; map.get(a).copied(), Some(5));
+    /// ```
     pub fn values_as_mut_slice(&mut self) -> &mut [V]
         ensures* writes_back { sem 𝓛 (lends_values K.row V.row K.Key self.entry result) }
         ensures value { result.now ≡ self.old.values }
@@ -47,7 +67,17 @@ impl<K: Key, V: Drop> DenseSlotMap<K, V> {
         self.values.as_mut_slice()
     }
 
-    /// The live keys, and at the same positions their values for writing. Constant time.
+    /// Returns the live keys as a slice and their values as a mutable slice, in packed order.
+    /// Constant time.
+    ///
+    /// A value written at a position is then the value of the key at this position.
+    ///
+    /// ```
+    /// let (keys, values) = map.as_mut_slices();
+    /// values[1] = 5;
+    /// assert_eq!(rt; keys[1], b);
+    /// assert_eq!(rt; map.get(b).copied(), Some(5));
+    /// ```
     pub fn as_mut_slices(&mut self) -> (&[K], &mut [V])
         ensures* writes_back { sem 𝓛 (lends_walk K.row V.row K.Key self.entry result.1.ghost_name) }
         ensures keys { list_map K.data_of result.0.now ≡ self.old.keys }

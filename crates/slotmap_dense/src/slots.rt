@@ -17,7 +17,7 @@ use slotmap_core::serial::{SlotRecord, check_slots};
 use slotmap_core::slots::Slots;
 use std::alloc::Global;
 
-// The record of a place, with a clone of the value at its position.
+// The record of a slot, with a clone of the value at its position.
 fn record_of<V: Clone>(values: &[V], slot: &SlotRecord<u32>) -> Result<SlotRecord<V>, OutOfMemory>
     requires clones { (x y : V) → V.is_clone x y → y ≡ x }
     requires within { IfSome slot.now.value (λ i. i < length values.now) }
@@ -34,23 +34,26 @@ fn record_of<V: Clone>(values: &[V], slot: &SlotRecord<u32>) -> Result<SlotRecor
 }
 
 impl<K: Key, V: Drop> DenseSlotMap<K, V> {
-    /// The map written as a list of slots, one for each place, with clones of the values.
+    /// Writes the map as a list of slots, with a clone of each value.
     ///
-    /// A live key's place has its value and its odd version. Every other place has no value and an
-    /// even version: where the place is vacant or its key is detached, one more than the version of
-    /// the last key there, modulo 2^32; where the place is retired, 0. Place 0 has no value and
-    /// version 0. A detached key is forgotten in the list: its place is written as if it had been
-    /// removed. The packed order is not written.
+    /// The list has one record for each slot, by index:
+    /// - The record of a live key's slot has its value and its odd version.
+    /// - The record of a vacant slot has no value. Its version is even, one more than that of the
+    ///   last key there.
+    /// - The record of a detached key's slot is written as if the key had been removed. So the list
+    ///   forgets that key.
+    /// - The record of a retired slot, and record 0, have no value and version 0.
     ///
-    /// `OutOfMemory` where memory for the list, for a list of positions beside it, or for a clone
-    /// was refused. One pass over the places, each value cloned once. In Rust `Serialize` writes the
-    /// same records.
+    /// The packed order isn't written. Fails with `OutOfMemory` if memory runs out for the list,
+    /// for a list of positions beside it, or for a clone. The caller has to prove that a clone of a
+    /// value equals the value. Takes time linear in the number of slots. Rust's `Serialize` writes
+    /// the same records.
     ///
     /// ```
-    /// let key = map.insert(7).ok()?;
-    /// let list = map.to_slots().ok()?;
-    /// assert_eq!(list[key.data().idx() as usize].value, Some(7));
-    /// assert_eq!(list[key.data().idx() as usize].version, key.data().version());
+    /// map.remove(a);
+    /// let list = map.to_slots()?;
+    /// assert_eq!(rt; (list[1].value, list[1].version), (None, 2));
+    /// assert_eq!(rt; (list[2].value, list[2].version), (Some(2), 1));
     /// ```
     pub fn to_slots(&self) -> Result<Vec<SlotRecord<V>>, OutOfMemory>
     where
@@ -70,22 +73,33 @@ impl<K: Key, V: Drop> DenseSlotMap<K, V> {
         Ok(list)
     }
 
-    /// The map that a list of slots describes; its values are moved into the map. The packed order
-    /// is that of the list, by ascending index.
+    /// Makes a map from a list of slots, whose values are moved into the map.
     ///
-    /// Each odd version from position 1 on is that of a live key, whose index is the position. An
-    /// even version other than 0 is that of a vacant place, whose next key has the version after
-    /// it, and the greatest vacant index is used first. Version 0 is a retired place, which no
-    /// insert uses. The first version is read as 0.
+    /// The version at each position of the list, from 1 on, says what the slot of this index is:
+    /// - An odd version is that of a live key.
+    /// - An even version other than 0 marks a vacant slot. Its next key has the version after it.
+    /// - Version 0 marks a retired slot, which is never used again. In Rust it marks a vacant slot,
+    ///   so a retired slot starts again.
     ///
-    /// Refusals are looked for in this order, and the list is dropped: `TooMany` where the list has
-    /// 4294967295 slots or more; `FirstNotEmpty` where it is empty or its first version is odd;
-    /// `Inconsistent` with the least position at which a value stands beside an even version, or
-    /// none beside an odd one; `Memory` where memory for the map was refused. Three passes over the
-    /// list's places.
+    /// The version at position 0 is read as 0. Inserts use the largest vacant index first. The
+    /// packed order is that of the list, by ascending index.
     ///
-    /// In Rust `Deserialize` reads such a list. There version 0 is that of a vacant place, so a
-    /// place that has gone through all versions starts again.
+    /// Fails with the first of these errors that applies, and drops the list:
+    /// - `TooMany`: the list has 4294967295 records or more.
+    /// - `FirstNotEmpty`: the list is empty, or its first version is odd.
+    /// - `Inconsistent`: at some position a value is beside an even version, or no value is beside
+    ///   an odd one. It holds the smallest such position.
+    /// - `Memory`: an allocation fails.
+    ///
+    /// Takes time linear in the length of the list. Rust's `Deserialize` reads such a list.
+    ///
+    /// ```
+    /// map.remove(a);
+    /// let list = map.to_slots()?;
+    /// let mut copy: DenseSlotMap<DefaultKey, u64> = DenseSlotMap::from_slots(alloc, list)?;
+    /// assert_eq!(rt; copy.get(b).copied(), Some(2));
+    /// assert_eq!(rt; copy.insert(3)?, DefaultKey::from(KeyData::new(1, 3)));
+    /// ```
     pub fn from_slots(alloc: Global, list: Vec<SlotRecord<V>>) -> Result<Self, SlotsError>
         ensures reads { IfOk result (λ made. ReadsAs false list.items made.content) }
         ensures stack { IfOk result (λ made. made.content.stack ≡ Some (start_stack list.items)) }
