@@ -16,7 +16,7 @@ use std::ops::{Index, IndexMut};
 impl<K: Key, V: Drop> HopSlotMap<K, V> {
     ghost use Rattle.slotmap_hop.specs.Lends.{lends_get, lends_value};
 
-    // The place of a key that is live.
+    // The index of a live key's slot.
     pub(crate) fn live_index(&self, key: K) -> Option<usize>
         ensures live { IfSome result (λ index.
             IsLive self.now.content (K.data_of key) × (index ≡ (K.data_of key).index)) }
@@ -32,14 +32,14 @@ impl<K: Key, V: Drop> HopSlotMap<K, V> {
         }
     }
 
-    /// Whether this key is live. Constant time.
+    /// Returns whether a key is live. Constant time.
     ///
-    /// The null key isn't, nor is a key of another map, as long as this map has no live key of the
-    /// same index and version.
+    /// The null key isn't live. A key of another map counts as live if this map has a live key of
+    /// the same index and version.
     ///
     /// ```
-    /// let key = map.insert(5)?;
-    /// assert!(rt; map.contains_key(key) && !map.contains_key(DefaultKey::null()));
+    /// map.remove(a);
+    /// assert!(rt; !map.contains_key(a) && map.contains_key(b));
     /// ```
     pub fn contains_key(&self, key: K) -> bool
         ensures value { result ≡ map.contains_key self.now.content.live (K.data_of key) }
@@ -48,11 +48,11 @@ impl<K: Key, V: Drop> HopSlotMap<K, V> {
         self.live_index(key).is_some()
     }
 
-    /// The value of a live key, or none where the key isn't live. Constant time.
+    /// Returns the value of a live key, or `None` if the key isn't live. Constant time.
     ///
     /// ```
-    /// let key = map.insert(5)?;
-    /// assert_eq!(rt; map.get(key).copied(), Some(5));
+    /// assert_eq!(rt; map.get(a).copied(), Some(1));
+    /// assert!(rt; map.get(DefaultKey::null()).is_none());
     /// ```
     pub fn get(&self, key: K) -> Option<&V>
         ensures value { option_copied result ≡ map.get self.now.content.live (K.data_of key) }
@@ -65,9 +65,13 @@ impl<K: Key, V: Drop> HopSlotMap<K, V> {
         }
     }
 
-    /// The value of a key that is live. Constant time, with no look-up.
+    /// Returns the value of a live key, without checking that it is live. Constant time.
     ///
-    /// The caller has to know that the key is live; so the call is safe, where Rust's is `unsafe`.
+    /// The caller has to prove that the key is live. So the call is safe; in Rust it is `unsafe`.
+    ///
+    /// ```
+    /// assert_eq!(rt; *map.get_unchecked(a), 1);
+    /// ```
     pub fn get_unchecked(&self, key: K) -> &V
         requires { IsLive self.now.content (K.data_of key) }
         ensures value { map.get self.now.content.live (K.data_of key) ≡ Some result.now }
@@ -80,15 +84,17 @@ impl<K: Key, V: Drop> HopSlotMap<K, V> {
         }
     }
 
-    /// The value of a live key for writing, or none where the key isn't live. Constant time.
+    /// Returns a mutable reference to the value of a live key, or `None` if the key isn't live.
+    /// Constant time.
     ///
-    /// Once the reference ends, the key has the last value written through it, and all else is as
-    /// before.
+    /// Once the reference ends, the key has the last value written through it. Nothing else
+    /// changes.
     ///
     /// ```
-    /// if let Some(value) = map.get_mut(key) {
-    ///     *value = 6;
+    /// if let Some(value) = map.get_mut(a) {
+    ///     *value = 5;
     /// }
+    /// assert_eq!(rt; map.get(a).copied(), Some(5));
     /// ```
     pub fn get_mut(&mut self, key: K) -> Option<&mut V>
         ensures* writes_back { sem 𝓛 (lends_get K.row V.row self.entry (K.data_of key) result) }
@@ -102,9 +108,15 @@ impl<K: Key, V: Drop> HopSlotMap<K, V> {
         }
     }
 
-    /// The value of a key that is live, for writing. Constant time, with no look-up.
+    /// Returns a mutable reference to the value of a live key, without checking that it is live.
+    /// Constant time.
     ///
-    /// The caller has to know that the key is live; so the call is safe, where Rust's is `unsafe`.
+    /// The caller has to prove that the key is live. So the call is safe; in Rust it is `unsafe`.
+    ///
+    /// ```
+    /// *map.get_unchecked_mut(a) = 5;
+    /// assert_eq!(rt; map.get(a).copied(), Some(5));
+    /// ```
     pub fn get_unchecked_mut(&mut self, key: K) -> &mut V
         requires { IsLive self.old.content (K.data_of key) }
         ensures* writes_back { sem 𝓛 (lends_value K.row V.row self.entry (K.data_of key) result) }
@@ -118,13 +130,14 @@ impl<K: Key, V: Drop> HopSlotMap<K, V> {
         }
     }
 
-    /// Sets the value of a live key and answers the value before; where the key isn't live, hands
-    /// the value back and changes nothing. Constant time. Rust lacks this call.
+    /// Replaces the value of a live key and returns the old value. Constant time.
+    ///
+    /// If the key isn't live, it fails: the error holds the new value, and nothing changes. Rust
+    /// lacks this call.
     ///
     /// ```
-    /// let key = map.insert(5)?;
-    /// assert_eq!(rt; map.replace(key, 6), Ok(5));
-    /// assert_eq!(rt; map.replace(DefaultKey::null(), 7), Err(7));
+    /// assert_eq!(rt; map.replace(a, 5), Ok(1));
+    /// assert_eq!(rt; map.replace(DefaultKey::null(), 6), Err(6));
     /// ```
     pub fn replace(&mut self, key: K, value: V) -> Result<V, V>
         ensures ok { IfOk result (λ before. map.get self.old.content.live (K.data_of key) ≡ Some before) }
@@ -147,8 +160,13 @@ impl<K: Key, V: Drop> Index<K> for HopSlotMap<K, V> {
 
     ghost index_gives = { λ m key value. map.get m.content.live (K.data_of key) ≡ Some value };
 
-    /// The value of a key that is live, which the caller shows; in Rust a dead key panics. Constant
-    /// time, with no look-up.
+    /// Returns the value of a live key, without checking that it is live. Constant time.
+    ///
+    /// The caller has to prove that the key is live; Rust panics if it isn't.
+    ///
+    /// ```
+    /// assert_eq!(rt; map[a], 1);
+    /// ```
     fn index(&self, key: K) -> &V {
         self.get_unchecked(key)
     }
@@ -157,8 +175,15 @@ impl<K: Key, V: Drop> Index<K> for HopSlotMap<K, V> {
 impl<K: Key, V: Drop> IndexMut<K> for HopSlotMap<K, V> {
     ghost use Rattle.slotmap_hop.specs.Lends.{lends_value};
 
-    /// The value of a key that is live, which the caller shows, for writing; in Rust a dead key
-    /// panics. Constant time, with no look-up.
+    /// Returns a mutable reference to the value of a live key, without checking that it is live.
+    /// Constant time.
+    ///
+    /// The caller has to prove that the key is live; Rust panics if it isn't.
+    ///
+    /// ```
+    /// map[a] = 5;
+    /// assert_eq!(rt; map[a], 5);
+    /// ```
     fn index_mut(&mut self, key: K) -> &mut V
         requires { IsLive self.old.content (K.data_of key) }
         ensures* writes_back { sem 𝓛 (lends_value K.row V.row self.entry (K.data_of key) result) }

@@ -39,18 +39,20 @@ pub(crate) fn clone_slots<V: Clone>(slots: &Vec<Slot<V>>) -> Result<Vec<Slot<V>>
 }
 
 impl<K: Key, V: Clone> HopSlotMap<K, V> {
-    /// A copy of the map: the same keys are live, with clones of their values, and both maps
-    /// will hand out the same keys.
+    /// Returns a copy of the map, with the same live keys and clones of their values.
     ///
-    /// The caller answers for it that a clone of a value equals the value; so this is a function of
-    /// its own, and no impl of `Clone`. Where there is no memory it refuses, and what was copied by
-    /// then is dropped. It copies each place of the map. The copy has room for the keys of the
-    /// vacant places, and maybe for no more.
+    /// Both maps will return the same new keys. The caller has to prove that a clone of a value
+    /// equals the value. The trait `Clone` can't require that, so this is a method, not an impl of
+    /// `Clone`.
+    ///
+    /// Fails if an allocation or a clone fails, and drops what was copied by then. Takes time
+    /// linear in the number of slots. The copy has room for the keys of the vacant slots, and maybe
+    /// for no more.
     ///
     /// ```
     /// let mut copy = map.clone()?;
-    /// copy.remove(key);
-    /// assert!(rt; map.contains_key(key));
+    /// copy.remove(a);
+    /// assert!(rt; map.contains_key(a) && !copy.contains_key(a));
     /// ```
     pub fn clone(&self) -> Result<Self, AllocError>
         requires { (x y : V) → V.is_clone x y → y ≡ x }
@@ -66,15 +68,16 @@ impl<K: Key, V: Clone> HopSlotMap<K, V> {
         })
     }
 
-    /// Makes this map a copy of another, as [`HopSlotMap::clone`] does, and drops what it had.
+    /// Makes this map a copy of another, as [`HopSlotMap::clone`] does, and drops what it held.
     ///
-    /// A key that this map has handed out before may then stand for another value. Where there is
-    /// no memory it refuses, and the map stays as it is: the copy is made first, so for a while
-    /// there are both. It copies each place of the source.
+    /// A key that this map returned before may then stand for another value. Fails if an allocation
+    /// or a clone fails, and this map stays as it is. The copy is made first, so for a while there
+    /// is memory for both. Takes time linear in the number of slots of the source.
     ///
     /// ```
+    /// let mut copy: HopSlotMap<DefaultKey, u64> = HopSlotMap::new(alloc)?;
     /// copy.clone_from(&map)?;
-    /// assert!(rt; copy.contains_key(key));
+    /// assert_eq!(rt; copy.get(a).copied(), Some(1));
     /// ```
     pub fn clone_from(&mut self, source: &Self) -> Result<(), AllocError>
     where

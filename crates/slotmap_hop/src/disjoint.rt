@@ -11,17 +11,16 @@ use slotmap_core::keys::Key;
 use std::mem;
 
 impl<K: Key, V: Drop> HopSlotMap<K, V> {
-    /// Gives each key the value at its place, and answers the values that the keys had.
+    /// Replaces the value of `keys[i]` by `values[i]`, for each i, and returns the old values.
     ///
-    /// Where one of the keys is not live, or two are equal, it hands the values back, and the map
-    /// stays as it is. It takes no memory, and its time does not depend on the size of the map: it
-    /// looks up each key, and compares each two. In Rust `get_disjoint_mut` lends the values
-    /// instead.
+    /// Fails exactly if a key isn't live or two keys are equal. The error holds the new values, and
+    /// nothing changes. It allocates nothing. It looks up each key and compares each two keys, so
+    /// its time doesn't depend on the size of the map. In Rust `get_disjoint_mut` returns mutable
+    /// references instead.
     ///
     /// ```
-    /// if let Ok([old_a, old_b]) = map.replace_disjoint([a, b], [1, 2]) {
-    ///     // Both were live, and a is not b.
-    /// }
+    /// assert_eq!(rt; map.replace_disjoint([a, b], [10, 20]), Ok([1, 2]));
+    /// assert_eq!(rt; map.replace_disjoint([a, a], [3, 4]), Err([3, 4]));
     /// ```
     pub fn replace_disjoint<const N: usize>(
         &mut self,
@@ -46,12 +45,12 @@ impl<K: Key, V: Drop> HopSlotMap<K, V> {
         Ok(values)
     }
 
-    // Whether each key is live, and no two are equal.
+    // Whether each key is live and no two are equal.
     fn can_replace(&self, keys: &[K]) -> bool
         ensures which { IsTrue result ↔ CanReplace self.now.content (map_list K.data_of keys.now) }
         ensures valid { IsHopContent self.now }
     {
-        // Where there is no key the map is looked at too, for the clause `valid`.
+        // The clause `valid` needs a look at the map, even if there are no keys.
         let _ = &self.live_count;
         for i in 0..keys.len() {
             let key = keys[i];

@@ -1,4 +1,4 @@
-//! A walk that takes the pairs out of a map.
+//! An iterator that removes the pairs from a map.
 
 ghost use Rattle.std.specs.Prelude.{◌≡◌, ◌≤◌, Some, IfSome};
 ghost use Rattle.std.specs.Iterator.{size, UpTo};
@@ -9,10 +9,11 @@ use crate::HopSlotMap;
 use slotmap_core::keys::Key;
 use std::iter::FusedIterator;
 
-/// A walk that takes the pairs out of a map, by ascending index. Once it is dropped, no key of the
-/// map is live.
+/// An iterator that removes the live keys from a map and yields them with their values, by
+/// ascending index.
 ///
-/// `HopSlotMap::drain` makes it. Its drop removes the keys that are left.
+/// [`HopSlotMap::drain`] returns it. When it is dropped, it removes the keys that are left. No key
+/// of the map is live then.
 pub struct Drain<'a, K: Key, V> {
     map: &'a mut HopSlotMap<K, V>,
     // The key that comes next.
@@ -46,7 +47,7 @@ impl<'a, K: Key, V: Drop> Iterator for Drain<'a, K, V> {
         let Some(key) = self.next else {
             return None;
         };
-        // The key after this one is looked for first: the removal may join blocks.
+        // The key after this one is looked for first, because the removal may join blocks.
         self.next = self.map.first_live(key.data().idx() as usize + 1);
         Some((key, self.map.take_live(key)))
     }
@@ -72,22 +73,25 @@ impl<'a, K: Key, V: Drop> FusedIterator for Drain<'a, K, V> {}
 impl<K: Key, V: Drop> HopSlotMap<K, V> {
     ghost use Rattle.slotmap_hop.specs.Drain.{drain_map, drain_lender, DrainCanStep, DrainKeepsAlong, DrainLists, DrainInOrder};
 
-    /// Takes the live keys with their values out, by ascending index.
+    /// Returns an iterator that removes the live keys and yields them with their values, by
+    /// ascending index.
     ///
-    /// Each key is removed as it comes, as `remove` does. The walk may be dropped at any step, and
-    /// then the keys that are left are removed too. A block of vacant places is passed in one step.
+    /// Each key is removed when it is yielded, as `remove` does. The iterator may be dropped early;
+    /// it then removes the keys that are left. A block of vacant slots is skipped in one step.
     ///
     /// ```
-    /// for (key, value) in map.drain() {
-    ///     println!(rt; "{key:?}: {value}")?;
+    /// let mut sum = 0;
+    /// for (_key, value) in map.drain() {
+    ///     sum += value;
     /// }
+    /// assert!(rt; sum == 3 && map.is_empty());
     /// ```
     pub fn drain(&mut self) -> Drain<'_, K, V>
         ensures map { drain_map result ≡ self.old }
         ensures same_reference { drain_lender result ≡ self.entry.ghost_name }
         ensures ready { DrainCanStep K.data_of result }
 
-        // Laws of the steps, for callers that walk on.
+        // Laws of the steps, for callers that go on with the iterator.
         ensures stays { DrainKeepsAlong K.data_of result }
         ensures lists { DrainLists K.data_of result }
         ensures in_order { DrainInOrder K.data_of result }

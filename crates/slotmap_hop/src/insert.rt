@@ -15,7 +15,7 @@ use slotmap_core::keys::{Key, KeyData};
 use slotmap_core::limits::MOST_KEYS;
 
 impl<K: Key, V: Drop> HopSlotMap<K, V> {
-    // The key that the next insert answers.
+    // The key that the next insert returns.
     fn next_key(&self) -> KeyData
         requires { 0 < self.now.content.room }
         ensures { result ≡ self.now.content.offer }
@@ -28,7 +28,7 @@ impl<K: Key, V: Drop> HopSlotMap<K, V> {
         KeyData::new(back, self.slots[back as usize].version + 1)
     }
 
-    // Whether the next insert asks for no memory.
+    // Whether the next insert allocates nothing.
     #[inline(always)]
     fn has_room(&self) -> bool
         ensures room { IsTrue result → 0 < self.now.content.room }
@@ -50,7 +50,7 @@ impl<K: Key, V: Drop> HopSlotMap<K, V> {
         self.reserve(1)
     }
 
-    // Binds the next key to a value, and answers it.
+    // Binds the next key to a value, and returns the key.
     #[inline(always)]
     fn fill(&mut self, value: V) -> KeyData
         requires { 0 < self.old.content.room }
@@ -76,32 +76,33 @@ impl<K: Key, V: Drop> HopSlotMap<K, V> {
         KeyData::new(last, version)
     }
 
-    /// Stores a value under a new key, and answers the key. Constant time where no vector moves.
+    /// Inserts a value and returns its new key. Constant time if no vector moves.
     ///
-    /// A vacant place is used, with no memory asked for: the last one of the block at the head of
-    /// the list, or else of the block of place 0. Where none is vacant a new place is made. `Full`
-    /// exactly where 4294967294 keys are live or have retired places, else `Memory` where a new
-    /// place was refused; both hand the value back, and the map holds what it held. In Rust a full
-    /// map panics, and want of memory aborts.
+    /// If a slot is vacant, it is reused, and the insert allocates nothing. It is the last slot of
+    /// the first block in the list, or of the block of slot 0 if the list is empty. If none is
+    /// vacant, a slot is added.
+    ///
+    /// Fails with `Full` exactly if 4294967294 slots are live or retired, else with `Memory` if the
+    /// allocation fails. The error holds the value, and the map holds what it held. Rust panics if
+    /// the map is full, and aborts if memory runs out.
     ///
     /// ```
-    /// let first = map.insert(5)?;
-    /// map.remove(first);
-    /// let second = map.insert(6)?;
-    /// assert_eq!(rt; second.data().idx(), first.data().idx());
-    /// assert!(rt; second != first);
+    /// map.remove(b);
+    /// let c = map.insert(3)?;
+    /// assert_eq!(rt; c.data().idx(), b.data().idx());
+    /// assert!(rt; c != b);
     /// ```
     #[inline(always)]
     pub fn insert(&mut self, value: V) -> Result<K, InsertError<V>>
         ensures ok { IfOk result (λ key. Inserts self.old.content (K.data_of key) value self.new.content) }
         ensures err { IfErr result (λ error. Refuses self.old.content value error) }
 
-        // The blocks lose the new key's place, and a refusal leaves them.
+        // The blocks lose the new key's slot; if the insert fails they stay.
         ensures blocks { MatchResult result (λ _. self.new.blocks ≡ shorter self.old.blocks) (λ _. self.new.blocks ≡ self.old.blocks) }
 
         ensures unchanged { OnErr result (Keeps self.old.content self.new.content) }
 
-        // Where a place is vacant nothing is asked for.
+        // If a slot is vacant, nothing is allocated.
         ensures reuses { 0 < map.len self.old.content.next → IsOk result }
 
         ensures valid { GrowsHop self.old self.new }
@@ -114,16 +115,15 @@ impl<K: Key, V: Drop> HopSlotMap<K, V> {
         Ok(K::from(self.fill(value)))
     }
 
-    /// Stores the value that the closure gives for the new key, and answers the key. Costs as
-    /// `insert`.
+    /// Inserts the value that a closure makes from the new key, and returns the key.
     ///
-    /// There is room before the closure is called, once and on the key that will be answered; in
-    /// Rust the closure runs before the vectors grow. On `Full` and `Memory`, which come as at
-    /// `insert`, the closure is dropped uncalled.
+    /// It reserves room first, then calls the closure once, with the key that it will return. In
+    /// Rust the closure runs before the vectors grow. Fails with `Full` or `Memory` as `insert`
+    /// does; the closure is then dropped without a call. Costs as much as `insert`.
     ///
     /// ```
-    /// let key = map.insert_with_key(|key: DefaultKey| key.data().idx())?;
-    /// assert_eq!(rt; map.get(key).copied(), Some(key.data().idx()));
+    /// let c = map.insert_with_key(|key: DefaultKey| key.data().idx() as u64)?;
+    /// assert_eq!(rt; map.get(c).copied(), Some(3));
     /// ```
     pub fn insert_with_key<F: FnOnce(K) -> V>(&mut self, f: F) -> Result<K, InsertWithError>
     where
@@ -134,12 +134,12 @@ impl<K: Key, V: Drop> HopSlotMap<K, V> {
             × Inserts self.old.content (K.data_of key) v self.new.content) }
         ensures err { IfErr result (RefusesInsert self.old.content) }
 
-        // The blocks lose the new key's place, and a refusal leaves them.
+        // The blocks lose the new key's slot; if the insert fails they stay.
         ensures blocks { MatchResult result (λ _. self.new.blocks ≡ shorter self.old.blocks) (λ _. self.new.blocks ≡ self.old.blocks) }
 
         ensures unchanged { OnErr result (Keeps self.old.content self.new.content) }
 
-        // Where a place is vacant nothing is asked for.
+        // If a slot is vacant, nothing is allocated.
         ensures reuses { 0 < map.len self.old.content.next → IsOk result }
 
         ensures valid { GrowsHop self.old self.new }
@@ -155,15 +155,17 @@ impl<K: Key, V: Drop> HopSlotMap<K, V> {
         Ok(key)
     }
 
-    /// Stores the value that the closure gives for the new key, and answers the key. Costs as
-    /// `insert`.
+    /// Inserts the value that a closure makes from the new key, and returns the key, unless the
+    /// closure fails.
     ///
-    /// As `insert_with_key`; and where the closure answers an error nothing changes, the error is
-    /// handed on in `Closure`, and the next insert answers the key that the closure saw.
+    /// It does what `insert_with_key` does. If the closure returns an error, the call fails with
+    /// `Closure`, which holds that error. The map then holds what it held, and the next insert
+    /// returns the key that the closure was given. Costs as much as `insert`.
     ///
     /// ```
-    /// let refused = map.try_insert_with_key(|_| Err::<u32, u64>(9));
-    /// assert!(rt; matches!(refused, Err(TryInsertError::Closure(9))));
+    /// let failed = map.try_insert_with_key(|_| Err::<u64, u64>(9));
+    /// assert!(rt; matches!(failed, Err(TryInsertError::Closure(9))));
+    /// assert_eq!(rt; map.len(), 2);
     /// ```
     pub fn try_insert_with_key<F: FnOnce(K) -> Result<V, E>, E>(
         &mut self,
@@ -177,12 +179,12 @@ impl<K: Key, V: Drop> HopSlotMap<K, V> {
             × Inserts self.old.content (K.data_of key) v self.new.content) }
         ensures err { IfErr result (λ error. RefusesWith K.data_of (F.post f) self.old.content error) }
 
-        // The blocks lose the new key's place, and a refusal leaves them.
+        // The blocks lose the new key's slot; if the insert fails they stay.
         ensures blocks { MatchResult result (λ _. self.new.blocks ≡ shorter self.old.blocks) (λ _. self.new.blocks ≡ self.old.blocks) }
 
         ensures unchanged { OnErr result (Keeps self.old.content self.new.content) }
 
-        // Where a place is vacant nothing is asked for.
+        // If a slot is vacant, nothing is allocated.
         ensures reuses { result ≡ Err TryInsertError.Memory → map.len self.old.content.next ≡ 0 }
 
         ensures valid { GrowsHop self.old self.new }

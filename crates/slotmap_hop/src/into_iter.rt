@@ -1,4 +1,4 @@
-//! The walk that takes a map apart.
+//! The iterator that consumes a map.
 
 ghost use Rattle.std.specs.Prelude.{◌≡◌, ◌≤◌, length, Some, IfSome, IfOk};
 ghost use Rattle.std.specs.Iterator.{YieldsFirstBy, item_count, at_most, UpTo};
@@ -13,17 +13,16 @@ use slotmap_core::keys::{Key, KeyData};
 use std::alloc::AllocError;
 use std::marker::{Model, PhantomData};
 
-/// A walk over the live keys of a map and their values, by value and by ascending index: what a
-/// `for` over a map takes.
+/// An iterator that consumes a map and yields its live keys and their values, by ascending index.
 ///
-/// A contract sees it as the list of the pairs that are still to come. At its end it stays there. A
-/// step passes a block of vacant places at once, and takes no memory. Values that it has not handed
-/// out are dropped with it.
+/// A `for` over a map takes it. Contracts see it as the list of the pairs still to come. After the
+/// last pair it yields `None` forever. Dropping it drops the values that it hasn't yielded. A step
+/// skips a block of vacant slots at once, and allocates nothing.
 #[derive(Drop)]
 pub struct IntoIter<K, V> {
-    // A slot whose value was handed out is used up.
+    // A slot whose value was yielded counts as retired.
     slots: Vec<Slot<V>>,
-    // Where the walk goes on: at a slot in use, at the front of a block, or at the end.
+    // The slot to read next: a live or retired one, the first one of a block, or the end.
     place: usize,
     // How many values are still to come.
     left: usize,
@@ -43,7 +42,13 @@ impl<K, V> Model for IntoIter<K, V> {
 }
 
 impl<K, V> IntoIter<K, V> {
-    /// How many pairs are still to come, in constant time.
+    /// Returns the number of pairs still to come. Constant time.
+    ///
+    /// ```
+    /// let mut pairs = map.into_iter();
+    /// pairs.next();
+    /// assert_eq!(rt; pairs.len(), 1);
+    /// ```
     pub fn len(&self) -> usize
         ensures { result ≡ length self.now }
     {
@@ -52,10 +57,18 @@ impl<K, V> IntoIter<K, V> {
 }
 
 impl<K, V: Clone> IntoIter<K, V> {
-    /// A second walk over the pairs that are still to come, with clones of the values.
+    /// Returns a second iterator over the pairs still to come, with clones of the values.
     ///
-    /// The caller answers for it that a clone of a value equals the value. Where there is no memory
-    /// it refuses, and the walk stays as it is. It copies each place of the map.
+    /// The caller has to prove that a clone of a value equals the value. Fails if an allocation or
+    /// a clone fails; this iterator stays as it is. Takes time linear in the number of slots of the
+    /// map.
+    ///
+    /// ```
+    /// let pairs = map.into_iter();
+    /// let mut copy = pairs.clone()?;
+    /// assert_eq!(rt; copy.next(), Some((a, 1)));
+    /// assert_eq!(rt; pairs.len(), 2);
+    /// ```
     pub fn clone(&self) -> Result<Self, AllocError>
         requires { (x y : V) → V.is_clone x y → y ≡ x }
         ensures { IfOk result (λ copy. copy ≡ self.now) }

@@ -1,4 +1,4 @@
-//! Walks over the keys and values of a map, by ascending index.
+//! Iterators over the keys and values of a map, by ascending index.
 
 ghost use Rattle.std.specs.Prelude.{◌≡◌, ◌≤◌, length, Some, IfSome, IfNone, ⊤};
 ghost use Rattle.std.specs.Iterator.{YieldsFirstBy, item_count, at_most, UpTo};
@@ -15,16 +15,20 @@ use slotmap_core::keys::{Key, KeyData};
 use std::alloc::AllocError;
 use std::marker::{Model, PhantomData};
 
-/// A walk over the live keys of a map and their values, by ascending index: see
-/// [`HopSlotMap::iter`].
+/// An iterator over the live keys and their values, by ascending index; [`HopSlotMap::iter`]
+/// returns it.
 ///
-/// A contract sees it as the list of the pairs that are still to come, with the number of slots that
-/// it has read, and that of the retired places that it has not passed. At its end it stays there. A
-/// clone of it walks over the same pairs, and takes no memory.
+/// Contracts see it as a record of:
+/// - the list of the pairs still to come;
+/// - the number of slots that it has read;
+/// - the number of retired slots that it hasn't passed.
+///
+/// After the last pair it yields `None` forever. A clone of it yields the same pairs, and allocates
+/// nothing.
 #[derive(Drop)]
 pub struct Iter<'a, K, V> {
     counted: CountedSlots<'a, V>,
-    // Where the walk goes on: at a slot in use, at the front of a block, or at the end.
+    // The slot to read next: a live or retired one, the first one of a block, or the end.
     place: usize,
     // How many values are still to come.
     left: usize,
@@ -42,7 +46,7 @@ impl<'a, K, V> Model for Iter<'a, K, V> {
     ghost invariant = { λ it. IsWalk it.counted.slots it.counted.reads it.place it.left };
 }
 
-// The place of the first live slot from this one on, with its version and value. All that goes over
+// The first live slot from this one on: its index, its version and its value. All that goes over
 // live slots finds them here.
 pub(crate) fn find_live<'a, V>(
     counted: &mut CountedSlots<'a, V>,
@@ -68,14 +72,28 @@ pub(crate) fn find_live<'a, V>(
 }
 
 impl<'a, K, V> Iter<'a, K, V> {
-    /// How many pairs are still to come, in constant time.
+    /// Returns the number of pairs still to come. Constant time.
+    ///
+    /// ```
+    /// let mut pairs = map.iter();
+    /// pairs.next();
+    /// assert_eq!(rt; pairs.len(), 1);
+    /// ```
     pub fn len(&self) -> usize
         ensures { result ≡ length self.now.rest }
     {
         self.left
     }
 
-    /// How many slots `next` has read since the walk was made.
+    /// Returns the number of slots that `next` has read since the iterator was made.
+    ///
+    /// ```
+    /// map.insert(3)?;
+    /// map.remove(b);
+    /// let mut pairs = map.iter();
+    /// while let Some(_pair) = pairs.next() {}
+    /// assert_eq!(rt; pairs.reads(), 3);
+    /// ```
     pub fn reads(&self) -> usize
         ensures { result ≡ self.now.reads }
     {
@@ -125,10 +143,11 @@ impl<'a, K: Key, V> Iterator for Iter<'a, K, V> {
     }
 }
 
-/// A walk over the keys of a map, by ascending index: see [`HopSlotMap::keys`].
+/// An iterator over the live keys, by ascending index; [`HopSlotMap::keys`] returns it.
 ///
-/// A contract sees it as the list of the keys that are still to come, with the counts of [`Iter`].
-/// At its end it stays there. A clone of it walks over the same keys, and takes no memory.
+/// Contracts see it as the list of the keys still to come, with the two numbers of [`Iter`]. After
+/// the last key it yields `None` forever. A clone of it yields the same keys, and allocates
+/// nothing.
 #[derive(Drop)]
 pub struct Keys<'a, K, V> {
     pairs: Iter<'a, K, V>,
@@ -145,14 +164,26 @@ impl<'a, K, V> Model for Keys<'a, K, V> {
 }
 
 impl<'a, K, V> Keys<'a, K, V> {
-    /// How many keys are still to come, in constant time.
+    /// Returns the number of keys still to come. Constant time.
+    ///
+    /// ```
+    /// let mut keys = map.keys();
+    /// keys.next();
+    /// assert_eq!(rt; keys.len(), 1);
+    /// ```
     pub fn len(&self) -> usize
         ensures { result ≡ length self.now.rest }
     {
         self.pairs.len()
     }
 
-    /// How many slots `next` has read since the walk was made.
+    /// Returns the number of slots that `next` has read since the iterator was made.
+    ///
+    /// ```
+    /// let mut keys = map.keys();
+    /// while let Some(_key) = keys.next() {}
+    /// assert!(rt; keys.reads() <= 2 * map.len());
+    /// ```
     pub fn reads(&self) -> usize
         ensures { result ≡ self.now.reads }
     {
@@ -194,10 +225,12 @@ impl<'a, K: Key, V> Iterator for Keys<'a, K, V> {
     }
 }
 
-/// A walk over the values of a map, by ascending index: see [`HopSlotMap::values`].
+/// An iterator over the values of the live keys, by ascending index; [`HopSlotMap::values`] returns
+/// it.
 ///
-/// A contract sees it as the list of the values that are still to come, with the counts of [`Iter`].
-/// At its end it stays there. A clone of it walks over the same values, and takes no memory.
+/// Contracts see it as the list of the values still to come, with the two numbers of [`Iter`].
+/// After the last value it yields `None` forever. A clone of it yields the same values, and
+/// allocates nothing.
 #[derive(Drop)]
 pub struct Values<'a, K, V> {
     pairs: Iter<'a, K, V>,
@@ -214,14 +247,26 @@ impl<'a, K, V> Model for Values<'a, K, V> {
 }
 
 impl<'a, K, V> Values<'a, K, V> {
-    /// How many values are still to come, in constant time.
+    /// Returns the number of values still to come. Constant time.
+    ///
+    /// ```
+    /// let mut values = map.values();
+    /// values.next();
+    /// assert_eq!(rt; values.len(), 1);
+    /// ```
     pub fn len(&self) -> usize
         ensures { result ≡ length self.now.rest }
     {
         self.pairs.len()
     }
 
-    /// How many slots `next` has read since the walk was made.
+    /// Returns the number of slots that `next` has read since the iterator was made.
+    ///
+    /// ```
+    /// let mut values = map.values();
+    /// values.next();
+    /// assert_eq!(rt; values.reads(), 1);
+    /// ```
     pub fn reads(&self) -> usize
         ensures { result ≡ self.now.reads }
     {
@@ -264,17 +309,18 @@ impl<'a, K: Key, V> Iterator for Values<'a, K, V> {
 }
 
 impl<K: Key, V> HopSlotMap<K, V> {
-    /// A walk over the live keys and their values, by ascending index.
+    /// Returns an iterator over the live keys and their values, by ascending index.
     ///
-    /// It is made in constant time. A step reads the slot that comes next and, where a block of
-    /// vacant places begins there, the slot after the block, however long the block is; retired
-    /// places are read one by one. It takes no memory. No walk lends the values for writing: call
-    /// `retain` with a closure that writes and answers true.
+    /// It is made in constant time and allocates nothing. A step reads the next slot. If a block of
+    /// vacant slots begins there, it then reads the slot after the block, however long the block
+    /// is. Retired slots are read one by one.
+    ///
+    /// To write values, call `retain` with a closure that writes and returns `true`.
     ///
     /// ```
-    /// for (key, value) in map.iter() {
-    ///     println!(rt; "{key:?}: {value}")?;
-    /// }
+    /// let mut pairs = map.iter();
+    /// assert_eq!(rt; pairs.next().map(|(key, value)| (key, *value)), Some((a, 1)));
+    /// assert_eq!(rt; pairs.len(), 1);
     /// ```
     pub fn iter(&self) -> Iter<'_, K, V>
         ensures listing { IsListing self.now.content.live result.rest }
@@ -292,13 +338,14 @@ impl<K: Key, V> HopSlotMap<K, V> {
         }
     }
 
-    /// A walk over the live keys, by ascending index. It costs the same as [`HopSlotMap::iter`].
+    /// Returns an iterator over the live keys, by ascending index.
+    ///
+    /// It costs as much as [`HopSlotMap::iter`].
     ///
     /// ```
     /// let mut keys = map.keys();
-    /// while let Some(_) = keys.next() {}
-    /// // However many places are vacant; two reads more for each retired place.
-    /// assert!(rt; keys.reads() <= 2 * map.len());
+    /// assert_eq!(rt; (keys.next(), keys.next()), (Some(a), Some(b)));
+    /// assert_eq!(rt; keys.next(), None);
     /// ```
     pub fn keys(&self) -> Keys<'_, K, V>
         ensures listing { IsKeyListing self.now.content.live result.rest }
@@ -310,9 +357,18 @@ impl<K: Key, V> HopSlotMap<K, V> {
         Keys { pairs: self.iter() }
     }
 
-    /// A walk over the values of the live keys, by ascending index of their keys. It costs the same
-    /// as [`HopSlotMap::iter`]. No walk lends the values for writing: call `retain` with a closure
-    /// that writes and answers true.
+    /// Returns an iterator over the values of the live keys, by ascending index.
+    ///
+    /// It costs as much as [`HopSlotMap::iter`]. To write values, call `retain` with a closure that
+    /// writes and returns `true`.
+    ///
+    /// ```
+    /// let mut sum = 0;
+    /// for value in map.values() {
+    ///     sum += *value;
+    /// }
+    /// assert_eq!(rt; sum, 3);
+    /// ```
     pub fn values(&self) -> Values<'_, K, V>
         ensures listing { IsValueListing self.now.content.live result.rest }
         ensures in_order { result.rest ≡ map.values self.now.content.live }

@@ -1,10 +1,13 @@
-//! `HopSlotMap`: values under keys that the map hands out, each key once, with walks that hop over
-//! the vacant places.
+//! `HopSlotMap`: values under keys that the map makes, with iterators that skip vacant slots.
 //!
-//! Clauses see a map as its content (`Content` of the core: the live keys with their values, the
-//! retired keys, the version that the next key at each vacant index will have, the key that the
-//! next insert answers, the room and the capacity) and the blocks that its vacant places form. No
-//! key is ever detached.
+//! Contracts see a map as its content (`Content` of the core) and the blocks that its vacant slots
+//! form. The content has:
+//! - the live keys with their values, and the retired keys;
+//! - the version that the next key at each vacant index will have;
+//! - the key that the next insert returns;
+//! - the room and the capacity.
+//!
+//! No key of this map is ever detached.
 #![tactic(auto)]
 
 ghost use Rattle.std.specs.Prelude.{◌≡◌, [], ◌+◌, ◌≤◌, ◌↔◌, IsTrue, IfOk, IfErr, IsOk};
@@ -38,28 +41,27 @@ use slotmap_core::limits::MOST_KEYS;
 use std::alloc::Global;
 use std::marker::{Model, PhantomData};
 
-/// Values under keys that the map hands out, with walks that hop over the vacant places.
+/// A map that makes a key for each value, with iterators that skip vacant slots.
 ///
-/// An insert answers a new key, and the key is live until its value is removed. Its place is then
-/// used again under a newer key: so a key that was removed is never found again, and no key is
-/// handed out twice. A key of the last version that is removed retires its place, which no insert
-/// uses from then on; in Rust its versions start again. At most 4294967294 keys can be live or have
-/// retired places.
+/// `insert` returns a new key, which is live until its value is removed. The slot of a removed key
+/// is used again under a newer key. So a removed key is never found again, and no key is returned
+/// twice. After the key of version 4294967295 is removed, its slot is retired and never used again.
+/// In Rust its versions wrap around. At most 4294967294 slots can be live or retired.
 ///
-/// The vacant places form blocks, each a run of neighbours. An insert uses the last place of the
-/// block at the head of a list; a removal adds its place to the blocks beside it, or else puts a
-/// block of its own at the end of the list. A walk passes a block in one step.
+/// Neighbouring vacant slots form a block, and the blocks form a list. An insert uses the last slot
+/// of the first block in the list. A removal adds its slot to the blocks beside it. If there is
+/// none, it appends a new block to the list. An iterator skips a block in one step.
 ///
 /// ```
-/// let mut map: HopSlotMap<DefaultKey, u32> = HopSlotMap::new(alloc)?;
-/// let key = map.insert(5)?;
-/// assert_eq!(rt; map.get(key).copied(), Some(5));
-/// assert_eq!(rt; map.remove(key), Some(5));
-/// assert!(rt; !map.contains_key(key));
+/// let mut numbers: HopSlotMap<DefaultKey, u64> = HopSlotMap::new(alloc)?;
+/// let key = numbers.insert(5)?;
+/// assert_eq!(rt; numbers.get(key).copied(), Some(5));
+/// assert_eq!(rt; numbers.remove(key), Some(5));
+/// assert!(rt; !numbers.contains_key(key));
 /// ```
 #[derive(Drop)]
 pub struct HopSlotMap<K, V> {
-    // Slot 0 is the sentinel.
+    // Slot 0 is the sentinel: no key uses it.
     slots: Vec<Slot<V>>,
     vacant_count: u32,
     live_count: u32,
@@ -81,9 +83,14 @@ impl<K, V> Model for HopSlotMap<K, V> {
 }
 
 impl<V: Drop> HopSlotMap<DefaultKey, V> {
-    /// An empty map with the default key type. Takes memory for the sentinel's place.
+    /// Makes an empty map with the default key type.
     ///
-    /// `Memory` where that was refused.
+    /// It allocates slot 0, which no key uses. Fails with `Memory` if the allocation fails.
+    ///
+    /// ```
+    /// let empty: HopSlotMap<DefaultKey, u64> = HopSlotMap::new(alloc)?;
+    /// assert!(rt; empty.is_empty());
+    /// ```
     pub fn new(alloc: Global) -> Result<Self, ReserveError>
         ensures starts { IfOk result (λ made. IsNew made.content) }
         ensures blocks { IfOk result (λ made. NoBlocks made.blocks) }
@@ -93,9 +100,15 @@ impl<V: Drop> HopSlotMap<DefaultKey, V> {
         HopSlotMap::with_key(alloc)
     }
 
-    /// An empty map with the default key type, and with room for `capacity` keys.
+    /// Makes an empty map with the default key type and room for `capacity` keys.
     ///
-    /// `TooGreat` exactly where that is over 4294967294, else `Memory` where memory was refused.
+    /// The next `capacity` inserts succeed. Fails with `TooGreat` exactly if `capacity` is over
+    /// 4294967294, else with `Memory` if an allocation fails.
+    ///
+    /// ```
+    /// let empty: HopSlotMap<DefaultKey, u64> = HopSlotMap::with_capacity(alloc, 8)?;
+    /// assert!(rt; empty.is_empty() && empty.capacity() >= 8);
+    /// ```
     pub fn with_capacity(alloc: Global, capacity: usize) -> Result<Self, ReserveError>
         ensures starts { IfOk result (λ made. IsNew made.content) }
         ensures blocks { IfOk result (λ made. NoBlocks made.blocks) }
@@ -109,9 +122,15 @@ impl<V: Drop> HopSlotMap<DefaultKey, V> {
 }
 
 impl<K: Key, V: Drop> HopSlotMap<K, V> {
-    /// An empty map. Takes memory for the sentinel's place.
+    /// Makes an empty map with any key type.
     ///
-    /// `Memory` where that was refused.
+    /// It allocates slot 0, which no key uses. Fails with `Memory` if the allocation fails.
+    ///
+    /// ```
+    /// let mut nodes: HopSlotMap<NodeKey, u64> = HopSlotMap::with_key(alloc)?;
+    /// let node = nodes.insert(5)?;
+    /// assert_eq!(rt; nodes.get(node).copied(), Some(5));
+    /// ```
     pub fn with_key(alloc: Global) -> Result<Self, ReserveError>
         ensures starts { IfOk result (λ made. IsNew made.content) }
         ensures blocks { IfOk result (λ made. NoBlocks made.blocks) }
@@ -121,14 +140,15 @@ impl<K: Key, V: Drop> HopSlotMap<K, V> {
         HopSlotMap::with_capacity_and_key(alloc, 0)
     }
 
-    /// An empty map with room for `capacity` keys: so many inserts that follow aren't refused.
+    /// Makes an empty map with any key type and room for `capacity` keys.
     ///
-    /// `TooGreat` exactly where that is over 4294967294, else `Memory` where memory was refused.
-    /// Constant time beside the request for memory.
+    /// The next `capacity` inserts succeed. Fails with `TooGreat` exactly if `capacity` is over
+    /// 4294967294, else with `Memory` if an allocation fails. Constant time apart from the
+    /// allocations.
     ///
     /// ```
-    /// let map: HopSlotMap<NodeKey, u32> = HopSlotMap::with_capacity_and_key(alloc, 8)?;
-    /// assert!(rt; map.is_empty() && map.capacity() >= 8);
+    /// let nodes: HopSlotMap<NodeKey, u64> = HopSlotMap::with_capacity_and_key(alloc, 8)?;
+    /// assert!(rt; nodes.is_empty() && nodes.capacity() >= 8);
     /// ```
     pub fn with_capacity_and_key(alloc: Global, capacity: usize) -> Result<Self, ReserveError>
         ensures starts { IfOk result (λ made. IsNew made.content) }
@@ -158,7 +178,12 @@ impl<K: Key, V: Drop> HopSlotMap<K, V> {
         })
     }
 
-    /// The number of live keys. Constant time.
+    /// Returns the number of live keys. Constant time.
+    ///
+    /// ```
+    /// map.remove(a);
+    /// assert_eq!(rt; map.len(), 1);
+    /// ```
     pub fn len(&self) -> usize
         ensures value { result ≡ map.len self.now.content.live }
         ensures valid { IsHopContent self.now }
@@ -166,7 +191,13 @@ impl<K: Key, V: Drop> HopSlotMap<K, V> {
         self.live_count as usize
     }
 
-    /// Whether no key is live. Constant time.
+    /// Returns whether no key is live. Constant time.
+    ///
+    /// ```
+    /// assert!(rt; !map.is_empty());
+    /// map.clear();
+    /// assert!(rt; map.is_empty());
+    /// ```
     pub fn is_empty(&self) -> bool
         ensures value { IsTrue result ↔ (map.len self.now.content.live ≡ 0) }
         ensures valid { IsHopContent self.now }
@@ -174,8 +205,14 @@ impl<K: Key, V: Drop> HopSlotMap<K, V> {
         self.len() == 0
     }
 
-    /// How many places the map has memory for, live, vacant and retired ones together. Constant
-    /// time.
+    /// Returns the number of slots for which the map has memory. Constant time.
+    ///
+    /// Live, vacant and retired slots count; slot 0 doesn't.
+    ///
+    /// ```
+    /// map.reserve(10)?;
+    /// assert!(rt; map.capacity() >= map.len() + 10);
+    /// ```
     pub fn capacity(&self) -> usize
         ensures value { result ≡ self.now.content.capacity }
         ensures valid { IsHopContent self.now }
@@ -183,7 +220,7 @@ impl<K: Key, V: Drop> HopSlotMap<K, V> {
         self.slots.capacity() - 1
     }
 
-    // The number of places that no insert can take.
+    // The number of slots that no insert can take.
     fn used(&self) -> usize
         ensures value { result ≡ used self.now.content }
         ensures below { result ≤ most }
@@ -193,17 +230,17 @@ impl<K: Key, V: Drop> HopSlotMap<K, V> {
         self.slots.len() - 1 - self.vacant_count as usize
     }
 
-    /// Makes room for `additional` more keys: so many inserts that follow aren't refused.
+    /// Reserves room for `additional` more keys: the next `additional` inserts succeed.
     ///
-    /// `TooGreat` exactly where the live and retired keys with `additional` are more than
-    /// 4294967294, else `Memory` where memory was refused; either changes nothing but the capacity.
-    /// Where there is room already nothing is asked for.
+    /// Fails with `TooGreat` exactly if the live and retired slots and `additional` are together
+    /// more than 4294967294, else with `Memory` if the allocation fails. Neither changes anything
+    /// but the capacity.
     ///
-    /// Linear in the number of places where the vector moves, else constant time.
+    /// If there is room already, it allocates nothing. Otherwise it takes time linear in the number
+    /// of slots if the vector moves, else constant time.
     ///
     /// ```
     /// map.reserve(10)?;
-    /// // The next ten inserts aren't refused.
     /// assert!(rt; map.capacity() >= map.len() + 10);
     /// ```
     #[inline(never)]
@@ -223,7 +260,12 @@ impl<K: Key, V: Drop> HopSlotMap<K, V> {
         Ok(())
     }
 
-    /// The same as `reserve`, which answers a `Result` here too.
+    /// Does the same as `reserve`, which returns a `Result` here too.
+    ///
+    /// ```
+    /// assert!(rt; matches!(map.try_reserve(4294967295), Err(ReserveError::TooGreat)));
+    /// assert_eq!(rt; map.len(), 2);
+    /// ```
     pub fn try_reserve(&mut self, additional: usize) -> Result<(), ReserveError>
         ensures makes_room { MakesHopRoom self.old additional (IsOk result) self.new }
         ensures err { IfErr result (RefusesCapacity (used self.old.content + additional)) }

@@ -11,17 +11,18 @@ use crate::links::{free_slot, use_up};
 use slotmap_core::keys::Key;
 
 impl<K: Key, V: Drop> HopSlotMap<K, V> {
-    /// Takes a live key's value out, or answers none where the key isn't live. Constant time.
+    /// Removes a live key and returns its value, or returns `None` if the key isn't live. Constant
+    /// time.
     ///
-    /// The place joins the blocks of vacant places beside it, or is a new block at the end of their
-    /// list, and is used again under a newer key. After the last key of a place, of version
-    /// 4294967295, the place is retired, where in Rust its versions start again: it joins no block.
-    /// Takes no memory.
+    /// The slot joins the blocks of vacant slots beside it, or becomes a new block at the end of
+    /// their list. A later insert uses it, under a newer key.
+    ///
+    /// If the removed key has version 4294967295, the slot is retired instead; in Rust its versions
+    /// wrap around. The call allocates nothing.
     ///
     /// ```
-    /// let key = map.insert(5)?;
-    /// assert_eq!(rt; map.remove(key), Some(5));
-    /// assert_eq!(rt; map.remove(key), None);
+    /// assert_eq!(rt; map.remove(a), Some(1));
+    /// assert_eq!(rt; map.remove(a), None);
     /// ```
     pub fn remove(&mut self, key: K) -> Option<V>
         ensures value { result ≡ map.get self.old.content.live (K.data_of key) }
@@ -38,7 +39,7 @@ impl<K: Key, V: Drop> HopSlotMap<K, V> {
         }
     }
 
-    // Takes the value of a live key out, with no look-up.
+    // Takes out the value of a live key, without checking that the key is live.
     pub(crate) fn take_live(&mut self, key: K) -> V
         requires { IsLive self.old.content (K.data_of key) }
         ensures value { map.get self.old.content.live (K.data_of key) ≡ Some result }

@@ -1,4 +1,4 @@
-//! The calls that go over all live keys of a map, by ascending index, and hop over the vacant places.
+//! The calls that visit all live keys of a map, by ascending index, and skip vacant slots.
 
 ghost use Rattle.std.specs.Prelude.{◌≡◌, ◌++◌, OnOk, OnErr, List, map as list_map};
 ghost use Rattle.std.specs.FinMap as map;
@@ -14,7 +14,7 @@ use slotmap_core::errors::OutOfMemory;
 use slotmap_core::keys::{Key, KeyData};
 
 impl<K: Key, V: Drop> HopSlotMap<K, V> {
-    // The live key of the least index from this one on.
+    // The live key of the smallest index from this one on.
     pub(crate) fn first_live(&self, start: usize) -> Option<K>
         requires { MayStand self.now.content start }
         ensures comes { IsNextLive K.data_of self.now.content start result }
@@ -25,20 +25,21 @@ impl<K: Key, V: Drop> HopSlotMap<K, V> {
         Some(K::from(KeyData::new(place as u32, version)))
     }
 
-    /// Calls `f` once at each live key and its value, and removes the keys at which it answers
+    /// Calls `f` once with each live key and its value, and removes each key for which `f` returns
     /// `false`.
     ///
-    /// What `f` writes to a value that stays is kept. The keys are visited by ascending index, and
-    /// in that order those that leave are removed, as `remove` does. It passes a block of vacant
-    /// places in one step; retired places are passed one by one.
+    /// A value that `f` writes to a kept key stays. The keys are visited, and those that go are
+    /// removed, by ascending index. A block of vacant slots is skipped in one step; retired slots
+    /// are skipped one by one.
     ///
     /// ```
     /// map.retain(|_, value| *value % 2 == 0);
+    /// assert!(rt; !map.contains_key(a) && map.contains_key(b));
     /// ```
     pub fn retain<F: FnMut(K, &mut V) -> bool>(&mut self, mut f: F)
     where
         F: Drop,
-        // At each entry, as calls at other entries leave the closure.
+        // At each entry, in the state that calls at other entries leave the closure in.
         requires { CallableOnEach F.FnMut K.data_of f self.old.content.live }
         ensures retained { RetainsBy F.FnMut K.data_of f self.old.content.live self.new.content.live }
         ensures by_index { RetainsByIndex F.FnMut K.data_of f self.old self.new }
@@ -47,7 +48,7 @@ impl<K: Key, V: Drop> HopSlotMap<K, V> {
     {
         let mut next = self.first_live(0);
         while let Some(key) = next {
-            // The key after this one is looked for first: a removal may join blocks.
+            // The key after this one is looked for first, because a removal may join blocks.
             next = self.first_live(key.data().idx() as usize + 1);
             if !f(key, self.get_unchecked_mut(key)) {
                 self.take_live(key);
@@ -55,14 +56,14 @@ impl<K: Key, V: Drop> HopSlotMap<K, V> {
         }
     }
 
-    /// Removes every live key, and drops its value.
+    /// Removes each live key and drops its value.
     ///
-    /// The keys are removed by ascending index, as `remove` does, and the capacity stays. It passes
-    /// a block of vacant places in one step.
+    /// The keys are removed by ascending index. The capacity stays. A block of vacant slots is
+    /// skipped in one step.
     ///
     /// ```
     /// map.clear();
-    /// assert!(rt; map.is_empty());
+    /// assert!(rt; map.is_empty() && !map.contains_key(a));
     /// ```
     pub fn clear(&mut self)
         ensures empty { self.new.content.live ≡ map.empty }
@@ -78,10 +79,17 @@ impl<K: Key, V: Drop> HopSlotMap<K, V> {
         }
     }
 
-    /// Appends every live key to `out`, by ascending index.
+    /// Appends each live key to `out`, by ascending index.
     ///
-    /// It first asks for all the room that it needs. Where there is no memory for it, it is
-    /// refused, and `out` stays as it is. Rust lacks this call.
+    /// It reserves all room in `out` first. If that allocation fails, the call fails and the list
+    /// in `out` stays as it is. A block of vacant slots is skipped in one step. Rust lacks this
+    /// call.
+    ///
+    /// ```
+    /// let mut keys = Vec::new(alloc);
+    /// map.keys_into(&mut keys)?;
+    /// assert_eq!(rt; (keys[0], keys[1]), (a, b));
+    /// ```
     pub fn keys_into(&self, out: &mut Vec<K>) -> Result<(), OutOfMemory>
         ensures ok { OnOk result ((keys : List K) × (out.new.items ≡ out.old.items ++ keys)
             × (list_map K.data_of keys ≡ map.keys self.now.content.live)) }
@@ -97,11 +105,18 @@ impl<K: Key, V: Drop> HopSlotMap<K, V> {
         Ok(())
     }
 
-    /// Takes every live key with its value out, and appends them to `out`, by ascending index.
+    /// Removes each live key and appends it with its value to `out`, by ascending index.
     ///
-    /// The keys are removed as `remove` does. It first asks for all the room that it needs. Where
-    /// there is no memory for it, it is refused, and the map and `out` stay as they are. Rust lacks
+    /// It reserves all room in `out` first. If that allocation fails, the call fails, and the map
+    /// and the list in `out` stay as they are. Each key is removed as `remove` does. Rust lacks
     /// this call.
+    ///
+    /// ```
+    /// let mut pairs = Vec::new(alloc);
+    /// map.drain_into(&mut pairs)?;
+    /// assert_eq!(rt; (pairs[0], pairs[1]), ((a, 1), (b, 2)));
+    /// assert!(rt; map.is_empty());
+    /// ```
     pub fn drain_into(&mut self, out: &mut Vec<(K, V)>) -> Result<(), OutOfMemory>
         ensures ok { OnOk result ((pairs : List (K × V)) × (out.new.items ≡ out.old.items ++ pairs)
             × (list_map (λ p. (K.data_of p.0, p.1)) pairs ≡ map.entries self.old.content.live)) }

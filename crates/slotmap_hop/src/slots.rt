@@ -18,7 +18,7 @@ use slotmap_core::serial::{SlotRecord, check_slots};
 use std::alloc::Global;
 use std::marker::PhantomData;
 
-// Whether a place of this version is vacant.
+// Whether a slot of this version is vacant.
 fn is_vacant(version: u32) -> bool
     ensures { result ≡ is_vacant_version version }
 {
@@ -39,7 +39,7 @@ fn record_of<V: Clone>(slot: &Slot<V>) -> Result<SlotRecord<V>, OutOfMemory>
     Ok(SlotRecord { value, version })
 }
 
-// The state of a slot whose place isn't vacant, by the value of its record.
+// The state of a slot that isn't vacant, from the value of its record.
 fn state_from<V>(value: Option<V>) -> State<V>
     ensures { result ≡ read_state value }
 {
@@ -50,21 +50,26 @@ fn state_from<V>(value: Option<V>) -> State<V>
 }
 
 impl<K: Key, V: Drop> HopSlotMap<K, V> {
-    /// The map written as a list of slots, one for each place, with clones of the values.
+    /// Writes the map as a list of slots, with a clone of each value.
     ///
-    /// A live key's place has its value and its odd version. Every other place has no value and an
-    /// even version: where the place is vacant, one more than the version of the last key there;
-    /// where it is retired, 0. Place 0 has no value and version 0.
+    /// The list has one record for each slot, by index:
+    /// - The record of a live key's slot has its value and its odd version.
+    /// - The record of a vacant slot has no value. Its version is even, one more than that of the
+    ///   last key there.
+    /// - The record of a retired slot, and record 0, have no value and version 0.
     ///
-    /// `OutOfMemory` where memory for the list or for a clone was refused; room for the whole list
-    /// is asked for first. One pass over the places, each value cloned once. A map of 4294967294
-    /// places writes a list that `from_slots` refuses as too long. In Rust `Serialize` writes the
-    /// same records.
+    /// Fails with `OutOfMemory` if memory runs out for the list or for a clone. It reserves room
+    /// for the whole list first. The caller has to prove that a clone of a value equals the value.
+    /// Takes time linear in the number of slots. Rust's `Serialize` writes the same records.
+    ///
+    /// A map of 4294967294 slots, slot 0 aside, writes a list that `from_slots` refuses as too
+    /// long.
     ///
     /// ```
-    /// map.insert(7)?;
+    /// map.remove(a);
     /// let list = map.to_slots()?;
-    /// assert_eq!(rt; (list[1].value, list[1].version), (Some(7), 1));
+    /// assert_eq!(rt; (list[1].value, list[1].version), (None, 2));
+    /// assert_eq!(rt; (list[2].value, list[2].version), (Some(2), 1));
     /// ```
     pub fn to_slots(&self) -> Result<Vec<SlotRecord<V>>, OutOfMemory>
     where
@@ -82,39 +87,40 @@ impl<K: Key, V: Drop> HopSlotMap<K, V> {
         Ok(slots)
     }
 
-    /// The map that a list of slots describes; its values are moved into the map.
+    /// Makes a map from a list of slots, whose values are moved into the map.
     ///
-    /// Each odd version from position 1 on is that of a live key, whose index is the position. An
-    /// even version other than 0 is that of a vacant place, whose next key has the version after
-    /// it. Version 0 is a retired place, which no insert uses. The first version is read as 0. All
-    /// vacant places are used before a new one is made.
+    /// The version at each position of the list, from 1 on, says what the slot of this index is:
+    /// - An odd version is that of a live key.
+    /// - An even version other than 0 marks a vacant slot. Its next key has the version after it.
+    /// - Version 0 marks a retired slot, which is never used again. In Rust it marks a vacant slot,
+    ///   so a retired slot starts again.
     ///
-    /// Refusals are looked for in this order, and the list is dropped: `TooMany` where the list has
-    /// 4294967295 slots or more; `FirstNotEmpty` where it is empty or its first version is odd;
-    /// `Inconsistent` with the least position at which a value stands beside an even version, or
-    /// none beside an odd one; `Memory` where memory for the places was refused. Two passes over
-    /// the list.
+    /// The version at position 0 is read as 0. Inserts use all vacant slots before they add one.
     ///
-    /// In Rust `Deserialize` reads such a list. There version 0 is that of a vacant place, so a
-    /// place that has gone through all versions starts again.
+    /// Fails with the first of these errors that applies, and drops the list:
+    /// - `TooMany`: the list has 4294967295 records or more.
+    /// - `FirstNotEmpty`: the list is empty, or its first version is odd.
+    /// - `Inconsistent`: at some position a value is beside an even version, or no value is beside
+    ///   an odd one. It holds the smallest such position.
+    /// - `Memory`: the allocation of the slots fails.
+    ///
+    /// Takes time linear in the length of the list. Rust's `Deserialize` reads such a list.
     ///
     /// ```
-    /// let mut list = Vec::new(alloc);
-    /// list.push(SlotRecord { value: None, version: 0 })?;
-    /// list.push(SlotRecord { value: Some(7), version: 3 })?;
-    /// list.push(SlotRecord { value: None, version: 2 })?;
-    /// let mut map: HopSlotMap<DefaultKey, u32> = HopSlotMap::from_slots(alloc, list)?;
-    /// assert_eq!(rt; map.get(DefaultKey::from(KeyData::new(1, 3))).copied(), Some(7));
-    /// assert_eq!(rt; map.insert(8)?, DefaultKey::from(KeyData::new(2, 3)));
+    /// map.remove(a);
+    /// let list = map.to_slots()?;
+    /// let mut copy: HopSlotMap<DefaultKey, u64> = HopSlotMap::from_slots(alloc, list)?;
+    /// assert_eq!(rt; copy.get(b).copied(), Some(2));
+    /// assert_eq!(rt; copy.insert(3)?, DefaultKey::from(KeyData::new(1, 3)));
     /// ```
     pub fn from_slots(alloc: Global, list: Vec<SlotRecord<V>>) -> Result<Self, SlotsError>
-        // What the map holds, and what runs and lists go on from there.
+        // What the map holds. Runs and lists of slots go on from it.
         ensures reads { IfOk result (λ made. ReadsAs true list.items made.content) }
-        // The blocks of vacant places stand in their list by ascending index.
+        // The blocks of vacant slots are in their list by ascending index.
         ensures ascending { IfOk result (λ made. Ascend 1 made.blocks.others (length list.items)) }
         ensures valid { IfOk result IsHopContent }
 
-        // Refusals, the first of which is given.
+        // When it fails, and which error comes first.
         ensures accepted { IsOk result → Accepts list.items 4294967295 }
         ensures err { IfErr result (RefusesStart list.items 4294967295) }
     {
