@@ -1,4 +1,4 @@
--- What a call of a dense map owes whatever it answers.
+-- What the calls of a dense map guarantee, whatever they return.
 use Rattle.std.specs.Prelude.{◌≡◌, ℕ, ◌+◌, ◌≤◌}
 use Rattle.std.specs.FinMap as map
 use Rattle.slotmap_core.specs.Content.{used, most}
@@ -6,14 +6,14 @@ use Rattle.slotmap_core.specs.Transition.{Keeps}
 use Rattle.slotmap_dense.specs.Dense.{Dense, IsDense, SameOrder}
 
 module _ {V : Type 0} where
-  -- a call that asks for no memory: the map was and is well formed, and has room for as many places
+  -- a call that allocates nothing: the map was and is well formed, and its capacity stays
   pub record StaysValid (old new : Dense V) : Type 0 where
     pub before : IsDense old
     pub after : IsDense new
     pub capacity : new.content.capacity ≡ old.content.capacity
 
-  -- a call that may ask for room for one more key: the map was and is well formed, no room is lost, and where the
-  -- call is refused the map holds what it held, in the order in which it held it
+  -- a call that may allocate room for one more key: the map was and is well formed, and no capacity is lost. If the call
+  -- fails, the map holds what it held, in the same order
   pub record MayGrow (old : Dense V) (refused : Type 0) (new : Dense V) : Type 0 where
     pub before : IsDense old
     pub after : IsDense new
@@ -21,15 +21,15 @@ module _ {V : Type 0} where
     pub unchanged : refused → Keeps old.content new.content
     pub same_order : refused → SameOrder old new
 
-  -- a call that asks for room for n more keys, where `ok` says that it isn't refused
+  -- a call that reserves room for n more keys, where `ok` says that it succeeds
   pub record MakesRoom (old : Dense V) (n : ℕ) (ok : Type 0) (new : Dense V) : Type 0 where
     pub before : IsDense old
     pub after : IsDense new
-    -- so many keys fit then: in the limit, in memory, and with no memory asked for
+    -- n more keys then fit: within the limit, within the capacity, and without allocating
     pub fits : ok → used old.content + n ≤ most
     pub room : ok → n ≤ new.content.room
     pub live_and_more : ok → map.len old.content.live + n ≤ new.content.capacity
-    -- where there is room for them already nothing is asked for
+    -- if there is room for them already, it succeeds and allocates nothing
     pub succeeds : n ≤ old.content.room → ok
     pub had_room : n ≤ old.content.room → new ≡ old
     -- the map holds what it held, in the same order

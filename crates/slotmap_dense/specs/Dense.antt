@@ -1,4 +1,4 @@
--- What a dense slot map holds: a content, and the live keys and their values in packed order.
+-- The model of a dense slot map: a content, and the live keys and their values in packed order.
 use Rattle.std.specs.Prelude.{◌≡◌, ℕ, refl, false, List, [], ◌∷◌, ◌++◌, length, Option, None, Some, reverse, slice_get, take, drop, if◌then◌else◌}
 use Rattle.std.specs.Option.{option_map}
 use Rattle.std.specs.FinMap as map
@@ -12,11 +12,11 @@ use Rattle.slotmap_core.specs.Transition.{Removes, Leaves, with_value, pushed_al
 
 pub record Dense (V : Type 0) : Type 0 where
   pub content : Content V
-  -- the live keys, and at the same positions their values
+  -- the live keys, and their values at the same positions
   pub keys : List Key
   pub values : List V
 
--- by which a proof tells two apart
+-- by which a proof tells two models apart
 abbrev pub dense_code : {V : Type 0} → Coded V → Coded (Dense V)
 dense_code {V} code =
     code_by (Content V × (List Key × List V)) (coded× (content_code code) (coded× (coded_list coded_key) (coded_list code)))
@@ -25,9 +25,9 @@ dense_code {V} code =
     (λ _. refl)
 
 module _ {V : Type 0} where
-  -- what holds of each
+  -- what always holds of the model
   pub record IsDense (d : Dense V) : Type 0 where
-    -- an insert into a vacant place may still take memory
+    -- `false`: an insert may have to allocate even if a slot is vacant
     pub content : IsContent false d.content
     pub same_length : length d.values ≡ length d.keys
     pub listed : IsListing d.content.live (zip d.keys d.values)
@@ -37,22 +37,22 @@ module _ {V : Type 0} where
     pub listing : IsListing d.content.live pairs
     pub in_order : pairs ≡ zip d.keys d.values
 
-  -- nothing is held
+  -- no key is live
   pub record IsEmpty (d : Dense V) : Type 0 where
     pub keys : d.keys ≡ []
     pub values : d.values ≡ []
 
-  -- the packed order is as before
+  -- the packed order is unchanged
   pub record SameOrder (old new : Dense V) : Type 0 where
     pub keys : new.keys ≡ old.keys
     pub values : new.values ≡ old.values
 
-  -- the key k and its value v stand at the end
+  -- the key k and its value v are appended
   pub record Appends (old : Dense V) (k : Key) (v : V) (new : Dense V) : Type 0 where
     pub keys : new.keys ≡ old.keys ++ k ∷ []
     pub values : new.values ≡ old.values ++ v ∷ []
 
-  -- the key k and its value v are gone, and the last key and its value stand in their place
+  -- the key k and its value v are gone; the last key and its value have moved to their position
   pub record ClosesGap (old : Dense V) (k : Key) (v : V) (new : Dense V) : Type 0 where
     pub position : ℕ
     pub stood : slice_get old.keys position ≡ Some k
@@ -60,7 +60,7 @@ module _ {V : Type 0} where
     pub keys : new.keys ≡ swap_remove old.keys position k
     pub values : new.values ≡ swap_remove old.values position v
 
-  -- the values, with v in the place of k's
+  -- the values, with v at the position of k
   abbrev pub put_beside : List Key → List V → Key → V → List V
   put_beside [] values k v = values
   put_beside (q ∷ keys) [] k v = []
@@ -70,15 +70,15 @@ module _ {V : Type 0} where
   abbrev pub value_of : Dense V → Key → Option V
   value_of d k = map.get d.content.live k
 
-  -- the live key k has the value v, and all else stays
+  -- the live key k has the value v; nothing else changes
   abbrev pub with_value_of : Dense V → Key → V → Dense V
   with_value_of d k v = record { content = with_value d.content k v; keys = d.keys; values = put_beside d.keys d.values k v }
 
-  -- ws, cut to the length of vs or filled up from it: a slice that is lent keeps its length
+  -- ws, cut to the length of vs or extended to it by the end of vs, because a borrowed slice keeps its length
   abbrev pub refilled : List V → List V → List V
   refilled vs ws = take (length vs) (ws ++ drop (length ws) vs)
 
-  -- the same keys with these values, in packed order
+  -- the same keys in the same order, with these values
   abbrev pub with_values_in : Dense V → List V → Dense V
   with_values_in d ws = record {
     content = record d.content { live = map.from_entries (zip d.keys (refilled d.values ws)) };
@@ -86,17 +86,17 @@ module _ {V : Type 0} where
     values = refilled d.values ws;
   }
 
-  -- the places of the live keys are freed from the back of the packed order
+  -- the slots of the live keys are freed, from the back of the packed order
   abbrev pub FreesFromBack : Dense V → Dense V → Type 0
   FreesFromBack old new = new.content.stack ≡ option_map (λ stack. pushed_all stack (reverse old.keys)) old.content.stack
 
-  -- the last live key is taken out with its value, as a removal does, or none is live
+  -- the last live key is removed with its value, as `remove` does; or no key is live
   abbrev pub TakesLast : {K : Type 0} → (K → Key) → Dense V → Option (K × V) → Dense V → Type 0
   TakesLast data_of old None new = (old.keys ≡ []) × (new ≡ old)
   TakesLast data_of old (Some pair) new = (map.get old.content.live (data_of pair.0) ≡ Some pair.1) × Removes old.content (data_of pair.0) new.content
       × (old.keys ≡ new.keys ++ data_of pair.0 ∷ []) × (old.values ≡ new.values ++ pair.1 ∷ [])
 
-  -- every key leaves
+  -- every live key is removed
   pub record Empties (old new : Dense V) : Type 0 where
     pub live : new.content.live ≡ map.empty
     pub none : IsEmpty new

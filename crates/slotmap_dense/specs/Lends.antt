@@ -1,4 +1,4 @@
--- What a dense map ends as, where a `&mut` to one of its values is returned.
+-- What a dense map holds at the end of a loan, if a call returned a `&mut` into it.
 use Rattle.std.specs.Prelude.{ℕ, Bool, List, Option, slice_set}
 use Rattle.std.specs.Borrow.{Lends, LendsIf, LendsBoth, Fml, RattleType, MutBor, GName, Array, follows}
 use Rattle.std.specs.declared.cmp.Ordering.{Ordering}
@@ -6,7 +6,7 @@ use Rattle.slotmap_core.specs.Key.{Key}
 use Rattle.slotmap_dense.specs.Dense.{Dense, with_value_of, with_values_in}
 use Rattle.slotmap_dense.specs.contracts.DenseSlotMap.{the_row}
 
--- what a clause has as K.Key
+-- the members of a key type, which a clause writes as K.Key
 abbrev pub KeyMembers : Type 0 → Type 1
 KeyMembers K =
     record {
@@ -22,7 +22,7 @@ KeyMembers K =
     }
 
 module _ (K V : RattleType) (key : KeyMembers K.Denot) where
-  -- the map's type, as the logic holds it
+  -- the type of the map in the logic
   abbrev pub map_row : RattleType
   map_row = the_row K V (record { data_of = key.data_of; of_data = key.of_data }) (record { from_gives = key.from_gives }) (record { is_default = key.is_default }) (record { eq = key.eq }) (record { cmp = key.cmp }) (record { partial_cmp = key.partial_cmp }) (record { hash_input = key.hash_input }) (record { debug_output = key.debug_output })
 
@@ -31,18 +31,18 @@ module _ (K V : RattleType) (key : KeyMembers K.Denot) where
     abbrev pub lends_value : MutBor V.Denot → Fml
     lends_value r = Lends map_row V m r (with_value_of m.now k)
 
-    -- the same where r is a reference, and at `None` the map stays as it is
+    -- the same for an optional reference; at `None` the map stays as it is
     abbrev pub lends_get : Option (MutBor V.Denot) → Fml
     lends_get r = LendsIf map_row V m r (with_value_of m.now k) m.now
 
-  -- once the borrow r ends, the values are the last ones written through r, in packed order
+  -- once the borrow r ends, the values are those last written through r, in packed order
   abbrev pub lends_values : MutBor (Dense V.Denot) → MutBor (List V.Denot) → Fml
   lends_values m r = Lends map_row (Array V 0) m r (with_values_in m.now)
 
-  -- the same through the loan with this name
+  -- the same for the loan with this name
   abbrev pub lends_walk : MutBor (Dense V.Denot) → GName → Fml
   lends_walk m name = follows map_row (Array V 0) m.ghost_name name (with_values_in m.now)
 
--- once the borrows of two elements of a slice end, those have the last values written through them
+-- once the borrows of two elements of a slice end, the elements are the values last written through them
 abbrev pub lends_two : (V : RattleType) → MutBor (List V.Denot) → ℕ → ℕ → MutBor V.Denot × MutBor V.Denot → Fml
 lends_two V xs i j r = LendsBoth (Array V 0) V V xs r (λ a b. slice_set (slice_set xs.now i a) j b)

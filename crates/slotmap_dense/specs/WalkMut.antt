@@ -1,4 +1,4 @@
--- What the walks show that lend the values for writing.
+-- What contracts see of the iterators that yield mutable references.
 use Rattle.std.specs.Prelude.{◌≡◌, List, Option, length, map as list_map}
 use Rattle.std.specs.Borrow.{GName, MutBor}
 use Rattle.std.specs.List.{zip}
@@ -10,7 +10,7 @@ use Rattle.slotmap_dense.specs.declared.iter_mut.IterMut.{IterMut}
 use Rattle.slotmap_dense.specs.declared.iter_mut.ValuesMut.{ValuesMut}
 
 module _ {K V : Type 0} where
-  -- the pairs that an `IterMut` has left, by the data of their keys
+  -- the pairs that an `IterMut` has yet to yield, by the data of their keys
   abbrev pub iter_mut_rest : (K → Key) → IterMut K V → List (Key × V)
   iter_mut_rest data_of s = zip (list_map data_of (slice.iter_rest s.keys)) (slice.iter_mut_rest s.values)
 
@@ -18,20 +18,20 @@ module _ {K V : Type 0} where
   abbrev pub iter_mut_name : IterMut K V → GName
   iter_mut_name s = slice.iter_mut_name s.values
 
-  -- `next` may be called: as many keys as values are left
+  -- `next` may be called: as many keys are left as values
   abbrev pub IterMutCanStep : IterMut K V → Type 0
   IterMutCanStep s = length (slice.iter_mut_rest s.values) ≡ length (slice.iter_rest s.keys)
 
-  -- a walk over what the map holds, before its first step
+  -- an iterator over what the map holds, before its first step
   pub record StartsIterMut (data_of : K → Key) (d : Dense V) (s : IterMut K V) : Type 0 where
     pub in_order : iter_mut_rest data_of s ≡ zip d.keys d.values
     pub ready : IterMutCanStep s
 
-  -- a call of `next` at s gave r, which shows the first pair of s, and left t
+  -- a call of `next` at s returned r, the first pair of s, and left t
   abbrev pub iter_mut_steps : (K → Key) → IterMut K V → Option (K × MutBor V) → IterMut K V → Type 0
   iter_mut_steps data_of s r t = TakesFirst (λ (x : K × MutBor V). (data_of x.0, x.1.now)) (iter_mut_rest data_of s) r (iter_mut_rest data_of t)
 
-  -- the values that a `ValuesMut` has left
+  -- the values that a `ValuesMut` has yet to yield
   abbrev pub values_mut_rest : ValuesMut K V → List V
   values_mut_rest s = slice.iter_mut_rest s.values
 
@@ -39,6 +39,6 @@ module _ {K V : Type 0} where
   abbrev pub values_mut_name : ValuesMut K V → GName
   values_mut_name s = slice.iter_mut_name s.values
 
-  -- a call of `next` at s gave r and left t
+  -- a call of `next` at s returned r and left t
   abbrev pub values_mut_steps : ValuesMut K V → Option (MutBor V) → ValuesMut K V → Type 0
   values_mut_steps s r t = slice.iter_mut_steps s.values r t.values
