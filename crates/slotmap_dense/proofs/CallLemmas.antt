@@ -1,4 +1,4 @@
--- What the calls of a dense map owe whatever they answer.
+-- What the calls of a dense map guarantee, whatever they return.
 use Rattle.std.proofs.Common.{◌≡◌, ℕ, ◌+◌, ◌-◌, ◌≤◌, min, true, length, map as list_map, vec_capacity, vec_len, refl, ap, arith}
 use Rattle.std.specs.Global.{Vec}
 use Rattle.std.specs.FinMap as map
@@ -16,7 +16,7 @@ module _ {K V : Type 0} (data_of : K → Key) (slots : Content ℕ) (keys : Vec 
   abbrev pub held : Dense V
   held = dense_of slots (list_map data_of keys.items) values.items (min (vec_capacity keys) (vec_capacity values))
 
-  -- nothing was done
+  -- a call that changes nothing
   pub stays-same : StaysValid held held
   stays-same = record { before = dense_valid data_of slots keys values sound; after = dense_valid data_of slots keys values sound; capacity = refl }
 
@@ -24,7 +24,7 @@ module _ {K V : Type 0} (data_of : K → Key) (slots : Content ℕ) (keys : Vec 
     abbrev pub held' : Dense V
     held' = dense_of slots' (list_map data_of keys'.items) values'.items (min (vec_capacity keys') (vec_capacity values'))
 
-    -- the vectors have the room that they had
+    -- the capacities stay
     pub stays-valid : IsSound slots' (list_map data_of keys'.items) values'.items → slots'.capacity ≡ slots.capacity → vec_capacity keys' ≡ vec_capacity keys → vec_capacity values' ≡ vec_capacity values → StaysValid held held'
     stays-valid sound' slots_same keys_same values_same = record {
       before = dense_valid data_of slots keys values sound;
@@ -32,7 +32,7 @@ module _ {K V : Type 0} (data_of : K → Key) (slots : Content ℕ) (keys : Vec 
       capacity = rw (slots_same, keys_same, values_same) refl;
     }
 
-    -- one pair more
+    -- a call that succeeded, with one pair more
     pub may-grow : (refused : Type 0) → (refused → ⊥) → IsSound slots' (list_map data_of keys'.items) values'.items → slots.capacity ≤ slots'.capacity → vec_capacity keys ≤ vec_capacity keys' → vec_capacity values ≤ vec_capacity values' → MayGrow held refused held'
     may-grow refused never sound' slots_more keys_more values_more = record {
       before = dense_valid data_of slots keys values sound;
@@ -42,7 +42,7 @@ module _ {K V : Type 0} (data_of : K → Key) (slots : Content ℕ) (keys : Vec 
       same_order = λ is. absurd (never is);
     }
 
-    -- the vectors may have more room, and all else is as it was
+    -- a call that failed: the vectors may have more room, and nothing else changed
     pub refused-grow : (refused : Type 0) → slots' ≡ slots → keys'.items ≡ keys.items → values'.items ≡ values.items → vec_capacity keys ≤ vec_capacity keys' → vec_capacity values ≤ vec_capacity values' → MayGrow held refused held'
     refused-grow refused slots_same keys_same values_same keys_more values_more = record {
       before = dense_valid data_of slots keys values sound;
@@ -60,7 +60,7 @@ module _ {K V : Type 0} (data_of : K → Key) (slots : Content ℕ) (keys : Vec 
       sound' : IsSound slots' (list_map data_of keys'.items) values'.items
       sound' = rw (keys_same, values_same) (IsSound-kept slots slots' (list_map data_of keys.items) values.items sound slots_room.after slots_room.keeps)
 
-      -- there is room for n more
+      -- there was room for n more already
       abbrev pub HadRoom : Type 0
       HadRoom = (n ≤ slots.room) × (vec_len keys + n ≤ vec_capacity keys) × (vec_len values + n ≤ vec_capacity values)
 

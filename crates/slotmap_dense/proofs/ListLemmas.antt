@@ -1,4 +1,4 @@
--- The elements of a list after `swap_remove`, and the entries of two lists side by side.
+-- The elements of a list after `swap_remove`, and the entries of two parallel lists.
 use Rattle.std.proofs.Common.{◌≡◌, ◌≢◌, ℕ, zero, suc, ◌+◌, ◌-◌, ◌<◌, ◌≤◌, Bool, true, false, cond, List, [], ◌∷◌, ◌++◌, length, set, take, get_or, slice_get, map as list_map, Some, None, is_some, refl, sym, ap, ◌∙◌, arith}
 use Rattle.std.proofs.lemmas.Bool.{false_from_ne_true}
 use Rattle.std.proofs.lemmas.Option.{slice_get-get_or, get_or_from_slice_get, same_Some}
@@ -37,13 +37,13 @@ module _ {X : Type 0} where
   slice_get-right (x ∷ xs) ys zero same = absurd (omega arith)
   slice_get-right (x ∷ xs) ys (suc n) same = slice_get-right xs ys n (omega arith)
 
-  -- two elements of a list that is cut at the second one
+  -- two elements of a list that is split at the second one
   pub set-cut : (xs ys : List X) (i n : ℕ) (a b : X) → length xs ≡ n → i < n → set xs i a ++ set ys 0 b ≡ set (set (xs ++ ys) i a) n b
   set-cut xs ys i n a b same less =
       let cut : n - n ≡ 0 = omega arith in
       sym (ap (λ zs. set zs n b) (set-append_left xs ys i a (omega arith)) ∙ set-append_right (set xs i a) ys n n b (length-set xs i a ∙ same) (omega arith) ∙ ap (λ k. set xs i a ++ set ys k b) cut)
 
-  -- the same where the first one stands behind
+  -- the same if the first one comes later
   pub set-cut_back : (xs ys : List X) (i n : ℕ) (a b : X) → length xs ≡ n → i < n → set xs i b ++ set ys 0 a ≡ set (set (xs ++ ys) n a) i b
   set-cut_back xs ys i n a b same less =
       let cut : n - n ≡ 0 = omega arith in
@@ -54,7 +54,7 @@ module _ {X : Type 0} where
       let cut = length-take_less (length xs - 1) (set xs i (get_or xs (length xs - 1) d)) (omega (arith, length-set xs i (get_or xs (length xs - 1) d))) in
       omega arith
 
-  -- the last element stands at the position, and the others before it where they stood
+  -- the last element is at the position, and the others before the last are where they were
   pub swap_remove_there : (xs : List X) (i : ℕ) (d : X) → i + 1 < length xs → slice_get (swap_remove xs i d) i ≡ slice_get xs (length xs - 1)
   swap_remove_there xs i d inside =
       slice_get-take (length xs - 1) (set xs i (get_or xs (length xs - 1) d)) i (omega arith)
@@ -89,7 +89,7 @@ other_first : (k q : Key) → k ≢ q → eq_by_cmp key_cmp k q ≡ false
 other_first k q other = false_from_ne_true (eq_by_cmp key_cmp k q) (λ t. other (tied keys_total exact_keys k q t))
 
 module _ {V : Type 0} where
-  -- a key that stands at one position alone is found with the value there
+  -- a key that is at one position only is found with the value there
   pub find-there : (ks : List Key) (vs : List V) (i : ℕ) (k : Key) (v : V) → ((j : ℕ) → slice_get ks j ≡ Some k → j ≡ i) → slice_get ks i ≡ Some k → slice_get vs i ≡ Some v → find key_cmp k (zip ks vs) ≡ Some v
   find-there [] vs i k v alone at_k at_v = absurd (cc)
   find-there (q ∷ ks) [] i k v alone at_k at_v = absurd (cc)
@@ -107,7 +107,7 @@ module _ {V : Type 0} where
       ap (λ b. cond b (Some w) (find key_cmp k (zip ks vs))) (other_first k q (λ same. absent 0 (ap Some (sym same))))
       ∙ find-absent ks vs k (λ j there. absent (suc j) there)
 
-  -- where each key stands once, the map is as long as the list
+  -- if each key is in the list once, the map has as many entries as the list
   pub len-zip : (ks : List Key) (vs : List V) → length vs ≡ length ks → ((i j : ℕ) (k : Key) → slice_get ks i ≡ Some k → slice_get ks j ≡ Some k → j ≡ i) → map.len (map.from_entries {R = key_cmp} (zip ks vs)) ≡ length ks
   len-zip [] vs same once = map.len-empty key_cmp V
   len-zip (k ∷ ks) [] same once = absurd (omega arith)
@@ -123,7 +123,7 @@ module _ {V : Type 0} where
       ap (λ b. cond b v w ∷ put_beside ks vs k v) (other_first q k (λ is. absent 0 (ap Some is)))
       ∙ ap (λ vs. w ∷ vs) (put_beside-absent ks vs k v (λ j there. absent (suc j) there) (omega arith))
 
-  -- beside a key that stands once
+  -- a value is put beside a key that is in the list once
   pub put_beside-at : (ks : List Key) (vs : List V) (i : ℕ) (k : Key) (v : V) → ((j : ℕ) → slice_get ks j ≡ Some k → j ≡ i) → slice_get ks i ≡ Some k → length vs ≡ length ks → put_beside ks vs k v ≡ set vs i v
   put_beside-at [] vs i k v alone at_k same = absurd (cc)
   put_beside-at (q ∷ ks) [] i k v alone at_k same = absurd (omega arith)
@@ -150,6 +150,6 @@ module _ {V : Type 0} where
       by true t rest = ap (λ x. Some (cond (eq_by_cmp key_cmp x k) v w)) (sym (tied keys_total exact_keys q x t))
       by false t rest = rest
 
--- what a read of a vector gave is the element that is known to be there
+-- a read of a vector returns the element that is known to be there
 pub same_read : {X : Type 0} (xs : List X) (i : ℕ) (read known : X) → read ≡ get_or xs i read → slice_get xs i ≡ Some known → read ≡ known
 same_read xs i read known at found = at ∙ get_or_from_slice_get xs i known read found

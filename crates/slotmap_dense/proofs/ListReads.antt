@@ -1,4 +1,4 @@
--- A list of slots that is read into a list of positions and two packed lists.
+-- A list of slots is read into a list of positions and two packed lists.
 use Rattle.std.proofs.Common.{◌≡◌, ◌≢◌, inl, inr, ℕ, zero, suc, ◌+◌, ◌<◌, ◌≤◌, ◌%◌, Bool, true, false, ◌==◌, if◌then◌else◌, List, [], ◌∷◌, ◌++◌, length, slice_get, map as list_map, Option, None, Some, is_some, option_map, refl, sym, ap, subst, ◌∙◌, arith}
 use Rattle.std.proofs.lemmas.Bool.{cases_eq}
 use Rattle.std.proofs.lemmas.List.{length_push, length-map, map_push}
@@ -32,7 +32,7 @@ same_option None None f g = refl
 same_option None (Some x) f g = g x refl
 same_option (Some x) b f g = sym (f x refl)
 
--- what a list with one record more holds
+-- what a list with one more record holds
 module _ {V : Type 0} (records : List (SlotRecord V)) (made : SlotRecord V) where
   -- a record before the last one
   earlier : (i : ℕ) (slot : SlotRecord V) → i ≢ length records → slice_get (records ++ made ∷ []) i ≡ Some slot → slice_get records i ≡ Some slot
@@ -93,7 +93,7 @@ module _ {V : Type 0} (records : List (SlotRecord V)) (made : SlotRecord V) wher
             | inr other ↦ rw (at.2.is) (in_contents records q.index at.0 w (earlier q.index at.0 other at.1) at.2.odd at.2.value)
           ]
 
--- the index of a live key is that of a record
+-- the index of a live key is the position of a record
 listed_before : {V : Type 0} (records : List (SlotRecord V)) (q : Key) → map.contains_key (contents records) q ≡ true → q.index < length records
 listed_before records q there =
     let value = some_is (map.get (contents records) q) there in
@@ -106,7 +106,7 @@ versions records = list_map (λ (s : SlotRecord _). s.version) records
 abbrev pub with_value : {V : Type 0} → List (SlotRecord V) → List Bool
 with_value records = list_map (λ (s : SlotRecord _). is_some s.value) records
 
--- the records that were read, and what they became: positions at the same places, and the pairs of the live ones
+-- the records read so far, and what they became: positions at the same indices, and the pairs of the live keys
 pub record AreSplit {V : Type 0} (records : List (SlotRecord V)) (positions : List (SlotRecord ℕ)) (keys : List Key) (values : List V) : Type 0 where
   pub same_versions : versions positions ≡ versions records
   pub same_values : with_value positions ≡ with_value records
@@ -166,7 +166,7 @@ module _ {V : Type 0} (records : List (SlotRecord V)) (positions : List (SlotRec
             ∙ ap (λ m. map.keys m) (ap (λ q. map.insert (contents records) q v) k_there ∙ sym (contents-live records made v valued odd));
       }
 
-  -- one without
+  -- a record without a value
   pub AreSplit-none : (made : SlotRecord V) → made.value ≡ None → AreSplit (records ++ made ∷ []) (positions ++ record { value = None; version = made.version } ∷ []) keys values
   AreSplit-none made none =
       let p : SlotRecord ℕ = record { value = None; version = made.version } in
@@ -180,7 +180,7 @@ module _ {V : Type 0} (records : List (SlotRecord V)) (positions : List (SlotRec
         ascending = split.ascending ∙ ap (λ m. map.keys m) (sym (contents-none records made none));
       }
 
--- what is gathered from two lists that look alike
+-- what is collected from two lists that look the same through f and g
 gather-alike : {A B E M : Type 0} (empty : M) (put : M → E → M) (f : A → ℕ) (g : B → ℕ) (entry_a : ℕ → A → Option E) (entry_b : ℕ → B → Option E) → ((i : ℕ) (a : A) (b : B) → f a ≡ g b → entry_a i a ≡ entry_b i b)
     → (i : ℕ) (xs : List A) (ys : List B) → list_map f xs ≡ list_map g ys → gather empty put entry_a i xs ≡ gather empty put entry_b i ys
 gather-alike empty put f g entry_a entry_b alike i [] [] same = refl
@@ -212,13 +212,13 @@ module _ {V : Type 0} (records : List (SlotRecord V)) (positions : List (SlotRec
   unfolding start_stack
   stack_alike = gather-alike _ _ (λ s. s.version) (λ s. s.version) vacant_slot vacant_slot vacant_alike 0 positions records same
 
--- elements at one index of two lists that look alike
+-- elements at one index of two lists that look the same through f and g
 at_same : {A B X : Type 0} (f : A → X) (g : B → X) (xs : List A) (ys : List B) (i : ℕ) (a : A) (b : B) → list_map f xs ≡ list_map g ys → slice_get xs i ≡ Some a → slice_get ys i ≡ Some b → f a ≡ g b
 at_same f g xs ys i a b same at_a at_b =
     same_Some (f a) (g b) (sym (slice_get-map f xs i ∙ ap (option_map f) at_a) ∙ ap (λ zs. slice_get zs i) same ∙ slice_get-map g ys i ∙ ap (option_map g) at_b)
 
 module _ {V : Type 0} (records : List (SlotRecord V)) (positions : List (SlotRecord ℕ)) (keys : List Key) (values : List V) (split : AreSplit records positions keys values) (limit : ℕ) (accepted : Accepts records limit) where
-  -- the positions are accepted where the records are
+  -- if the records are accepted, the positions are
   pub accepted-positions : Accepts positions limit
   accepted-positions =
       let first = accepted.first_empty in
@@ -235,7 +235,7 @@ module _ {V : Type 0} (records : List (SlotRecord V)) (positions : List (SlotRec
             (λ is. ap (λ v. v % 2) version ∙ consistent.0 (sym some ∙ is), λ odd. some ∙ consistent.1 (sym (ap (λ v. v % 2) version) ∙ odd));
       }
 
-  -- so they are refused for memory alone
+  -- so the positions can fail for memory only
   pub refuses-positions : (e : SlotsError) → RefusesStart positions limit e → RefusesStart records limit e
   refuses-positions TooMany refused = absurd (omega (arith, refused, accepted-positions.short))
   refuses-positions FirstNotEmpty refused = absurd (refused.1 accepted-positions.first_empty)
@@ -252,7 +252,7 @@ module _ {V : Type 0} (records : List (SlotRecord V)) (positions : List (SlotRec
       same_length = split.same_length;
     }
 
-    -- the map is what the records say
+    -- the map is what the records describe
     pub reads-split : (spare : ℕ) → IsContent false (dense_of slots keys values spare).content → ReadsAs false records (dense_of slots keys values spare).content
     reads-split spare valid = reads_as records limit accepted false (dense_of slots keys values spare).content (record {
       live = split.lives;

@@ -1,4 +1,4 @@
--- A dense map as a list of slots: the list of its positions, with the values in their place.
+-- A dense map written as a list of slots: the list of its positions, with each position replaced by the value there.
 use Rattle.std.proofs.Common.{◌≡◌, ℕ, ◌+◌, ◌<◌, true, inl, inr, List, length, slice_get, map as list_map, Option, None, Some, IfSome, option_map, refl, sym, ap, ◌∙◌, arith}
 use Rattle.std.specs.FinMap as map
 use Rattle.std.proofs.lemmas.List.{length-map}
@@ -16,7 +16,7 @@ use Rattle.slotmap_dense.proofs.PackedLemmas.{get-packed}
 use Rattle.slotmap_dense.proofs.WellFormed.{same_keys, present}
 
 module _ {V : Type 0} (slots : Content ℕ) (keys : List Key) (values : List V) (sound : IsSound slots keys values) (list : List (SlotRecord ℕ)) (writes : Writes slots list) where
-  -- a position in the list is one of the values
+  -- a position in the list is that of a value
   pub position_within : (i : ℕ) (r : SlotRecord ℕ) → slice_get list i ≡ Some r → IfSome r.value (λ p. p < length values)
   position_within i r found = by r.value refl
     where
@@ -30,7 +30,7 @@ module _ {V : Type 0} (slots : Content ℕ) (keys : List Key) (values : List V) 
       by None is = tt
       by (Some p) is = consistent (Some p) is p refl
 
-  -- a key of the slots is one of the map
+  -- a key in use in the slots is in use in the map
   uses_same : (spare : ℕ) (k : Key) → Uses slots k → Uses (dense_of slots keys values spare).content k
   uses_same spare k uses = elim uses [
     | inl (inl is) ↦ inl (inl ((same_keys slots keys values sound).each k ∙ is))
@@ -41,7 +41,7 @@ module _ {V : Type 0} (slots : Content ℕ) (keys : List Key) (values : List V) 
   at_index : (i : ℕ) (r : SlotRecord ℕ) → slice_get list i ≡ Some r → slice_get (list_map (filled values) list) i ≡ Some (filled values r)
   at_index i r found = slice_get-map (filled values) list i ∙ ap (option_map (filled values)) found
 
-  -- the list with the values is what the map is written as
+  -- the list with the values is the list that the map writes
   pub writes-filled : (spare : ℕ) → Writes (dense_of slots keys values spare).content (list_map (filled values) list)
   writes-filled spare = record {
     all = omega (arith, length-map list (filled values), writes.all, (same_keys slots keys values sound).all);

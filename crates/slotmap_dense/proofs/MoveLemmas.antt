@@ -19,7 +19,7 @@ use Rattle.slotmap_dense.proofs.PackedLemmas.{live-push, live-closed, IsPacked-p
 use Rattle.slotmap_dense.proofs.OverLemmas.{inserts-over, removes-over, reattaches-over}
 use Rattle.slotmap_dense.proofs.WellFormed.{same_keys}
 
--- where a place is left the offer is a key
+-- if the map isn't full, the offer is a key
 pub offer_key : {reuses : Bool} {V : Type 0} (c : Content V) → IsContent reuses c → used c < most → IsKey c.offer
 offer_key c well below = elim (well.offers below) [
   | inl at ↦ well.vacancies c.offer.index c.offer.version at
@@ -32,7 +32,7 @@ offer_key c well below = elim (well.offers below) [
 ]
 
 module _ {V : Type 0} (slots : Content ℕ) (keys : List Key) (values : List V) (sound : IsSound slots keys values) (new : Content ℕ) (k : Key) (v : V) where
-  -- the slots have k at the end of the list
+  -- the slots hold k at the end of the list
   IsSound-appended : map.get slots.live k ≡ None → new.live ≡ map.insert slots.live k (length keys) → IsContent true new → IsSound new (keys ++ k ∷ []) (values ++ v ∷ [])
   IsSound-appended none live well = record {
     well = well;
@@ -62,7 +62,7 @@ module _ {V : Type 0} (slots : Content ℕ) (keys : List Key) (values : List V) 
       reattaches-over slots new (live_of keys values) (live_of (keys ++ k ∷ []) (values ++ v ∷ [])) (min slots.room (before - length keys)) (min new.room (after - length (keys ++ k ∷ []))) (min slots.capacity before) (min new.capacity after)
       k (length keys) v rea (live-appended none) (omega (arith, rea.room, length_push keys k))
 
--- a key leaves, and the last pair takes the gap
+-- a key is removed, and the last pair moves into the gap
 module _ {V : Type 0} (slots : Content ℕ) (keys : List Key) (values : List V) (sound : IsSound slots keys values) (left new : Content ℕ) (k : Key) (v : V) (i : ℕ) (at : map.get slots.live k ≡ Some i) (closed : IsPacked new.live (swap_remove keys i k)) where
   shorter : length (swap_remove keys i k) + 1 ≡ length keys
   shorter = length-swap_remove keys i k (slice_get_within keys i k (sound.packed.stands k i at))
@@ -106,7 +106,7 @@ module _ {V : Type 0} (slots : Content ℕ) (keys : List Key) (values : List V) 
 pub kept_not_live : {reuses : Bool} {V : Type 0} (c : Content V) (k : Key) → IsContent reuses c → IsDetached c k → map.get c.live k ≡ None
 kept_not_live c k well kept = none_of (map.get c.live k) (false_of (map.contains_key c.live k) (λ there. well.live_or_detached k there kept))
 
--- the last pair leaves
+-- the last pair is removed
 module _ (positions : map.FinMap key_cmp ℕ) (keys : List Key) (k : Key) (packed : IsPacked positions (keys ++ k ∷ [])) where
   last_at : map.get positions k ≡ Some (length keys)
   last_at = packed.names (length keys) k (slice_get_push keys k)
@@ -154,7 +154,7 @@ pub of_some : {A P : Type 0} (o : Option A) (x : A) → o ≡ Some x → OnSome 
 of_some None x is h = absurd (cc)
 of_some (Some y) x is h = h
 
--- the same, where the two lists end so
+-- the same, if this pair ends the two lists
 pub takes-popped : {V : Type 0} (slots new : Content ℕ) (keys : List Key) (values : List V) (spare : ℕ) (ks : List Key) (vs : List V) (k : Key) (v : V) → keys ≡ ks ++ k ∷ [] → values ≡ vs ++ v ∷ [] → IsSound slots keys values → OnSome (map.get slots.live k) (Removes slots k new)
     → (map.get (dense_of slots keys values spare).content.live k ≡ Some v) × Removes (dense_of slots keys values spare).content k (dense_of new ks vs spare).content × (keys ≡ ks ++ k ∷ []) × (values ≡ vs ++ v ∷ [])
 takes-popped {V} slots new keys values spare ks vs k v keys_are values_are sound rem =

@@ -1,4 +1,4 @@
--- A key that is greater than all others comes last.
+-- A key that is larger than all others comes last.
 use Rattle.std.proofs.Common.{arith, ◌≡◌, ◌<◌, true, List, [], ◌∷◌, ◌++◌, map as list_map, refl, sym, ap, ◌∙◌, nat_cmp}
 use Rattle.std.specs.declared.cmp.Ordering.TheVariants.{Greater}
 use Rattle.std.specs.Ordering.{eq_by_cmp, ordering_then}

@@ -1,4 +1,4 @@
--- What a content becomes whose keys have other values, and how each transition carries over.
+-- The content with the same keys and other values, and how each transition carries over to it.
 use Rattle.std.proofs.Common.{◌≡◌, ℕ, ◌+◌, ◌≤◌, true, false, inl, inr, sym, ◌∙◌, arith}
 use Rattle.std.specs.FinMap as map
 use Rattle.slotmap_core.specs.Key.{Key, key_cmp}

@@ -1,4 +1,5 @@
--- How an append, a closed gap and a write keep the packed pairs in step with the positions, and what becomes of the live keys.
+-- Appending a pair, closing a gap and writing a value keep the pairs in step with the positions; and what they do to the
+-- live keys.
 use Rattle.std.proofs.Common.{◌≡◌, ◌≢◌, ℕ, ◌+◌, ◌-◌, ◌<◌, Bool, true, false, cond, inl, inr, List, [], ◌∷◌, ◌++◌, length, set, slice_get, Option, Some, None, is_some, refl, sym, ap, ◌∙◌, arith}
 use Rattle.std.proofs.lemmas.Bool.{cases_eq}
 use Rattle.std.proofs.lemmas.Option.{slice_get_within, same_Some}
@@ -17,7 +18,7 @@ use Rattle.slotmap_dense.specs.Dense.{put_beside}
 use Rattle.slotmap_dense.specs.Packed.{IsPacked, IsGapped, live_of, at_position}
 use Rattle.slotmap_dense.proofs.ListLemmas.{length-swap_remove, swap_remove_there, swap_remove_other, found_within, zip-push, find-there, find-absent, len-zip, put_beside-at}
 
--- an entry that isn't the one put in, or taken out
+-- an entry other than the one put in or taken out
 pub get_other : {X : Type 0} (m : map.FinMap key_cmp X) (k : Key) (v : X) (q : Key) → q ≢ k → map.get (map.insert m k v) q ≡ map.get m q
 get_other m k v q other = map.get-insert keys_total m k v q ∙ by (eq_by_cmp key_cmp q k) refl
   where
@@ -36,14 +37,14 @@ pub get_gone : {X : Type 0} (m : map.FinMap key_cmp X) (k : Key) → map.get (ma
 get_gone m k = map.get-remove keys_total m k k ∙ ap (λ b. cond b None (map.get m k)) (itself keys_total exact_keys k)
 
 module _ (positions : map.FinMap key_cmp ℕ) (keys : List Key) (packed : IsPacked positions keys) where
-  -- a key stands once
+  -- a key is in the list once
   pub once : (k : Key) (i j : ℕ) → slice_get keys i ≡ Some k → slice_get keys j ≡ Some k → j ≡ i
   once k i j at_i at_j = same_Some j i (sym (packed.names j k at_j) ∙ packed.names i k at_i)
 
   pub absent_key : (k : Key) → map.get positions k ≡ None → (j : ℕ) → slice_get keys j ≡ Some k → ⊥
   absent_key k none j there = let wrong = sym none ∙ packed.names j k there in absurd (cc)
 
-  -- a look-up goes by the position
+  -- a look-up uses the position
   get-packed_at : {V : Type 0} (values : List V) → length values ≡ length keys → (k : Key) → map.get (live_of keys values) k ≡ at_position values (map.get positions k)
   get-packed_at {V} values same k = map.get-from_entries keys_total (zip keys values) k ∙ by (map.get positions k) refl
     where
@@ -65,13 +66,13 @@ module _ (positions : map.FinMap key_cmp ℕ) (keys : List Key) (packed : IsPack
         by None none = refl
         by (Some i) at = ap is_some (found_within values i (omega (arith, slice_get_within keys i k (packed.stands k i at), same))).1
 
-    -- the value of a live key stands at its position
+    -- the value of a live key is at its position
     pub value_there : (k : Key) (i : ℕ) → map.get positions k ≡ Some i → (v : V) × (slice_get values i ≡ Some v) × (map.get (live_of keys values) k ≡ Some v)
     value_there k i at =
         let value = found_within values i (omega (arith, slice_get_within keys i k (packed.stands k i at), same)) in
         (value.0, value.1, get-packed k ∙ ap (at_position values) at ∙ value.1)
 
-    -- another value is written
+    -- a value is replaced
     pub live-written : (k : Key) (i : ℕ) (v : V) → map.get positions k ≡ Some i → live_of keys (set values i v) ≡ map.insert (live_of keys values) k v
     live-written k i v at = map.same_map keys_total exact_keys _ _ (λ q. elim (same_or_other q k) [
       | inl is ↦
@@ -91,15 +92,15 @@ module _ (positions : map.FinMap key_cmp ℕ) (keys : List Key) (packed : IsPack
         by q other None none = refl
         by q other (Some j) there = slice_get-set_other values i j v (λ same_place. other (same_Some q k (sym (packed.stands q j there) ∙ ap (slice_get keys) same_place ∙ packed.stands k i at)))
 
-    -- as many keys are live as stand in the list
+    -- as many keys are live as are in the list
     pub len-live : map.len (live_of keys values) ≡ length keys
     len-live = len-zip keys values same (λ i j k. once k i j)
 
-    -- the two lists are a listing of the live keys
+    -- the two lists together list the live keys
     pub listed : IsListing (live_of keys values) (zip keys values)
     listed = record { all = refl; once = omega (arith, len-live, length-zip keys values, same) }
 
-    -- a key and a value more, at the end
+    -- a key and a value are appended
     pub live-push : (k : Key) (v : V) → map.get positions k ≡ None → live_of (keys ++ k ∷ []) (values ++ v ∷ []) ≡ map.insert (live_of keys values) k v
     live-push k v none = ap map.from_entries (zip-push keys values k v same) ∙ map.from_entries_push keys_total exact_keys (zip keys values) k v (find-absent keys values k (absent_key k none))
 
@@ -122,7 +123,7 @@ module _ (positions : map.FinMap key_cmp ℕ) (keys : List Key) (packed : IsPack
     ];
   }
 
-  -- the key at a position has none any more
+  -- the key at a position loses its position
   pub IsGapped-removed : (k : Key) (i : ℕ) → map.get positions k ≡ Some i → IsGapped (map.remove positions k) keys i
   IsGapped-removed k i at = record {
     counted = omega (arith, packed.counted, len_removed keys_total exact_keys positions k (ap is_some at));
@@ -136,11 +137,11 @@ module _ (positions : map.FinMap key_cmp ℕ) (keys : List Key) (packed : IsPack
         (λ same. was.0 (same_Some q k (sym stood ∙ ap (slice_get keys) same ∙ packed.stands k i at)), stood);
   }
 
-  -- to write the value beside a key is to write it at the key's position
+  -- putting a value beside a key is the same as writing it at the key's position
   pub put-there : {V : Type 0} (values : List V) → length values ≡ length keys → (k : Key) (i : ℕ) (v : V) → map.get positions k ≡ Some i → put_beside keys values k v ≡ set values i v
   put-there values same k i v at = put_beside-at keys values i k v (λ j. once k i j (packed.stands k i at)) (packed.stands k i at) same
 
--- the last key stands in the gap
+-- the last key has moved into the gap
 module _ (positions : map.FinMap key_cmp ℕ) (keys : List Key) (i : ℕ) (gapped : IsGapped positions keys i) (d : Key) where
   less : length (swap_remove keys i d) + 1 ≡ length keys
   less = length-swap_remove keys i d gapped.inside
@@ -160,7 +161,7 @@ module _ (positions : map.FinMap key_cmp ℕ) (keys : List Key) (i : ℕ) (gappe
         swap_remove_other keys i d j was.0 (omega arith) ∙ was.1;
   }
 
-  -- or the last key's position is the gap now
+  -- or the gap is now the position of the last key
   pub IsPacked-moved : (moved : Key) → i + 1 < length keys → slice_get (swap_remove keys i d) i ≡ Some moved → IsPacked (map.insert positions moved i) (swap_remove keys i d)
   IsPacked-moved moved inside stands = record {
     counted = omega (arith, gapped.counted, less, map.len-insert keys_total positions moved i ∙ ap (λ b. cond b (map.len positions) (map.len positions + 1)) (ap is_some was_last));
@@ -189,7 +190,7 @@ module _ (positions : map.FinMap key_cmp ℕ) (keys : List Key) (i : ℕ) (gappe
       was_last : map.get positions moved ≡ Some (length keys - 1)
       was_last = gapped.names (length keys - 1) moved (λ e. absurd (omega arith)) stood
 
--- what becomes of the live keys, where key k stood at position i
+-- what happens to the live keys if k was the key at position i
 module _ {V : Type 0} (before after : map.FinMap key_cmp ℕ) (keys : List Key) (values : List V) (packed : IsPacked before keys) (same : length values ≡ length keys) (k : Key) (v : V) (i : ℕ) (at : map.get before k ≡ Some i) (closed : IsPacked after (swap_remove keys i k)) where
   stood : slice_get keys i ≡ Some k
   stood = packed.stands k i at
@@ -206,7 +207,7 @@ module _ {V : Type 0} (before after : map.FinMap key_cmp ℕ) (keys : List Key) 
   get_before : (q : Key) → map.get (live_of keys values) q ≡ at_position values (map.get before q)
   get_before q = get-packed before keys packed values same q
 
-  -- where a key stands afterwards, another than k stood before, with the same value
+  -- a key that is in the list afterwards isn't k, was there before, and has the same value
   kept : (q : Key) (j : ℕ) → slice_get (swap_remove keys i k) j ≡ Some q → (q ≢ k) × (at_position values (map.get before q) ≡ slice_get (swap_remove values i v) j)
   kept q j there = elim (cases_eq j i) [
     | inl here ↦
@@ -224,7 +225,7 @@ module _ {V : Type 0} (before after : map.FinMap key_cmp ℕ) (keys : List Key) 
         )
   ]
 
-  -- a key that stood elsewhere stands afterwards
+  -- a key from another position is still in the list
   pub still : (q : Key) (j : ℕ) → j ≢ i → slice_get keys j ≡ Some q → map.get after q ≡ None → ⊥
   still q j other there none = elim (cases_eq j (length keys - 1)) [
     | inl last ↦

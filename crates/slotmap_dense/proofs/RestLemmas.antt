@@ -1,4 +1,4 @@
--- The pairs from a position on, which a walk has still to visit.
+-- The pairs from a position on, which a loop has yet to visit.
 use Rattle.std.proofs.Common.{◌≡◌, ◌≢◌, ◌⊎◌, inl, inr, ℕ, zero, suc, ◌+◌, ◌-◌, ◌<◌, ◌≤◌, cond, nat_le, List, [], ◌∷◌, length, set, drop, slice_get, Option, Some, None, is_some, refl, sym, ap, ◌∙◌, arith}
 use Rattle.std.proofs.lemmas.Bool.{cases_eq, cases_lt, le-leb, lt-leb}
 use Rattle.std.proofs.lemmas.Option.{slice_get_within, same_Some}
@@ -57,7 +57,7 @@ module _ (positions : map.FinMap key_cmp ℕ) (keys : List Key) (packed : IsPack
       by (Some j) named = at j named (order j)
 
   module _ {V : Type 0} (values : List V) (same : length values ≡ length keys) (k : Key) (p : ℕ) (at : map.get positions k ≡ Some p) where
-    -- another key isn't at p
+    -- another key isn't at position p
     elsewhere : (q : Key) (j : ℕ) → q ≢ k → map.get positions q ≡ Some j → j ≢ p
     elsewhere q j other named e = other (same_Some q k (sym (packed.stands q j named) ∙ ap (slice_get keys) e ∙ packed.stands k p at))
 
@@ -95,7 +95,7 @@ module _ (positions : map.FinMap key_cmp ℕ) (keys : List Key) (packed : IsPack
         by q other None none = refl
         by q other (Some j) named = ap (λ o. cond (nat_le p j) o None) (slice_get-set_other values p j w (elsewhere q j other named))
 
--- the last pair took the place of k's
+-- the last pair has moved to the position of k
 module _ {V : Type 0} (before after : map.FinMap key_cmp ℕ) (keys : List Key) (values : List V) (packed : IsPacked before keys) (same : length values ≡ length keys) (k : Key) (v : V) (p : ℕ) (at : map.get before k ≡ Some p) (closed : IsPacked after (swap_remove keys p k)) where
   within : p < length keys
   within = slice_get_within keys p k (packed.stands k p at)
@@ -143,7 +143,7 @@ module _ {V : Type 0} (before after : map.FinMap key_cmp ℕ) (keys : List Key) 
           let was = kept q j (closed.stands q j there) in
           rest_after q ∙ ap (from_position p (swap_remove values p v)) there ∙ sym (rest_before q was.0 ∙ was.1)
 
--- what a walk finds at a position
+-- what a loop finds at a position
 pub Comes-at : {V : Type 0} (slots : Content ℕ) (keys : List Key) (values : List V) (sound : IsSound slots keys values) (spare : ℕ) (p : ℕ) (k : Key) → slice_get keys p ≡ Some k → Comes (dense_of slots keys values spare) p k
 Comes-at slots keys values sound spare p k stands =
     let at = sound.packed.names p k stands in
@@ -158,7 +158,7 @@ Comes-at slots keys values sound spare p k stands =
       written = λ w. ap (λ ws. map.remove (rest_of p keys ws) k) (put-there slots.live keys sound.packed values same k p w at) ∙ rest-written slots.live keys sound.packed values same k p at w;
     }
 
--- from the first position on there is all, and past the last one nothing
+-- from the first position on there are all pairs, and after the last one none
 pub rest-start : {V : Type 0} (d : Dense V) → IsDense d → rest_of 0 d.keys d.values ≡ d.content.live
 rest-start d well = well.listed.all
 

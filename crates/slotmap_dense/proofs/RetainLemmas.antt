@@ -1,4 +1,4 @@
--- What the calls of a closure so far did to the packed order and to the stack.
+-- What the calls of a closure did so far to the packed order and to the stack.
 use Rattle.std.proofs.Common.{◌≡◌, ℕ, ◌+◌, Bool, true, false, cond, List, [], ◌∷◌, ◌++◌, append_assoc, append-nil, Some, slice_get, refl, sym, ap, subst, ◌∙◌}
 use Rattle.std.specs.List.{swap_remove}
 use Rattle.std.specs.Option.{option_map}
@@ -19,7 +19,7 @@ module _ {K V : Type 0} (data_of : K → Key) where
       by true rest = rest
       by false rest = ap (λ ks. data_of y.key ∷ ks) rest
 
-  -- what the calls that follow do from here, they do after these from the start
+  -- calls that go on from now, after these visits, also go on from old with these visits before them
   pub record SoFar (old : Dense V) (visits : List (Visit K V)) (position : ℕ) (now : Dense V) : Type 0 where
     pub packs : (xs : List (Visit K V)) (end : List Key) → PacksBy data_of position now.keys xs end → PacksBy data_of 0 old.keys (visits ++ xs) end
     pub stack : (ks : List Key) → option_map (λ stack. pushed_all stack (dropped data_of visits ++ ks)) old.content.stack ≡ option_map (λ stack. pushed_all stack ks) now.content.stack

@@ -1,4 +1,4 @@
--- What a dense map holds between calls is well formed.
+-- A dense map is well formed between calls.
 use Rattle.std.proofs.Common.{Bool, false, None, cond, is_some, ◌≡◌, ℕ, ◌+◌, ◌-◌, ◌^◌, ◌<◌, ◌≤◌, min, true, [], Some, Option, List, ◌++◌, take, drop, length, map as list_map, slice_get, set, vec_capacity, refl, sym, ap, subst, ◌∙◌, arith}
 use Rattle.std.specs.Global.{Vec}
 use Rattle.std.specs.Vec.{with_items}
@@ -53,11 +53,11 @@ module _ {V : Type 0} (slots : Content ℕ) (keys : List Key) (values : List V) 
       let all = value_there slots.live keys sound.packed values sound.same_length k i named in
       record { value = all.0; there = all.1; gives = all.2; inside = slice_get_within values i all.0 all.1 }
 
-  -- as many places are taken as the slots say
+  -- as many places are in use as the slots say
   pub used_same : (spare : ℕ) → used (dense_of slots keys values spare).content ≡ used slots
   used_same spare = omega (arith, same_keys.all)
 
--- the slots have more room
+-- the slots get more room
 pub IsSound-kept : {V : Type 0} (slots more : Content ℕ) (keys : List Key) (values : List V) → IsSound slots keys values → IsContent true more → Keeps slots more → IsSound more keys values
 IsSound-kept slots more keys values sound well same = record {
   well = well;
@@ -65,7 +65,7 @@ IsSound-kept slots more keys values sound well same = record {
   same_length = sound.same_length;
 }
 
--- with the vectors that the keys and values stand in
+-- the same for the vectors of the keys and the values
 pub dense_valid : {K V : Type 0} (data_of : K → Key) (slots : Content ℕ) (keys : Vec K) (values : Vec V)
     → IsSound slots (list_map data_of keys.items) values.items
     → IsDense (dense_of slots (list_map data_of keys.items) values.items (min (vec_capacity keys) (vec_capacity values)))
@@ -73,7 +73,7 @@ dense_valid data_of slots keys values sound =
     dense_well slots (list_map data_of keys.items) values.items sound (min (vec_capacity keys) (vec_capacity values))
     (omega (arith, length-map keys.items data_of, keys.ok.0, keys.ok.1, values.ok.0, values.ok.1, sound.same_length))
 
--- a map of nothing
+-- an empty map
 pub IsSound-new : (V : Type 0) (slots : Content ℕ) → IsContent true slots → slots.live ≡ map.empty → IsSound {V = V} slots [] []
 IsSound-new V slots well none = record {
   well = well;
@@ -100,7 +100,7 @@ dense-written slots keys values sound spare k i v at =
       values = sym beside j;
     }
 
--- the same keys in the same order, with another value beside one
+-- the same keys in the same order, with another value for one of them
 pub IsDense-with_value : {V : Type 0} (d : Dense V) (k : Key) (v : V) → IsDense d → IsLive d.content k → IsDense (with_value_of d k v)
 IsDense-with_value {V} d k v well is_live = record {
   content = IsContent-with_value false d.content well.content k is_live v;
@@ -143,7 +143,7 @@ IsSound-copied slots copy keys values sound well same = record {
   same_length = sound.same_length;
 }
 
--- a write under a live key is seen there, and nowhere else
+-- a value written under a live key is found there, and no other value changes
 pub dense_written : {V : Type 0} → WriteLaws {M = Dense V} {V = V} value_of with_value_of
 dense_written = record {
   here = λ d k v. get_inserted keys_total exact_keys d.content.live k v;

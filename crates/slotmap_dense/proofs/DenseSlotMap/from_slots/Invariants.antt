@@ -3,7 +3,7 @@ use Rattle.std.specs.Vec.Iter.{into_iter_items, into_iter_len}
 use Rattle.slotmap_dense.proofs.ListReads.{AreSplit}
 use Rattle.slotmap_dense.proofs.DenseSlotMap.from_slots.Given as goal
 
--- these records were read
+-- what was made of the records that were read so far
 abbrev pub invariant-loop-slot : goal.invariant-loop-slot
 invariant-loop-slot g l = record {
   all : l.yielded ++ into_iter_items l.slot-iterator ≡ l.fn.list.items;
