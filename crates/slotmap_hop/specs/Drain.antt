@@ -1,4 +1,4 @@
--- What a contract sees of a `Drain`.
+-- What contracts see of a `Drain`.
 use Rattle.std.specs.Prelude.{◌≡◌, ◌++◌, List, map as list_map, Option}
 use Rattle.std.specs.Borrow.{GName}
 use Rattle.std.specs.Iterator.{Count, at_most, Yields}
@@ -19,36 +19,37 @@ module _ {K V : Type 0} where
   abbrev pub drain_lender : Drain K V → GName
   drain_lender d = d.map.ghost_name
 
-  -- so many pairs are left
+  -- the number of pairs that are left
   abbrev pub drain_count : Drain K V → Count
   drain_count d = at_most (map.len (drain_map d).content.live)
 
-  -- old and new borrow the same map, and as what new ends, once every key has left, old ends too
+  -- old and new borrow the same map; and whatever the map of new ends as once it is emptied, the map of old ends as that
+  -- too
   abbrev pub DrainKeeps : Drain K V → Drain K V → Type 0
   DrainKeeps old new = (drain_lender new ≡ drain_lender old)
       × ((end : Content V) → EmptiesByIndex (drain_map new).content end → EmptiesByIndex (drain_map old).content end)
 
   module _ (data_of : K → Key) where
-    -- the key that comes next is the live one of the least index
+    -- the key that comes next is the live key of the smallest index
     abbrev pub DrainCanStep : Drain K V → Type 0
     DrainCanStep d = IsHopContent (drain_map d) × IsNextLive data_of (drain_map d).content 0 d.next
 
-    -- `next` took old to new, and answered the item
+    -- one call of `next` went from old to new and returned item
     abbrev pub DrainSteps : Drain K V → Option (K × V) → Drain K V → Type 0
     DrainSteps old item new = TakesPair data_of (drain_map old).content item (drain_map new).content
         × DrainKeeps old new × DrainCanStep new × TakesFirst data_of (drain_map old).content item (drain_map new).content
 
-    -- each state that calls of `next` lead to keeps what the first keeps
+    -- `DrainKeeps` holds from the first state to each state that calls of `next` lead to
     abbrev pub DrainKeepsAlong : Drain K V → Type 0
     DrainKeepsAlong first = (pairs : List (K × V)) (later : Drain K V) → Yields DrainSteps first pairs later
         → DrainKeeps first later
 
-    -- the pairs that calls of `next` give, and those that the map still holds then, are those that it held
+    -- the pairs that calls of `next` return, together with those that the map still holds, are those that it held at first
     abbrev pub DrainLists : Drain K V → Type 0
     DrainLists first = (pairs : List (K × V)) (later : Drain K V) → Yields DrainSteps first pairs later
         → IsListingBut (drain_map first).content.live (list_map (λ p. (data_of p.0, p.1)) pairs) (drain_map later).content.live
 
-    -- they come by ascending index, before those that the map still holds
+    -- the pairs that calls of `next` return come by ascending index, before those that the map still holds
     abbrev pub DrainInOrder : Drain K V → Type 0
     DrainInOrder first = (pairs : List (K × V)) (later : Drain K V) → Yields DrainSteps first pairs later
         → map.entries (drain_map first).content.live ≡ list_map (λ p. (data_of p.0, p.1)) pairs ++ map.entries (drain_map later).content.live

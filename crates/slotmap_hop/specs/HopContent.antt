@@ -1,4 +1,4 @@
--- What a map that hops over its vacant places holds: a content, and the blocks that the vacant places form.
+-- The model of a `HopSlotMap`: a content, and the blocks that its vacant places form.
 use Rattle.std.specs.Prelude.{◌≡◌, ◌⊎◌, ℕ, ◌+◌, ◌-◌, ◌<◌, ◌≤◌, refl, Bool, true, false, Option, Some, None, if◌then◌else◌, ◌==◌, ◌||◌, List, [], ◌∷◌}
 use Rattle.std.specs.Ordering.{nat_cmp}
 use Rattle.std.specs.FinMap as map
@@ -19,16 +19,16 @@ pub record HopContent (V : Type 0) : Type 0 where
 abbrev pub hop_code : {V : Type 0} → Coded V → Coded (HopContent V)
 hop_code {V} code = code_by (Content V × Blocks) (coded× (content_code code) coded_blocks) (λ m. (m.content, m.blocks)) (λ p. record { content = p.0; blocks = p.1 }) (λ _. refl)
 
--- place 0 is a block of its own, and there is no other
+-- place 0 is a block of its own, and there is no other block
 abbrev pub NoBlocks : Blocks → Type 0
 NoBlocks b = (b.sentinel_end ≡ 0) × (b.others ≡ [])
 
--- place 0 counts as vacant, beside the places with a next version
+-- a place is vacant if it has a next version; place 0 counts as vacant too
 abbrev pub is_vacant_in : map.FinMap nat_cmp ℕ → ℕ → Bool
 is_vacant_in next i = (i == 0) || map.contains_key next i
 
--- the blocks once these keys have left, one after the other, where each vacant place has its next version: as a key leaves
--- its place joins the blocks, but for its last key
+-- the blocks after these keys are removed, one after the other; `next` has the next version of each vacant place. The place
+-- of each key joins the blocks, unless it is the last key of its place
 abbrev pub blocks_left : map.FinMap nat_cmp ℕ → Blocks → List Key → Blocks
 blocks_left next b [] = b
 blocks_left next b (k ∷ ks) = blocks_left (freed next k) (if is_last k then b else vacated (is_vacant_in next) b k.index) ks
@@ -38,24 +38,24 @@ module _ {V : Type 0} where
   abbrev pub counts_vacant : Content V → ℕ → Bool
   counts_vacant c i = is_vacant_in c.next i
 
-  -- the blocks once k has left: its place joins them, but for its last key
+  -- the blocks after k is removed: its place joins them, unless k is its last key
   abbrev pub blocks_without : HopContent V → Key → Blocks
   blocks_without m k = if is_last k then m.blocks else vacated (counts_vacant m.content) m.blocks k.index
 
-  -- the blocks once these keys have left, one after the other
+  -- the blocks after these keys are removed, one after the other
   abbrev pub blocks_without_all : HopContent V → List Key → Blocks
   blocks_without_all m ks = blocks_left m.content.next m.blocks ks
 
-  -- the live key k has the value v, and all else stays
+  -- the live key k has the value v; nothing else changes
   abbrev pub hop_with_value : HopContent V → Key → V → HopContent V
   hop_with_value m k v = record { content = with_value m.content k v; blocks = m.blocks }
 
-  -- each key has the value that stands at its place in the list, and all else stays
+  -- each key has the value at its position in the list; nothing else changes
   abbrev pub hop_with_values : HopContent V → List Key → List V → HopContent V
   hop_with_values m keys values = record { content = with_values m.content keys values; blocks = m.blocks }
 
-  -- what holds of every such map: no key is detached, the blocks are the maximal ones, and the next insert uses the back
-  -- of the first one of their list
+  -- what always holds of the model: no key is detached, the blocks are the maximal ones, and the next insert uses the back
+  -- of the first one in their list
   pub record IsHopContent (m : HopContent V) : Type 0 where
     pub valid : IsContent true m.content
     pub none_detached : m.content.detached ≡ set.empty
@@ -67,28 +67,28 @@ module _ {V : Type 0} where
     pub listing : IsListing m.content.live entries
     pub in_order : entries ≡ map.entries m.content.live
 
-  -- the live key of the least index from i on, or none where no live key has such an index
+  -- the live key of the smallest index from i on, or none if no live key has such an index
   abbrev pub IsNextLive : {K : Type 0} → (K → Key) → Content V → ℕ → Option K → Type 0
   IsNextLive data_of c i None = (q : Key) → IsLive c q → q.index < i
   IsNextLive data_of c i (Some k) = IsLive c (data_of k) × (i ≤ (data_of k).index) × ((q : Key) → IsLive c q → i ≤ q.index → (data_of k).index ≤ q.index)
 
-  -- a walk may stand at this place: at place 0, or directly after one that is in use
+  -- an iterator may be at this place: at place 0, or directly after a place that isn't vacant
   abbrev pub MayStand : Content V → ℕ → Type 0
   MayStand c i = (i ≡ 0) ⊎ (counts_vacant c (i - 1) ≡ false)
 
-  -- a call that asks for no memory: the map was and is well formed, and has room for as many places
+  -- a call that allocates nothing: the map was and is well formed, and its capacity stays
   pub record StaysHop (old new : HopContent V) : Type 0 where
     pub before : IsHopContent old
     pub after : IsHopContent new
     pub capacity : new.content.capacity ≡ old.content.capacity
 
-  -- a call that may ask for room for one more key: the map was and is well formed, and no room is lost
+  -- a call that may allocate room for one more key: the map was and is well formed, and no capacity is lost
   pub record GrowsHop (old new : HopContent V) : Type 0 where
     pub before : IsHopContent old
     pub after : IsHopContent new
     pub capacity : old.content.capacity ≤ new.content.capacity
 
-  -- a call that asks for room for n more keys, where `ok` says that it isn't refused; the blocks stay
+  -- a call that reserves room for n more keys, where `ok` says that it succeeds; the blocks stay
   pub record MakesHopRoom (old : HopContent V) (n : ℕ) (ok : Type 0) (new : HopContent V) : Type 0 where
     pub makes_room : MakesRoom true old.content n ok new.content
     pub blocks : new.blocks ≡ old.blocks

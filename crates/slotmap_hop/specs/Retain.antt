@@ -1,4 +1,4 @@
--- What `retain` does to the entries and to the blocks of a map that hops over its vacant places.
+-- What `retain` does to the entries and to the blocks of a `HopSlotMap`.
 use Rattle.std.specs.Prelude.{◌≡◌, Bool, List, [], ◌∷◌, if◌then◌else◌}
 use Rattle.std.specs.Fn.{Mut}
 use Rattle.std.specs.Borrow.{MutBor}
@@ -7,12 +7,13 @@ use Rattle.slotmap_core.specs.Key.{Key}
 use Rattle.slotmap_core.specs.Retain.{Visit, RetainsBy, seen}
 use Rattle.slotmap_hop.specs.HopContent.{HopContent, blocks_without_all}
 
--- the keys at which the calls answered that the entry leaves, in the order of the calls
+-- the keys for which the calls returned `false`, in the order of the calls
 abbrev pub dropped : {K V : Type 0} → (K → Key) → List (Visit K V) → List Key
 dropped data_of [] = []
 dropped data_of (x ∷ xs) = if x.stays then dropped data_of xs else data_of x.key ∷ dropped data_of xs
 
--- the closure is called at the entries by ascending index, and each key that leaves does so as a removal says, in that order
+-- the closure is called with the entries by ascending index, and the keys for which it returns `false` are removed in that
+-- order
 pub record RetainsByIndex {F K V : Type 0} (g : Mut F (K × (MutBor V × Unit {0})) (Bool × (MutBor V × Unit {0}))) (data_of : K → Key) (f : F) (old new : HopContent V) : Type 0 where
   pub retains : RetainsBy g data_of f old.content.live new.content.live
   pub ascending : seen data_of retains.visits ≡ map.entries old.content.live

@@ -1,4 +1,4 @@
--- What a contract sees of a walk that hops over the vacant places.
+-- What contracts see of an iterator that skips vacant places.
 use Rattle.std.specs.Prelude.{◌≡◌, ℕ, suc, ◌+◌, ◌*◌, ◌<◌, ◌≤◌, List, [], ◌∷◌, length, drop, true, Option, None, Some, slice_get}
 use Rattle.std.specs.FinMap as map
 use Rattle.std.specs.FinSet as set
@@ -11,36 +11,37 @@ use Rattle.slotmap_hop.specs.HopContent.{HopContent, ListsEntries}
 use Rattle.slotmap_hop.specs.Links.{vacant_at}
 use Rattle.slotmap_hop.specs.Slots.{layout, places_of, IsSound}
 
--- what a walk still gives, the number of retired places that it has not passed, and the number of slots that it has read
+-- the items that an iterator has yet to yield, the number of retired places that it has yet to pass, and the number of
+-- slots that it has read
 pub record Walking (A : Type 0) : Type 0 where
   pub rest : List A
   pub retired : ℕ
   pub reads : ℕ
 
--- a walk over the live keys and their values, before its first step
+-- an iterator over the live keys and their values, before its first step
 pub record StartsIter {V : Type 0} (m : HopContent V) (it : Walking (Key × V)) : Type 0 where
   pub lists : ListsEntries m it.rest
   pub retired : it.retired ≡ set.len m.content.retired
   pub reads : it.reads ≡ 0
 
--- slots, and the number of reads of one of them
+-- slots, and the number of single slots that were read from them
 pub record Counted (V : Type 0) : Type 0 where
   pub slots : List (Slot V)
   pub reads : ℕ
 
--- a step that gave something has read one slot at least, and two at most, and two more for each retired place that it passed
+-- a step that yields an item reads one or two slots, and at most two more for each retired place that it passes
 pub record ReadsFew {A : Type 0} (old new : Walking A) : Type 0 where
   pub some : old.reads + 1 ≤ new.reads
   pub few : new.reads + 2 * new.retired ≤ old.reads + 2 * old.retired + 2
   pub passed : new.retired ≤ old.retired
 
--- what a step does to the number of reads; at the end nothing changes
+-- what a step does to the number of reads; a step at the end changes nothing
 abbrev pub CountsReads : {A I : Type 0} → Walking A → Option I → Walking A → Type 0
 CountsReads old None new = new ≡ old
 CountsReads old (Some item) new = ReadsFew old new
 
 module _ {V : Type 0} where
-  -- how many of these places are retired
+  -- the number of retired places among these
   abbrev pub retired_among : List (Place V) → ℕ
   retired_among [] = 0
   retired_among (Live version value ∷ ps) = retired_among ps
@@ -55,41 +56,41 @@ module _ {V : Type 0} where
   abbrev pub retired_left : List (Slot V) → ℕ → ℕ
   retired_left slots i = retired_among (drop i (places_of slots))
 
-  -- sound slots, and a place that is in use, at the front of a block, or past the last one
+  -- the slots are sound; the place is in use, at the front of a block, or after the last one
   pub record StandsAt (slots : List (Slot V)) (place : ℕ) : Type 0 where
     pub vacant : ℕ
     pub elems : ℕ
     pub sound : IsSound slots vacant elems
     pub at_front : vacant_at (layout slots) place ≡ true → Begins (vacant_at (layout slots)) place
 
-  -- a walk has read no more slots than it has passed
+  -- a well formed iterator at this place: it has read no more slots than it has passed
   pub record IsWalk (slots : List (Slot V)) (reads place left : ℕ) : Type 0 where
     pub stands : StandsAt slots place
     pub counted : left ≡ length (pairs_left slots place)
     pub passed : reads ≤ place
 
-  -- a walk may look from this place on for the next live slot
+  -- the search for the next live slot may go on from this place
   pub record CanGoOn (slots : List (Slot V)) (reads place : ℕ) : Type 0 where
     pub stands : StandsAt slots place
     pub passed : reads ≤ place
 
-  -- no live slot is left from this place on
+  -- there is no live slot from this place on
   pub record FindsNone (slots : List (Slot V)) (place : ℕ) : Type 0 where
     pub none : pairs_left slots place ≡ []
     pub below : (k : Key) → map.contains_key (live (places_of slots)) k ≡ true → k.index < place
 
-  -- the first live slot from a place on, whose version and value these are, stands here
+  -- the first live slot from `place` on is `found`, with this version and value
   pub record FindsLive (slots : List (Slot V)) (place found version : ℕ) (value : V) : Type 0 where
     pub there : slice_get (places_of slots) found ≡ Some (Live version value)
     pub first : pairs_left slots place ≡ (record { index = found; version = version }, value) ∷ pairs_left slots (found + 1)
     pub least : (k : Key) → map.contains_key (live (places_of slots)) k ≡ true → place ≤ k.index → found ≤ k.index
 
-  -- what was read on the way from one place to another, found one
+  -- the number of reads on the way from one place to the live slot that was found
   pub record ReadsOnTheWay (slots : List (Slot V)) (reads place reads' found : ℕ) : Type 0 where
     pub some : reads + 1 ≤ reads'
     pub few : reads' + 2 * retired_left slots (found + 1) ≤ reads + 2 * retired_left slots place + 2
     pub passed : reads' + place ≤ reads + found + 1
 
-  -- what was read where none is left
+  -- the number of reads if no live slot is left
   abbrev pub ReadsToTheEnd : List (Slot V) → ℕ → ℕ → ℕ → Type 0
   ReadsToTheEnd slots reads place reads' = reads' ≤ reads + 2 * retired_left slots place + 1
