@@ -13,12 +13,12 @@ use Rattle.slotmap_hop.specs.HopContent.{HopContent, IsHopContent, IsNextLive, b
 use Rattle.slotmap_hop.specs.Retain.{dropped}
 
 module _ {V : Type 0} where
-  -- after one of them is removed, the others are left
+  -- after one of these keys is removed, the others remain
   pub blocks_taken : (now new : HopContent V) (k : Key) (ks : List Key) → Removes now.content k new.content → new.blocks ≡ blocks_without now k → blocks_without_all now (k ∷ ks) ≡ blocks_without_all new ks
   blocks_taken now new k ks removes blocks =
       λ j. blocks_without_all (record { content = record now.content { next = sym removes.next j }; blocks = sym blocks j }) ks
 
-  -- the keys of a map whose first entry this is
+  -- the keys of a map that has this first entry
   pub keys_first : (m n : map.FinMap key_cmp V) (k : Key) (v : V) → map.entries m ≡ (k, v) ∷ map.entries n → map.keys m ≡ k ∷ map.keys n
   keys_first m n k v first = ap (list_map (λ (e : Key × V). e.0)) first
 
@@ -42,7 +42,7 @@ module _ {K V : Type 0} (data_of : K → Key) where
       by true rest = rest
       by false rest = ap (λ ks. data_of y.key ∷ ks) rest
 
-  -- the calls so far, in order, and what they removed
+  -- the calls so far, in order, and the keys that they removed
   pub record InOrder (old : HopContent V) (visits : List (Visit K V)) (index : ℕ) (now : HopContent V) : Type 0 where
     pub ascending : map.entries old.content.live ≡ seen data_of visits ++ map.entries (from_index index old.content.live)
     pub blocks : (ks : List Key) → blocks_without_all old (dropped data_of visits ++ ks) ≡ blocks_without_all now ks
@@ -67,7 +67,7 @@ module _ {K V : Type 0} (data_of : K → Key) where
           ∙ so_far.blocks ks ∙ λ j. blocks_without_all (record { content = record now.content { next = sym next j }; blocks = sym blocks j }) ks;
     }
 
-    -- the key leaves
+    -- the key is removed
     pub InOrder-dropped : (written new : HopContent V) → x.stays ≡ false → written.content.next ≡ now.content.next → written.blocks ≡ now.blocks → Removes written.content (data_of x.key) new.content → new.blocks ≡ blocks_without written (data_of x.key)
         → InOrder old (visits ++ x ∷ []) ((data_of x.key).index + 1) new
     InOrder-dropped written new stays next same removes blocks = record {

@@ -10,11 +10,11 @@ use Rattle.slotmap_hop.specs.Slots.{places_of, hop_content, IsSound}
 use Rattle.slotmap_hop.proofs.SlotLemmas.{valid, taken_slots, slots_fit}
 
 module _ {V : Type 0} (m : HopContent V) (n : ℕ) (ok : Type 0) (well : IsHopContent m) where
-  -- where there is room for n keys more, nothing has to be asked for
+  -- if there is room for n more keys, nothing has to be allocated
   pub hop_room_had : ok → n ≤ m.content.room → MakesHopRoom m n ok m
   hop_room_had is room = record { makes_room = room_had m.content n ok is well.valid room; blocks = refl; before = well; after = well }
 
-  -- where there is none, a refusal may leave all as it is
+  -- if there isn't, a failed call may leave everything as it is
   pub hop_room_refused : (ok → ⊥) → m.content.room < n → MakesHopRoom m n ok m
   hop_room_refused refused none = record {
     makes_room = record {
@@ -48,7 +48,7 @@ module _ {V : Type 0} (slots : List (Slot V)) (vacant elems : ℕ) (sound : IsSo
   pub spare_room : length slots < min fits (2 ^ 32 - 1) → 0 < now.content.room
   spare_room spare = rw (← view) (omega (arith, taken_slots slots vacant elems sound, slots_fit slots vacant elems sound))
 
-  -- room for n keys more was asked for, which there wasn't
+  -- room for n more keys was missing, so memory was requested
   module _ (more : ℕ) (on : fits ≤ more) (n : ℕ) (ok : Type 0) (none : now.content.room < n) where
     grown_valid : IsHopContent (hop_content slots (more - 1))
     grown_valid = valid slots vacant elems sound (more - 1) (omega arith)
@@ -56,7 +56,7 @@ module _ {V : Type 0} (slots : List (Slot V)) (vacant elems : ℕ) (sound : IsSo
     kept : Keeps now.content (hop_content slots (more - 1)).content
     kept = rw (← view) (record { live = refl; detached = refl; retired = refl; next = refl; offer = refl; stack = refl; room = omega arith })
 
-    -- and granted
+    -- the request succeeded
     pub grown_granted : ok → used now.content + n ≤ most → used now.content + n + 1 ≤ more → MakesHopRoom now n ok (hop_content slots (more - 1))
     grown_granted granted few enough =
         let same : used now.content ≡ taken (places_of slots) = ap (λ m. used m.content) (sym view) in

@@ -1,4 +1,4 @@
--- What sound slots hold, and how each change of them is the step of its call.
+-- What sound slots hold, and that each change of them is the step of its call.
 use mathlib.Core.Path.{fun_ext}
 use Rattle.std.proofs.Common.{◌≡◌, ◌≢◌, inl, inr, ℕ, zero, suc, ◌+◌, ◌-◌, ◌^◌, ◌<◌, ◌≤◌, Bool, true, false, cond, eqb, nat_eq, ◌==◌, ◌||◌, List, [], ◌∷◌, ◌++◌, length, set, slice_get, get_or, Option, Some, None, is_some, refl, sym, ap, subst, ◌∙◌, arith, eq-eqb, ne_eqb, min, IfNone}
 use Rattle.std.proofs.lemmas.Bool.{cases_eq, cases_lt, cases_Bool}
@@ -69,7 +69,7 @@ module _ (v : ℕ → Bool) where
         ],
       )
 
--- where the block that an insert looks at is place 0 alone, no other place is vacant
+-- if the block that an insert looks at is place 0 alone, no other place is vacant
 pub none_vacant : (es : List (Option Links)) (fs : List ℕ) → IsLinked es fs → end_at es (next_at es 0) ≡ 0 → (i : ℕ) → vacant_at es i ≡ true → i ≡ 0
 none_vacant es (x ∷ fs) linked none i here =
     absurd (omega (arith, (first_block es (x ∷ fs) linked).ordered, linked.chain.0, (linked.listed.only x (omega (arith, occurs-head x fs))).positive))
@@ -135,7 +135,7 @@ module _ {V : Type 0} (slots : List (Slot V)) (vacant elems : ℕ) (sound : IsSo
   pub same_counts : (c : ℕ) → counts_vacant (hop_content slots c).content ≡ vacant_at (layout slots)
   same_counts c = fun_ext (λ i. counts_are slots sound.linked.linked.sentinel i)
 
-  -- the block that the next insert takes a place of
+  -- the block from which the next insert takes a place
   pub offered_block : IsBlock (vacant_at (layout slots)) (next_at (layout slots) 0) (next_place slots)
   offered_block = first_block (layout slots) (fronts_of (layout slots)) sound.linked.linked
 
@@ -152,7 +152,7 @@ module _ {V : Type 0} (slots : List (Slot V)) (vacant elems : ℕ) (sound : IsSo
           let is = none_vacant (layout slots) (fronts_of (layout slots)) sound.linked.linked none i (place_vacant slots i at.1.0 at.1.1) in
           absurd (omega (arith, at.0))
 
-  -- the vacant places, in an order that begins with the one that the next insert uses
+  -- the vacant places, in an order that starts with the one that the next insert uses
   pub record Ordered : Type 0 where
     pub order : List ℕ
     pub ordered : IsStacked (places_of slots) order
@@ -238,7 +238,7 @@ module _ {V : Type 0} (slots : List (Slot V)) (vacant elems : ℕ) (sound : IsSo
     offers = λ below. offers_first c;
   }
 
--- a map of the sentinel alone
+-- a map with slot 0 alone
 abbrev pub sentinel_alone : (V : Type 0) → List (Slot V)
 sentinel_alone V = record { version = 0; state = Free (record { next = 0; prev = 0; other_end = 0 }) } ∷ []
 
@@ -332,7 +332,7 @@ module _ {V : Type 0} (slots : List (Slot V)) (vacant elems : ℕ) (sound : IsSo
         counted = omega (arith, length_removed sound.stack i on, sound.counted);
       }
 
-  -- a live place turns vacant, or is used up
+  -- a live place becomes vacant or retired
   pub IsSound-freed : (i v : ℕ) (x : V) → slice_get (places_of slots) i ≡ Some (Live v x) → v ≢ last_version → HasBlockList (layout new) → places_of new ≡ set (places_of slots) i (Vacant (v + 2)) → IsSound new (vacant + 1) (elems - 1)
   IsSound-freed i v x was other list after =
       let version = sound.stacked.versions i (Live v x) was in
@@ -355,7 +355,7 @@ module _ {V : Type 0} (slots : List (Slot V)) (vacant elems : ℕ) (sound : IsSo
     counted = sound.counted;
   }
 
-  -- another value
+  -- a value is replaced
   pub IsSound-rewritten : (i v : ℕ) (x w : V) → slice_get (places_of slots) i ≡ Some (Live v x) → HasBlockList (layout new) → places_of new ≡ set (places_of slots) i (Live v w) → IsSound new vacant elems
   IsSound-rewritten i v x w was list after = record {
     linked = list;
@@ -366,7 +366,7 @@ module _ {V : Type 0} (slots : List (Slot V)) (vacant elems : ℕ) (sound : IsSo
     counted = sound.counted;
   }
 
--- a content with these places, which offers this key
+-- a content with these places that offers this key
 abbrev pub holding : {V : Type 0} → List (Place V) → Key → ℕ → Content V
 holding ps o c = record {
   live = live ps;
@@ -402,7 +402,7 @@ module _ {V : Type 0} (slots : List (Slot V)) (vacant elems : ℕ) (sound : IsSo
       let told = Removes-untold _ _ k (offer_at (places_of slots) (next_place slots)) o did in
       subst (λ ps. Removes (hop_content slots c).content k (holding ps o c)) (sym after) told
 
--- what a read of a vector gave is the element that is known to be there
+-- a read of a vector returns the element that is known to be there
 pub same_read : {X : Type 0} (xs : List X) (i : ℕ) (read known : X) → read ≡ get_or xs i read → slice_get xs i ≡ Some known → read ≡ known
 same_read xs i read known at found = at ∙ get_or_from_slice_get xs i known read found
 
@@ -482,11 +482,11 @@ module _ {V : Type 0} (slots : List (Slot V)) (vacant elems : ℕ) (sound : IsSo
       by [] on counted = absurd on
       by (v ∷ vs) on counted = omega arith
 
--- a place that was set leaves the number of slots
+-- setting a place doesn't change the number of slots
 pub same_length : {V : Type 0} (slots new : List (Slot V)) (i : ℕ) (p : Place V) → places_of new ≡ set (places_of slots) i p → length new ≡ length slots
 same_length slots new i p after = omega (arith, length-places slots, length-places new, ap length after, length-set (places_of slots) i p)
 
--- keys that are looked up
+-- looking up keys
 
 module _ {V : Type 0} where
   live_state : (v : ℕ) (s : State V) (u : ℕ) (x : V) → place_in v s ≡ Live u x → (v ≡ u) × (s ≡ Occupied x)
@@ -601,7 +601,7 @@ module _ {V : Type 0} (slots : List (Slot V)) (vacant elems : ℕ) (sound : IsSo
   pub value_is : (y : V) → value_at slots i ≡ Some y → Some x ≡ Some y
   value_is y is = sym (ap value_of place) ∙ is
 
-  -- it is freed
+  -- the slot becomes vacant
   pub sound-freed : (new : List (Slot V)) → v ≢ last_version → HasBlockList (layout new) → places_of new ≡ set (places_of slots) i (Vacant (v + 1 + 1)) → IsSound new (vacant + 1) (elems - 1)
   sound-freed new other list after =
       let two : v + 1 + 1 ≡ v + 2 = omega arith in
@@ -619,7 +619,7 @@ module _ {V : Type 0} (slots : List (Slot V)) (vacant elems : ℕ) (sound : IsSo
       after ∙ ap (λ f. vacated f (blocks_of (layout slots)) i) (sym (same_counts slots vacant elems sound c))
       ∙ ap (λ b. cond b (blocks_of (layout slots)) (vacated (counts_vacant (hop_content slots c).content) (blocks_of (layout slots)) i)) (sym test)
 
-  -- it is used up
+  -- the slot is retired
   pub sound-used_up : (new : List (Slot V)) → layout new ≡ layout slots → places_of new ≡ set (places_of slots) i Retired → IsSound new vacant (elems - 1)
   sound-used_up new same after = IsSound-used_up slots vacant elems sound new i v x place (subst HasBlockList (sym same) sound.linked) after
 

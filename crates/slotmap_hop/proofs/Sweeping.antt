@@ -1,4 +1,4 @@
--- A walk over the live keys of a map that hops over vacant places.
+-- A loop over the live keys of a map, which skips vacant places.
 use Rattle.std.proofs.Common.{◌≡◌, ◌≢◌, ℕ, zero, suc, ◌+◌, ◌-◌, ◌<◌, ◌≤◌, Bool, true, false, Option, Some, None, List, length, slice_get, get_or, is_some, eqb, ne_eqb, ◌^◌, refl, sym, ap, subst, ◌∙◌, inl, inr, arith}
 use Rattle.std.proofs.lemmas.Bool.{cases_lt, cases_eq}
 use Rattle.std.proofs.lemmas.Option.{slice_get_within, get_or_from_slice_get, same_Some}
@@ -33,7 +33,7 @@ use Rattle.slotmap_hop.proofs.SlotLemmas.{vacant_place, place_not_vacant, same_c
 use Rattle.slotmap_hop.proofs.WellFormed.{IsHopContent-with_value}
 use Rattle.slotmap_hop.proofs.Walking.{block_here}
 
--- no live key has an index between these
+-- no live key has an index between these two
 pub record Passed {V : Type 0} (slots : List (Slot V)) (start place : ℕ) : Type 0 where
   pub from : start ≤ place
   pub at_front : vacant_at (layout slots) place ≡ true → Begins (vacant_at (layout slots)) place
@@ -47,7 +47,7 @@ module _ {V : Type 0} (slots : List (Slot V)) (vacant elems : ℕ) (sound : IsSo
       begins (inl first) = λ left next. absurd (omega arith)
       begins (inr used) = λ left next. let same : start - 1 ≡ left = omega arith in ap (vacant_at (layout slots)) (sym same) ∙ sym (ap (λ f. f (start - 1)) (same_counts slots vacant elems sound c)) ∙ used
 
-  -- a look may begin there
+  -- a search may begin there
   pub look_begins : (c : ℕ) → MayStand (hop_content slots c).content start → CanGoOn slots 0 start
   look_begins c may = record { stands = record { vacant = vacant; elems = elems; sound = sound; at_front = (passed-start c may).at_front }; passed = omega arith }
 
@@ -58,7 +58,7 @@ module _ {V : Type 0} (slots : List (Slot V)) (vacant elems : ℕ) (sound : IsSo
     here : (st : State V) → s.state ≡ st → slice_get (places_of slots) place ≡ Some (place_in s.version st)
     here st is = place_at slots place s found ∙ ap (λ st. Some (place_in s.version st)) is
 
-    -- a live key stands at a live place
+    -- a live key is at a live place
     not_here : (q : Key) (p : Place V) → map.contains_key (live (places_of slots)) q ≡ true → slice_get (places_of slots) q.index ≡ Some p → ((v : ℕ) (x : V) → p ≢ Live v x) → ⊥
     not_here q p there is other = let at = live_at (places_of slots) q there in other q.version at.0 (same_Some p (Live q.version at.0) (sym is ∙ at.1))
 
@@ -111,25 +111,25 @@ module _ {V : Type 0} (slots : List (Slot V)) (vacant elems : ℕ) (sound : IsSo
     pub found_live : (x : V) → s.state ≡ Occupied x → slice_get (places_of slots) place ≡ Some (Live s.version x)
     found_live x is = here (Occupied x) is
 
-  -- past all places no key is live
+  -- after all places no key is live
   pub passed-all : (place : ℕ) → Passed slots start place → length slots ≤ place → (q : Key) → map.contains_key (live (places_of slots)) q ≡ true → q.index < start
   passed-all place passed past q there = elim (cases_lt q.index start) [
     | inl before ↦ before
     | inr from ↦ let at = live_at (places_of slots) q there in absurd (omega (arith, passed.none q there (omega arith), slice_get_within (places_of slots) q.index (Live q.version at.0) at.1, length-places slots))
   ]
 
--- a look begins where it stands
+-- a search has passed nothing at its start
 pub look_starts : {V : Type 0} (slots : List (Slot V)) (reads start : ℕ) → CanGoOn slots reads start → Passed slots start start
 look_starts slots reads start can = record { from = omega arith; at_front = can.stands.at_front; none = λ q there from. from }
 
--- by which a loop over the live keys ends
+-- the measure by which a loop over the live keys ends
 abbrev pub indices_left : {K : Type 0} → (K → Key) → Option K → ℕ
 indices_left data_of None = 0
 indices_left data_of (Some k) = 2 ^ 32 - (data_of k).index
 
--- a loop over the live keys, of which the next one is known before the one at hand leaves
+-- a loop over the live keys that finds the next key before it removes the present one
 module _ {K V : Type 0} (data_of : K → Key) where
-  -- on the way from old to now, all keys below the index were visited
+  -- between old and now, all keys below the index were visited
   pub record Sweeping (old now : HopContent V) (index : ℕ) (next : Option K) : Type 0 where
     pub swept : Swept true old.content now.content index
     pub valid : IsHopContent now
@@ -164,13 +164,13 @@ module _ {K V : Type 0} (data_of : K → Key) where
         let same : i + ((data_of k).index - i) ≡ (data_of k).index = omega (arith, sweep.comes.1) in
         rw same at (Swept-to old.content now.content ((data_of k).index - i) i sweep.swept)
 
-    -- the next key after a change that leaves the same keys live, but for this one perhaps
+    -- the next key after a change that keeps the same keys live, except perhaps this one
     comes_after : (new : Content V) (next : Option K) → ((q : Key) → IsLive new q → IsLive now.content q) → ((q : Key) → IsLive now.content q → q ≢ data_of k → IsLive new q) → IsNextLive data_of now.content ((data_of k).index + 1) next → IsNextLive data_of new ((data_of k).index + 1) next
     comes_after new None less more comes = λ q there. comes q (less q there)
     comes_after new (Some n) less more comes =
         (more (data_of n) comes.0 (λ same. omega (arith, comes.1, ap (λ q. q.index) same)), comes.1, λ q there from. comes.2 q (less q there) from)
 
-    -- the key leaves
+    -- the key is removed
     pub sweep_removed : (new : HopContent V) (next : Option K) → IsNextLive data_of now.content ((data_of k).index + 1) next → Removes now.content (data_of k) new.content → new.content.capacity ≡ now.content.capacity → IsHopContent new → Sweeping old new ((data_of k).index + 1) next
     sweep_removed new next comes removes capacity well = record {
       swept = Swept-removed old.content now.content new.content (data_of k).index (data_of k) swept_here sweep.comes.0 refl removes capacity well.valid;
@@ -192,7 +192,7 @@ module _ {K V : Type 0} (data_of : K → Key) where
           comes;
     }
 
-    -- with the key removed after a write
+    -- the key is removed after a write to its value
     pub sweep_dropped : (w : V) (new : HopContent V) (next : Option K) → IsNextLive data_of now.content ((data_of k).index + 1) next → Removes (with_value now.content (data_of k) w) (data_of k) new.content → new.content.capacity ≡ now.content.capacity → IsHopContent new → Sweeping old new ((data_of k).index + 1) next
     sweep_dropped w new next comes removes capacity well =
         let written = Swept-written old.content now.content (data_of k).index (data_of k) w swept_here sweep.comes.0 in
@@ -210,7 +210,7 @@ module _ {K V : Type 0} (data_of : K → Key) where
     pub none_between : (m : map.FinMap key_cmp V) → ((q : Key) → map.contains_key m q ≡ true → IsLive now.content q) → NoneBelow m i → NoneBelow m (data_of k).index
     none_between m part above q there = sweep.comes.2 q (part q there) (above q there)
 
-  -- the sweep at hand, with what it says of the keys below its index
+  -- the loop so far, with what it says about the keys below its index
   pub record Clearing (old now : HopContent V) (next : Option K) : Type 0 where
     pub index : ℕ
     pub sweep : Sweeping old now index next
@@ -229,14 +229,14 @@ module _ {K V : Type 0} (data_of : K → Key) where
         above = subst (λ m. NoneBelow m ((data_of k).index + 1)) (sym removes.live) (NoneBelow-removed now.content.live (data_of k).index (data_of k) alone above);
       }
 
-  -- after the least key has left, each live key has a greater index
+  -- after the smallest key is removed, each live key has a larger index
   pub after_above : (now new : HopContent V) (k : K) → IsHopContent now → IsNextLive data_of now.content 0 (Some k) → Removes now.content (data_of k) new.content → (q : Key) → IsLive new.content q → (data_of k).index < q.index
   after_above now new k well least removes q there =
       let alone = alone_at now.content well.valid (data_of k) (data_of k).index least.0 refl in
       let above = NoneBelow-removed now.content.live (data_of k).index (data_of k) alone (λ q there. least.2 q there (omega arith)) in
       omega (arith, above q (sym (ap (λ m. map.contains_key m q) removes.live) ∙ there))
 
-  -- no key is live below the next one
+  -- no live key is below the next one
   pub next_is_least : (old now : HopContent V) (next : Option K) → Clearing old now next → IsNextLive data_of now.content 0 next
   next_is_least old now None clearing = λ q there. absurd (omega (arith, clearing.sweep.comes q there, clearing.above q there))
   next_is_least old now (Some k) clearing = (clearing.sweep.comes.0, omega arith, λ q there from. clearing.sweep.comes.2 q there (clearing.above q there))

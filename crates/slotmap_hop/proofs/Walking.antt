@@ -1,4 +1,4 @@
--- A walk passes a block of vacant places in one step.
+-- An iterator skips a block of vacant places in one step.
 use Rattle.std.proofs.Common.{◌≡◌, ◌≢◌, ℕ, zero, suc, ◌+◌, ◌-◌, ◌*◌, ◌<◌, ◌≤◌, ◌^◌, ◌%◌, true, List, [], ◌∷◌, length, drop, get_or, set, slice_get, Some, refl, sym, ap, subst, ◌∙◌, arith}
 use Rattle.std.proofs.lemmas.Option.{slice_get_within, get_or_from_slice_get}
 use Rattle.std.proofs.lemmas.List.{drop_more, drop_all, drop-set-lt}
@@ -29,7 +29,7 @@ drop-found : {X : Type 0} (xs : List X) (i : ℕ) (x : X) → slice_get xs i ≡
 drop-found xs i x found = drop_more xs i x (slice_get_within xs i x found) ∙ ap (λ y. y ∷ drop (i + 1) xs) (get_or_from_slice_get xs i x x found)
 
 module _ {V : Type 0} (slots : List (Slot V)) where
-  -- what comes at a place of each kind
+  -- what is yielded at a place of each kind
   abbrev at_list : ℕ → List (Place V) → List (Key × V)
   at_list i ps = gather [] (λ es e. e ∷ es) live_entry i ps
 
@@ -51,7 +51,7 @@ module _ {V : Type 0} (slots : List (Slot V)) where
   retired-retired : (i : ℕ) → slice_get (places_of slots) i ≡ Some Retired → retired_left slots i ≡ suc (retired_left slots (i + 1))
   retired-retired i found = ap retired_among (drop-found (places_of slots) i Retired found)
 
-  -- a run of vacant places holds nothing
+  -- a sequence of vacant places holds nothing
   skip : (k i : ℕ) → ((x : ℕ) → i ≤ x → x < i + k → vacant_at (layout slots) x ≡ true) → (pairs_left slots i ≡ pairs_left slots (i + k)) × (retired_left slots i ≡ retired_left slots (i + k))
   skip zero i vacant = let same : i + 0 ≡ i = omega arith in rw same (refl, refl)
   skip (suc k) i vacant =
@@ -66,7 +66,7 @@ module _ {V : Type 0} (slots : List (Slot V)) where
       let all = skip (back + 1 - front) front (λ x low high. block.inside x low (omega (arith, block.ordered))) in
       (all.0 ∙ ap (pairs_left slots) same, all.1 ∙ ap (retired_left slots) same)
 
-  -- the block that begins where a walk stands
+  -- the block that begins where the iterator is
   pub block_here : (i : ℕ) → StandsAt slots i → vacant_at (layout slots) i ≡ true → IsBlock (vacant_at (layout slots)) i (end_at (layout slots) i)
   block_here i stands vacant =
       let es = layout slots in
@@ -79,7 +79,7 @@ module _ {V : Type 0} where
   retired_state (suc v) other = absurd (other (suc v) refl)
 
 module _ {V : Type 0} (slots : List (Slot V)) (reads0 start : ℕ) where
-  -- on the way from one place to the next live one
+  -- on the way from a place to the next live one
   pub record OnTheWay (reads place : ℕ) : Type 0 where
     pub stands : StandsAt slots place
     pub same : pairs_left slots start ≡ pairs_left slots place
@@ -100,7 +100,7 @@ module _ {V : Type 0} (slots : List (Slot V)) (reads0 start : ℕ) where
     before = can.passed;
   }
 
-  -- past all places nothing is left
+  -- after all places nothing is left
   pub way_ends : (reads place : ℕ) → OnTheWay reads place → length slots ≤ place → pairs_left slots start ≡ []
   way_ends reads place way past = way.same ∙ ap (at_list slots place) (drop_all place (places_of slots) (omega (arith, length-places slots)))
 
@@ -112,7 +112,7 @@ module _ {V : Type 0} (slots : List (Slot V)) (reads0 start : ℕ) where
       here : (st : State V) → s.state ≡ st → slice_get (places_of slots) place ≡ Some (place_in s.version st)
       here st is = place_at slots place s found ∙ ap (λ st. Some (place_in s.version st)) is
 
-      -- a block is passed in one step
+      -- a block is skipped in one step
       hops : (links : Links) → s.state ≡ Free links → vacant_at (layout slots) place ≡ true → links.other_end ≡ end_at (layout slots) place → OnTheWay (reads + 1) (links.other_end + 1)
       hops links is vacant names =
           let block = block_here slots place way.stands vacant in
@@ -170,7 +170,7 @@ module _ {V : Type 0} (slots : List (Slot V)) (reads0 start : ℕ) where
             before = way.before;
           }
 
-      -- a live place is what the walk looks for
+      -- a live place is what the search looks for
       pub way_finds : (x : V) → s.state ≡ Occupied x → ((k : Key) → map.contains_key (live (places_of slots)) k ≡ true → start ≤ k.index → place ≤ k.index) → FindsLive slots start place s.version x
       way_finds x is least = let at = here (Occupied x) is in record { there = at; first = way.same ∙ pairs-live slots place s.version x at; least = least }
 
@@ -184,7 +184,7 @@ module _ {V : Type 0} (slots : List (Slot V)) (reads0 start : ℕ) where
           }
 
 module _ {V : Type 0} where
-  -- how many keys are retired
+  -- the number of retired keys
   len-retired_from : (j : ℕ) (ps : List (Place V)) → set.len (gather (set.empty {R = key_cmp}) (λ s e. set.insert s e.0) retired_entry j ps) ≡ retired_among ps
   len-retired_from j [] = set.len-empty key_cmp
   len-retired_from j (Live version value ∷ ps) = let more = len-add detached_laws (λ k. k.index) (retired_entry {V = V}) retired_fits j (Live version value) ps in omega (arith, len-retired_from (j + 1) ps)
@@ -200,7 +200,7 @@ module _ {V : Type 0} (slots : List (Slot V)) (reads place left : ℕ) (walk : I
   pub can_go_on : CanGoOn slots reads place
   can_go_on = record { stands = walk.stands; passed = walk.passed }
 
-  -- where something is left it is found
+  -- if something is left, it is found
   pub not_none : 0 < left → FindsNone slots place → ⊥
   not_none some finds = omega (arith, walk.counted, ap length finds.none)
 
@@ -223,7 +223,7 @@ module _ {V : Type 0} (slots : List (Slot V)) (reads place left : ℕ) (walk : I
       passed = omega (arith, way.passed, walk.passed);
     }
 
-    -- the value that was found is taken out
+    -- the value that was found is moved out
     module _ (new : List (Slot V)) (same : layout new ≡ layout slots) (after : places_of new ≡ set (places_of slots) found Retired) where
       pub pairs-taken : pairs_left new (found + 1) ≡ pairs_left slots (found + 1)
       pairs-taken = ap (λ ps. at_list slots (found + 1) (drop (found + 1) ps)) after ∙ ap (at_list slots (found + 1)) (drop-set-lt (found + 1) (places_of slots) found Retired (omega arith))
@@ -241,7 +241,7 @@ module _ {V : Type 0} (slots : List (Slot V)) (reads place left : ℕ) (walk : I
       }
 
 module _ {V : Type 0} (slots : List (Slot V)) (vacant elems : ℕ) (sound : IsSound slots vacant elems) where
-  -- a walk begins after the block of place 0
+  -- an iterator starts after the block of place 0
   pub first_place : IsBlock (vacant_at (layout slots)) 0 (end_at (layout slots) 0)
   first_place = circle_block (length (layout slots)) (bounded_by_length (layout slots)) 0 sound.linked.linked (zero_in_circle (fronts_of (layout slots)))
 

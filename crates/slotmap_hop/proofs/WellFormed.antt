@@ -1,4 +1,4 @@
--- What a map holds between calls is well formed.
+-- A map is well formed between calls.
 use Rattle.std.proofs.Common.{◌≡◌, ◌+◌, ◌-◌, true, cond, vec_capacity, refl, subst, ap, ◌∙◌, arith}
 use Rattle.std.specs.FinMap as map
 use Rattle.slotmap_core.specs.Key.{Key}
@@ -13,7 +13,7 @@ use Rattle.slotmap_hop.proofs.SlotLemmas.{valid}
 pub well_formed : {K V : Type 0} (m : Inside K V) (now : HopContent V) → hop_content m.slots.items (vec_capacity m.slots - 1) ≡ now → IsSound m.slots.items m.vacant_count m.live_count → IsHopContent now
 well_formed m now view sound = subst IsHopContent view (valid _ _ _ sound _ (omega (arith, m.slots.ok.0, m.slots.ok.1)))
 
--- another value under a live key keeps it so
+-- another value under a live key keeps it well formed
 pub IsHopContent-with_value : {V : Type 0} (m : HopContent V) (k : Key) (w : V) → IsHopContent m → IsLive m.content k → IsHopContent (hop_with_value m k w)
 IsHopContent-with_value m k w well is_live =
     let same : map.len (map.insert m.content.live k w) ≡ map.len m.content.live = map.len-insert keys_total m.content.live k w ∙ ap (λ b. cond b (map.len m.content.live) (map.len m.content.live + 1)) is_live in
@@ -24,7 +24,7 @@ IsHopContent-with_value m k w well is_live =
       offers = rw same well.offers;
     }
 
--- and the capacity
+-- and keeps the capacity
 pub StaysHop-with_value : {V : Type 0} (m now : HopContent V) (k : Key) (w : V) → StaysHop m now → IsLive now.content k → StaysHop m (hop_with_value now k w)
 StaysHop-with_value m now k w stays is_live = record { before = stays.before; after = IsHopContent-with_value now k w stays.after is_live; capacity = stays.capacity }
 
