@@ -1,4 +1,4 @@
-//! Detached keys: the value is out, and the slot is kept.
+//! Detached keys: the value is taken out, and the slot is kept.
 
 ghost use Rattle.std.specs.Prelude.{◌≡◌, OnSome, IfSome, IfNone, OnOk, IfErr, IsErr, false};
 ghost use Rattle.std.specs.FinMap as map;
@@ -14,18 +14,18 @@ use slotmap_core::keys::Key;
 
 impl<K: Key, V: Drop> DenseSlotMap<K, V> {
     /// Takes out the value of a live key and keeps its slot, or returns `None` if the key isn't
-    /// live. Constant time.
+    /// live.
     ///
-    /// The key is then detached: it has no value, and no insert uses its slot, until `reattach`
-    /// binds it again. `clear`, `drain` and `retain` leave it detached. Detaching never retires a
-    /// slot. The last key and its value move to the detached pair's position in the packed order.
-    /// The call allocates nothing.
+    /// The key is detached then. It isn't found, and no insert uses its slot, until `reattach`
+    /// binds it to a value again. `clear`, `drain` and `retain` leave it detached. The last pair
+    /// moves to the position of the detached one in the packed order. Detaching retires no slot and
+    /// allocates nothing. Constant time.
     ///
     /// ```
     /// assert_eq!(rt; map.detach(a), Some(1));
-    /// assert!(rt; !map.contains_key(a));
-    /// map.reattach(a, 5)?;
-    /// assert_eq!(rt; map.get(a).copied(), Some(5));
+    /// assert_eq!(rt; map.get(a), None);
+    /// map.reattach(a, 6)?;
+    /// assert_eq!(rt; map.get(a), Some(&6));
     /// ```
     pub fn detach(&mut self, key: K) -> Option<V>
         ensures value { result ≡ map.get self.old.content.live (K.data_of key) }
@@ -39,18 +39,18 @@ impl<K: Key, V: Drop> DenseSlotMap<K, V> {
         Some(close_gap(&mut self.slots, &mut self.keys, &mut self.values, position))
     }
 
-    /// Binds a detached key to a value again. Constant time if no vector moves.
+    /// Binds a detached key to a value again.
     ///
-    /// The key and the value are appended to the packed order. Fails with `NotDetached` exactly if
-    /// the key isn't detached, where Rust panics. Else fails with `Memory` if the lists of keys and
-    /// values have to grow and the allocation fails. The error holds the value, and the map holds
-    /// what it held. After a `reserve` it allocates nothing.
+    /// The key and the value are appended to the packed order. If the key isn't detached, it fails
+    /// with `NotDetached`; Rust panics. It fails with `Memory` if the lists of keys and values have
+    /// to grow and memory runs out. The error holds the value, and the map holds what it held.
+    /// After a `reserve` nothing is allocated. Constant time, unless the vectors grow.
     ///
     /// ```
     /// map.detach(a);
     /// map.reattach(a, 5)?;
-    /// assert_eq!(rt; map.get(a).copied(), Some(5));
-    /// assert!(rt; matches!(map.reattach(a, 6), Err(ReattachError::NotDetached(6))));
+    /// assert_eq!(rt; map.get(a), Some(&5));
+    /// assert!(rt; matches!(map.reattach(b, 6), Err(ReattachError::NotDetached(6))));
     /// ```
     pub fn reattach(&mut self, key: K, value: V) -> Result<(), ReattachError<V>>
         ensures ok { OnOk result (Reattaches self.old.content (K.data_of key) value self.new.content) }

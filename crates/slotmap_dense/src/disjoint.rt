@@ -13,7 +13,7 @@ use crate::DenseSlotMap;
 use slotmap_core::keys::Key;
 use std::mem;
 
-// Mutable references to two elements of a slice.
+// Returns mutable references to two elements of a slice.
 fn two_of<V>(values: &mut [V], first: usize, second: usize) -> (&mut V, &mut V)
     requires apart { first ≢ second }
     requires first { first < length values.old }
@@ -34,13 +34,14 @@ fn two_of<V>(values: &mut [V], first: usize, second: usize) -> (&mut V, &mut V)
 impl<K: Key, V: Drop> DenseSlotMap<K, V> {
     /// Replaces the value of `keys[i]` by `values[i]`, for each i, and returns the old values.
     ///
-    /// Fails exactly if a key isn't live or two keys are equal. The error holds the new values, and
-    /// nothing changes. It allocates nothing. It looks up each key and compares each two keys, so
-    /// its time doesn't depend on the size of the map.
+    /// If one of the keys isn't live, or two are equal, nothing changes, and the new values are
+    /// returned as the error. It looks up each key and compares each two, and allocates nothing.
+    /// Its time doesn't depend on the size of the map.
     ///
     /// ```
-    /// assert_eq!(rt; map.replace_disjoint([a, b], [10, 20]), Ok([1, 2]));
-    /// assert_eq!(rt; map.replace_disjoint([a, a], [3, 4]), Err([3, 4]));
+    /// assert_eq!(rt; map.replace_disjoint([a, b], [5, 6]), Ok([1, 2]));
+    /// assert_eq!(rt; map.get(b), Some(&6));
+    /// assert_eq!(rt; map.replace_disjoint([a, a], [7, 8]), Err([7, 8]));
     /// ```
     pub fn replace_disjoint<const N: usize>(
         &mut self,
@@ -68,8 +69,9 @@ impl<K: Key, V: Drop> DenseSlotMap<K, V> {
 
     /// Returns whether each key is live and no two are equal.
     ///
-    /// Exactly then `replace_disjoint` and `get_disjoint_mut` succeed. It looks up each key and
-    /// compares each two keys. Rust lacks this call.
+    /// If it returns `true`, `replace_disjoint` and `get_disjoint_mut` succeed with these keys;
+    /// else they fail. It looks up each key and compares each two, and allocates nothing. Rust
+    /// lacks this call.
     ///
     /// ```
     /// assert!(rt; map.can_replace(&[a, b]));
@@ -99,7 +101,7 @@ impl<K: Key, V: Drop> DenseSlotMap<K, V> {
         mem::swap(self.get_unchecked_mut(key), value);
     }
 
-    // Mutable references to the values of two keys that are live and not equal.
+    // Returns mutable references to the values of two keys that are live and not equal.
     fn lend_two(&mut self, first: K, second: K) -> (&mut V, &mut V)
         requires first { IsLive self.old.content (K.data_of first) }
         requires second { IsLive self.old.content (K.data_of second) }
@@ -113,18 +115,19 @@ impl<K: Key, V: Drop> DenseSlotMap<K, V> {
         two_of(self.values_as_mut_slice(), i, j)
     }
 
-    /// Returns mutable references to the values of two keys, or `None` if a key isn't live or the
-    /// two are equal. Constant time.
+    /// Returns mutable references to the values of two keys, or `None` if one isn't live or they
+    /// are equal.
     ///
-    /// The call allocates nothing. Its contract says what the references show, but not what the map
-    /// holds once they end, nor after `None`. For that call [`DenseSlotMap::replace_disjoint`], or
-    /// ask [`DenseSlotMap::can_replace`] first. In Rust there may be any number of keys.
+    /// The contract says what the references show. It doesn't say what the map holds once they end,
+    /// nor after `None`. A caller who needs that uses [`DenseSlotMap::replace_disjoint`], or calls
+    /// [`DenseSlotMap::can_replace`] first. In Rust there may be any number of keys. Constant time;
+    /// allocates nothing.
     ///
     /// ```
     /// if let Some((first, second)) = map.get_disjoint_mut([a, b]) {
     ///     *first = *second;
     /// }
-    /// assert_eq!(rt; map.get(a).copied(), Some(2));
+    /// assert_eq!(rt; map.get(a), Some(&2));
     /// ```
     pub fn get_disjoint_mut(&mut self, keys: [K; 2]) -> Option<(&mut V, &mut V)>
         ensures which { IsSome result ↔ CanReplace value_of self.old (map_list K.data_of keys) }
@@ -138,17 +141,17 @@ impl<K: Key, V: Drop> DenseSlotMap<K, V> {
         }
     }
 
-    /// Returns mutable references to the values of two keys, without checking the keys. Constant
-    /// time.
+    /// Returns mutable references to the values of two keys that are live and not equal, with no
+    /// look-up.
     ///
-    /// The caller has to prove that both keys are live and not equal. So the call is safe; in Rust
-    /// it is `unsafe`. As with `get_disjoint_mut`, its contract doesn't say what the map holds once
-    /// the references end.
+    /// The contract requires that the keys are live and not equal. So this call is safe; Rust's is
+    /// `unsafe`. As at `get_disjoint_mut`, the contract doesn't say what the map holds once the
+    /// references end. Constant time.
     ///
     /// ```
     /// let (first, second) = map.get_disjoint_unchecked_mut([a, b]);
     /// *first = *second;
-    /// assert_eq!(rt; map.get(a).copied(), Some(2));
+    /// assert_eq!(rt; map.get(a), Some(&2));
     /// ```
     pub fn get_disjoint_unchecked_mut(&mut self, keys: [K; 2]) -> (&mut V, &mut V)
         requires { CanReplace value_of self.old (map_list K.data_of keys) }

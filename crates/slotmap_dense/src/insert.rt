@@ -47,21 +47,21 @@ impl<K: Key, V: Drop> DenseSlotMap<K, V> {
         key
     }
 
-    /// Inserts a value and returns its new key. Constant time if no vector moves.
+    /// Inserts a value and returns its new key.
     ///
-    /// Reuses the slot freed last; if none is vacant, adds one. The key and its value are appended
-    /// to the packed order. Even if a slot is vacant, the lists of keys and values may have to
-    /// grow, unless room was reserved.
+    /// The key and its value are appended to the packed order. The slot freed last is reused. If no
+    /// slot is vacant, one is added. Even if a slot is vacant, the lists of keys and values may
+    /// have to grow, unless room was reserved.
     ///
-    /// Fails with `Full` exactly if 4294967294 slots are live, detached or retired, else with
-    /// `Memory` if an allocation fails. The error holds the value, and the map holds what it held.
-    /// Rust panics if the map is full, and aborts if memory runs out.
+    /// It fails with `Full` if 4294967294 keys are live, detached or retired, and with `Memory` if
+    /// memory runs out. The error holds the value, and the map holds what it held. In Rust a full
+    /// map panics, and running out of memory aborts. Constant time, unless the vectors grow.
     ///
     /// ```
-    /// map.remove(b);
+    /// map.remove(a);
     /// let c = map.insert(3)?;
-    /// assert_eq!(rt; c.data().idx(), b.data().idx());
-    /// assert!(rt; c != b);
+    /// assert_eq!(rt; c.data().idx(), a.data().idx());
+    /// assert!(rt; c != a);
     /// ```
     #[inline(always)]
     pub fn insert(&mut self, value: V) -> Result<K, InsertError<V>>
@@ -79,15 +79,15 @@ impl<K: Key, V: Drop> DenseSlotMap<K, V> {
         Ok(self.append(value))
     }
 
-    /// Inserts the value that a closure makes from the new key, and returns the key.
+    /// Inserts the value that a closure returns for the new key, and returns the key.
     ///
-    /// It reserves room first, then calls the closure once, with the key that it will return. In
-    /// Rust the closure runs before the vectors grow. Fails with `Full` or `Memory` as `insert`
-    /// does; the closure is then dropped without a call. Costs as much as `insert`.
+    /// Room is made first. Then the closure is called with the key that the call will return. In
+    /// Rust the closure runs before the vectors grow. It fails as `insert` does, without calling
+    /// the closure. Costs as `insert`.
     ///
     /// ```
-    /// let c = map.insert_with_key(|key: DefaultKey| key.data().idx() as u64)?;
-    /// assert_eq!(rt; map.get(c).copied(), Some(3));
+    /// let c = map.insert_with_key(|key: DefaultKey| key.data().as_ffi())?;
+    /// assert_eq!(rt; map.get(c), Some(&c.data().as_ffi()));
     /// ```
     pub fn insert_with_key<F: FnOnce(K) -> V>(&mut self, f: F) -> Result<K, InsertWithError>
     where
@@ -111,16 +111,15 @@ impl<K: Key, V: Drop> DenseSlotMap<K, V> {
         Ok(key)
     }
 
-    /// Inserts the value that a closure makes from the new key, and returns the key, unless the
-    /// closure fails.
+    /// Inserts the value that a closure returns for the new key, or fails as the closure does.
     ///
-    /// It does what `insert_with_key` does. If the closure returns an error, the call fails with
-    /// `Closure`, which holds that error. The map then holds what it held, and the next insert
-    /// returns the key that the closure was given. Costs as much as `insert`.
+    /// It behaves as `insert_with_key`. If the closure fails, the map holds what it held, and the
+    /// closure's error is returned in `Closure`. The next insert returns the key that the closure
+    /// was called with. Costs as `insert`.
     ///
     /// ```
-    /// let failed = map.try_insert_with_key(|_| Err::<u64, u64>(9));
-    /// assert!(rt; matches!(failed, Err(TryInsertError::Closure(9))));
+    /// let made: Result<DefaultKey, TryInsertError<u64>> = map.try_insert_with_key(|_| Err(7));
+    /// assert!(rt; matches!(made, Err(TryInsertError::Closure(7))));
     /// assert_eq!(rt; map.len(), 2);
     /// ```
     pub fn try_insert_with_key<F: FnOnce(K) -> Result<V, E>, E>(

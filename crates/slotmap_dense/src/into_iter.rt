@@ -1,4 +1,4 @@
-//! The iterator that consumes a map.
+//! The iterator over a map by value.
 
 ghost use Rattle.std.specs.Prelude.{◌≡◌, ◌≤◌, length, Some, IfSome, IfOk};
 ghost use Rattle.std.specs.Iterator.{YieldsFirstBy, item_count, at_most, UpTo};
@@ -10,11 +10,18 @@ use std::alloc::AllocError;
 use std::collections::VecDeque;
 use std::marker::Model;
 
-/// An iterator that consumes a map and yields its live keys and their values, in packed order.
+/// An iterator over the live keys and their values, by value and in packed order.
 ///
-/// A `for` over a map takes it. Contracts see it as the list of the pairs still to come. After the
-/// last pair it yields `None` forever. Dropping it drops the values that it hasn't yielded. All
-/// steps together take time linear in the number of live keys, and allocate nothing.
+/// A `for` over a map takes it. A contract sees it as the list of the pairs that it will still
+/// yield. After its end it yields nothing. All its steps together are linear in the number of live
+/// keys, and allocate nothing. Dropping it drops the values that are left.
+///
+/// ```
+/// let mut pairs = map.into_iter();
+/// assert_eq!(rt; pairs.next(), Some((a, 1)));
+/// assert_eq!(rt; pairs.next(), Some((b, 2)));
+/// assert_eq!(rt; pairs.next(), None);
+/// ```
 #[derive(Drop)]
 pub struct IntoIter<K: Key, V> {
     keys: Vec<K>,
@@ -37,7 +44,9 @@ impl<K: Key, V> Model for IntoIter<K, V> {
 }
 
 impl<K: Key, V> IntoIter<K, V> {
-    /// Returns the number of pairs still to come. Constant time.
+    /// Returns how many pairs are left.
+    ///
+    /// Constant time.
     ///
     /// ```
     /// let mut pairs = map.into_iter();
@@ -52,11 +61,11 @@ impl<K: Key, V> IntoIter<K, V> {
 }
 
 impl<K: Key, V: Clone> IntoIter<K, V> {
-    /// Returns a second iterator over the pairs still to come, with clones of the values.
+    /// Returns a second iterator over the pairs that are left, with clones of the values.
     ///
-    /// The caller has to prove that a clone of a value equals the value. Fails if an allocation or
-    /// a clone fails; this iterator stays as it is. It copies each key of the map, and clones the
-    /// values still to come.
+    /// The contract requires that a clone of a value equals the value. If memory runs out, the call
+    /// fails, and this iterator stays as it is. It copies every key of the map, and clones the
+    /// values that are left.
     ///
     /// ```
     /// let pairs = map.into_iter();

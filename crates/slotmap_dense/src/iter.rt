@@ -11,11 +11,10 @@ use slotmap_core::keys::Key;
 use std::alloc::AllocError;
 use std::marker::Model;
 
-/// An iterator over the live keys and their values, in packed order; [`DenseSlotMap::iter`] returns
-/// it.
+/// An iterator over the live keys and their values, in packed order: see [`DenseSlotMap::iter`].
 ///
-/// Contracts see it as the list of the pairs still to come. After the last pair it yields `None`
-/// forever. A clone of it yields the same pairs, and allocates nothing.
+/// A contract sees it as the list of the pairs that it will still yield. After its end it yields
+/// nothing. A clone yields the same pairs; cloning allocates nothing.
 #[derive(Drop)]
 pub struct Iter<'a, K: Key, V> {
     keys: &'a [K],
@@ -37,7 +36,9 @@ impl<'a, K: Key, V> Model for Iter<'a, K, V> {
 }
 
 impl<'a, K: Key, V> Iter<'a, K, V> {
-    /// Returns the number of pairs still to come. Constant time.
+    /// Returns how many pairs are left.
+    ///
+    /// Constant time.
     ///
     /// ```
     /// let mut pairs = map.iter();
@@ -92,10 +93,10 @@ impl<'a, K: Key, V> Iterator for Iter<'a, K, V> {
     }
 }
 
-/// An iterator over the live keys, in packed order; [`DenseSlotMap::keys`] returns it.
+/// An iterator over the live keys, in packed order: see [`DenseSlotMap::keys`].
 ///
-/// Contracts see it as the list of the keys still to come. After the last key it yields `None`
-/// forever. A clone of it yields the same keys, and allocates nothing.
+/// A contract sees it as the list of the keys that it will still yield. After its end it yields
+/// nothing. A clone yields the same keys; cloning allocates nothing.
 #[derive(Drop)]
 pub struct Keys<'a, K: Key, V> {
     pairs: Iter<'a, K, V>,
@@ -111,7 +112,9 @@ impl<'a, K: Key, V> Model for Keys<'a, K, V> {
 }
 
 impl<'a, K: Key, V> Keys<'a, K, V> {
-    /// Returns the number of keys still to come. Constant time.
+    /// Returns how many keys are left.
+    ///
+    /// Constant time.
     ///
     /// ```
     /// let mut keys = map.keys();
@@ -159,11 +162,10 @@ impl<'a, K: Key, V> Iterator for Keys<'a, K, V> {
     }
 }
 
-/// An iterator over the values of the live keys, in packed order; [`DenseSlotMap::values`] returns
-/// it.
+/// An iterator over the values, in packed order: see [`DenseSlotMap::values`].
 ///
-/// Contracts see it as the list of the values still to come. After the last value it yields `None`
-/// forever. A clone of it yields the same values, and allocates nothing.
+/// A contract sees it as the list of the values that it will still yield. After its end it yields
+/// nothing. A clone yields the same values; cloning allocates nothing.
 #[derive(Drop)]
 pub struct Values<'a, K: Key, V> {
     pairs: Iter<'a, K, V>,
@@ -178,7 +180,9 @@ impl<'a, K: Key, V> Model for Values<'a, K, V> {
 }
 
 impl<'a, K: Key, V> Values<'a, K, V> {
-    /// Returns the number of values still to come. Constant time.
+    /// Returns how many values are left.
+    ///
+    /// Constant time.
     ///
     /// ```
     /// let mut values = map.values();
@@ -229,13 +233,14 @@ impl<'a, K: Key, V> Iterator for Values<'a, K, V> {
 impl<K: Key, V> DenseSlotMap<K, V> {
     /// Returns an iterator over the live keys and their values, in packed order.
     ///
-    /// It is made in constant time and allocates nothing. All steps together take time linear in
-    /// the number of live keys, however many slots the map has.
+    /// It is made in constant time. All its steps together are linear in the number of live keys,
+    /// however many slots the map has, and allocate nothing.
     ///
     /// ```
     /// let mut pairs = map.iter();
-    /// assert_eq!(rt; pairs.next().map(|(key, value)| (key, *value)), Some((a, 1)));
-    /// assert_eq!(rt; pairs.len(), 1);
+    /// assert_eq!(rt; pairs.next(), Some((a, &1)));
+    /// assert_eq!(rt; pairs.next(), Some((b, &2)));
+    /// assert_eq!(rt; pairs.next(), None);
     /// ```
     pub fn iter(&self) -> Iter<'_, K, V>
         ensures listing { IsListing self.now.content.live result }
@@ -251,11 +256,12 @@ impl<K: Key, V> DenseSlotMap<K, V> {
 
     /// Returns an iterator over the live keys, in packed order.
     ///
-    /// It costs as much as [`DenseSlotMap::iter`].
+    /// It costs the same as [`DenseSlotMap::iter`].
     ///
     /// ```
     /// let mut keys = map.keys();
-    /// assert_eq!(rt; (keys.next(), keys.next()), (Some(a), Some(b)));
+    /// assert_eq!(rt; keys.next(), Some(a));
+    /// assert_eq!(rt; keys.next(), Some(b));
     /// assert_eq!(rt; keys.next(), None);
     /// ```
     pub fn keys(&self) -> Keys<'_, K, V>
@@ -268,14 +274,12 @@ impl<K: Key, V> DenseSlotMap<K, V> {
 
     /// Returns an iterator over the values of the live keys, in packed order.
     ///
-    /// It costs as much as [`DenseSlotMap::iter`].
+    /// It costs the same as [`DenseSlotMap::iter`].
     ///
     /// ```
-    /// let mut sum = 0;
-    /// for value in map.values() {
-    ///     sum += *value;
-    /// }
-    /// assert_eq!(rt; sum, 3);
+    /// let mut values = map.values();
+    /// assert_eq!(rt; values.next(), Some(&1));
+    /// assert_eq!(rt; values.next(), Some(&2));
     /// ```
     pub fn values(&self) -> Values<'_, K, V>
         ensures listing { IsValueListing self.now.content.live result }

@@ -15,8 +15,8 @@ use slotmap_core::keys::Key;
 use std::marker::PhantomData;
 use std::slice;
 
-/// An iterator over the live keys and mutable references to their values, in packed order;
-/// [`DenseSlotMap::iter_mut`] returns it.
+/// An iterator over the live keys and mutable references to their values, in packed order: see
+/// [`DenseSlotMap::iter_mut`].
 #[derive(Drop)]
 pub struct IterMut<'a, K, V> {
     keys: slice::Iter<'a, K>,
@@ -48,7 +48,9 @@ impl<'a, K: Key, V> Iterator for IterMut<'a, K, V> {
 }
 
 impl<'a, K: Key, V> IterMut<'a, K, V> {
-    /// Returns the number of pairs still to come. Constant time.
+    /// Returns how many pairs are left.
+    ///
+    /// Constant time.
     ///
     /// ```
     /// let mut pairs = map.iter_mut();
@@ -62,8 +64,8 @@ impl<'a, K: Key, V> IterMut<'a, K, V> {
     }
 }
 
-/// An iterator over mutable references to the values of the live keys, in packed order;
-/// [`DenseSlotMap::values_mut`] returns it.
+/// An iterator over mutable references to the values, in packed order: see
+/// [`DenseSlotMap::values_mut`].
 #[derive(Drop)]
 pub struct ValuesMut<'a, K, V> {
     values: slice::IterMut<'a, V>,
@@ -92,7 +94,9 @@ impl<'a, K, V> Iterator for ValuesMut<'a, K, V> {
 }
 
 impl<'a, K, V> ValuesMut<'a, K, V> {
-    /// Returns the number of values still to come. Constant time.
+    /// Returns how many values are left.
+    ///
+    /// Constant time.
     ///
     /// ```
     /// let mut values = map.values_mut();
@@ -110,14 +114,14 @@ impl<K: Key, V: Drop> DenseSlotMap<K, V> {
     /// Returns an iterator over the live keys and mutable references to their values, in packed
     /// order.
     ///
-    /// Once the iterator ends, each key has the last value written through its reference. Nothing
-    /// else changes. It is made in constant time and allocates nothing.
+    /// Once the iterator ends, each key has the last value written through its reference. All else
+    /// is as before. It is made in constant time and allocates nothing.
     ///
     /// ```
-    /// for (_key, value) in map.iter_mut() {
-    ///     *value = *value + 10;
+    /// for (_, value) in map.iter_mut() {
+    ///     *value += 10;
     /// }
-    /// assert_eq!(rt; map.get(a).copied(), Some(11));
+    /// assert_eq!(rt; map.get(a), Some(&11));
     /// ```
     pub fn iter_mut(&mut self) -> IterMut<'_, K, V>
         ensures* writes_back { sem 𝓛 (lends_walk K.row V.row K.Key self.entry (iter_mut_name result)) }
@@ -133,13 +137,14 @@ impl<K: Key, V: Drop> DenseSlotMap<K, V> {
 
     /// Returns an iterator over mutable references to the values of the live keys, in packed order.
     ///
-    /// It costs as much as [`DenseSlotMap::iter_mut`], and its writes have the same effect.
+    /// Once it ends, the values are written as by [`DenseSlotMap::iter_mut`], and it costs the
+    /// same.
     ///
     /// ```
     /// for value in map.values_mut() {
-    ///     *value = *value + 10;
+    ///     *value += 10;
     /// }
-    /// assert_eq!(rt; map.get(b).copied(), Some(12));
+    /// assert_eq!(rt; map.get(b), Some(&12));
     /// ```
     pub fn values_mut(&mut self) -> ValuesMut<'_, K, V>
         ensures* writes_back { sem 𝓛 (lends_walk K.row V.row K.Key self.entry (values_mut_name result)) }

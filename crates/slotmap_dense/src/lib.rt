@@ -1,8 +1,8 @@
-//! `DenseSlotMap`: values under keys that the map makes, stored with no gaps.
+//! `DenseSlotMap`: values under keys that the map makes, each key once, stored with no gaps.
 //!
-//! Contracts see a map as its content (`Content` of the core) and its packed order (`Dense`). The
-//! packed order is the list of the live keys, with their values at the same positions of another
-//! list.
+//! A clause sees a map as its content (the type `Content` of `slotmap_core`) and its packed order
+//! (the type `Dense`). The packed order is the list of the live keys, with their values at the same
+//! positions of another list.
 #![tactic(auto)]
 
 ghost use Rattle.std.specs.Prelude.{◌≡◌, [], Some, ◌+◌, ◌≤◌, ◌↔◌, IsTrue, IfOk, IfErr, IsOk, OnOk, vec_len, vec_capacity};
@@ -39,11 +39,11 @@ use slotmap_core::slots::Slots;
 use std::alloc::{AllocError, Global};
 use std::marker::Model;
 
-/// A map that makes a key for each value, and stores the values with no gaps.
+/// A map that makes a key for each value that is inserted, and stores the values with no gaps.
 ///
-/// `insert` returns a new key, which is live until its value is removed. The slot of a removed key
-/// is used again under a newer key; the slot freed last is used first. So a removed key is never
-/// found again, and no key is returned twice. After the key of version 4294967295 is removed, its
+/// `insert` returns a new key, and the key is live until it is removed. The slot of a removed key
+/// is reused under a newer key, and the slot freed last is reused first. So a removed key is never
+/// found again, and no key is returned twice. After its key of version 4294967295, the last one, a
 /// slot is retired and never used again. In Rust its versions wrap around.
 ///
 /// The live keys are in one list, and their values are at the same positions in another list. This
@@ -52,14 +52,13 @@ use std::marker::Model;
 /// nothing.
 ///
 /// A live key can be detached: its value is taken out, and its slot is kept until `reattach` binds
-/// the key to a value again. At most 4294967294 slots can be live, detached or retired.
+/// the key to a value again. At most 4294967294 keys can be live, detached or retired.
 ///
 /// ```
-/// let mut numbers: DenseSlotMap<DefaultKey, u64> = DenseSlotMap::new(alloc)?;
-/// let key = numbers.insert(5)?;
-/// assert_eq!(rt; numbers.get(key).copied(), Some(5));
-/// assert_eq!(rt; numbers.remove(key), Some(5));
-/// assert!(rt; !numbers.contains_key(key));
+/// let key = map.insert(5)?;
+/// assert_eq!(rt; map.get(key), Some(&5));
+/// assert_eq!(rt; map.remove(key), Some(5));
+/// assert!(rt; !map.contains_key(key));
 /// ```
 #[derive(Drop)]
 pub struct DenseSlotMap<K: Key, V> {
@@ -102,11 +101,12 @@ pub(crate) fn make_room_in<T>(items: &mut Vec<T>, additional: usize) -> Result<(
 impl<V: Drop> DenseSlotMap<DefaultKey, V> {
     /// Makes an empty map with the default key type.
     ///
-    /// It allocates slot 0, which no key uses. Fails with `Memory` if the allocation fails.
+    /// It allocates the sentinel's slot, and fails with `Memory` if memory runs out.
     ///
     /// ```
-    /// let empty: DenseSlotMap<DefaultKey, u64> = DenseSlotMap::new(alloc)?;
+    /// let mut empty: DenseSlotMap<DefaultKey, u64> = DenseSlotMap::new(alloc)?;
     /// assert!(rt; empty.is_empty());
+    /// assert_eq!(rt; empty.insert(5)?.data(), KeyData::new(1, 1));
     /// ```
     pub fn new(alloc: Global) -> Result<Self, ReserveError>
         ensures starts { IfOk result (λ made. IsNew made.content) }
@@ -118,14 +118,15 @@ impl<V: Drop> DenseSlotMap<DefaultKey, V> {
         DenseSlotMap::with_key(alloc)
     }
 
-    /// Makes an empty map with the default key type and room for `capacity` keys.
+    /// Makes an empty map with the default key type and with room for `capacity` keys.
     ///
-    /// The next `capacity` inserts succeed. Fails with `TooGreat` exactly if `capacity` is over
-    /// 4294967294, else with `Memory` if an allocation fails.
+    /// The next `capacity` inserts succeed. It fails with `TooGreat` if `capacity` is over
+    /// 4294967294, and with `Memory` if memory runs out.
     ///
     /// ```
-    /// let empty: DenseSlotMap<DefaultKey, u64> = DenseSlotMap::with_capacity(alloc, 8)?;
-    /// assert!(rt; empty.is_empty() && empty.capacity() >= 8);
+    /// let roomy: DenseSlotMap<DefaultKey, u64> = DenseSlotMap::with_capacity(alloc, 10)?;
+    /// assert!(rt; roomy.is_empty());
+    /// assert!(rt; roomy.capacity() >= 10);
     /// ```
     pub fn with_capacity(alloc: Global, capacity: usize) -> Result<Self, ReserveError>
         ensures starts { IfOk result (λ made. IsNew made.content) }
@@ -143,12 +144,12 @@ impl<V: Drop> DenseSlotMap<DefaultKey, V> {
 impl<K: Key, V: Drop> DenseSlotMap<K, V> {
     /// Makes an empty map with any key type.
     ///
-    /// It allocates slot 0, which no key uses. Fails with `Memory` if the allocation fails.
+    /// It allocates the sentinel's slot, and fails with `Memory` if memory runs out.
     ///
     /// ```
     /// let mut nodes: DenseSlotMap<NodeKey, u64> = DenseSlotMap::with_key(alloc)?;
-    /// let node = nodes.insert(5)?;
-    /// assert_eq!(rt; nodes.get(node).copied(), Some(5));
+    /// let key: NodeKey = nodes.insert(5)?;
+    /// assert_eq!(rt; nodes.get(key), Some(&5));
     /// ```
     pub fn with_key(alloc: Global) -> Result<Self, ReserveError>
         ensures starts { IfOk result (λ made. IsNew made.content) }
@@ -160,15 +161,14 @@ impl<K: Key, V: Drop> DenseSlotMap<K, V> {
         DenseSlotMap::with_capacity_and_key(alloc, 0)
     }
 
-    /// Makes an empty map with any key type and room for `capacity` keys.
+    /// Makes an empty map with any key type and with room for `capacity` keys.
     ///
-    /// The next `capacity` inserts succeed. Fails with `TooGreat` exactly if `capacity` is over
-    /// 4294967294, else with `Memory` if an allocation fails. Constant time apart from the
-    /// allocations.
+    /// The next `capacity` inserts succeed. It fails with `TooGreat` if `capacity` is over
+    /// 4294967294, and with `Memory` if memory runs out. Constant time, the allocations aside.
     ///
     /// ```
-    /// let nodes: DenseSlotMap<NodeKey, u64> = DenseSlotMap::with_capacity_and_key(alloc, 8)?;
-    /// assert!(rt; nodes.is_empty() && nodes.capacity() >= 8);
+    /// let nodes: DenseSlotMap<NodeKey, u64> = DenseSlotMap::with_capacity_and_key(alloc, 10)?;
+    /// assert!(rt; nodes.capacity() >= 10);
     /// ```
     pub fn with_capacity_and_key(alloc: Global, capacity: usize) -> Result<Self, ReserveError>
         ensures starts { IfOk result (λ made. IsNew made.content) }
@@ -197,10 +197,13 @@ impl<K: Key, V: Drop> DenseSlotMap<K, V> {
         let _ = &self.slots;
     }
 
-    /// Returns the number of live keys. Constant time.
+    /// Returns the number of live keys.
+    ///
+    /// Constant time.
     ///
     /// ```
-    /// map.remove(a);
+    /// assert_eq!(rt; map.len(), 2);
+    /// map.detach(a);
     /// assert_eq!(rt; map.len(), 1);
     /// ```
     pub fn len(&self) -> usize
@@ -210,7 +213,9 @@ impl<K: Key, V: Drop> DenseSlotMap<K, V> {
         self.keys.len()
     }
 
-    /// Returns whether no key is live. Constant time.
+    /// Returns whether no key is live.
+    ///
+    /// Constant time.
     ///
     /// ```
     /// assert!(rt; !map.is_empty());
@@ -224,13 +229,14 @@ impl<K: Key, V: Drop> DenseSlotMap<K, V> {
         self.len() == 0
     }
 
-    /// Returns the number of keys for which the map has memory. Constant time.
+    /// Returns the number of keys for which memory is allocated.
     ///
-    /// It is the smallest capacity of the map's vectors of slots, keys and values.
+    /// It is the smallest capacity of the vectors of slots, keys and values. Constant time.
     ///
     /// ```
-    /// map.reserve(10)?;
-    /// assert!(rt; map.capacity() >= map.len() + 10);
+    /// let before = map.capacity();
+    /// map.clear();
+    /// assert_eq!(rt; map.capacity(), before);
     /// ```
     pub fn capacity(&self) -> usize
         ensures value { result ≡ self.now.content.capacity }
@@ -240,19 +246,25 @@ impl<K: Key, V: Drop> DenseSlotMap<K, V> {
         self.slots.capacity().min(packed)
     }
 
-    /// Reserves room for `additional` more keys: the next `additional` inserts and reattaches
-    /// succeed.
+    /// Reserves room for `additional` more keys.
     ///
-    /// Fails with `TooGreat` exactly if the live, detached and retired slots and `additional` are
-    /// together more than 4294967294, else with `Memory` if an allocation fails. Neither changes
-    /// anything but the capacity.
+    /// The next `additional` inserts and reattaches succeed. The errors are these; either changes
+    /// nothing but, perhaps, the capacity:
     ///
-    /// If there is room already, it allocates nothing. Otherwise it takes time linear in the number
-    /// of slots if a vector moves, else constant time. Rust counts detached slots as free.
+    /// - `TooGreat`: the live, detached and retired keys plus `additional` are more than
+    ///   4294967294.
+    /// - `Memory`: memory runs out.
+    ///
+    /// If there is room already, nothing is allocated. Rust counts detached slots as free. Linear
+    /// in the number of slots if the vectors grow, else constant time.
     ///
     /// ```
     /// map.reserve(10)?;
-    /// assert!(rt; map.capacity() >= map.len() + 10);
+    /// let capacity = map.capacity();
+    /// for i in 0..10 {
+    ///     map.insert(i)?;
+    /// }
+    /// assert_eq!(rt; map.capacity(), capacity);
     /// ```
     pub fn reserve(&mut self, additional: usize) -> Result<(), ReserveError>
         ensures makes_room { MakesRoom self.old additional (IsOk result) self.new }
@@ -264,11 +276,13 @@ impl<K: Key, V: Drop> DenseSlotMap<K, V> {
         Ok(())
     }
 
-    /// Does the same as `reserve`, which returns a `Result` here too.
+    /// Reserves room for `additional` more keys, as `reserve` does.
+    ///
+    /// Here `reserve` returns a `Result` too; in Rust it aborts if memory runs out.
     ///
     /// ```
+    /// assert!(rt; map.try_reserve(10).is_ok());
     /// assert!(rt; matches!(map.try_reserve(4294967295), Err(ReserveError::TooGreat)));
-    /// assert_eq!(rt; map.len(), 2);
     /// ```
     pub fn try_reserve(&mut self, additional: usize) -> Result<(), ReserveError>
         ensures makes_room { MakesRoom self.old additional (IsOk result) self.new }

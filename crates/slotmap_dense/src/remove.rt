@@ -45,18 +45,17 @@ pub(crate) fn close_gap<K: Key, V: Drop>(
 }
 
 impl<K: Key, V: Drop> DenseSlotMap<K, V> {
-    /// Removes a live key and returns its value, or returns `None` if the key isn't live. Constant
-    /// time.
+    /// Removes a live key and returns its value, or `None` if the key isn't live.
     ///
-    /// The last key and its value move to the removed pair's position in the packed order. The next
-    /// insert uses the slot, under a newer key.
-    ///
-    /// If the removed key has version 4294967295, the slot is retired instead; in Rust its versions
-    /// wrap around. The call allocates nothing.
+    /// The last pair moves to the position of the removed one in the packed order. The next insert
+    /// reuses the slot, under a newer key. But if the version of the key is 4294967295, the last
+    /// one, the slot is retired; in Rust its versions wrap around. Constant time; allocates
+    /// nothing.
     ///
     /// ```
     /// assert_eq!(rt; map.remove(a), Some(1));
     /// assert_eq!(rt; map.remove(a), None);
+    /// assert_eq!(rt; map.get(b), Some(&2));
     /// ```
     #[inline(always)]
     pub fn remove(&mut self, key: K) -> Option<V>

@@ -1,4 +1,4 @@
-//! The calls that visit all live keys of a map.
+//! The calls that go over all live keys of a map.
 
 ghost use Rattle.std.specs.Prelude.{◌≡◌, ◌<◌, ◌+◌, ◌++◌, ◌∷◌, [], IfSome, IfNone, OnOk, OnErr, Some, List, map as list_map, length, slice_get, reverse};
 ghost use Rattle.std.specs.FinMap as map;
@@ -56,22 +56,22 @@ impl<K: Key, V: Drop> DenseSlotMap<K, V> {
         )
     }
 
-    /// Calls `f` once with each live key and its value, and removes each key for which `f` returns
-    /// `false`.
+    /// Calls a closure once for each live key, and removes the keys for which it returns `false`.
     ///
-    /// A value that `f` writes to a kept key stays. The keys are visited in packed order. If one is
-    /// removed, the last pair moves to its position, as with `remove`, and is visited next.
-    /// Detached keys aren't visited and stay detached. Takes time linear in the number of live
-    /// keys, the calls of `f` aside.
+    /// The closure gets the key and a mutable reference to its value. What it writes is kept. The
+    /// keys are visited in packed order. When one is removed, as `remove` does, the last pair moves
+    /// to its position and is visited next. Detached keys aren't visited, and stay detached. Linear
+    /// in the number of live keys.
     ///
     /// ```
     /// map.retain(|_, value| *value % 2 == 0);
-    /// assert!(rt; !map.contains_key(a) && map.contains_key(b));
+    /// assert_eq!(rt; map.get(a), None);
+    /// assert_eq!(rt; map.get(b), Some(&2));
     /// ```
     pub fn retain<F: FnMut(K, &mut V) -> bool>(&mut self, mut f: F)
     where
         F: Drop,
-        // At each entry, in the state that calls at other entries leave the closure in.
+        // For each entry, in each state in which calls for other entries leave the closure.
         requires { CallableOnEach F.FnMut K.data_of f self.old.content.live }
         ensures retained { RetainsBy F.FnMut K.data_of f self.old.content.live self.new.content.live }
         ensures packed { RetainsPacked F.FnMut K.data_of f self.old self.new }
@@ -90,14 +90,15 @@ impl<K: Key, V: Drop> DenseSlotMap<K, V> {
         }
     }
 
-    /// Removes each live key and drops its value.
+    /// Removes every live key and drops its value.
     ///
-    /// The keys are removed from the back of the packed order. The capacity stays, and detached
-    /// keys stay detached. Takes time linear in the number of live keys.
+    /// The keys are removed from the back of the packed order, and the capacity stays. Detached
+    /// keys stay detached. Linear in the number of live keys.
     ///
     /// ```
     /// map.clear();
-    /// assert!(rt; map.is_empty() && !map.contains_key(a));
+    /// assert!(rt; map.is_empty());
+    /// assert!(rt; !map.contains_key(a));
     /// ```
     pub fn clear(&mut self)
         ensures empty { self.new.content.live ≡ map.empty }
@@ -110,15 +111,16 @@ impl<K: Key, V: Drop> DenseSlotMap<K, V> {
         while let Some(_pair) = self.take_last() {}
     }
 
-    /// Appends each live key to `out`, in packed order.
+    /// Appends every live key to `out`, in packed order.
     ///
-    /// It reserves all room in `out` first. If that allocation fails, the call fails and the list
-    /// in `out` stays as it is. Takes time linear in the number of live keys. Rust lacks this call.
+    /// Room for all keys is allocated first. If that fails, the list doesn't change. Linear in the
+    /// number of live keys. Rust lacks this call.
     ///
     /// ```
     /// let mut keys = Vec::new(alloc);
     /// map.keys_into(&mut keys)?;
-    /// assert_eq!(rt; (keys[0], keys[1]), (a, b));
+    /// assert_eq!(rt; keys.len(), 2);
+    /// assert_eq!(rt; keys[0], a);
     /// ```
     pub fn keys_into(&self, out: &mut Vec<K>) -> Result<(), OutOfMemory>
         ensures ok { OnOk result ((keys : List K) × (out.new.items ≡ out.old.items ++ keys) × IsKeyListing self.now.content.live (list_map K.data_of keys)) }
@@ -134,16 +136,17 @@ impl<K: Key, V: Drop> DenseSlotMap<K, V> {
         Ok(())
     }
 
-    /// Removes each live key and appends it with its value to `out`, from the back of the packed
-    /// order.
+    /// Removes every live key, and appends the keys with their values to `out`, from the back of
+    /// the packed order.
     ///
-    /// It reserves all room in `out` first. If that allocation fails, the call fails, and the map
-    /// and the list in `out` stay as they are. Detached keys stay detached. Rust lacks this call.
+    /// The keys are removed as `remove` does, and detached keys stay detached. Room for all pairs
+    /// is allocated first. If that fails, neither the map nor the list changes. Linear in the
+    /// number of live keys. Rust lacks this call.
     ///
     /// ```
     /// let mut pairs = Vec::new(alloc);
     /// map.drain_into(&mut pairs)?;
-    /// assert_eq!(rt; (pairs[0], pairs[1]), ((b, 2), (a, 1)));
+    /// assert_eq!(rt; pairs[0], (b, 2));
     /// assert!(rt; map.is_empty());
     /// ```
     pub fn drain_into(&mut self, out: &mut Vec<(K, V)>) -> Result<(), OutOfMemory>
