@@ -32,14 +32,16 @@ impl<K: Key, V: Drop> HopSlotMap<K, V> {
         }
     }
 
-    /// Returns whether a key is live. Constant time.
+    /// Returns whether this key is live.
     ///
-    /// The null key isn't live. A key of another map counts as live if this map has a live key of
-    /// the same index and version.
+    /// A removed key isn't live, nor is the null key. A key of another map is live here only if
+    /// this map has a live key of the same index and version. Constant time.
     ///
     /// ```
+    /// assert!(rt; map.contains_key(a));
     /// map.remove(a);
-    /// assert!(rt; !map.contains_key(a) && map.contains_key(b));
+    /// assert!(rt; !map.contains_key(a));
+    /// assert!(rt; !map.contains_key(DefaultKey::null()));
     /// ```
     pub fn contains_key(&self, key: K) -> bool
         ensures value { result ≡ map.contains_key self.now.content.live (K.data_of key) }
@@ -48,11 +50,14 @@ impl<K: Key, V: Drop> HopSlotMap<K, V> {
         self.live_index(key).is_some()
     }
 
-    /// Returns the value of a live key, or `None` if the key isn't live. Constant time.
+    /// Returns the value of a live key, or `None` if the key isn't live.
+    ///
+    /// Constant time.
     ///
     /// ```
-    /// assert_eq!(rt; map.get(a).copied(), Some(1));
-    /// assert!(rt; map.get(DefaultKey::null()).is_none());
+    /// assert_eq!(rt; map.get(b), Some(&2));
+    /// map.remove(b);
+    /// assert_eq!(rt; map.get(b), None);
     /// ```
     pub fn get(&self, key: K) -> Option<&V>
         ensures value { option_copied result ≡ map.get self.now.content.live (K.data_of key) }
@@ -65,9 +70,10 @@ impl<K: Key, V: Drop> HopSlotMap<K, V> {
         }
     }
 
-    /// Returns the value of a live key, without checking that it is live. Constant time.
+    /// Returns the value of a key that is live, with no look-up.
     ///
-    /// The caller has to prove that the key is live. So the call is safe; in Rust it is `unsafe`.
+    /// The contract requires that the key is live. So this call is safe; Rust's is `unsafe`.
+    /// Constant time.
     ///
     /// ```
     /// assert_eq!(rt; *map.get_unchecked(a), 1);
@@ -85,16 +91,15 @@ impl<K: Key, V: Drop> HopSlotMap<K, V> {
     }
 
     /// Returns a mutable reference to the value of a live key, or `None` if the key isn't live.
-    /// Constant time.
     ///
-    /// Once the reference ends, the key has the last value written through it. Nothing else
-    /// changes.
+    /// Once the reference ends, the key has the last value written through it. All else is as
+    /// before. Constant time.
     ///
     /// ```
     /// if let Some(value) = map.get_mut(a) {
     ///     *value = 5;
     /// }
-    /// assert_eq!(rt; map.get(a).copied(), Some(5));
+    /// assert_eq!(rt; map.get(a), Some(&5));
     /// ```
     pub fn get_mut(&mut self, key: K) -> Option<&mut V>
         ensures* writes_back { sem 𝓛 (lends_get K.row V.row self.entry (K.data_of key) result) }
@@ -108,14 +113,14 @@ impl<K: Key, V: Drop> HopSlotMap<K, V> {
         }
     }
 
-    /// Returns a mutable reference to the value of a live key, without checking that it is live.
-    /// Constant time.
+    /// Returns a mutable reference to the value of a key that is live, with no look-up.
     ///
-    /// The caller has to prove that the key is live. So the call is safe; in Rust it is `unsafe`.
+    /// The contract requires that the key is live. So this call is safe; Rust's is `unsafe`.
+    /// Constant time.
     ///
     /// ```
     /// *map.get_unchecked_mut(a) = 5;
-    /// assert_eq!(rt; map.get(a).copied(), Some(5));
+    /// assert_eq!(rt; map.get(a), Some(&5));
     /// ```
     pub fn get_unchecked_mut(&mut self, key: K) -> &mut V
         requires { IsLive self.old.content (K.data_of key) }
@@ -130,14 +135,15 @@ impl<K: Key, V: Drop> HopSlotMap<K, V> {
         }
     }
 
-    /// Replaces the value of a live key and returns the old value. Constant time.
+    /// Sets the value of a live key and returns the old value.
     ///
-    /// If the key isn't live, it fails: the error holds the new value, and nothing changes. Rust
-    /// lacks this call.
+    /// If the key isn't live, nothing changes, and the new value is returned as the error. Constant
+    /// time. Rust lacks this call.
     ///
     /// ```
     /// assert_eq!(rt; map.replace(a, 5), Ok(1));
-    /// assert_eq!(rt; map.replace(DefaultKey::null(), 6), Err(6));
+    /// map.remove(a);
+    /// assert_eq!(rt; map.replace(a, 6), Err(6));
     /// ```
     pub fn replace(&mut self, key: K, value: V) -> Result<V, V>
         ensures ok { IfOk result (λ before. map.get self.old.content.live (K.data_of key) ≡ Some before) }
@@ -160,12 +166,12 @@ impl<K: Key, V: Drop> Index<K> for HopSlotMap<K, V> {
 
     ghost index_gives = { λ m key value. map.get m.content.live (K.data_of key) ≡ Some value };
 
-    /// Returns the value of a live key, without checking that it is live. Constant time.
+    /// Returns the value of a key that is live, with no look-up.
     ///
-    /// The caller has to prove that the key is live; Rust panics if it isn't.
+    /// The contract requires that the key is live; in Rust any other key panics. Constant time.
     ///
     /// ```
-    /// assert_eq!(rt; map[a], 1);
+    /// assert_eq!(rt; map[a] + map[b], 3);
     /// ```
     fn index(&self, key: K) -> &V {
         self.get_unchecked(key)
@@ -175,14 +181,13 @@ impl<K: Key, V: Drop> Index<K> for HopSlotMap<K, V> {
 impl<K: Key, V: Drop> IndexMut<K> for HopSlotMap<K, V> {
     ghost use Rattle.slotmap_hop.specs.Lends.{lends_value};
 
-    /// Returns a mutable reference to the value of a live key, without checking that it is live.
-    /// Constant time.
+    /// Returns a mutable reference to the value of a key that is live, with no look-up.
     ///
-    /// The caller has to prove that the key is live; Rust panics if it isn't.
+    /// The contract requires that the key is live; in Rust any other key panics. Constant time.
     ///
     /// ```
     /// map[a] = 5;
-    /// assert_eq!(rt; map[a], 5);
+    /// assert_eq!(rt; map.get(a), Some(&5));
     /// ```
     fn index_mut(&mut self, key: K) -> &mut V
         requires { IsLive self.old.content (K.data_of key) }

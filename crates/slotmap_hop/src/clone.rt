@@ -39,20 +39,22 @@ pub(crate) fn clone_slots<V: Clone>(slots: &Vec<Slot<V>>) -> Result<Vec<Slot<V>>
 }
 
 impl<K: Key, V: Clone> HopSlotMap<K, V> {
-    /// Returns a copy of the map, with the same live keys and clones of their values.
+    /// Returns a copy of the map, with clones of the values.
     ///
-    /// Both maps will return the same new keys. The caller has to prove that a clone of a value
-    /// equals the value. The trait `Clone` can't require that, so this is a method, not an impl of
-    /// `Clone`.
+    /// The same keys are live, and both maps will return the same new keys. The copy has room for
+    /// the keys of the vacant slots, and perhaps for no more.
     ///
-    /// Fails if an allocation or a clone fails, and drops what was copied by then. Takes time
-    /// linear in the number of slots. The copy has room for the keys of the vacant slots, and maybe
-    /// for no more.
+    /// The contract requires that a clone of a value equals the value. The trait `Clone` can't
+    /// require that, so this is a method and not an impl of `Clone`.
+    ///
+    /// If memory runs out, the call fails, and what was copied is dropped. Linear in the number of
+    /// slots.
     ///
     /// ```
     /// let mut copy = map.clone()?;
     /// copy.remove(a);
-    /// assert!(rt; map.contains_key(a) && !copy.contains_key(a));
+    /// assert_eq!(rt; copy.get(b), Some(&2));
+    /// assert_eq!(rt; map.get(a), Some(&1));
     /// ```
     pub fn clone(&self) -> Result<Self, AllocError>
         requires { (x y : V) → V.is_clone x y → y ≡ x }
@@ -68,16 +70,17 @@ impl<K: Key, V: Clone> HopSlotMap<K, V> {
         })
     }
 
-    /// Makes this map a copy of another, as [`HopSlotMap::clone`] does, and drops what it held.
+    /// Makes this map a copy of another, as [`HopSlotMap::clone`] does, and drops what it had.
     ///
-    /// A key that this map returned before may then stand for another value. Fails if an allocation
-    /// or a clone fails, and this map stays as it is. The copy is made first, so for a while there
-    /// is memory for both. Takes time linear in the number of slots of the source.
+    /// A key that this map returned earlier may then have another value. The copy is made before
+    /// the old content is dropped. So if memory runs out, the call fails and the map stays as it
+    /// was. Linear in the number of slots of the source.
     ///
     /// ```
     /// let mut copy: HopSlotMap<DefaultKey, u64> = HopSlotMap::new(alloc)?;
     /// copy.clone_from(&map)?;
-    /// assert_eq!(rt; copy.get(a).copied(), Some(1));
+    /// assert_eq!(rt; copy.get(a), Some(&1));
+    /// assert_eq!(rt; copy.len(), map.len());
     /// ```
     pub fn clone_from(&mut self, source: &Self) -> Result<(), AllocError>
     where

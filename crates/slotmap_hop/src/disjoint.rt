@@ -13,14 +13,15 @@ use std::mem;
 impl<K: Key, V: Drop> HopSlotMap<K, V> {
     /// Replaces the value of `keys[i]` by `values[i]`, for each i, and returns the old values.
     ///
-    /// Fails exactly if a key isn't live or two keys are equal. The error holds the new values, and
-    /// nothing changes. It allocates nothing. It looks up each key and compares each two keys, so
-    /// its time doesn't depend on the size of the map. In Rust `get_disjoint_mut` returns mutable
+    /// If one of the keys isn't live, or two are equal, nothing changes, and the new values are
+    /// returned as the error. It looks up each key and compares each two, and allocates nothing.
+    /// Its time doesn't depend on the size of the map. In Rust `get_disjoint_mut` returns
     /// references instead.
     ///
     /// ```
-    /// assert_eq!(rt; map.replace_disjoint([a, b], [10, 20]), Ok([1, 2]));
-    /// assert_eq!(rt; map.replace_disjoint([a, a], [3, 4]), Err([3, 4]));
+    /// assert_eq!(rt; map.replace_disjoint([a, b], [5, 6]), Ok([1, 2]));
+    /// assert_eq!(rt; map.get(b), Some(&6));
+    /// assert_eq!(rt; map.replace_disjoint([a, a], [7, 8]), Err([7, 8]));
     /// ```
     pub fn replace_disjoint<const N: usize>(
         &mut self,
@@ -45,7 +46,7 @@ impl<K: Key, V: Drop> HopSlotMap<K, V> {
         Ok(values)
     }
 
-    // Whether each key is live and no two are equal.
+    // Returns whether each key is live, and no two are equal.
     fn can_replace(&self, keys: &[K]) -> bool
         ensures which { IsTrue result ↔ CanReplace self.now.content (map_list K.data_of keys.now) }
         ensures valid { IsHopContent self.now }

@@ -1,4 +1,4 @@
-//! An iterator that removes the pairs from a map.
+//! The iterator that takes the pairs out of a map.
 
 ghost use Rattle.std.specs.Prelude.{◌≡◌, ◌≤◌, Some, IfSome};
 ghost use Rattle.std.specs.Iterator.{size, UpTo};
@@ -9,11 +9,10 @@ use crate::HopSlotMap;
 use slotmap_core::keys::Key;
 use std::iter::FusedIterator;
 
-/// An iterator that removes the live keys from a map and yields them with their values, by
-/// ascending index.
+/// An iterator that takes the pairs out of a map, by ascending index.
 ///
-/// [`HopSlotMap::drain`] returns it. When it is dropped, it removes the keys that are left. No key
-/// of the map is live then.
+/// `HopSlotMap::drain` makes it. Dropping it removes the keys that it hasn't yielded. So no key of
+/// the map is live then.
 pub struct Drain<'a, K: Key, V> {
     map: &'a mut HopSlotMap<K, V>,
     // The key that comes next.
@@ -76,22 +75,23 @@ impl<K: Key, V: Drop> HopSlotMap<K, V> {
     /// Returns an iterator that removes the live keys and yields them with their values, by
     /// ascending index.
     ///
-    /// Each key is removed when it is yielded, as `remove` does. The iterator may be dropped early;
-    /// it then removes the keys that are left. A block of vacant slots is skipped in one step.
+    /// Each key is removed when it is yielded, as `remove` does. Dropping the iterator early
+    /// removes the remaining keys too. A block of vacant slots is skipped in one step.
     ///
     /// ```
     /// let mut sum = 0;
-    /// for (_key, value) in map.drain() {
+    /// for (_, value) in map.drain() {
     ///     sum += value;
     /// }
-    /// assert!(rt; sum == 3 && map.is_empty());
+    /// assert_eq!(rt; sum, 3);
+    /// assert!(rt; map.is_empty());
     /// ```
     pub fn drain(&mut self) -> Drain<'_, K, V>
         ensures map { drain_map result ≡ self.old }
         ensures same_reference { drain_lender result ≡ self.entry.ghost_name }
         ensures ready { DrainCanStep K.data_of result }
 
-        // Laws of the steps, for callers that go on with the iterator.
+        // Laws of the steps, for callers that take more of them.
         ensures stays { DrainKeepsAlong K.data_of result }
         ensures lists { DrainLists K.data_of result }
         ensures in_order { DrainInOrder K.data_of result }

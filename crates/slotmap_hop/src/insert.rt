@@ -76,21 +76,21 @@ impl<K: Key, V: Drop> HopSlotMap<K, V> {
         KeyData::new(last, version)
     }
 
-    /// Inserts a value and returns its new key. Constant time if no vector moves.
+    /// Inserts a value and returns its new key.
     ///
-    /// If a slot is vacant, it is reused, and the insert allocates nothing. It is the last slot of
-    /// the first block in the list, or of the block of slot 0 if the list is empty. If none is
-    /// vacant, a slot is added.
+    /// If a slot is vacant, one is reused, without allocating: the last slot of the first block in
+    /// the list, or of the block of slot 0 if the list is empty. If no slot is vacant, one is
+    /// added.
     ///
-    /// Fails with `Full` exactly if 4294967294 slots are live or retired, else with `Memory` if the
-    /// allocation fails. The error holds the value, and the map holds what it held. Rust panics if
-    /// the map is full, and aborts if memory runs out.
+    /// It fails with `Full` if 4294967294 keys are live or retired, and with `Memory` if memory
+    /// runs out. The error holds the value, and the map holds what it held. In Rust a full map
+    /// panics, and running out of memory aborts. Constant time, unless the vector grows.
     ///
     /// ```
-    /// map.remove(b);
+    /// map.remove(a);
     /// let c = map.insert(3)?;
-    /// assert_eq!(rt; c.data().idx(), b.data().idx());
-    /// assert!(rt; c != b);
+    /// assert_eq!(rt; c.data().idx(), a.data().idx());
+    /// assert!(rt; c != a);
     /// ```
     #[inline(always)]
     pub fn insert(&mut self, value: V) -> Result<K, InsertError<V>>
@@ -115,15 +115,15 @@ impl<K: Key, V: Drop> HopSlotMap<K, V> {
         Ok(K::from(self.fill(value)))
     }
 
-    /// Inserts the value that a closure makes from the new key, and returns the key.
+    /// Inserts the value that a closure returns for the new key, and returns the key.
     ///
-    /// It reserves room first, then calls the closure once, with the key that it will return. In
-    /// Rust the closure runs before the vectors grow. Fails with `Full` or `Memory` as `insert`
-    /// does; the closure is then dropped without a call. Costs as much as `insert`.
+    /// Room is made first. Then the closure is called with the key that the call will return. In
+    /// Rust the closure runs before the vector grows. It fails as `insert` does, without calling
+    /// the closure. Costs as `insert`.
     ///
     /// ```
-    /// let c = map.insert_with_key(|key: DefaultKey| key.data().idx() as u64)?;
-    /// assert_eq!(rt; map.get(c).copied(), Some(3));
+    /// let c = map.insert_with_key(|key: DefaultKey| key.data().as_ffi())?;
+    /// assert_eq!(rt; map.get(c), Some(&c.data().as_ffi()));
     /// ```
     pub fn insert_with_key<F: FnOnce(K) -> V>(&mut self, f: F) -> Result<K, InsertWithError>
     where
@@ -155,16 +155,15 @@ impl<K: Key, V: Drop> HopSlotMap<K, V> {
         Ok(key)
     }
 
-    /// Inserts the value that a closure makes from the new key, and returns the key, unless the
-    /// closure fails.
+    /// Inserts the value that a closure returns for the new key, or fails as the closure does.
     ///
-    /// It does what `insert_with_key` does. If the closure returns an error, the call fails with
-    /// `Closure`, which holds that error. The map then holds what it held, and the next insert
-    /// returns the key that the closure was given. Costs as much as `insert`.
+    /// It behaves as `insert_with_key`. If the closure fails, the map holds what it held, and the
+    /// closure's error is returned in `Closure`. The next insert returns the key that the closure
+    /// was called with. Costs as `insert`.
     ///
     /// ```
-    /// let failed = map.try_insert_with_key(|_| Err::<u64, u64>(9));
-    /// assert!(rt; matches!(failed, Err(TryInsertError::Closure(9))));
+    /// let made: Result<DefaultKey, TryInsertError<u64>> = map.try_insert_with_key(|_| Err(7));
+    /// assert!(rt; matches!(made, Err(TryInsertError::Closure(7))));
     /// assert_eq!(rt; map.len(), 2);
     /// ```
     pub fn try_insert_with_key<F: FnOnce(K) -> Result<V, E>, E>(

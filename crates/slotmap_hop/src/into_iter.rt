@@ -1,4 +1,4 @@
-//! The iterator that consumes a map.
+//! The iterator over a map by value.
 
 ghost use Rattle.std.specs.Prelude.{◌≡◌, ◌≤◌, length, Some, IfSome, IfOk};
 ghost use Rattle.std.specs.Iterator.{YieldsFirstBy, item_count, at_most, UpTo};
@@ -13,11 +13,18 @@ use slotmap_core::keys::{Key, KeyData};
 use std::alloc::AllocError;
 use std::marker::{Model, PhantomData};
 
-/// An iterator that consumes a map and yields its live keys and their values, by ascending index.
+/// An iterator over the live keys and their values, by value and by ascending index.
 ///
-/// A `for` over a map takes it. Contracts see it as the list of the pairs still to come. After the
-/// last pair it yields `None` forever. Dropping it drops the values that it hasn't yielded. A step
-/// skips a block of vacant slots at once, and allocates nothing.
+/// A `for` over a map takes it. A contract sees it as the list of the pairs that it will still
+/// yield. After its end it yields nothing. A step skips a block of vacant slots at once, and
+/// allocates nothing. Dropping it drops the values that are left.
+///
+/// ```
+/// let mut pairs = map.into_iter();
+/// assert_eq!(rt; pairs.next(), Some((a, 1)));
+/// assert_eq!(rt; pairs.next(), Some((b, 2)));
+/// assert_eq!(rt; pairs.next(), None);
+/// ```
 #[derive(Drop)]
 pub struct IntoIter<K, V> {
     // A slot whose value was yielded counts as retired.
@@ -42,7 +49,9 @@ impl<K, V> Model for IntoIter<K, V> {
 }
 
 impl<K, V> IntoIter<K, V> {
-    /// Returns the number of pairs still to come. Constant time.
+    /// Returns how many pairs are left.
+    ///
+    /// Constant time.
     ///
     /// ```
     /// let mut pairs = map.into_iter();
@@ -57,11 +66,10 @@ impl<K, V> IntoIter<K, V> {
 }
 
 impl<K, V: Clone> IntoIter<K, V> {
-    /// Returns a second iterator over the pairs still to come, with clones of the values.
+    /// Returns a second iterator over the pairs that are left, with clones of the values.
     ///
-    /// The caller has to prove that a clone of a value equals the value. Fails if an allocation or
-    /// a clone fails; this iterator stays as it is. Takes time linear in the number of slots of the
-    /// map.
+    /// The contract requires that a clone of a value equals the value. If memory runs out, the call
+    /// fails, and this iterator stays as it is. Linear in the number of slots of the map.
     ///
     /// ```
     /// let pairs = map.into_iter();

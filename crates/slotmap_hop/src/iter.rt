@@ -15,16 +15,11 @@ use slotmap_core::keys::{Key, KeyData};
 use std::alloc::AllocError;
 use std::marker::{Model, PhantomData};
 
-/// An iterator over the live keys and their values, by ascending index; [`HopSlotMap::iter`]
-/// returns it.
+/// An iterator over the live keys and their values, by ascending index: see [`HopSlotMap::iter`].
 ///
-/// Contracts see it as a record of:
-/// - the list of the pairs still to come;
-/// - the number of slots that it has read;
-/// - the number of retired slots that it hasn't passed.
-///
-/// After the last pair it yields `None` forever. A clone of it yields the same pairs, and allocates
-/// nothing.
+/// A contract sees it as a record of three parts: the list of the pairs that it will still yield,
+/// the number of slots that it has read, and the number of retired slots that it hasn't passed.
+/// After its end it yields nothing. A clone yields the same pairs; cloning allocates nothing.
 #[derive(Drop)]
 pub struct Iter<'a, K, V> {
     counted: CountedSlots<'a, V>,
@@ -72,7 +67,9 @@ pub(crate) fn find_live<'a, V>(
 }
 
 impl<'a, K, V> Iter<'a, K, V> {
-    /// Returns the number of pairs still to come. Constant time.
+    /// Returns how many pairs are left.
+    ///
+    /// Constant time.
     ///
     /// ```
     /// let mut pairs = map.iter();
@@ -85,13 +82,15 @@ impl<'a, K, V> Iter<'a, K, V> {
         self.left
     }
 
-    /// Returns the number of slots that `next` has read since the iterator was made.
+    /// Returns how many slots `next` has read since the iterator was made.
+    ///
+    /// Constant time. Rust lacks this call.
     ///
     /// ```
     /// map.insert(3)?;
     /// map.remove(b);
     /// let mut pairs = map.iter();
-    /// while let Some(_pair) = pairs.next() {}
+    /// while let Some(_) = pairs.next() {}
     /// assert_eq!(rt; pairs.reads(), 3);
     /// ```
     pub fn reads(&self) -> usize
@@ -143,10 +142,10 @@ impl<'a, K: Key, V> Iterator for Iter<'a, K, V> {
     }
 }
 
-/// An iterator over the live keys, by ascending index; [`HopSlotMap::keys`] returns it.
+/// An iterator over the live keys, by ascending index: see [`HopSlotMap::keys`].
 ///
-/// Contracts see it as the list of the keys still to come, with the two numbers of [`Iter`]. After
-/// the last key it yields `None` forever. A clone of it yields the same keys, and allocates
+/// A contract sees it as the list of the keys that it will still yield, with the two numbers of
+/// [`Iter`]. After its end it yields nothing. A clone yields the same keys; cloning allocates
 /// nothing.
 #[derive(Drop)]
 pub struct Keys<'a, K, V> {
@@ -164,7 +163,9 @@ impl<'a, K, V> Model for Keys<'a, K, V> {
 }
 
 impl<'a, K, V> Keys<'a, K, V> {
-    /// Returns the number of keys still to come. Constant time.
+    /// Returns how many keys are left.
+    ///
+    /// Constant time.
     ///
     /// ```
     /// let mut keys = map.keys();
@@ -177,11 +178,13 @@ impl<'a, K, V> Keys<'a, K, V> {
         self.pairs.len()
     }
 
-    /// Returns the number of slots that `next` has read since the iterator was made.
+    /// Returns how many slots `next` has read since the iterator was made.
+    ///
+    /// Constant time. Rust lacks this call.
     ///
     /// ```
     /// let mut keys = map.keys();
-    /// while let Some(_key) = keys.next() {}
+    /// while let Some(_) = keys.next() {}
     /// assert!(rt; keys.reads() <= 2 * map.len());
     /// ```
     pub fn reads(&self) -> usize
@@ -225,12 +228,11 @@ impl<'a, K: Key, V> Iterator for Keys<'a, K, V> {
     }
 }
 
-/// An iterator over the values of the live keys, by ascending index; [`HopSlotMap::values`] returns
-/// it.
+/// An iterator over the values, by ascending index of their keys: see [`HopSlotMap::values`].
 ///
-/// Contracts see it as the list of the values still to come, with the two numbers of [`Iter`].
-/// After the last value it yields `None` forever. A clone of it yields the same values, and
-/// allocates nothing.
+/// A contract sees it as the list of the values that it will still yield, with the two numbers of
+/// [`Iter`]. After its end it yields nothing. A clone yields the same values; cloning allocates
+/// nothing.
 #[derive(Drop)]
 pub struct Values<'a, K, V> {
     pairs: Iter<'a, K, V>,
@@ -247,7 +249,9 @@ impl<'a, K, V> Model for Values<'a, K, V> {
 }
 
 impl<'a, K, V> Values<'a, K, V> {
-    /// Returns the number of values still to come. Constant time.
+    /// Returns how many values are left.
+    ///
+    /// Constant time.
     ///
     /// ```
     /// let mut values = map.values();
@@ -260,7 +264,9 @@ impl<'a, K, V> Values<'a, K, V> {
         self.pairs.len()
     }
 
-    /// Returns the number of slots that `next` has read since the iterator was made.
+    /// Returns how many slots `next` has read since the iterator was made.
+    ///
+    /// Constant time. Rust lacks this call.
     ///
     /// ```
     /// let mut values = map.values();
@@ -311,16 +317,16 @@ impl<'a, K: Key, V> Iterator for Values<'a, K, V> {
 impl<K: Key, V> HopSlotMap<K, V> {
     /// Returns an iterator over the live keys and their values, by ascending index.
     ///
-    /// It is made in constant time and allocates nothing. A step reads the next slot. If a block of
-    /// vacant slots begins there, it then reads the slot after the block, however long the block
-    /// is. Retired slots are read one by one.
-    ///
-    /// To write values, call `retain` with a closure that writes and returns `true`.
+    /// It is made in constant time, and its steps allocate nothing. A step reads the next slot. If
+    /// a block of vacant slots begins there, it then reads the slot after the block, however long
+    /// the block is. Retired slots are read one by one. No iterator yields mutable references: use
+    /// `retain` with a closure that writes and returns `true`.
     ///
     /// ```
     /// let mut pairs = map.iter();
-    /// assert_eq!(rt; pairs.next().map(|(key, value)| (key, *value)), Some((a, 1)));
-    /// assert_eq!(rt; pairs.len(), 1);
+    /// assert_eq!(rt; pairs.next(), Some((a, &1)));
+    /// assert_eq!(rt; pairs.next(), Some((b, &2)));
+    /// assert_eq!(rt; pairs.next(), None);
     /// ```
     pub fn iter(&self) -> Iter<'_, K, V>
         ensures listing { IsListing self.now.content.live result.rest }
@@ -340,11 +346,12 @@ impl<K: Key, V> HopSlotMap<K, V> {
 
     /// Returns an iterator over the live keys, by ascending index.
     ///
-    /// It costs as much as [`HopSlotMap::iter`].
+    /// It costs the same as [`HopSlotMap::iter`].
     ///
     /// ```
     /// let mut keys = map.keys();
-    /// assert_eq!(rt; (keys.next(), keys.next()), (Some(a), Some(b)));
+    /// assert_eq!(rt; keys.next(), Some(a));
+    /// assert_eq!(rt; keys.next(), Some(b));
     /// assert_eq!(rt; keys.next(), None);
     /// ```
     pub fn keys(&self) -> Keys<'_, K, V>
@@ -357,17 +364,15 @@ impl<K: Key, V> HopSlotMap<K, V> {
         Keys { pairs: self.iter() }
     }
 
-    /// Returns an iterator over the values of the live keys, by ascending index.
+    /// Returns an iterator over the values of the live keys, by ascending index of their keys.
     ///
-    /// It costs as much as [`HopSlotMap::iter`]. To write values, call `retain` with a closure that
-    /// writes and returns `true`.
+    /// It costs the same as [`HopSlotMap::iter`]. No iterator yields mutable references: use
+    /// `retain` with a closure that writes and returns `true`.
     ///
     /// ```
-    /// let mut sum = 0;
-    /// for value in map.values() {
-    ///     sum += *value;
-    /// }
-    /// assert_eq!(rt; sum, 3);
+    /// let mut values = map.values();
+    /// assert_eq!(rt; values.next(), Some(&1));
+    /// assert_eq!(rt; values.next(), Some(&2));
     /// ```
     pub fn values(&self) -> Values<'_, K, V>
         ensures listing { IsValueListing self.now.content.live result.rest }

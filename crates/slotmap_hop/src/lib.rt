@@ -1,11 +1,13 @@
-//! `HopSlotMap`: values under keys that the map makes, with iterators that skip vacant slots.
+//! `HopSlotMap`: values under keys that the map makes, each key once, with iterators that skip
+//! vacant slots.
 //!
-//! Contracts see a map as its content (`Content` of the core) and the blocks that its vacant slots
-//! form. The content has:
-//! - the live keys with their values, and the retired keys;
-//! - the version that the next key at each vacant index will have;
-//! - the key that the next insert returns;
-//! - the room and the capacity.
+//! A clause sees a map as its content, the type `Content` of `slotmap_core`, and the blocks that
+//! its vacant slots form. The content has:
+//!
+//! - the live keys with their values, and the retired keys
+//! - the version that the next key at each vacant index will have
+//! - the key that the next insert returns
+//! - the room and the capacity
 //!
 //! No key of this map is ever detached.
 #![tactic(auto)]
@@ -41,23 +43,22 @@ use slotmap_core::limits::MOST_KEYS;
 use std::alloc::Global;
 use std::marker::{Model, PhantomData};
 
-/// A map that makes a key for each value, with iterators that skip vacant slots.
+/// A map that makes a key for each value that is inserted, with iterators that skip vacant slots.
 ///
-/// `insert` returns a new key, which is live until its value is removed. The slot of a removed key
-/// is used again under a newer key. So a removed key is never found again, and no key is returned
-/// twice. After the key of version 4294967295 is removed, its slot is retired and never used again.
-/// In Rust its versions wrap around. At most 4294967294 slots can be live or retired.
+/// `insert` returns a new key, and the key is live until it is removed. The slot of a removed key
+/// is reused under a newer key. So a removed key is never found again, and no key is returned
+/// twice. After its key of version 4294967295, the last one, a slot is retired and never used
+/// again. In Rust its versions wrap around. At most 4294967294 keys can be live or retired.
 ///
 /// Neighbouring vacant slots form a block, and the blocks form a list. An insert uses the last slot
 /// of the first block in the list. A removal adds its slot to the blocks beside it. If there is
 /// none, it appends a new block to the list. An iterator skips a block in one step.
 ///
 /// ```
-/// let mut numbers: HopSlotMap<DefaultKey, u64> = HopSlotMap::new(alloc)?;
-/// let key = numbers.insert(5)?;
-/// assert_eq!(rt; numbers.get(key).copied(), Some(5));
-/// assert_eq!(rt; numbers.remove(key), Some(5));
-/// assert!(rt; !numbers.contains_key(key));
+/// let key = map.insert(5)?;
+/// assert_eq!(rt; map.get(key), Some(&5));
+/// assert_eq!(rt; map.remove(key), Some(5));
+/// assert!(rt; !map.contains_key(key));
 /// ```
 #[derive(Drop)]
 pub struct HopSlotMap<K, V> {
@@ -85,11 +86,12 @@ impl<K, V> Model for HopSlotMap<K, V> {
 impl<V: Drop> HopSlotMap<DefaultKey, V> {
     /// Makes an empty map with the default key type.
     ///
-    /// It allocates slot 0, which no key uses. Fails with `Memory` if the allocation fails.
+    /// It allocates the sentinel's slot, and fails with `Memory` if memory runs out.
     ///
     /// ```
-    /// let empty: HopSlotMap<DefaultKey, u64> = HopSlotMap::new(alloc)?;
+    /// let mut empty: HopSlotMap<DefaultKey, u64> = HopSlotMap::new(alloc)?;
     /// assert!(rt; empty.is_empty());
+    /// assert_eq!(rt; empty.insert(5)?.data(), KeyData::new(1, 1));
     /// ```
     pub fn new(alloc: Global) -> Result<Self, ReserveError>
         ensures starts { IfOk result (λ made. IsNew made.content) }
@@ -100,14 +102,15 @@ impl<V: Drop> HopSlotMap<DefaultKey, V> {
         HopSlotMap::with_key(alloc)
     }
 
-    /// Makes an empty map with the default key type and room for `capacity` keys.
+    /// Makes an empty map with the default key type and with room for `capacity` keys.
     ///
-    /// The next `capacity` inserts succeed. Fails with `TooGreat` exactly if `capacity` is over
-    /// 4294967294, else with `Memory` if an allocation fails.
+    /// The next `capacity` inserts succeed. It fails with `TooGreat` if `capacity` is over
+    /// 4294967294, and with `Memory` if memory runs out.
     ///
     /// ```
-    /// let empty: HopSlotMap<DefaultKey, u64> = HopSlotMap::with_capacity(alloc, 8)?;
-    /// assert!(rt; empty.is_empty() && empty.capacity() >= 8);
+    /// let roomy: HopSlotMap<DefaultKey, u64> = HopSlotMap::with_capacity(alloc, 10)?;
+    /// assert!(rt; roomy.is_empty());
+    /// assert!(rt; roomy.capacity() >= 10);
     /// ```
     pub fn with_capacity(alloc: Global, capacity: usize) -> Result<Self, ReserveError>
         ensures starts { IfOk result (λ made. IsNew made.content) }
@@ -124,12 +127,12 @@ impl<V: Drop> HopSlotMap<DefaultKey, V> {
 impl<K: Key, V: Drop> HopSlotMap<K, V> {
     /// Makes an empty map with any key type.
     ///
-    /// It allocates slot 0, which no key uses. Fails with `Memory` if the allocation fails.
+    /// It allocates the sentinel's slot, and fails with `Memory` if memory runs out.
     ///
     /// ```
     /// let mut nodes: HopSlotMap<NodeKey, u64> = HopSlotMap::with_key(alloc)?;
-    /// let node = nodes.insert(5)?;
-    /// assert_eq!(rt; nodes.get(node).copied(), Some(5));
+    /// let key: NodeKey = nodes.insert(5)?;
+    /// assert_eq!(rt; nodes.get(key), Some(&5));
     /// ```
     pub fn with_key(alloc: Global) -> Result<Self, ReserveError>
         ensures starts { IfOk result (λ made. IsNew made.content) }
@@ -140,15 +143,14 @@ impl<K: Key, V: Drop> HopSlotMap<K, V> {
         HopSlotMap::with_capacity_and_key(alloc, 0)
     }
 
-    /// Makes an empty map with any key type and room for `capacity` keys.
+    /// Makes an empty map with any key type and with room for `capacity` keys.
     ///
-    /// The next `capacity` inserts succeed. Fails with `TooGreat` exactly if `capacity` is over
-    /// 4294967294, else with `Memory` if an allocation fails. Constant time apart from the
-    /// allocations.
+    /// The next `capacity` inserts succeed. It fails with `TooGreat` if `capacity` is over
+    /// 4294967294, and with `Memory` if memory runs out. Constant time, the allocations aside.
     ///
     /// ```
-    /// let nodes: HopSlotMap<NodeKey, u64> = HopSlotMap::with_capacity_and_key(alloc, 8)?;
-    /// assert!(rt; nodes.is_empty() && nodes.capacity() >= 8);
+    /// let nodes: HopSlotMap<NodeKey, u64> = HopSlotMap::with_capacity_and_key(alloc, 10)?;
+    /// assert!(rt; nodes.capacity() >= 10);
     /// ```
     pub fn with_capacity_and_key(alloc: Global, capacity: usize) -> Result<Self, ReserveError>
         ensures starts { IfOk result (λ made. IsNew made.content) }
@@ -178,9 +180,12 @@ impl<K: Key, V: Drop> HopSlotMap<K, V> {
         })
     }
 
-    /// Returns the number of live keys. Constant time.
+    /// Returns the number of live keys.
+    ///
+    /// Constant time.
     ///
     /// ```
+    /// assert_eq!(rt; map.len(), 2);
     /// map.remove(a);
     /// assert_eq!(rt; map.len(), 1);
     /// ```
@@ -191,7 +196,9 @@ impl<K: Key, V: Drop> HopSlotMap<K, V> {
         self.live_count as usize
     }
 
-    /// Returns whether no key is live. Constant time.
+    /// Returns whether no key is live.
+    ///
+    /// Constant time.
     ///
     /// ```
     /// assert!(rt; !map.is_empty());
@@ -205,13 +212,14 @@ impl<K: Key, V: Drop> HopSlotMap<K, V> {
         self.len() == 0
     }
 
-    /// Returns the number of slots for which the map has memory. Constant time.
+    /// Returns the number of slots for which memory is allocated.
     ///
-    /// Live, vacant and retired slots count; slot 0 doesn't.
+    /// It counts the slots of live, vacant and retired keys together. Constant time.
     ///
     /// ```
-    /// map.reserve(10)?;
-    /// assert!(rt; map.capacity() >= map.len() + 10);
+    /// let before = map.capacity();
+    /// map.clear();
+    /// assert_eq!(rt; map.capacity(), before);
     /// ```
     pub fn capacity(&self) -> usize
         ensures value { result ≡ self.now.content.capacity }
@@ -230,18 +238,24 @@ impl<K: Key, V: Drop> HopSlotMap<K, V> {
         self.slots.len() - 1 - self.vacant_count as usize
     }
 
-    /// Reserves room for `additional` more keys: the next `additional` inserts succeed.
+    /// Reserves room for `additional` more keys.
     ///
-    /// Fails with `TooGreat` exactly if the live and retired slots and `additional` are together
-    /// more than 4294967294, else with `Memory` if the allocation fails. Neither changes anything
-    /// but the capacity.
+    /// The next `additional` inserts succeed. The errors are these; either changes nothing but,
+    /// perhaps, the capacity:
     ///
-    /// If there is room already, it allocates nothing. Otherwise it takes time linear in the number
-    /// of slots if the vector moves, else constant time.
+    /// - `TooGreat`: the live and retired keys plus `additional` are more than 4294967294.
+    /// - `Memory`: memory runs out.
+    ///
+    /// If there is room already, nothing is allocated. Linear in the number of slots if the vector
+    /// grows, else constant time.
     ///
     /// ```
     /// map.reserve(10)?;
-    /// assert!(rt; map.capacity() >= map.len() + 10);
+    /// let capacity = map.capacity();
+    /// for i in 0..10 {
+    ///     map.insert(i)?;
+    /// }
+    /// assert_eq!(rt; map.capacity(), capacity);
     /// ```
     #[inline(never)]
     pub fn reserve(&mut self, additional: usize) -> Result<(), ReserveError>
@@ -260,11 +274,13 @@ impl<K: Key, V: Drop> HopSlotMap<K, V> {
         Ok(())
     }
 
-    /// Does the same as `reserve`, which returns a `Result` here too.
+    /// Reserves room for `additional` more keys, as `reserve` does.
+    ///
+    /// Here `reserve` returns a `Result` too; in Rust it aborts if memory runs out.
     ///
     /// ```
+    /// assert!(rt; map.try_reserve(10).is_ok());
     /// assert!(rt; matches!(map.try_reserve(4294967295), Err(ReserveError::TooGreat)));
-    /// assert_eq!(rt; map.len(), 2);
     /// ```
     pub fn try_reserve(&mut self, additional: usize) -> Result<(), ReserveError>
         ensures makes_room { MakesHopRoom self.old additional (IsOk result) self.new }

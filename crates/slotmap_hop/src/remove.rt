@@ -11,18 +11,17 @@ use crate::links::{free_slot, use_up};
 use slotmap_core::keys::Key;
 
 impl<K: Key, V: Drop> HopSlotMap<K, V> {
-    /// Removes a live key and returns its value, or returns `None` if the key isn't live. Constant
-    /// time.
+    /// Removes a live key and returns its value, or `None` if the key isn't live.
     ///
     /// The slot joins the blocks of vacant slots beside it, or becomes a new block at the end of
-    /// their list. A later insert uses it, under a newer key.
-    ///
-    /// If the removed key has version 4294967295, the slot is retired instead; in Rust its versions
-    /// wrap around. The call allocates nothing.
+    /// their list. A later insert reuses it, under a newer key. But if the version of the key is
+    /// 4294967295, the last one, the slot is retired and joins no block; in Rust its versions wrap
+    /// around. Constant time; allocates nothing.
     ///
     /// ```
     /// assert_eq!(rt; map.remove(a), Some(1));
     /// assert_eq!(rt; map.remove(a), None);
+    /// assert_eq!(rt; map.get(b), Some(&2));
     /// ```
     pub fn remove(&mut self, key: K) -> Option<V>
         ensures value { result ≡ map.get self.old.content.live (K.data_of key) }

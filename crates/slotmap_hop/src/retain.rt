@@ -1,4 +1,4 @@
-//! The calls that visit all live keys of a map, by ascending index, and skip vacant slots.
+//! The calls that go over all live keys of a map, by ascending index, and skip vacant slots.
 
 ghost use Rattle.std.specs.Prelude.{◌≡◌, ◌++◌, OnOk, OnErr, List, map as list_map};
 ghost use Rattle.std.specs.FinMap as map;
@@ -14,7 +14,7 @@ use slotmap_core::errors::OutOfMemory;
 use slotmap_core::keys::{Key, KeyData};
 
 impl<K: Key, V: Drop> HopSlotMap<K, V> {
-    // The live key of the smallest index from this one on.
+    // Returns the live key with the smallest index from this one on.
     pub(crate) fn first_live(&self, start: usize) -> Option<K>
         requires { MayStand self.now.content start }
         ensures comes { IsNextLive K.data_of self.now.content start result }
@@ -25,21 +25,21 @@ impl<K: Key, V: Drop> HopSlotMap<K, V> {
         Some(K::from(KeyData::new(place as u32, version)))
     }
 
-    /// Calls `f` once with each live key and its value, and removes each key for which `f` returns
-    /// `false`.
+    /// Calls a closure once for each live key, and removes the keys for which it returns `false`.
     ///
-    /// A value that `f` writes to a kept key stays. The keys are visited, and those that go are
-    /// removed, by ascending index. A block of vacant slots is skipped in one step; retired slots
-    /// are skipped one by one.
+    /// The closure gets the key and a mutable reference to its value. What it writes is kept. The
+    /// keys are visited by ascending index, and are removed as `remove` does. A block of vacant
+    /// slots is skipped in one step; retired slots are skipped one by one.
     ///
     /// ```
     /// map.retain(|_, value| *value % 2 == 0);
-    /// assert!(rt; !map.contains_key(a) && map.contains_key(b));
+    /// assert_eq!(rt; map.get(a), None);
+    /// assert_eq!(rt; map.get(b), Some(&2));
     /// ```
     pub fn retain<F: FnMut(K, &mut V) -> bool>(&mut self, mut f: F)
     where
         F: Drop,
-        // At each entry, in the state that calls at other entries leave the closure in.
+        // For each entry, in each state in which calls for other entries leave the closure.
         requires { CallableOnEach F.FnMut K.data_of f self.old.content.live }
         ensures retained { RetainsBy F.FnMut K.data_of f self.old.content.live self.new.content.live }
         ensures by_index { RetainsByIndex F.FnMut K.data_of f self.old self.new }
@@ -56,14 +56,15 @@ impl<K: Key, V: Drop> HopSlotMap<K, V> {
         }
     }
 
-    /// Removes each live key and drops its value.
+    /// Removes every live key and drops its value.
     ///
-    /// The keys are removed by ascending index. The capacity stays. A block of vacant slots is
-    /// skipped in one step.
+    /// The keys are removed as `remove` does, by ascending index, and the capacity stays. A block
+    /// of vacant slots is skipped in one step.
     ///
     /// ```
     /// map.clear();
-    /// assert!(rt; map.is_empty() && !map.contains_key(a));
+    /// assert!(rt; map.is_empty());
+    /// assert!(rt; !map.contains_key(a));
     /// ```
     pub fn clear(&mut self)
         ensures empty { self.new.content.live ≡ map.empty }
@@ -79,16 +80,16 @@ impl<K: Key, V: Drop> HopSlotMap<K, V> {
         }
     }
 
-    /// Appends each live key to `out`, by ascending index.
+    /// Appends every live key to `out`, by ascending index.
     ///
-    /// It reserves all room in `out` first. If that allocation fails, the call fails and the list
-    /// in `out` stays as it is. A block of vacant slots is skipped in one step. Rust lacks this
-    /// call.
+    /// Room for all keys is allocated first. If that fails, the list doesn't change. A block of
+    /// vacant slots is skipped in one step. Rust lacks this call.
     ///
     /// ```
     /// let mut keys = Vec::new(alloc);
     /// map.keys_into(&mut keys)?;
-    /// assert_eq!(rt; (keys[0], keys[1]), (a, b));
+    /// assert_eq!(rt; keys.len(), 2);
+    /// assert_eq!(rt; keys[0], a);
     /// ```
     pub fn keys_into(&self, out: &mut Vec<K>) -> Result<(), OutOfMemory>
         ensures ok { OnOk result ((keys : List K) × (out.new.items ≡ out.old.items ++ keys)
@@ -105,16 +106,16 @@ impl<K: Key, V: Drop> HopSlotMap<K, V> {
         Ok(())
     }
 
-    /// Removes each live key and appends it with its value to `out`, by ascending index.
+    /// Removes every live key, and appends the keys with their values to `out`, by ascending index.
     ///
-    /// It reserves all room in `out` first. If that allocation fails, the call fails, and the map
-    /// and the list in `out` stay as they are. Each key is removed as `remove` does. Rust lacks
-    /// this call.
+    /// The keys are removed as `remove` does. Room for all pairs is allocated first. If that fails,
+    /// neither the map nor the list changes. A block of vacant slots is skipped in one step. Rust
+    /// lacks this call.
     ///
     /// ```
     /// let mut pairs = Vec::new(alloc);
     /// map.drain_into(&mut pairs)?;
-    /// assert_eq!(rt; (pairs[0], pairs[1]), ((a, 1), (b, 2)));
+    /// assert_eq!(rt; pairs[1], (b, 2));
     /// assert!(rt; map.is_empty());
     /// ```
     pub fn drain_into(&mut self, out: &mut Vec<(K, V)>) -> Result<(), OutOfMemory>

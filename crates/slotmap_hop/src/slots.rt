@@ -50,26 +50,20 @@ fn state_from<V>(value: Option<V>) -> State<V>
 }
 
 impl<K: Key, V: Drop> HopSlotMap<K, V> {
-    /// Writes the map as a list of slots, with a clone of each value.
+    /// Returns the map as a list of slots, with clones of the values.
     ///
-    /// The list has one record for each slot, by index:
-    /// - The record of a live key's slot has its value and its odd version.
-    /// - The record of a vacant slot has no value. Its version is even, one more than that of the
-    ///   last key there.
-    /// - The record of a retired slot, and record 0, have no value and version 0.
+    /// [`SlotRecord`] says what the record of each slot is.
     ///
-    /// Fails with `OutOfMemory` if memory runs out for the list or for a clone. It reserves room
-    /// for the whole list first. The caller has to prove that a clone of a value equals the value.
-    /// Takes time linear in the number of slots. Rust's `Serialize` writes the same records.
-    ///
-    /// A map of 4294967294 slots, slot 0 aside, writes a list that `from_slots` refuses as too
-    /// long.
+    /// It fails with `OutOfMemory` if memory runs out for the list or for a clone. Room for the
+    /// whole list is allocated first, and each value is cloned once. Linear in the number of slots.
+    /// `from_slots` reads the list back, except that of a map with 4294967294 slots, which is too
+    /// long. In Rust `Serialize` writes the same records.
     ///
     /// ```
-    /// map.remove(a);
     /// let list = map.to_slots()?;
-    /// assert_eq!(rt; (list[1].value, list[1].version), (None, 2));
-    /// assert_eq!(rt; (list[2].value, list[2].version), (Some(2), 1));
+    /// assert_eq!(rt; list.len(), 3);
+    /// assert_eq!(rt; list[a.data().idx() as usize].value, Some(1));
+    /// assert_eq!(rt; list[a.data().idx() as usize].version, a.data().version());
     /// ```
     pub fn to_slots(&self) -> Result<Vec<SlotRecord<V>>, OutOfMemory>
     where
@@ -87,40 +81,45 @@ impl<K: Key, V: Drop> HopSlotMap<K, V> {
         Ok(slots)
     }
 
-    /// Makes a map from a list of slots, whose values are moved into the map.
+    /// Makes the map that a list of slots describes; the values are moved into the map.
     ///
-    /// The version at each position of the list, from 1 on, says what the slot of this index is:
-    /// - An odd version is that of a live key.
-    /// - An even version other than 0 marks a vacant slot. Its next key has the version after it.
-    /// - Version 0 marks a retired slot, which is never used again. In Rust it marks a vacant slot,
-    ///   so a retired slot starts again.
+    /// From position 1 on, the version of a slot tells what it is:
     ///
-    /// The version at position 0 is read as 0. Inserts use all vacant slots before they add one.
+    /// - An odd version is that of a live key, and its index is the position.
+    /// - An even version other than 0 is that of a vacant slot. The slot's next key has the version
+    ///   after it.
+    /// - Version 0 is that of a retired slot, which no insert uses.
     ///
-    /// Fails with the first of these errors that applies, and drops the list:
-    /// - `TooMany`: the list has 4294967295 records or more.
+    /// The first version is read as 0. Inserts reuse the vacant slots first.
+    ///
+    /// The errors, in this order of precedence (the list is dropped):
+    ///
+    /// - `TooMany`: the list has 4294967295 slots or more.
     /// - `FirstNotEmpty`: the list is empty, or its first version is odd.
-    /// - `Inconsistent`: at some position a value is beside an even version, or no value is beside
-    ///   an odd one. It holds the smallest such position.
-    /// - `Memory`: the allocation of the slots fails.
+    /// - `Inconsistent(i)`: slot i is the first with a value and an even version, or with no value
+    ///   and an odd version.
+    /// - `Memory`: memory runs out.
     ///
-    /// Takes time linear in the length of the list. Rust's `Deserialize` reads such a list.
+    /// Two passes over the list. In Rust `Deserialize` reads such a list, and version 0 is that of
+    /// a vacant slot, so the versions of a slot wrap around.
     ///
     /// ```
-    /// map.remove(a);
-    /// let list = map.to_slots()?;
-    /// let mut copy: HopSlotMap<DefaultKey, u64> = HopSlotMap::from_slots(alloc, list)?;
-    /// assert_eq!(rt; copy.get(b).copied(), Some(2));
-    /// assert_eq!(rt; copy.insert(3)?, DefaultKey::from(KeyData::new(1, 3)));
+    /// let mut list = Vec::new(alloc);
+    /// list.push(SlotRecord { value: None, version: 0 })?;
+    /// list.push(SlotRecord { value: Some(7), version: 3 })?;
+    /// list.push(SlotRecord { value: None, version: 2 })?;
+    /// let mut made: HopSlotMap<DefaultKey, u64> = HopSlotMap::from_slots(alloc, list)?;
+    /// assert_eq!(rt; made.get(DefaultKey::from(KeyData::new(1, 3))), Some(&7));
+    /// assert_eq!(rt; made.insert(8)?.data(), KeyData::new(2, 3));
     /// ```
     pub fn from_slots(alloc: Global, list: Vec<SlotRecord<V>>) -> Result<Self, SlotsError>
-        // What the map holds. Runs and lists of slots go on from it.
+        // What the list says. Runs and lists of slots go on from it.
         ensures reads { IfOk result (λ made. ReadsAs true list.items made.content) }
         // The blocks of vacant slots are in their list by ascending index.
         ensures ascending { IfOk result (λ made. Ascend 1 made.blocks.others (length list.items)) }
         ensures valid { IfOk result IsHopContent }
 
-        // When it fails, and which error comes first.
+        // The errors: the first one that applies is returned.
         ensures accepted { IsOk result → Accepts list.items 4294967295 }
         ensures err { IfErr result (RefusesStart list.items 4294967295) }
     {
