@@ -17,8 +17,12 @@ use std::marker::{Model, PhantomData};
 
 /// An iterator over the live keys and their values, by ascending index: see [`HopSlotMap::iter`].
 ///
-/// A contract sees it as a record of three parts: the list of the pairs that it will still yield,
-/// the number of slots that it has read, and the number of retired slots that it hasn't passed.
+/// A contract sees it as a record of these parts:
+///
+/// - the list of the pairs that it will still yield
+/// - the number of slots that it has read
+/// - the number of retired slots that it hasn't passed
+///
 /// After its end it yields nothing. A clone yields the same pairs; cloning allocates nothing.
 #[derive(Drop)]
 pub struct Iter<'a, K, V> {
