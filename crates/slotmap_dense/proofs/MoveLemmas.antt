@@ -32,7 +32,7 @@ offer_key c well below = elim (well.offers below) [
 ]
 
 module _ {V : Type 0} (slots : Content ℕ) (keys : List Key) (values : List V) (sound : IsSound slots keys values) (new : Content ℕ) (k : Key) (v : V) where
-  -- the slots hold k at the end of the list
+  -- k is appended to the list, at the position that the slots have for it
   IsSound-appended : map.get slots.live k ≡ None → new.live ≡ map.insert slots.live k (length keys) → IsContent true new → IsSound new (keys ++ k ∷ []) (values ++ v ∷ [])
   IsSound-appended none live well = record {
     well = well;
@@ -154,7 +154,7 @@ pub of_some : {A P : Type 0} (o : Option A) (x : A) → o ≡ Some x → OnSome 
 of_some None x is h = absurd (cc)
 of_some (Some y) x is h = h
 
--- the same, if this pair ends the two lists
+-- the same for two lists that end in this pair
 pub takes-popped : {V : Type 0} (slots new : Content ℕ) (keys : List Key) (values : List V) (spare : ℕ) (ks : List Key) (vs : List V) (k : Key) (v : V) → keys ≡ ks ++ k ∷ [] → values ≡ vs ++ v ∷ [] → IsSound slots keys values → OnSome (map.get slots.live k) (Removes slots k new)
     → (map.get (dense_of slots keys values spare).content.live k ≡ Some v) × Removes (dense_of slots keys values spare).content k (dense_of new ks vs spare).content × (keys ≡ ks ++ k ∷ []) × (values ≡ vs ++ v ∷ [])
 takes-popped {V} slots new keys values spare ks vs k v keys_are values_are sound rem =

@@ -27,7 +27,7 @@ module _ {K V : Type 0} where
     pub in_order : iter_mut_rest data_of s ≡ zip d.keys d.values
     pub ready : IterMutCanStep s
 
-  -- a call of `next` at s returned r, the first pair of s, and left t
+  -- a call of `next` at s yielded r, the first pair of s, and left t
   abbrev pub iter_mut_steps : (K → Key) → IterMut K V → Option (K × MutBor V) → IterMut K V → Type 0
   iter_mut_steps data_of s r t = TakesFirst (λ (x : K × MutBor V). (data_of x.0, x.1.now)) (iter_mut_rest data_of s) r (iter_mut_rest data_of t)
 
@@ -39,6 +39,6 @@ module _ {K V : Type 0} where
   abbrev pub values_mut_name : ValuesMut K V → GName
   values_mut_name s = slice.iter_mut_name s.values
 
-  -- a call of `next` at s returned r and left t
+  -- a call of `next` at s yielded r and left t
   abbrev pub values_mut_steps : ValuesMut K V → Option (MutBor V) → ValuesMut K V → Type 0
   values_mut_steps s r t = slice.iter_mut_steps s.values r t.values

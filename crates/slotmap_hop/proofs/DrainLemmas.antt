@@ -1,4 +1,4 @@
--- What the steps of a drain keep, and what they return.
+-- What the steps of a drain keep, and what they yield.
 use Rattle.std.proofs.Common.{List, [], ◌∷◌, map as list_map, refl, ap, subst, ◌∙◌}
 use Rattle.std.specs.FinMap as map
 use Rattle.slotmap_core.specs.Key.{Key}

@@ -34,7 +34,7 @@ module _ {K V : Type 0} where
     abbrev pub DrainCanStep : Drain K V → Type 0
     DrainCanStep d = IsHopContent (drain_map d) × IsNextLive data_of (drain_map d).content 0 d.next
 
-    -- one call of `next` went from old to new and returned item
+    -- `next` took old to new, and yielded the item
     abbrev pub DrainSteps : Drain K V → Option (K × V) → Drain K V → Type 0
     DrainSteps old item new = TakesPair data_of (drain_map old).content item (drain_map new).content
         × DrainKeeps old new × DrainCanStep new × TakesFirst data_of (drain_map old).content item (drain_map new).content
@@ -44,12 +44,12 @@ module _ {K V : Type 0} where
     DrainKeepsAlong first = (pairs : List (K × V)) (later : Drain K V) → Yields DrainSteps first pairs later
         → DrainKeeps first later
 
-    -- the pairs that calls of `next` return, together with those that the map still holds, are those that it held at first
+    -- the pairs that calls of `next` yield, together with those that the map still holds then, are those that it held at first
     abbrev pub DrainLists : Drain K V → Type 0
     DrainLists first = (pairs : List (K × V)) (later : Drain K V) → Yields DrainSteps first pairs later
         → IsListingBut (drain_map first).content.live (list_map (λ p. (data_of p.0, p.1)) pairs) (drain_map later).content.live
 
-    -- the pairs that calls of `next` return come by ascending index, before those that the map still holds
+    -- the pairs that calls of `next` yield come by ascending index, before those that the map still holds
     abbrev pub DrainInOrder : Drain K V → Type 0
     DrainInOrder first = (pairs : List (K × V)) (later : Drain K V) → Yields DrainSteps first pairs later
         → map.entries (drain_map first).content.live ≡ list_map (λ p. (data_of p.0, p.1)) pairs ++ map.entries (drain_map later).content.live
