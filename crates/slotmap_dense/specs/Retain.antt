@@ -15,7 +15,7 @@ module _ {K V : Type 0} (data_of : K → Key) where
   dropped [] = []
   dropped (x ∷ xs) = if x.stays then dropped xs else data_of x.key ∷ dropped xs
 
-  -- these calls change the packed order from one list to the other, from a position on. Each call is given the key at the
+  -- These calls change the packed order from one list to the other, from a position on. Each call is given the key at the
   -- position. If the key stays, the next position follows; else the last key moves to the position
   abbrev pub PacksBy : ℕ → List Key → List (Visit K V) → List Key → Type 0
   PacksBy position keys [] end = (length keys ≤ position) × (end ≡ keys)

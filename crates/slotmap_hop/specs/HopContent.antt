@@ -27,7 +27,7 @@ NoBlocks b = (b.sentinel_end ≡ 0) × (b.others ≡ [])
 abbrev pub is_vacant_in : map.FinMap nat_cmp ℕ → ℕ → Bool
 is_vacant_in next i = (i == 0) || map.contains_key next i
 
--- the blocks after these keys are removed, one after the other; `next` has the next version of each vacant place. The place
+-- The blocks after these keys are removed, one after the other; `next` has the next version of each vacant place. The place
 -- of each key joins the blocks, unless it is the last key of its place
 abbrev pub blocks_left : map.FinMap nat_cmp ℕ → Blocks → List Key → Blocks
 blocks_left next b [] = b
