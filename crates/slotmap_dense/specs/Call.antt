@@ -12,7 +12,7 @@ module _ {V : Type 0} where
     pub after : IsDense new
     pub capacity : new.content.capacity ≡ old.content.capacity
 
-  -- a call that may allocate room for one more key: the map was and is well formed, and no capacity is lost. If the call
+  -- A call that may allocate room for one more key: the map was and is well formed, and no capacity is lost. If the call
   -- fails, the map holds what it held, in the same order
   pub record MayGrow (old : Dense V) (refused : Type 0) (new : Dense V) : Type 0 where
     pub before : IsDense old

@@ -23,8 +23,7 @@ module _ {K V : Type 0} where
   abbrev pub drain_count : Drain K V → Count
   drain_count d = at_most (map.len (drain_map d).content.live)
 
-  -- old and new borrow the same map; and whatever the map of new ends as once it is emptied, the map of old ends as that
-  -- too
+  -- Old and new borrow the same map. What new ends as, once every key is removed, old ends as too
   abbrev pub DrainKeeps : Drain K V → Drain K V → Type 0
   DrainKeeps old new = (drain_lender new ≡ drain_lender old)
       × ((end : Content V) → EmptiesByIndex (drain_map new).content end → EmptiesByIndex (drain_map old).content end)
