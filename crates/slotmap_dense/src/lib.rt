@@ -43,8 +43,8 @@ use std::marker::Model;
 ///
 /// `insert` returns a new key, and the key is live until it is removed. The slot of a removed key
 /// is reused under a newer key, and the slot freed last is reused first. So a removed key is never
-/// found again, and no key is returned twice. After its key of version 4294967295, the last one, a
-/// slot is retired and never used again. In Rust its versions wrap around.
+/// found again, and no key is returned twice. Once its last key, of version 4294967295, is removed,
+/// a slot is retired and never used again. In Rust its versions wrap around.
 ///
 /// The live keys are in one list, and their values are at the same positions in another list. This
 /// is the packed order. An insert appends to both lists. A removal moves the last pair to the

@@ -24,7 +24,7 @@ pub record StartsIter {V : Type 0} (m : HopContent V) (it : Walking (Key × V)) 
   pub retired : it.retired ≡ set.len m.content.retired
   pub reads : it.reads ≡ 0
 
--- slots, and the number of single slots that were read from them
+-- slots, and how often one of them was read
 pub record Counted (V : Type 0) : Type 0 where
   pub slots : List (Slot V)
   pub reads : ℕ

@@ -117,9 +117,9 @@ impl<K: Key, V: Drop> HopSlotMap<K, V> {
 
     /// Inserts the value that a closure returns for the new key, and returns the key.
     ///
-    /// Room is made first. Then the closure is called with the key that the call will return. In
-    /// Rust the closure runs before the vector grows. It fails as `insert` does, without calling
-    /// the closure. Costs as `insert`.
+    /// Room is made first, and if that fails, the call fails as `insert` does, without calling the
+    /// closure. Then the closure is called once, with the key that the call will return. In Rust
+    /// the closure runs before the vector grows. Costs as `insert`.
     ///
     /// ```
     /// let c = map.insert_with_key(|key: DefaultKey| key.data().as_ffi())?;

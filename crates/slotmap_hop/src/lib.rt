@@ -47,7 +47,7 @@ use std::marker::{Model, PhantomData};
 ///
 /// `insert` returns a new key, and the key is live until it is removed. The slot of a removed key
 /// is reused under a newer key. So a removed key is never found again, and no key is returned
-/// twice. After its key of version 4294967295, the last one, a slot is retired and never used
+/// twice. Once its last key, of version 4294967295, is removed, a slot is retired and never used
 /// again. In Rust its versions wrap around. At most 4294967294 keys can be live or retired.
 ///
 /// Neighbouring vacant slots form a block, and the blocks form a list. An insert uses the last slot
