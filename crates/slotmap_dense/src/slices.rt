@@ -10,7 +10,9 @@ use slotmap_core::keys::Key;
 impl<K: Key, V: Drop> DenseSlotMap<K, V> {
     ghost use Rattle.slotmap_dense.specs.Lends.{lends_values, lends_walk};
 
-    /// Returns the live keys as a slice, in packed order. Constant time.
+    /// Returns the live keys as a slice, in packed order.
+    ///
+    /// Constant time.
     ///
     /// ```
     /// let keys = map.keys_as_slice();
@@ -23,7 +25,9 @@ impl<K: Key, V: Drop> DenseSlotMap<K, V> {
         self.keys.as_slice()
     }
 
-    /// Returns the values of the live keys as a slice, in packed order. Constant time.
+    /// Returns the values of the live keys as a slice, in packed order.
+    ///
+    /// Constant time.
     ///
     /// ```
     /// let values = map.values_as_slice();
@@ -36,7 +40,9 @@ impl<K: Key, V: Drop> DenseSlotMap<K, V> {
         self.values.as_slice()
     }
 
-    /// Returns the live keys and their values as two slices, in packed order. Constant time.
+    /// Returns the live keys and their values as two slices, in packed order.
+    ///
+    /// Constant time.
     ///
     /// ```
     /// let (keys, values) = map.as_slices();
@@ -50,14 +56,14 @@ impl<K: Key, V: Drop> DenseSlotMap<K, V> {
         (self.keys.as_slice(), self.values.as_slice())
     }
 
-    /// Returns the values of the live keys as a mutable slice, in packed order. Constant time.
+    /// Returns the values of the live keys as a mutable slice, in packed order.
     ///
     /// A value written at a position is then the value of the key at this position. So sorting the
-    /// slice moves values from key to key.
+    /// slice moves values from key to key. Constant time.
     ///
     /// ```
     /// map.values_as_mut_slice()[0] = 5;
-    /// assert_eq!(rt; map.get(a).copied(), Some(5));
+    /// assert_eq!(rt; map.get(a), Some(&5));
     /// ```
     pub fn values_as_mut_slice(&mut self) -> &mut [V]
         ensures* writes_back { sem 𝓛 (lends_values K.row V.row K.Key self.entry result) }
@@ -68,15 +74,14 @@ impl<K: Key, V: Drop> DenseSlotMap<K, V> {
     }
 
     /// Returns the live keys as a slice and their values as a mutable slice, in packed order.
-    /// Constant time.
     ///
-    /// A value written at a position is then the value of the key at this position.
+    /// A value written at a position is then the value of the key at this position. Constant time.
     ///
     /// ```
     /// let (keys, values) = map.as_mut_slices();
     /// values[1] = 5;
     /// assert_eq!(rt; keys[1], b);
-    /// assert_eq!(rt; map.get(b).copied(), Some(5));
+    /// assert_eq!(rt; map.get(b), Some(&5));
     /// ```
     pub fn as_mut_slices(&mut self) -> (&[K], &mut [V])
         ensures* writes_back { sem 𝓛 (lends_walk K.row V.row K.Key self.entry result.1.ghost_name) }
