@@ -1,4 +1,4 @@
-//! The calls that take all keys out.
+//! The calls that remove all keys.
 
 ghost use Rattle.std.specs.Prelude.{◌≡◌, ◌≤◌, ℕ, true};
 ghost use Rattle.std.specs.FinMap as map;
@@ -8,14 +8,14 @@ use crate::{SecondaryMap, slot};
 use slotmap_core::keys::Key;
 
 impl<K: Key, V: Drop> SecondaryMap<K, V> {
-    /// Takes every key out, and drops its value.
+    /// Removes all keys and drops their values.
     ///
-    /// The capacity stays. It goes over all places of the map once. In Rust a pair at index 0 stays
-    /// in the map.
+    /// The capacity stays the same. Takes time linear in the number of slots. In Rust a key at
+    /// index 0 stays in the map.
     ///
     /// ```
-    /// names.clear();
-    /// assert_eq!(rt; names.len(), 0);
+    /// map.clear();
+    /// assert!(rt; map.is_empty());
     /// ```
     pub fn clear(&mut self)
         ensures empty { self.new ≡ record self.old { pairs = map.empty } }
@@ -25,7 +25,7 @@ impl<K: Key, V: Drop> SecondaryMap<K, V> {
         self.len = 0;
     }
 
-    // Takes the keys from this index on out.
+    // Removes the keys from this index on.
     pub(crate) fn clear_from(&mut self, start: usize)
         ensures empty { ((i : ℕ) → map.contains_key self.old.pairs i ≡ true → start ≤ i)
             → self.new ≡ record self.old { pairs = map.empty } }

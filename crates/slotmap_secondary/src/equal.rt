@@ -14,12 +14,16 @@ impl<K: Key, V: PartialEq> PartialEq for SecondaryMap<K, V> {
 
     ghost laws = { on_per (λ m. m.pairs) (are_equal_laws V.laws) };
 
-    /// Whether both maps hold the same keys with equal values. How many places they have, and for
-    /// how many there is memory, doesn't matter. It goes over all places of both maps once, and
-    /// stops at the first difference.
+    /// Returns whether both maps hold the same keys with equal values.
+    ///
+    /// The numbers of slots and the capacities don't matter. Takes time linear in the number of
+    /// slots of both maps, and stops at the first difference.
     ///
     /// ```
-    /// assert!(rt; names.clone()? == names);
+    /// let copy = map.clone()?;
+    /// assert!(rt; copy == map);
+    /// map.remove(a);
+    /// assert!(rt; copy != map);
     /// ```
     fn eq(&self, other: &Self) -> bool
         ensures value { result ≡ are_equal V.eq self.now.pairs other.now.pairs }
@@ -30,7 +34,7 @@ impl<K: Key, V: PartialEq> PartialEq for SecondaryMap<K, V> {
 }
 
 impl<K: Key, V: PartialEq> SecondaryMap<K, V> {
-    // Whether the walks over both maps answer the same.
+    // Whether the iterators of both maps yield the same.
     fn is_same(&self, other: &Self) -> bool
         ensures { result ≡ are_equal V.eq self.now.pairs other.now.pairs }
     {

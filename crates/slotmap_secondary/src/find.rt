@@ -1,4 +1,4 @@
-//! What stands at an index, and what a key finds there.
+//! What the map holds at an index, and what a key finds there.
 
 ghost use Rattle.std.specs.Prelude.{◌≡◌, None, IfSome, IfNone, true};
 ghost use Rattle.std.specs.FinMap as map;
@@ -30,7 +30,7 @@ impl<K: Key, V: Drop> SecondaryMap<K, V> {
         let key = key.data();
         let index = key.idx() as usize;
         if index == NULL_INDEX {
-            // The map is looked at for the clause `valid`.
+            // Reads the map, for the clause `valid`.
             let _ = &self.len;
             return Found::No;
         }
@@ -49,7 +49,7 @@ impl<K: Key, V: Drop> SecondaryMap<K, V> {
         }
     }
 
-    // How many places there are.
+    // How many slots there are.
     pub(crate) fn place_count(&self) -> usize
         ensures count { result ≡ self.now.places }
         ensures valid { IsContent self.now }
@@ -57,7 +57,7 @@ impl<K: Key, V: Drop> SecondaryMap<K, V> {
         self.slots.len()
     }
 
-    // The key that stands at this index.
+    // The key at this index.
     pub(crate) fn key_at(&self, index: usize) -> Option<K>
         ensures there { IfSome result (λ key.
             (contains_key self.now.pairs (K.data_of key) ≡ true) × ((K.data_of key).index ≡ index)) }

@@ -1,11 +1,11 @@
-//! `SecondaryMap`: values under keys that another map hands out, in one vector.
+//! `SecondaryMap`: values under the keys of another map, in one vector.
 //!
-//! Clauses see a map as its content: at each index one version at most, with its value (`Pairs` of
-//! the core); how many places were made; and up to which index there is memory.
+//! Clauses see a map as its content: for each index at most one version with its value (`Pairs` in
+//! `slotmap_core`); the number of slots; and the largest index for which there is memory.
 //!
-//! In clauses `value` is what a look-up or a removal answers, `ok` what a success did, `err` why a
-//! call is refused and what comes back, `unchanged` what a refusal leaves, and `valid` what holds of
-//! the content always.
+//! Names of clauses: `value` is what a look-up or a removal returns. `ok` is what a success did.
+//! `err` is why a call fails and what its error holds. `unchanged` is what a failure leaves.
+//! `valid` is what always holds of the content.
 #![tactic(auto)]
 
 ghost use Rattle.std.specs.Prelude.{◌≡◌, ◌≤◌, ◌+◌, ◌↔◌, IsTrue, IfOk, OnOk, IfErr};
@@ -42,29 +42,31 @@ use slotmap_core::keys::Key;
 use std::alloc::Global;
 use std::marker::{Model, PhantomData};
 
-/// Values under keys that another map hands out: what a program keeps beside a map, for some of its
-/// keys.
+/// A map from the keys of another map to further values, for most of those keys.
 ///
-/// It holds one key at most for each index: a newer key takes the place of an older one, and never
-/// the other way round, so what is put under a key of a removed value is never seen under the key
-/// that follows it. Versions go round: of two that are more than 2147483648 apart the greater is
-/// the older one. Index 0, which no other map hands out, is an index like any other here.
+/// For each index it holds at most one key:
 ///
-/// Its places go from index 0 to the greatest index that a key was put under or had an entry of so
-/// far; so it suits the keys of most of a map's places, and a sparse map suits few of them.
+/// - A newer key replaces an older one at its index, and never the reverse. So a value that was put
+///   under a removed key is never found under the next key of that slot.
+/// - Versions wrap around: of two versions more than 2147483648 apart, the larger one is the older.
+/// - Index 0, which no primary map hands out, is an index like any other here.
+///
+/// It has a slot for each index from 0 to the largest one that a key was inserted at, or that had a
+/// vacant entry. For few keys of a large map, a sparse map needs less memory.
 ///
 /// ```
-/// let mut ages: SlotMap<DefaultKey, u32> = SlotMap::new(alloc)?;
-/// let mut names: SecondaryMap<DefaultKey, u32> = SecondaryMap::new(alloc)?;
-/// let key = ages.insert(5)?;
-/// names.insert(key, 7)?;
-/// assert_eq!(rt; names.get(key).copied(), Some(7));
+/// map.insert(b, 2)?;
+/// assert_eq!(rt; primary[a], 10);
+/// assert_eq!(rt; map[a], 1);
+/// primary.remove(b);
+/// let next = primary.insert(30)?;
+/// assert!(rt; map.get(next).is_none());
 /// ```
 #[derive(Drop)]
 pub struct SecondaryMap<K, V> {
-    // Place i holds what stands at index i. There is place 0 always.
+    // The slot of index i is at position i. There is always one for index 0.
     slots: Vec<Slot<V>>,
-    // How many places are occupied.
+    // How many slots are occupied.
     len: usize,
     keys: PhantomData<K>,
 }
@@ -83,17 +85,18 @@ impl<K, V> Model for SecondaryMap<K, V> {
     ghost invariant = { λ m. IsSound m.slots.items m.len };
 }
 
-// The greatest index that a key has, but the null key's.
+// The largest index of a key other than the null key.
 const MOST_INDEX: usize = 4294967294;
 
 impl<K: Key, V: Drop> SecondaryMap<K, V> {
-    /// An empty map. Takes memory for the place of index 0.
+    /// Makes an empty map.
     ///
-    /// `Memory` where that was refused. Rust's takes none yet.
+    /// Allocates the slot of index 0. Fails with `Memory` if the allocation fails. Rust's `new`
+    /// allocates nothing.
     ///
     /// ```
-    /// let names: SecondaryMap<DefaultKey, u32> = SecondaryMap::new(alloc)?;
-    /// assert!(rt; names.is_empty());
+    /// let empty: SecondaryMap<DefaultKey, u64> = SecondaryMap::new(alloc)?;
+    /// assert!(rt; empty.is_empty());
     /// ```
     pub fn new(alloc: Global) -> Result<Self, ReserveError>
         ensures empty { IfOk result (λ made. made.pairs ≡ map.empty) }
@@ -104,10 +107,16 @@ impl<K: Key, V: Drop> SecondaryMap<K, V> {
         SecondaryMap::with_capacity(alloc, 0)
     }
 
-    /// An empty map, with memory for the keys of each index up to `capacity`.
+    /// Makes an empty map with memory for each index up to `capacity`.
     ///
-    /// `TooGreat` exactly where that is over 4294967294, else `Memory` where memory was refused.
-    /// Constant time beside the request for memory.
+    /// Fails with `TooGreat` if and only if `capacity` exceeds 4294967294, else with `Memory` if
+    /// the allocation fails. Takes constant time beside the allocation.
+    ///
+    /// ```
+    /// let empty: SecondaryMap<DefaultKey, u64> =
+    ///     SecondaryMap::with_capacity(alloc, 100)?;
+    /// assert!(rt; empty.capacity() >= 100);
+    /// ```
     pub fn with_capacity(alloc: Global, capacity: usize) -> Result<Self, ReserveError>
         ensures empty { IfOk result (λ made. made.pairs ≡ map.empty) }
         ensures places { IfOk result (λ made. made.places ≡ 1) }
@@ -128,7 +137,13 @@ impl<K: Key, V: Drop> SecondaryMap<K, V> {
         })
     }
 
-    /// The number of keys. Constant time.
+    /// Returns the number of keys, in constant time.
+    ///
+    /// ```
+    /// assert_eq!(rt; map.len(), 1);
+    /// map.remove(a);
+    /// assert_eq!(rt; map.len(), 0);
+    /// ```
     pub fn len(&self) -> usize
         ensures value { result ≡ map.len self.now.pairs }
         ensures valid { IsContent self.now }
@@ -136,7 +151,13 @@ impl<K: Key, V: Drop> SecondaryMap<K, V> {
         self.len
     }
 
-    /// Whether no key is in the map. Constant time.
+    /// Returns whether the map has no key, in constant time.
+    ///
+    /// ```
+    /// assert!(rt; !map.is_empty());
+    /// map.remove(a);
+    /// assert!(rt; map.is_empty());
+    /// ```
     pub fn is_empty(&self) -> bool
         ensures value { IsTrue result ↔ (map.len self.now.pairs ≡ 0) }
         ensures valid { IsContent self.now }
@@ -144,10 +165,15 @@ impl<K: Key, V: Drop> SecondaryMap<K, V> {
         self.len() == 0
     }
 
-    /// Up to which index there is memory for a key. Constant time.
+    /// Returns the largest index for which there is memory, in constant time.
     ///
-    /// An insert or an entry at an index up to this one is never refused. In Rust it is the number
-    /// of slots, of which one is index 0's: the same number.
+    /// An insert or an entry at an index up to this one never fails. Rust returns the number of
+    /// slots without the one of index 0: the same number.
+    ///
+    /// ```
+    /// map.set_capacity(100)?;
+    /// assert!(rt; map.capacity() >= 100);
+    /// ```
     pub fn capacity(&self) -> usize
         ensures value { result ≡ self.now.capacity }
         ensures fits { map.len self.now.pairs ≤ result + 1 }
@@ -156,23 +182,24 @@ impl<K: Key, V: Drop> SecondaryMap<K, V> {
         self.slots.capacity() - 1
     }
 
-    /// Makes memory for the keys of each index up to `capacity`.
+    /// Makes sure that there is memory for each index up to `capacity`.
     ///
-    /// `TooGreat` exactly where that is over 4294967294, else `Memory` where memory was refused;
-    /// either changes nothing. Where there is memory already nothing is asked for. It never gives
-    /// memory back. Linear in the number of places where they move, else constant time.
+    /// Fails with `TooGreat` if and only if `capacity` exceeds 4294967294, else with `Memory` if
+    /// the allocation fails. Either changes nothing. If there is memory already, it allocates
+    /// nothing; it never frees any. Takes time linear in the number of slots if they move, else
+    /// constant time.
     ///
     /// ```
-    /// names.set_capacity(100)?;
-    /// // No key up to this index is refused from now on.
-    /// assert!(rt; names.insert(DefaultKey::from(KeyData::new(100, 1)), 7).is_ok());
+    /// map.set_capacity(100)?;
+    /// let far = DefaultKey::from(KeyData::new(100, 1));
+    /// assert!(rt; map.insert(far, 7).is_ok()); // can't run out of memory
     /// ```
     pub fn set_capacity(&mut self, capacity: usize) -> Result<(), ReserveError>
         ensures sets { SetsCapacity capacity self.old result self.new }
         ensures valid { IsContent self.new }
     {
         if capacity > MOST_INDEX {
-            // The map is looked at for the clause `valid`.
+            // Reads the map, for the clause `valid`.
             let _ = self.len();
             return Err(ReserveError::TooGreat);
         }
@@ -180,7 +207,13 @@ impl<K: Key, V: Drop> SecondaryMap<K, V> {
         Ok(())
     }
 
-    /// The same as `set_capacity`, which answers a `Result` here too.
+    /// Does the same as [`SecondaryMap::set_capacity`], which returns a `Result` here too.
+    ///
+    /// ```
+    /// assert!(rt; map.try_set_capacity(100).is_ok());
+    /// let failed = map.try_set_capacity(4294967295);
+    /// assert!(rt; matches!(failed, Err(ReserveError::TooGreat)));
+    /// ```
     pub fn try_set_capacity(&mut self, capacity: usize) -> Result<(), ReserveError>
         ensures sets { SetsCapacity capacity self.old result self.new }
         ensures valid { IsContent self.new }

@@ -1,4 +1,4 @@
-//! The calls that take one value out.
+//! The calls that remove one value.
 
 ghost use Rattle.std.specs.Prelude.{◌≡◌, Some, true};
 ghost use Rattle.slotmap_core.specs.Secondary.{get, contains_key, remove};
@@ -8,14 +8,13 @@ use crate::SecondaryMap;
 use slotmap_core::keys::Key;
 
 impl<K: Key, V: Drop> SecondaryMap<K, V> {
-    /// Takes a key's value out, or answers none where the key isn't in the map, which stays as it
-    /// is then.
+    /// Removes a key and returns its value, or `None` if the key isn't in the map.
     ///
-    /// Constant time. It takes no memory and gives none back.
+    /// If it isn't, nothing changes. Takes constant time and allocates nothing. It frees nothing.
     ///
     /// ```
-    /// assert_eq!(rt; names.remove(key), Some(7));
-    /// assert_eq!(rt; names.remove(key), None);
+    /// assert_eq!(rt; map.remove(a), Some(1));
+    /// assert_eq!(rt; map.remove(a), None);
     /// ```
     pub fn remove(&mut self, key: K) -> Option<V>
         ensures value { result ≡ get self.old.pairs (K.data_of key) }
@@ -29,7 +28,7 @@ impl<K: Key, V: Drop> SecondaryMap<K, V> {
         }
     }
 
-    // Takes the value of a key that is in the map out, with no look-up.
+    // Removes a key that is in the map, and returns its value; compares no versions.
     pub(crate) fn take_live(&mut self, key: K) -> V
         requires { contains_key self.old.pairs (K.data_of key) ≡ true }
         ensures value { get self.old.pairs (K.data_of key) ≡ Some result }

@@ -15,9 +15,14 @@ use std::ops::{Index, IndexMut};
 impl<K: Key, V: Drop, S: BuildHasher + Drop> SparseSecondaryMap<K, V, S> {
     ghost use Rattle.slotmap_sparse.specs.Lends.{lends_get, lends_value};
 
-    /// Whether this key is in the map. Constant time.
+    /// Returns whether the key is in the map, in constant time.
     ///
-    /// The null key never is, nor a key at whose index another version stands.
+    /// The null key never is, nor is a key at whose index the map holds another version.
+    ///
+    /// ```
+    /// assert!(rt; map.contains_key(a));
+    /// assert!(rt; !map.contains_key(b));
+    /// ```
     pub fn contains_key(&self, key: K) -> bool
         ensures value { result ≡ contains_key self.now.pairs (K.data_of key) }
         ensures valid { IsContent self.now }
@@ -25,11 +30,13 @@ impl<K: Key, V: Drop, S: BuildHasher + Drop> SparseSecondaryMap<K, V, S> {
         self.get(key).is_some()
     }
 
-    /// The value of a key, or none where the key isn't in the map. Constant time.
+    /// Returns a reference to the value of a key, or `None` if the key isn't in the map.
+    ///
+    /// Takes constant time.
     ///
     /// ```
-    /// assert_eq!(rt; names.get(key).copied(), Some(7));
-    /// assert!(rt; names.get(DefaultKey::null()).is_none());
+    /// assert_eq!(rt; map.get(a).copied(), Some(1));
+    /// assert_eq!(rt; map.get(b), None);
     /// ```
     pub fn get(&self, key: K) -> Option<&V>
         ensures value { option_copied result ≡ get self.now.pairs (K.data_of key) }
@@ -47,10 +54,15 @@ impl<K: Key, V: Drop, S: BuildHasher + Drop> SparseSecondaryMap<K, V, S> {
         }
     }
 
-    /// The value of a key that is in the map. Constant time.
+    /// Returns a reference to the value of a key that is in the map.
     ///
-    /// The caller has to know that the key is in the map; so the call is safe, where Rust's is
-    /// `unsafe`.
+    /// The caller has to prove that the key is in the map. So the call is safe, where Rust's is
+    /// `unsafe`. Takes constant time.
+    ///
+    /// ```
+    /// map.insert(b, 2)?;
+    /// assert_eq!(rt; *map.get_unchecked(b), 2);
+    /// ```
     pub fn get_unchecked(&self, key: K) -> &V
         requires { contains_key self.now.pairs (K.data_of key) ≡ true }
         ensures value { get self.now.pairs (K.data_of key) ≡ Some result.now }
@@ -59,15 +71,16 @@ impl<K: Key, V: Drop, S: BuildHasher + Drop> SparseSecondaryMap<K, V, S> {
         self.get(key).unwrap()
     }
 
-    /// The value of a key for writing, or none where the key isn't in the map. Constant time.
+    /// Returns a mutable reference to the value of a key, or `None` if the key isn't in the map.
     ///
     /// Once the reference ends, the key has the last value written through it, and all else is as
-    /// before.
+    /// before. Takes constant time.
     ///
     /// ```
-    /// if let Some(name) = names.get_mut(key) {
-    ///     *name = 8;
+    /// if let Some(value) = map.get_mut(a) {
+    ///     *value = 8;
     /// }
+    /// assert_eq!(rt; map.get(a).copied(), Some(8));
     /// ```
     pub fn get_mut(&mut self, key: K) -> Option<&mut V>
         ensures* writes_back { sem 𝓛 (lends_get K.row V.row S.row S.Hasher.row S.BuildHasher S.Hasher.Hasher self.entry (K.data_of key) result) }
@@ -84,10 +97,15 @@ impl<K: Key, V: Drop, S: BuildHasher + Drop> SparseSecondaryMap<K, V, S> {
         Some(&mut slot.1)
     }
 
-    /// The value of a key that is in the map, for writing. Constant time.
+    /// Returns a mutable reference to the value of a key that is in the map.
     ///
-    /// The caller has to know that the key is in the map; so the call is safe, where Rust's is
-    /// `unsafe`.
+    /// The caller has to prove that the key is in the map. So the call is safe, where Rust's is
+    /// `unsafe`. Takes constant time.
+    ///
+    /// ```
+    /// *map.get_unchecked_mut(a) = 8;
+    /// assert_eq!(rt; map.get(a).copied(), Some(8));
+    /// ```
     pub fn get_unchecked_mut(&mut self, key: K) -> &mut V
         requires { contains_key self.old.pairs (K.data_of key) ≡ true }
         ensures* writes_back { sem 𝓛 (lends_value K.row V.row S.row S.Hasher.row S.BuildHasher S.Hasher.Hasher self.entry (K.data_of key) result) }
@@ -98,7 +116,7 @@ impl<K: Key, V: Drop, S: BuildHasher + Drop> SparseSecondaryMap<K, V, S> {
         &mut self.slots.get_mut(&index).unwrap().1
     }
 
-    // Sets the value of a key that is in the map, and answers the one before.
+    // Sets the value of a key that is in the map, and returns the one before.
     pub(crate) fn exchange(&mut self, key: K, value: V) -> V
         requires { contains_key self.old.pairs (K.data_of key) ≡ true }
         ensures value { get self.old.pairs (K.data_of key) ≡ Some result }
@@ -115,8 +133,15 @@ impl<K: Key, V: Drop, S: BuildHasher + Drop> Index<K> for SparseSecondaryMap<K, 
 
     ghost index_gives = { λ m key value. get m.pairs (K.data_of key) ≡ Some value };
 
-    /// The value of a key that is in the map, which the caller shows; in Rust another key panics.
-    /// Constant time.
+    /// Returns a reference to the value of a key that is in the map.
+    ///
+    /// The caller has to prove that the key is in the map; Rust panics if it isn't. Takes constant
+    /// time.
+    ///
+    /// ```
+    /// map.insert(b, 2)?;
+    /// assert_eq!(rt; (map[a], map[b]), (1, 2));
+    /// ```
     fn index(&self, key: K) -> &V {
         self.get_unchecked(key)
     }
@@ -125,8 +150,15 @@ impl<K: Key, V: Drop, S: BuildHasher + Drop> Index<K> for SparseSecondaryMap<K, 
 impl<K: Key, V: Drop, S: BuildHasher + Drop> IndexMut<K> for SparseSecondaryMap<K, V, S> {
     ghost use Rattle.slotmap_sparse.specs.Lends.{lends_value};
 
-    /// The value of a key that is in the map, which the caller shows, for writing; in Rust another
-    /// key panics. Constant time.
+    /// Returns a mutable reference to the value of a key that is in the map.
+    ///
+    /// The caller has to prove that the key is in the map; Rust panics if it isn't. Takes constant
+    /// time.
+    ///
+    /// ```
+    /// map[a] = 8;
+    /// assert_eq!(rt; map[a], 8);
+    /// ```
     fn index_mut(&mut self, key: K) -> &mut V
         requires { contains_key self.old.pairs (K.data_of key) ≡ true }
         ensures* writes_back { sem 𝓛 (lends_value K.row V.row S.row S.Hasher.row S.BuildHasher S.Hasher.Hasher self.entry (K.data_of key) result) }

@@ -1,4 +1,4 @@
-//! The call that takes all keys out.
+//! The call that removes all keys.
 
 ghost use Rattle.std.specs.Prelude.{◌≡◌, ◌≤◌};
 ghost use Rattle.std.specs.FinMap as map;
@@ -9,13 +9,13 @@ use slotmap_core::keys::Key;
 use std::hash::BuildHasher;
 
 impl<K: Key, V: Drop, S: BuildHasher + Drop> SparseSecondaryMap<K, V, S> {
-    /// Takes every key out, and drops its value.
+    /// Removes all keys and drops their values.
     ///
-    /// The memory stays. Linear in the capacity.
+    /// Keeps its memory. Takes time linear in the capacity.
     ///
     /// ```
-    /// names.clear();
-    /// assert_eq!(rt; names.len(), 0);
+    /// map.clear();
+    /// assert!(rt; map.is_empty());
     /// ```
     pub fn clear(&mut self)
         ensures empty { self.new.pairs ≡ map.empty }

@@ -10,17 +10,19 @@ use std::hash::BuildHasher;
 use std::marker::PhantomData;
 
 impl<K: Key, V: Clone, S: BuildHasher + Clone> SparseSecondaryMap<K, V, S> {
-    /// A copy of the map: the same keys, with clones of their values.
+    /// Returns a copy of the map: the same keys, with clones of their values.
     ///
-    /// The caller answers for it that a clone of a value equals the value; so this is a function of
-    /// its own, and no impl of `Clone`. Where memory was refused there is no copy, and what was
-    /// copied by then is dropped; nor is there one where the clone of the hasher hashes otherwise.
-    /// Linear in the number of keys. The copy has memory for its keys, and maybe for no more.
+    /// The caller has to prove that a clone of a value equals the value. The trait `Clone` can't
+    /// require that; so this is a method, and no impl of `Clone`.
+    ///
+    /// If an allocation fails there is no copy, and what was copied by then is dropped. It also
+    /// fails if the clone of the hasher hashes in another way. Takes time linear in the number of
+    /// keys. The copy has memory for its keys, and maybe for no more.
     ///
     /// ```
-    /// let mut copy = names.clone()?;
-    /// copy.remove(key);
-    /// assert!(rt; names.contains_key(key));
+    /// let mut copy = map.clone()?;
+    /// copy.remove(a);
+    /// assert!(rt; map.contains_key(a));
     /// ```
     pub fn clone(&self) -> Result<Self, AllocError>
         requires { (x y : V) → V.is_clone x y → y ≡ x }
@@ -35,10 +37,17 @@ impl<K: Key, V: Clone, S: BuildHasher + Clone> SparseSecondaryMap<K, V, S> {
         })
     }
 
-    /// Makes this map a copy of another, as [`SparseSecondaryMap::clone`] does, and drops what it had.
+    /// Makes this map a copy of another, as [`SparseSecondaryMap::clone`] does, and drops what it
+    /// held.
     ///
-    /// Where memory was refused the map stays as it is: the copy is made first, so for a while there
-    /// are both. Linear in the number of keys.
+    /// If an allocation fails, nothing changes. The copy is made first, so for a while there are
+    /// both. Takes time linear in the number of the source's keys.
+    ///
+    /// ```
+    /// let mut copy: SparseSecondaryMap<DefaultKey, u64> = SparseSecondaryMap::new(alloc)?;
+    /// copy.clone_from(&map)?;
+    /// assert!(rt; copy == map);
+    /// ```
     pub fn clone_from(&mut self, source: &Self) -> Result<(), AllocError>
     where
         V: Drop,

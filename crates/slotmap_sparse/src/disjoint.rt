@@ -11,17 +11,19 @@ use std::hash::BuildHasher;
 use std::mem;
 
 impl<K: Key, V: Drop, S: BuildHasher + Drop> SparseSecondaryMap<K, V, S> {
-    /// Gives each key the value at its place, and answers the values that the keys had.
+    /// Replaces the value of `keys[i]` by `values[i]`, for each i, and returns the old values.
     ///
-    /// Exactly where one of the keys isn't in the map, or two are equal, it hands the values back, and
-    /// the map stays as it is. It takes no memory, and its time does not depend on the size of the
-    /// map: it looks up each key, and compares each two. In Rust `get_disjoint_mut` lends the values
-    /// instead.
+    /// It fails if and only if one of the keys isn't in the map, or two of them are equal. Then
+    /// nothing changes, and the error holds `values`.
+    ///
+    /// It allocates nothing. It looks up each key, and compares each with each; so its time doesn't
+    /// depend on the size of the map. Rust's `get_disjoint_mut` returns mutable references instead.
     ///
     /// ```
-    /// if let Ok([old_a, old_b]) = names.replace_disjoint([a, b], [1, 2]) {
-    ///     // Both were in the map, and a is not b.
-    /// }
+    /// map.insert(b, 2)?;
+    /// assert_eq!(rt; map.replace_disjoint([a, b], [3, 4])?, [1, 2]);
+    /// assert!(rt; map.replace_disjoint([a, a], [5, 6]).is_err());
+    /// assert_eq!(rt; (map[a], map[b]), (3, 4));
     /// ```
     pub fn replace_disjoint<const N: usize>(
         &mut self,
@@ -53,7 +55,7 @@ impl<K: Key, V: Drop, S: BuildHasher + Drop> SparseSecondaryMap<K, V, S> {
         ensures which { IsTrue result ↔ CanReplace get self.now.pairs (map_list K.data_of keys.now) }
         ensures valid { IsContent self.now }
     {
-        // Where there is no key the map is looked at too, for the clause `valid`.
+        // Reads the map even if there is no key, for the clause `valid`.
         let _ = self.len();
         for i in 0..keys.len() {
             let key = keys[i];
@@ -64,7 +66,7 @@ impl<K: Key, V: Drop, S: BuildHasher + Drop> SparseSecondaryMap<K, V, S> {
         true
     }
 
-    // Exchanges the value of a key that is in the map for another.
+    // Swaps the value of a key that is in the map with another.
     fn swap_value(&mut self, key: K, value: &mut V)
         requires { contains_key self.old.pairs (K.data_of key) ≡ true }
         ensures put { self.new ≡ with_value self.old (K.data_of key) value.old }

@@ -1,4 +1,4 @@
-//! A walk that takes the pairs out of a map.
+//! The iterator that removes the pairs of a map.
 
 ghost use Rattle.std.specs.Prelude.{◌≡◌, ◌≤◌, Some, IfSome};
 ghost use Rattle.std.specs.Iterator.{size, UpTo};
@@ -10,9 +10,9 @@ use slotmap_core::keys::Key;
 use std::hash::BuildHasher;
 use std::iter::FusedIterator;
 
-/// A walk that takes the pairs out of a map, in an open order. Once it is dropped, the map is empty.
+/// An iterator that removes the pairs of a map, in any order. Once it is dropped, the map is empty.
 ///
-/// [`SparseSecondaryMap::drain`] makes it.
+/// [`SparseSecondaryMap::drain`] returns it. Dropping it removes the pairs that are left.
 pub struct Drain<'a, K: Key, V, S: BuildHasher> {
     map: &'a mut SparseSecondaryMap<K, V, S>,
 }
@@ -67,21 +67,22 @@ impl<'a, K: Key, V: Drop, S: BuildHasher + Drop> FusedIterator for Drain<'a, K, 
 impl<K: Key, V: Drop, S: BuildHasher + Drop> SparseSecondaryMap<K, V, S> {
     ghost use Rattle.slotmap_sparse.specs.Drain.{drain_map, drain_lender, DrainKeepsAlong, DrainLists};
 
-    /// Takes the keys with their values out, in an open order.
+    /// Returns an iterator that removes the keys and yields them with their values, in any order.
     ///
-    /// Each step takes constant time. The walk may be dropped at any step, and then the keys that are
-    /// left are taken out too, so the map is empty. The memory stays.
+    /// The iterator may be dropped at any step. Then the keys that are left are removed too, so the
+    /// map is empty. The map keeps its memory. Each step takes constant time.
     ///
     /// ```
-    /// for (key, value) in names.drain() {
-    ///     println!(rt; "{key:?}: {value}")?;
+    /// for (key, value) in map.drain() {
+    ///     assert!(rt; (key, value) == (a, 1));
     /// }
+    /// assert!(rt; map.is_empty());
     /// ```
     pub fn drain(&mut self) -> Drain<'_, K, V, S>
         ensures map { drain_map result ≡ self.old }
         ensures same_reference { drain_lender result ≡ self.entry.ghost_name }
 
-        // Laws of the steps, for callers that walk on.
+        // Laws of the steps, for callers that go on with the iterator.
         ensures stays { DrainKeepsAlong K.data_of result }
         ensures lists { DrainLists K.data_of result }
     {

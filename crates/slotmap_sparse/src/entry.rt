@@ -14,14 +14,14 @@ use slotmap_core::keys::Key;
 use slotmap_core::secondary::NoEntry;
 use std::hash::BuildHasher;
 
-/// The entry of a key: occupied where the key is in the map, vacant where it can be put there.
+/// The entry of a key: occupied if the key is in the map, vacant if it can be inserted.
 ///
-/// [`SparseSecondaryMap::entry`] makes it.
+/// [`SparseSecondaryMap::entry`] returns it.
 #[derive(Drop)]
 pub enum Entry<'a, K, V, S: BuildHasher> {
     /// The key is in the map.
     Occupied(OccupiedEntry<'a, K, V, S>),
-    /// The key isn't in the map, and nothing newer stands at its index.
+    /// The key isn't in the map, and its index has no newer key.
     Vacant(VacantEntry<'a, K, V, S>),
 }
 
@@ -32,8 +32,9 @@ pub struct OccupiedEntry<'a, K, V, S: BuildHasher> {
     key: K,
 }
 
-/// The entry of a key that isn't in the map and can be put there. Nothing stands at its index: an older
-/// pair is out.
+/// The entry of a key that isn't in the map and can be inserted.
+///
+/// Nothing is at its index: an older key is removed already.
 #[derive(Drop)]
 pub struct VacantEntry<'a, K, V, S: BuildHasher> {
     map: &'a mut SparseSecondaryMap<K, V, S>,
@@ -45,20 +46,21 @@ impl<K: Key, V: Drop, S: BuildHasher + Drop> SparseSecondaryMap<K, V, S> {
     ghost use Rattle.slotmap_sparse.specs.Entry.{Enters, IsEntryOf, IfEntry, rests_if_err};
     ghost use Rattle.slotmap_core.specs.declared.secondary.NoEntry.TheVariants as no_entry;
 
-    /// The entry of a key: none exactly where the key is null, or older than the one that stands at
-    /// its index.
+    /// Returns the entry of a key, or `None` if the key is null or older than the key at its index.
     ///
-    /// Where an older key stands at its index, that is taken out at once and its value is dropped; so
-    /// in a sparse map a vacant entry that is dropped unused leaves nothing there. Else the map is as
-    /// before. It takes no memory and always answers `Ok`. Constant time.
+    /// An older key at the index is removed at once, and its value is dropped. So in a sparse map a
+    /// vacant entry that is dropped unused leaves its index vacant. Otherwise nothing changes. The
+    /// call allocates nothing and always returns `Ok`. Takes constant time.
     ///
-    /// Where it answers none the map is as before; a proof takes that from `try_entry`, of which this
-    /// call hands on the answers.
+    /// If there is no entry, the map is as before. A proof gets this from the contract of
+    /// `try_entry`.
     ///
     /// ```
-    /// if let Some(entry) = names.entry(key)? {
-    ///     *entry.or_insert(0)? += 1;
+    /// if let Some(entry) = map.entry(b)? {
+    ///     entry.or_insert(5)?;
     /// }
+    /// assert_eq!(rt; map.get(b).copied(), Some(5));
+    /// assert!(rt; map.entry(DefaultKey::null())?.is_none());
     /// ```
     pub fn entry(&mut self, key: K) -> Result<Option<Entry<'_, K, V, S>>, OutOfMemory>
         ensures never_refused { IsOk result }
@@ -71,14 +73,15 @@ impl<K: Key, V: Drop, S: BuildHasher + Drop> SparseSecondaryMap<K, V, S> {
         }
     }
 
-    /// The same as `entry`, with `Older` where `entry` answers none; then the map is as before. It never
-    /// answers `Memory`. Rust lacks this call.
+    /// Returns the entry of a key, with `Older` as an error if `entry` would return `None`.
+    ///
+    /// Then the map is as before. It never fails with `Memory`. Otherwise it does the same as
+    /// `entry`. Rust lacks this call.
     ///
     /// ```
-    /// match names.try_entry(key) {
-    ///     Ok(entry) => *entry.or_insert(0)? += 1,
-    ///     Err(_) => {}
-    /// }
+    /// *map.try_entry(a)?.or_insert(0)? = 5;
+    /// assert_eq!(rt; map.get(a).copied(), Some(5));
+    /// assert!(rt; matches!(map.try_entry(DefaultKey::null()), Err(NoEntry::Older)));
     /// ```
     pub fn try_entry(&mut self, key: K) -> Result<Entry<'_, K, V, S>, NoEntry>
         ensures which { IfOk result (λ e. IsEntryOf K.data_of self.old.pairs (K.data_of key) (Some e)) }
@@ -103,7 +106,12 @@ impl<K: Key, V: Drop, S: BuildHasher + Drop> SparseSecondaryMap<K, V, S> {
 impl<'a, K: Key, V: Drop, S: BuildHasher + Drop> Entry<'a, K, V, S> {
     ghost use Rattle.slotmap_sparse.specs.Entry.{entry_lender, entry_map, entry_key, entry_value, IsInPlace, entry_with, entry_without, entry_lends_ok};
 
-    /// The key. Constant time.
+    /// Returns the key, in constant time.
+    ///
+    /// ```
+    /// let entry = map.try_entry(b)?;
+    /// assert!(rt; entry.key() == b);
+    /// ```
     pub fn key(&self) -> K
         ensures { result ≡ entry_key self.now }
     {
@@ -113,18 +121,20 @@ impl<'a, K: Key, V: Drop, S: BuildHasher + Drop> Entry<'a, K, V, S> {
         }
     }
 
-    /// Lets `f` change the value, where there is one; else `f` isn't called. The entry is the same.
+    /// Calls `f` on the value if the key has one, and returns the entry.
     ///
-    /// The caller shows that `f` may be called at the value that there is, and at no other.
+    /// If the key has no value, `f` isn't called. The caller has to prove that `f` may be called on
+    /// the value that the key has, and on no other.
     ///
     /// ```
-    /// *entry.and_modify(|name| *name = 1).or_insert(2)
+    /// let changed = map.try_entry(a)?.and_modify(|value| *value = 5);
+    /// assert_eq!(rt; *changed.or_insert(0)?, 5);
     /// ```
     pub fn and_modify<F: FnOnce(&mut V)>(self, f: F) -> Entry<'a, K, V, S>
     where
         F: Drop,
         requires in_place { IsInPlace K.data_of self }
-        // At the value that there is.
+        // On the value that the key has.
         requires callable { (shown : MutBor V) → entry_value K.data_of self ≡ Some shown.now → F.pre f shown }
         ensures same_map { entry_lender result ≡ entry_lender self.entry }
         ensures key { entry_key result ≡ entry_key self.entry }
@@ -143,11 +153,17 @@ impl<'a, K: Key, V: Drop, S: BuildHasher + Drop> Entry<'a, K, V, S> {
         }
     }
 
-    /// The value for writing, for as long as the map is borrowed; where the key has none, it is
-    /// `value` from now on. Constant time, unless the keys move.
+    /// Returns a mutable reference to the key's value, which is `value` if it had none.
     ///
-    /// Where memory was refused, which is asked for only where the key has no value, `value` comes
-    /// back, and the map is as the entry left it.
+    /// The reference may live as long as the loan of the map. It allocates only if the key has no
+    /// value. If the allocation fails, the error holds `value`, and the map is as the entry left
+    /// it. Takes constant time, except if the keys move.
+    ///
+    /// ```
+    /// *map.try_entry(a)?.or_insert(7)? = 5;
+    /// assert_eq!(rt; *map.try_entry(a)?.or_insert(7)?, 5);
+    /// assert_eq!(rt; *map.try_entry(b)?.or_insert(7)?, 7);
+    /// ```
     pub fn or_insert(self, value: V) -> Result<&'a mut V, PutError<V>>
         requires { IsInPlace K.data_of self }
         ensures* writes_back { sem 𝓛 (entry_lends_ok K.row V.row S.row S.Hasher.row S.BuildHasher S.Hasher.Hasher K.data_of self.entry result) }
@@ -161,9 +177,16 @@ impl<'a, K: Key, V: Drop, S: BuildHasher + Drop> Entry<'a, K, V, S> {
         }
     }
 
-    /// The same with the value that `f` gives, which is called exactly where the key has none and
-    /// there is memory for one; so a refusal drops `f` uncalled, and once it was called nothing is
-    /// refused.
+    /// Returns a mutable reference to the key's value, which is the result of `f` if it had none.
+    ///
+    /// `f` is called if and only if the key has no value and there is memory for one. So if the
+    /// allocation fails, `f` isn't called; once `f` was called, the call succeeds. Otherwise it
+    /// does the same as `or_insert`.
+    ///
+    /// ```
+    /// assert_eq!(rt; *map.try_entry(a)?.or_insert_with(|| 7)?, 1);
+    /// assert_eq!(rt; *map.try_entry(b)?.or_insert_with(|| 7)?, 7);
+    /// ```
     pub fn or_insert_with<F: FnOnce() -> V>(self, f: F) -> Result<&'a mut V, OutOfMemory>
     where
         F: Drop,
@@ -180,7 +203,14 @@ impl<'a, K: Key, V: Drop, S: BuildHasher + Drop> Entry<'a, K, V, S> {
         }
     }
 
-    /// The same with the default value.
+    /// Returns a mutable reference to the key's value, which is the default value if it had none.
+    ///
+    /// Otherwise it does the same as `or_insert`.
+    ///
+    /// ```
+    /// assert_eq!(rt; *map.try_entry(a)?.or_default()?, 1);
+    /// assert_eq!(rt; *map.try_entry(b)?.or_default()?, 0);
+    /// ```
     pub fn or_default(self) -> Result<&'a mut V, OutOfMemory>
     where
         V: Default,
@@ -201,16 +231,30 @@ impl<'a, K: Key, V: Drop, S: BuildHasher + Drop> VacantEntry<'a, K, V, S> {
     ghost use Rattle.slotmap_sparse.specs.declared.entry.Entry.TheVariants.{Vacant};
     ghost use Rattle.slotmap_sparse.specs.Entry.{entry_key, entry_map, IsInPlace, entry_lends_ok};
 
-    /// The key. Constant time.
+    /// Returns the key, in constant time.
+    ///
+    /// ```
+    /// if let sparse_secondary::Entry::Vacant(entry) = map.try_entry(b)? {
+    ///     assert!(rt; entry.key() == b);
+    /// }
+    /// ```
     pub fn key(&self) -> K
         ensures { result ≡ entry_key (Vacant self.now) }
     {
         self.key
     }
 
-    /// Gives the key the value, and answers it for writing. Constant time, unless the keys move.
+    /// Inserts the value and returns a mutable reference to it.
     ///
-    /// Where memory was refused the value comes back, and the map is as the entry left it.
+    /// If the allocation fails, the error holds the value, and the map is as the entry left it.
+    /// Takes constant time, except if the keys move.
+    ///
+    /// ```
+    /// if let sparse_secondary::Entry::Vacant(entry) = map.try_entry(b)? {
+    ///     *entry.insert(5)? = 6;
+    /// }
+    /// assert_eq!(rt; map.get(b).copied(), Some(6));
+    /// ```
     pub fn insert(self, value: V) -> Result<&'a mut V, PutError<V>>
         requires { IsInPlace K.data_of (Vacant self) }
         ensures* writes_back { sem 𝓛 (entry_lends_ok K.row V.row S.row S.Hasher.row S.BuildHasher S.Hasher.Hasher K.data_of (Vacant self.entry) result) }
@@ -226,7 +270,7 @@ impl<'a, K: Key, V: Drop, S: BuildHasher + Drop> VacantEntry<'a, K, V, S> {
         Ok(map.get_unchecked_mut(key))
     }
 
-    // Gives the key the value that the closure gives, once there is memory for it.
+    // Inserts the result of the closure, once there is memory for it.
     fn insert_with<F: FnOnce() -> V>(self, f: F) -> Result<&'a mut V, OutOfMemory>
     where
         F: Drop,
@@ -249,14 +293,26 @@ impl<'a, K: Key, V: Drop, S: BuildHasher + Drop> OccupiedEntry<'a, K, V, S> {
     ghost use Rattle.slotmap_sparse.specs.declared.entry.Entry.TheVariants.{Occupied};
     ghost use Rattle.slotmap_sparse.specs.Entry.{entry_key, entry_map, entry_value, entry_without, IsInPlace, IsWritten, entry_lends, occupied_lends, occupied_with};
 
-    /// The key. Constant time.
+    /// Returns the key, in constant time.
+    ///
+    /// ```
+    /// if let sparse_secondary::Entry::Occupied(entry) = map.try_entry(a)? {
+    ///     assert!(rt; entry.key() == a);
+    /// }
+    /// ```
     pub fn key(&self) -> K
         ensures { result ≡ entry_key (Occupied self.now) }
     {
         self.key
     }
 
-    /// The value. Constant time.
+    /// Returns a reference to the value, in constant time.
+    ///
+    /// ```
+    /// if let sparse_secondary::Entry::Occupied(entry) = map.try_entry(a)? {
+    ///     assert_eq!(rt; *entry.get(), 1);
+    /// }
+    /// ```
     pub fn get(&self) -> &V
         requires { IsInPlace K.data_of (Occupied self.now) }
         ensures { entry_value K.data_of (Occupied self.now) ≡ Some result.now }
@@ -264,7 +320,14 @@ impl<'a, K: Key, V: Drop, S: BuildHasher + Drop> OccupiedEntry<'a, K, V, S> {
         self.map.get_unchecked(self.key)
     }
 
-    /// The value for writing. Constant time.
+    /// Returns a mutable reference to the value, in constant time.
+    ///
+    /// ```
+    /// if let sparse_secondary::Entry::Occupied(mut entry) = map.try_entry(a)? {
+    ///     *entry.get_mut() = 5;
+    ///     assert_eq!(rt; *entry.get(), 5);
+    /// }
+    /// ```
     pub fn get_mut(&mut self) -> &mut V
         requires { IsInPlace K.data_of (Occupied self.old) }
         ensures* writes_back { sem 𝓛 (occupied_lends K.row V.row S.row S.Hasher.row S.BuildHasher S.Hasher.Hasher K.data_of self.entry result) }
@@ -275,7 +338,16 @@ impl<'a, K: Key, V: Drop, S: BuildHasher + Drop> OccupiedEntry<'a, K, V, S> {
         self.map.get_unchecked_mut(key)
     }
 
-    /// The value for writing, for as long as the map is borrowed. Constant time.
+    /// Returns a mutable reference to the value that may live as long as the loan of the map.
+    ///
+    /// Takes constant time.
+    ///
+    /// ```
+    /// if let sparse_secondary::Entry::Occupied(entry) = map.try_entry(a)? {
+    ///     *entry.into_mut() = 5;
+    /// }
+    /// assert_eq!(rt; map.get(a).copied(), Some(5));
+    /// ```
     pub fn into_mut(self) -> &'a mut V
         requires { IsInPlace K.data_of (Occupied self) }
         ensures* writes_back { sem 𝓛 (entry_lends K.row V.row S.row S.Hasher.row S.BuildHasher S.Hasher.Hasher K.data_of (Occupied self.entry) result) }
@@ -285,7 +357,14 @@ impl<'a, K: Key, V: Drop, S: BuildHasher + Drop> OccupiedEntry<'a, K, V, S> {
         map.get_unchecked_mut(key)
     }
 
-    /// Sets the value, and answers the one before. Constant time.
+    /// Sets the value and returns the one before, in constant time.
+    ///
+    /// ```
+    /// if let sparse_secondary::Entry::Occupied(mut entry) = map.try_entry(a)? {
+    ///     assert_eq!(rt; entry.insert(5), 1);
+    /// }
+    /// assert_eq!(rt; map.get(a).copied(), Some(5));
+    /// ```
     pub fn insert(&mut self, value: V) -> V
         requires { IsInPlace K.data_of (Occupied self.old) }
         ensures old { entry_value K.data_of (Occupied self.old) ≡ Some result }
@@ -294,7 +373,14 @@ impl<'a, K: Key, V: Drop, S: BuildHasher + Drop> OccupiedEntry<'a, K, V, S> {
         self.map.exchange(self.key, value)
     }
 
-    /// Takes the key and its value out. Constant time.
+    /// Removes the key and returns it with its value, in constant time.
+    ///
+    /// ```
+    /// if let sparse_secondary::Entry::Occupied(entry) = map.try_entry(a)? {
+    ///     assert!(rt; entry.remove_entry() == (a, 1));
+    /// }
+    /// assert!(rt; !map.contains_key(a));
+    /// ```
     pub fn remove_entry(self) -> (K, V)
         requires { IsInPlace K.data_of (Occupied self) }
         ensures key { result.0 ≡ entry_key (Occupied self.entry) }
@@ -306,7 +392,14 @@ impl<'a, K: Key, V: Drop, S: BuildHasher + Drop> OccupiedEntry<'a, K, V, S> {
         (key, map.take_live(key))
     }
 
-    /// Takes the key out, and answers its value. Constant time.
+    /// Removes the key and returns its value, in constant time.
+    ///
+    /// ```
+    /// if let sparse_secondary::Entry::Occupied(entry) = map.try_entry(a)? {
+    ///     assert_eq!(rt; entry.remove(), 1);
+    /// }
+    /// assert!(rt; !map.contains_key(a));
+    /// ```
     pub fn remove(self) -> V
         requires { IsInPlace K.data_of (Occupied self) }
         ensures value { entry_value K.data_of (Occupied self.entry) ≡ Some result }

@@ -15,12 +15,16 @@ impl<K: Key, V: PartialEq, S: BuildHasher> PartialEq for SparseSecondaryMap<K, V
 
     ghost laws = { on_per (λ m. m.pairs) (are_equal_laws V.laws) };
 
-    /// Whether both maps hold the same keys with equal values. In which order they hold them, and for
-    /// how many keys there is memory, doesn't matter. Linear in the number of keys; it stops at the
-    /// first difference.
+    /// Returns whether both maps hold the same keys with equal values.
+    ///
+    /// The order of the keys and the capacities don't matter. Takes time linear in the number of
+    /// keys, and stops at the first difference.
     ///
     /// ```
-    /// assert!(rt; names.clone()? == names);
+    /// let copy = map.clone()?;
+    /// assert!(rt; copy == map);
+    /// map.remove(a);
+    /// assert!(rt; copy != map);
     /// ```
     fn eq(&self, other: &Self) -> bool
         ensures value { result ≡ are_equal V.eq self.now.pairs other.now.pairs }

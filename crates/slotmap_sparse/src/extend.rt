@@ -12,15 +12,16 @@ use std::alloc::Global;
 use std::hash::{BuildHasher, BuildHasherDefault};
 
 impl<K: Key, V: Drop, S: BuildHasher + Drop> SparseSecondaryMap<K, V, S> {
-    /// Inserts each pair, in the order of the iterator, as `insert` does: a pair whose key is null
-    /// or older than the one that stands at its index is dropped.
+    /// Inserts each pair of an iterator, in its order, as `insert` does.
     ///
-    /// Where memory was refused for a pair it comes back; the pairs before it are in, and the rest
-    /// of the iterator is dropped. Nothing is refused before the map holds as many keys as
-    /// `capacity()` told. The iterator has to end. Rust has it as `Extend`.
+    /// A pair whose key is null, or older than the key at its index, is dropped. If an allocation
+    /// fails, the error holds the pair that it was for. The pairs before it are then in the map,
+    /// and the rest of the iterator is dropped. It never fails while the map holds fewer keys than
+    /// `capacity()` was before. The iterator has to end. In Rust this is the trait `Extend`.
     ///
     /// ```
-    /// names.extend(others)?;
+    /// map.extend(primary)?;
+    /// assert_eq!(rt; (map[a], map[b]), (10, 20));
     /// ```
     pub fn extend<I: IntoIterator<Item = (K, V)>>(&mut self, iter: I) -> Result<(), (K, V)>
         requires { (it : I.IntoIter) → I.into_iter_gives iter it →
@@ -29,12 +30,12 @@ impl<K: Key, V: Drop, S: BuildHasher + Drop> SparseSecondaryMap<K, V, S> {
             × Extends K.data_of it self.old.pairs result self.new.pairs I.IntoIter.next_gives }
         ensures capacity { self.old.capacity ≤ self.new.capacity }
 
-        // A pair comes back only once the map holds as many keys as it had memory for.
+        // A pair is returned only once the map holds as many keys as it had memory for.
         ensures full { OnErr result (self.old.capacity ≤ map.len self.new.pairs) }
 
         ensures valid { IsContent self.new }
     {
-        // The map is looked at for the clause `valid`.
+        // Reads the map, for the clause `valid`.
         let _ = self.len();
         for (key, value) in iter {
             if let Err(error) = self.insert(key, value) {
@@ -44,8 +45,14 @@ impl<K: Key, V: Drop, S: BuildHasher + Drop> SparseSecondaryMap<K, V, S> {
         Ok(())
     }
 
-    /// The same as `extend`, with copies of the values that the iterator's references show. Rust has
-    /// it as a second impl of `Extend`.
+    /// Inserts each pair of an iterator over references, with a copy of the value.
+    ///
+    /// Otherwise it does the same as `extend`. In Rust this is a second impl of `Extend`.
+    ///
+    /// ```
+    /// map.extend_refs(primary.iter())?;
+    /// assert_eq!(rt; (map[a], map[b]), (10, 20));
+    /// ```
     pub fn extend_refs<'b, I: IntoIterator<Item = (K, &'b V)>>(
         &mut self,
         iter: I,
@@ -58,12 +65,12 @@ impl<K: Key, V: Drop, S: BuildHasher + Drop> SparseSecondaryMap<K, V, S> {
             × ExtendsBy K.data_of it self.old.pairs result self.new.pairs I.IntoIter.next_gives }
         ensures capacity { self.old.capacity ≤ self.new.capacity }
 
-        // A pair comes back only once the map holds as many keys as it had memory for.
+        // A pair is returned only once the map holds as many keys as it had memory for.
         ensures full { OnErr result (self.old.capacity ≤ map.len self.new.pairs) }
 
         ensures valid { IsContent self.new }
     {
-        // The map is looked at for the clause `valid`.
+        // Reads the map, for the clause `valid`.
         let _ = self.len();
         for (key, value) in iter {
             if let Err(error) = self.insert(key, *value) {
@@ -73,17 +80,18 @@ impl<K: Key, V: Drop, S: BuildHasher + Drop> SparseSecondaryMap<K, V, S> {
         Ok(())
     }
 
-    /// A map of these pairs with this hasher, inserted in the order of the iterator, as `extend` does.
+    /// Makes a map with this hasher of the pairs of an iterator, inserted in its order as by
+    /// `extend`.
     ///
-    /// Where memory was refused there is no map, and the pair comes back for which it was refused; an
-    /// empty map takes none. The iterator has to end. Rust has it as `FromIterator`, for a hasher that
-    /// has a default.
+    /// If an allocation fails there is no map, and the error holds the pair that it was for. The
+    /// iterator has to end. In Rust this is `FromIterator`, for a hasher that has a default.
     ///
-    /// For keys that a stranger picks, hand in a `RandomState`.
+    /// If strangers choose the keys, use a `RandomState`.
     ///
     /// ```
-    /// let hasher = RandomState::new(&rt)?;
-    /// let names = SparseSecondaryMap::from_iter_with_hasher(alloc, pairs, hasher);
+    /// let hasher = std::hash::RandomState::new(&rt)?;
+    /// let all = SparseSecondaryMap::from_iter_with_hasher(alloc, primary, hasher)?;
+    /// assert_eq!(rt; (all[a], all[b]), (10, 20));
     /// ```
     pub fn from_iter_with_hasher<I: IntoIterator<Item = (K, V)>>(
         alloc: Global,
@@ -109,16 +117,18 @@ impl<K: Key, V: Drop, S: BuildHasher + Drop> SparseSecondaryMap<K, V, S> {
 }
 
 impl<K: Key, V: Drop> SparseSecondaryMap<K, V> {
-    /// A map of these pairs with the default hasher, inserted in the order of the iterator, as
-    /// `extend` does.
+    /// Makes a map with the default hasher of the pairs of an iterator, inserted in its order as by
+    /// `extend`.
     ///
-    /// Where memory was refused there is no map, and the pair comes back for which it was refused; an
-    /// empty map takes none. The iterator has to end. Rust has it as `FromIterator`. For keys that a
-    /// stranger picks call [`SparseSecondaryMap::from_iter_with_hasher`]: the default hasher's seed is
-    /// fixed and public.
+    /// If an allocation fails there is no map, and the error holds the pair that it was for. The
+    /// iterator has to end. In Rust this is `FromIterator`. If strangers choose the keys, call
+    /// [`SparseSecondaryMap::from_iter_with_hasher`]: the default hasher's seed is fixed and
+    /// public.
     ///
     /// ```
-    /// let names: SparseSecondaryMap<DefaultKey, u32> = SparseSecondaryMap::from_iter(alloc, pairs).ok()?;
+    /// let all: SparseSecondaryMap<DefaultKey, u64> =
+    ///     SparseSecondaryMap::from_iter(alloc, primary)?;
+    /// assert_eq!(rt; (all[a], all[b]), (10, 20));
     /// ```
     pub fn from_iter<I: IntoIterator<Item = (K, V)>>(
         alloc: Global,

@@ -1,4 +1,4 @@
-//! What stands at an index, and what a key finds there.
+//! What the map holds at an index, and what a key finds there.
 
 ghost use Rattle.std.specs.Prelude.{◌≡◌, option_copied};
 ghost use Rattle.std.specs.FinMap as map;
@@ -15,7 +15,7 @@ use std::hash::BuildHasher;
 pub(crate) enum Found {
     No,
     Occupied,
-    // An older key stands there.
+    // An older key is there.
     Outdated,
     Empty,
 }
@@ -23,7 +23,7 @@ pub(crate) enum Found {
 impl<K: Key, V: Drop, S: BuildHasher + Drop> SparseSecondaryMap<K, V, S> {
     ghost use Rattle.slotmap_sparse.specs.Found.{is_found};
 
-    // What stands at the index of a key: a version and its value.
+    // What is at the index of a key: a version and its value.
     pub(crate) fn slot(&self, key: K) -> Option<&(u32, V)>
         ensures value { option_copied result ≡ map.get self.now.pairs (K.data_of key).index }
         ensures valid { IsContent self.now }

@@ -18,7 +18,7 @@ use std::hash::BuildHasher;
 use std::mem;
 
 impl<K: Key, V: Drop, S: BuildHasher + Drop> SparseSecondaryMap<K, V, S> {
-    // Asks for memory for so many keys more, where there is none.
+    // Makes sure that there is memory for this many more keys.
     pub(crate) fn make_room(&mut self, additional: usize) -> Result<(), AllocError>
         ensures ok { OnOk result (map.len self.old.pairs + additional ≤ self.new.capacity) }
         ensures keeps { self.new.pairs ≡ self.old.pairs }
@@ -29,7 +29,7 @@ impl<K: Key, V: Drop, S: BuildHasher + Drop> SparseSecondaryMap<K, V, S> {
         self.slots.reserve(additional)
     }
 
-    // Puts the value under a key at whose index nothing stands, where there is memory.
+    // Puts the value under a key whose index is vacant, if there is memory for it.
     pub(crate) fn store(&mut self, key: K, value: V)
         requires not_null { is_null (K.data_of key) ≡ false }
         requires absent { map.get self.old.pairs (K.data_of key).index ≡ None }
@@ -43,7 +43,7 @@ impl<K: Key, V: Drop, S: BuildHasher + Drop> SparseSecondaryMap<K, V, S> {
         drop(stored.unwrap());
     }
 
-    // The same, where memory may be lacking.
+    // The same, if there may be no memory for it.
     pub(crate) fn add(&mut self, key: K, value: V) -> Result<(), PutError<V>>
         requires not_null { is_null (K.data_of key) ≡ false }
         requires absent { map.get self.old.pairs (K.data_of key).index ≡ None }
@@ -61,8 +61,8 @@ impl<K: Key, V: Drop, S: BuildHasher + Drop> SparseSecondaryMap<K, V, S> {
         Ok(())
     }
 
-    // Puts the value over what stands at the index of the key, unless that is newer; or hands the
-    // value back, where nothing stands there.
+    // Puts the value over what is at the key's index, unless that is newer. If nothing is there,
+    // returns the value as an error.
     pub(crate) fn put_over(&mut self, key: K, value: V) -> Result<Option<V>, V>
         ensures value { IfOk result (λ before. before ≡ get self.old.pairs (K.data_of key)) }
         ensures ok { OnOk result (self.new ≡ record self.old { pairs = put self.old.pairs (K.data_of key) value }) }
@@ -78,36 +78,35 @@ impl<K: Key, V: Drop, S: BuildHasher + Drop> SparseSecondaryMap<K, V, S> {
         Ok(replace(slot, key.version(), value))
     }
 
-    /// Gives the key the value, in place of what stands at its index, and answers the value that
-    /// the key had.
+    /// Inserts a value under a key, and returns the value that the key had.
     ///
-    /// Where the key is null, or older than the one that stands at its index, nothing changes, the
-    /// answer is none, and the value is dropped. An older key that stood there is gone from then
-    /// on, and its value is dropped.
+    /// An older key at the same index is removed, and its value is dropped. If the key is null, or
+    /// older than the key at its index, nothing changes: the value is dropped, and `None` is
+    /// returned.
     ///
-    /// Where memory was refused the map holds what it held, and the value comes back in the error; in
-    /// Rust the program ends. It is asked for only where nothing stands at the key's index, and isn't
-    /// refused where the map holds fewer keys than `capacity()`. Constant time, unless the keys move.
+    /// If the allocation fails, the map holds what it held and the error holds the value; Rust
+    /// aborts. A call allocates only if nothing is at the key's index, and never fails while the
+    /// map holds fewer keys than `capacity()`. Takes constant time, except if the keys move.
     ///
     /// ```
-    /// let newer = DefaultKey::from(KeyData::new(1, 3));
-    /// assert_eq!(rt; names.insert(newer, 5)?, None);
-    /// assert_eq!(rt; names.insert(newer, 6)?, Some(5));
-    /// let older = DefaultKey::from(KeyData::new(1, 1));
-    /// assert_eq!(rt; names.insert(older, 7)?, None);
-    /// assert_eq!(rt; names.get(newer).copied(), Some(6));
+    /// assert_eq!(rt; map.insert(a, 5)?, Some(1));
+    /// primary.remove(a);
+    /// let newer = primary.insert(30)?; // reuses the slot of a
+    /// assert_eq!(rt; map.insert(newer, 6)?, None);
+    /// assert_eq!(rt; map.insert(a, 7)?, None); // older: without effect
+    /// assert_eq!(rt; map[newer], 6);
     /// ```
     pub fn insert(&mut self, key: K, value: V) -> Result<Option<V>, PutError<V>>
         ensures value { IfOk result (λ before. before ≡ get self.old.pairs (K.data_of key)) }
         ensures ok { OnOk result (self.new.pairs ≡ put self.old.pairs (K.data_of key) value) }
 
-        // Memory is refused only where nothing stands at the index, and the map is at its capacity.
+        // Fails only if nothing is at the index, and the map is at its capacity.
         ensures err { IfErr result (λ error. RefusesPut self.old.pairs (K.data_of key) value error.0) }
         ensures absent { OnErr result (map.get self.old.pairs (K.data_of key).index ≡ None) }
         ensures unchanged { OnErr result (self.new.pairs ≡ self.old.pairs) }
         ensures room { map.len self.old.pairs < self.old.capacity → IsOk result }
 
-        // Memory is asked for only where nothing stands at the index, and never for the null key.
+        // Allocates only if nothing is at the index, and never for the null key.
         ensures stood { map.contains_key self.old.pairs (K.data_of key).index ≡ true
             → self.new.capacity ≡ self.old.capacity }
         ensures null { is_null (K.data_of key) ≡ true → self.new ≡ self.old }
@@ -125,22 +124,28 @@ impl<K: Key, V: Drop, S: BuildHasher + Drop> SparseSecondaryMap<K, V, S> {
         }
     }
 
-    /// Gives the key the value where its entry is vacant, and else hands the value back.
+    /// Inserts a value under a key if the key's entry is vacant, and returns the value otherwise.
     ///
-    /// `NoEntry` where `entry` would answer none, and `Kept` where the key has a value. `Memory`
-    /// where memory was refused, which is asked for only where nothing stands at the key's index; so
-    /// an older pair never leaves for a refused one, as it does with `entry`. Only `Placed` changes
-    /// what the map holds. It costs what `insert` does. Rust lacks this call.
+    /// The result is one of these:
+    ///
+    /// - `Placed`: the value was inserted, as by `insert`.
+    /// - `Kept`: the key has a value already.
+    /// - `NoEntry`: `entry` would return `None`.
+    /// - `Memory`: the allocation failed. A call allocates only if nothing is at the key's index.
+    ///   So an older key stays in the map, which `entry` would have removed.
+    ///
+    /// Only `Placed` changes what the map holds. It costs what `insert` does. Rust lacks this call.
     ///
     /// ```
-    /// assert!(rt; matches!(names.or_put(key, 5), OrPut::Placed));
-    /// assert!(rt; matches!(names.or_put(key, 6), OrPut::Kept(6)));
+    /// assert!(rt; matches!(map.or_put(b, 5), OrPut::Placed));
+    /// assert!(rt; matches!(map.or_put(b, 6), OrPut::Kept(6)));
+    /// assert!(rt; matches!(map.or_put(DefaultKey::null(), 7), OrPut::NoEntry(7)));
     /// ```
     pub fn or_put(&mut self, key: K, value: V) -> OrPut<V>
         ensures does { OrPuts false self.old.pairs (K.data_of key) value result self.new.pairs }
         ensures room { result ≡ or_put.Memory value → self.old.capacity ≤ map.len self.old.pairs }
 
-        // Memory is asked for only where nothing stands at the index, and never for the null key.
+        // Allocates only if nothing is at the index, and never for the null key.
         ensures stood { map.contains_key self.old.pairs (K.data_of key).index ≡ true
             → self.new.capacity ≡ self.old.capacity }
         ensures null { is_null (K.data_of key) ≡ true → self.new ≡ self.old }
@@ -158,8 +163,8 @@ impl<K: Key, V: Drop, S: BuildHasher + Drop> SparseSecondaryMap<K, V, S> {
     }
 }
 
-// Puts the value in place of what stands there, unless that is newer, and answers the value that the
-// version had.
+// Puts the value over what is in a slot, unless that is newer. Returns the value that the version
+// had.
 fn replace<V: Drop>(slot: &mut (u32, V), version: u32, value: V) -> Option<V>
     ensures value { result ≡ value_at version (Some slot.old) }
     ensures puts { slot.new ≡ put_over version value slot.old }

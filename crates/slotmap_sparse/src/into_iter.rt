@@ -1,4 +1,4 @@
-//! The walk that takes a map apart.
+//! The iterator that consumes a map.
 
 ghost use Rattle.std.specs.Prelude.{◌≡◌, ◌≤◌, length, Some, IfSome};
 ghost use Rattle.std.specs.Iterator.{YieldsFirstBy, item_count, at_most, UpTo};
@@ -12,12 +12,12 @@ use std::collections::hash_map;
 use std::hash::BuildHasher;
 use std::marker::{Model, PhantomData};
 
-/// A walk over the keys of a map and their values, by value and in an open order: what a `for` over
-/// a map takes.
+/// An iterator over the keys of a map and their values, by value and in any order: a `for` over a
+/// map uses it.
 ///
-/// A contract sees it as the list of the pairs that are still to come. At its end it stays there.
-/// Each step is made in constant time, and takes no memory. Values that it has not handed out are
-/// dropped with it.
+/// A contract sees it as the list of the pairs that are left. After its end it yields nothing more.
+/// Each step takes constant time and allocates nothing. Values that it hasn't yielded are dropped
+/// with it.
 #[derive(Drop)]
 pub struct IntoIter<K, V> {
     pairs: hash_map::IntoIter<u32, (u32, V), Global>,
@@ -37,7 +37,14 @@ impl<K, V> Model for IntoIter<K, V> {
 }
 
 impl<K, V: Drop> IntoIter<K, V> {
-    /// How many pairs are still to come, in constant time.
+    /// Returns how many pairs are left, in constant time.
+    ///
+    /// ```
+    /// let mut pairs = map.into_iter();
+    /// assert_eq!(rt; pairs.len(), 1);
+    /// assert!(rt; pairs.next() == Some((a, 1)));
+    /// assert_eq!(rt; pairs.len(), 0);
+    /// ```
     pub fn len(&self) -> usize
         ensures { result ≡ length self.now }
     {

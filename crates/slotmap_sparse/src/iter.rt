@@ -1,4 +1,4 @@
-//! Walks over the keys and values of a map.
+//! Iterators over the keys and values of a map.
 
 ghost use Rattle.std.specs.Prelude.{◌≡◌, ◌≤◌, length, Some, IfSome, IfNone, true, ⊤};
 ghost use Rattle.std.specs.Iterator.{YieldsFirstBy, item_count, at_most, UpTo};
@@ -14,10 +14,11 @@ use std::collections::hash_map;
 use std::hash::BuildHasher;
 use std::marker::{Model, PhantomData};
 
-/// A walk over the keys of a map and their values, in an open order: see [`SparseSecondaryMap::iter`].
+/// An iterator over the keys of a map and their values, in any order: see
+/// [`SparseSecondaryMap::iter`].
 ///
-/// A contract sees it as the list of the pairs that are still to come. At its end it stays there. A
-/// clone of it walks over the same pairs, and takes no memory.
+/// A contract sees it as the list of the pairs that are left. After its end it yields nothing more.
+/// A clone of it yields the same pairs; cloning allocates nothing.
 #[derive(Drop)]
 pub struct Iter<'a, K, V> {
     pairs: hash_map::Iter<'a, u32, (u32, V)>,
@@ -37,7 +38,14 @@ impl<'a, K, V> Model for Iter<'a, K, V> {
 }
 
 impl<'a, K, V> Iter<'a, K, V> {
-    /// How many pairs are still to come, in constant time.
+    /// Returns how many pairs are left, in constant time.
+    ///
+    /// ```
+    /// let mut pairs = map.iter();
+    /// assert_eq!(rt; pairs.len(), 1);
+    /// assert!(rt; matches!(pairs.next(), Some((key, 1)) if key == a));
+    /// assert_eq!(rt; pairs.len(), 0);
+    /// ```
     pub fn len(&self) -> usize
         ensures { result ≡ length self.now }
     {
@@ -84,10 +92,10 @@ impl<'a, K: Key, V> Iterator for Iter<'a, K, V> {
     }
 }
 
-/// A walk over the keys of a map, in an open order: see [`SparseSecondaryMap::keys`].
+/// An iterator over the keys of a map, in any order: see [`SparseSecondaryMap::keys`].
 ///
-/// A contract sees it as the list of the keys that are still to come. At its end it stays there. A
-/// clone of it walks over the same keys, and takes no memory.
+/// A contract sees it as the list of the keys that are left. After its end it yields nothing more.
+/// A clone of it yields the same keys; cloning allocates nothing.
 #[derive(Drop)]
 pub struct Keys<'a, K, V> {
     pairs: Iter<'a, K, V>,
@@ -103,7 +111,14 @@ impl<'a, K, V> Model for Keys<'a, K, V> {
 }
 
 impl<'a, K, V> Keys<'a, K, V> {
-    /// How many keys are still to come, in constant time.
+    /// Returns how many keys are left, in constant time.
+    ///
+    /// ```
+    /// let mut keys = map.keys();
+    /// assert_eq!(rt; keys.len(), 1);
+    /// assert!(rt; keys.next() == Some(a));
+    /// assert_eq!(rt; keys.len(), 0);
+    /// ```
     pub fn len(&self) -> usize
         ensures { result ≡ length self.now }
     {
@@ -145,10 +160,10 @@ impl<'a, K: Key, V> Iterator for Keys<'a, K, V> {
     }
 }
 
-/// A walk over the values of a map, in an open order: see [`SparseSecondaryMap::values`].
+/// An iterator over the values of a map, in any order: see [`SparseSecondaryMap::values`].
 ///
-/// A contract sees it as the list of the values that are still to come. At its end it stays there.
-/// A clone of it walks over the same values, and takes no memory.
+/// A contract sees it as the list of the values that are left. After its end it yields nothing
+/// more. A clone of it yields the same values; cloning allocates nothing.
 #[derive(Drop)]
 pub struct Values<'a, K, V> {
     pairs: Iter<'a, K, V>,
@@ -163,7 +178,14 @@ impl<'a, K, V> Model for Values<'a, K, V> {
 }
 
 impl<'a, K, V> Values<'a, K, V> {
-    /// How many values are still to come, in constant time.
+    /// Returns how many values are left, in constant time.
+    ///
+    /// ```
+    /// let mut values = map.values();
+    /// assert_eq!(rt; values.len(), 1);
+    /// assert_eq!(rt; values.next().copied(), Some(1));
+    /// assert_eq!(rt; values.len(), 0);
+    /// ```
     pub fn len(&self) -> usize
         ensures { result ≡ length self.now }
     {
@@ -206,14 +228,15 @@ impl<'a, K: Key, V> Iterator for Values<'a, K, V> {
 }
 
 impl<K: Key, V, S: BuildHasher> SparseSecondaryMap<K, V, S> {
-    /// A walk over the keys and their values, in an open order.
+    /// Returns an iterator over the keys and their values, in any order.
     ///
-    /// It is made in constant time, and so is each step; it takes no memory. No walk lends the values
-    /// for writing: call `retain` with a closure that writes and answers true.
+    /// The call takes constant time, and so does each step. Neither allocates. To change values
+    /// call `retain` with a closure that writes and returns true.
     ///
     /// ```
-    /// for (key, name) in names.iter() {
-    ///     println!(rt; "{key:?}: {name}")?;
+    /// map.insert(b, 2)?;
+    /// for (key, value) in map.iter() {
+    ///     assert_eq!(rt; *value, map[key]);
     /// }
     /// ```
     pub fn iter(&self) -> Iter<'_, K, V>
@@ -226,9 +249,15 @@ impl<K: Key, V, S: BuildHasher> SparseSecondaryMap<K, V, S> {
         }
     }
 
-    /// A walk over the keys, in an open order.
+    /// Returns an iterator over the keys, in any order.
     ///
     /// It costs the same as [`SparseSecondaryMap::iter`].
+    ///
+    /// ```
+    /// for key in map.keys() {
+    ///     assert!(rt; key == a);
+    /// }
+    /// ```
     pub fn keys(&self) -> Keys<'_, K, V>
         ensures listing { IsKeyListing (keyed self.now.pairs) result }
         ensures valid { IsContent self.now }
@@ -236,9 +265,15 @@ impl<K: Key, V, S: BuildHasher> SparseSecondaryMap<K, V, S> {
         Keys { pairs: self.iter() }
     }
 
-    /// A walk over the values of the keys, in an open order.
+    /// Returns an iterator over the values, in any order.
     ///
     /// It costs the same as [`SparseSecondaryMap::iter`].
+    ///
+    /// ```
+    /// for value in map.values() {
+    ///     assert_eq!(rt; *value, 1);
+    /// }
+    /// ```
     pub fn values(&self) -> Values<'_, K, V>
         ensures listing { IsValueListing (keyed self.now.pairs) result }
         ensures valid { IsContent self.now }

@@ -1,11 +1,11 @@
-//! `SparseSecondaryMap`: values under keys that another map hands out, in a hash map.
+//! `SparseSecondaryMap`: values under the keys of another map, in a hash map.
 //!
-//! Clauses see a map as its content: at each index one version at most, with its value (`Pairs` of
-//! the core); and for how many keys there is memory.
+//! Clauses see a map as its content: for each index at most one version with its value (`Pairs` in
+//! `slotmap_core`); and for how many keys there is memory.
 //!
-//! In clauses `value` is what a look-up or a removal answers, `ok` what a success did, `err` why a
-//! call is refused and what comes back, `unchanged` what a refusal leaves, `room` that memory isn't
-//! refused where there is some already, and `valid` what holds of the content always.
+//! Names of clauses: `value` is what a look-up or a removal returns. `ok` is what a success did.
+//! `err` is why a call fails and what its error holds. `unchanged` is what a failure leaves. `room`
+//! says when a call can't run out of memory. `valid` is what always holds of the content.
 #![tactic(auto)]
 
 ghost use Rattle.std.specs.Prelude.{◌≡◌, ◌≤◌, ◌↔◌, IsTrue, IfOk, OnOk, IfErr, IsOk};
@@ -42,41 +42,41 @@ use std::marker::{Model, PhantomData};
 
 /// The hasher of a map that names no other.
 ///
-/// Its seed is fixed and public: who picks the keys can pick many whose hashes collide, and then each
-/// call takes time linear in their number. Where a stranger picks keys, or writes a list that is read,
-/// hand a `RandomState` to [`SparseSecondaryMap::with_hasher`],
+/// Its seed is fixed and public. Whoever chooses the keys can choose many whose hashes collide, and
+/// then each call takes time linear in their number. If strangers choose the keys, or write a list
+/// that is read, use a `RandomState` with [`SparseSecondaryMap::with_hasher`],
 /// [`SparseSecondaryMap::from_slots_with_hasher`] or [`SparseSecondaryMap::from_iter_with_hasher`].
 pub type DefaultHasher = BuildHasherDefault<FoldHasher>;
 
-/// Values under keys that another map hands out: what a program keeps beside a map, for few of its
-/// keys.
+/// A map from the keys of another map to further values, for few of those keys.
 ///
-/// It means what `SecondaryMap` means. It holds one key at most for each index: a newer key takes
-/// the place of an older one, and never the other way round, so what is put under a key of a removed
-/// value is never seen under the key that follows it. Versions go round: of two that are more than
-/// 2147483648 apart the greater is the older one. Index 0, which no other map hands out, is an index
-/// like any other here.
+/// For each index it holds at most one key:
 ///
-/// It takes memory for the keys that it holds alone, where `SecondaryMap` takes it for each place up
-/// to the greatest index. A call on one key takes constant time, as far as the hasher spreads the
-/// indices. The order of its walks is open.
+/// - A newer key replaces an older one at its index, and never the reverse. So a value that was put
+///   under a removed key is never found under the next key of that slot.
+/// - Versions wrap around: of two versions more than 2147483648 apart, the larger one is the older.
+/// - Index 0, which no primary map hands out, is an index like any other here.
 ///
-/// The default hasher's seed is fixed and public, so keys can be picked that make it slow. Where a
-/// stranger picks the keys name another hasher, a `RandomState` for one ([`DefaultHasher`] says more).
+/// It needs memory for its own keys alone, where `SecondaryMap` needs it for each index up to the
+/// largest. A call on one key takes constant time if the hasher spreads the indices. Iterators
+/// yield in any order.
 ///
-/// The hash map below holds 2415919104 keys at most. Beyond that a call for memory is refused, as if
-/// memory ran out, though no limit of this map is met.
+/// The default hasher has a fixed, public seed, so keys can be chosen that make it slow. If
+/// strangers choose the keys, name another hasher, such as `RandomState`: see [`DefaultHasher`].
+///
+/// The hash map below holds 2415919104 keys at most. Beyond that, calls fail as if memory ran out.
 ///
 /// ```
-/// let mut ages: SlotMap<DefaultKey, u32> = SlotMap::new(alloc)?;
-/// let mut names: SparseSecondaryMap<DefaultKey, u32> = SparseSecondaryMap::new(alloc)?;
-/// let key = ages.insert(5)?;
-/// names.insert(key, 7)?;
-/// assert_eq!(rt; names.get(key).copied(), Some(7));
+/// map.insert(b, 2)?;
+/// assert_eq!(rt; primary[a], 10);
+/// assert_eq!(rt; map[a], 1);
+/// primary.remove(b);
+/// let next = primary.insert(30)?;
+/// assert!(rt; map.get(next).is_none());
 /// ```
 #[derive(Drop)]
 pub struct SparseSecondaryMap<K, V, S: BuildHasher = DefaultHasher> {
-    // Under each index the version that stands there, and its value.
+    // For each index the version of its key, and the value.
     slots: HashMap<u32, (u32, V), S, Global>,
     // For the lists that the map is written as.
     alloc: Global,
@@ -96,15 +96,17 @@ impl<K, V, S: BuildHasher> Model for SparseSecondaryMap<K, V, S> {
     ghost invariant = { λ m. IsSound m.slots.entries };
 }
 
-// As many indices have keys that aren't null.
+// The number of indices that keys other than the null key have.
 const MOST_KEYS: usize = 4294967295;
 
 impl<K: Key, V: Drop> SparseSecondaryMap<K, V> {
-    /// An empty map with the default hasher. It takes no memory, and is never refused.
+    /// Makes an empty map with the default hasher.
+    ///
+    /// Allocates nothing and never fails.
     ///
     /// ```
-    /// let names: SparseSecondaryMap<DefaultKey, u32> = SparseSecondaryMap::new(alloc)?;
-    /// assert!(rt; names.is_empty());
+    /// let empty: SparseSecondaryMap<DefaultKey, u64> = SparseSecondaryMap::new(alloc)?;
+    /// assert!(rt; empty.is_empty());
     /// ```
     pub fn new(alloc: Global) -> Result<Self, ReserveError>
         ensures ok { IsOk result }
@@ -114,9 +116,16 @@ impl<K: Key, V: Drop> SparseSecondaryMap<K, V> {
         SparseSecondaryMap::with_hasher(alloc, BuildHasherDefault::new())
     }
 
-    /// An empty map with the default hasher, and with memory for `capacity` keys.
+    /// Makes an empty map with memory for `capacity` keys, and with the default hasher.
     ///
-    /// `TooGreat` exactly where that is over 4294967295, else `Memory` where memory was refused.
+    /// Fails with `TooGreat` if and only if `capacity` exceeds 4294967295, else with `Memory` if
+    /// the allocation fails.
+    ///
+    /// ```
+    /// let empty: SparseSecondaryMap<DefaultKey, u64> =
+    ///     SparseSecondaryMap::with_capacity(alloc, 100)?;
+    /// assert!(rt; empty.capacity() >= 100);
+    /// ```
     pub fn with_capacity(alloc: Global, capacity: usize) -> Result<Self, ReserveError>
         ensures empty { IfOk result (λ made. made.pairs ≡ map.empty) }
         ensures capacity { IfOk result (λ made. capacity ≤ made.capacity) }
@@ -129,8 +138,16 @@ impl<K: Key, V: Drop> SparseSecondaryMap<K, V> {
 }
 
 impl<K: Key, V: Drop, S: BuildHasher + Drop> SparseSecondaryMap<K, V, S> {
-    /// An empty map with this hasher, a `RandomState` for one. It takes no memory, and is never
-    /// refused.
+    /// Makes an empty map with this hasher, such as a `RandomState`.
+    ///
+    /// Allocates nothing and never fails.
+    ///
+    /// ```
+    /// let hasher = std::hash::RandomState::new(&rt)?;
+    /// let mut safe = SparseSecondaryMap::with_hasher(alloc, hasher)?;
+    /// safe.insert(a, 5)?;
+    /// assert_eq!(rt; safe[a], 5);
+    /// ```
     pub fn with_hasher(alloc: Global, hash_builder: S) -> Result<Self, ReserveError>
         ensures ok { IsOk result }
         ensures empty { IfOk result (λ made. made.pairs ≡ map.empty) }
@@ -151,9 +168,17 @@ impl<K: Key, V: Drop, S: BuildHasher + Drop> SparseSecondaryMap<K, V, S> {
         }
     }
 
-    /// An empty map with this hasher, and with memory for `capacity` keys.
+    /// Makes an empty map with memory for `capacity` keys, and with this hasher.
     ///
-    /// `TooGreat` exactly where that is over 4294967295, else `Memory` where memory was refused.
+    /// Fails with `TooGreat` if and only if `capacity` exceeds 4294967295, else with `Memory` if
+    /// the allocation fails.
+    ///
+    /// ```
+    /// let hasher = std::hash::RandomState::new(&rt)?;
+    /// let mut safe = SparseSecondaryMap::with_capacity_and_hasher(alloc, 100, hasher)?;
+    /// assert!(rt; safe.capacity() >= 100);
+    /// safe.insert(a, 5)?;
+    /// ```
     pub fn with_capacity_and_hasher(
         alloc: Global,
         capacity: usize,
@@ -175,7 +200,13 @@ impl<K: Key, V: Drop, S: BuildHasher + Drop> SparseSecondaryMap<K, V, S> {
         })
     }
 
-    /// The number of keys. Constant time.
+    /// Returns the number of keys, in constant time.
+    ///
+    /// ```
+    /// assert_eq!(rt; map.len(), 1);
+    /// map.remove(a);
+    /// assert_eq!(rt; map.len(), 0);
+    /// ```
     pub fn len(&self) -> usize
         ensures value { result ≡ map.len self.now.pairs }
         ensures valid { IsContent self.now }
@@ -183,7 +214,13 @@ impl<K: Key, V: Drop, S: BuildHasher + Drop> SparseSecondaryMap<K, V, S> {
         self.slots.len()
     }
 
-    /// Whether no key is in the map. Constant time.
+    /// Returns whether the map has no key, in constant time.
+    ///
+    /// ```
+    /// assert!(rt; !map.is_empty());
+    /// map.remove(a);
+    /// assert!(rt; map.is_empty());
+    /// ```
     pub fn is_empty(&self) -> bool
         ensures value { IsTrue result ↔ (map.len self.now.pairs ≡ 0) }
         ensures valid { IsContent self.now }
@@ -191,9 +228,14 @@ impl<K: Key, V: Drop, S: BuildHasher + Drop> SparseSecondaryMap<K, V, S> {
         self.len() == 0
     }
 
-    /// For how many keys there is memory. Constant time.
+    /// Returns the number of keys for which there is memory, in constant time.
     ///
-    /// An insert isn't refused where the map holds fewer keys.
+    /// An insert never fails while the map holds fewer keys.
+    ///
+    /// ```
+    /// map.reserve(100)?;
+    /// assert!(rt; map.capacity() >= 101);
+    /// ```
     pub fn capacity(&self) -> usize
         ensures value { result ≡ self.now.capacity }
         ensures fits { map.len self.now.pairs ≤ result }
@@ -202,15 +244,17 @@ impl<K: Key, V: Drop, S: BuildHasher + Drop> SparseSecondaryMap<K, V, S> {
         self.slots.capacity()
     }
 
-    /// Makes memory for `additional` keys more: so many inserts that follow aren't refused.
+    /// Reserves memory for `additional` more keys: the next `additional` inserts succeed.
     ///
-    /// `TooGreat` exactly where the keys and `additional` are more than 4294967295, else `Memory`
-    /// where memory was refused; the map holds what it held. Where there is memory already nothing
-    /// is refused. Linear in the number of keys where they move, else constant time.
+    /// Fails with `TooGreat` if and only if the keys plus `additional` exceed 4294967295, else with
+    /// `Memory` if the allocation fails. In either case the map holds what it held. It never fails
+    /// if there is memory already. Takes time linear in the number of keys if they move, else
+    /// constant time.
     ///
     /// ```
-    /// names.reserve(100)?;
-    /// assert!(rt; names.capacity() >= names.len() + 100);
+    /// map.reserve(100)?;
+    /// assert!(rt; map.capacity() >= map.len() + 100);
+    /// assert!(rt; map.insert(b, 2).is_ok()); // can't run out of memory
     /// ```
     pub fn reserve(&mut self, additional: usize) -> Result<(), ReserveError>
         ensures makes_room { MakesRoom additional self.old result self.new }
@@ -223,7 +267,13 @@ impl<K: Key, V: Drop, S: BuildHasher + Drop> SparseSecondaryMap<K, V, S> {
         Ok(())
     }
 
-    /// The same as `reserve`, which answers a `Result` here too.
+    /// Does the same as [`SparseSecondaryMap::reserve`], which returns a `Result` here too.
+    ///
+    /// ```
+    /// assert!(rt; map.try_reserve(100).is_ok());
+    /// let failed = map.try_reserve(4294967295);
+    /// assert!(rt; matches!(failed, Err(ReserveError::TooGreat)));
+    /// ```
     pub fn try_reserve(&mut self, additional: usize) -> Result<(), ReserveError>
         ensures makes_room { MakesRoom additional self.old result self.new }
         ensures valid { IsContent self.new }

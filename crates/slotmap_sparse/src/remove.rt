@@ -1,4 +1,4 @@
-//! The calls that take one value out.
+//! The calls that remove one value.
 
 ghost use Rattle.std.specs.Prelude.{◌≡◌, ◌≤◌, Some, IfNone, true};
 ghost use Rattle.std.specs.FinMap as map;
@@ -10,14 +10,14 @@ use slotmap_core::keys::Key;
 use std::hash::BuildHasher;
 
 impl<K: Key, V: Drop, S: BuildHasher + Drop> SparseSecondaryMap<K, V, S> {
-    /// Takes a key's value out, or answers none where the key isn't in the map, which stays as it
-    /// is then.
+    /// Removes a key and returns its value, or `None` if the key isn't in the map.
     ///
-    /// Constant time. It takes no memory, and afterwards there is memory for no fewer keys more.
+    /// If it isn't, nothing changes. Takes constant time and allocates nothing. The map then has
+    /// memory for at least as many more keys as before.
     ///
     /// ```
-    /// assert_eq!(rt; names.remove(key), Some(7));
-    /// assert_eq!(rt; names.remove(key), None);
+    /// assert_eq!(rt; map.remove(a), Some(1));
+    /// assert_eq!(rt; map.remove(a), None);
     /// ```
     pub fn remove(&mut self, key: K) -> Option<V>
         ensures value { result ≡ get self.old.pairs (K.data_of key) }
@@ -33,7 +33,7 @@ impl<K: Key, V: Drop, S: BuildHasher + Drop> SparseSecondaryMap<K, V, S> {
         }
     }
 
-    // Takes the value of a key that is in the map out.
+    // Removes a key that is in the map, and returns its value.
     pub(crate) fn take_live(&mut self, key: K) -> V
         requires { contains_key self.old.pairs (K.data_of key) ≡ true }
         ensures value { get self.old.pairs (K.data_of key) ≡ Some result }
@@ -45,7 +45,7 @@ impl<K: Key, V: Drop, S: BuildHasher + Drop> SparseSecondaryMap<K, V, S> {
         value
     }
 
-    // Takes out what stands at the index of a key, whatever its version.
+    // Removes what is at the index of a key, whatever its version.
     pub(crate) fn take_slot(&mut self, key: K) -> Option<(u32, V)>
         ensures value { result ≡ map.get self.old.pairs (K.data_of key).index }
         ensures removes { self.new.pairs ≡ map.remove self.old.pairs (K.data_of key).index }

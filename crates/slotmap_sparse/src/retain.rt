@@ -1,4 +1,4 @@
-//! The call that goes over all keys and takes out what its closure refuses.
+//! The call that visits all keys, and removes those that its closure rejects.
 
 ghost use Rattle.std.specs.Prelude.{◌≡◌, ◌≤◌};
 ghost use Rattle.slotmap_core.specs.Key.{key_from};
@@ -12,22 +12,27 @@ use slotmap_core::keys::{Key, KeyData};
 use std::hash::BuildHasher;
 
 impl<K: Key, V: Drop, S: BuildHasher + Drop> SparseSecondaryMap<K, V, S> {
-    /// Calls `f` once at each key and its value, and takes out the keys at which it answers `false`.
+    /// Calls `f` once for each key and its value, and removes the keys for which it returns false.
     ///
-    /// The caller shows that `f` may be called at each pair of the map, and at no other value: where
-    /// all values are below 10, a closure that adds 1 to each will do.
+    /// The caller has to prove that `f` may be called for each pair of the map, and for no other.
+    /// For example, if all values are below 10, `f` may add 1 to each.
     ///
-    /// What `f` writes to a value that stays is kept; so a closure that writes and answers `true`
-    /// stands for Rust's `iter_mut` and `values_mut`. The order of the visits is open. Linear in the
-    /// number of keys. It takes no memory, and afterwards there is memory for no fewer keys more.
+    /// What `f` writes to a value that stays is kept. So a closure that writes and returns true
+    /// replaces Rust's `iter_mut` and `values_mut`. The keys are visited in any order. Takes time
+    /// linear in the number of keys, and allocates nothing. The map then has memory for at least as
+    /// many more keys as before.
     ///
     /// ```
-    /// names.retain(|_, name| *name % 2 == 0);
+    /// map.insert(b, 2)?;
+    /// map.retain(|_, value| *value % 2 == 0);
+    /// assert!(rt; !map.contains_key(a));
+    /// assert!(rt; map.contains_key(b));
     /// ```
     pub fn retain<F: FnMut(K, &mut V) -> bool>(&mut self, mut f: F)
     where
         F: Drop,
-        // At each pair of the map, as calls at other pairs leave the closure.
+        // For each pair of the map, from each state that calls for other pairs leave the closure
+        // in.
         requires { CallableOnEach F.FnMut K.data_of f (keyed self.old.pairs) }
         ensures retained { RetainsBy F.FnMut K.data_of f (keyed self.old.pairs) (keyed self.new.pairs) }
         ensures room { room self.old ≤ room self.new }
@@ -43,7 +48,7 @@ impl<K: Key, V: Drop, S: BuildHasher + Drop> SparseSecondaryMap<K, V, S> {
     }
 }
 
-// Shows the closure a key and its value.
+// Calls the closure for a key and its value.
 fn visit<K: Key, V, F: FnMut(K, &mut V) -> bool>(f: &mut F, index: u32, slot: &mut (u32, V)) -> bool
     requires { TakesPair F.FnMut K.data_of f.old index slot.old }
     ensures called { (key : K) × (K.data_of key ≡ key_from index slot.old.0)

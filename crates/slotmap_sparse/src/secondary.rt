@@ -1,4 +1,4 @@
-//! The map as one whose keys another map hands out.
+//! The trait `Secondary` for this map.
 
 ghost use Rattle.std.specs.Prelude.{false};
 
@@ -9,7 +9,7 @@ use slotmap_core::secondary::{OrPut, Secondary};
 use std::hash::BuildHasher;
 
 impl<K: Key, V: Drop, S: BuildHasher + Drop> Secondary<K, V> for SparseSecondaryMap<K, V, S> {
-    // Its `or_put` asks for memory only where nothing stands at the index.
+    // `or_put` allocates only if nothing is at the index.
     ghost takes_older = { false };
 
     ghost pairs = { λ m. m.pairs };

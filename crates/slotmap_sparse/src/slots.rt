@@ -17,25 +17,26 @@ use slotmap_core::serial::{SlotRecord, check_slots};
 use std::alloc::Global;
 use std::hash::{BuildHasher, BuildHasherDefault};
 
-// A list that is read as a map is shorter.
+// A list that is read as a map is shorter than this.
 const LIMIT: usize = 4294967294;
 
 impl<K: Key, V: Drop, S: BuildHasher + Drop> SparseSecondaryMap<K, V, S> {
-    /// The map written as a list of slots, one for each place up to the greatest index, and for place
-    /// 0, with clones of the values.
+    /// Returns the map as a list of slots, with clones of the values.
     ///
-    /// A key's place has its value and its odd version; every other place has no value and version
-    /// 0. The map that `from_slots` reads from the list holds the same.
+    /// The list has one record for index 0, and one for each further index up to the largest of a
+    /// key. The slot of a key has the value and the odd version; every other slot has no value and
+    /// version 0. The map that `from_slots` reads from the list holds the same.
     ///
-    /// `OutOfMemory` where memory for the list or for a clone was refused; room for the whole list
-    /// is asked for first. Linear in the greatest index; each value is cloned once. A map that holds
-    /// a key of index 0, or one of index 4294967293, writes a list that `from_slots` refuses. In Rust
-    /// `Serialize` writes the same records.
+    /// It fails with `OutOfMemory` if memory runs out, for the list or for a clone. Memory for the
+    /// whole list is allocated first. Takes time linear in the largest index, and clones each value
+    /// once. A map that holds a key of index 0, or one of index 4294967293, writes a list that
+    /// `from_slots` rejects. In Rust `Serialize` writes the same records.
     ///
     /// ```
-    /// let list = names.to_slots()?;
-    /// let again: SparseSecondaryMap<DefaultKey, u32> = SparseSecondaryMap::from_slots(alloc, list)?;
-    /// assert!(rt; again == names);
+    /// let list = map.to_slots()?;
+    /// let again: SparseSecondaryMap<DefaultKey, u64> =
+    ///     SparseSecondaryMap::from_slots(alloc, list)?;
+    /// assert!(rt; again == map);
     /// ```
     pub fn to_slots(&self) -> Result<Vec<SlotRecord<V>>, OutOfMemory>
     where
@@ -54,7 +55,7 @@ impl<K: Key, V: Drop, S: BuildHasher + Drop> SparseSecondaryMap<K, V, S> {
         Ok(slots)
     }
 
-    // How many places the map is written as.
+    // How many slots the map is written as.
     fn place_count(&self) -> usize
         ensures count { Reaches self.now.pairs result }
         ensures fits { result ≤ 2 ^ 32 }
@@ -70,7 +71,7 @@ impl<K: Key, V: Drop, S: BuildHasher + Drop> SparseSecondaryMap<K, V, S> {
         count
     }
 
-    // The slot of this place in a list, with a clone of the value.
+    // The record of this index in a list, with a clone of the value.
     fn record(&self, index: u32) -> Result<SlotRecord<V>, OutOfMemory>
     where
         V: Clone,
@@ -89,22 +90,28 @@ impl<K: Key, V: Drop, S: BuildHasher + Drop> SparseSecondaryMap<K, V, S> {
         }
     }
 
-    /// The map that a list of slots describes, with this hasher; its values are moved into the map.
+    /// Makes the map that a list of slots describes, with this hasher.
     ///
-    /// Each odd version is that of a key, whose index is the position; the places of even versions
-    /// are empty.
+    /// Each odd version is that of a key, whose index is the position in the list; its value is
+    /// moved into the map. A slot of an even version is vacant.
     ///
-    /// Refusals are looked for in this order, and the list is dropped: `TooMany` where the list has
-    /// 4294967294 slots or more; `FirstNotEmpty` where it is empty or its first version is odd;
-    /// `Inconsistent` with the least position at which a value stands beside an even version, or
-    /// none beside an odd one; `Memory` where memory for the keys was refused. Two passes over the
-    /// list. In Rust `Deserialize` reads such a list, for a hasher that has a default.
+    /// If it fails, the list is dropped. The first of these errors that applies is returned:
     ///
-    /// For a list that a stranger wrote, hand in a `RandomState`.
+    /// - `TooMany`: the list has 4294967294 slots or more.
+    /// - `FirstNotEmpty`: the list is empty, or its first version is odd.
+    /// - `Inconsistent`, with the smallest position of a slot that has a value and an even version,
+    ///   or no value and an odd one.
+    /// - `Memory`: the allocation failed.
+    ///
+    /// Takes time linear in the length of the list, in two passes. In Rust `Deserialize` reads such
+    /// a list, for a hasher that has a default. For a list that a stranger wrote, use a
+    /// `RandomState`.
     ///
     /// ```
-    /// let hasher = RandomState::new(&rt)?;
-    /// let names = SparseSecondaryMap::from_slots_with_hasher(alloc, list, hasher)?;
+    /// let hasher = std::hash::RandomState::new(&rt)?;
+    /// let list = map.to_slots()?;
+    /// let read = SparseSecondaryMap::from_slots_with_hasher(alloc, list, hasher)?;
+    /// assert_eq!(rt; read[a], 1);
     /// ```
     pub fn from_slots_with_hasher(
         alloc: Global,
@@ -114,7 +121,7 @@ impl<K: Key, V: Drop, S: BuildHasher + Drop> SparseSecondaryMap<K, V, S> {
         ensures contents { IfOk result (λ made. keyed made.pairs ≡ contents list.items) }
         ensures valid { IfOk result IsContent }
 
-        // Refusals, the first of which is given.
+        // When it fails: the first error that applies.
         ensures accepted { IsOk result → Accepts list.items 4294967294 }
         ensures err { IfErr result (RefusesStart list.items 4294967294) }
     {
@@ -129,7 +136,7 @@ impl<K: Key, V: Drop, S: BuildHasher + Drop> SparseSecondaryMap<K, V, S> {
         Ok(made)
     }
 
-    // Puts the value of a slot under the key of its version at this index, where nothing stands.
+    // Puts the value of a slot under the key of its version at this index, which is vacant.
     fn read(&mut self, index: u32, slot: SlotRecord<V>) -> Result<(), SlotsError>
         requires below { index < null_key.index }
         requires odd { IsSome slot.value → slot.version % 2 ≡ 1 }
@@ -138,7 +145,7 @@ impl<K: Key, V: Drop, S: BuildHasher + Drop> SparseSecondaryMap<K, V, S> {
         ensures err { IfErr result (λ error. error ≡ SlotsError.Memory) }
         ensures valid { IsContent self.new }
     {
-        // The map is looked at for the clause `valid`.
+        // Reads the map, for the clause `valid`.
         let _ = self.len();
         let SlotRecord { value, version } = slot;
         let Some(value) = value else {
@@ -153,14 +160,23 @@ impl<K: Key, V: Drop, S: BuildHasher + Drop> SparseSecondaryMap<K, V, S> {
 }
 
 impl<K: Key, V: Drop> SparseSecondaryMap<K, V> {
-    /// The map that a list of slots describes, with the default hasher; its values are moved into the
-    /// map. It reads and refuses as [`SparseSecondaryMap::from_slots_with_hasher`], which is the one
-    /// to call where a stranger wrote the list: the default hasher's seed is fixed and public.
+    /// Makes the map that a list of slots describes, with the default hasher.
+    ///
+    /// It does the same as [`SparseSecondaryMap::from_slots_with_hasher`]. Call that one if a
+    /// stranger wrote the list: the default hasher's seed is fixed and public.
+    ///
+    /// ```
+    /// let list = vec![in alloc; SlotRecord { value: None, version: 0 },
+    ///     SlotRecord { value: Some(5), version: 1 }]?;
+    /// let read: SparseSecondaryMap<DefaultKey, u64> =
+    ///     SparseSecondaryMap::from_slots(alloc, list)?;
+    /// assert_eq!(rt; read.get(a).copied(), Some(5));
+    /// ```
     pub fn from_slots(alloc: Global, list: Vec<SlotRecord<V>>) -> Result<Self, SlotsError>
         ensures contents { IfOk result (λ made. keyed made.pairs ≡ contents list.items) }
         ensures valid { IfOk result IsContent }
 
-        // Refusals, the first of which is given.
+        // When it fails: the first error that applies.
         ensures accepted { IsOk result → Accepts list.items 4294967294 }
         ensures err { IfErr result (RefusesStart list.items 4294967294) }
     {
