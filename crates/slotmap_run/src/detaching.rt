@@ -44,15 +44,26 @@ where
     }
 }
 
-/// Runs commands on a map whose keys can be detached, and answers the replies, one for each command
-/// in its order.
+/// Runs commands on a map whose keys can be detached, and returns the replies, one for each
+/// command, in order.
 ///
-/// What `run_detaching_new` says of a new map holds from every state of the machine that fits the
-/// map, and the state at the end fits the map again. So runs one after the other on one map are one
-/// run, whatever closures each is given, and its laws hold of all their lists together. A key that
-/// was detached is answered to no insert, and stays free to be reattached.
+/// The replies and the content are a run of one machine, as [`run_detaching_new`] says, from every
+/// state of the machine that fits the map. The state at the end fits the map again. So several runs
+/// on one map count as one run, even if each has its own closures, and the laws hold of all their
+/// lists together. No insert returns a detached key, which stays free to be reattached.
 ///
-/// The closures, what is asked for, what a refusal leaves, and the cost are those of `run`.
+/// The closures, the allocations, the failures and the cost are those of
+/// [`run`](crate::primary::run).
+///
+/// ```
+/// let mut map: SlotMap<DefaultKey, u64> = SlotMap::new(alloc)?;
+/// let key = map.insert(5)?;
+/// let commands = vec![in alloc; DetachCommand::Detach(key), DetachCommand::Reattach(key, 9)]?;
+/// let replies = run_detaching(alloc, &mut map, commands, |value| *value, |_, _| true, |_| Err(()))
+///     .map_err(|_| OutOfMemory)?;
+/// assert!(rt; matches!(replies.get(0), Some(Reply::Taken(Some(5)))));
+/// assert_eq!(rt; map.get(key).copied(), Some(9));
+/// ```
 pub fn run_detaching<M, K, V, R, E, L, P, N>(
     alloc: Global,
     map: &mut M,
@@ -80,7 +91,7 @@ where
         IfOk result (λ replies. RunFollows (DetachStep what)
         (M.content map.old) commands.items replies.items (M.content map.new)) }
 
-    // Together with an earlier run, and with later ones, whatever closures each is given.
+    // Together with earlier and later runs, whatever closures each is given.
     ensures goes_on { let any = any_closures K.data_of M.REUSES in
         IfOk result (λ replies. RunFollows (DetachStep any)
         (M.content map.old) commands.items replies.items (M.content map.new)) }
@@ -88,10 +99,10 @@ where
         IfOk result (λ replies. Continues (DetachStep any) (DetachLaws K.data_of M.REUSES) M.REUSES
         (M.content map.old) commands.items replies.items (M.content map.new)) }
 
-    // What the replies therefore keep to.
+    // The laws that the replies therefore keep.
     ensures laws { IfOk result (λ replies. DetachLaws K.data_of M.REUSES commands.items replies.items) }
 
-    // Where there is no room for the replies, nothing is run.
+    // If there is no memory for the replies, nothing is run.
     ensures err { IfErr result (λ back. back ≡ commands) }
     ensures unchanged { OnErr result (M.content map.new ≡ M.content map.old) }
 {
@@ -106,27 +117,26 @@ where
     run_all(alloc, &given, map, commands)
 }
 
-/// Runs commands on a new map whose keys can be detached, and answers the map and the replies, one
-/// for each command in its order.
+/// Runs commands on a new map whose keys can be detached, and returns the map and the replies, one
+/// for each command, in order.
 ///
-/// For every list of commands on a new map, with any keys, answers and contents are a run of one
-/// machine over live and detached keys, as `run_new` says it. A key that was detached is answered
-/// to no insert, and stays free to be reattached. Where the commands only insert, remove, detach
-/// and reattach, and none is refused, inserts use the place freed last first: so all maps of this
-/// trait answer the same keys.
+/// For every list of commands, with any keys, the replies and the content are a run of one machine
+/// over live and detached keys, as [`run_new`](crate::primary::run_new) says. No insert returns a
+/// detached key, which stays free to be reattached.
 ///
-/// The closures, what is asked for, what a refusal leaves, and the cost are those of `run_new`.
+/// If the commands only insert, remove, detach and reattach, and none fails, inserts reuse the slot
+/// that was freed last. So all maps of the trait `Detaching` return the same keys.
 ///
-/// ```rust
-/// let first = DefaultKey::from(KeyData::from_ffi(4294967297));
-/// let commands = vec![in alloc;
-///     DetachCommand::Plain(Command::Insert(5)),
-///     DetachCommand::Detach(first),
-///     DetachCommand::Reattach(first, 9),
-///     DetachCommand::Reattach(first, 8)]?;
-/// let made: Result<(SlotMap<DefaultKey, u32>, _), _> =
-///     run_detaching_new(alloc, commands, |value| *value, |_, _| true, |_| Err(()));
-/// // the replies are Key(first), Taken(Some(5)), Done and NotDetached(8)
+/// The closures, the allocations, the failures and the cost are those of `run_new`.
+///
+/// ```
+/// let first = DefaultKey::from(KeyData::new(1, 1));
+/// let commands = vec![in alloc; DetachCommand::Plain(Command::Insert(5)),
+///     DetachCommand::Detach(first), DetachCommand::Reattach(first, 9)]?;
+/// let made: (SlotMap<DefaultKey, u64>, _) = run_detaching_new(alloc, commands,
+///     |value| *value, |_, _| true, |_| Err(())).map_err(|_| OutOfMemory)?;
+/// assert!(rt; matches!(made.1.get(1), Some(Reply::Taken(Some(5)))));
+/// assert_eq!(rt; made.0.get(first).copied(), Some(9));
 /// ```
 pub fn run_detaching_new<M, K, V, R, E, L, P, N>(
     alloc: Global,
@@ -148,7 +158,7 @@ where
     requires keeps { P.IsAlwaysCallable keep }
     requires makes { N.IsAlwaysCallable make }
 
-    // Replies and content are a run of the machine; a short one retires no place.
+    // Replies and content are a run of the machine; a short one retires no slot.
     ensures run { let what = given K.data_of L.Fn look P.Fn keep N.Fn make M.REUSES in
         IfOk result (λ made. RunsAnew (DetachStep what)
         commands.items made.1.items (M.content made.0)) }
@@ -161,12 +171,12 @@ where
         IfOk result (λ made. RunsAnew (DetachStep any)
         commands.items made.1.items (M.content made.0)) }
 
-    // What the replies therefore keep to.
+    // The laws that the replies therefore keep.
     ensures laws { IfOk result (λ made. DetachLaws K.data_of M.REUSES commands.items made.1.items) }
     ensures last_freed_first { IfOk result (λ made.
         LastFreedFirst K.data_of commands.items made.1.items) }
 
-    // Where there is no room for the replies, or no map, nothing is run.
+    // If there is no memory for the replies or the map, nothing is run.
     ensures err { IfErr result (λ back. back ≡ commands) }
 {
     let given = Given {

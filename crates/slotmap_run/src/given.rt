@@ -2,7 +2,7 @@
 
 use std::alloc::Global;
 
-/// The allocator of the lists that are answered, and the closures.
+/// The allocator of the lists that are returned, and the closures: for a primary map.
 #[derive(Drop)]
 pub(crate) struct Given<L, P, N> {
     pub(crate) alloc: Global,
@@ -11,7 +11,7 @@ pub(crate) struct Given<L, P, N> {
     pub(crate) make: N,
 }
 
-/// On a map that holds values under keys of another one.
+/// The closure: for a secondary map.
 #[derive(Drop)]
 pub(crate) struct GivenLook<L> {
     pub(crate) look: L,

@@ -1,4 +1,4 @@
-//! Runs of commands on a map that hands out its keys, and a map beside it that holds values under them.
+//! Runs of commands on a primary map and a secondary map beside it.
 
 ghost use Rattle.std.specs.Prelude.{◌≡◌, ◌+◌, ◌<◌, ◌≤◌, vec_len, vec_capacity, IfOk, IfErr, OnErr};
 ghost use Rattle.slotmap_core.specs.Content.{IsContent};
@@ -16,7 +16,7 @@ use slotmap_core::primary::{Detaching, Primary};
 use slotmap_core::secondary::Secondary;
 use std::alloc::Global;
 
-/// The key that a number names, from 1 on.
+/// The key of a number, from 1 on.
 fn key_named<K: Copy>(keys: &[K], number: usize) -> Option<K>
     ensures { result ≡ named keys.now number }
 {
@@ -26,7 +26,7 @@ fn key_named<K: Copy>(keys: &[K], number: usize) -> Option<K>
     Some(keys[number - 1])
 }
 
-// A primary map, a secondary map beside it, and the keys that inserts answered so far.
+// A primary map, a secondary map beside it, and the keys that inserts returned so far.
 #[derive(Drop)]
 struct Beside<'a, 'b, 'c, M, S, K> {
     primary: &'a mut M,
@@ -97,36 +97,37 @@ where
     }
 }
 
-/// Runs commands on two maps, the primary one, which hands out the keys, and the secondary one,
-/// which holds values under them; and answers the replies, one for each command in its order.
+/// Runs commands on a primary and a secondary map, and returns the replies, one for each command,
+/// in order.
 ///
-/// A number n in a command names the key that the n-th successful insert of this list answered, from
-/// 1 on. Where there is none yet nothing changes, and the reply says so, with the value back.
-/// `Insert` and `Remove` act on the primary map; `Put`, `Look` and `Take` on the secondary one, by
-/// its `insert`, `get` and `remove`. So each command is a step of one of the two maps' machines, or
-/// of none.
+/// A number n in a command stands for the key that the n-th successful insert of this list
+/// returned, from 1 on. If there is no such key yet, nothing changes; the reply says so and holds
+/// the value. `Insert` and `Remove` act on the primary map. `Put`, `Look` and `Take` act on the
+/// secondary map, by its `insert`, `get` and `remove`. So each command is a step of one of the two
+/// maps' machines, or of none.
 ///
-/// On a primary map that never had a place and an empty secondary map, in fewer than 2^31 commands,
-/// a plain dictionary, which knows nothing of ages and indices, tells what stands under each key
-/// that is live or detached: the value that was last put under exactly that key and not taken since.
-/// `Look` shows it, `Take` answers it, and `Put` answers the one before. A value that was put under
-/// a stale key is never seen under such a key.
+/// If the primary map never had a slot, the secondary map is empty, and there are fewer than 2^31
+/// commands, the replies are those of a plain dictionary. It knows nothing of versions and indices.
+/// For each key that is live or detached it holds the value that was last put under exactly that
+/// key, and not taken since. `Look` shows that value, `Take` returns it, and `Put` returns the one
+/// before. A value that was put under a stale key is never found under such a key.
 ///
-/// `look` is shown the value that a `Look` finds.
+/// `look` is called on the value that a `Look` finds; the reply holds what it returns.
 ///
-/// The room for the keys and for the replies is asked for first. Where it is refused no command is
-/// run, both maps are as before, and the commands come back. From then on the commands run in order,
-/// and one that is refused changes nothing and is answered so.
+/// Memory for the keys and for the replies is allocated first. If that fails no command is run,
+/// both maps are as before, and the error holds the commands. After that all commands are run in
+/// order. A command that fails changes nothing, and its reply says so.
 ///
 /// Each command costs one call of one map.
 ///
-/// ```rust
-/// let commands = vec![in alloc;
-///     JoinedCommand::Insert(5), JoinedCommand::Put(1, 50), JoinedCommand::Remove(1),
-///     JoinedCommand::Insert(6), JoinedCommand::Put(2, 60), JoinedCommand::Put(1, 70),
-///     JoinedCommand::Look(2)]?;
-/// let replies = run_joined(alloc, &mut map, &mut beside, commands, |value| *value);
-/// // the old key's second put is without effect; the last reply is Looked(Some(60))
+/// ```
+/// let mut map: SlotMap<DefaultKey, u64> = SlotMap::new(alloc)?;
+/// let mut beside: SecondaryMap<DefaultKey, u64> = SecondaryMap::new(alloc)?;
+/// let commands = vec![in alloc; JoinedCommand::Insert(5), JoinedCommand::Put(1, 50),
+///     JoinedCommand::Remove(1), JoinedCommand::Insert(6), JoinedCommand::Look(2)]?;
+/// let replies = run_joined(alloc, &mut map, &mut beside, commands, |value| *value)
+///     .map_err(|_| OutOfMemory)?;
+/// assert!(rt; matches!(replies.get(4), Some(JoinedReply::Looked(None))));
 /// ```
 pub fn run_joined<M, S, K, V, W, R, L>(
     alloc: Global,
@@ -145,20 +146,22 @@ where
     L: Fn(&W) -> R + Drop,
     requires looks { L.IsAlwaysCallable look }
 
-    // Each command is a step of one of the two maps' machines, or of none; and a run may start here.
+    // Each command is a step of one of the two maps' machines, or of none; and a run may start
+    // here.
     ensures starts { Starts M.REUSES (M.content primary.old) }
     ensures run { let what = given_joined K.data_of L.Fn look M.REUSES in
         IfOk result (λ replies. RunsBeside (Step what)
         (M.content primary.old) (S.pairs secondary.old) commands.items replies.items
         (M.content primary.new) (S.pairs secondary.new)) }
 
-    // On two maps that were never used, a dictionary tells what live and detached keys are answered.
+    // From two maps that were never used, the replies for live and detached keys are a
+    // dictionary's.
     ensures dictionary { let what = given_joined K.data_of L.Fn look M.REUSES in
         IfOk result (λ replies. RunsTold (TellingStep what)
         (M.content primary.old) (S.pairs secondary.old) commands.items replies.items
         (M.content primary.new) (S.pairs secondary.new)) }
 
-    // Where there is no room for the keys or the replies, nothing is run.
+    // If there is no memory for the keys or the replies, nothing is run.
     ensures err { IfErr result (λ back. back ≡ commands) }
     ensures unchanged { OnErr result ((M.content primary.new ≡ M.content primary.old)
         × (S.pairs secondary.new ≡ S.pairs secondary.old)) }
@@ -220,14 +223,24 @@ where
     }
 }
 
-/// Runs commands on a primary map whose keys can be detached and a secondary map beside it, and
-/// answers the replies, one for each command in its order.
+/// Runs commands on a secondary map and a primary map whose keys can be detached, and returns the
+/// replies, one for each command, in order.
 ///
-/// What `run_joined` says holds here, too. `Detach` and `Reattach` act on the primary map; a key that
-/// is detached keeps its value in the secondary map.
+/// It does what [`run_joined`] does. `Detach` and `Reattach` act on the primary map; a key that is
+/// detached keeps its value in the secondary map.
 ///
-/// The closure, the numbers, what is asked for, what a refusal leaves, and the cost are those of
-/// `run_joined`.
+/// The closure, the numbers, the allocations, the failures and the cost are those of `run_joined`.
+///
+/// ```
+/// let mut map: SlotMap<DefaultKey, u64> = SlotMap::new(alloc)?;
+/// let mut beside: SecondaryMap<DefaultKey, u64> = SecondaryMap::new(alloc)?;
+/// let commands = vec![in alloc; JoinedDetachCommand::Plain(JoinedCommand::Insert(5)),
+///     JoinedDetachCommand::Plain(JoinedCommand::Put(1, 50)), JoinedDetachCommand::Detach(1),
+///     JoinedDetachCommand::Plain(JoinedCommand::Look(1))]?;
+/// let replies = run_joined_detaching(alloc, &mut map, &mut beside, commands, |value| *value)
+///     .map_err(|_| OutOfMemory)?;
+/// assert!(rt; matches!(replies.get(3), Some(JoinedReply::Looked(Some(50)))));
+/// ```
 pub fn run_joined_detaching<M, S, K, V, W, R, L>(
     alloc: Global,
     primary: &mut M,
@@ -245,20 +258,22 @@ where
     L: Fn(&W) -> R + Drop,
     requires looks { L.IsAlwaysCallable look }
 
-    // Each command is a step of one of the two maps' machines, or of none; and a run may start here.
+    // Each command is a step of one of the two maps' machines, or of none; and a run may start
+    // here.
     ensures starts { Starts M.REUSES (M.content primary.old) }
     ensures run { let what = given_joined K.data_of L.Fn look M.REUSES in
         IfOk result (λ replies. RunsBeside (DetachStep what)
         (M.content primary.old) (S.pairs secondary.old) commands.items replies.items
         (M.content primary.new) (S.pairs secondary.new)) }
 
-    // On two maps that were never used, a dictionary tells what live and detached keys are answered.
+    // From two maps that were never used, the replies for live and detached keys are a
+    // dictionary's.
     ensures dictionary { let what = given_joined K.data_of L.Fn look M.REUSES in
         IfOk result (λ replies. RunsTold (DetachTellingStep what)
         (M.content primary.old) (S.pairs secondary.old) commands.items replies.items
         (M.content primary.new) (S.pairs secondary.new)) }
 
-    // Where there is no room for the keys or the replies, nothing is run.
+    // If there is no memory for the keys or the replies, nothing is run.
     ensures err { IfErr result (λ back. back ≡ commands) }
     ensures unchanged { OnErr result ((M.content primary.new ≡ M.content primary.old)
         × (S.pairs secondary.new ≡ S.pairs secondary.old)) }

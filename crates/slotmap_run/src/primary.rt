@@ -1,4 +1,4 @@
-//! Runs of commands on the maps that hand out their keys.
+//! Runs of commands on primary maps: the maps that hand out keys.
 
 ghost use Rattle.std.specs.Prelude.{◌≡◌, ◌^◌, ◌<◌, length, Ok, IfOk, IfErr, OnErr, IsErr};
 ghost use Rattle.std.specs.Fn.{FnReturns};
@@ -23,7 +23,7 @@ use slotmap_core::keys::Key;
 use slotmap_core::primary::Primary;
 use std::alloc::Global;
 
-/// Inserts what `make` gives for the new key.
+/// Inserts what `make` returns for the new key.
 fn insert_made<M, K, V, E, N>(map: &mut M, make: &N) -> Result<K, TryInsertError<E>>
 where
     M: Primary<K, V>,
@@ -90,27 +90,35 @@ where
     }
 }
 
-/// Runs commands on a map, and answers the replies, one for each command in its order.
+/// Runs commands on a map, and returns the replies, one for each command, in order.
 ///
-/// What `run_new` says of a new map holds from every state of the machine that fits the map, and
-/// the state at the end fits the map again. So runs one after the other on one map are one run,
-/// whatever closures each is given, and its laws hold of all their lists together: no key comes
-/// twice over all of them.
+/// The replies and the content are a run of one machine, as [`run_new`] says, from every state of
+/// the machine that fits the map. The state at the end fits the map again. So several runs on one
+/// map count as one run, even if each has its own closures. The laws hold of all their lists
+/// together: no two inserts return the same key.
 ///
-/// `look` is shown the value that a `Get` finds. `keep` is called at each live key of a `Retain`; it
-/// may change the value, and answers whether the key stays. `make` gives the value of an
-/// `InsertWith`, or an error, for the key that it will have.
+/// The closures are these:
 ///
-/// The room for the replies is asked for first. Where it is refused no command is run, the map is
-/// as before, and the commands come back. From then on the commands run in order, and one that is
-/// refused changes nothing and is answered so.
+/// - `look` is called on the value that a `Get` finds; the reply holds what it returns.
+/// - `keep` is called for each live key by a `Retain`. It may change the value, and returns whether
+///   the key stays.
+/// - `make` returns the value of an `InsertWith`, or an error. It is called on the key that the
+///   value will have.
 ///
-/// Each command costs one call of the map; `Drain` and `Keys` take a vector for what they answer.
+/// Memory for the replies is allocated first. If that fails no command is run, the map is as
+/// before, and the error holds the commands. After that all commands are run in order. A command
+/// that fails changes nothing, and its reply says so.
 ///
-/// ```rust
-/// let commands = vec![in alloc; Command::Clear, Command::Len]?;
-/// let made = run(alloc, &mut map, commands, |value| *value, |_, _| true, |_| Err(()));
-/// // the replies are Done and Len(0)
+/// Each command costs one call of the map. `Drain` and `Keys` allocate a vector for what they
+/// return.
+///
+/// ```
+/// let mut map: SlotMap<DefaultKey, u64> = SlotMap::new(alloc)?;
+/// let commands = vec![in alloc; Command::Insert(5), Command::InsertWith, Command::Len]?;
+/// let replies = run(alloc, &mut map, commands, |value| *value, |_, _| true, |_| Err(()))
+///     .map_err(|_| OutOfMemory)?;
+/// assert!(rt; matches!(replies.get(1), Some(Reply::Failed(()))));
+/// assert!(rt; matches!(replies.get(2), Some(Reply::Len(1))));
 /// ```
 pub fn run<M, K, V, R, E, L, P, N>(
     alloc: Global,
@@ -139,7 +147,7 @@ where
         IfOk result (λ replies. RunFollows (Step what)
         (M.content map.old) commands.items replies.items (M.content map.new)) }
 
-    // Together with an earlier run, and with later ones, whatever closures each is given.
+    // Together with earlier and later runs, whatever closures each is given.
     ensures goes_on { let any = any_closures K.data_of M.REUSES in
         IfOk result (λ replies. RunFollows (Step any)
         (M.content map.old) commands.items replies.items (M.content map.new)) }
@@ -147,10 +155,10 @@ where
         IfOk result (λ replies. Continues (Step any) (Laws K.data_of) M.REUSES
         (M.content map.old) commands.items replies.items (M.content map.new)) }
 
-    // What the replies therefore keep to.
+    // The laws that the replies therefore keep.
     ensures laws { IfOk result (λ replies. Laws K.data_of commands.items replies.items) }
 
-    // Where there is no room for the replies, nothing is run.
+    // If there is no memory for the replies, nothing is run.
     ensures err { IfErr result (λ back. back ≡ commands) }
     ensures unchanged { OnErr result (M.content map.new ≡ M.content map.old) }
 {
@@ -165,32 +173,33 @@ where
     run_all(alloc, &given, map, commands)
 }
 
-/// Runs commands on a new map, and answers the map and the replies, one for each command in its
-/// order.
+/// Runs commands on a new map, and returns the map and the replies, one for each command, in order.
 ///
-/// For every list of commands on a new map, with any keys, answers and contents are a run of one
-/// machine over live and detached keys, where an insert's key is newer than all earlier ones at its
-/// index, no index passes the greatest number of places live, detached or retired at one moment,
-/// and a refused call changes nothing; no key comes twice. In fewer than 2^32 commands no place is
-/// retired.
+/// For every list of commands, with any keys, the replies and the content are a run of one machine
+/// over live and detached keys. In that machine:
 ///
-/// `look` is shown the value that a `Get` finds. `keep` is called at each live key of a `Retain`; it
-/// may change the value, and answers whether the key stays. `make` gives the value of an
-/// `InsertWith`, or an error, for the key that it will have.
+/// - The key of an insert is newer than all earlier keys at its index. So no two inserts return the
+///   same key.
+/// - No index exceeds the largest number of live, detached and retired keys at one moment.
+/// - A call that fails changes nothing.
 ///
-/// The room for the replies is asked for first, then the map is made. Where either is refused no
-/// command is run, and the commands come back. From then on the commands run in order, and one that
-/// is refused changes nothing and is answered so.
+/// Fewer than 2^32 commands retire no slot.
 ///
-/// Each command costs one call of the map; `Drain` and `Keys` take a vector for what they answer.
+/// The closures are those of [`run`]. Memory for the replies is allocated first, then the map is
+/// made. If either fails no command is run, and the error holds the commands. After that all
+/// commands are run in order. A command that fails changes nothing, and its reply says so.
 ///
-/// ```rust
-/// let first = DefaultKey::from(KeyData::from_ffi(4294967297));
-/// let commands = vec![in alloc;
-///     Command::Insert(5), Command::Get(first), Command::Remove(first), Command::Len]?;
-/// let made: Result<(SlotMap<DefaultKey, u32>, _), _> =
-///     run_new(alloc, commands, |value| *value, |_, _| true, |_| Err(()));
-/// // the replies are Key(first), Looked(Some(5)), Taken(Some(5)) and Len(0)
+/// Each command costs one call of the map. `Drain` and `Keys` allocate a vector for what they
+/// return.
+///
+/// ```
+/// let first = DefaultKey::from(KeyData::new(1, 1));
+/// let commands = vec![in alloc; Command::Insert(5), Command::Get(first), Command::Len]?;
+/// let made: (SlotMap<DefaultKey, u64>, _) =
+///     run_new(alloc, commands, |value| *value, |_, _| true, |_| Err(()))
+///         .map_err(|_| OutOfMemory)?;
+/// assert!(rt; matches!(made.1.get(0), Some(Reply::Key(key)) if *key == first));
+/// assert!(rt; matches!(made.1.get(1), Some(Reply::Looked(Some(5)))));
 /// ```
 pub fn run_new<M, K, V, R, E, L, P, N>(
     alloc: Global,
@@ -212,7 +221,7 @@ where
     requires keeps { P.IsAlwaysCallable keep }
     requires makes { N.IsAlwaysCallable make }
 
-    // Replies and content are a run of the machine; a short one retires no place.
+    // Replies and content are a run of the machine; a short one retires no slot.
     ensures run { let what = given K.data_of L.Fn look P.Fn keep N.Fn make M.REUSES in
         IfOk result (λ made. RunsAnew (Step what)
         commands.items made.1.items (M.content made.0)) }
@@ -225,10 +234,10 @@ where
         IfOk result (λ made. RunsAnew (Step any)
         commands.items made.1.items (M.content made.0)) }
 
-    // What the replies therefore keep to.
+    // The laws that the replies therefore keep.
     ensures laws { IfOk result (λ made. Laws K.data_of commands.items made.1.items) }
 
-    // Where there is no room for the replies, or no map, nothing is run.
+    // If there is no memory for the replies or the map, nothing is run.
     ensures err { IfErr result (λ back. back ≡ commands) }
 {
     let given = Given {

@@ -1,4 +1,4 @@
-//! What the calls of a map are answered in a run.
+//! The replies to the calls of a map in a run.
 
 ghost use Rattle.std.specs.Prelude.{◌≡◌, OnOk, OnErr, None};
 ghost use Rattle.slotmap_core.specs.declared.commands.Reply.TheVariants as reply;
@@ -18,7 +18,7 @@ pub(crate) fn insert_reply<K, V, R, E>(inserted: Result<K, InsertError<V>>) -> R
     }
 }
 
-/// The reply to an insert of what a closure makes.
+/// The reply to an insert of what a closure returns.
 pub(crate) fn insert_with_reply<K, V, R, E>(
     inserted: Result<K, TryInsertError<E>>,
 ) -> Reply<K, V, R, E>
@@ -56,7 +56,7 @@ pub(crate) fn reattach_reply<K, V, R, E>(
     }
 }
 
-/// The reply, unless memory ran out.
+/// The reply, if memory did not run out.
 pub(crate) fn or_memory<K: Drop, V: Drop, R: Drop, E: Drop>(
     done: Result<(), OutOfMemory>,
     answer: Reply<K, V, R, E>,

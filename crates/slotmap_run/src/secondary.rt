@@ -1,4 +1,4 @@
-//! Runs of commands on the maps that hold values under keys of another one.
+//! Runs of commands on secondary maps: the maps that hold values under the keys of another map.
 
 ghost use Rattle.std.specs.Prelude.{◌≡◌, IfOk, IfErr, OnErr};
 ghost use Rattle.std.specs.List.{AllByRecursion};
@@ -45,27 +45,29 @@ where
     }
 }
 
-/// Runs commands on a map that holds values under keys of another one, and answers the replies, one
-/// for each command in its order.
+/// Runs commands on a secondary map, and returns the replies, one for each command, in order.
 ///
-/// From what the map holds, replies and content are a run of the machine of such maps. Two maps
-/// that hold the same answer the same and then hold the same, of whichever kind they are, while no
-/// memory is refused and `look` answers one thing at one value.
+/// From what the map holds, the replies and the content are a run of the machine of secondary maps.
+/// Take two maps, of whichever kinds, that hold the same. They return the same replies and then
+/// hold the same again, if no allocation fails and `look` always returns the same for the same
+/// value.
 ///
-/// `look` is shown the value that a `Get` finds.
+/// `look` is called on the value that a `Get` finds; the reply holds what it returns.
 ///
-/// The room for the replies is asked for first. Where it is refused no command is run, the map is
-/// as before, and the commands come back. From then on the commands run in order, and one for which
-/// memory is refused is answered so, and changes nothing of what the map holds.
+/// Memory for the replies is allocated first. If that fails no command is run, the map is as
+/// before, and the error holds the commands. After that all commands are run in order. If an
+/// allocation of one fails, its reply says so, and the map holds what it held.
 ///
 /// Each command costs one call of the map.
 ///
-/// ```rust
+/// ```
 /// let key = DefaultKey::from(KeyData::new(1, 1));
-/// let commands = vec![in alloc;
-///     SecondaryCommand::Insert(key, 5), SecondaryCommand::Get(key), SecondaryCommand::Len]?;
-/// let replies = run_secondary(alloc, &mut map, commands, |value| *value);
-/// // the replies are Old(None), Looked(Some(5)) and Len(1)
+/// let mut map: SecondaryMap<DefaultKey, u64> = SecondaryMap::new(alloc)?;
+/// let commands = vec![in alloc; SecondaryCommand::Insert(key, 5), SecondaryCommand::Get(key)]?;
+/// let replies = run_secondary(alloc, &mut map, commands, |value| *value)
+///     .map_err(|_| OutOfMemory)?;
+/// assert!(rt; matches!(replies.get(0), Some(SecondaryReply::Old(None))));
+/// assert!(rt; matches!(replies.get(1), Some(SecondaryReply::Looked(Some(5)))));
 /// ```
 pub fn run_secondary<S, K, V, R, L>(
     alloc: Global,
@@ -86,12 +88,12 @@ where
         IfOk result (λ replies. Run (Step what)
         (S.pairs map.old) commands.items replies.items (S.pairs map.new)) }
 
-    // Each other map that held the same answers the same, while no memory is refused.
+    // Each other map that held the same returns the same replies, if no allocation fails.
     ensures agrees { let what = given_secondary K.data_of L.Fn look S.takes_older in
         IfOk result (λ replies. AllByRecursion HadMemory replies.items → IsFunction what.looks →
         EachAgrees what (S.pairs map.old) commands.items replies.items (S.pairs map.new)) }
 
-    // Where there is no room for the replies, nothing is run.
+    // If there is no memory for the replies, nothing is run.
     ensures err { IfErr result (λ back. back ≡ commands) }
     ensures unchanged { OnErr result (S.pairs map.new ≡ S.pairs map.old) }
 {

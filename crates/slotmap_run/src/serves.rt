@@ -9,12 +9,12 @@ use slotmap_core::keys::Key;
 use slotmap_core::primary::Primary;
 use std::alloc::Global;
 
-// What answers commands on a map.
+// What runs commands on a map.
 pub(crate) trait Serves<Map, Command, Reply> {
-    // So many commands may be served on the map.
+    // This many commands may be run on the map.
     ghost ready: { Self → Map → ℕ → Type 0 };
 
-    // The command may be answered by this reply, and leave this map.
+    // The command may return this reply, and leave this map.
     ghost step: { Self → Map → Command → Reply → Map → Type 0 };
 
     fn serve(&self, map: &mut Map, command: Command) -> Reply
@@ -23,7 +23,7 @@ pub(crate) trait Serves<Map, Command, Reply> {
         ensures ready { (left : ℕ) → ready self.now map.old (left + 1) → ready self.now map.new left };
 }
 
-/// Answers the commands in order. There is room for the replies.
+/// Runs the commands in order. There is room for the replies.
 fn serve_all<Map, Command, Reply, S>(
     server: &S,
     map: &mut Map,
@@ -49,7 +49,7 @@ where
     replies
 }
 
-/// Runs commands on a map, and answers the replies, or hands the commands back.
+/// Runs commands on a map and returns the replies, or the commands as an error.
 pub(crate) fn run_all<Map, Command, Reply, S>(
     alloc: Global,
     server: &S,
@@ -73,7 +73,7 @@ where
     Ok(serve_all(server, map, replies, commands))
 }
 
-/// Runs commands on a new map, and answers it with the replies, or hands the commands back.
+/// Runs commands on a new map and returns it with the replies, or the commands as an error.
 pub(crate) fn run_all_new<M, K, V, Command, Reply, S>(
     alloc: Global,
     server: &S,
