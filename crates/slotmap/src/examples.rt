@@ -1,4 +1,5 @@
-//! Callers of the library, as a user of this crate writes them: what follows from the clauses alone.
+//! Callers of the library, as a user of this crate writes them. They are proved from the contracts
+//! alone.
 #![tactic(auto, using(crate::proofs::Callers::keys))]
 
 mod drains;

@@ -1,39 +1,46 @@
-//! Containers that hand out their own keys: all names in one place.
+//! Maps that store values under keys of their own, and maps from those keys to more values: all
+//! names in one place.
 //!
-//! [`SlotMap`] stores values under keys that it makes; its walks stand in [`basic`]. [`DenseSlotMap`] does so with the values packed
-//! in one vector; its walks stand in [`dense`]. [`HopSlotMap`] does too, and its walks, which stand in [`hop`], hop over the
-//! places that are vacant. [`SecondaryMap`] holds further values under such keys, and [`SparseSecondaryMap`] does so for few of
-//! them; their walks and entries stand in [`secondary`] and [`sparse`]. Keys, errors, lists of slots and the traits of the maps
-//! come from `slotmap_core`, runs of commands from `slotmap_run`.
+//! - [`SlotMap`] stores values under keys that it makes. Its iterators are in [`basic`].
+//! - [`DenseSlotMap`] does the same, with the values packed in one vector. Its iterators are in
+//!   [`dense`].
+//! - [`HopSlotMap`] does the same, with iterators that skip vacant slots. They are in [`hop`].
+//! - [`SecondaryMap`] holds more values under such keys, for most of them. Its iterators and
+//!   entries are in [`secondary`].
+//! - [`SparseSecondaryMap`] does the same for few of them. Its iterators and entries are in
+//!   [`sparse_secondary`].
+//!
+//! Keys, errors, lists of slots and the traits of the maps come from `slotmap_core`, runs of
+//! commands from `slotmap_run`.
 #![tactic(auto)]
 
 mod examples;
 
-/// The walks of [`SlotMap`].
+/// The iterators of [`SlotMap`].
 pub mod basic {
     pub use slotmap_basic::{Drain, IntoIter, Iter, Keys, SlotMap, Values};
 }
 
-/// The walks of [`DenseSlotMap`].
+/// The iterators of [`DenseSlotMap`].
 pub mod dense {
     pub use slotmap_dense::{
         DenseSlotMap, Drain, IntoIter, Iter, IterMut, Keys, Values, ValuesMut,
     };
 }
 
-/// The walks of [`HopSlotMap`].
+/// The iterators of [`HopSlotMap`].
 pub mod hop {
     pub use slotmap_hop::{Drain, HopSlotMap, IntoIter, Iter, Keys, Values};
 }
 
-/// The walks and the entries of [`SecondaryMap`].
+/// The iterators and the entries of [`SecondaryMap`].
 pub mod secondary {
     pub use slotmap_secondary::{
         Drain, Entry, IntoIter, Iter, Keys, OccupiedEntry, SecondaryMap, VacantEntry, Values,
     };
 }
 
-/// The walks and the entries of [`SparseSecondaryMap`], and its own hasher.
+/// The iterators and the entries of [`SparseSecondaryMap`], and its default hasher.
 pub mod sparse_secondary {
     pub use slotmap_sparse::{
         DefaultHasher, Drain, Entry, IntoIter, Iter, Keys, OccupiedEntry, SparseSecondaryMap,

@@ -1,25 +1,29 @@
-//! Holds a map to rows of calls with their results, which are lines of text.
+//! Checks a map against rows of calls with their results, which are lines of text.
 //!
 //! A file of rows has these lines:
 //!
 //! - an empty line, or a comment after `#`;
 //! - `maps KIND ..`: the kinds of map that the rows below are for;
 //! - `row NAME`: the next row, on a new map;
-//! - `CALL WORDS -> RESULT`: a call, with the result that it must have; without ` -> ` the result is `done`;
-//! - `repeat N CALL WORDS -> RESULT`: the same call N times, with the last one's result. In its words `#` stands for the
-//!   number of the turn, from 1 on: `#` alone, `#v1` in a key, `#v1:#` in a pair.
+//! - `CALL WORDS -> RESULT`: a call, with the result that it must have; without ` -> ` the result
+//!   is `done`;
+//! - `repeat N CALL WORDS -> RESULT`: the same call N times, with the result of the last one. In
+//!   its words `#` stands for the number of the turn, from 1 on: `#` alone, `#v1` in a key, `#v1:#`
+//!   in a pair.
 //!
 //! A [`Subject`] makes the calls. These calls are [`hold`]'s own:
 //!
-//! - `dropped`, `cloned`: how many values were dropped or cloned since the row began, or since the same call before;
-//! - `alive`: how many values of the row were made or cloned, and not yet dropped.
+//! - `dropped`, `cloned`: how many values were dropped or cloned since the row began, or since the
+//!   last such call;
+//! - `alive`: how many values of the row were made or cloned, and not dropped yet.
 //!
-//! The first difference of a row is printed with its file and line, and ends the row. At the end of each row its maps are
-//! dropped, and no value may be alive then: none was forgotten, and none dropped twice.
+//! The first difference of a row is printed with its file and line, and ends the row. At the end of
+//! each row its maps are dropped. No value may be alive then: none was leaked, and none dropped
+//! twice.
 //!
-//! A call for which memory runs out is made once more, since it has to leave all as it was: no value may be lost or left
-//! over by it, and the second call must have the result of the row. So a program prints the same whichever of its
-//! requests for memory is refused.
+//! A call that runs out of memory is made once more, since it must leave everything as it was. No
+//! value may be lost or left over by it, and the second call must have the result of the row. So a
+//! program prints the same whichever of its allocations fails.
 #![tactic(auto)]
 
 mod number;

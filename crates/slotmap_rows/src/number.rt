@@ -12,7 +12,7 @@ pub struct Counts {
 }
 
 impl Counts {
-    /// No value yet.
+    /// Starts with no value.
     pub fn new() -> Counts {
         Counts {
             made: Cell::new(0),
@@ -21,13 +21,13 @@ impl Counts {
         }
     }
 
-    /// How many values are there now: made or cloned, and not dropped.
+    /// Returns how many values there are now: made or cloned, and not dropped.
     pub fn alive(&self) -> u64 {
         let there = self.made.get().wrapping_add(self.cloned.get());
         there.wrapping_sub(self.dropped.get())
     }
 
-    /// How many values were dropped since this was asked last.
+    /// Returns how many values were dropped since the last such call.
     pub(crate) fn take_dropped(&self) -> u64 {
         let dropped = self.dropped.get();
         self.made.set(self.made.get().wrapping_sub(dropped));
@@ -35,7 +35,7 @@ impl Counts {
         dropped
     }
 
-    /// How many values were cloned since this was asked last.
+    /// Returns how many values were cloned since the last such call.
     pub(crate) fn take_cloned(&self) -> u64 {
         let cloned = self.cloned.get();
         self.made.set(self.made.get().wrapping_add(cloned));
@@ -43,12 +43,12 @@ impl Counts {
         cloned
     }
 
-    /// All numbers as they are now.
+    /// Returns all numbers as they are now.
     pub(crate) fn seen(&self) -> [u64; 3] {
         [self.made.get(), self.cloned.get(), self.dropped.get()]
     }
 
-    /// Sets all numbers back to what was seen.
+    /// Sets all numbers back to what `seen` returned.
     pub(crate) fn set_back(&self, seen: [u64; 3]) {
         self.made.set(seen[0]);
         self.cloned.set(seen[1]);
@@ -56,7 +56,7 @@ impl Counts {
     }
 }
 
-// One more.
+// Adds one.
 fn count(counter: &Cell<u64>) {
     counter.set(counter.get().wrapping_add(1));
 }
@@ -69,7 +69,7 @@ pub struct Number<'a> {
 }
 
 impl<'a> Number<'a> {
-    /// Makes a number, and counts it.
+    /// Makes a number and counts it.
     pub fn new(counts: &'a Counts, value: u64) -> Number<'a> {
         count(&counts.made);
         Number { value, counts }

@@ -1,10 +1,10 @@
-//! How far the rows of a file were held, and what is printed of them.
+//! How far the rows of a file were checked, and what is printed about them.
 
 use crate::stop::Stop;
 use std::alloc::{AllocError, Global};
 use std::io::Write;
 
-/// How far the rows of a file were held to a kind of map.
+/// How far the rows of a file were checked for a kind of map.
 #[derive(Drop)]
 pub struct Progress {
     /// The file and the kind, as differences name them.
@@ -16,7 +16,7 @@ pub struct Progress {
     pub line: u64,
     /// Whether the rows here are for this kind of map.
     pub is_meant: bool,
-    /// Whether a row has begun that has shown no difference.
+    /// Whether a row has begun that has shown no difference yet.
     pub is_well: bool,
     rows: u64,
     calls: u64,
@@ -24,7 +24,7 @@ pub struct Progress {
 }
 
 impl Progress {
-    /// Before the first line.
+    /// Starts before the first line.
     pub fn new(alloc: Global, kind: &str, file: &str) -> Result<Progress, AllocError> {
         let mut row = String::new(alloc);
         row.reserve(1000)?;
@@ -41,7 +41,7 @@ impl Progress {
         })
     }
 
-    /// Whether the kinds of a line name this one.
+    /// Returns whether the kinds of a line name this one.
     pub fn is_for(&self, kinds: &str) -> bool {
         kinds.split(' ').any(|kind| kind == self.kind.as_str())
     }

@@ -7,19 +7,20 @@ use crate::words::Word;
 use std::alloc::{AllocError, Global};
 use std::io::Write;
 
-/// What is held to rows: a map, or several that belong together.
+/// What is checked against rows: a map, or several that belong together.
 pub trait Subject: Drop {
-    /// Begins a row: new maps; the earlier ones are dropped.
+    /// Begins a row with new maps, and drops the earlier ones.
     fn begin(&mut self) -> Result<(), Stop>;
 
-    /// Makes the call of this name, and writes its result behind the reply.
+    /// Makes the call of this name, and writes its result to the end of the reply.
     ///
-    /// Fails with `Stop::Unknown` where there is no such call, and with `Stop::Memory` where memory runs out and all
-    /// is as before.
+    /// Fails with `Stop::Unknown` if there is no such call. Fails with `Stop::Memory` if memory
+    /// runs out; then everything is as before.
     fn call(&mut self, name: &str, words: &[Word<'_>], reply: &mut String) -> Result<(), Stop>;
 }
 
-// What the calls of a file share: the numbers of values, and the reply, whose room is asked for once.
+// What the calls of a file share: the numbers of values, and the reply. Memory for the reply is
+// allocated once.
 #[derive(Drop)]
 struct Desk<'c> {
     alloc: Global,
@@ -38,7 +39,7 @@ impl<'c> Desk<'c> {
         })
     }
 
-    // Puts a text into the reply's place.
+    // Replaces the reply by a text.
     fn say(&mut self, text: &str) -> Result<(), Stop> {
         self.reply.clear();
         self.reply.push_str(text)?;
@@ -46,10 +47,11 @@ impl<'c> Desk<'c> {
     }
 }
 
-/// Holds a kind of map to the rows of a file that are for it, prints differences, and returns whether there are none.
+/// Checks a kind of map against the rows of a file that are for it, prints differences, and returns
+/// whether there are none.
 ///
-/// Fails with `Stop::Output` where the output can't be written, and with `Stop::Memory` where memory for its own work
-/// runs out.
+/// Fails with `Stop::Output` if the output can't be written, and with `Stop::Memory` if memory for
+/// its own work runs out.
 pub fn hold<S: Subject>(
     alloc: Global,
     subject: &mut S,
@@ -78,7 +80,7 @@ pub fn hold<S: Subject>(
     progress.finish(output)
 }
 
-// Drops the maps of a row, after which no value may be alive, and begins anew.
+// Drops the maps of a row and begins anew. No value may be alive then.
 fn end_row<S: Subject>(
     subject: &mut S,
     counts: &Counts,
@@ -96,7 +98,7 @@ fn end_row<S: Subject>(
     Ok(())
 }
 
-// Holds the map to a line.
+// Checks the map against a line.
 fn hold_line<S: Subject>(
     subject: &mut S,
     desk: &mut Desk<'_>,
@@ -129,7 +131,8 @@ fn repeated(call: &str) -> Option<(u64, &str)> {
     Some((times.parse().ok()?, call))
 }
 
-// Makes a call in turn `turn`, and leaves its result in the reply. A call for which memory runs out is made once more.
+// Makes a call in turn `turn`, and leaves its result in the reply. A call that runs out of memory
+// is made once more.
 fn make<S: Subject>(
     subject: &mut S,
     desk: &mut Desk<'_>,
@@ -184,7 +187,7 @@ fn read_words(alloc: Global, call: &str, turn: u64) -> Result<Vec<Word<'_>>, All
         .collect(alloc)
 }
 
-// Puts the reason into the reply where a call has no result.
+// Sets the reply to the reason if a call has no result.
 fn tell(made: Result<(), Stop>, desk: &mut Desk<'_>) -> Result<(), Stop> {
     match made {
         Ok(()) => Ok(()),

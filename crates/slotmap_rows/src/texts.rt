@@ -1,4 +1,5 @@
-//! Results as text, written behind a reply: a key as `2v3`, a pair as `2v3:5`, a slot as `5@3` or `-@2`.
+//! Results as text, written to the end of a reply: a key as `2v3`, a pair as `2v3:5`, a slot as
+//! `5@3` or `-@2`.
 
 use crate::number::Number;
 use slotmap_core::keys::{DefaultKey, Key};

@@ -1,4 +1,4 @@
-//! The commands that lines ask for, one type for each kind of map.
+//! The commands of script lines, one type for each kind of map.
 
 use crate::reply::LineReply;
 use slotmap_core::commands::{Command, DetachCommand};
@@ -17,10 +17,11 @@ pub type Detachable = DetachCommand<DefaultKey, i32>;
 
 /// The commands of the maps `M`: which lines they have, and how they are run.
 pub trait Commands<M>: Sized + Drop {
-    /// The command that a line of these words asks for; none where the maps have no such line.
+    /// The command of a line with these words, or `None` if the maps have no such line.
     fn from_words(words: &[&str]) -> Option<Self>;
 
-    /// Answers the commands in order; none where memory for the replies is refused.
+    /// Runs the commands in order and returns the replies, or `None` if there is no memory for
+    /// them.
     fn run(alloc: Global, map: &mut M, commands: Vec<Self>) -> Option<Vec<LineReply>>;
 }
 
@@ -55,7 +56,7 @@ fn look(value: &i32) -> i32 {
     *value
 }
 
-// No line asks for what these two serve.
+// No line needs these two closures.
 fn keep(_key: DefaultKey, _value: &mut i32) -> bool {
     true
 }
@@ -76,7 +77,7 @@ fn plain(words: &[&str]) -> Option<Plain> {
     }
 }
 
-// A key as one number, of digits alone.
+// Reads a key, which is one number of digits alone.
 fn key(word: &str) -> Option<DefaultKey> {
     if !word.bytes().all(|byte| byte.is_ascii_digit()) {
         return None;
@@ -85,7 +86,7 @@ fn key(word: &str) -> Option<DefaultKey> {
     Some(DefaultKey::from(KeyData::from_ffi(number)))
 }
 
-// A number with no plus sign before it.
+// Reads a number without a plus sign.
 fn number(word: &str) -> Option<i32> {
     if word.starts_with('+') {
         return None;

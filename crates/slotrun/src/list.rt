@@ -11,12 +11,12 @@ use std::alloc::Global;
 use std::io;
 use std::io::Write;
 
-/// A map that is written as a list of slots, and read from one.
+/// A map that can be written as a list of slots and read from one.
 pub trait Listed: Sized {
-    /// The list of the map's slots.
+    /// The map as a list of slots.
     fn to_slots(&self) -> Result<Vec<SlotRecord<i32>>, OutOfMemory>;
 
-    /// The map that a list of slots gives.
+    /// The map that a list of slots describes.
     fn from_slots(alloc: Global, list: Vec<SlotRecord<i32>>) -> Result<Self, SlotsError>;
 }
 
@@ -53,9 +53,9 @@ impl Listed for HopSlotMap<DefaultKey, i32> {
 /// Why a map isn't read from a text.
 #[derive(Drop)]
 pub enum LoadError {
-    /// The text is no JSON, or not that of a list of slots whose values are numbers of 32 bits.
+    /// The text is not JSON, or not that of a list of slots with values of 32 bits.
     Json(JsonError),
-    /// The list isn't one that a map is written as.
+    /// No map is written as this list.
     Slots(SlotsError),
 }
 
@@ -82,7 +82,8 @@ fn write_slot(output: &mut impl Write, slot: &SlotRecord<i32>) -> io::Result<()>
     }
 }
 
-/// Puts the map of the text in the old one's place, and writes `done`; after a refusal the old one stays.
+/// Replaces the map by the one that the text describes, and writes `done`. If that fails, the map
+/// stays and the reason is written.
 pub fn load<M: Listed + Drop>(
     alloc: Global,
     map: &mut M,
@@ -111,7 +112,7 @@ fn read_slots(alloc: Global, text: &str) -> Result<Vec<SlotRecord<i32>>, JsonErr
     }
 }
 
-// The number of 32 bits that a value is.
+// Reads a value as a number of 32 bits.
 fn number(value: &Value) -> Result<i32, JsonError> {
     let number = value.as_i64().ok_or(JsonError::Shape)?;
     i32::try_from(number).map_err(|_| JsonError::Shape)

@@ -26,7 +26,7 @@ fn main(rt: HostRuntime) -> ExitCode {
     let mut output = rt.stdout();
     let words = match words(&rt) {
         Ok(words) => words,
-        // A word that isn't UTF-8 names no kind of map, as no words do.
+        // A word that isn't UTF-8 names no kind of map; so it counts as no words.
         Err(error) if error.kind() == ErrorKind::InvalidData => Vec::new(rt.alloc()),
         Err(_) => {
             let _ = writeln!(output, "no script");

@@ -9,7 +9,8 @@ use std::io::Write;
 /// A reply to a line.
 pub type LineReply = Reply<DefaultKey, i32, i32, OutOfMemory>;
 
-/// Writes a reply as a line of its own; keys by ascending index, which `reply` has from then on.
+/// Writes a reply as a line of its own. Keys are written by ascending index; `reply` is sorted in
+/// place for that.
 pub fn write_reply(output: &mut impl Write, reply: &mut LineReply) -> io::Result<()> {
     match reply {
         Reply::Key(key) => writeln!(output, "key {}", key.data().as_ffi()),
@@ -23,7 +24,7 @@ pub fn write_reply(output: &mut impl Write, reply: &mut LineReply) -> io::Result
         }
         Reply::Len(len) => writeln!(output, "len {len}"),
         Reply::NotDetached(_) => writeln!(output, "not detached"),
-        // No line asks for these.
+        // No line leads to these.
         Reply::TooGreat | Reply::Failed(_) | Reply::Flag(_) | Reply::Put(_) | Reply::Drained(_) =>
             Ok(()),
     }

@@ -13,11 +13,18 @@ use slotmap_hop::HopSlotMap;
 use std::alloc::Global;
 use std::io::{BufWriter, Read, Write};
 
-/// Runs the script of the input on the kind of map that the words name, and answers the status to end with.
+/// Runs the script of the input on the kind of map that the words name, and returns the exit
+/// status.
 ///
-/// The kinds today are `basic`, `dense` and `hop`. Every line is looked at before the first is run. The status is 0 after a run, 2
-/// where the words or a line are wrong, and 3 where the script could not be read or the output written, or memory
-/// was refused. After a write that failed nothing more is written.
+/// The kinds are `basic`, `dense` and `hop`. All lines are parsed before the first is run. The
+/// status is one of these:
+///
+/// - 0 after a run,
+/// - 2 if the words or a line are wrong,
+/// - 3 if the script can't be read, the output can't be written, or memory for the script, the map
+///   or the replies runs out.
+///
+/// After a write that failed nothing more is written.
 pub fn run_script(
     alloc: Global,
     words: &[String],
@@ -28,7 +35,7 @@ pub fn run_script(
     finish(ended, output)
 }
 
-// Writes why a script ended early, and answers the status.
+// Writes why a script ended early, and returns the status.
 pub(crate) fn finish(ended: Result<(), Stop>, output: &mut impl Write) -> u8 {
     let (status, written) = match ended {
         Ok(()) => return 0,
@@ -78,7 +85,7 @@ where
     run_stretches(alloc, map, stretches, output)
 }
 
-// Runs the stretches with their replies gathered before they are written.
+// Runs the stretches. Replies are gathered before they are written.
 pub(crate) fn run_stretches<M, C>(
     alloc: Global,
     map: M,
@@ -94,12 +101,12 @@ where
         Err(Stop::Output) => Err(Stop::Output),
         ended => gathered.flush().map_err(|_| Stop::Output).and(ended),
     };
-    // What a failed write left isn't tried again.
+    // What a failed write left unwritten is dropped.
     let (_output, _unwritten) = gathered.into_parts();
     ended
 }
 
-// Hands each stretch of commands to a run, and prints or reads the list of slots after it.
+// Runs each stretch of commands, prints the replies, and then prints or reads the list of slots.
 fn print_stretches<M, C>(
     alloc: Global,
     mut map: M,

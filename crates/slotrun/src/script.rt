@@ -17,19 +17,19 @@ pub struct Stretch<'a, C> {
 pub enum End<'a> {
     /// The map's list of slots is printed.
     Slots,
-    /// The map is read anew from this text, which isn't looked at yet.
+    /// The map is read from this text, which isn't parsed yet.
     Load(&'a str),
-    /// The script is at its end.
+    /// The script ends.
     Script,
 }
 
-// What a line asks for.
+// What a line is: a command, or the end of a stretch.
 enum Line<'a, C> {
     Command(C),
     End(End<'a>),
 }
 
-/// Parses every line of a script, the last of which may lack its line feed.
+/// Parses every line of a script. The last line may lack its line feed.
 pub fn parse<'a, M, C: Commands<M>>(
     alloc: Global,
     script: &'a [u8],
@@ -56,7 +56,7 @@ pub fn parse<'a, M, C: Commands<M>>(
     Ok(stretches)
 }
 
-// Reads a line of UTF-8; none where it isn't one of a script.
+// Parses a line, or returns `None` if it isn't UTF-8 or not a line of a script.
 fn parse_line<'a, M, C: Commands<M>>(bytes: &'a [u8]) -> Option<Line<'a, C>> {
     let text = str::from_utf8(bytes).ok()?;
     match text.strip_prefix("load ") {
@@ -67,7 +67,7 @@ fn parse_line<'a, M, C: Commands<M>>(bytes: &'a [u8]) -> Option<Line<'a, C>> {
     }
 }
 
-// Reads a command: its words, parted by one space, and nothing before or after them.
+// Parses a command: its words with one space between them, and nothing before or after.
 fn parse_command<M, C: Commands<M>>(text: &str) -> Option<C> {
     // No command has more than three words.
     let mut words = [""; 3];

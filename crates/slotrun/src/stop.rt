@@ -1,4 +1,4 @@
-//! How a script ends before its last reply.
+//! Why a script ends before its last reply.
 
 use std::alloc::{AllocError, AllocFailed};
 
@@ -7,11 +7,11 @@ use std::alloc::{AllocError, AllocFailed};
 pub enum Stop {
     /// The words name no kind of map.
     Usage,
-    /// The script wasn't read, or memory was refused.
+    /// The script can't be read, or memory ran out.
     NoScript,
-    /// A line isn't one of a script; lines count from 1.
+    /// A line isn't one of a script. Lines count from 1.
     BadLine(usize),
-    /// The output was refused.
+    /// The output can't be written.
     Output,
 }
 

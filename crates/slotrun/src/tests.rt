@@ -1,5 +1,5 @@
-//! Whole scripts by `run_script`, words that no small script can bring, and streams that fail. What is expected was
-//! worked out by hand from the rules, or comes from the Rust crate.
+//! Whole scripts run by `run_script`, replies that no small script leads to, and streams that fail.
+//! Expected results were worked out by hand from the rules, or come from the Rust crate.
 
 mod refusals;
 mod scripts;

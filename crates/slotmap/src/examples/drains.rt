@@ -1,4 +1,4 @@
-//! Drains: cut short, and to the end.
+//! Drains: dropped early, and run to the end.
 
 ghost use Rattle.std.specs.Prelude.{◌≡◌, IfSome, IfNone, Some};
 ghost use Rattle.std.specs.FinMap as map;

@@ -1,4 +1,4 @@
-//! A value that is taken out and put back under its key.
+//! A value that is taken out of a map and put back under its key.
 
 ghost use Rattle.std.specs.Prelude.{◌≡◌, OnSome, IfNone};
 ghost use Rattle.std.specs.FinMap as map;

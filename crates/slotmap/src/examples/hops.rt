@@ -1,4 +1,4 @@
-//! Walks over a map that hops over its vacant places, and how many slots they read.
+//! Iterators that skip vacant slots, and how many slots they read.
 
 ghost use Rattle.std.specs.Prelude.{◌≡◌, ◌+◌, ◌*◌, ◌≤◌, IfSome, IfNone, Some};
 ghost use Rattle.std.specs.FinMap as map;
@@ -31,8 +31,8 @@ pub fn count_hopping(store: &HopSlotMap<DefaultKey, u64>, wanted: u64) -> usize 
     count
 }
 
-/// How many slots a walk over all keys reads: at most two for each live key, and two for each retired place, however many
-/// places are vacant.
+/// How many slots an iterator over all keys reads: at most two for each live key, and two for each
+/// retired slot, however many slots are vacant.
 pub fn count_reads<K: Key>(store: &HopSlotMap<K, u64>) -> usize
     ensures { result ≤ 2 * map.len store.now.content.live + 2 * set.len store.now.content.retired }
 {

@@ -1,4 +1,4 @@
-//! Values by their keys: stored, read, written and taken out.
+//! Values by their keys: stored, read, written and removed.
 
 ghost use Rattle.std.specs.Prelude.{◌≡◌, ◌≢◌, ℕ, ◌+◌, ◌<◌, ◌^◌, IfOk, OnOk, IfErr, Some, None, true, false, if◌then◌else◌};
 ghost use Rattle.std.specs.FinMap as map;
@@ -42,7 +42,7 @@ pub fn push_pop<K: Key>(
     Ok(store.remove(key))
 }
 
-/// Sets the value of a key, and answers whether the key is live.
+/// Sets the value of a key, and returns whether the key is live.
 pub fn set<K: Key>(store: &mut SlotMap<K, u64>, key: K, value: u64) -> bool
     ensures which { result ≡ map.contains_key store.old.live (K.data_of key) }
     ensures new { store.new ≡ if result then with_value store.old (K.data_of key) value else store.old }

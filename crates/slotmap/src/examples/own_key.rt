@@ -52,7 +52,7 @@ impl Key for PageKey {
 
     fn data(&self) -> KeyData {
         let data = self.0;
-        // by what `idx` promises, the data is within its bounds
+        // By what `idx` ensures, the data is within its bounds.
         let _ = data.idx();
         data
     }

@@ -4,7 +4,7 @@ ghost use Rattle.std.specs.Prelude.{◌≡◌};
 
 use crate::{DefaultKey, DenseSlotMap};
 
-/// Sorts the values, which move from key to key: the least one goes to the first key in packed
+/// Sorts the values, which move from key to key: the smallest one goes to the first key in packed
 /// order.
 pub fn sort_values(store: &mut DenseSlotMap<DefaultKey, u64>)
     ensures keys { store.new.keys ≡ store.old.keys }
@@ -21,7 +21,7 @@ pub fn reset(store: &mut DenseSlotMap<DefaultKey, u64>)
     }
 }
 
-/// Exchanges the values of two keys, where both are live and not equal, and says whether they were.
+/// Swaps the values of two keys if both are live and not equal, and returns whether they were.
 pub fn exchange(
     store: &mut DenseSlotMap<DefaultKey, u64>,
     first: DefaultKey,

@@ -1,4 +1,4 @@
-//! A map inside a struct, which hands a reference to a value on.
+//! A map inside a struct, whose method returns a mutable reference into it.
 
 ghost use Rattle.std.specs.Prelude.{◌≡◌, ◌≢◌, IfOk, OnErr, None, option_copied};
 ghost use Rattle.std.specs.Borrow.{sem};
@@ -54,7 +54,7 @@ impl<T: Drop> Registry<T> {
         self.entries.get(key)
     }
 
-    /// The value of a handle, to be written.
+    /// A mutable reference to the value of a handle.
     pub fn get_mut(&mut self, key: DefaultKey) -> Option<&mut T>
         ensures* writes_back { sem 𝓛 (lends_entry T.row self.entry key result) }
         ensures value { option_copied_mut result ≡ map.get self.old key }
@@ -71,7 +71,7 @@ impl<T: Drop> Registry<T> {
     }
 }
 
-/// Counts one more, where the handle has a number.
+/// Adds one to the number of a handle, and returns whether there is one.
 pub fn count(numbers: &mut Registry<u64>, key: DefaultKey) -> bool
     ensures which { result ≡ map.contains_key numbers.old key }
     ensures others { (q : KeyOf) → q ≢ key → map.get numbers.new q ≡ map.get numbers.old q }

@@ -1,4 +1,4 @@
-//! Calls of `retain`: by a closure that reads, one that writes, and one that counts.
+//! Calls of `retain`: with a closure that reads, one that writes, and one that counts.
 
 ghost use Rattle.std.specs.Prelude.{◌≡◌, ◌<◌, ◌+◌, ◌%◌, ◌==◌, ◌/◌, ℕ, Some, None, min, if◌then◌else◌};
 ghost use Rattle.std.specs.Option.{option_and_then, option_map};
@@ -25,7 +25,7 @@ pub fn halve_all<K: Key>(store: &mut SlotMap<K, u64>)
     });
 }
 
-/// Adds one to each value, where all are small.
+/// Adds one to each value, if all are small.
 pub fn raise_all<K: Key>(store: &mut SlotMap<K, u8>)
     requires small { (k : KeyOf) (n : ℕ) → map.get store.old.live k ≡ Some n → n < 10 }
     ensures { (k : KeyOf) → map.get store.new.live k ≡ option_map (λ n. n + 1) (map.get store.old.live k) }
@@ -36,7 +36,7 @@ pub fn raise_all<K: Key>(store: &mut SlotMap<K, u8>)
     });
 }
 
-/// Keeps so many entries at most: the closure counts those that it keeps.
+/// Keeps `most` entries at most: the closure counts those that it keeps.
 pub fn keep_first(store: &mut SlotMap<DefaultKey, u64>, most: usize)
     ensures count { map.len store.new.live ≡ min most (map.len store.old.live) }
     ensures kept { (k : KeyOf) → IsLive store.new k → map.get store.new.live k ≡ map.get store.old.live k }

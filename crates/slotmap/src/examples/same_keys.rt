@@ -1,4 +1,4 @@
-//! Two kinds of map that answer the same keys.
+//! Two kinds of map that return the same keys.
 
 ghost use Rattle.std.specs.Prelude.{◌≡◌, IfOk};
 ghost use Rattle.std.specs.List.{AllByRecursion};
@@ -24,8 +24,8 @@ fn make<K: Key>(_key: K) -> Result<u64, OutOfMemory> {
     Err(OutOfMemory)
 }
 
-/// Runs the same commands on a new `SlotMap` and on a new `DenseSlotMap`. Where they are inserts,
-/// removals, detaches and reattaches, and none is refused, both answer the same keys.
+/// Runs the same commands on a new `SlotMap` and on a new `DenseSlotMap`. If they are inserts,
+/// removals, detaches and reattaches, and none fails, both return the same keys.
 pub fn run_on_both<K: Key>(
     alloc: Global,
     commands: Commands<K>,

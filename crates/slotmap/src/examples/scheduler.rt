@@ -37,7 +37,7 @@ impl Scheduler {
         Ok(Scheduler { times })
     }
 
-    /// A job that waits for this time.
+    /// Adds a job that waits for this time.
     pub fn add(&mut self, time: u64) -> Result<DefaultKey, InsertError<u64>>
         ensures waits { IfOk result (λ handle. map.get self.new.live handle ≡ Some time) }
         ensures others { IfOk result (λ handle. (other : KeyOf) → other ≢ handle
@@ -47,7 +47,7 @@ impl Scheduler {
         self.times.insert(time)
     }
 
-    /// Cancels a job, and answers whether it still waited. Its handle is stale from then on.
+    /// Cancels a job, and returns whether it was still waiting. Its handle is stale from then on.
     pub fn cancel(&mut self, handle: DefaultKey) -> bool
         ensures which { result ≡ map.contains_key self.old.live handle }
         ensures gone { map.contains_key self.new.live handle ≡ false }
@@ -59,7 +59,7 @@ impl Scheduler {
         self.times.remove(handle).is_some()
     }
 
-    /// Lets the jobs go whose time has come.
+    /// Removes the jobs whose time has come.
     pub fn tick(&mut self, now: u64)
         ensures left { (k : KeyOf) → map.get self.new.live k ≡ option_and_then
             (λ time. if nat_lt now time then Some time else None) (map.get self.old.live k) }

@@ -5,7 +5,7 @@ ghost use Rattle.slotmap.specs.Words.{Key as KeyOf, get, entry, has_entry, remov
 
 use crate::{DefaultKey, PutError, SecondaryMap};
 
-/// Puts a note beside a key, and answers the one that was there.
+/// Puts a note beside a key, and returns the old one.
 #[tactic(auto, using(crate::proofs::Callers::secondary))]
 pub fn note(
     notes: &mut SecondaryMap<DefaultKey, u32>,
@@ -21,7 +21,7 @@ pub fn note(
     notes.insert(key, text)
 }
 
-/// Puts a note beside a key whose place another key had before: the other's note is gone.
+/// Puts a note beside a key whose slot another key had before: the other's note is gone.
 #[tactic(auto, using(crate::proofs::Callers::secondary))]
 pub fn note_again(
     notes: &mut SecondaryMap<DefaultKey, u32>,

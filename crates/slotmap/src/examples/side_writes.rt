@@ -1,4 +1,4 @@
-//! Values of side tables changed in place, by a closure that may be called at small values alone.
+//! Values of side tables changed in place, by a closure that may be called on small values alone.
 
 ghost use Rattle.std.specs.Prelude.{◌≡◌, ◌<◌, ◌+◌, ℕ, Some, IfOk, unwrap_or};
 ghost use Rattle.std.specs.Option.{option_map};
@@ -6,7 +6,7 @@ ghost use Rattle.slotmap.specs.Words.{Key as KeyOf, get};
 
 use crate::{DefaultKey, Key, NoEntry, SecondaryMap, SparseSecondaryMap};
 
-/// Adds one to the count beside a key, which is 1 where there was none, and answers it.
+/// Adds one to the count beside a key, or starts it at 1, and returns it.
 pub fn count_up(counts: &mut SecondaryMap<DefaultKey, u8>, key: DefaultKey) -> Result<u8, NoEntry>
     requires small { (k : KeyOf) (n : ℕ) → get counts.old.pairs k ≡ Some n → n < 10 }
     ensures { IfOk result (λ n. n ≡ unwrap_or (option_map (λ n. n + 1) (get counts.old.pairs key)) 1) }
@@ -27,7 +27,7 @@ pub fn raise_counts<K: Key>(counts: &mut SecondaryMap<K, u8>)
     });
 }
 
-/// The same in a table for few keys, where the new count may lack memory.
+/// The same in a table for few keys, where memory for a new count may run out.
 pub fn count_sparse_up(
     counts: &mut SparseSecondaryMap<DefaultKey, u8>,
     key: DefaultKey,

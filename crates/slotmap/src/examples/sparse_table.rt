@@ -1,5 +1,5 @@
-//! A side table for few keys: its clauses are those of the other one, and memory is asked for only where nothing stands at the
-//! key's index.
+//! A side table for few keys. Its clauses are those of the other one; it allocates only if nothing
+//! is at the key's index.
 
 ghost use Rattle.std.specs.Prelude.{◌≡◌, ◌≢◌, ◌<◌, IfOk, OnOk, OnErr, IsOk, None, Some, true};
 ghost use Rattle.std.specs.FinMap as map;
@@ -7,7 +7,7 @@ ghost use Rattle.slotmap.specs.Words.{Key as KeyOf, get, entry, has_entry};
 
 use crate::{DefaultKey, PutError, SparseSecondaryMap};
 
-/// Puts a mark beside a key, and answers the one that was there.
+/// Puts a mark beside a key, and returns the old one.
 #[tactic(auto, using(crate::proofs::Callers::secondary))]
 pub fn mark(
     marks: &mut SparseSecondaryMap<DefaultKey, u32>,

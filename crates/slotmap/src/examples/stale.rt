@@ -1,4 +1,4 @@
-//! A handle that has gone stale: no later key is taken for it.
+//! A stale key: no later key equals it.
 
 ghost use Rattle.std.specs.Prelude.{◌≡◌, ◌≢◌, IfOk, false};
 ghost use Rattle.std.specs.FinMap as map;
@@ -6,7 +6,7 @@ ghost use Rattle.slotmap.specs.Words.{IsLive, IsSpent};
 
 use crate::{DefaultKey, InsertError, SlotMap};
 
-/// Takes a value out, and stores another one, for which the same place is used.
+/// Takes a value out, and stores another one, for which the same slot is reused.
 pub fn renew(
     store: &mut SlotMap<DefaultKey, u64>,
     key: DefaultKey,
@@ -20,7 +20,7 @@ pub fn renew(
     store.insert(value)
 }
 
-/// Stores and removes so many values: a stale key stays stale.
+/// Stores and removes `count` values: a stale key stays stale.
 pub fn churn(
     store: &mut SlotMap<DefaultKey, u64>,
     stale: DefaultKey,

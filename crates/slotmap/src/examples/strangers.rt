@@ -1,4 +1,4 @@
-//! A side table whose keys a stranger picks: its hasher has a seed that the stranger can't know.
+//! A side table whose keys a stranger chooses: its hasher has a seed that the stranger can't know.
 
 ghost use Rattle.std.specs.Prelude.{◌≡◌, IfOk};
 ghost use Rattle.std.specs.FinMap as map;

@@ -1,4 +1,4 @@
-//! Each example is run once, but `total`, whose caller has to know that the sum fits.
+//! Each example is run once, except `total`: its caller has to know that the sum fits.
 
 use crate::examples::drains::{drop_all, take_one};
 use crate::examples::exchange::exchange;

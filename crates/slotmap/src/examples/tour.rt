@@ -25,7 +25,7 @@ pub fn tour(rt: &impl Print, alloc: Global) -> Result<(), TourError> {
     prove_eq!(words[river], "river");
     prove_eq!(words[hill], "hill");
 
-    // The place of a removed key is used again, and the key stays stale.
+    // The slot of a removed key is reused, and the key stays stale.
     words.remove(hill);
     let lake = words.insert("lake")?;
     prove!(!words.contains_key(hill));

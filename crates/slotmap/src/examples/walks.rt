@@ -1,4 +1,4 @@
-//! Walks over a map: by a loop, and by a chain of iterators.
+//! Iteration over a map: by a loop, and by a chain of iterators.
 
 ghost use Rattle.std.specs.Prelude.{◌≡◌, ℕ, ◌+◌, ◌<◌, ◌≤◌, ◌↔◌, ◌^◌, ◌%◌, ◌==◌, IsTrue, IfSome, IfNone, IfOk, OnOk, Some, sum, count_by};
 ghost use Rattle.std.specs.FinMap as map;
@@ -20,7 +20,7 @@ pub fn find_key<K: Key>(store: &SlotMap<K, u64>, wanted: u64) -> Option<K>
     None
 }
 
-/// Whether each value is at most so much.
+/// Whether each value is at most `most`.
 pub fn all_at_most<K: Key>(store: &SlotMap<K, u64>, most: u64) -> bool
     ensures { IsTrue result ↔ ((k : KeyOf) (v : ℕ) → map.get store.now.live k ≡ Some v → v ≤ most) }
 {

@@ -1,4 +1,4 @@
-//! Replies that no small script can bring, and maps that have fewer lines.
+//! Replies that no small script leads to, and maps that have fewer lines.
 
 use crate::commands::{Commands, Plain};
 use crate::list::{Listed, LoadError, write_refusal};
@@ -46,7 +46,7 @@ fn refusals_of_lists(rt: HostRuntime) -> Result<(), Fail> {
     Ok(())
 }
 
-// A map whose list of slots is refused.
+// A map whose list of slots needs more memory than there is.
 #[derive(Drop)]
 struct Refusing;
 
@@ -64,7 +64,7 @@ impl Listed for Refusing {
     }
 }
 
-// A command whose run has no memory for its replies.
+// A command for whose reply there is no memory.
 #[derive(Drop)]
 struct Unanswered;
 
@@ -82,7 +82,7 @@ impl Commands<Refusing> for Unanswered {
     }
 }
 
-// What was answered before stands; then the script ends.
+// Replies before the failure are printed; then the script ends.
 #[test]
 fn refused_memory(rt: HostRuntime) -> Result<(), Fail> {
     let alloc = rt.alloc();

@@ -54,7 +54,7 @@ static SCRIPTS: [&[(&str, &str)]; 16] = [
         ("keys", "keys"),
         ("len", "len 0"),
     ],
-    // Numbers: signs, leading zeros and the bounds; even versions and the greatest index.
+    // Numbers: signs, leading zeros and the bounds; even versions and the largest index.
     &[
         ("insert -0", "key 4294967297"),
         ("get 018446744073709551615", "none"),
@@ -85,7 +85,7 @@ static SCRIPTS: [&[(&str, &str)]; 16] = [
             "[{\"value\":null,\"version\":0},{\"value\":5,\"version\":1},{\"value\":7,\"version\":3}]",
         ),
     ],
-    // A list is printed where it is asked for, and changes nothing.
+    // Printing a list changes nothing.
     &[
         ("slots", "[{\"value\":null,\"version\":0}]"),
         ("slots", "[{\"value\":null,\"version\":0}]"),
@@ -100,7 +100,7 @@ static SCRIPTS: [&[(&str, &str)]; 16] = [
             "[{\"value\":null,\"version\":0},{\"value\":null,\"version\":2}]",
         ),
     ],
-    // A list that is read takes the map's place; what stood before is gone, detached keys too.
+    // A list that is read replaces the map; what it held is gone, detached keys too.
     &[
         ("insert 1", "key 4294967297"),
         ("detach 4294967297", "value 1"),
@@ -114,7 +114,7 @@ static SCRIPTS: [&[(&str, &str)]; 16] = [
         ("load [{\"version\":0}]", "done"),
         ("len", "len 0"),
     ],
-    // The vacant places of a list are used from the greatest index down.
+    // The vacant slots of a list are reused from the largest index down.
     &[
         (
             "load [{\"version\":0},{\"version\":2},{\"value\":7,\"version\":1},{\"version\":2},{\"version\":2}]",
@@ -126,7 +126,7 @@ static SCRIPTS: [&[(&str, &str)]; 16] = [
         ("insert 3", "key 12884901889"),
         ("insert 4", "key 4294967301"),
     ],
-    // A used-up place is retired.
+    // A slot whose versions are used up is retired.
     &[
         (
             "load [{\"value\":null,\"version\":0},{\"value\":7,\"version\":4294967295}]",
@@ -196,7 +196,7 @@ static SCRIPTS: [&[(&str, &str)]; 16] = [
         ("load [{\"version\":0}]]", "shape"),
         ("load  ", "shape"),
     ],
-    // Which refusal comes first, and at which position.
+    // Which error is returned, and with which position.
     &[
         ("load [{\"version\":1}]", "first not empty"),
         (
@@ -215,7 +215,8 @@ static SCRIPTS: [&[(&str, &str)]; 16] = [
     ],
 ];
 
-// The packed order shows in no reply: keys come by ascending index. It decides which place a cleared map uses first.
+// No reply shows the packed order: keys are printed by ascending index. It decides which slot a
+// cleared map reuses first.
 static DENSE_SCRIPTS: [&[(&str, &str)]; 1] = [&[
     ("insert 1", "key 4294967297"),
     ("insert 2", "key 4294967298"),
@@ -241,7 +242,7 @@ static DENSE_SCRIPTS: [&[(&str, &str)]; 1] = [&[
     ("len", "len 2"),
 ]];
 
-// The same on a map whose walks hop.
+// The same on a `HopSlotMap`.
 static HOP_SCRIPTS: [&[(&str, &str)]; 3] = [
     &[
         ("insert 5", "key 4294967297"),
@@ -252,7 +253,7 @@ static HOP_SCRIPTS: [&[(&str, &str)]; 3] = [
             "[{\"value\":null,\"version\":0},{\"value\":null,\"version\":2},{\"value\":6,\"version\":1}]",
         ),
     ],
-    // The block at the head of the list is used first, from its back, and that of place 0 last.
+    // The first block of the list is reused first, from its back, and that of slot 0 last.
     &[
         ("insert 1", "key 4294967297"),
         ("insert 2", "key 4294967298"),
@@ -271,7 +272,7 @@ static HOP_SCRIPTS: [&[(&str, &str)]; 3] = [
         ("clear", "done"),
         ("insert 9", "key 12884901894"),
     ],
-    // A place is retired after its last key.
+    // A slot is retired after its last key.
     &[
         (
             "load [{\"value\":null,\"version\":0},{\"value\":7,\"version\":4294967295}]",
@@ -290,7 +291,7 @@ static HOP_SCRIPTS: [&[(&str, &str)]; 3] = [
     ],
 ];
 
-// Which slot an insert uses tells the kinds of map apart. These replies are the Rust crate's.
+// Which slot an insert reuses depends on the kind of map. These replies are the Rust crate's.
 static STACK_SLOTS: [&[(&str, &str)]; 1] = [&[
     ("insert 1", "key 4294967297"),
     ("insert 2", "key 4294967298"),
@@ -333,7 +334,7 @@ static HOP_SLOTS: [&[(&str, &str)]; 1] = [&[
     ("insert 8", "key 4294967301"),
 ]];
 
-// A list of eight records, which is longer than 200 bytes, and an insert whose line is.
+// A list of eight records, which is longer than 200 bytes, and an insert whose line is as well.
 static LONG_LINES: [&[(&str, &str)]; 1] = [&[
     (
         "load [{\"value\":null,\"version\":0},{\"value\":1,\"version\":1},{\"value\":2,\"version\":3},\
@@ -403,7 +404,7 @@ fn long_lines(rt: HostRuntime) -> Result<(), Fail> {
     Ok(())
 }
 
-// Scripts, and which of their lines is the first that is bad.
+// Scripts, each with the number of its first bad line.
 static BAD: [(&[u8], usize); 50] = [
     (b"insert", 1),
     (b"insert ", 1),
@@ -457,7 +458,7 @@ static BAD: [(&[u8], usize); 50] = [
     (b"slots\nload [{\"version\":0}]\nload x y\nload ", 4),
 ];
 
-// Lines that a map whose keys can't be detached has not.
+// Lines that a map without `detach` doesn't have.
 static BAD_HOP: [(&[u8], usize); 2] = [
     (b"insert 1\ndetach 4294967297\n", 2),
     (b"reattach 4294967297 1", 1),

@@ -8,7 +8,7 @@ use std::io::{ErrorKind, Read, Write};
 use std::process::Abort;
 use std::test::Fail;
 
-// Gives some bytes, and then fails.
+// Reads some bytes, and then fails.
 #[derive(Drop)]
 struct FailingReader {
     bytes: &'static [u8],
@@ -23,7 +23,7 @@ impl Read for FailingReader {
     }
 }
 
-// The usage comes before the input is read, and a failed read before any line is looked at.
+// The usage comes before the input is read, and a failed read before any line is parsed.
 #[test]
 fn order_of_faults(rt: HostRuntime) -> Result<(), Fail> {
     let usage = "usage: slotrun basic|dense|hop\n";
@@ -84,7 +84,7 @@ impl Write for FailingWriter {
     }
 }
 
-// Many lines of each kind, so that the replies to each are written in several calls: 60,849 bytes.
+// Many lines of each kind, so the replies to each are written in several calls: 60,849 bytes.
 fn long_script(alloc: Global) -> Result<Vec<u8>, AllocError> {
     let mut script = Vec::new(alloc);
     let lines = [
@@ -103,8 +103,8 @@ fn long_script(alloc: Global) -> Result<Vec<u8>, AllocError> {
     Ok(script)
 }
 
-// Each call of the writer fails in turn: the status is then 3, and no call follows. The writer and the status of the
-// first run in which none fails.
+// Each call of the writer fails in turn. The status is then 3, and no call follows. Returns the
+// writer and the status of the first run in which none fails.
 fn each_call_fails(
     rt: &impl Abort,
     alloc: Global,
@@ -133,7 +133,8 @@ fn each_call_fails(
 #[test]
 fn failing_writers(rt: HostRuntime) -> Result<(), Fail> {
     let long = long_script(rt.alloc())?;
-    // A script, the least number of calls of the writer, the bytes that it takes, and the status.
+    // A script, the smallest number of calls of the writer, the bytes that it writes, and the
+    // status.
     let table: [(&str, &[u8], usize, usize, u8); 5] = [
         ("tree", b"", 2, 31, 2),
         ("basic", b"x\n", 2, 11, 2),
