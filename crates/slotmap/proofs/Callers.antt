@@ -1,4 +1,4 @@
--- What a caller of a map needs: `keys` and `secondary`, each in one list for `using`, and lemmas to cite, passed on from one place.
+-- What callers of a map need: the lists `keys` and `secondary` for `using`, and lemmas to cite, all in one module.
 use Rattle.slotmap_core.proofs.Callers as core
 use Rattle.slotmap_core.proofs.SecondaryCallers as side
 pub use Rattle.slotmap_core.proofs.AgainLemmas.{offer_unused, live_removed_again, live_bound_again, detached_bound_again}
@@ -17,5 +17,5 @@ pub use Rattle.slotmap_core.proofs.Walks.{Walks, walk_start, walk_here, walk_nex
 
 pub ruleset keys = (core.keys)
 
--- the same on what a secondary map holds, by its indices or by its keys
+-- the same for what a secondary map holds, by its indices or by its keys
 pub ruleset secondary = (side.secondary, get-keyed)

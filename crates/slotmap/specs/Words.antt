@@ -1,4 +1,4 @@
--- The words that a caller's clauses cite, passed on from one place. Declares nothing.
+-- The words that callers' clauses cite, all in one module. Declares nothing.
 pub use Rattle.slotmap_core.specs.Key.{Key, IsKey, null_key, key_cmp, coded_key, same_keys}
 pub use Rattle.slotmap_core.specs.Content.{Content, content_code, IsContent, IsLive, IsDetached, IsRetired, used, places, most}
 pub use Rattle.slotmap_core.specs.Spent.{IsSpent, KeepsSpent}

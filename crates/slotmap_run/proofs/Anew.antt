@@ -1,4 +1,4 @@
--- Calls that each owe a step are a run of the machine, from a state of which its laws hold.
+-- Calls that are each a step of the machine are a run of it, from a state of which its laws hold.
 use Rattle.std.proofs.Common.{◌≡◌, ◌+◌, ◌<◌, ◌^◌, Bool, List, ◌++◌, length, ◌∙◌, arith}
 use Rattle.std.specs.FinSet as set
 use Rattle.slotmap_core.specs.Content.{Content, IsContent}
@@ -35,7 +35,7 @@ module _ {V C R : Type 0} (Step : State V → C → R → State V → Type 0) (c
 pub record IsLawful {V C R : Type 0} (Step Any : State V → C → R → State V → Type 0) (Laws : List C → List R → Type 0) : Type 0 where
   pub freely : (old : State V) (c : C) (r : R) (new : State V) → Step old c r new → Any old c r new
   pub laws : (cs : List C) (rs : List R) → RunsWell Any cs rs → Laws cs rs
-  -- where nothing is retired at the end, nothing ever was
+  -- if nothing is retired at the end, nothing ever was
   pub unretired : (cs : List C) (rs : List R) (s t : State V) → Run Step s cs rs t → retired t ≡ set.empty → Run (Unretiring Step) s cs rs t
 
 module _ {V C R : Type 0} {Step Any : State V → C → R → State V → Type 0} {Laws : List C → List R → Type 0} (machine : IsLawful Step Any Laws) (cs : List C) (rs : List R) where
@@ -45,7 +45,7 @@ module _ {V C R : Type 0} {Step Any : State V → C → R → State V → Type 0
     lasts = follows.lasts;
   }
 
-  -- what is promised of calls on a map
+  -- what is ensured of calls on a map
   pub record Ran (reuses : Bool) (old new : Content V) : Type 0 where
     pub run : RunFollows Step old cs rs new
     pub goes_on : RunFollows Any old cs rs new
@@ -68,7 +68,7 @@ module _ {V C R : Type 0} {Step Any : State V → C → R → State V → Type 0
         laws = machine.laws cs rs (well_from Any cs rs reuses old new ok free);
       }
 
-  -- what is promised of calls on a new map
+  -- what is ensured of calls on a new map
   pub record RanAnew (new : Content V) : Type 0 where
     pub run : RunsAnew Step cs rs new
     pub none_retired : length cs < 2 ^ 32 → RunsAnew (Unretiring Step) cs rs new

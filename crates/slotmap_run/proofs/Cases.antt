@@ -25,7 +25,7 @@ of_none : {V : Type 0} (m n : Option V) → (m ≡ None → n ≡ None) → is_s
 of_none (Some a) n f h = refl
 of_none None n f h = let e = f refl in absurd (cc)
 
--- no key is answered, none becomes live that was neither live nor detached, and the detached keys stay
+-- no key is returned, none becomes live that was neither live nor detached, and the detached keys stay
 record Quiet {K V R E : Type 0} (data_of : K → Key) (old new : State V) (r : Reply K V R E) : Type 0 where
   shrinks : Shrinks data_of old r new
   detached : new.detached ≡ old.detached
@@ -37,7 +37,7 @@ module _ {K V R E : Type 0} (data_of : K → Key) (old new : State V) (r : Reply
     detached = ap (λ (s : State V). s.detached) e;
   }
 
-  -- the live map of old, changed, and no other part but what is promised
+  -- only the live keys and what is promised change
   changes : (m : map.FinMap key_cmp V) (n : ℕ) → new ≡ record old { live = m; promised = n } → old.promised ≤ n → (used old + old.promised ≤ most → used old + n ≤ most) → ((k : Key) → map.contains_key m k ≡ true → map.contains_key old.live k ≡ true) → Quiet data_of old new r
   changes m n e more within fewer = record {
     shrinks = rw e (record {
@@ -110,11 +110,11 @@ module _ {K V R E : Type 0} (given : Given K V R E) where
   step_cases : (old : State V) (c : Command K V) (r : Reply K V R E) (new : State V) → Step given old c r new → Binds given.data_of old r new ⊎ Shrinks given.data_of old r new
   step_cases old c r new h = ⊎_elim (λ b. inl b) (λ q. inr q.shrinks) (quiet_cases old c r new h)
 
-  -- a step of the plain machine leaves the detached keys
+  -- a step of the plain machine keeps the detached keys
   plain_detached : (old : State V) (c : Command K V) (r : Reply K V R E) (new : State V) → Step given old c r new → new.detached ≡ old.detached
   plain_detached old c r new h = ⊎_elim (λ b. ap (λ (s : State V). s.detached) b.is) (λ q. q.detached) (quiet_cases old c r new h)
 
-  -- a detached key stays detached but for a reattach of it
+  -- a detached key stays detached until it is reattached
   pub detached_stays : (k : Key) (old : State V) (c : DetachCommand K V) (r : Reply K V R E) (new : State V) → Spares given.data_of k c r → DetachStep given old c r new → set.contains old.detached k ≡ true → set.contains new.detached k ≡ true
   detached_stays k old (detaching.Plain c) r new spares h was = rw (plain_detached old c r new h) was
   detached_stays k old (detaching.Detach q) (reply.Taken (Some v)) new spares h was = rw (ap (λ (s : State V). s.detached) h.1) (item_still keys_total exact_keys old.detached (given.data_of q) k was)

@@ -1,4 +1,4 @@
--- How many keys stand in a finite map and two sets together.
+-- How many keys a finite map and two sets have together.
 use Rattle.std.proofs.Common.{◌≡◌, ℕ, zero, suc, ◌+◌, ◌≤◌, List, [], ◌∷◌, length, Option, None, Bool, true, false, cond, not, ◌&&◌, ◌||◌, ◌⊎◌, inl, inr, refl, sym, ap, ◌∙◌, arith, is_some}
 use Rattle.std.specs.Prelude.{map as list_map}
 use Rattle.std.specs.List.{list_any}
@@ -34,7 +34,7 @@ subset_by (suc n) s t h within =
 pub len-subset : (s t : set.FinSet key_cmp) → ((q : Key) → set.contains s q ≡ true → set.contains t q ≡ true) → set.len s ≤ set.len t
 len-subset s t within = subset_by (set.len s) s t refl within
 
--- what is taken out of one of two parts is taken out of both together
+-- removing from one of two parts removes from both together
 one_out : (e a b c : Bool) → c ≡ (a || b) → (e ≡ true → b ≡ false) → (not e && c) ≡ ((not e && a) || b)
 one_out true a b c is apart = sym (apart refl)
 one_out false a b c is apart = is
@@ -116,7 +116,7 @@ module _ {V : Type 0} where
     all_among q (inl (inr h)) = contains-all_keys q ∙ or_right (map.contains_key m q) _ (set.contains-union keys_total d r q ∙ or_left _ _ h)
     all_among q (inr h) = contains-all_keys q ∙ or_right (map.contains_key m q) _ (set.contains-union keys_total d r q ∙ or_right _ _ h)
 
-    -- where no key stands in two of them, their lengths add up
+    -- if no key is in two of them, their lengths add up
     pub len-all_keys : ((q : Key) → map.contains_key m q ≡ true → set.contains d q ≡ true → ⊥) → ((q : Key) → (map.contains_key m q ≡ true) ⊎ (set.contains d q ≡ true) → set.contains r q ≡ true → ⊥)
         → set.len (all_keys m d r) ≡ map.len m + set.len d + set.len r
     len-all_keys apart others =

@@ -1,4 +1,4 @@
--- A key that was detached isn't answered again, and can be reattached.
+-- No later insert returns a detached key, and it can be reattached.
 use Rattle.std.proofs.Common.{Ok, Err, sym, ◌≡◌, List, ◌∷◌, ◌++◌, Some, true, false, ◌⊎◌, inl, inr, refl, ap, ◌∙◌, is_some}
 use Rattle.std.specs.Option.{unwrap_or}
 use Rattle.std.specs.FinMap as map

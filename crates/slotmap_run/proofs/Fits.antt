@@ -1,4 +1,4 @@
--- An insert into a content that a state fits leaves one that the machine's next state fits.
+-- After an insert into a content that a state fits, the machine's next state fits the new content.
 use Rattle.std.proofs.Common.{◌≡◌, ◌≢◌, ℕ, ◌+◌, ◌<◌, ◌≤◌, Bool, true, false, ◌⊎◌, inl, inr, sym, ap, ◌∙◌, arith, ⊎_elim}
 use Rattle.std.specs.Ordering.{nat_cmp}
 use Rattle.std.specs.FinMap as map
@@ -46,7 +46,7 @@ module _ {V : Type 0} (reuses : Bool) (s : State V) (old new : Content V) (ok : 
       | inr g ↦ let w = fits.within other h in absurd (omega arith)
     ]
 
-    -- the machine may answer what the map offers
+    -- the machine may return the key that the map offers
     pub offer_fresh : Fresh s old.offer
     offer_fresh = record {
       is_key = elim (ok.offers room) [
@@ -130,7 +130,7 @@ module _ {V : Type 0} (reuses : Bool) (s : State V) (old new : Content V) (ok : 
       ];
     }
 
-  -- a state with the parts of new and nothing more issued fits, where nothing more stands
+  -- a state with the parts of new and no more keys issued fits, if no more keys are live or detached
   module _ (t : State V) (live : t.live ≡ new.live) (detached : t.detached ≡ new.detached) (ended : retired t ≡ new.retired) (issued : t.issued ≡ s.issued) (peak : t.peak ≡ s.peak) (promised : t.promised ≤ new.room)
       (stood : (q : Key) → Stands new q → Stands old q) (same : places new ≡ places old)
       (vacant : Vacates old new) where

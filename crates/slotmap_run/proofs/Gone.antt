@@ -17,7 +17,7 @@ use Rattle.slotmap_run.proofs.Runs.{run_split, run_keeps}
 use Rattle.slotmap_run.proofs.Anew.{RunsWell}
 
 module _ {K V R E C : Type 0} {given : Given K V R E} {Machine : State V → C → Reply K V R E → State V → Type 0} {of : Command K V → C} (m : IsMachine given Machine of) where
-  -- in a good state, a key that is removed is gone
+  -- in a good state, a removed key is gone
   goes : (old new : State V) (k : Key) (v : V) → IsGood old → map.get old.live k ≡ Some v → new ≡ after_remove old k → Gone new k
   goes old new k v good found is = rw is (record {
     not_held = λ h. elim h [

@@ -42,7 +42,7 @@ use Rattle.slotmap_run.specs.declared.joined.Beside.{Beside}
 -- versions
 
 module _ {V : Type 0} (reuses : Bool) (old new : Content V) (n : ℕ) (ok : IsContent reuses old) (young : Young (n + 1) old) where
-  -- no more stands
+  -- no more keys are live or detached
   young_still : ((q : Key) → Stands new q → Stands old q) → Vacates old new → Young n new
   young_still stood vacates = record {
     few = let few = young.few in omega arith;
@@ -65,7 +65,7 @@ module _ {V : Type 0} (reuses : Bool) (old new : Content V) (n : ℕ) (ok : IsCo
   pub young_reattaches : (k : Key) (v : V) → Reattaches old k v new → Young n new
   young_reattaches k v r = young_still (reattached_stands old new k v r) (same_vacant old new r.next)
 
-  -- the key that is answered is young, too
+  -- the key that is returned is young, too
   pub young_offer : (k : Key) (v : V) → Inserts old k v new → k.version + n < 2 ^ 31
   young_offer k v i = elim (ok.offers i.below_limit) [
     | inl g ↦ let room = young.vacant old.offer.index old.offer.version g in let odd = (ok.vacancies old.offer.index old.offer.version g).odd in rw i.offered (omega arith)
@@ -91,7 +91,7 @@ named_one : {K : Type 0} (keys : List K) (i : ℕ) (k : K) → named keys i ≡ 
 named_one keys zero k h = absurd (cc)
 named_one keys (suc i) k h = (i, h)
 
--- where a version is found, it stands
+-- a version that is found is there
 found_stands : {W : Type 0} (version : ℕ) (o : Option (ℕ × W)) (w : W) → value_at version o ≡ Some w → (p : ℕ × W) × (o ≡ Some p) × (p.0 ≡ version)
 found_stands {W} version None w h = absurd (cc)
 found_stands {W} version (Some p) w h = elim (nat_eq p.0 version) as (λ b. nat_eq p.0 version ≡ b → (p0 : ℕ × W) × (Some p ≡ Some p0) × (p0.0 ≡ version)) [
@@ -117,7 +117,7 @@ module _ {K V W R : Type 0} (given : Given K W R) (old new : Content V) (m : Pai
   still k q h = item_still keys_total exact_keys s.issued k q h
 
   module _ (d : Dictionary W) (n : ℕ) (known : Known given.data_of s d old m keys (n + 1)) where
-    -- the primary map changes, no key is answered, and no more keys stand
+    -- the primary map changes, no key is returned, and no more keys are live or detached
     moves : (p : State V) → p.issued ≡ s.issued → ((k : Key) → Stands new k → Stands old k) → Young n new → Known given.data_of p d new m keys n
     moves p issued stood young = record {
       answered = λ i k h. rw issued (known.answered i k h);
@@ -132,7 +132,7 @@ module _ {K V W R : Type 0} (given : Given K W R) (old new : Content V) (m : Pai
       abbrev k : Key
       k = given.data_of key
 
-      -- a fresh key was never heard of
+      -- a fresh key was never issued
       unheard : (q : Key) → q.index ≡ k.index → q.version ≡ k.version → IsIssued s q → ⊥
       unheard q index version h = let less = (fit.inserts_fresh given.reuses s old new ok fits k v i new_ok).newer q h index in omega arith
 
@@ -220,7 +220,7 @@ module _ {K V W C A R : Type 0} (given : Given K W R) (old new : Content V) (m :
     λ d n known. (d, telling s d n ties known, moves given old new m keys ok s.primary ties.fits d n known s.primary refl (kept_stands old new keeps) (young_keeps given.reuses old new n ok known.lasts keeps)),
   )
 
-  -- no key is answered, and no more keys stand
+  -- no key is returned, and no more keys are live or detached
   changes : (after : State V → State V) → ((s : State V) → (after s).issued ≡ s.issued) → ((s : State V) → Fits s old → Fits (after s) new)
       → ((q : Key) → Stands new q → Stands old q) → ((n : ℕ) → Young (n + 1) old → Young n new)
       → ((s : Joined K V W) → Ties s old m keys → Step s c r (record s { primary = after s.primary }))
@@ -252,7 +252,7 @@ module _ {K V W R : Type 0} (given : Given K W R) (old new : Content V) (m : Pai
         λ d n known. (d, record { steps = step; tells = tt; notes = refl }, pushes given old new m keys ok s.primary ties.fits d n known key v i new_ok),
       )
 
-  -- a command that changes neither map, and of which the dictionary tells nothing
+  -- a command that changes neither map nor the dictionary
   module _ (c : JoinedCommand V W) (r : JoinedReply K V W R) (keeps : Keeps old new) where
     silent : ((s : Joined K V W) (d : Dictionary W) → Tells given s d c r × (d ≡ noted given s.keys d c r)) → ((s : Joined K V W) → Ties s old m keys → Step given s c r s) → Plainly c r m keys
     silent tells step = stays given old new m keys ok (Step given) (TellingStep given) c r keeps step (λ s d n ties known. record { steps = step s ties; tells = (tells s d).0; notes = (tells s d).1 })
@@ -284,7 +284,7 @@ module _ {K V W R : Type 0} (given : Given K W R) (old new : Content V) (m : Pai
     heard : (s : Joined K V W) (d : Dictionary W) (n : ℕ) → Known given.data_of s.primary d old m keys n → IsIssued s.primary at
     heard s d n known = let one = named_one keys i key (sym told) in known.answered one.0 key one.1
 
-    -- what the named key finds, the dictionary has, where the key is live or detached
+    -- if the key of a number is live or detached, the dictionary has what it finds
     agrees : (s : Joined K V W) → Ties s old m keys → (d : Dictionary W) (n : ℕ) → Known given.data_of s.primary d old m keys n → (k : K) → named s.keys i ≡ Some k → IsHeld s.primary (given.data_of k) → get m at ≡ map.get d (given.data_of k)
     agrees s ties d n known k is held =
         ap (λ q. get m (given.data_of q)) (same_Some key k (sym (names s ties) ∙ is)) ∙ known.agree (given.data_of k) (stands_then given old new m keys ok s.primary ties.fits (given.data_of k) held)
@@ -429,7 +429,7 @@ module _ {K V W C R : Type 0} (data_of : K → Key) (Step : Joined K V W → C �
     abbrev Owed : M → C → R → M → Type 0
     Owed old c r new = Follows data_of Step Telling (first old) (second old) (keys old) c r (first new) (second new) (keys new)
 
-    -- calls, each of which owes a step, are a run of the machine of both maps
+    -- calls that are each a step are a run of the machine of both maps
     runs_beside : (cs : List C) (rs : List R) (old new : M) → Run Owed old cs rs new
         → (s : Joined K V W) → Ties s (first old) (second old) (keys old)
         → (t : Joined K V W) × Run Step s cs rs t × Ties t (first new) (second new) (keys new)
@@ -441,7 +441,7 @@ module _ {K V W C R : Type 0} (data_of : K → Key) (Step : Joined K V W → C �
         let rest = runs_beside cs rs h.0 new h.2 step.0 step.2 in
         (rest.0, (step.0, step.1, rest.1), rest.2)
 
-    -- and the dictionary tells them, where all is known
+    -- and their replies are the dictionary's, if all is known
     runs_told : (cs : List C) (rs : List R) (old new : M) → Run Owed old cs rs new
         → (b : WithDictionary K V W) → Ties b.joined (first old) (second old) (keys old) → Known data_of b.joined.primary b.dictionary (first old) (second old) (keys old) (length cs)
         → (t : WithDictionary K V W) × Run Telling b cs rs t × Ties t.joined (first new) (second new) (keys new)
@@ -498,7 +498,7 @@ module _ {M S K V W C R : Type 0} (data_of : K → Key) (content : M → Content
   owed : Run (Owed data_of Step Telling first_of second_of keys_of) old cs rs new
   owed = run_seen _ _ (λ maps. maps) (λ s c r t h. h.follows) cs rs old new run
 
-  -- p and q are what the maps hold once the loop has ended
+  -- p and q are the two maps once the loop has ended
   module _ (none : old.keys.now.items ≡ []) (p : M) (q : S) (is_p : p ≡ new.primary.now) (is_q : q ≡ new.secondary.now) where
     pub joined_run : RunsBeside Step (content old.primary.now) (pairs old.secondary.now) cs rs (content p) (pairs q)
     joined_run s fits =

@@ -1,4 +1,4 @@
--- For how many calls no place is retired.
+-- For how many calls no slot is retired.
 use Rattle.std.proofs.Common.{None, ◌≡◌, ℕ, ◌+◌, ◌-◌, ◌^◌, ◌<◌, Bool, true, false, cond, not, ◌&&◌, inl, inr, sym, ap, ◌∙◌, arith, eqb-true}
 use Rattle.std.specs.Ordering.{nat_cmp}
 use Rattle.std.specs.FinMap as map
@@ -15,11 +15,11 @@ last_is : (k : Key) → is_last k ≡ true → k.version ≡ 2 ^ 32 - 1
 last_is k h = eqb-true k.version (2 ^ 32 - 1) h
 
 module _ {V : Type 0} (reuses : Bool) (old new : Content V) (n : ℕ) (ok : IsContent reuses old) (lasts : Lasts (n + 1) old) where
-  -- what stands has a version that isn't the last
+  -- the version of a live or detached key isn't the last
   not_last : (k : Key) → Stands old k → is_last k ≡ false
   not_last k h = false_of _ (λ last. let is = last_is k last in let room = lasts.standing k h in absurd (omega arith))
 
-  -- where no more stands and no more is retired, one call less is left
+  -- if no more keys are live or detached and none is newly retired, one call less is left
   fewer_lasts : new.retired ≡ old.retired → ((q : Key) → Stands new q → Stands old q) → Vacates old new → Lasts n new
   fewer_lasts retired stood vacant = record {
     few = let few = lasts.few in omega arith;

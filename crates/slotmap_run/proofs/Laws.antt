@@ -34,7 +34,7 @@ none_used V =
     omega arith
 
 module _ {V : Type 0} where
-  -- k was answered, and is neither live nor detached
+  -- k was returned, and is neither live nor detached
   pub record Gone (s : State V) (k : Key) : Type 0 where
     pub not_held : IsHeld s k → ⊥
     pub issued : IsIssued s k
@@ -43,7 +43,7 @@ module _ {V : Type 0} where
   pub record IsGood (s : State V) : Type 0 where
     pub held_issued : (k : Key) → IsHeld s k → IsIssued s k
     pub apart : IsApart s
-    -- the inserts that are owed don't pass the limit
+    -- the inserts that are owed don't exceed the limit
     pub within : used s + s.promised ≤ most
 
   pub empty_good : IsGood empty_state
@@ -64,7 +64,7 @@ module _ {V : Type 0} where
   not_issued s k f h = let less = f.newer k h refl in absurd (omega arith)
 
 module _ {K V R E : Type 0} (data_of : K → Key) where
-  -- the reply answers a fresh key, which is bound
+  -- the reply is a fresh key, which has a value then
   pub record Binds (old : State V) (r : Reply K V R E) (new : State V) : Type 0 where
     pub key : Key
     pub value : V
@@ -73,18 +73,18 @@ module _ {K V R E : Type 0} (data_of : K → Key) where
     pub fresh : Fresh old key
     pub is : new ≡ after_insert old key value
 
-  -- no key is answered, and none becomes live or detached that was neither
+  -- no key is returned, and none becomes live or detached that was neither
   pub record Shrinks (old : State V) (r : Reply K V R E) (new : State V) : Type 0 where
     pub tells : reply_keys data_of r ≡ []
     pub issued : new.issued ≡ old.issued
     pub held : (k : Key) → IsHeld new k → IsHeld old k
     pub apart : IsApart old → IsApart new
     pub promised : old.promised ≤ new.promised + 1
-    -- what is newly promised doesn't pass the limit
+    -- what is newly promised doesn't exceed the limit
     pub within : used old + old.promised ≤ most → used old + new.promised ≤ most
 
--- A machine of primary maps: each step binds a fresh key, or binds none, and its steps at plain commands are the
--- plain machine's (`of` makes a command of this machine from a plain one)
+-- A machine of primary maps: each step binds a fresh key, or none; and its steps for plain commands are those of the plain machine (`of`
+-- makes a command of this machine from a plain one)
 pub record IsMachine {K V R E C : Type 0} (given : Given K V R E) (Step : State V → C → Reply K V R E → State V → Type 0) (of : Command K V → C) : Type 0 where
   pub cases : (old : State V) (c : C) (r : Reply K V R E) (new : State V) → Step old c r new → Binds given.data_of old r new ⊎ Shrinks given.data_of old r new
   pub plainly : (old : State V) (c : Command K V) (r : Reply K V R E) (new : State V) → Step old (of c) r new → plain.Step given old c r new
@@ -134,7 +134,7 @@ module _ {K V R E C : Type 0} {given : Given K V R E} {Step : State V → C → 
         | inr n ↦ let less = n.promised in omega arith
       ]
 
-  -- no key that the replies answer was issued before them, and they answer none twice
+  -- no key that the replies return was issued before, and they return none twice
   pub told_new : (cs : List C) (rs : List (Reply K V R E)) (s t : State V) → Run Step s cs rs t → AllByRecursion (λ q. IsIssued s q → ⊥) (keys_told given.data_of rs) × NoKeyTwice given.data_of rs
   unfolding IsDistinct
   told_new [] [] s t run = (tt, tt)
@@ -156,7 +156,7 @@ module _ {K V R E C : Type 0} {given : Given K V R E} {Step : State V → C → 
       let gone = gone_stays k old c r new step (record { not_held = was.not_held; issued = was.issued }) in
       retired_of_spent new k (record { issued = gone.issued; last = was.last; not_held = gone.not_held })
 
-  -- where nothing is retired at the end, nothing ever was
+  -- if nothing is retired at the end, nothing ever was
   pub unretired : (cs : List C) (rs : List (Reply K V R E)) (s t : State V) → Run Step s cs rs t → retired t ≡ set.empty → Run (Unretiring Step) s cs rs t
   unretired [] [] s t run none = run
   unretired [] (r ∷ rs) s t run none = absurd run

@@ -1,4 +1,4 @@
--- What a call other than an insert does to a content that a state fits leaves one that the machine's next state fits.
+-- After any other call than an insert on a content that a state fits, the machine's next state fits the new content.
 use Rattle.std.proofs.Common.{◌≡◌, ◌≢◌, ℕ, ◌≤◌, Bool, true, false, not, ◌&&◌, ◌||◌, inl, inr, refl, sym, ap, ◌∙◌, arith, ⊎_elim}
 use Rattle.std.specs.FinMap as map
 use Rattle.std.specs.FinSet as set

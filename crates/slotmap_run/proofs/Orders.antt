@@ -1,4 +1,4 @@
--- The calls of a map with a stack are the steps of the machine that uses the place freed last first.
+-- The calls of a map with a stack are the steps of the machine that reuses the slot freed last.
 use Rattle.std.proofs.Common.{◌≡◌, ℕ, ◌+◌, ◌<◌, max, List, [], ◌∷◌, ◌++◌, Option, Some, None, Bool, true, if◌then◌else◌, inl, inr, refl, sym, ap, ◌∙◌, arith, is_some}
 use Rattle.std.specs.Prelude.{drop}
 use Rattle.std.specs.Option.{option_map, unwrap_or}
@@ -39,7 +39,7 @@ module _ {V : Type 0} where
       (λ h. let p = in_after_remove keys_total exact_keys m k q h in item_left keys_total exact_keys l k q p.0 (same q ∙ p.1))
 
 module _ {V : Type 0} (reuses : Bool) (old new : Content V) (ok : IsContent reuses old) (l : Lifo) (is : IsLifo l old) where
-  -- where a place is left, the machine's offer is the map's
+  -- if the map isn't full, the machine's offer is the map's
   offer_by : used old < most → (stack : List ℕ) → old.stack ≡ Some stack → (old.offer ≡ top_key old.next (places old) stack) × (places_after (places old) stack ≡ max (places old) (used old + 1))
   offer_by room [] e =
       let none = (ok.stacked [] e).once in
@@ -113,7 +113,7 @@ module _ {V : Type 0} (reuses : Bool) (c : Content V) (ok : IsContent reuses c) 
       e ∙ ap Some (nil_from_length stack ((ok.stacked stack e).once ∙ none))
   none_stacked None some e = absurd (cc)
 
-  -- a new map with a stack is at the start
+  -- a new map with a stack is at the machine's start
   pub lifo_new : is_some c.stack ≡ true → IsLifo lifo.no_places c
   lifo_new some = record {
     live = λ k. set.contains-empty key_cmp k ∙ sym (ap (λ (m : map.FinMap key_cmp V). map.contains_key m k) new.live ∙ ap is_some (map.get-empty key_cmp k));

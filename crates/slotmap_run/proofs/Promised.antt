@@ -17,7 +17,7 @@ use Rattle.slotmap_run.proofs.Runs.{run_split, run_keeps}
 use Rattle.slotmap_run.proofs.Anew.{RunsWell}
 
 module _ {K V R E : Type 0} (given : Given K V R E) where
-  -- where what is owed is within the limit, an insert is refused only where nothing is owed
+  -- if what is owed is within the limit, an insert fails only if nothing is owed
   pub plain_refused : (old : State V) (c : Command K V) (r : Reply K V R E) (new : State V) → Grows c → Step given old c r new → IsRefusal r → used old + old.promised ≤ most → old.promised ≡ 0
   plain_refused old (command.Insert v) (reply.Full back) new g step is within = let full = step.0 in omega arith
   plain_refused old (command.Insert v) (reply.Memory back) new g step is within = step.0.not_promised

@@ -1,4 +1,4 @@
--- The laws of the two machines, and what is served on maps as a run on what they hold.
+-- The laws of the two machines, and calls on maps as a run on the contents of the maps.
 use Rattle.std.proofs.Common.{◌≡◌, List, Bool, true, is_some}
 use Rattle.slotmap_core.specs.Content.{Content, IsContent}
 use Rattle.slotmap_core.specs.Transition.{IsNew}
@@ -49,7 +49,7 @@ module _ {K V R E : Type 0} (given : Given K V R E) where
   pub detach_lawful : IsLawful (DetachStep given) (DetachStep (any_closures given.data_of given.reuses)) (DetachLaws given.data_of given.reuses)
   detach_lawful = record { freely = detach_freely given; laws = detach_laws (freed given); unretired = unretired (detach_machine given) }
 
--- commands that are served on maps each owe a step of the machine on what they hold
+-- each command that is run on a map is a step of the machine on its content
 follow : {M K V R E C : Type 0} (Step : Given K V R E → State V → C → Reply K V R E → State V → Type 0) (of : C → DetachCommand K V) (given : Given K V R E) (content : M → Content V) (cs : List C) (rs : List (Reply K V R E)) (old new : M)
     → Run (λ old c r new. Served Step of given (content old) c r (content new)) old cs rs new → Run (Follows (Step given)) (content old) cs rs (content new)
 follow Step of given content cs rs old new served = run_seen _ _ content (λ s c r t h. h.follows) cs rs old new served
@@ -70,7 +70,7 @@ module _ {M K V R E : Type 0} (given : Given K V R E) (content : M → Content V
   pub detach_anew : IsNew (content old) → RanAnew (detach_lawful given) cs rs (content new)
   detach_anew start = ran_anew (detach_lawful given) cs rs (content old) (content new) start (follow DetachStep (λ c. c) given content cs rs old new served)
 
-  -- inserts use the place freed last first, from a new map that keeps a stack
+  -- inserts reuse the slot freed last, from a new map that keeps a stack
   pub in_order : (reuses : Bool) → IsContent reuses (content old) → IsNew (content old) → is_some (content old).stack ≡ true → LastFreedFirst given.data_of cs rs
   in_order reuses ok start stacked basic told = lifo_run given.data_of no_places (content old) (content new) cs rs (lifo_new reuses (content old) ok start stacked)
       (run_seen _ _ content (λ s c r t h. h.orders) cs rs old new served) basic told

@@ -1,4 +1,4 @@
--- What the calls of a map promise is a step of the machine.
+-- What the calls of a map ensure is a step of the machine.
 use Rattle.std.proofs.Common.{◌≡◌, ℕ, ◌+◌, ◌<◌, ◌≤◌, List, [], ◌∷◌, ◌++◌, Vec, Global, Result, Ok, Err, IfOk, OnOk, IfErr, OnErr, IsErr, IsOk, Option, Some, None, Bool, false, cond, inl, inr, refl, sym, ap, ◌∙◌, subst, arith, is_some}
 use Rattle.std.specs.Prelude.{map as list_map, MatchOption, IsSomeAnd, OnSome, IfNone, option_copied}
 use Rattle.std.specs.Fn.{Mut}
@@ -60,11 +60,11 @@ module _ {K V R E : Type 0} (given : Given K V R E) (old new : Content V) (ok : 
   abbrev DetachAnswers : DetachCommand K V → Reply K V R E → Type 0
   DetachAnswers command reply = Served DetachStep (λ command. command) given old command reply new
 
-  -- a command that isn't of the machine of the place freed last
+  -- a command that isn't of the machine that reuses the slot freed last
   other : (c : Command K V) (r : Reply K V R E) → (IsBasic (detaching.Plain c) → ⊥) → Follows (Step given) old c r new → Answers c r
   other c r not_basic follows = record { follows = follows; orders = λ l is basic told. absurd (not_basic basic) }
 
-  -- a refused one
+  -- a command that fails
   refused : (c : Command K V) (r : Reply K V R E) → IsRefusal r → Follows (Step given) old c r new → Answers c r
   refused c r is follows = record { follows = follows; orders = λ l lifo basic told. absurd (told is) }
 
@@ -100,7 +100,7 @@ module _ {K V R E : Type 0} (given : Given K V R E) (old new : Content V) (ok : 
   with_full : used old ≡ most → Keeps old new → Answers command.InsertWith (reply.Full None)
   with_full r keeps = other command.InsertWith (reply.Full None) (λ b. b) (stays_by (Step given) command.InsertWith (reply.Full None) keeps (λ s fits. (used_same given.reuses s old new ok fits ∙ r, refl, refl)))
 
-  -- where memory was lacking for an insert, it may be lacking in the machine
+  -- if memory may run out for an insert, it may in the machine
   may_lack : LacksRoom old → (s : State V) → Fits s old → MayLackMemory given.reuses s
   may_lack r s fits = let same = used_same given.reuses s old new ok fits in record {
     below_limit = λ e. let less = r.below_limit in omega arith;
@@ -114,7 +114,7 @@ module _ {K V R E : Type 0} (given : Given K V R E) (old new : Content V) (ok : 
   with_no_memory : LacksRoom old → Keeps old new → Answers command.InsertWith (reply.Memory None)
   with_no_memory r keeps = other command.InsertWith (reply.Memory None) (λ b. b) (stays_by (Step given) command.InsertWith (reply.Memory None) keeps (λ s fits. (may_lack r s fits, refl, refl)))
 
-  -- whatever an insert answers
+  -- whatever an insert returns
   pub inserted : (v : V) (r : Result K (InsertError V)) → MayGrow given.reuses old (IsErr r) new → IfOk r (λ key. Inserts old (given.data_of key) v new) → IfErr r (Refuses old v) → Answers (command.Insert v) (insert_reply_of r)
   inserted v (Ok key) valid ok err = inserts valid.after key v ok
   inserted v (Err (Full back)) valid ok err = full v back err (valid.unchanged refl)
@@ -124,7 +124,7 @@ module _ {K V R E : Type 0} (given : Given K V R E) (old new : Content V) (ok : 
   with_failed e r keeps = other command.InsertWith (reply.Failed e) (λ b. b) (stays_by (Step given) command.InsertWith (reply.Failed e) keeps
       (λ s fits. (below given.reuses s old new ok fits r.0, (r.1.0, rw r.1.1 (offer_fresh given.reuses s old new ok fits r.0), r.1.2), refl)))
 
-  -- whatever an insert of what `make` gives answers
+  -- whatever an insert of what `make` returns does
   pub inserted_with : (r : Result K (TryInsertError E)) → MayGrow given.reuses old (IsErr r) new
       → IfOk r (λ key. (v : V) × given.makes key (Ok v) × Inserts old (given.data_of key) v new) → IfErr r (RefusesWith given.data_of given.makes old) → Answers command.InsertWith (insert_with_reply_of r)
   inserted_with (Ok key) valid ok err = inserts_with valid.after key ok.0 ok.1 ok.2
@@ -138,7 +138,7 @@ module _ {K V R E : Type 0} (given : Given K V R E) (old new : Content V) (ok : 
   looks_none : (key : K) → Keeps old new → None ≡ map.get old.live (given.data_of key) → Answers (command.Get key) (reply.Looked None)
   looks_none key keeps none = stays (command.Get key) (reply.Looked None) (λ b. b) keeps (λ s live same. (rw live (sym none), refl))
 
-  -- whatever a look-up finds, where what is shown of it may be told
+  -- whatever a look-up finds, if the reply may be told of it
   pub looked : (key : K) (found : Option (Bor V)) (told : Option R) (P : Bor V → R → Type 0) → ((x : Bor V) (r : R) → P x r → given.looks x.now r) → Keeps old new
       → option_copied found ≡ map.get old.live (given.data_of key) → MatchOption found (told ≡ None) (λ x. IsSomeAnd told (P x)) → Answers (command.Get key) (reply.Looked told)
   looked key None told P says keeps is shown = rw shown (looks_none key keeps is)
@@ -192,13 +192,13 @@ module _ {K V R E : Type 0} (given : Given K V R E) (old new : Content V) (ok : 
     refl,
   )))
 
-  -- whatever a reserve answers
+  -- whatever a reserve returns
   pub reserved : (m : ℕ) (r : Result (Unit {0}) ReserveError) → MakesRoom given.reuses old m (IsOk r) new → IfErr r (RefusesCapacity (used old + m)) → Answers (command.Reserve m) (reserve_reply_of r)
   reserved m (Ok done) made err = reserves m (made.fits refl) (made.room refl) made.keeps
   reserved m (Err capacity.TooGreat) made err = too_great m err made.keeps
   reserved m (Err capacity.Memory) made err = elim (cases_lt old.room m) [ inl lacks ↦ reserves_no_memory m err lacks made.keeps | inr room ↦ let done = made.succeeds room in absurd (cc) ]
 
-  -- some keys leave, and nothing else of the state changes
+  -- some keys are removed, and nothing else of the state changes
   leaves : (c : Command K V) (r : Reply K V R E) → (IsBasic (detaching.Plain c) → ⊥) → Leaves old new → ((s : State V) → s.live ≡ old.live → Step given s c r (record s { live = new.live })) → Answers c r
   leaves c r not_basic l step = other c r not_basic (record {
     step = λ s fits. (record s { live = new.live }, step s fits.live, leaves_fits given.reuses s old new ok fits l);
@@ -208,7 +208,7 @@ module _ {K V R E : Type 0} (given : Given K V R E) (old new : Content V) (ok : 
   pub clears : new.live ≡ map.empty → Leaves old new → Answers command.Clear reply.Done
   clears empty l = leaves command.Clear reply.Done (λ b. b) l (λ s live. ap (λ (m : map.FinMap key_cmp V). record s { live = m }) empty)
 
-  -- whatever a drain into a new vector answers
+  -- whatever a drain into a new vector returns
   pub drained : (done : Result (Unit {0}) OutOfMemory) (first out : Vec (K × V) Global) (r : Reply K V R E) → first.items ≡ [] → OnOk done (r ≡ reply.Drained out) → OnErr done (r ≡ reply.Memory None)
       → OnOk done ((pairs : List (K × V)) × (out.items ≡ first.items ++ pairs) × IsListing old.live (list_map (λ p. (given.data_of p.0, p.1)) pairs)) → OnOk done (new.live ≡ map.empty) → OnOk done (Leaves old new) → OnErr done ((new ≡ old) × (out.items ≡ first.items))
       → Answers command.Drain r
@@ -217,7 +217,7 @@ module _ {K V R E : Type 0} (given : Given K V R E) (old new : Content V) (ok : 
       rw told (leaves command.Drain (reply.Drained out) (λ b. b) l (λ s live. (rw (is, live) all.2, ap (λ (m : map.FinMap key_cmp V). record s { live = m }) empty)))
   drained (Err e) first out r none told refusal all empty l unchanged = rw refusal (stays command.Drain (reply.Memory None) (λ b. b) (keeps_same old new unchanged.0) (λ s live same. (refl, refl)))
 
-  -- whatever listing the keys in a new vector answers
+  -- whatever listing the keys in a new vector returns
   pub listed : (done : Result (Unit {0}) OutOfMemory) (first out : Vec K Global) (r : Reply K V R E) → first.items ≡ [] → OnOk done (r ≡ reply.Keys out) → OnErr done (r ≡ reply.Memory None)
       → OnOk done ((keys : List K) × (out.items ≡ first.items ++ keys) × IsKeyListing old.live (list_map given.data_of keys)) → Keeps old new → Answers command.Keys r
   listed (Ok done) first out r none told refusal all keeps =
@@ -277,7 +277,7 @@ module _ {K V R E : Type 0} (given : Given K V R E) (old new : Content V) (ok : 
     orders = λ l lifo basic told. absurd (told tt);
   }
 
-  -- whatever a reattach answers
+  -- whatever a reattach returns
   pub reattached : (key : K) (v : V) (r : Result (Unit {0}) (ReattachError V)) → OnOk r (Reattaches old (given.data_of key) v new) → IfErr r (RefusesReattach given.reuses old (given.data_of key) v) → MayGrow given.reuses old (IsErr r) new
       → DetachAnswers (detaching.Reattach key v) (reattach_reply_of r)
   reattached key v (Ok done) ok err valid = reattaches key v ok

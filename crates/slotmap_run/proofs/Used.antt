@@ -29,7 +29,7 @@ module _ {V : Type 0} where
     ] refl
   ] refl
 
-  -- where no key is answered, and none is held that wasn't, no more indices are taken
+  -- if no key is returned, and none is held that wasn't, no more indices are taken
   pub no_more_used : (s t : State V) → IsApart s → IsApart t → t.issued ≡ s.issued → ((q : Key) → IsHeld t q → IsHeld s q) → used t ≤ used s
   no_more_used s t apart after issued held =
       let before = len-used_keys s apart in
@@ -54,7 +54,7 @@ module _ {V : Type 0} where
     held_still q (inl h) = inl (still_in keys_total exact_keys s.live k v q h)
     held_still q (inr h) = inr h
 
-    -- one that an insert answers is one more
+    -- the key that an insert returns is one more
     pub one_more_used : used (after_insert s k v) ≤ used s + 1
     one_more_used =
         let before = len-used_keys s apart in

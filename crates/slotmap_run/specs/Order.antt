@@ -1,4 +1,4 @@
--- What the private `serve` promises of one command, and `run_all_new` of the map that it makes.
+-- What the private `serve` ensures of one command, and `run_all_new` of the map that it makes.
 use Rattle.std.specs.Prelude.{◌≡◌, Bool, true, Some, IsSome}
 use Rattle.std.specs.FinMap as map
 use Rattle.std.specs.FinSet as set
@@ -22,17 +22,17 @@ pub record IsLifo {V : Type 0} (l : Lifo) (c : Content V) : Type 0 where
   pub places : l.places ≡ places c
 
 module _ {K V R E : Type 0} (data_of : K → Key) where
-  -- a basic command that isn't refused is answered as by the machine that uses the place freed last first
+  -- the reply to a basic command that doesn't fail is that of the machine that reuses the slot freed last
   abbrev pub Orders : Content V → DetachCommand K V → Reply K V R E → Content V → Type 0
   Orders old c r new = (l : Lifo) → IsLifo l old → IsBasic c → (IsRefusal r → ⊥) → (reply_keys data_of r ≡ answer data_of l c) × IsLifo (after_command data_of l c) new
 
--- a command is served: it is a step of this machine, and in that order (`of` makes a command of a list with detaching
--- from it)
+-- a command is run: it is a step of this machine, and slots are reused in that order (`of` makes a command of a list with detaching from
+-- it)
 pub record Served {K V R E C : Type 0} (Step : Given K V R E → State V → C → Reply K V R E → State V → Type 0) (of : C → DetachCommand K V) (given : Given K V R E) (old : Content V) (c : C) (r : Reply K V R E) (new : Content V) : Type 0 where
   pub follows : Follows (Step given) old c r new
   pub orders : Orders given.data_of old (of c) r new
 
--- a new map holds c, and a stack where it keeps one
+-- c is the content of a new map, and has a stack if the map keeps one
 pub record StartsNew {V : Type 0} (reuses stacked : Bool) (c : Content V) : Type 0 where
   pub new : IsNew c
   pub valid : IsContent reuses c

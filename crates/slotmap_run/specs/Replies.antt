@@ -1,4 +1,4 @@
--- What the calls of a map are answered in a run.
+-- The replies to the calls of a map in a run.
 use Rattle.std.specs.Prelude.{Result, Ok, Err, Some, None}
 use Rattle.slotmap_core.specs.declared.errors.InsertError.{InsertError}
 use Rattle.slotmap_core.specs.declared.errors.InsertError.TheVariants as insert

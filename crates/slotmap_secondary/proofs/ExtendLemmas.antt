@@ -1,4 +1,4 @@
--- What one more pair that was put leaves of the places and the memory.
+-- What one more inserted pair leaves of the slots and the capacity.
 use Rattle.std.proofs.Common.{◌≡◌, ℕ, ◌+◌, ◌-◌, ◌<◌, ◌⊎◌, inl, inr, true, cond, max, nat_lt, ltb-true, ltb-false, refl, ap, ◌∙◌, arith}
 use Rattle.std.proofs.lemmas.Bool.{cases_Bool}
 use Rattle.std.proofs.lemmas.Cmp.{nat_cmp_total}

@@ -22,27 +22,27 @@ module _ {V : Type 0} (slots : List (Slot V)) (len : ℕ) (sound : IsSound slots
   not_null : nat_eq k.index null_key.index ≡ false
   not_null = ne_eqb _ _ (λ e. omega (arith, slice_get_within slots k.index s there, sound.fits))
 
-  -- the key's entry is that of what stands there
+  -- the key's entry is decided by the pair in its slot
   entry_is : entry (pairs_of slots) k ≡ entry_at k.version (pair_in s)
   entry_is = ap (λ b. cond b no_entry (entry_at k.version (map.get (pairs_of slots) k.index))) not_null ∙ ap (entry_at k.version) stood
 
   pub value-stood : get (pairs_of slots) k ≡ value_at k.version (pair_in s)
   value-stood = ap (value_at k.version) stood
 
-  -- a newer version stands there
+  -- a newer version is there
   pub value-refused : entry_at k.version (pair_in s) ≡ no_entry → get (pairs_of slots) k ≡ None
   value-refused none = value-stood ∙ sym (value_found k.version (pair_in s)) ∙ ap value_of none
 
   pub put-refused : (x : V) → entry_at k.version (pair_in s) ≡ no_entry → put (pairs_of slots) k x ≡ pairs_of slots
   put-refused x none = put_nothing (pairs_of slots) k x (ap has_entry (entry_is ∙ none))
 
-  -- none does, and the value is written
+  -- no newer version is there, and the value is written
   pub content-put : (x : V) (capacity : ℕ) → has_entry (entry_at k.version (pair_in s)) ≡ true → content_of (set slots k.index (Occupied k.version x)) capacity ≡ record (content_of slots capacity) { pairs = put (pairs_of slots) k x }
   content-put x capacity has =
       content-write slots capacity k s x there
       ∙ ap (λ (m : Pairs V). record (content_of slots capacity) { pairs = m }) (sym (put_bound (pairs_of slots) k x (ap has_entry entry_is ∙ has)))
 
--- the value that stood there under this version, or under another
+-- the value that was there under this version, or under another
 pub value-same : {V : Type 0} (v w : ℕ) (x : V) → w ≡ v → value_at v (Some (w, x)) ≡ Some x
 value-same v w x same = ap (λ b. cond b (Some x) None) (eq-eqb w v same)
 
@@ -50,7 +50,7 @@ pub value-other : {V : Type 0} (v w : ℕ) (x : V) → (w ≡ v → ⊥) → val
 value-other v w x other = ap (λ b. cond b (Some x) None) (ne_eqb w v other)
 
 module _ {V : Type 0} (slots : List (Slot V)) (len : ℕ) (sound : IsSound slots len) (k : Key) (x : V) (at : k.index ≡ length slots) where
-  -- one place more, with a key
+  -- one more slot, with a key
   pub IsSound-append : IsKey k → length slots + 1 < 2 ^ 32 → IsSound (slots ++ Occupied k.version x ∷ []) (len + 1)
   IsSound-append key fits = record {
     first = omega (arith, length_push slots (Occupied k.version x));
@@ -76,7 +76,7 @@ module _ {V : Type 0} (c : Content V) (well : IsContent c) (k : Key) where
       by None is = refl
       by (Some p) is = absurd (omega (arith, well.within k.index p is))
 
-  -- past the places no key has a value, and each but the null key can have one
+  -- after the last slot no key has a value, and each but the null key can have one
   pub value-past : c.places ≤ k.index → get c.pairs k ≡ None
   value-past past = ap (value_at k.version) (nothing_past past)
 
@@ -86,7 +86,7 @@ module _ {V : Type 0} (c : Content V) (well : IsContent c) (k : Key) where
   pub none-null : k.index ≡ null_key.index → entry c.pairs k ≡ no_entry
   none-null null = ap (λ b. cond b no_entry (entry_at k.version (map.get c.pairs k.index))) (eq-eqb _ _ null)
 
-  -- how many places there are after a put within them, past them, or of the null key
+  -- how many slots there are after a put within them, after them, or of the null key
   pub reached-within : k.index < c.places → reached c k ≡ c.places
   reached-within within = by (has_entry (entry c.pairs k))
     where

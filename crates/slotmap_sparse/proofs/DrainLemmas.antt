@@ -1,4 +1,4 @@
--- What the steps of a drain keep, and what they give.
+-- What the steps of a drain keep, and what they return.
 use Rattle.std.proofs.Common.{◌≡◌, ◌≤◌, ℕ, List, [], ◌∷◌, is_some, map as list_map, refl, ap, subst, ◌∙◌, arith}
 use Rattle.std.specs.FinMap as map
 use Rattle.slotmap_core.specs.Key.{Key}

@@ -72,7 +72,7 @@ module _ {V : Type 0} where
       let long = same_len m.entries c.pairs pairs sound in
       record { keys = valid_pairs m.entries c.pairs pairs sound; fits = omega (arith, memory, long) }
 
-  -- there is memory for as many keys more as the hash map has places to spare
+  -- there is memory for as many further keys as the hash map has spare entries
   pub spare_room : {S : Type 0} (m : HashMap ℕ (ℕ × V) S) (c : Content V) → content_of m ≡ c → IsSound m.entries → room c ≡ spare m
   spare_room m c is sound =
       let memory : hash_map_len m + spare m ≡ c.capacity = ap (λ (x : Content V). x.capacity) is in
@@ -90,11 +90,11 @@ module _ {V : Type 0} where
   pub IsSound-put : (es fs : Entries V) → IsSound es → IsDistinct nat_eq (keys_of fs) → (k : Key) (v : V) → IsKey k → is_null k ≡ false → pairs_of fs ≡ bind (pairs_of es) k v → IsSound fs
   IsSound-put es fs sound unique k v is key put = record { unique = unique; keys = subst (λ (x : Pairs V). IsSecondary x) (sym put) (IsSecondary-bind (pairs_of es) k v sound.keys is key) }
 
-  -- with an index taken out
+  -- with an index removed
   pub IsSound-taken : (es fs : Entries V) → IsSound es → IsDistinct nat_eq (keys_of fs) → (i : ℕ) → pairs_of fs ≡ map.remove (pairs_of es) i → IsSound fs
   IsSound-taken es fs sound unique i taken = record { unique = unique; keys = subst (λ (x : Pairs V). IsSecondary x) (sym taken) (IsSecondary-remove (pairs_of es) i sound.keys) }
 
-  -- with another value at an index that stands
+  -- with another value at an index that is there
   pub IsSound-written : (es fs : Entries V) → IsSound es → IsDistinct nat_eq (keys_of fs) → (i : ℕ) (p q : ℕ × V) → map.get (pairs_of es) i ≡ Some p → q.0 ≡ p.0 → pairs_of fs ≡ map.insert (pairs_of es) i q → IsSound fs
   IsSound-written es fs sound unique i p q at same put = record { unique = unique; keys = subst (λ (x : Pairs V). IsSecondary x) (sym put) written }
     where
@@ -106,7 +106,7 @@ module _ {V : Type 0} where
         | inr e ↦ sound.keys j r e.1
       ]
 
-  -- what a write through a reference to what stands under a key leaves
+  -- what a write through a reference to the value of a key leaves
   module _ {S : Type 0} (m n : HashMap ℕ (ℕ × V) S) (sound : IsSound m.entries) (k : Key) (i : ℕ) (at : i ≡ k.index) (p : ℕ × V) (w : V) (stood : lookup (nat_eq i) m.entries ≡ Some p) (written : WritesThrough nat_eq (nat_eq i) m (p.0, w) n) where
     put_there : pairs_of n.entries ≡ map.insert (pairs_of m.entries) i (p.0, w)
     put_there = pairs_put m.entries n.entries i (p.0, w) (written.3 (ap is_some stood)).0
@@ -121,7 +121,7 @@ module _ {V : Type 0} where
         let memory : hash_map_len n + spare n ≡ c.capacity = (λ j. written.2 j + written.6 j) ∙ ap (λ (x : Content V). x.capacity) is in
         λ j. record { pairs = (put_there ∙ (λ l. map.insert (is l).pairs (at l) (version l, w))) j; capacity = memory j }
 
-  -- what a reference leaves through which nothing was written
+  -- what a reference leaves if nothing was written through it
   module _ {S : Type 0} (m n : HashMap ℕ (ℕ × V) S) (sound : IsSound m.entries) (i : ℕ) (p : ℕ × V) (stood : lookup (nat_eq i) m.entries ≡ Some p) (written : WritesThrough nat_eq (nat_eq i) m p n) where
     pairs_kept : pairs_of n.entries ≡ pairs_of m.entries
     pairs_kept = pairs_put m.entries n.entries i p (written.3 (ap is_some stood)).0 ∙ map.same_map nat_cmp_total exact_unsigned _ _ (λ q. map.get-insert nat_cmp_total (pairs_of m.entries) i p q ∙ by q (eq_by_cmp nat_cmp q i) refl)
@@ -136,7 +136,7 @@ module _ {V : Type 0} where
     pub content_kept : content_of n ≡ content_of m
     content_kept = let memory : hash_map_len n + spare n ≡ hash_map_len m + spare m = λ j. written.2 j + written.6 j in λ j. record { pairs = pairs_kept j; capacity = memory j }
 
-  -- what a put over what stands at the index of a key leaves
+  -- what a put over the pair at the index of a key leaves
   module _ {S : Type 0} (m n : HashMap ℕ (ℕ × V) S) (sound : IsSound m.entries) (c : Content V) (is : content_of m ≡ c) (k : Key) (key : IsKey k) (i : ℕ) (at : i ≡ k.index) (p : ℕ × V) (v : V) (stood : lookup (nat_eq i) m.entries ≡ Some p) (written : WritesThrough nat_eq (nat_eq i) m (put_over k.version v p) n) where
     stands : map.get c.pairs k.index ≡ Some p
     stands = sym (found_pair m.entries c.pairs (ap (λ (x : Content V). x.pairs) is) i ∙ ap (map.get c.pairs) at) ∙ stood

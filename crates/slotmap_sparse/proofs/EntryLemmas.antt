@@ -19,7 +19,7 @@ module _ {V : Type 0} (m : Pairs V) (valid : IsSecondary m) (k : Key) where
   vacant_leaves : entry m k ≡ vacant → map.remove m k.index ≡ entry_leaves m k
   vacant_leaves is = sym (ap (λ b. if b then m else map.remove m k.index) (ap is_some (vacant_nothing is)))
 
-  -- an older pair at its index is out then
+  -- an older pair at its index is removed then
   pub leaves_outdated : entry m k ≡ vacant → (n : Pairs V) → n ≡ map.remove m k.index → n ≡ entry_leaves m k
   leaves_outdated is n out = out ∙ vacant_leaves is
 
@@ -28,7 +28,7 @@ module _ {V : Type 0} (m : Pairs V) (valid : IsSecondary m) (k : Key) where
       let gone : map.get n k.index ≡ None = ap (λ (x : Pairs V). map.get x k.index) out ∙ removed m k in
       (entry_absent n k (vacant_not_null m k is) gone, gone)
 
-  -- and where nothing stands there it is as before
+  -- and if nothing is there, it is as before
   pub leaves_empty : entry m k ≡ vacant → map.get m k.index ≡ None → m ≡ entry_leaves m k
   leaves_empty is none = sym nothing ∙ vacant_leaves is
     where

@@ -1,4 +1,4 @@
--- Two hash maps are equal exactly where the maps that they make hold the same keys with equal values.
+-- Two hash maps are equal if and only if their maps hold the same keys with equal values.
 use Rattle.std.proofs.Common.{◌≡◌, ◌↔◌, ℕ, Bool, true, false, cond, ◌&&◌, nat_eq, eqb-true, eq-eqb, Option, None, Some, refl, sym, ap, subst, ◌∙◌}
 use Rattle.std.specs.Option.{option_eq}
 use Rattle.std.specs.Cmp.{nat_eq_equiv}
@@ -26,7 +26,7 @@ module _ {V : Type 0} (eq : V → V → Bool) where
   true_and true false p q = q
   true_and false b p q = absurd (cc)
 
-  -- what stands at an index in both is the same: so are the values of each version
+  -- if both have the same pair at an index, they have the same value of each version
   same_values : (o p : Option (ℕ × V)) → option_eq same_pair o p ≡ true → (version : ℕ) → SameValue eq (value_at version o) (value_at version p)
   same_values None None h version = tt
   same_values None (Some q) h version = absurd (cc)
@@ -39,7 +39,7 @@ module _ {V : Type 0} (eq : V → V → Bool) where
       by true same = same
       by false same = tt
 
-  -- and the other way round
+  -- and conversely
   same_there : (o p : Option (ℕ × V)) → ((version : ℕ) → SameValue eq (value_at version o) (value_at version p)) → option_eq same_pair o p ≡ true
   same_there None None is = refl
   same_there None (Some q) is = absurd (subst (λ x. SameValue eq None x) (value_there q.0 q refl) (is q.0))

@@ -1,4 +1,4 @@
--- What a closure that is shown each entry of a hash map leaves, as visits of keys.
+-- What calls of a closure on each entry of a hash map leave, as visits of keys.
 use Rattle.std.proofs.Common.{◌≡◌, ℕ, ◌+◌, Bool, true, false, cond, nat_eq, List, [], ◌∷◌, ◌++◌, length, Some, None, is_some, refl, sym, ap, subst, ◌∙◌, arith}
 use Rattle.std.specs.Cmp.{nat_eq_equiv}
 use Rattle.std.specs.Fn.{Mut}
@@ -21,7 +21,7 @@ use Rattle.slotmap_sparse.proofs.EntriesLemmas.{get-pairs}
 use Rattle.slotmap_sparse.proofs.WalkLemmas.{listing, of_keys}
 
 module _ {V : Type 0} where
-  -- entries in a row, and what is known of those before some and of those from there on
+  -- two parts of a list of entries, and what is known of each
   of_split : (xs ys : List (ℕ × (ℕ × V))) → AreOfKeys (xs ++ ys) → AreOfKeys xs × AreOfKeys ys
   of_split [] ys of = (tt, of)
   of_split (x ∷ xs) ys of = let rest = of_split xs ys of.1 in ((of.0, rest.0), rest.1)
@@ -54,7 +54,7 @@ module _ {V : Type 0} where
       ∙ ap (λ b. cond b (Some e.1.1) None) (nat_eq_equiv.refl e.1.0)
 
 module _ {F G K V : Type 0} (g : Mut F (K × (MutBor V × Unit {0})) (Bool × (MutBor V × Unit {0}))) (data_of : K → Key) (T : G → ℕ → ℕ × V → Bool → ℕ × V → G → Type 0) (state : G → F) where
-  -- a call at an entry shows the key and the value, and leaves the version
+  -- a call on an entry shows the key and the value, and keeps the version
   abbrev pub ShowsEach : Type 0
   ShowsEach = (c : G) (i : ℕ) (p : ℕ × V) (b : Bool) (q : ℕ × V) (d : G) → T c i p b q d
       → (q.0 ≡ p.0) × ((key : K) × (data_of key ≡ key_from i p.0) × CallsAt g (state c) (record { key = key; before = p.1; after = q.1; stays = b }) (state d))
@@ -67,7 +67,7 @@ module _ {F G K V : Type 0} (g : Mut F (K × (MutBor V × Unit {0})) (Bool × (M
     pub stay : kept data_of visits ≡ key_pairs left
     pub of : AreOfKeys left
 
-  -- the calls at the entries before one, as visits
+  -- the calls on the entries before one, as visits
   record Came (c d : G) (es : List (ℕ × (ℕ × V))) : Type 0 where
     pub visits : List (Visit K V)
     pub calls : FoldsTo (CallsAt g) (state c) visits (state d)
@@ -86,7 +86,7 @@ module _ {F G K V : Type 0} (g : Mut F (K × (MutBor V × Unit {0})) (Bool × (M
         saw = λ i. (named i, e.1.1) ∷ more.saw i;
       }
 
-  -- the closure comes to an entry as the calls at those before it leave it, and the entry is one of the map
+  -- the closure comes to an entry as the calls on those before it left it, and the entry is one of the map
   pub comes_to : ShowsEach → (c d : G) (xs ys : List (ℕ × (ℕ × V))) (e : ℕ × (ℕ × V)) (p : Pairs V) → pairs_of (xs ++ e ∷ ys) ≡ p → IsSound (xs ++ e ∷ ys) → FoldsTo (SomeCallAtPair T) c xs d
       → IsOfKey e × MayCome g data_of (state c) (keyed p) (keyed_entry e).0 (state d) × (map.get (keyed p) (keyed_entry e).0 ≡ Some e.1.1)
   comes_to shows c d xs ys e p is sound run =
@@ -141,7 +141,7 @@ module _ {F G K V : Type 0} (g : Mut F (K × (MutBor V × Unit {0})) (Bool × (M
   }
 
 module _ {F K V : Type 0} (g : Mut F (K × (MutBor V × Unit {0})) (Bool × (MutBor V × Unit {0}))) (data_of : K → Key) where
-  -- what one call at an entry says, of the entry itself
+  -- what one call on an entry says of the entry itself
   pub shown_at : (i j : ℕ) (p p' q q' : ℕ × V) (b : Bool) (f f' : F) → j ≡ i → p' ≡ p → q' ≡ q
       → ((key : K) × (data_of key ≡ key_from j p'.0) × CallsAt g f (record { key = key; before = p'.1; after = q'.1; stays = b }) f') → q'.0 ≡ p'.0
       → (q.0 ≡ p.0) × ((key : K) × (data_of key ≡ key_from i p.0) × CallsAt g f (record { key = key; before = p.1; after = q.1; stays = b }) f')

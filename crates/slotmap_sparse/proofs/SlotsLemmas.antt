@@ -1,4 +1,4 @@
--- How many places a map is written as, and what a map holds that reads a list slot by slot.
+-- How many slots a map is written as, and what a map holds that reads a list slot by slot.
 use Rattle.std.proofs.Common.{◌≡◌, ℕ, ◌+◌, ◌-◌, ◌<◌, ◌≤◌, ◌^◌, ◌⊎◌, inl, inr, Bool, true, false, cond, List, [], ◌∷◌, ◌++◌, length, slice_get, Option, Some, None, is_some, eq-eqb, option_map, refl, sym, ap, subst, ◌∙◌, nat_cmp, arith}
 use Rattle.std.specs.Cmp.{nat_cmp_total}
 use Rattle.std.proofs.lemmas.Map.Lookups.{exact_unsigned}
@@ -23,7 +23,7 @@ slice_get_next [] ys x = refl
 slice_get_next (z ∷ xs) ys x = slice_get_next xs ys x
 
 module _ {V : Type 0} where
-  -- the keys of the map that aren't in the rest have lesser indices than the count, which isn't too great
+  -- the keys of the map that aren't in the rest have smaller indices than the count, which is within the limit
   pub record Counts (m : Pairs V) (rest : List Key) (count : ℕ) : Type 0 where
     pub covered : (k : Key) → contains_key m k ≡ true → (k.index < count) ⊎ (set.contains (set.from_list {R = key_cmp} rest) k ≡ true)
     pub there : (k : Key) → set.contains (set.from_list {R = key_cmp} rest) k ≡ true → contains_key m k ≡ true
@@ -79,7 +79,7 @@ module _ {V : Type 0} where
         | inr in_none ↦ let none = set.contains-empty key_cmp (record { index = i; version = p.0 }) in absurd (cc)
       ]
 
-  -- at each index stands what the slot there has, as far as they were read
+  -- each index has what its record says, as far as they were read
   abbrev pub Read : List (SlotRecord V) → Pairs V → Type 0
   Read slots m = (i : ℕ) → map.get m i ≡ slot_pair (slice_get slots i)
 

@@ -37,7 +37,7 @@ module _ {V : Type 0} where
   pub of_keys : (es : List (ℕ × (ℕ × V))) → IsSound es → AreOfKeys es
   of_keys es sound = all_found IsOfKey es sound.unique (λ i p h. sound.keys i p (get-pairs es i ∙ h))
 
-  -- a key finds nothing in entries that have none at its index
+  -- a key finds nothing in entries that don't have its index
   missed : (k : Key) (es : List (ℕ × (ℕ × V))) → lookup (nat_eq k.index) es ≡ None → find key_cmp k (key_pairs es) ≡ None
   missed k [] h = refl
   missed k (e ∷ es) h =
@@ -48,7 +48,7 @@ module _ {V : Type 0} where
       by rest true none = absurd (cc)
       by rest false none = rest none
 
-  -- and else the value of what stands there, if it is of its version
+  -- and otherwise the value at its index, if it is of its version
   find-pairs : (k : Key) (es : List (ℕ × (ℕ × V))) → IsDistinct nat_eq (keys_of es) → find key_cmp k (key_pairs es) ≡ value_at k.version (lookup (nat_eq k.index) es)
   unfolding IsDistinct
   find-pairs k [] distinct = refl
@@ -72,7 +72,7 @@ module _ {V : Type 0} where
     once = length-map es keyed_entry ∙ sym (len-pairs es unique) ∙ ap (λ (x : Pairs V). map.len x) is ∙ sym (len-keyed p);
   }
 
-  -- what keys stand in the entries stand in the map
+  -- the keys of the entries are in the map
   pub valid_from : (es : List (ℕ × (ℕ × V))) → AreOfKeys es → IsSecondary (pairs_of es)
   valid_from es of i p h = at_lookup es of (sym (get-pairs es i) ∙ h)
     where
@@ -97,7 +97,7 @@ module _ {V : Type 0} where
       sym (contains-keyed m (data_of key)) ∙ sym (listing.all (data_of key)) ∙ ap (λ ks. set.contains (set.from_list {R = key_cmp} ks) (data_of key)) steps
       ∙ item_inserted keys_total exact_keys (set.from_list rest) (data_of key)
 
-  -- and where there is none the map is empty
+  -- and if there is none, the map is empty
   pub listed_none : {K : Type 0} (data_of : K → Key) (m : Pairs V) (keys rest : List Key) (r : Option K) → IsKeyListing (keyed m) keys → YieldsFirstBy data_of (λ x. x) keys r rest → IfNone r (m ≡ map.empty)
   listed_none data_of m keys rest None listing steps = map.empty_of_len m (sym (len-keyed m) ∙ sym listing.once ∙ ap length steps.0)
   listed_none data_of m keys rest (Some key) listing steps = tt

@@ -1,4 +1,4 @@
--- What a sparse map holds now, what its calls leave, and what holds of it always.
+-- The content of a `SparseSecondaryMap`, what its calls leave, and what always holds of it.
 use Rattle.std.specs.Prelude.{◌≡◌, ℕ, ◌+◌, ◌-◌, ◌^◌, ◌<◌, ◌≤◌, Result, IsOk, OnOk, IfErr, refl}
 use Rattle.std.specs.FinMap as map
 use Rattle.std.specs.Coded.{Coded, code_by, coded×, coded_ℕ}
@@ -9,42 +9,42 @@ use Rattle.slotmap_core.specs.declared.errors.ReserveError.TheVariants as reserv
 
 pub record Content (V : Type 0) : Type 0 where
   pub pairs : Pairs V
-  -- there is memory for so many keys
+  -- the number of keys for which there is memory
   pub capacity : ℕ
 
--- by which a proof tells two contents apart
+-- proofs tell two contents apart by it
 abbrev pub content_code : {V : Type 0} → Coded V → Coded (Content V)
 content_code {V} code = code_by (Pairs V × ℕ) (coded× (pairs_code code) coded_ℕ) (λ c. (c.pairs, c.capacity)) (λ p. record { pairs = p.0; capacity = p.1 }) (λ _. refl)
 
--- a map holds so many keys at most: one at each index, but the null key's
+-- the largest number of keys: one at each index except the null key's
 abbrev pub most_keys : ℕ
 most_keys = 2 ^ 32 - 1
 
--- exactly where so many keys are too many, or else for memory
+-- `TooGreat` if and only if n keys are too many; otherwise `Memory`
 abbrev pub RefusesRoom : ℕ → ReserveError → Type 0
 RefusesRoom n reserve.TooGreat = most_keys < n
 RefusesRoom n reserve.Memory = n ≤ most_keys
 
 module _ {V : Type 0} where
-  -- k is bound to v, and all else stays
+  -- k has the value v, and all else is as before
   abbrev pub with_value : Content V → Key → V → Content V
   with_value c k v = record c { pairs = bind c.pairs k v }
 
-  -- for so many keys more there is memory
+  -- the number of further keys for which there is memory
   abbrev pub room : Content V → ℕ
   room c = c.capacity - map.len c.pairs
 
-  -- what holds of every content
+  -- what always holds of a content
   pub record IsContent (c : Content V) : Type 0 where
     pub keys : IsSecondary c.pairs
     pub fits : map.len c.pairs ≤ c.capacity
 
-  -- memory for n keys more was made, or refused
+  -- a call that asks for memory for n more keys succeeded or failed
   pub record MakesRoom (n : ℕ) (old : Content V) (result : Result (Unit {0}) ReserveError) (new : Content V) : Type 0 where
     pub ok : OnOk result (map.len old.pairs + n ≤ new.capacity × (map.len old.pairs + n ≤ most_keys))
     pub err : IfErr result (RefusesRoom (map.len old.pairs + n))
-    -- whatever is answered, the map holds what it held
+    -- in either case the map holds what it held
     pub keeps : new.pairs ≡ old.pairs
     pub capacity : old.capacity ≤ new.capacity
-    -- where there is memory already nothing is refused
+    -- if there is memory already, it succeeds
     pub room : map.len old.pairs + n ≤ old.capacity → map.len old.pairs + n ≤ most_keys → IsOk result

@@ -1,4 +1,4 @@
--- What the hash map of a sparse map says of its content. No public clause cites this module.
+-- How a `SparseSecondaryMap` stores its pairs in a hash map. No public clause cites this module.
 use Rattle.std.specs.Prelude.{◌≡◌, ℕ, ◌+◌, Bool, List, nat_eq}
 use Rattle.std.specs.Fn.{Mut, Takes}
 use Rattle.std.specs.Borrow.{MutBor}
@@ -18,11 +18,11 @@ module _ {V : Type 0} where
   abbrev pub content_of : {S : Type 0} → HashMap ℕ (ℕ × V) S → Content V
   content_of slots = record { pairs = pairs_of slots.entries; capacity = hash_map_len slots + spare slots }
 
-  -- no index stands twice, and each is that of a key with its version
+  -- no index is there twice, and each is that of a key with its version
   pub record IsSound (entries : List (ℕ × (ℕ × V))) : Type 0 where
     pub unique : IsDistinct nat_eq (keys_of entries)
     pub keys : IsSecondary (pairs_of entries)
 
--- the closure f may be called at the key of this index and version, and at its value
+-- the closure f may be called on the key of this index and version, and on its value
 abbrev pub TakesPair : {F K V : Type 0} → Mut F (K × (MutBor V × Unit {0})) (Bool × (MutBor V × Unit {0})) → (K → Key) → F → ℕ → ℕ × V → Type 0
 TakesPair {F} {K} {V} g data_of f index p = (key : K) (shown : MutBor V) → data_of key ≡ key_from index p.0 → shown.now ≡ p.1 → Takes g f (key, (shown, tt))

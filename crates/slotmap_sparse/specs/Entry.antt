@@ -16,7 +16,7 @@ use Rattle.slotmap_sparse.specs.contracts.SparseSecondaryMap.{the_row}
 use Rattle.slotmap_sparse.specs.contracts.entry.OccupiedEntry as occupied
 use Rattle.slotmap_sparse.specs.Content.{Content, room, with_value}
 
--- what an entry of k leaves in the map: an older pair at k's index is out
+-- what an entry of k leaves in the map: an older pair at k's index is removed
 abbrev pub entry_leaves : {V : Type 0} → Pairs V → Key → Pairs V
 entry_leaves m k = if contains_key m k then m else map.remove m k.index
 
@@ -44,7 +44,7 @@ module _ {K V S Z : Type 0} where
     entry_value (Occupied e) = get e.map.now.pairs (data_of e.key)
     entry_value (Vacant e) = None
 
-    -- an occupied entry's key is in the map; a vacant entry's key can be bound, and nothing stands at its index
+    -- the key of an occupied entry is in the map; that of a vacant entry can be inserted, and nothing is at its index
     abbrev pub IsInPlace : Entry K V S Z → Type 0
     IsInPlace (Occupied e) = contains_key e.map.now.pairs (data_of e.key) ≡ true
     IsInPlace (Vacant e) = (pair.entry e.map.now.pairs (data_of e.key) ≡ pair.vacant) × (map.get e.map.now.pairs (data_of e.key).index ≡ None)
@@ -53,7 +53,7 @@ module _ {K V S Z : Type 0} where
     abbrev pub entry_with : Entry K V S Z → V → Content V
     entry_with e v = with_value (entry_map e) (data_of (entry_key e)) v
 
-    -- the pairs once the key is out
+    -- the pairs once the key is removed
     abbrev pub entry_without : Entry K V S Z → Pairs V
     entry_without e = remove (entry_map e).pairs (data_of (entry_key e))
 
@@ -69,35 +69,35 @@ module _ {K V S Z : Type 0} where
       pub value : entry_value d ≡ Some v
       pub in_place : IsInPlace d
 
-    -- e is an entry of k in the map behind m, which holds what it held, but for an older pair at k's index
+    -- e is an entry of k in the map behind m; the map holds what it held, except for an older pair at k's index
     pub record Enters (m : MutBor (Content V)) (k : K) (e : Entry K V S Z) : Type 0 where
       pub same_map : entry_lender e ≡ m.ghost_name
       pub key : entry_key e ≡ k
       pub pairs : (entry_map e).pairs ≡ entry_leaves m.now.pairs (data_of k)
       pub room : room m.now ≤ room (entry_map e)
-      -- where no older pair is at k's index, the map is as it was
+      -- if no older pair is at k's index, the map is as it was
       pub occupied : contains_key m.now.pairs (data_of k) ≡ true → entry_map e ≡ m.now
       pub empty : map.get m.now.pairs (data_of k).index ≡ None → entry_map e ≡ m.now
       pub value : entry_value e ≡ get m.now.pairs (data_of k)
       pub in_place : IsInPlace e
 
-    -- the entry that k has in m, as the definitions say: none, occupied or vacant
+    -- the entry that k has in m, by the definitions of `slotmap_core`: none, occupied or vacant
     abbrev pub IsEntryOf : Pairs V → Key → Option (Entry K V S Z) → Type 0
     IsEntryOf m k None = pair.entry m k ≡ pair.no_entry
     IsEntryOf m k (Some (Occupied e)) = (v : V) × (pair.entry m k ≡ pair.occupied v)
     IsEntryOf m k (Some (Vacant e)) = pair.entry m k ≡ pair.vacant
 
-    -- n is the map of e, once w is the value of its key; memory may have been asked for
+    -- n is the map of e, once w is the value of its key; its capacity may have grown
     pub record Fills (e : Entry K V S Z) (n : Content V) (w : V) : Type 0 where
       pub pairs : n.pairs ≡ (entry_with e w).pairs
       pub capacity : (entry_map e).capacity ≤ n.capacity
 
-  -- n holds what the map of e holds, where memory was refused
+  -- n holds what the map of e holds: an allocation failed
   pub record Leaves (e : Entry K V S Z) (n : Content V) : Type 0 where
     pub pairs : n.pairs ≡ (entry_map e).pairs
     pub capacity : (entry_map e).capacity ≤ n.capacity
 
-  -- where there is an entry, it is so
+  -- if there is an entry, P holds of it
   abbrev pub IfEntry : {E : Type 0} → Result (Option (Entry K V S Z)) E → (Entry K V S Z → Type 0) → Type 0
   IfEntry (Ok (Some e)) P = P e
   IfEntry (Ok None) P = Unit {0}
@@ -113,7 +113,7 @@ module _ (K V S H : RattleType) (build : builder.Ghosts S.Denot H.Denot) (hash :
     abbrev pub entry_lends : Entry K.Denot V.Denot S.Denot H.Denot → MutBor V.Denot → Fml
     entry_lends e r = Lends (the_row K V S H build hash) V (entry_map_ref e) r (entry_with data_of e)
 
-    -- the same where r is a reference, and at `Err` the map holds what it held
+    -- the same if r is a reference; at `Err` the map holds what it held
     abbrev pub entry_lends_ok : {E : Type 0} → Entry K.Denot V.Denot S.Denot H.Denot → Result (MutBor V.Denot) E → Fml
     entry_lends_ok e r = LendsSoOk (the_row K V S H build hash) V (entry_map_ref e) r (Fills data_of e) (Leaves e)
 

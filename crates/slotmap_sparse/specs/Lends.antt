@@ -1,4 +1,4 @@
--- What a sparse map ends as, where a `&mut` to one of its values is returned.
+-- What a `SparseSecondaryMap` is once a returned `&mut` to one of its values ends.
 use Rattle.std.specs.Prelude.{Option}
 use Rattle.std.specs.Borrow.{Lends, LendsIf, Fml, RattleType, MutBor}
 use Rattle.std.specs.declared.hash.Hasher as hasher
@@ -12,6 +12,6 @@ module _ (K V S H : RattleType) (build : builder.Ghosts S.Denot H.Denot) (hash :
   abbrev pub lends_value : MutBor V.Denot → Fml
   lends_value r = Lends (the_row K V S H build hash) V m r (with_value m.now k)
 
-  -- the same where r is a reference, and at `None` the map stays as it is
+  -- the same if r is a reference; at `None` the map stays as it is
   abbrev pub lends_get : Option (MutBor V.Denot) → Fml
   lends_get r = LendsIf (the_row K V S H build hash) V m r (with_value m.now k) m.now

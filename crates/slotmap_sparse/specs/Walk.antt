@@ -1,4 +1,4 @@
--- What a walk has still to visit, in the entries of a hash map. No public clause cites this module.
+-- What an iterator over the entries of a hash map has still to visit. No public clause cites this module.
 use Rattle.std.specs.Prelude.{ℕ, ◌<◌, List, map as list_map}
 use Rattle.std.specs.List.{AllByRecursion}
 use Rattle.slotmap_core.specs.Key.{Key, IsKey, null_key}
@@ -12,6 +12,6 @@ module _ {V : Type 0} where
   abbrev pub IsOfKey : ℕ × (ℕ × V) → Type 0
   IsOfKey e = IsKey (record { index = e.0; version = e.1.0 }) × (e.0 < null_key.index)
 
-  -- what stands in them are keys
+  -- each entry has the index and version of a key
   abbrev pub AreOfKeys : List (ℕ × (ℕ × V)) → Type 0
   AreOfKeys entries = AllByRecursion IsOfKey entries

@@ -1,4 +1,4 @@
--- The list of slots that a sparse map is written as.
+-- The list of slots that a `SparseSecondaryMap` is written as.
 use Rattle.std.specs.Prelude.{◌≡◌, ◌-◌, ℕ, ◌<◌, List, length, slice_get, Option, None, Some, true, ◌⊎◌}
 use Rattle.std.specs.FinMap as map
 use Rattle.slotmap_core.specs.Secondary.{Pairs}
@@ -6,18 +6,18 @@ use Rattle.slotmap_core.specs.SecondaryWritten.{slot_of}
 use Rattle.slotmap_core.specs.declared.serial.SlotRecord.{SlotRecord}
 
 module _ {V : Type 0} where
-  -- so many places reach up to the greatest index, and are one at least
+  -- this many slots reach up to the largest index; there is at least one
   pub record Reaches (pairs : Pairs V) (places : ℕ) : Type 0 where
     pub within : (i : ℕ) → map.contains_key pairs i ≡ true → i < places
     pub one : 0 < places
     pub last : (places ≡ 1) ⊎ (map.contains_key pairs (places - 1) ≡ true)
 
-  -- a slot for each place up to the greatest index, and for place 0
+  -- a record for each index up to the largest, and for index 0
   pub record Writes (pairs : Pairs V) (slots : List (SlotRecord V)) : Type 0 where
     pub all : Reaches pairs (length slots)
     pub each : (i : ℕ) → i < length slots → slice_get slots i ≡ Some (slot_of (map.get pairs i))
 
-  -- the pairs once a slot was read at index i
+  -- the pairs once the record of index i was read
   abbrev pub with_value_at : Pairs V → ℕ → ℕ → Option V → Pairs V
   with_value_at m i version None = m
   with_value_at m i version (Some v) = map.insert m i (version, v)

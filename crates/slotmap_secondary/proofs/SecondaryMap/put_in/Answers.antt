@@ -14,7 +14,7 @@ index_mut-requires g c = omega (arith, c.requires, ap (λ m. m.places) c.self.vi
 pub overflow_add-self : goal.overflow_add-self
 overflow_add-self g c = omega (arith, count c.self.inside.slots.items, c.self.invariant.counted, c.self.invariant.fits)
 
--- a newer key stands there
+-- a newer key is there
 pub returns-in-None-clause-value : goal.returns-in-None-clause-value
 returns-in-None-clause-value g c =
     let slots = c.self.inside.slots.items in
@@ -37,7 +37,7 @@ returns-in-None-clause-valid g c =
     let same : set slots c.idx-index.result c.put.new.self ≡ slots = ap (set slots c.idx-index.result) (c.in-None.ensures.1 ∙ c.index_mut.ensures.value) ∙ set-get_or slots _ _ in
     rw same (valid slots _ c.self.invariant _ (omega (arith, c.self.inside.slots.ok.0, c.self.inside.slots.ok.1)))
 
--- none stood there
+-- no key was there
 pub invariant_of-self-in-Some-Vacant : goal.invariant_of-self-in-Some-Vacant
 invariant_of-self-in-Some-Vacant g c =
     let slots = c.self.inside.slots.items in
@@ -63,7 +63,7 @@ returns-in-Some-Vacant-clause-puts g c =
 pub returns-in-Some-Vacant-clause-valid : goal.returns-in-Some-Vacant-clause-valid
 returns-in-Some-Vacant-clause-valid g c = valid _ _ (invariant_of-self-in-Some-Vacant g c) _ (omega (arith, length-set c.self.inside.slots.items c.idx-index.result c.put.new.self, c.self.inside.slots.ok.0, c.self.inside.slots.ok.1))
 
--- this key or an older one stood there
+-- this key or an older one was there
 pub invariant_of-self-in-Some-Occupied : goal.invariant_of-self-in-Some-Occupied
 invariant_of-self-in-Some-Occupied g c =
     let slots = c.self.inside.slots.items in

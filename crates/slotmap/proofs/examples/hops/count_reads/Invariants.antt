@@ -3,7 +3,7 @@ use Rattle.std.specs.FinMap as map
 use Rattle.std.specs.FinSet as set
 use Rattle.slotmap.proofs.examples.hops.count_reads.Given as goal
 
--- each read so far is paid by a key or a retired place that was passed
+-- each read so far counts against a key or a retired slot that was passed
 abbrev pub invariant-loop : goal.invariant-loop
 invariant-loop g l =
     l.keys.reads + 2 * l.keys.retired + 2 * length l.keys.rest ≤ 2 * map.len l.store.content.live + 2 * set.len l.store.content.retired

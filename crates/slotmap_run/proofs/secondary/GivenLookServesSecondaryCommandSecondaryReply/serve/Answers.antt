@@ -2,7 +2,7 @@ use Rattle.std.proofs.Common.{Option, Some, refl, subst, rules}
 use Rattle.slotmap_core.specs.SecondaryStep.{LooksAt, given_secondary}
 use Rattle.slotmap_run.proofs.secondary.GivenLookServesSecondaryCommandSecondaryReply.serve.Goals as goal
 
--- what `look` said of the value that was found
+-- what `look` returned for the value that was found
 pub returns-in-Some-clause-step : goal.returns-in-Some-clause-step
 returns-in-Some-clause-step g c =
     let what = given_secondary g.K.Key.data_of g.L.Fn c.args.self.now.look g.S.Secondary.takes_older in
