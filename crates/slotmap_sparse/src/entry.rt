@@ -75,7 +75,7 @@ impl<K: Key, V: Drop, S: BuildHasher + Drop> SparseSecondaryMap<K, V, S> {
 
     /// Returns the entry of a key, with `Older` as an error if `entry` would return `None`.
     ///
-    /// Then the map is as before. It never fails with `Memory`. Otherwise it does the same as
+    /// Then the map is as before. It never fails with `Memory`. Apart from that it does the same as
     /// `entry`. Rust lacks this call.
     ///
     /// ```
@@ -180,8 +180,8 @@ impl<'a, K: Key, V: Drop, S: BuildHasher + Drop> Entry<'a, K, V, S> {
     /// Returns a mutable reference to the key's value, which is the result of `f` if it had none.
     ///
     /// `f` is called if and only if the key has no value and there is memory for one. So if the
-    /// allocation fails, `f` isn't called; once `f` was called, the call succeeds. Otherwise it
-    /// does the same as `or_insert`.
+    /// allocation fails, `f` isn't called; once `f` was called, the call succeeds. Apart from that
+    /// it does the same as `or_insert`.
     ///
     /// ```
     /// assert_eq!(rt; *map.try_entry(a)?.or_insert_with(|| 7)?, 1);
@@ -205,7 +205,7 @@ impl<'a, K: Key, V: Drop, S: BuildHasher + Drop> Entry<'a, K, V, S> {
 
     /// Returns a mutable reference to the key's value, which is the default value if it had none.
     ///
-    /// Otherwise it does the same as `or_insert`.
+    /// Apart from that it does the same as `or_insert`.
     ///
     /// ```
     /// assert_eq!(rt; *map.try_entry(a)?.or_default()?, 1);

@@ -47,7 +47,7 @@ impl<K: Key, V: Drop, S: BuildHasher + Drop> SparseSecondaryMap<K, V, S> {
 
     /// Inserts each pair of an iterator over references, with a copy of the value.
     ///
-    /// Otherwise it does the same as `extend`. In Rust this is a second impl of `Extend`.
+    /// Apart from that it does the same as `extend`. In Rust this is a second impl of `Extend`.
     ///
     /// ```
     /// map.extend_refs(primary.iter())?;
