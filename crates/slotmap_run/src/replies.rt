@@ -56,7 +56,7 @@ pub(crate) fn reattach_reply<K, V, R, E>(
     }
 }
 
-/// The reply, if memory did not run out.
+/// The reply, or `Memory` if memory ran out.
 pub(crate) fn or_memory<K: Drop, V: Drop, R: Drop, E: Drop>(
     done: Result<(), OutOfMemory>,
     answer: Reply<K, V, R, E>,

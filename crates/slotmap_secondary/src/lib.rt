@@ -113,8 +113,7 @@ impl<K: Key, V: Drop> SecondaryMap<K, V> {
     /// the allocation fails. Takes constant time beside the allocation.
     ///
     /// ```
-    /// let empty: SecondaryMap<DefaultKey, u64> =
-    ///     SecondaryMap::with_capacity(alloc, 100)?;
+    /// let empty: SecondaryMap<DefaultKey, u64> = SecondaryMap::with_capacity(alloc, 100)?;
     /// assert!(rt; empty.capacity() >= 100);
     /// ```
     pub fn with_capacity(alloc: Global, capacity: usize) -> Result<Self, ReserveError>
@@ -167,8 +166,8 @@ impl<K: Key, V: Drop> SecondaryMap<K, V> {
 
     /// Returns the largest index for which there is memory, in constant time.
     ///
-    /// An insert or an entry at an index up to this one never fails. Rust returns the number of
-    /// slots without the one of index 0: the same number.
+    /// An insert or an entry at an index up to this one never fails. Rust returns how many slots
+    /// fit, without the one of index 0: the same number.
     ///
     /// ```
     /// map.set_capacity(100)?;

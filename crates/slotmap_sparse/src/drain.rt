@@ -74,7 +74,7 @@ impl<K: Key, V: Drop, S: BuildHasher + Drop> SparseSecondaryMap<K, V, S> {
     ///
     /// ```
     /// for (key, value) in map.drain() {
-    ///     assert!(rt; (key, value) == (a, 1));
+    ///     assert_eq!(rt; (key, value), (a, 1));
     /// }
     /// assert!(rt; map.is_empty());
     /// ```

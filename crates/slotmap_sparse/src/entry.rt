@@ -16,7 +16,8 @@ use std::hash::BuildHasher;
 
 /// The entry of a key: occupied if the key is in the map, vacant if it can be inserted.
 ///
-/// [`SparseSecondaryMap::entry`] returns it.
+/// [`SparseSecondaryMap::entry`] and [`SparseSecondaryMap::try_entry`] return it. The contracts of
+/// its calls require `IsInPlace`, which these two ensure.
 #[derive(Drop)]
 pub enum Entry<'a, K, V, S: BuildHasher> {
     /// The key is in the map.
@@ -110,7 +111,7 @@ impl<'a, K: Key, V: Drop, S: BuildHasher + Drop> Entry<'a, K, V, S> {
     ///
     /// ```
     /// let entry = map.try_entry(b)?;
-    /// assert!(rt; entry.key() == b);
+    /// assert_eq!(rt; entry.key(), b);
     /// ```
     pub fn key(&self) -> K
         ensures { result ≡ entry_key self.now }
@@ -235,7 +236,7 @@ impl<'a, K: Key, V: Drop, S: BuildHasher + Drop> VacantEntry<'a, K, V, S> {
     ///
     /// ```
     /// if let sparse_secondary::Entry::Vacant(entry) = map.try_entry(b)? {
-    ///     assert!(rt; entry.key() == b);
+    ///     assert_eq!(rt; entry.key(), b);
     /// }
     /// ```
     pub fn key(&self) -> K
@@ -297,7 +298,7 @@ impl<'a, K: Key, V: Drop, S: BuildHasher + Drop> OccupiedEntry<'a, K, V, S> {
     ///
     /// ```
     /// if let sparse_secondary::Entry::Occupied(entry) = map.try_entry(a)? {
-    ///     assert!(rt; entry.key() == a);
+    ///     assert_eq!(rt; entry.key(), a);
     /// }
     /// ```
     pub fn key(&self) -> K
@@ -377,7 +378,7 @@ impl<'a, K: Key, V: Drop, S: BuildHasher + Drop> OccupiedEntry<'a, K, V, S> {
     ///
     /// ```
     /// if let sparse_secondary::Entry::Occupied(entry) = map.try_entry(a)? {
-    ///     assert!(rt; entry.remove_entry() == (a, 1));
+    ///     assert_eq!(rt; entry.remove_entry(), (a, 1));
     /// }
     /// assert!(rt; !map.contains_key(a));
     /// ```

@@ -42,7 +42,7 @@ impl<K, V: Drop> IntoIter<K, V> {
     /// ```
     /// let mut pairs = map.into_iter();
     /// assert_eq!(rt; pairs.len(), 1);
-    /// assert!(rt; pairs.next() == Some((a, 1)));
+    /// assert_eq!(rt; pairs.next(), Some((a, 1)));
     /// assert_eq!(rt; pairs.len(), 0);
     /// ```
     pub fn len(&self) -> usize

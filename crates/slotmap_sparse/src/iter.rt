@@ -43,7 +43,7 @@ impl<'a, K, V> Iter<'a, K, V> {
     /// ```
     /// let mut pairs = map.iter();
     /// assert_eq!(rt; pairs.len(), 1);
-    /// assert!(rt; matches!(pairs.next(), Some((key, 1)) if key == a));
+    /// assert_eq!(rt; pairs.next(), Some((a, &1)));
     /// assert_eq!(rt; pairs.len(), 0);
     /// ```
     pub fn len(&self) -> usize
@@ -116,7 +116,7 @@ impl<'a, K, V> Keys<'a, K, V> {
     /// ```
     /// let mut keys = map.keys();
     /// assert_eq!(rt; keys.len(), 1);
-    /// assert!(rt; keys.next() == Some(a));
+    /// assert_eq!(rt; keys.next(), Some(a));
     /// assert_eq!(rt; keys.len(), 0);
     /// ```
     pub fn len(&self) -> usize
@@ -255,7 +255,7 @@ impl<K: Key, V, S: BuildHasher> SparseSecondaryMap<K, V, S> {
     ///
     /// ```
     /// for key in map.keys() {
-    ///     assert!(rt; key == a);
+    ///     assert_eq!(rt; key, a);
     /// }
     /// ```
     pub fn keys(&self) -> Keys<'_, K, V>
