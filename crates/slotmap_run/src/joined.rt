@@ -106,17 +106,17 @@ where
 /// secondary map, by its `insert`, `get` and `remove`. So each command is a step of one of the two
 /// maps' machines, or of none.
 ///
-/// If the primary map never had a slot, the secondary map is empty, and there are fewer than 2^31
-/// commands, the replies are those of a plain dictionary. It knows nothing of versions and indices.
-/// For each key that is live or detached it holds the value that was last put under exactly that
-/// key, and not taken since. `Look` shows that value, `Take` returns it, and `Put` returns the one
-/// before. A value that was put under a stale key is never found under such a key.
+/// Take a primary map that never had a slot, an empty secondary map and fewer than 2^31 commands.
+/// Then the replies for live and detached keys are those of a plain dictionary, which knows nothing
+/// of versions and indices. For each such key it holds the value that was last put under exactly
+/// that key, and not taken since. `Look` shows that value, `Take` returns it, and `Put` returns the
+/// one before. A value that was put under a stale key is never found under a live or detached one.
 ///
 /// `look` is called on the value that a `Look` finds; the reply holds what it returns.
 ///
 /// Memory for the keys and for the replies is allocated first. If that fails no command is run,
 /// both maps are as before, and the error holds the commands. After that all commands are run in
-/// order. A command that fails changes nothing, and its reply says so.
+/// order. A command that fails changes nothing, except perhaps the capacity, and its reply says so.
 ///
 /// Each command costs one call of one map.
 ///

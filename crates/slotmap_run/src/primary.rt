@@ -107,7 +107,7 @@ where
 ///
 /// Memory for the replies is allocated first. If that fails no command is run, the map is as
 /// before, and the error holds the commands. After that all commands are run in order. A command
-/// that fails changes nothing, and its reply says so.
+/// that fails changes nothing, except perhaps the capacity, and its reply says so.
 ///
 /// Each command costs one call of the map. `Drain` and `Keys` allocate a vector for what they
 /// return.
@@ -187,7 +187,8 @@ where
 ///
 /// The closures are those of [`run`]. Memory for the replies is allocated first, then the map is
 /// made. If either fails no command is run, and the error holds the commands. After that all
-/// commands are run in order. A command that fails changes nothing, and its reply says so.
+/// commands are run in order. A command that fails changes nothing, except perhaps the capacity,
+/// and its reply says so.
 ///
 /// Each command costs one call of the map. `Drain` and `Keys` allocate a vector for what they
 /// return.

@@ -49,9 +49,10 @@ impl<K: Key, V: Drop, S: BuildHasher + Drop> SparseSecondaryMap<K, V, S> {
 
     /// Returns the entry of a key, or `None` if the key is null or older than the key at its index.
     ///
-    /// An older key at the index is removed at once, and its value is dropped. So in a sparse map a
-    /// vacant entry that is dropped unused leaves its index vacant. Otherwise nothing changes. The
-    /// call allocates nothing and always returns `Ok`. Takes constant time.
+    /// An older key at the index is removed at once, and its value is dropped; nothing else
+    /// changes. So here a vacant entry that is dropped unused leaves its index vacant, which in a
+    /// `SecondaryMap` keeps the older key. The call allocates nothing and always returns `Ok`.
+    /// Takes constant time.
     ///
     /// If there is no entry, the map is as before. A proof gets this from the contract of
     /// `try_entry`.
