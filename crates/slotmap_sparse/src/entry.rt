@@ -157,8 +157,8 @@ impl<'a, K: Key, V: Drop, S: BuildHasher + Drop> Entry<'a, K, V, S> {
 
     /// Returns a mutable reference to the key's value, which is `value` if it had none.
     ///
-    /// The reference may live as long as the loan of the map. It allocates only if the key has no
-    /// value. If the allocation fails, the error holds `value`, and the map is as the entry left
+    /// The reference is valid for as long as the map is borrowed. It allocates only if the key has
+    /// no value. If the allocation fails, the error holds `value`, and the map is as the entry left
     /// it. Takes constant time, except if the keys move.
     ///
     /// ```
@@ -340,7 +340,7 @@ impl<'a, K: Key, V: Drop, S: BuildHasher + Drop> OccupiedEntry<'a, K, V, S> {
         self.map.get_unchecked_mut(key)
     }
 
-    /// Returns a mutable reference to the value that may live as long as the loan of the map.
+    /// Returns a mutable reference to the value, valid for as long as the map is borrowed.
     ///
     /// Takes constant time.
     ///
