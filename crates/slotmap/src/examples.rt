@@ -12,8 +12,6 @@ mod registry;
 mod retains;
 mod same_keys;
 mod scheduler;
-#[cfg(test)]
-mod shown;
 mod side_table;
 mod side_writes;
 mod sparse_table;

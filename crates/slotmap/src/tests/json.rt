@@ -22,16 +22,18 @@ static KEYS: [(&str, &str); 8] = [
     ("{\"idx\":1,\"version\":4294967296}", "shape"),
 ];
 
+fn read_key(alloc: Global, json: &str) -> Result<String, Fail> {
+    let value = Value::from_str(alloc, json)?;
+    match key_from_value::<DefaultKey>(&value) {
+        Ok(key) => Ok(key_text(alloc, key)?),
+        Err(error) => Ok(done_text(alloc, Err(error))?),
+    }
+}
+
 #[test]
 fn keys_are_read(rt: HostRuntime) -> Result<(), Fail> {
     for (json, wanted) in KEYS {
-        let value = Value::from_str(rt.alloc(), json)?;
-        let read: Result<DefaultKey, JsonError> = key_from_value(&value);
-        let text = match read {
-            Ok(key) => key_text(rt.alloc(), key)?,
-            Err(error) => done_text(rt.alloc(), Err(error))?,
-        };
-        assert_eq!(rt; text.as_str(), wanted, "{json}");
+        assert!(rt; read_key(rt.alloc(), json)?.as_str() == wanted, "{json}");
     }
     Ok(())
 }
@@ -39,7 +41,7 @@ fn keys_are_read(rt: HostRuntime) -> Result<(), Fail> {
 #[test]
 fn keys_are_written(rt: HostRuntime) -> Result<(), Fail> {
     let text = key_to_value(rt.alloc(), key(2, 3))?.to_string(rt.alloc())?;
-    assert_eq!(rt; text.as_str(), "{\"idx\":2,\"version\":3}");
+    assert!(rt; text.as_str() == "{\"idx\":2,\"version\":3}");
     Ok(())
 }
 
@@ -73,15 +75,18 @@ static READ: [(&str, &str); 12] = [
     ("[{\"version\":0},{\"value\":-1,\"version\":1}]", "shape"),
 ];
 
+fn read_list(alloc: Global, json: &str) -> Result<String, Fail> {
+    let value = Value::from_str(alloc, json)?;
+    match slots_from_value(alloc, &value, read_number) {
+        Ok(list) => Ok(slots_text(alloc, &list)?),
+        Err(error) => Ok(done_text(alloc, Err(error))?),
+    }
+}
+
 #[test]
 fn lists_are_read(rt: HostRuntime) -> Result<(), Fail> {
-    for (json, wanted) in READ {
-        let value = Value::from_str(rt.alloc(), json)?;
-        let text = match slots_from_value(rt.alloc(), &value, read_number) {
-            Ok(list) => slots_text(rt.alloc(), &list)?,
-            Err(error) => done_text(rt.alloc(), Err(error))?,
-        };
-        assert_eq!(rt; text.as_str(), wanted, "{json}");
+    for (json, wanted) in &READ {
+        assert!(rt; read_list(rt.alloc(), json)?.as_str() == *wanted);
     }
     Ok(())
 }
@@ -96,28 +101,32 @@ static WRITTEN: [(&[Slot], &str); 3] = [
     (&[(Some(7), 3)], "[{\"value\":7,\"version\":3}]"),
 ];
 
+fn write_list(alloc: Global, list: &[Slot]) -> Result<String, Fail> {
+    let list = slots(alloc, list)?;
+    let value = slots_to_value(alloc, &list, write_number)?;
+    Ok(value.to_string(alloc)?)
+}
+
 #[test]
 fn lists_are_written(rt: HostRuntime) -> Result<(), Fail> {
     for (list, wanted) in WRITTEN {
-        let list = slots(rt.alloc(), list)?;
-        let value = slots_to_value(rt.alloc(), &list, write_number)?;
-        let text = value.to_string(rt.alloc())?;
-        assert_eq!(rt; text.as_str(), wanted);
+        assert!(rt; write_list(rt.alloc(), list)?.as_str() == wanted);
     }
     Ok(())
 }
 
 #[test]
-fn the_first_refusal_is_answered(rt: HostRuntime) -> Result<(), Fail> {
+fn the_first_error_of_a_reader_is_returned(rt: HostRuntime) -> Result<(), Fail> {
     let json = "[{\"value\":1,\"version\":1},{\"value\":2}]";
     let value = Value::from_str(rt.alloc(), json)?;
     let refuse = |_: &Value| Err::<u64, JsonError>(JsonError::Memory);
-    assert!(rt;
-        matches!(
-            slots_from_value(rt.alloc(), &value, refuse),
-            Err(JsonError::Memory)
-        )
-    );
+    let read = slots_from_value(rt.alloc(), &value, refuse);
+    assert!(rt; matches!(read, Err(JsonError::Memory)));
+    Ok(())
+}
+
+#[test]
+fn the_first_error_of_a_writer_is_returned(rt: HostRuntime) -> Result<(), Fail> {
     let list = slots(rt.alloc(), &[(Some(7), 3)])?;
     let refused = slots_to_value(rt.alloc(), &list, |_: &u64| Err(OutOfMemory));
     assert!(rt; refused.is_err());
@@ -136,23 +145,39 @@ fn full_list(alloc: Global, count: u64) -> Result<Vec<SlotRecord<u64>>, Fail> {
     Ok(list)
 }
 
-#[test]
-fn each_value_of_a_long_list_is_shown_once(rt: HostRuntime) -> Result<(), Fail> {
+// Writes a list, and returns how often its closure is called.
+fn write_counted(alloc: Global, list: &[SlotRecord<u64>]) -> Result<(Value, u64), Fail> {
     let calls: Cell<u64> = Cell::new(0);
-    let list = full_list(rt.alloc(), 1000)?;
-    let value = slots_to_value(rt.alloc(), &list, |value: &u64| {
+    let value = slots_to_value(alloc, list, |value: &u64| {
         calls.set(calls.get().wrapping_add(1));
         write_number(value)
     })?;
-    assert_eq!(rt; calls.get(), 1000);
-    let read = slots_from_value(rt.alloc(), &value, |value: &Value| {
+    Ok((value, calls.get()))
+}
+
+// Reads a list, and returns how often its closure is called.
+fn read_counted(alloc: Global, value: &Value) -> Result<(Vec<SlotRecord<u64>>, u64), Fail> {
+    let calls: Cell<u64> = Cell::new(0);
+    let list = slots_from_value(alloc, value, |value: &Value| {
         calls.set(calls.get().wrapping_add(1));
         read_number(value)
     })?;
-    assert_eq!(rt; calls.get(), 2000);
-    let text = slots_text(rt.alloc(), &list)?;
-    let again = slots_text(rt.alloc(), &read)?;
-    assert!(rt; text.as_str() == again.as_str());
+    Ok((list, calls.get()))
+}
+
+// Writes a list and reads it back, and returns how often each closure is called.
+fn write_and_read(alloc: Global, list: &[SlotRecord<u64>]) -> Result<(String, u64, u64), Fail> {
+    let (value, shown) = write_counted(alloc, list)?;
+    let (read, made) = read_counted(alloc, &value)?;
+    Ok((slots_text(alloc, &read)?, shown, made))
+}
+
+#[test]
+fn each_value_of_a_long_list_is_shown_once(rt: HostRuntime) -> Result<(), Fail> {
+    let list = full_list(rt.alloc(), 1000)?;
+    let (text, shown, made) = write_and_read(rt.alloc(), &list)?;
+    assert!(rt; shown == 1000 && made == 1000);
+    assert!(rt; text.as_str() == slots_text(rt.alloc(), &list)?.as_str());
     Ok(())
 }
 
@@ -170,14 +195,23 @@ fn read_linked(alloc: Global, value: &Value) -> Result<Linked, Fail> {
     Ok(SlotMap::from_slots(alloc, list)?)
 }
 
-#[test]
-fn values_that_hold_keys_come_back(rt: HostRuntime) -> Result<(), Fail> {
-    let mut map: Linked = SlotMap::new(rt.alloc())?;
+// A map of the null key, and of the key that it has.
+fn linked(alloc: Global) -> Result<(Linked, DefaultKey, DefaultKey), Fail> {
+    let mut map: Linked = SlotMap::new(alloc)?;
     let first = map.insert(DefaultKey::null())?;
     let second = map.insert(first)?;
-    let value = linked_json(rt.alloc(), &map)?;
-    let read = read_linked(rt.alloc(), &value)?;
-    assert_eq!(rt; read.get(second).copied(), Some(first));
-    assert_eq!(rt; read.get(first).copied(), Some(DefaultKey::null()));
+    Ok((map, first, second))
+}
+
+fn read_back(alloc: Global, map: &Linked) -> Result<Linked, Fail> {
+    let value = linked_json(alloc, map)?;
+    read_linked(alloc, &value)
+}
+
+#[test]
+fn values_that_hold_keys_come_back(rt: HostRuntime) -> Result<(), Fail> {
+    let (map, first, second) = linked(rt.alloc())?;
+    let read = read_back(rt.alloc(), &map)?;
+    assert!(rt; read.get(second) == Some(&first) && read.get(first) == Some(&DefaultKey::null()));
     Ok(())
 }

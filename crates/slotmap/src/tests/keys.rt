@@ -3,7 +3,7 @@
 use crate::{DefaultKey, Key, KeyData, NodeKey, is_older_version};
 use std::alloc::Global;
 use std::collections::HashSet;
-use std::process::Abort;
+use std::fmt::Debug;
 use std::test::Fail;
 
 // Numbers, and the index, the version and the number of the key that is read from each.
@@ -16,42 +16,39 @@ static NUMBERS: [(u64, u32, u32, u64); 6] = [
     (18446744069414584321, 1, 4294967295, 18446744069414584321),
 ];
 
+fn is_read_as(number: u64, index: u32, version: u32, again: u64) -> bool {
+    let data = KeyData::from_ffi(number);
+    let parts = data.idx() == index && data.version() == version;
+    parts && data.as_ffi() == again && KeyData::new(index, version) == data
+}
+
 #[test]
 fn numbers_are_read_as_keys(rt: HostRuntime) {
     for (number, index, version, again) in NUMBERS {
-        let data = KeyData::from_ffi(number);
-        assert_eq!(rt; data.idx(), index, "{number}");
-        assert_eq!(rt; data.version(), version, "{number}");
-        assert_eq!(rt; data.as_ffi(), again, "{number}");
-        assert!(rt; KeyData::new(index, version) == data, "{number}");
+        assert!(rt; is_read_as(number, index, version, again), "{number}");
     }
-    assert_eq!(rt; KeyData::default().as_ffi(), 8589934591);
-    assert_eq!(rt; KeyData::new(0, 4).as_ffi(), 21474836480);
-    assert_eq!(rt; KeyData::new(4294967295, 9).as_ffi(), 8589934591);
+}
+
+#[test]
+fn keys_are_read_as_numbers(rt: HostRuntime) {
+    assert!(rt; KeyData::default().as_ffi() == 8589934591);
+    assert!(rt; KeyData::new(0, 4).as_ffi() == 21474836480);
+    assert!(rt; KeyData::new(4294967295, 9).as_ffi() == 8589934591);
+}
+
+fn shows<D: Debug>(alloc: Global, value: &D, text: &str) -> Result<bool, Fail> {
+    Ok(format!(in alloc; "{value:?}")?.as_str() == text)
 }
 
 #[test]
 fn debug_texts(rt: HostRuntime) -> Result<(), Fail> {
+    let alloc = rt.alloc();
     let data = KeyData::new(2, 3);
-    let texts = [
-        (format!(in rt.alloc(); "{:?}", KeyData::default())?, "null"),
-        (format!(in rt.alloc(); "{data:?}")?, "2v3"),
-        (
-            format!(in rt.alloc(); "{:?}", DefaultKey::from(data))?,
-            "DefaultKey(2v3)",
-        ),
-        (
-            format!(in rt.alloc(); "{:?}", NodeKey::from(data))?,
-            "NodeKey(2v3)",
-        ),
-        (
-            format!(in rt.alloc(); "{:?}", NodeKey::null())?,
-            "NodeKey(null)",
-        ),
-    ];
-    for (text, wanted) in &texts {
-        assert_eq!(rt; text.as_str(), *wanted);
-    }
+    assert!(rt; shows(alloc, &KeyData::default(), "null")?);
+    assert!(rt; shows(alloc, &data, "2v3")?);
+    assert!(rt; shows(alloc, &DefaultKey::from(data), "DefaultKey(2v3)")?);
+    assert!(rt; shows(alloc, &NodeKey::from(data), "NodeKey(2v3)")?);
+    assert!(rt; shows(alloc, &NodeKey::null(), "NodeKey(null)")?);
     Ok(())
 }
 
@@ -69,23 +66,33 @@ fn ages_of_versions(rt: HostRuntime) {
     }
 }
 
-fn hold_key_type<K: Key>(rt: &impl Abort, alloc: Global) -> Result<(), Fail> {
+fn is_null_last<K: Key>() -> bool {
+    let late = K::from(KeyData::new(2, 3));
+    K::null().is_null() && K::null() == K::default() && !late.is_null() && late < K::null()
+}
+
+fn is_ordered_as_data<K: Key>() -> bool {
     let early = K::from(KeyData::new(1, 5));
     let late = K::from(KeyData::new(2, 3));
-    assert!(rt; K::null().is_null() && !late.is_null());
-    assert!(rt; K::null() == K::default());
-    assert_eq!(rt; K::null().data().as_ffi(), 8589934591);
-    assert!(rt; late == K::from(late.data()) && late != early);
-    assert!(rt; early < late && late < K::null());
+    late == K::from(late.data()) && late != early && early < late
+}
+
+fn is_hashed_as_data<K: Key>(alloc: Global) -> Result<bool, Fail> {
     let mut seen = HashSet::new(alloc);
+    let late = K::from(KeyData::new(2, 3));
     seen.insert(late)?;
-    assert!(rt; seen.contains(&K::from(late.data())));
-    assert!(rt; !seen.contains(&early));
-    Ok(())
+    Ok(seen.contains(&K::from(late.data())) && !seen.contains(&K::null()))
 }
 
 #[test]
-fn key_types_are_as_their_data(rt: HostRuntime) -> Result<(), Fail> {
-    hold_key_type::<DefaultKey>(&rt, rt.alloc())?;
-    hold_key_type::<NodeKey>(&rt, rt.alloc())
+fn key_types_are_as_their_data(rt: HostRuntime) {
+    assert!(rt; is_null_last::<DefaultKey>() && is_null_last::<NodeKey>());
+    assert!(rt; is_ordered_as_data::<DefaultKey>() && is_ordered_as_data::<NodeKey>());
+}
+
+#[test]
+fn key_types_are_hashed_as_their_data(rt: HostRuntime) -> Result<(), Fail> {
+    assert!(rt; is_hashed_as_data::<DefaultKey>(rt.alloc())?);
+    assert!(rt; is_hashed_as_data::<NodeKey>(rt.alloc())?);
+    Ok(())
 }

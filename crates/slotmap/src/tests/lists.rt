@@ -2,6 +2,7 @@
 
 use super::text::{Slot, done_text, slots};
 use crate::check_slots;
+use std::alloc::Global;
 use std::test::Fail;
 
 // Lists, limits, and what `check_slots` says.
@@ -16,12 +17,18 @@ static CHECKED: [(&[Slot], usize, &str); 8] = [
     (&[(None, 4), (Some(7), 3), (None, 0)], 4, "done"),
 ];
 
+fn checked(alloc: Global, list: &[Slot], limit: usize) -> Result<String, Fail> {
+    let list = slots(alloc, list)?;
+    Ok(done_text(alloc, check_slots(&list, limit))?)
+}
+
 #[test]
 fn faults_are_looked_for_in_order(rt: HostRuntime) -> Result<(), Fail> {
     for (list, limit, wanted) in CHECKED {
-        let list = slots(rt.alloc(), list)?;
-        let text = done_text(rt.alloc(), check_slots(&list, limit))?;
-        assert_eq!(rt; text.as_str(), wanted, "limit {limit}");
+        assert!(rt;
+            checked(rt.alloc(), list, limit)?.as_str() == wanted,
+            "limit {limit}"
+        );
     }
     Ok(())
 }

@@ -9,6 +9,7 @@ use crate::{
     run_detaching, run_detaching_new,
 };
 use std::alloc::Global;
+use std::process::Abort;
 use std::test::Fail;
 
 // What the first run is given.
@@ -83,54 +84,86 @@ where
     Some((map, earlier, later))
 }
 
-#[test]
-fn a_second_run_answers_no_key_of_the_first(rt: HostRuntime) -> Result<(), Fail> {
-    let mut map: SlotMap<DefaultKey, u64> = SlotMap::new(rt.alloc())?;
-    let first = vec![in rt.alloc();
+type Replies = Vec<Reply<DefaultKey, u64, u64, ()>>;
+
+// Whether a reply is this new key.
+fn has_key(replies: &Replies, position: usize, wanted: DefaultKey) -> bool {
+    match replies.get(position) {
+        Some(Reply::Key(key)) => *key == wanted,
+        _ => false,
+    }
+}
+
+fn first_list(alloc: Global) -> Result<Vec<Command<DefaultKey, u64>>, Fail> {
+    Ok(vec![in alloc;
         Command::Insert(1),
         Command::Remove(key(1, 1)),
         Command::InsertWith,
-    ]?;
-    let second = vec![in rt.alloc();
+    ]?)
+}
+
+fn second_list(alloc: Global) -> Result<Vec<Command<DefaultKey, u64>>, Fail> {
+    Ok(vec![in alloc;
         Command::InsertWith,
         Command::Get(key(1, 3)),
         Command::Retain,
         Command::Len,
         Command::Insert(7),
-    ]?;
-    let told = run_twice(rt.alloc(), &mut map, first, second);
-    let Some((earlier, later)) = told else {
-        return Err(Fail::from("a run was refused"));
-    };
-    assert!(rt; matches!(earlier.get(0), Some(Reply::Key(k)) if *k == key(1, 1)));
-    assert!(rt; matches!(earlier.get(2), Some(Reply::Failed(()))));
-    assert!(rt; matches!(later.get(0), Some(Reply::Key(k)) if *k == key(1, 3)));
+    ]?)
+}
+
+fn hold_second(rt: &impl Abort, later: &Replies) {
+    assert!(rt; has_key(later, 0, key(1, 3)));
     assert!(rt; matches!(later.get(1), Some(Reply::Looked(Some(0)))));
     assert!(rt; matches!(later.get(3), Some(Reply::Len(0))));
-    assert!(rt; matches!(later.get(4), Some(Reply::Key(k)) if *k == key(1, 5)));
+    assert!(rt; has_key(later, 4, key(1, 5)));
+}
+
+#[test]
+fn a_second_run_answers_no_key_of_the_first(rt: HostRuntime) -> Result<(), Fail> {
+    let mut map: SlotMap<DefaultKey, u64> = SlotMap::new(rt.alloc())?;
+    let first = first_list(rt.alloc())?;
+    let second = second_list(rt.alloc())?;
+    let Some((earlier, later)) = run_twice(rt.alloc(), &mut map, first, second) else {
+        return Err(Fail::from("a run was refused"));
+    };
+    assert!(rt; has_key(&earlier, 0, key(1, 1)));
+    assert!(rt; matches!(earlier.get(2), Some(Reply::Failed(()))));
+    hold_second(&rt, &later);
     Ok(())
+}
+
+fn detaching_list(alloc: Global) -> Result<Vec<DetachCommand<DefaultKey, u64>>, Fail> {
+    Ok(vec![in alloc;
+        DetachCommand::Plain(Command::Insert(1)),
+        DetachCommand::Detach(key(1, 1)),
+    ]?)
+}
+
+fn reattaching_list(alloc: Global) -> Result<Vec<DetachCommand<DefaultKey, u64>>, Fail> {
+    Ok(vec![in alloc;
+        DetachCommand::Plain(Command::InsertWith),
+        DetachCommand::Reattach(key(1, 1), 9),
+        DetachCommand::Plain(Command::Replace(key(1, 1), 8)),
+    ]?)
+}
+
+fn hold_reattached(rt: &impl Abort, later: &Replies) {
+    assert!(rt; has_key(later, 0, key(2, 1)));
+    assert!(rt; matches!(later.get(1), Some(Reply::Done)));
+    assert!(rt; matches!(later.get(2), Some(Reply::Put(Ok(9)))));
 }
 
 #[test]
 fn a_run_goes_on_where_one_on_a_new_map_ended(rt: HostRuntime) -> Result<(), Fail> {
-    let first = key(1, 1);
-    let commands = vec![in rt.alloc();
-        DetachCommand::Plain(Command::Insert(1)),
-        DetachCommand::Detach(first),
-    ]?;
-    let more = vec![in rt.alloc();
-        DetachCommand::Plain(Command::InsertWith),
-        DetachCommand::Reattach(first, 9),
-        DetachCommand::Plain(Command::Replace(first, 8)),
-    ]?;
-    let made: Option<(SlotMap<DefaultKey, u64>, _, _)> = run_new_and_on(rt.alloc(), commands, more);
+    let first = detaching_list(rt.alloc())?;
+    let second = reattaching_list(rt.alloc())?;
+    let made: Option<(SlotMap<DefaultKey, u64>, _, _)> = run_new_and_on(rt.alloc(), first, second);
     let Some((map, earlier, later)) = made else {
         return Err(Fail::from("a run was refused"));
     };
     assert!(rt; matches!(earlier.get(1), Some(Reply::Taken(Some(1)))));
-    assert!(rt; matches!(later.get(0), Some(Reply::Key(k)) if *k == key(2, 1)));
-    assert!(rt; matches!(later.get(1), Some(Reply::Done)));
-    assert!(rt; matches!(later.get(2), Some(Reply::Put(Ok(9)))));
-    assert_eq!(rt; map.get(first).copied(), Some(8));
+    hold_reattached(&rt, &later);
+    assert!(rt; map.get(key(1, 1)) == Some(&8));
     Ok(())
 }
