@@ -37,7 +37,7 @@ fn to_slots<'a, M: Held<'a> + Primary<DefaultKey, Number<'a>>>(
     Ok(())
 }
 
-// Reads a map from a list, which takes the place of the row's.
+// Reads a map from a list, and keeps it instead of the row's.
 fn from_list<'a, M: Held<'a> + Primary<DefaultKey, Number<'a>>>(
     maps: &mut Maps<'a, M>,
     list: Vec<SlotRecord<Number<'a>>>,

@@ -12,7 +12,7 @@
 //!
 //! | Call | Result |
 //! |---|---|
-//! | `new`, `with_key`, `with_capacity N`, `with_capacity_and_key N`, `drop` | a new map takes the place of the row's, or `too great` |
+//! | `new`, `with_key`, `with_capacity N`, `with_capacity_and_key N`, `drop` | a new map instead of the row's, or `too great` |
 //! | `len`, `is_empty`, `contains_key K` | the number, or `true` or `false` |
 //! | `has_capacity N`, `capacity_is_within N` | whether `capacity()` is at least, or at most, that number |
 //! | `reserve N`, `try_reserve N` | `done` or `too great` |
@@ -32,8 +32,8 @@
 //! | `drain N` | the pairs of N steps, and how many are left as it is dropped |
 //! | `into_iter N`, `into_iter rest N` | the same of a clone of the map, or as at `iter` |
 //! | `drain_into`, `keys_into` | the pairs, or the keys |
-//! | `to_slots`, `from_slots SLOT ..`, `through_slots` | the list; the map of the list, or why it is refused; both |
-//! | `check_slots LIMIT SLOT ..` | `done`, or why the list is refused |
+//! | `to_slots`, `from_slots SLOT ..`, `through_slots` | the list; the map of the list, or why the list fails; both |
+//! | `check_slots LIMIT SLOT ..` | `done`, or why the list fails |
 //! | `clone`, `drop_clone`, `exchange`, `clone_from` | a clone is set beside the map, dropped, exchanged with it, or cloned |
 //!
 //! Of more than a thousand items a result has only how many they are: `keys (100000)`.

@@ -43,7 +43,7 @@ fn write_reserved(reply: &mut String, reserved: Result<(), ReserveError>) -> Res
     }
 }
 
-// The calls that make a map, which takes the place of the row's.
+// The calls that make a map, which is kept instead of the row's.
 fn on_new<'a, M: Held<'a> + Primary<DefaultKey, Number<'a>>>(
     maps: &mut Maps<'a, M>,
     name: &str,

@@ -182,7 +182,7 @@ pub trait Held<'a, H>: Drop {
     ) -> Result<Option<(DefaultKey, u64)>, Stop>;
 }
 
-/// Says that memory ran out, and drops what a refused call hands back.
+/// Says that memory ran out, and drops what a failed call hands back.
 pub fn no_memory<E: Drop>(_refusal: E) -> Stop {
     Stop::Memory
 }

@@ -46,7 +46,7 @@ pub type Command<'a> = JoinedCommand<Number<'a>, Number<'a>>;
 /// A command to two maps, the first of which detaches keys.
 pub type DetachCommand<'a> = JoinedDetachCommand<Number<'a>, Number<'a>>;
 
-/// What a command is answered.
+/// The reply to a command.
 pub type Reply<'a> = JoinedReply<DefaultKey, Number<'a>, Number<'a>, u64>;
 
 // The command of a line that every primary map has.

@@ -80,7 +80,7 @@ fn of_words<'a, M: Held<'a, H> + Secondary<DefaultKey, Number<'a>>, H: Copy>(
     }
 }
 
-/// Puts the map in the row's place that is made of the pairs of its clone.
+/// Makes a map of the pairs of the row's clone, and keeps it instead of the row's.
 pub fn through_pairs<'a, M: Held<'a, H> + Secondary<DefaultKey, Number<'a>>, H: Copy>(
     maps: &mut Maps<'a, M, H>,
 ) -> Result<(), Stop> {
@@ -154,7 +154,7 @@ pub fn on_slots<'a, M: Held<'a, H> + Secondary<DefaultKey, Number<'a>>, H: Copy>
     Ok(())
 }
 
-// Reads a map from a list, which takes the place of the row's.
+// Reads a map from a list, and keeps it instead of the row's.
 fn from_list<'a, M: Held<'a, H> + Secondary<DefaultKey, Number<'a>>, H: Copy>(
     maps: &mut Maps<'a, M, H>,
     list: Vec<SlotRecord<Number<'a>>>,

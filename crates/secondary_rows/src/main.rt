@@ -26,9 +26,9 @@
 //!   are called only where the key is in the map;
 //! - `replace_disjoint PAIR PAIR`: the values before, or the given ones with ` back`;
 //!   `replace_disjoint` of no pair: `true`;
-//! - `extend PAIR ..`, `from_iter PAIR ..`, whose map takes the place of the row's; `equals PAIR
-//!   ..`: whether the map equals that of the pairs; `through_pairs`: the map takes the place of
-//!   the row's that `from_iter` makes of its clone's pairs;
+//! - `extend PAIR ..`, `from_iter PAIR ..`, whose map is kept instead of the row's; `equals PAIR
+//!   ..`: whether the map equals that of the pairs; `through_pairs`: the map that `from_iter`
+//!   makes of its clone's pairs is kept instead of the row's;
 //! - `retain even` keeps the even values, and makes each ten times as great; `retain nothing`;
 //!   `retain odd calls` keeps what every other call sees, makes each value twice as great, and
 //!   gives `values` with those that it saw;
@@ -42,7 +42,7 @@
 //!   it is N or less; `set_capacity N`, `try_set_capacity N` of `SecondaryMap`, `reserve N`,
 //!   `try_reserve N` of `SparseSecondaryMap`: `done` or `too great`;
 //! - `to_slots`, `from_slots SLOT ..`, `through_slots`, which reads the map from its own list:
-//!   `done` or why it is refused;
+//!   `done` or why it fails;
 //! - `clone` sets a clone beside the map, `clone_from` makes the map a clone of that one,
 //!   `is_same` says whether both are equal, `exchange` exchanges them, and `drop_clone` drops the
 //!   one beside the map;
@@ -66,10 +66,10 @@
 //! results above. Joined runs have `insert N`, `remove K`, `put K N`, `look K`, `take K`, `detach
 //! K` and `reattach K N`, where K is the number of the insert whose key is meant; their results
 //! are a key, `taken N`, `old N`, `looked N`, `taken second N`, `done`, `not detached N`, `no
-//! key`, `no key first N` and `no key second N`, or `none` in place of N.
+//! key`, `no key first N` and `no key second N`, or `none` instead of N.
 //!
 //! Where memory runs out the call is made once more. `extend` and `extend_refs` then go on with
-//! the pair that came back. A closure that was called before memory is refused is answered
+//! the pair that came back. A closure that was called before memory ran out gives
 //! `refused`.
 #![tactic(auto)]
 

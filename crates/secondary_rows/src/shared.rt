@@ -94,8 +94,8 @@ macro_rules! told {
     };
 }
 
-/// Puts a value by an entry; `$made` follows a call that gives a new place, which a sparse map
-/// may refuse.
+/// Puts a value by an entry; `$made` follows a call that needs a new slot, which fails in a sparse
+/// map if memory runs out.
 macro_rules! put_by_entry {
     ($map:expr, $put:expr, $key:expr, $value:expr, $calls:expr, $($made:tt)*) => {{
         let (counts, value) = $value;

@@ -26,7 +26,7 @@ pub fn on_number<'a, M: Held<'a, H> + Secondary<DefaultKey, Number<'a>>, H: Copy
     Ok(())
 }
 
-/// The calls that make a map, which takes the place of the row's.
+/// The calls that make a map, which is kept instead of the row's.
 pub fn on_new<'a, M: Held<'a, H> + Secondary<DefaultKey, Number<'a>>, H: Copy>(
     maps: &mut Maps<'a, M, H>,
     name: &str,

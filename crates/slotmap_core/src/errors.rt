@@ -1,6 +1,7 @@
 //! The errors of the maps.
 //!
-//! A call that fails leaves the contents of the map as they were. A value that was to be stored is
+//! A call that fails leaves the contents of the map as they were. (`extend` of the secondary maps is
+//! the exception: it keeps what it put before memory ran out.) A value that was to be stored is
 //! returned in the error; a closure or a list is dropped. Each type is an `Error` with a short
 //! message, so `?` passes it on, to `anyhow` too.
 

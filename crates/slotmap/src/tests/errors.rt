@@ -1,4 +1,4 @@
-//! The message of each refusal.
+//! The message of each error.
 
 use crate::{
     InsertError, InsertWithError, JsonError, OutOfMemory, PutError, ReattachError, ReserveError,

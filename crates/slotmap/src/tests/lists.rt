@@ -1,4 +1,4 @@
-//! Which lists of slots are refused, and why, at limits that no map has.
+//! Which lists of slots fail, and why, at limits that no map has.
 
 use super::text::{Slot, done_text, slots};
 use crate::check_slots;

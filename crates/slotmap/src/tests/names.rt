@@ -1,4 +1,4 @@
-//! Names of this crate that no other test uses: the types of walks and entries. The traits of the maps aren't in scope here, so
+//! Names of this crate that no other test uses: the types of iterators and entries. The traits of the maps aren't in scope here, so
 //! each call is the map's own.
 
 use super::text::key;
@@ -10,7 +10,7 @@ use std::alloc::Global;
 use std::process::Abort;
 use std::test::Fail;
 
-/// What each walk of a map gives first, by the names in the module of its walks.
+/// What each iterator of a map yields first, by the names in the map's module.
 trait Walked: Drop {
     /// A map of 7 under the key 1v1.
     fn one(alloc: Global) -> Result<Self, Fail>;

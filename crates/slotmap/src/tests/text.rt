@@ -13,7 +13,7 @@ pub fn key_text<K: Key>(alloc: Global, key: K) -> Result<String, AllocError> {
     format!(in alloc; "{:?}", key.data())
 }
 
-/// `done`, or the refusal's message.
+/// `done`, or the error's message.
 pub fn done_text<E: Display + Drop>(
     alloc: Global,
     done: Result<(), E>,
@@ -36,7 +36,7 @@ pub fn slots_text(alloc: Global, slots: &[SlotRecord<u64>]) -> Result<String, Al
     Ok(text)
 }
 
-/// Drops what a refusal hands back.
+/// Drops what an error holds.
 pub fn no_memory<E: Drop>(_refusal: E) -> AllocError {
     AllocError
 }

@@ -38,7 +38,7 @@ fn gives<K: Key>(_key: K) -> Result<u64, ()> {
     Ok(5)
 }
 
-// Runs two lists on a map, and answers the replies to both.
+// Runs two lists on a map, and returns the replies to both.
 fn run_twice<M, K>(
     alloc: Global,
     map: &mut M,
@@ -62,7 +62,7 @@ where
     Some((earlier, later))
 }
 
-// Runs one list on a new map and another on what that leaves, and answers the map and the replies.
+// Runs one list on a new map and another on what that leaves, and returns the map and the replies.
 fn run_new_and_on<M, K>(
     alloc: Global,
     first: Vec<DetachCommand<K, u64>>,
