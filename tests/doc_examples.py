@@ -1,0 +1,249 @@
+#!/usr/bin/env python3
+"""Runs the examples of the doc comments. See doc-examples.sh, which calls this."""
+
+import os
+import re
+import shutil
+import subprocess
+import sys
+import tempfile
+
+TOP = os.path.dirname(os.path.dirname(os.path.abspath(__file__)))
+
+PRIMARY = """let alloc = rt.alloc();
+let mut map: MAP<DefaultKey, u64> = MAP::new(alloc)?;
+let a = map.insert(1)?;
+let b = map.insert(2)?;"""
+SECONDARY = """let alloc = rt.alloc();
+let mut primary: SlotMap<DefaultKey, u64> = SlotMap::new(alloc)?;
+let a = primary.insert(10)?;
+let b = primary.insert(20)?;
+let mut map: MAP<DefaultKey, u64> = MAP::new(alloc)?;
+map.insert(a, 1)?;"""
+
+# The lines that come before each example of a crate.
+HEADS = {
+    "slotmap_basic": PRIMARY.replace("MAP", "SlotMap"),
+    "slotmap_dense": PRIMARY.replace("MAP", "DenseSlotMap"),
+    "slotmap_hop": PRIMARY.replace("MAP", "HopSlotMap"),
+    "slotmap_secondary": SECONDARY.replace("MAP", "SecondaryMap"),
+    "slotmap_sparse": SECONDARY.replace("MAP", "SparseSecondaryMap"),
+}
+OTHER_HEAD = "let alloc = rt.alloc();"
+
+ITEM = re.compile(
+    r"\s*(?:pub(?:\([a-z]+\))? )?(?:const )?(?:unsafe )?"
+    r"(?:fn|struct|enum|trait|mod|type|const|static|macro_rules!) (\w+)"
+)
+
+
+class Example:
+    """One block: where it begins, the item that it belongs to, and its lines, each with its number in the file."""
+
+    def __init__(self, crate, path, line):
+        self.crate, self.path, self.line = crate, path, line
+        self.item, self.lines, self.error = "", [], None
+
+    def title(self):
+        return f"{self.path}:{self.line} ({self.item or 'head'})"
+
+    def name(self):
+        file = re.sub(r"\W", "_", re.sub(r"^.*/src/|\.rt$", "", self.path))
+        return f"{file}_{self.item or 'head'}_{self.line}".lower()
+
+
+def examples_of(crate, path):
+    """The examples of one file, and the positions of blocks that have a language word other than text."""
+    found, waiting, odd = [], [], []
+    open_block, fence = None, None
+    with open(os.path.join(TOP, path), encoding="utf-8") as file:
+        for number, line in enumerate(file, 1):
+            comment = re.match(r"\s*//([/!])(?: ?)(.*)$", line)
+            if comment:
+                text = comment.group(2)
+                if text.strip().startswith("```"):
+                    word = text.strip()[3:]
+                    if fence is None:
+                        fence = word
+                        if word == "":
+                            open_block = Example(crate, path, number)
+                            found.append(open_block)
+                            if comment.group(1) == "/":
+                                waiting.append(open_block)
+                        elif word != "text":
+                            odd.append(f"{path}:{number}: a block of the language {word}")
+                    else:
+                        fence, open_block = None, None
+                elif open_block:
+                    open_block.lines.append((number, text))
+                continue
+            if fence is not None:
+                odd.append(f"{path}:{number}: a block that does not end")
+                fence, open_block = None, None
+            item = ITEM.match(line)
+            if item or re.match(r"\s*(?:impl|pub use)\b", line):
+                for example in waiting:
+                    example.item = item.group(1) if item else ""
+                waiting = []
+    return found, odd
+
+
+def all_examples():
+    found, odd = [], []
+    crates = os.path.join(TOP, "crates")
+    for crate in sorted(os.listdir(crates)):
+        for folder, _, files in sorted(os.walk(os.path.join(crates, crate, "src"))):
+            for file in sorted(files):
+                if file.endswith(".rt"):
+                    path = os.path.relpath(os.path.join(folder, file), TOP)
+                    more, strange = examples_of(crate, path)
+                    found += more
+                    odd += strange
+    return found, odd
+
+
+def facade_names():
+    """The names of the facade: its modules, and what it re-exports beside them."""
+    with open(os.path.join(TOP, "crates/slotmap/src/lib.rt"), encoding="utf-8") as file:
+        text = file.read()
+    names = re.findall(r"^pub mod (\w+)", text, re.M)
+    for group in re.findall(r"^pub use [\w:]+::(\{[^}]*\}|\w+);", text, re.M):
+        names += re.findall(r"\w+", group)
+    return sorted(set(names))
+
+
+def write_crate(folder, examples):
+    """Writes the tests, a file for each crate. Returns for each line of these files its example and its line there."""
+    src = os.path.join(folder, "crates/doc_examples/src")
+    shutil.rmtree(src, ignore_errors=True)
+    os.makedirs(src)
+    lines_of, root = {}, ["#![tactic(auto)]", ""]
+    for crate in sorted({it.crate for it in examples}):
+        module = "of_" + crate
+        root += ["#[cfg(test)]", f"mod {module};"]
+        mine = [it for it in examples if it.crate == crate]
+        text = "\n".join(line for it in mine for _, line in it.lines) + HEADS.get(crate, OTHER_HEAD)
+        words = set(re.findall(r"\w+", text))
+        names = [it for it in facade_names() + ["Key"] if it in words or it == "Key"]
+        out, where = [f"use slotmap::{{{', '.join(sorted(set(names)))}}};"], {}
+        if "Value" in words:
+            out.append("use serde_json::Value;")
+        if "Global" in words:
+            out.append("use std::alloc::Global;")
+        out.append("use std::test::Fail;")
+        for example in mine:
+            out += ["", "#[test]"]
+            first = len(out)
+            out.append(f"fn {example.name()}(rt: HostRuntime) -> Result<(), Fail> {{")
+            out += HEADS.get(crate, OTHER_HEAD).split("\n")
+            for number, line in example.lines:
+                out.append(line)
+                where[len(out)] = (example, number)
+            out += ["Ok(())", "}"]
+            for number in range(first, len(out) + 1):
+                where.setdefault(number, (example, example.line))
+        lines_of[module] = where
+        with open(os.path.join(src, module + ".rt"), "w", encoding="utf-8") as file:
+            file.write("\n".join(out) + "\n")
+    with open(os.path.join(src, "lib.rt"), "w", encoding="utf-8") as file:
+        file.write("\n".join(root) + "\n")
+    return lines_of
+
+
+def copy_repository(folder):
+    left_out = shutil.ignore_patterns(".git", "out", "must-fail", "more-wrong-bodies", "doc_examples")
+    shutil.copytree(os.path.join(TOP, "crates"), os.path.join(folder, "crates"), ignore=left_out)
+    with open(os.path.join(TOP, "crates.txt"), encoding="utf-8") as file:
+        lines = file.read().rstrip("\n").split("\n")
+    libraries = [
+        line.split(":")[0].split()[0]
+        for line in lines
+        if ":" in line and os.path.exists(os.path.join(TOP, "crates", line.split(":")[0].split()[0], "src/lib.rt"))
+    ]
+    lines.append(f"doc_examples: {' '.join(libraries)} serde_json thiserror")
+    with open(os.path.join(folder, "crates.txt"), "w", encoding="utf-8") as file:
+        file.write("\n".join(lines) + "\n")
+    shutil.copy(os.path.join(TOP, "HANDLES"), folder)
+    subprocess.run(["git", "init", "--quiet", folder], check=True)
+
+
+def try_once(folder):
+    """The status of rt try, and what it printed."""
+    run = subprocess.run(
+        ["rt", "try", "--test"],
+        cwd=os.path.join(folder, "crates/doc_examples"),
+        stdout=subprocess.PIPE,
+        stderr=subprocess.STDOUT,
+        text=True,
+        check=False,
+    )
+    return run.returncode, run.stdout
+
+
+def refusals(output, lines_of):
+    """The examples that the compiler refuses, each with the line of its source and the message."""
+    found = {}
+    for file, number, message in re.findall(r"^src/(\w+)\.rt:(\d+):\d+: error(.*)$", output, re.M):
+        example, line = lines_of.get(file, {}).get(int(number), (None, 0))
+        if example:
+            found.setdefault(example, f"line {line}: error{message}")
+    return found
+
+
+def failures(output, lines_of):
+    """The examples that compile and fail, each with what the test printed then."""
+    names = {it.name(): it for where in lines_of.values() for it, _ in where.values()}
+    found, current = {}, None
+    for line in output.split("\n"):
+        test = re.match(r"test \w+::(\w+) \.\.\. (\w+)", line)
+        if test:
+            current = names.get(test.group(1)) if test.group(2) != "ok" else None
+            if current:
+                found[current] = "failed"
+        elif current and line.startswith("    "):
+            text = line.strip()
+            where = re.match(r"src/(\w+)\.rt:(\d+):\d+: (.*)$", text)
+            if where and int(where.group(2)) in lines_of.get(where.group(1), {}):
+                example, number = lines_of[where.group(1)][int(where.group(2))]
+                text = f"line {number}: {where.group(3)}"
+            found[current] += "\n    " + text
+        else:
+            current = None
+    return found
+
+
+def main():
+    examples, odd = all_examples()
+    wanted = sys.argv[1:]
+    if wanted:
+        examples = [it for it in examples if any(text in it.title() for text in wanted)]
+        odd = [it for it in odd if any(text in it for text in wanted)]
+    left, ended = examples, True
+    with tempfile.TemporaryDirectory() as folder:
+        copy_repository(folder)
+        # What the compiler refuses is taken out, and the others are tried again.
+        while left:
+            lines_of = write_crate(folder, left)
+            status, output = try_once(folder)
+            bad = refusals(output, lines_of)
+            if not bad:
+                bad = failures(output, lines_of)
+                ended = "test result: " in output and (status == 0 or bool(bad))
+            for example, message in bad.items():
+                example.error = message
+                print(f"{example.title()}: {message}", flush=True)
+            left = [it for it in left if it.error is None]
+            if "test result: " in output or not bad:
+                break
+    for line in odd:
+        print(line)
+    if not ended:
+        print(output)
+        print("the tests did not run to their end")
+        return 1
+    print(f"{len(examples)} examples: {len(left)} passed, {len(examples) - len(left)} failed")
+    return 1 if odd or len(left) < len(examples) else 0
+
+
+if __name__ == "__main__":
+    sys.exit(main())
