@@ -1,0 +1,315 @@
+#!/usr/bin/env python3
+"""Writes docs/API.md from the sources: docs/api.py. With --check it writes nothing, and fails where the page is out
+of date."""
+
+import difflib
+import os
+import re
+import sys
+
+sys.dont_write_bytecode = True
+
+from sources import MAPS, TOP, facade, items_of
+
+PAGE = os.path.join(TOP, "docs/API.md")
+CRATE_OF = {
+    "SlotMap": "slotmap_basic",
+    "DenseSlotMap": "slotmap_dense",
+    "HopSlotMap": "slotmap_hop",
+    "SecondaryMap": "slotmap_secondary",
+    "SparseSecondaryMap": "slotmap_sparse",
+}
+
+# The rows of the table of calls. A call that is in no group stands in the last one.
+GROUPS = [
+    ("Making a map", ["new", "with_capacity", "with_key", "with_capacity_and_key", "with_hasher",
+                      "with_capacity_and_hasher", "clone", "clone_from"]),
+    ("Size and memory", ["len", "is_empty", "capacity", "reserve", "try_reserve", "set_capacity", "try_set_capacity",
+                         "hasher"]),
+    ("Inserting", ["insert", "insert_with_key", "try_insert_with_key", "or_put", "entry", "try_entry"]),
+    ("Looking up", ["contains_key", "get", "get_mut", "get_unchecked", "get_unchecked_mut", "replace"]),
+    ("Several keys at once", ["can_replace", "replace_disjoint", "get_disjoint_mut", "get_disjoint_unchecked_mut"]),
+    ("Removing", ["remove", "detach", "reattach", "retain", "clear", "drain", "drain_into", "keys_into"]),
+    ("Iterating", ["iter", "keys", "values", "iter_mut", "values_mut", "keys_as_slice", "values_as_slice",
+                   "as_slices", "values_as_mut_slice", "as_mut_slices"]),
+    ("Pairs and lists of slots", ["extend", "extend_refs", "from_iter", "from_iter_with_hasher", "to_slots",
+                                  "from_slots", "from_slots_with_hasher"]),
+    ("Others", []),
+]
+
+# Traits of this library: they have a section of their own, and an impl of one is a link to it.
+OWN_TRAITS = ["Primary", "Detaching", "Secondary", "Key"]
+# Ghost items of an impl that are its contract. Others are proofs or names for them.
+CONTRACTS = {
+    "next_gives", "remaining", "into_iter_gives", "can_index", "index_gives", "is_clone", "is_infallible", "eq",
+    "from_gives", "is_default", "hash_input", "value_default",
+}
+
+
+class Page:
+    def __init__(self):
+        self.lines, self.anchors = [], set()
+
+    def add(self, *lines):
+        self.lines += lines
+
+    def heading(self, level, text):
+        anchor = anchor_of(text)
+        if anchor in self.anchors:
+            sys.exit(f"api.py: two headings have the anchor {anchor}")
+        self.anchors.add(anchor)
+        self.add("", "#" * level + " " + text, "")
+
+    def text(self):
+        return re.sub(r"\n{3,}", "\n\n", "\n".join(self.lines)).strip() + "\n"
+
+
+def anchor_of(heading):
+    return re.sub(r"[^\w\- ]", "", heading.lower()).replace(" ", "-")
+
+
+def link(item):
+    return f"[{item.path.removeprefix('crates/').replace('/src/', '/')}:{item.line}](../{item.path}#L{item.line})"
+
+
+def dedent(lines):
+    least = min((len(it) - len(it.lstrip(" ")) for it in lines if it.strip()), default=0)
+    return [it[least:].rstrip() for it in lines]
+
+
+def block(lines):
+    lines = list(lines)
+    while lines and not lines[-1].strip():
+        lines.pop()
+    return ["```rust", *lines, "```"]
+
+
+def derives(item):
+    return [it.strip() for it in item.attributes if it.strip().startswith("#[derive")]
+
+
+def type_lines(item):
+    """A type as it is written, with its private fields left out."""
+    lines = dedent(item.lines)
+    if item.kind == "struct" and len(lines) > 1:
+        public = [number for number, it in enumerate(lines) if it.startswith("    pub ")]
+        if not public:
+            return derives(item) + [lines[0].removesuffix(" {") + " { .. }"]
+    if item.kind == "struct":
+        lines = [re.sub(r"\((?!pub)[^)]*\);$", "(..);", it) for it in lines]
+    return derives(item) + lines
+
+
+def add_function(page, level, title, item, block_head=""):
+    page.heading(level, title)
+    if item.first_sentence():
+        page.add(item.first_sentence(), "")
+    page.add(*block(dedent(item.lines)))
+    page.add("", link(item) + (f", in `{block_head}`" if block_head else ""))
+
+
+def impl_lines(item):
+    """An impl of a trait: its contract alone, with no bodies and no proofs."""
+    lines = []
+    for member in item.members:
+        if member.kind == "ghost" and member.name in CONTRACTS or member.kind in ("type", "const"):
+            lines += member.lines
+        elif member.kind == "fn" and any(re.search(r"\b(requires|ensures)\b", it) for it in member.lines):
+            lines += member.lines
+    return [item.header() + " {", *[it.rstrip() for it in lines], "}"] if lines else []
+
+
+def add_type(page, level, title, item, items, public_level):
+    """A type with its calls and the traits that it implements."""
+    page.heading(level, title)
+    if item.first_sentence():
+        page.add(item.first_sentence(), "")
+    page.add(*block(type_lines(item)))
+    impls = [it for it in items if it.kind == "impl" and it.of == item.name]
+    seen_as = ""
+    for impl in impls:
+        if impl.of_trait == "Model":
+            for ghost in impl.members:
+                if ghost.kind == "ghost" and ghost.name == "Value":
+                    value = re.search(r"\{ (.*) \}", " ".join(ghost.lines)).group(1)
+                    seen_as = f" A clause sees it as `{value}`."
+    own = [it for it in impls if not it.of_trait]
+    calls = [(it, impl.header()) for impl in own for it in impl.members if it.kind == "fn" and it.public]
+    heads = [head for _, head in calls]
+    usual = max(heads, key=heads.count, default="")
+    said = f" Its calls are in `{usual}`, but where another head is named." if len(set(heads)) > 1 else ""
+    if len(set(heads)) == 1:
+        said = f" Its calls are in `{usual}`."
+    page.add("", link(item) + ("." + seen_as + said if seen_as or said else ""))
+    order = [it for _, names in GROUPS for it in names]
+    calls.sort(key=lambda it: order.index(it[0].name) if it[0].name in order else len(order))
+    for member, head in calls:
+        add_function(page, public_level, f"{title}::{member.name}", member, head if head != usual else "")
+    bare, shown = [], []
+    for impl in impls:
+        name = re.sub(r"<.*", "", impl.of_trait)
+        if not impl.of_trait or name == "Model":
+            continue
+        lines = impl_lines(impl) if name not in OWN_TRAITS else []
+        if lines:
+            shown.append((impl, lines))
+        else:
+            target = f"#{anchor_of(name)}" if name in OWN_TRAITS else f"../{impl.path}#L{impl.line}"
+            bare.append(f"[`{impl.of_trait}`]({target})")
+    if bare or shown:
+        page.heading(public_level, f"{title}: traits")
+        if bare:
+            page.add("Implements " + ", ".join(bare) + (", and:" if shown else "."), "")
+        if shown:
+            page.add("```rust")
+            for _, lines in shown:
+                page.add(*lines, "")
+            page.lines[-1] = "```"
+            page.add("", ", ".join(link(impl) for impl, _ in shown))
+
+
+def add_trait(page, level, item):
+    page.heading(level, item.name)
+    page.add(item.first_sentence(), "")
+    lines = [item.header() + " {"]
+    for member in item.members:
+        if member.kind in ("ghost", "const") and member.name != "use":
+            lines += member.lines
+    page.add(*block([*lines, "}"] if len(lines) > 1 else [item.header()]), "", link(item))
+    for member in item.members:
+        if member.kind == "fn":
+            add_function(page, level + 1, f"{item.name}: {member.name}", member)
+
+
+def calls_of(name, items):
+    """The public calls of a type, by name."""
+    return {
+        member.name: member
+        for impl in items
+        if impl.kind == "impl" and impl.of == name and not impl.of_trait
+        for member in impl.members
+        if member.kind == "fn" and member.public
+    }
+
+
+def add_table(page, all_items):
+    calls = {name: calls_of(name, all_items[CRATE_OF[name]]) for name in MAPS}
+    grouped = {it for _, names in GROUPS for it in names}
+    others = sorted({it for mine in calls.values() for it in mine} - grouped)
+    page.add("| | " + " | ".join(MAPS) + " |", "|---|" + ":---:|" * len(MAPS))
+    for title, names in GROUPS:
+        names = [it for it in names or others if any(it in mine for mine in calls.values())]
+        if names:
+            page.add(f"| **{title}** |" + " |" * len(MAPS))
+        for name in names:
+            cells = [f"[yes](#{anchor_of(f'{it}::{name}')})" if name in calls[it] else "–" for it in MAPS]
+            page.add(f"| `{name}` | " + " | ".join(cells) + " |")
+
+
+def page_text():
+    exported = facade()
+    crates = sorted({crate for _, crate, _ in exported})
+    all_items = {crate: items_of(crate) for crate in crates}
+    left = list(exported)
+
+    def find(crate, name):
+        for item in all_items[crate]:
+            if item.public and item.name == name:
+                return item
+        sys.exit(f"api.py: {crate} has no public item {name}")
+
+    def take(module, kinds):
+        """The re-exported items of a module, of these kinds, which then count as done."""
+        found = []
+        for entry in list(left):
+            if entry[0] == module:
+                item = find(entry[1], entry[2])
+                if item.kind in kinds:
+                    left.remove(entry)
+                    found.append((entry[1], item))
+        return found
+
+    page = Page()
+    page.add(
+        "# The public items and their contracts",
+        "",
+        "Written by `docs/api.py` from the sources; `docs/api.py --check` fails where this page is out of date.",
+        "Don't edit it by hand.",
+        "",
+        "Each item has its first sentence, its signature and its clauses, as in the source, and a link to the source,",
+        "which says more. The words of the clauses are in [DEFINITIONS.md](DEFINITIONS.md). In a clause `result` is what",
+        "the call returns. Of a `&self`, `self.now` is the map. Of a `&mut self`, `self.old` is the map before the call",
+        "and `self.new` the map after it. A clause with a star is about a loan: what is written through the returned",
+        "reference. Each function is proved to meet its clauses.",
+        "",
+        "Sections: [which map has which call](#which-map-has-which-call), "
+        + ", ".join(f"[{it}](#{anchor_of(it)})" for it in MAPS)
+        + ", [traits](#traits-of-the-maps), [keys](#keys), [errors](#errors), "
+        "[lists of slots and JSON](#lists-of-slots-and-json), [runs of commands](#runs-of-commands).",
+    )
+    page.heading(2, "Which map has which call")
+    page.add("A call of the same name has the same meaning in each map, but for what its clauses say.", "")
+    add_table(page, all_items)
+
+    for name, module in MAPS.items():
+        crate = CRATE_OF[name]
+        left.remove(("", crate, name))
+        left.remove((module, crate, name))
+        add_type(page, 2, name, find(crate, name), all_items[crate], 3)
+        for _, item in take(module, ("struct", "enum", "type")):
+            add_type(page, 3, f"{module}::{item.name}", item, all_items[crate], 4)
+
+    page.heading(2, "Traits of the maps")
+    page.add("`Primary` is implemented by the three maps that hand out keys, `Detaching` by those of them whose keys")
+    page.add("can be detached, and `Secondary` by the two secondary maps.")
+    traits = sorted(take("", ("trait",)), key=lambda it: (it[1].path, it[1].line))
+    for _, item in traits:
+        if item.name != "Key":
+            add_trait(page, 3, item)
+
+    kept = sorted(take("", ("struct", "enum", "type", "fn")), key=lambda it: (it[1].path, it[1].line))
+
+    def section(title, chosen):
+        page.heading(2, title)
+        for crate, item in [it for it in kept if chosen(it[1])]:
+            kept.remove((crate, item))
+            if item.kind == "fn":
+                add_function(page, 3, item.name, item)
+            else:
+                add_type(page, 3, item.name, item, all_items[crate], 4)
+
+    section("Keys", lambda it: "/keys" in it.path)
+    for _, item in traits:
+        if item.name == "Key":
+            add_trait(page, 3, item)
+
+    section("Errors", lambda it: it.path.endswith("/errors.rt"))
+    section("Lists of slots and JSON", lambda it: it.path.endswith(("/serial.rt", "/json.rt")))
+    section("Runs of commands", lambda it: True)
+    if left:
+        sys.exit(f"api.py: no section has {left}")
+    return page.text()
+
+
+def main():
+    text = page_text()
+    if sys.argv[1:] == ["--check"]:
+        old = ""
+        if os.path.exists(PAGE):
+            with open(PAGE, encoding="utf-8") as file:
+                old = file.read()
+        if old == text:
+            return 0
+        changes = list(difflib.unified_diff(old.split("\n"), text.split("\n"), "docs/API.md", "the sources", "", "", 1))
+        print("\n".join(changes[:40]))
+        print(f"docs/API.md is out of date ({len(changes)} lines of changes): run docs/api.py")
+        return 1
+    if sys.argv[1:]:
+        sys.exit("usage: docs/api.py [--check]")
+    with open(PAGE, "w", encoding="utf-8") as file:
+        file.write(text)
+    return 0
+
+
+if __name__ == "__main__":
+    sys.exit(main())

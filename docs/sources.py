@@ -1,0 +1,192 @@
+"""Reads what is public in crates/*/src: for api.py and words.py.
+
+It relies on the layout of `rt fmt`: items at column 0 or 4, a closing brace at the column of its item, and a body
+whose brace stands alone where the item has clauses.
+"""
+
+import os
+import re
+
+TOP = os.path.dirname(os.path.dirname(os.path.abspath(__file__)))
+MAPS = {
+    "SlotMap": "basic",
+    "DenseSlotMap": "dense",
+    "HopSlotMap": "hop",
+    "SecondaryMap": "secondary",
+    "SparseSecondaryMap": "sparse_secondary",
+}
+HEAD = re.compile(r"(pub )?(?:const )?(fn|struct|enum|trait|type) (\w+)|(impl)\b")
+
+
+class Item:
+    """A function, type, trait or impl block: its comment, its lines without a body, and what stands in it."""
+
+    def __init__(self, path, line, kind, name, public):
+        self.path, self.line, self.kind, self.name, self.public = path, line, kind, name, public
+        self.doc, self.attributes, self.lines, self.members = [], [], [], []
+        self.of, self.of_trait = "", ""
+
+    def first_sentence(self):
+        text = []
+        for line in self.doc:
+            if not line.strip() or line.strip().startswith("```"):
+                break
+            text.append(line.strip())
+        text = re.sub(r"\[(`[^`]+`)\](?!\()", r"\1", " ".join(text))
+        sentence = re.match(r"(.*?[.!?])(?=\s|$)", text)
+        return sentence.group(1) if sentence else text
+
+    def header(self):
+        """The head of an impl block or trait, on one line, without its brace."""
+        return re.sub(r"\s+", " ", " ".join(self.lines)).rstrip(" {").strip()
+
+
+def indent_of(line):
+    return len(line) - len(line.lstrip(" "))
+
+
+def balance(text):
+    """How many brackets are open at the end of the text, those of comments and of chars left out."""
+    text = re.sub(r"//.*", "", text)
+    return sum(text.count(it) for it in "([{") - sum(text.count(it) for it in ")]}")
+
+
+def end_of(lines, start, indent):
+    """The line after that of the brace that closes what begins here."""
+    for number in range(start, len(lines)):
+        if indent_of(lines[number]) == indent and lines[number].strip() in ("}", "};"):
+            return number + 1
+    raise ValueError(f"line {start + 1} has no end")
+
+
+def read_items(path, lines, start, stop, indent):
+    """The items at this column from line `start` up to `stop`."""
+    found, doc, remarks, attributes = [], [], [], []
+    number = start
+    while number < stop:
+        line = lines[number]
+        text = line.strip()
+        if indent_of(line) != indent or not text:
+            if not text:
+                doc, remarks, attributes = [], [], []
+            number += 1
+            continue
+        if text.startswith("///"):
+            doc.append(text[3:].removeprefix(" "))
+            number += 1
+            continue
+        if text.startswith("//"):
+            remarks.append(line)
+            number += 1
+            continue
+        if text.startswith("#["):
+            attributes.append(line)
+            number += 1
+            continue
+        if text.startswith("ghost ") or (indent and re.match(r"(type|const) ", text)):
+            last = number
+            while not lines[last].rstrip().endswith(";"):
+                last += 1
+            item = Item(path, number + 1, text.split()[0], re.findall(r"\w+", text)[1], False)
+            item.lines, item.doc = remarks + lines[number : last + 1], doc
+            found.append(item)
+            number, doc, remarks, attributes = last + 1, [], [], []
+            continue
+        head = HEAD.match(text)
+        if not head:
+            doc, remarks, attributes = [], [], []
+            number += 1
+            continue
+        kind = head.group(2) or "impl"
+        item = Item(path, number + 1, kind, head.group(3) or "", bool(head.group(1)))
+        item.doc, item.attributes = doc, attributes
+        doc, remarks, attributes = [], [], []
+        if kind == "fn":
+            number = read_function(item, lines, number, indent)
+        elif kind in ("impl", "trait"):
+            last = number
+            while not lines[last].rstrip().endswith(("{", "{}")):
+                last += 1
+            item.lines = [it.rstrip() for it in lines[number : last + 1]]
+            if lines[last].rstrip().endswith("{}"):
+                end = last + 1
+            else:
+                end = end_of(lines, last + 1, indent)
+                item.members = read_items(path, lines, last + 1, end - 1, indent + 4)
+            if kind == "impl":
+                set_subject(item)
+            number = end
+        else:
+            one_line = text.endswith(";")
+            end = number + 1 if one_line else end_of(lines, number, indent)
+            item.lines = lines[number:end]
+            number = end
+        found.append(item)
+    return found
+
+
+def read_function(item, lines, number, indent):
+    """Takes the lines of a function up to its body; the line after the function."""
+    first, text = number, ""
+    while True:
+        line = lines[number].rstrip()
+        if line == " " * indent + "{":
+            item.lines = lines[first:number]
+            return end_of(lines, number, indent)
+        text += line + "\n"
+        if balance(text) == 0 and line.endswith(("{}", ";")):
+            item.lines = lines[first:number] + [re.sub(r" *(\{\}|;)$", "", line)]
+            return number + 1
+        if balance(text) == 1 and line.endswith(" {") and not re.search(r"\b(requires|ensures)\b", text):
+            item.lines = lines[first:number] + [line[:-2]]
+            return end_of(lines, number, indent)
+        number += 1
+
+
+def set_subject(item):
+    """The type that an impl block is of, and the trait, if there is one."""
+    text = item.header()
+    depth, rest = 0, text[4:]
+    if rest.startswith("<"):
+        for place, letter in enumerate(rest):
+            depth += {"<": 1, ">": -1}.get(letter, 0) if rest[place - 1 : place + 1] not in ("->",) else 0
+            if depth == 0:
+                rest = rest[place + 1 :]
+                break
+    rest = rest.strip()
+    trait, between, subject = rest.partition(" for ")
+    item.of_trait = trait if between else ""
+    item.of = re.search(r"(\w+)(?:<|$| )", re.sub(r"^&('\w+ )?(mut )?", "", subject if between else rest) + " ").group(1)
+
+
+def files_of(crate):
+    for folder, _, files in sorted(os.walk(os.path.join(TOP, "crates", crate, "src"))):
+        for file in sorted(files):
+            if file.endswith(".rt"):
+                yield os.path.relpath(os.path.join(folder, file), TOP)
+
+
+def items_of(crate):
+    """All items of a crate, each with its file."""
+    found = []
+    for path in files_of(crate):
+        with open(os.path.join(TOP, path), encoding="utf-8") as file:
+            lines = file.read().split("\n")
+        found += read_items(path, lines, 0, len(lines), 0)
+    return found
+
+
+def facade():
+    """What crates/slotmap re-exports: tuples of module (or nothing), crate and name, in the order of lib.rt."""
+    with open(os.path.join(TOP, "crates/slotmap/src/lib.rt"), encoding="utf-8") as file:
+        text = file.read()
+    found, module = [], ""
+    for part in re.finditer(r"^pub mod (\w+) \{|^\}|^ *pub use (\w+)(?:::\w+)*::(\{[^}]*\}|\w+);", text, re.M):
+        if part.group(1):
+            module = part.group(1)
+        elif part.group(0) == "}":
+            module = ""
+        else:
+            for name in re.findall(r"\w+", part.group(3)):
+                found.append((module, part.group(2), name))
+    return found
