@@ -9,7 +9,7 @@ import sys
 
 sys.dont_write_bytecode = True
 
-from sources import MAPS, TOP, facade, items_of
+from sources import CONTRACTS, MAPS, TOP, facade, items_of
 
 PAGE = os.path.join(TOP, "docs/API.md")
 CRATE_OF = {
@@ -39,11 +39,6 @@ GROUPS = [
 
 # Traits of this library: they have a section of their own, and an impl of one is a link to it.
 OWN_TRAITS = ["Primary", "Detaching", "Secondary", "Key"]
-# Ghost items of an impl that are its contract. Others are proofs or names for them.
-CONTRACTS = {
-    "next_gives", "remaining", "into_iter_gives", "can_index", "index_gives", "is_clone", "is_infallible", "eq",
-    "from_gives", "is_default", "hash_input", "value_default",
-}
 
 
 class Page:

@@ -15,6 +15,11 @@ MAPS = {
     "SecondaryMap": "secondary",
     "SparseSecondaryMap": "sparse_secondary",
 }
+# Ghost items of an impl that are its contract. Others are proofs or names for them.
+CONTRACTS = {
+    "next_gives", "remaining", "into_iter_gives", "can_index", "index_gives", "is_clone", "is_infallible", "eq",
+    "from_gives", "is_default", "hash_input", "value_default",
+}
 HEAD = re.compile(r"(pub )?(?:const )?(fn|struct|enum|trait|type) (\w+)|(impl)\b")
 
 

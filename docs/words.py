@@ -1,0 +1,113 @@
+#!/usr/bin/env python3
+"""Lists the words of this repository's definitions that stand in public clauses, each with the file that defines it
+and how many clauses use it. Fails where docs/DEFINITIONS.md doesn't name one. With --check only those are printed."""
+
+import glob
+import os
+import re
+import sys
+
+sys.dont_write_bytecode = True
+
+from sources import CONTRACTS, TOP, facade, items_of
+
+
+def imports_of(path):
+    """What a file imports from the definitions: a word for each name, and a module for each name of a module."""
+    with open(os.path.join(TOP, path), encoding="utf-8") as file:
+        text = file.read()
+    words, modules = {}, {}
+    for use in re.finditer(r"ghost use Rattle\.(\w+)\.specs\.([\w.]+?)(?:\.\{([^}]*)\}| as (\w+));", text):
+        crate, module, names, alias = use.groups()
+        if not os.path.isdir(os.path.join(TOP, "crates", crate)) or module.startswith("declared"):
+            continue
+        spec = f"crates/{crate}/specs/{module.replace('.', '/')}.antt"
+        if alias:
+            modules[alias] = spec
+        for name in (names or "").split(","):
+            name, _, other = name.strip().partition(" as ")
+            if name:
+                words[other or name] = (name, spec)
+    return words, modules
+
+
+def fields_of_specs():
+    """The fields of the records that hold something, each with its file. A record that relates values isn't one."""
+    found = {}
+    for path in sorted(glob.glob(os.path.join(TOP, "crates/*/specs/*.antt"))):
+        with open(path, encoding="utf-8") as file:
+            lines = file.read().split("\n")
+        for number, line in enumerate(lines):
+            record = re.match(r"( *)pub record \w+((?: [({][\w ]+ : Type 0[)}])*) : Type 0 where", line)
+            for field in lines[number + 1 :] if record else []:
+                if field.strip() and len(field) - len(field.lstrip()) <= len(record.group(1)):
+                    break
+                name = re.match(r" +pub (\w+) :", field)
+                if name:
+                    found.setdefault(name.group(1), os.path.relpath(path, TOP))
+    return found
+
+
+def clauses_of(item, in_trait=False, in_impl_of_trait=False):
+    """The text of the public clauses of an item and of what stands in it."""
+    if item.kind == "impl" and item.of_trait == "Model":
+        return []
+    if item.kind in ("impl", "trait"):
+        found = []
+        for member in item.members:
+            found += clauses_of(member, item.kind == "trait" and item.public, bool(item.of_trait))
+        return found
+    if item.kind == "ghost":
+        contract = item.name in CONTRACTS if in_impl_of_trait else in_trait and item.name != "use"
+        return ["\n".join(item.lines)] if contract else []
+    if item.kind == "fn" and (item.public or in_trait or in_impl_of_trait):
+        text = re.sub(r"//.*", "", "\n".join(item.lines))
+        return re.split(r"\n(?=\s*(?:requires|ensures)\b)", text)[1:]
+    return []
+
+
+def words_of_clauses():
+    fields, found = fields_of_specs(), {}
+
+    def note(word, spec):
+        entry = found.setdefault((word, spec), 0)
+        found[(word, spec)] = entry + 1
+
+    for crate in sorted({crate for _, crate, _ in facade()}):
+        for item in items_of(crate):
+            words, modules = imports_of(item.path)
+            for clause in clauses_of(item):
+                used = set()
+                for before, name in re.findall(r"((?:\w+\.)*)([^\W\d]\w*)", clause):
+                    first = before.split(".")[0] if before else name
+                    if first in modules and before:
+                        used.add((name, modules[first]))
+                    elif not before and name in words:
+                        used.add(words[name])
+                    elif before and first in words:
+                        used.add(words[first])
+                for name in re.findall(r"\.([a-z_]\w*)", clause):
+                    if name in fields and not re.search(rf"\b(map|pair|set)\.{name}\b", clause):
+                        used.add((name, fields[name]))
+                for word, spec in used:
+                    note(word, spec)
+    return found
+
+
+def main():
+    if sys.argv[1:] not in ([], ["--check"]):
+        sys.exit("usage: docs/words.py [--check]")
+    with open(os.path.join(TOP, "docs/DEFINITIONS.md"), encoding="utf-8") as file:
+        named = {word for code in re.findall(r"`([^`]+)`", file.read()) for word in re.findall(r"\w+", code)}
+    found, missing = words_of_clauses(), 0
+    for (word, spec), count in sorted(found.items(), key=lambda it: (it[0][1], it[0][0])):
+        is_missing = word not in named
+        missing += is_missing
+        if is_missing or sys.argv[1:] == []:
+            print(f"{spec}: {word}, in {count} clauses" + (": not in docs/DEFINITIONS.md" if is_missing else ""))
+    print(f"{len(found)} words, {missing} of them not in docs/DEFINITIONS.md")
+    return 1 if missing else 0
+
+
+if __name__ == "__main__":
+    sys.exit(main())
