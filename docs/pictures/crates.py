@@ -1,0 +1,95 @@
+#!/usr/bin/env python3
+"""Writes crates.svg: which crate uses which, from crates.txt."""
+
+import os
+import sys
+
+sys.dont_write_bytecode = True
+
+from svg import BLUE, FOLDER, GREEN, INK, ORANGE, RED, SOFT, Picture
+
+# Where each crate is: its column and row, and what it has.
+CRATES = {
+    "slotmap_core": (3.0, 0, "keys, errors, traits, lists of slots, JSON, definitions"),
+    "slotmap_secondary": (1, 1, "SecondaryMap"),
+    "slotmap_sparse": (2, 1, "SparseSecondaryMap"),
+    "slotmap_basic": (3, 1, "SlotMap"),
+    "slotmap_dense": (4, 1, "DenseSlotMap"),
+    "slotmap_hop": (5, 1, "HopSlotMap"),
+    "slotmap_run": (6, 1, "runs of commands"),
+    "slotmap_rows": (0, 2, "reads rows of tests"),
+    "slotmap": (2, 2, "the library to use: all names"),
+    "slotrun": (5, 2, "program: runs scripts"),
+    "primary_rows": (0.5, 3, "program: rows of primary maps"),
+    "secondary_rows": (2.5, 3, "program: rows of secondary maps"),
+}
+COLORS = {"slotmap": BLUE, "slotrun": ORANGE, "primary_rows": GREEN, "secondary_rows": RED}
+PITCH, LEFT, TOPS = 152, 22, [478, 340, 196, 66]
+HEIGHT = 56
+
+
+def read():
+    """The crates of this repository that each crate uses, those left out that another one of them uses."""
+    with open(os.path.join(FOLDER, "../../crates.txt"), encoding="utf-8") as file:
+        lines = [line.split(":") for line in file if ":" in line and not line.startswith("#")]
+    uses = {name.split()[0]: set(others.split()) for name, others in lines}
+    uses = {name: others & set(uses) for name, others in uses.items()}
+    below = {}
+
+    def all_below(name):
+        if name not in below:
+            below[name] = uses[name] | {it for other in uses[name] for it in all_below(other)}
+        return below[name]
+
+    return {
+        name: {it for it in others if not any(it in all_below(other) for other in others - {it})}
+        for name, others in uses.items()
+    }
+
+
+uses = read()
+if set(uses) != set(CRATES):
+    sys.exit(f"crates.py: not in both lists: {sorted(set(uses) ^ set(CRATES))}")
+
+picture = Picture(
+    1102,
+    558,
+    "The crates and which of them uses which",
+    "; ".join(f"{name} uses {', '.join(sorted(others))}" for name, others in sorted(uses.items()) if others),
+)
+picture.text(22, 38, "The crates: an arrow goes to a crate that is used", 18, INK, "start", True)
+
+
+def width_of(name):
+    return 6 * PITCH + 146 if name == "slotmap_core" else 244 if CRATES[name][1] >= 2 and name != "slotmap_rows" else 146
+
+
+def middle_of(name):
+    return LEFT + 3 * PITCH + 73 if name == "slotmap_core" else LEFT + PITCH * CRATES[name][0] + 73
+
+
+def drop(name, to, shift, bus, color):
+    """A line from the bottom of a crate over a level of its own to the top of another."""
+    x, end = middle_of(name), middle_of(to) + shift
+    y = TOPS[CRATES[name][1]] + HEIGHT
+    picture.arrow([(x, y), (x, bus), (end, bus), (end, TOPS[CRATES[to][1]])], color, 2)
+
+
+# Two crates that use the same ones have a level and a shift each, so that their lines keep apart.
+LEVELS = {"slotmap": (30, -12), "slotrun": (52, 12), "primary_rows": (28, -12), "secondary_rows": (48, 12)}
+for name in uses:
+    for to in sorted(uses[name], key=lambda it: CRATES[it][0]):
+        if to == "slotmap_core":
+            x = middle_of(name)
+            picture.arrow([(x, TOPS[CRATES[name][1]] + HEIGHT), (x, TOPS[0])], SOFT, 1.5)
+        else:
+            level, shift = LEVELS[name]
+            drop(name, to, shift, TOPS[CRATES[name][1]] + HEIGHT + level, COLORS[name])
+
+for name, (_, row, what) in CRATES.items():
+    x, y, width = middle_of(name), TOPS[row], width_of(name)
+    picture.rect(x - width / 2, y, width, HEIGHT, "#f6f8fa", COLORS.get(name, SOFT), 8, 2.5 if name in COLORS else 1.5)
+    picture.text(x, y + 24, name, 14 if width > 146 else 12.5, INK, bold=True)
+    picture.text(x, y + 43, what, 12.5 if width > 146 else 11.5, SOFT)
+
+picture.finish("crates.svg")
