@@ -2,11 +2,11 @@
 # tests/doc-examples.sh [TEXT ..]
 #
 # Runs the examples of the doc comments: each block in crates/*/src that starts with three backquotes alone. Prints each
-# example that fails, with its file:line and its item, and how many passed. Where a TEXT is named, only examples are
-# run whose file:line and item have one of the TEXTs in them, as `tests/doc-examples.sh slotmap_hop`. The status is 0
-# where each example passed, else 1.
+# example that fails, with its file:line and its item, each public call that has no example, and how many passed.
+# Where a TEXT is named, only examples are run whose file:line and item have one of the TEXTs in them, as
+# `tests/doc-examples.sh slotmap_hop`. The status is 0 where each public call has an example and each passed, else 1.
 #
 # An example is the body of a function that is given `rt` and returns Result<(), Fail>. It comes after the common head
 # of its crate, which doc_examples.py has. The examples are the tests of one crate, which is written to a copy of this
-# repository and run there by `rt try --test`. Nothing is proved.
+# repository and run there by `rt try --test`. Nothing is proved. It takes one to two minutes.
 exec python3 "$(dirname "$0")/doc_examples.py" "$@"

@@ -9,6 +9,10 @@ import sys
 import tempfile
 
 TOP = os.path.dirname(os.path.dirname(os.path.abspath(__file__)))
+sys.dont_write_bytecode = True
+sys.path.insert(0, os.path.join(TOP, "docs"))
+
+from sources import facade, items_of
 
 PRIMARY = """let alloc = rt.alloc();
 let mut map: MAP<DefaultKey, u64> = MAP::new(alloc)?;
@@ -102,14 +106,24 @@ def all_examples():
     return found, odd
 
 
+def calls_without_example():
+    """The public calls of the facade's types, traits and functions that have no block in their comment."""
+    found, exported = [], {(crate, name) for _, crate, name in facade()}
+    for crate in sorted({crate for crate, _ in exported}):
+        for item in items_of(crate):
+            if (crate, item.of or item.name) not in exported or item.of_trait:
+                continue
+            calls = [item] if item.kind == "fn" else [it for it in item.members if it.kind == "fn"]
+            for call in calls:
+                if (call.public or item.kind == "trait") and "```" not in "\n".join(call.doc):
+                    found.append(f"{call.path}:{call.line} ({call.name}): no example")
+    return found
+
+
 def facade_names():
     """The names of the facade: its modules, and what it re-exports beside them."""
-    with open(os.path.join(TOP, "crates/slotmap/src/lib.rt"), encoding="utf-8") as file:
-        text = file.read()
-    names = re.findall(r"^pub mod (\w+)", text, re.M)
-    for group in re.findall(r"^pub use [\w:]+::(\{[^}]*\}|\w+);", text, re.M):
-        names += re.findall(r"\w+", group)
-    return sorted(set(names))
+    modules = {module for module, _, _ in facade() if module}
+    return sorted(modules | {name for module, _, name in facade() if not module})
 
 
 def write_crate(folder, examples):
@@ -214,6 +228,7 @@ def failures(output, lines_of):
 
 def main():
     examples, odd = all_examples()
+    odd += calls_without_example()
     wanted = sys.argv[1:]
     if wanted:
         examples = [it for it in examples if any(text in it.title() for text in wanted)]
