@@ -95,6 +95,14 @@ def type_lines(item):
     return derives(item) + lines
 
 
+def add_summary(page, prefix, calls):
+    """A table of calls, each with its first sentence."""
+    page.add("", "| Call | What it does |", "|---|---|")
+    for call in calls:
+        sentence = call.first_sentence().replace("|", "\\|")
+        page.add(f"| [`{call.name}`](#{anchor_of(prefix + call.name)}) | {sentence} |")
+
+
 def add_function(page, level, title, item, block_head=""):
     page.heading(level, title)
     if item.first_sentence():
@@ -132,12 +140,14 @@ def add_type(page, level, title, item, items, public_level):
     calls = [(it, impl.header()) for impl in own for it in impl.members if it.kind == "fn" and it.public]
     heads = [head for _, head in calls]
     usual = max(heads, key=heads.count, default="")
-    said = f" Its calls are in `{usual}`, but where another head is named." if len(set(heads)) > 1 else ""
+    said = f" Its calls are in `{usual}`, unless another impl is named." if len(set(heads)) > 1 else ""
     if len(set(heads)) == 1:
         said = f" Its calls are in `{usual}`."
     page.add("", link(item) + ("." + seen_as + said if seen_as or said else ""))
     order = [it for _, names in GROUPS for it in names]
     calls.sort(key=lambda it: order.index(it[0].name) if it[0].name in order else len(order))
+    if len(calls) > 8:
+        add_summary(page, title + "::", [it for it, _ in calls])
     for member, head in calls:
         add_function(page, public_level, f"{title}::{member.name}", member, head if head != usual else "")
     bare, shown = [], []
@@ -171,6 +181,7 @@ def add_trait(page, level, item):
         if member.kind in ("ghost", "const") and member.name != "use":
             lines += member.lines
     page.add(*block([*lines, "}"] if len(lines) > 1 else [item.header()]), "", link(item))
+    add_summary(page, item.name + ": ", [it for it in item.members if it.kind == "fn"])
     for member in item.members:
         if member.kind == "fn":
             add_function(page, level + 1, f"{item.name}: {member.name}", member)
