@@ -112,12 +112,13 @@ def add_function(page, level, title, item, block_head=""):
 
 
 def impl_lines(item):
-    """An impl of a trait: its contract alone, with no bodies and no proofs."""
-    lines = []
+    """An impl of a trait: its contract alone, with no bodies and no proofs. That of a trait of this library has the
+    clauses of the trait."""
+    lines, own = [], re.sub(r"<.*", "", item.of_trait) in OWN_TRAITS
     for member in item.members:
         if member.kind == "ghost" and member.name in CONTRACTS or member.kind in ("type", "const"):
             lines += member.lines
-        elif member.kind == "fn" and any(re.search(r"\b(requires|ensures)\b", it) for it in member.lines):
+        elif member.kind == "fn" and not own and any(re.search(r"\b(requires|ensures)\b", it) for it in member.lines):
             lines += member.lines
     return [item.header() + " {", *[it.rstrip() for it in lines], "}"] if lines else []
 
@@ -155,10 +156,10 @@ def add_type(page, level, title, item, items, public_level):
         name = re.sub(r"<.*", "", impl.of_trait)
         if not impl.of_trait or name == "Model":
             continue
-        lines = impl_lines(impl) if name not in OWN_TRAITS else []
+        lines = impl_lines(impl)
         if lines:
             shown.append((impl, lines))
-        else:
+        if name in OWN_TRAITS or not lines:
             target = f"#{anchor_of(name)}" if name in OWN_TRAITS else f"../{impl.path}#L{impl.line}"
             bare.append(f"[`{impl.of_trait}`]({target})")
     if bare or shown:
@@ -254,7 +255,8 @@ def page_text():
         "[lists of slots and JSON](#lists-of-slots-and-json), [runs of commands](#runs-of-commands).",
     )
     page.heading(2, "Which map has which call")
-    page.add("A call of the same name has the same meaning in each map, but for what its clauses say.", "")
+    page.add("Calls of one name have one meaning in the three primary maps, and one in the two secondary maps. Their clauses say "
+        "where they differ.", "")
     add_table(page, all_items)
 
     for name, module in MAPS.items():
@@ -266,8 +268,8 @@ def page_text():
             add_type(page, 3, f"{module}::{item.name}", item, all_items[crate], 4)
 
     page.heading(2, "Traits of the maps")
-    page.add("`Primary` is implemented by the three maps that hand out keys, `Detaching` by those of them whose keys")
-    page.add("can be detached, and `Secondary` by the two secondary maps.")
+    page.add("`SlotMap`, `DenseSlotMap` and `HopSlotMap` implement `Primary`, the first two of them `Detaching` too.")
+    page.add("`SecondaryMap` and `SparseSecondaryMap` implement `Secondary`.")
     traits = sorted(take("", ("trait",)), key=lambda it: (it[1].path, it[1].line))
     for _, item in traits:
         if item.name != "Key":

@@ -17,8 +17,8 @@ MAPS = {
 }
 # Ghost items of an impl that are its contract. Others are proofs or names for them.
 CONTRACTS = {
-    "next_gives", "remaining", "into_iter_gives", "can_index", "index_gives", "is_clone", "is_infallible", "eq",
-    "from_gives", "is_default", "hash_input", "value_default",
+    "can_next", "next_gives", "remaining", "into_iter_gives", "can_index", "index_gives", "is_clone", "is_infallible",
+    "eq", "from_gives", "is_default", "hash_input", "REUSES", "STACKED", "content", "pairs", "data_of", "of_data",
 }
 HEAD = re.compile(r"(pub )?(?:const )?(fn|struct|enum|trait|type) (\w+)|(impl)\b")
 
