@@ -7,6 +7,15 @@
 //! - the key that the next insert returns
 //! - the vacant indices, with the one freed last first
 //! - the room and the capacity
+//!
+//! Each example comes after these lines:
+//!
+//! ```text
+//! let alloc = rt.alloc();
+//! let mut map: SlotMap<DefaultKey, u64> = SlotMap::new(alloc)?;
+//! let a = map.insert(1)?;
+//! let b = map.insert(2)?;
+//! ```
 #![tactic(auto)]
 
 ghost use Rattle.std.specs.Prelude.{◌≡◌, [], Some, ◌+◌, ◌≤◌, ◌↔◌, IsTrue, IfOk, IfErr, IsOk, true};

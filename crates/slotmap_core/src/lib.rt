@@ -1,4 +1,6 @@
 //! Keys, errors, commands, the traits of the maps, lists of slots and their JSON.
+//!
+//! Each example comes after the line `let alloc = rt.alloc();`.
 #![tactic(auto)]
 
 pub mod commands;

@@ -3,6 +3,15 @@
 //! A clause sees a map as its content (the type `Content` of `slotmap_core`) and its packed order
 //! (the type `Dense`). The packed order is the list of the live keys, with their values at the same
 //! positions of another list.
+//!
+//! Each example comes after these lines:
+//!
+//! ```text
+//! let alloc = rt.alloc();
+//! let mut map: DenseSlotMap<DefaultKey, u64> = DenseSlotMap::new(alloc)?;
+//! let a = map.insert(1)?;
+//! let b = map.insert(2)?;
+//! ```
 #![tactic(auto)]
 
 ghost use Rattle.std.specs.Prelude.{◌≡◌, [], Some, ◌+◌, ◌≤◌, ◌↔◌, IsTrue, IfOk, IfErr, IsOk, OnOk, vec_len, vec_capacity};

@@ -10,6 +10,15 @@
 //! - the room and the capacity
 //!
 //! No key of this map is ever detached.
+//!
+//! Each example comes after these lines:
+//!
+//! ```text
+//! let alloc = rt.alloc();
+//! let mut map: HopSlotMap<DefaultKey, u64> = HopSlotMap::new(alloc)?;
+//! let a = map.insert(1)?;
+//! let b = map.insert(2)?;
+//! ```
 #![tactic(auto)]
 
 ghost use Rattle.std.specs.Prelude.{◌≡◌, [], ◌+◌, ◌≤◌, ◌↔◌, IsTrue, IfOk, IfErr, IsOk};

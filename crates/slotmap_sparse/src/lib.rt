@@ -6,6 +6,17 @@
 //! Names of clauses: `value` is what a look-up or a removal returns. `ok` is what a success did.
 //! `err` is why a call fails and what its error holds. `unchanged` is what a failure leaves. `room`
 //! says when a call can't run out of memory. `valid` is what always holds of the content.
+//!
+//! Each example comes after these lines:
+//!
+//! ```text
+//! let alloc = rt.alloc();
+//! let mut primary: SlotMap<DefaultKey, u64> = SlotMap::new(alloc)?;
+//! let a = primary.insert(10)?;
+//! let b = primary.insert(20)?;
+//! let mut map: SparseSecondaryMap<DefaultKey, u64> = SparseSecondaryMap::new(alloc)?;
+//! map.insert(a, 1)?;
+//! ```
 #![tactic(auto)]
 
 ghost use Rattle.std.specs.Prelude.{◌≡◌, ◌≤◌, ◌↔◌, IsTrue, IfOk, OnOk, IfErr, IsOk};
