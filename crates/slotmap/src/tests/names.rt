@@ -12,7 +12,7 @@ use std::test::Fail;
 
 /// What each iterator of a map yields first, by the names in the map's module.
 trait Walked: Drop {
-    /// A map of 7 under the key 1v1.
+    /// A map of 7 under the key 1v1. Its type stands in the module of its iterators too.
     fn one(alloc: Global) -> Result<Self, Fail>;
 
     /// `Iter`.
@@ -33,7 +33,7 @@ trait Walked: Drop {
 
 impl Walked for SlotMap<DefaultKey, u64> {
     fn one(alloc: Global) -> Result<Self, Fail> {
-        let mut map = SlotMap::new(alloc)?;
+        let mut map: basic::SlotMap<DefaultKey, u64> = SlotMap::new(alloc)?;
         map.insert(7)?;
         Ok(map)
     }
@@ -61,7 +61,7 @@ impl Walked for SlotMap<DefaultKey, u64> {
 
 impl Walked for DenseSlotMap<DefaultKey, u64> {
     fn one(alloc: Global) -> Result<Self, Fail> {
-        let mut map = DenseSlotMap::new(alloc)?;
+        let mut map: dense::DenseSlotMap<DefaultKey, u64> = DenseSlotMap::new(alloc)?;
         map.insert(7)?;
         Ok(map)
     }
@@ -89,7 +89,7 @@ impl Walked for DenseSlotMap<DefaultKey, u64> {
 
 impl Walked for HopSlotMap<DefaultKey, u64> {
     fn one(alloc: Global) -> Result<Self, Fail> {
-        let mut map = HopSlotMap::new(alloc)?;
+        let mut map: hop::HopSlotMap<DefaultKey, u64> = HopSlotMap::new(alloc)?;
         map.insert(7)?;
         Ok(map)
     }
@@ -117,7 +117,7 @@ impl Walked for HopSlotMap<DefaultKey, u64> {
 
 impl Walked for SecondaryMap<DefaultKey, u64> {
     fn one(alloc: Global) -> Result<Self, Fail> {
-        let mut map = SecondaryMap::new(alloc)?;
+        let mut map: secondary::SecondaryMap<DefaultKey, u64> = SecondaryMap::new(alloc)?;
         map.insert(key(1, 1), 7)?;
         Ok(map)
     }
@@ -145,7 +145,8 @@ impl Walked for SecondaryMap<DefaultKey, u64> {
 
 impl Walked for SparseSecondaryMap<DefaultKey, u64> {
     fn one(alloc: Global) -> Result<Self, Fail> {
-        let mut map = SparseSecondaryMap::new(alloc)?;
+        let mut map: sparse_secondary::SparseSecondaryMap<DefaultKey, u64> =
+            SparseSecondaryMap::new(alloc)?;
         map.insert(key(1, 1), 7)?;
         Ok(map)
     }
