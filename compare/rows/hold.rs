@@ -92,6 +92,11 @@ impl<'t> Row<'t> {
     }
 }
 
+/// Whether the rows of a kind are runs of commands.
+fn is_run(kind: &str) -> bool {
+    kind.starts_with("run") || kind.starts_with("detaching")
+}
+
 /// How often a call is repeated, and the call.
 fn repeated(call: &str) -> Option<(u64, &str)> {
     let (times, call) = call.strip_prefix("repeat ")?.split_once(' ')?;
@@ -194,6 +199,11 @@ impl<'t> Held<'t> {
         let Some(row) = &mut self.row else {
             return false;
         };
+        if call == "dropped" && is_run(self.kind) {
+            // (a run drops what its commands hold)
+            self.leave_out(call);
+            return false;
+        }
         match row.make(call) {
             Answer::Result(seen) => {
                 self.calls += 1;
