@@ -1,0 +1,123 @@
+#!/usr/bin/env python3
+"""Measures the maps beside the Rust crate slotmap 1.1.1, and writes the table of all operations.
+
+SOURCE is the crate's folder (with src/lib.rs), and OUT a folder outside the repository, where everything is built. The rows
+of the file of results that are measured anew are replaced, and all others stay.
+"""
+
+import argparse
+import math
+import os
+import subprocess
+import sys
+from concurrent.futures import ThreadPoolExecutor
+
+sys.dont_write_bytecode = True
+
+import build
+import results
+from measure import Bench
+from operations import MAPS, FAMILIES, operations_of
+
+SIZES = {"instructions": [1_000, 100_000], "time": [1_000, 100_000, 1_000_000], "memory": [1_000_000]}
+
+# Memory is measured where a map is filled.
+FILLS = ("insert", "insert-room")
+
+
+def place_of(row):
+    kind = next(it for it in MAPS if it.name == row.map)
+    names = [it.name for it in FAMILIES[kind.family]]
+    return list(SIZES).index(row.measure), kind.number, row.slots, names.index(row.operation)
+
+
+def tasks(args):
+    """What is to be measured: a measure, a map, an operation and a number of slots."""
+    found = []
+    for measure in args.measures:
+        for kind in MAPS:
+            for n in args.sizes or SIZES[measure]:
+                for operation in operations_of(kind) if kind.name in args.maps else []:
+                    is_wanted = not args.operations or operation.name in args.operations
+                    if is_wanted and (measure != "memory" or operation.name in FILLS):
+                        found.append((measure, kind, operation, n))
+    return found
+
+
+def row_of(bench, commit, task):
+    measure, kind, operation, n = task
+    port, rust, ratio = getattr(bench, measure)(kind, operation, n)
+    count = operation.count(n)
+    row = results.Row(
+        measure, kind.name, operation.name, n, port / count, rust / count, ratio, commit, results.today()
+    )
+    print(results.line_of(row), flush=True)
+    return row
+
+
+def measured(bench, commit, wanted, jobs):
+    """A row for each task. Instructions may be counted side by side, since no run changes another's."""
+    counted = [it for it in wanted if it[0] == "instructions"]
+    others = [it for it in wanted if it[0] != "instructions"]
+    with ThreadPoolExecutor(jobs) as pool:
+        rows = list(pool.map(lambda it: row_of(bench, commit, it), counted))
+    return rows + [row_of(bench, commit, it) for it in others]
+
+
+def print_means(rows):
+    """The geometric mean of the ratios of each map, and how many of them are above 1.25."""
+    groups = {}
+    for row in rows:
+        groups.setdefault((row.measure, row.map, row.slots), []).append(row.ratio)
+    for (measure, name, slots), ratios in groups.items():
+        mean = math.exp(sum(math.log(it) for it in ratios) / len(ratios))
+        above = sum(it > 1.25 for it in ratios)
+        print(f"{measure} of {name} at {slots}: mean {mean:.2f}, greatest {max(ratios):.2f}, {above} of {len(ratios)} above 1.25")
+
+
+def words(text):
+    return text.split(",")
+
+
+def options():
+    parser = argparse.ArgumentParser(description=__doc__, formatter_class=argparse.RawDescriptionHelpFormatter)
+    names = [it.name for it in MAPS]
+    parser.add_argument("source", metavar="SOURCE")
+    parser.add_argument("out", metavar="OUT")
+    parser.add_argument("--results", metavar="FILE", help="the file of results; OUT/results.tsv if left out")
+    parser.add_argument("--measures", type=words, default=list(SIZES), help=",".join(SIZES))
+    parser.add_argument("--maps", type=words, default=names, help=",".join(names))
+    parser.add_argument("--operations", type=words, default=[], help="names of operations.py; all if left out")
+    parser.add_argument("--sizes", type=lambda it: [int(n) for n in words(it)], help="numbers of slots")
+    parser.add_argument("--runs", type=int, default=5, help="how often a time is taken on each side")
+    parser.add_argument("--ms", type=int, default=40, help="milliseconds that a time takes at least")
+    parser.add_argument("--jobs", type=int, default=1, help="how many runs of callgrind go side by side")
+    parser.add_argument("--crates", metavar="FOLDER", help="the crates of another copy of the repository")
+    parser.add_argument("--built", action="store_true", help="measure what lies in OUT, and build nothing")
+    return parser.parse_args()
+
+
+def main():
+    args = options()
+    unknown = [it for it in args.measures if it not in SIZES] + [it for it in args.maps if it not in [m.name for m in MAPS]]
+    if unknown:
+        sys.exit(f"bench.py: no such measure or map: {' '.join(unknown)}")
+    crates = args.crates or os.path.join(build.REPOSITORY, "crates")
+    program = os.path.join(args.out, "bench")
+    if not args.built:
+        program = build.build(args.out, args.source, crates)
+    path = args.results or os.path.join(args.out, "results.tsv")
+    bench = Bench(os.path.abspath(program), args.runs, args.ms)
+    rows = measured(bench, results.commit_of(crates), tasks(args), args.jobs)
+    print_means(rows)
+    kept = results.read(path)
+    kept.update({results.key_of(it): it for it in rows})
+    results.write(path, kept, place_of)
+    return 0
+
+
+if __name__ == "__main__":
+    try:
+        sys.exit(main())
+    except subprocess.SubprocessError as error:
+        sys.exit(f"bench.py: {error}")
