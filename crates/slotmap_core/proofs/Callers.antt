@@ -1,10 +1,10 @@
 -- What a caller of a map needs, in one list for `using`.
-use Rattle.std.proofs.Common.{◌≡◌, ◌≢◌, ◌+◌, Bool, true, false, cond, inl, None, Some, is_some, sym, ap, ◌∙◌}
+use Rattle.std.proofs.Common.{◌≡◌, ◌≢◌, ◌+◌, Bool, true, false, cond, inl, None, Some, is_some, Result, Ok, Err, IfOk, IsErr, refl, sym, ap, ◌∙◌}
 use Rattle.std.specs.FinMap as map
 use Rattle.std.specs.FinSet as set
 use Rattle.slotmap_core.specs.Key.{Key, key_cmp}
 use Rattle.slotmap_core.specs.Content.{Content, IsContent, IsLive}
-use Rattle.slotmap_core.specs.Transition.{Inserts, Removes}
+use Rattle.slotmap_core.specs.Transition.{Inserts, Removes, Keeps}
 use Rattle.slotmap_core.proofs.AgainLemmas.{offer_unused, remove-insert_item}
 use Rattle.slotmap_core.proofs.KeyLemmas.{keys_total, exact_keys}
 use Rattle.slotmap_core.proofs.ListingLemmas.{insert-remove}
@@ -60,6 +60,12 @@ module _ {V : Type 0} where
 
     pub inserted_len : IsContent reuses old → Inserts old k v new → map.len new.live ≡ map.len old.live + 1
     inserted_len well inserts = ap map.len inserts.live ∙ len_inserted keys_total exact_keys old.live k v (inserted_fresh well inserts)
+
+  -- what was live is still live after an insert, whatever it returns
+  pub insert_still : (old : Content V) {K R : Type 0} (data_of : K → Key) (v : V) (new : Content V) (answer : Result K R)
+      → IfOk answer (λ key. Inserts old (data_of key) v new) → (IsErr answer → Keeps old new) → (q : Key) → IsLive old q → IsLive new q
+  insert_still old data_of v new (Ok key) inserts unchanged q live = rw inserts.live (live-insert_still old.live (data_of key) v q live)
+  insert_still old data_of v new (Err e) none unchanged q live = rw ((unchanged refl).live) live
 
   -- the same in the forms that a tactic finds: for the maps that reuse their slots without allocating, and for the others
   module _ (old : Content V) (k : Key) (v : V) (new : Content V) where

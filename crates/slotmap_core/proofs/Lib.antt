@@ -23,6 +23,7 @@ pub mod OrderLemmas
 pub mod IndexLemmas
 pub mod VisitLemmas
 pub mod RetainLemmas
+pub mod RetainCallers
 pub mod AgainLemmas
 pub mod PlaceCount
 pub mod Standing
@@ -47,3 +48,4 @@ pub mod PutLemmas
 pub mod ListReadLemmas
 pub mod PairsLemmas
 pub mod SecondaryCallers
+pub mod SideTables

@@ -176,3 +176,10 @@ module _ {V : Type 0} where
       | Some v ↦ λ is did. removed_spent old new reuses valid.before j live did
       | None ↦ λ is did. absurd (let none = ap is_some is in cc)
     ] is removes
+
+    -- the key is spent if its value is returned
+    pub remove_spent : OnSome answer (Removes old j new) → OnSome answer (IsSpent new j)
+    remove_spent removes = elim answer as (λ o. o ≡ map.get old.live j → OnSome o (Removes old j new) → OnSome o (IsSpent new j)) [
+      | Some v ↦ λ is did. removed_spent old new reuses valid.before j (ap is_some (sym is)) did
+      | None ↦ λ is did. tt
+    ] is removes

@@ -7,6 +7,7 @@ pub mod Call
 pub mod Copy
 pub mod Disjoint
 pub mod Refusal
+pub mod Returned
 pub mod Retain
 pub mod Given
 pub mod Machine
@@ -30,6 +31,7 @@ pub mod Json
 pub mod Contents
 pub mod Written
 pub mod Secondary
+pub mod Beside
 pub mod OrPut
 pub mod SecondaryStep
 pub mod SecondaryLaw

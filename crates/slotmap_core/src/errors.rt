@@ -8,6 +8,7 @@
 ghost use Rattle.std.specs.Prelude.{◌≡◌};
 ghost use Rattle.slotmap_core.specs.declared.errors.JsonError.TheVariants.{Memory as JsonMemory};
 ghost use Rattle.slotmap_core.specs.declared.errors.SlotsError.TheVariants.{Memory as SlotsMemory};
+ghost use Rattle.slotmap_core.specs.Returned.{uninserted, unattached, with_uninserted, with_unattached};
 
 use std::alloc::{AllocError, AllocFailed};
 use std::fmt::Display;
@@ -153,6 +154,95 @@ pub enum JsonError {
     /// Memory ran out for the result.
     #[error("out of memory")]
     Memory,
+}
+
+impl<V> InsertError<V> {
+    /// Returns the value that was to be inserted.
+    ///
+    /// Constant time.
+    ///
+    /// ```
+    /// assert_eq!(rt; InsertError::Full(5).into_inner(), 5);
+    /// ```
+    pub fn into_inner(self) -> V
+        ensures { result ≡ uninserted self }
+    {
+        match self {
+            InsertError::Full(value) => value,
+            InsertError::Memory(value) => value,
+        }
+    }
+
+    /// Changes the value in the error by a closure, and leaves the cause as it is: for a type that
+    /// stores the caller's value inside one of its own.
+    ///
+    /// One call of the closure.
+    ///
+    /// ```
+    /// let error = InsertError::Full((5, "five")).map(|pair| pair.0);
+    /// assert!(rt; matches!(error, InsertError::Full(5)));
+    /// ```
+    pub fn map<W, F: FnOnce(V) -> W>(self, f: F) -> InsertError<W>
+        requires { F.pre f (uninserted self) }
+        ensures { (w : W) × F.post f (uninserted self) w × (result ≡ with_uninserted self w) }
+    {
+        match self {
+            InsertError::Full(value) => InsertError::Full(f(value)),
+            InsertError::Memory(value) => InsertError::Memory(f(value)),
+        }
+    }
+}
+
+impl<V> ReattachError<V> {
+    /// Returns the value that was to be bound to the key again.
+    ///
+    /// Constant time.
+    ///
+    /// ```
+    /// assert_eq!(rt; ReattachError::NotDetached(5).into_inner(), 5);
+    /// ```
+    pub fn into_inner(self) -> V
+        ensures { result ≡ unattached self }
+    {
+        match self {
+            ReattachError::NotDetached(value) => value,
+            ReattachError::Memory(value) => value,
+        }
+    }
+
+    /// Changes the value in the error by a closure, and leaves the cause as it is.
+    ///
+    /// One call of the closure.
+    ///
+    /// ```
+    /// let error = ReattachError::NotDetached((5, "five")).map(|pair| pair.0);
+    /// assert!(rt; matches!(error, ReattachError::NotDetached(5)));
+    /// ```
+    pub fn map<W, F: FnOnce(V) -> W>(self, f: F) -> ReattachError<W>
+        requires { F.pre f (unattached self) }
+        ensures { (w : W) × F.post f (unattached self) w × (result ≡ with_unattached self w) }
+    {
+        match self {
+            ReattachError::NotDetached(value) => ReattachError::NotDetached(f(value)),
+            ReattachError::Memory(value) => ReattachError::Memory(f(value)),
+        }
+    }
+}
+
+impl<V> PutError<V> {
+    /// Changes the value in the error by a closure. The value itself is the field `0`.
+    ///
+    /// One call of the closure.
+    ///
+    /// ```
+    /// assert_eq!(rt; PutError((5, "five")).map(|pair| pair.0).0, 5);
+    /// ```
+    pub fn map<W, F: FnOnce(V) -> W>(self, f: F) -> PutError<W>
+        requires { F.pre f self.0 }
+        ensures { F.post f self.0 result.0 }
+    {
+        PutError(f(self.0))
+    }
 }
 
 impl From<AllocError> for OutOfMemory {
