@@ -13,6 +13,7 @@ mod operations;
 mod primary;
 mod secondary;
 mod shuffler;
+mod value;
 
 use operations::{Primary, Secondary};
 use std::hint::black_box;

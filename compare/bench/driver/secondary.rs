@@ -3,190 +3,209 @@
 use crate::folded::BuildFolded;
 use crate::operations::Secondary;
 use crate::shuffler::Shuffler;
-use slotmap::{DefaultKey, Key, SecondaryMap, SlotMap, SparseSecondaryMap};
+use crate::value::{Sum, Value, number};
+use slotmap::{DefaultKey, SecondaryMap, SlotMap, SparseSecondaryMap};
 use std::hint::black_box;
 
-fn number(key: DefaultKey) -> u64 {
-    key.data().as_ffi()
-}
-
-fn total(numbers: impl Iterator<Item = u64>) -> u64 {
-    numbers.fold(0, u64::wrapping_add)
-}
-
+/// The operations of one map, with its hasher if it has one.
 macro_rules! secondary_map {
-    ($module:ident, $map:ty) => {
+    ($module:ident, $map:ident $(, $hasher:ty)?) => {
         pub mod $module {
             use super::*;
 
-            type Map = $map;
+            type Map<const AT: u32> = $map<DefaultKey, Value<AT> $(, $hasher)?>;
 
-            fn put_all(map: &mut Map, keys: &[DefaultKey], round: u64) -> u64 {
+            fn put_all<const AT: u32>(map: &mut Map<AT>, keys: &[DefaultKey], round: u64) -> u64 {
                 for (i, key) in keys.iter().enumerate() {
-                    map.insert(*key, i as u64 ^ round);
+                    map.insert(*key, Value(i as u64 ^ round));
                 }
                 map.len() as u64
             }
 
-            fn get_all(map: &Map, keys: &[DefaultKey]) -> u64 {
-                total(keys.iter().map(|key| map.get(*key).copied().unwrap_or(1)))
+            fn get_all<const AT: u32>(map: &Map<AT>, keys: &[DefaultKey]) -> u64 {
+                let mut sum = Sum::default();
+                for key in keys {
+                    sum.add(map.get(*key).map_or(1, |value| value.0));
+                }
+                sum.0
             }
 
-            fn count_all(map: &Map, keys: &[DefaultKey]) -> u64 {
-                total(keys.iter().map(|key| u64::from(map.contains_key(*key))))
+            fn count_all<const AT: u32>(map: &Map<AT>, keys: &[DefaultKey]) -> u64 {
+                let mut sum = Sum::default();
+                for key in keys {
+                    if map.contains_key(*key) {
+                        sum.add(1);
+                    }
+                }
+                sum.0
             }
 
-            fn bump_all(map: &mut Map, keys: &[DefaultKey]) -> u64 {
-                let mut sum = 0u64;
+            fn bump_all<const AT: u32>(map: &mut Map<AT>, keys: &[DefaultKey]) -> u64 {
+                let mut sum = Sum::default();
                 for key in keys {
                     if let Some(value) = map.get_mut(*key) {
-                        *value = value.wrapping_add(1);
-                        sum = sum.wrapping_add(*value);
+                        sum.add(value.bump());
                     }
                 }
-                sum
+                sum.0
             }
 
-            fn churn(map: &mut Map, keys: &[DefaultKey], round: u64) -> u64 {
-                let mut sum = 0u64;
+            fn churn<const AT: u32>(map: &mut Map<AT>, keys: &[DefaultKey], round: u64) -> u64 {
+                let mut sum = Sum::default();
                 for key in keys {
-                    let value = map.remove(*key).unwrap_or(1);
-                    sum = sum.wrapping_add(value);
-                    map.insert(*key, value ^ round);
+                    let value = map.remove(*key).map_or(1, |value| value.0);
+                    sum.add(value);
+                    map.insert(*key, Value(value ^ round));
                 }
-                sum
+                sum.0
             }
 
-            fn enter_all(map: &mut Map, keys: &[DefaultKey]) -> u64 {
-                let mut sum = 0u64;
+            fn enter_all<const AT: u32>(map: &mut Map<AT>, keys: &[DefaultKey]) -> u64 {
+                let mut sum = Sum::default();
                 for key in keys {
                     if let Some(entry) = map.entry(*key) {
-                        let value = entry.or_insert(7);
-                        *value = value.wrapping_add(1);
-                        sum = sum.wrapping_add(*value);
+                        sum.add(entry.or_insert(Value(7)).bump());
                     }
                 }
-                sum
+                sum.0
             }
 
-            fn walk(map: &Map) -> u64 {
-                let mut sum = 0u64;
+            fn walk<const AT: u32>(map: &Map<AT>) -> u64 {
+                let mut sum = Sum::default();
                 for (key, value) in map.iter() {
-                    sum = sum.wrapping_add(number(key)).wrapping_add(*value);
+                    sum.add(number(key));
+                    sum.add(value.0);
                 }
-                sum
+                sum.0
             }
 
-            fn walk_values(map: &Map) -> u64 {
-                let mut sum = 0u64;
+            fn walk_values<const AT: u32>(map: &Map<AT>) -> u64 {
+                let mut sum = Sum::default();
                 for value in map.values() {
-                    sum = sum.wrapping_add(*value);
+                    sum.add(value.0);
                 }
-                sum
+                sum.0
             }
 
-            fn walk_keys(map: &Map) -> u64 {
-                let mut sum = 0u64;
+            fn walk_keys<const AT: u32>(map: &Map<AT>) -> u64 {
+                let mut sum = Sum::default();
                 for key in map.keys() {
-                    sum = sum.wrapping_add(number(key));
+                    sum.add(number(key));
                 }
-                sum
+                sum.0
             }
 
-            fn retain_all(map: &mut Map) -> u64 {
+            fn retain_all<const AT: u32>(map: &mut Map<AT>) -> u64 {
                 map.retain(|_, value| {
-                    *value = value.wrapping_add(1);
+                    value.bump();
                     true
                 });
                 map.len() as u64
             }
 
-            fn drain_all(map: &mut Map) -> u64 {
-                let mut sum = 0u64;
+            fn drain_all<const AT: u32>(map: &mut Map<AT>) -> u64 {
+                let mut sum = Sum::default();
                 for (key, value) in map.drain() {
-                    sum = sum.wrapping_add(number(key)).wrapping_add(value);
+                    sum.add(number(key));
+                    sum.add(value.0);
                 }
-                sum
+                sum.0
             }
 
-            fn clear_and_put(map: &mut Map, keys: &[DefaultKey], round: u64) -> u64 {
-                map.clear();
-                put_all(map, keys, round)
-            }
-
-            fn remove_all(map: &mut Map, keys: &[DefaultKey]) -> u64 {
-                let mut sum = 0u64;
+            fn remove_all<const AT: u32>(map: &mut Map<AT>, keys: &[DefaultKey]) -> u64 {
+                let mut sum = Sum::default();
                 for key in keys {
-                    sum = sum.wrapping_add(map.remove(*key).unwrap_or(1));
+                    sum.add(map.remove(*key).map_or(1, |value| value.0));
                 }
-                sum
+                sum.0
             }
 
-            fn round_of_all(
-                map: &mut Map,
-                keys: &[DefaultKey],
-                absent: &[DefaultKey],
-                operation: Secondary,
-                round: u64,
-            ) -> u64 {
-                match operation {
-                    Secondary::Insert | Secondary::Overwrite => put_all(map, keys, round),
-                    Secondary::Get => get_all(map, keys),
-                    Secondary::GetAbsent => get_all(map, absent),
-                    Secondary::Contains => count_all(map, keys),
-                    Secondary::GetMut => bump_all(map, keys),
-                    Secondary::Churn => churn(map, keys, round),
-                    Secondary::Entry | Secondary::EntryNew => enter_all(map, keys),
-                    Secondary::Iter => walk(map),
-                    Secondary::Values => walk_values(map),
-                    Secondary::Keys => walk_keys(map),
-                    Secondary::RetainAll => retain_all(map),
-                    Secondary::Clear => clear_and_put(map, keys, round),
-                    Secondary::Drain => drain_all(map).wrapping_add(put_all(map, keys, round)),
-                    // Without the black box the compiler leaves the whole clone out.
-                    Secondary::Clone => black_box(map.clone()).len() as u64,
-                    Secondary::CloneRemove => remove_all(&mut map.clone(), keys),
-                }
-            }
-
-            fn anew(operation: Secondary, keys: &[DefaultKey], rounds: u64) -> u64 {
-                let mut sum = 0u64;
-                for round in 0..rounds {
-                    let mut map = Map::default();
-                    sum = sum.wrapping_add(round_of_all(&mut map, keys, &[], operation, round));
-                }
-                sum
-            }
-
-            fn with_a_map(operation: Secondary, keys: &mut [DefaultKey], rounds: u64) -> u64 {
-                let mut map = Map::default();
-                put_all(&mut map, keys, 0);
-                Shuffler::new().shuffle(keys);
-                let mut absent = Vec::new();
-                if let Secondary::GetAbsent = operation {
-                    absent = keys[..keys.len() - keys.len() / 2].to_vec();
-                    remove_all(&mut map, &absent);
-                }
-                let mut sum = 0u64;
-                for round in 0..rounds {
-                    let some = round_of_all(&mut map, keys, &absent, operation, round);
-                    sum = sum.wrapping_add(some);
-                }
-                sum
-            }
-
-            pub fn workload(operation: Secondary, n: u64, rounds: u64) -> u64 {
+            /// A primary map, which stays while its keys are used, and the keys in order.
+            fn primary_map(n: u64) -> (SlotMap<DefaultKey, u64>, Vec<DefaultKey>) {
+                let mut keys = Vec::with_capacity(n as usize);
                 let mut primary = SlotMap::with_capacity(n as usize);
-                let mut keys: Vec<DefaultKey> = (0..n).map(|i| primary.insert(i)).collect();
+                keys.extend((0..n).map(|i| primary.insert(i)));
+                (primary, keys)
+            }
+
+            /// Rounds over new maps.
+            fn anew<const AT: u32>(
+                n: u64,
+                rounds: u64,
+                run: impl Fn(&mut Map<AT>, &[DefaultKey], u64) -> u64,
+            ) -> u64 {
+                let (_primary, keys) = primary_map(n);
+                let mut sum = Sum::default();
+                for round in 0..rounds {
+                    sum.add(run(&mut Map::default(), &keys, round));
+                }
+                sum.0
+            }
+
+            /// Rounds over one map, with its keys shuffled.
+            fn shuffled<const AT: u32>(
+                n: u64,
+                rounds: u64,
+                run: impl Fn(&mut Map<AT>, &[DefaultKey], u64) -> u64,
+            ) -> u64 {
+                let (_primary, mut keys) = primary_map(n);
+                let mut map = Map::default();
+                map.extend(keys.iter().enumerate().map(|(i, key)| (*key, Value(i as u64))));
+                Shuffler::new().shuffle(&mut keys);
+                let mut sum = Sum::default();
+                for round in 0..rounds {
+                    sum.add(run(&mut map, &keys, round));
+                }
+                sum.0
+            }
+
+            /// Look-ups of the half of the keys that is gone.
+            fn absent<const AT: u32>(n: u64, rounds: u64) -> u64 {
+                let (_primary, mut keys) = primary_map(n);
+                let mut map = Map::<AT>::default();
+                put_all(&mut map, &keys, 0);
+                Shuffler::new().shuffle(&mut keys);
+                let absent = &keys[..keys.len() - keys.len() / 2];
+                remove_all(&mut map, absent);
+                let mut sum = Sum::default();
+                for _ in 0..rounds {
+                    sum.add(get_all(&map, absent));
+                }
+                sum.0
+            }
+
+            #[rustfmt::skip]
+            pub fn workload(operation: Secondary, n: u64, rounds: u64) -> u64 {
                 match operation {
-                    Secondary::Insert | Secondary::EntryNew => anew(operation, &keys, rounds),
-                    _ => with_a_map(operation, &mut keys, rounds),
+                    Secondary::Insert => anew::<0>(n, rounds, put_all),
+                    Secondary::Overwrite => shuffled::<1>(n, rounds, put_all),
+                    Secondary::Get => shuffled::<2>(n, rounds, |map, keys, _| get_all(map, keys)),
+                    Secondary::GetAbsent => absent::<3>(n, rounds),
+                    Secondary::Contains => shuffled::<4>(n, rounds, |map, keys, _| count_all(map, keys)),
+                    Secondary::GetMut => shuffled::<5>(n, rounds, |map, keys, _| bump_all(map, keys)),
+                    Secondary::Churn => shuffled::<6>(n, rounds, churn),
+                    Secondary::Entry => shuffled::<7>(n, rounds, |map, keys, _| enter_all(map, keys)),
+                    Secondary::EntryNew => anew::<8>(n, rounds, |map, keys, _| enter_all(map, keys)),
+                    Secondary::Iter => shuffled::<9>(n, rounds, |map, _, _| walk(map)),
+                    Secondary::Values => shuffled::<10>(n, rounds, |map, _, _| walk_values(map)),
+                    Secondary::Keys => shuffled::<11>(n, rounds, |map, _, _| walk_keys(map)),
+                    Secondary::RetainAll => shuffled::<12>(n, rounds, |map, _, _| retain_all(map)),
+                    Secondary::Clear => shuffled::<13>(n, rounds, |map, keys, round| {
+                        map.clear();
+                        put_all(map, keys, round)
+                    }),
+                    Secondary::Drain => shuffled::<14>(n, rounds, |map, keys, round| {
+                        drain_all(map).wrapping_add(put_all(map, keys, round))
+                    }),
+                    // Without the black box the compiler leaves the whole clone out.
+                    Secondary::Clone => shuffled::<15>(n, rounds, |map, _, _| black_box(map.clone()).len() as u64),
+                    Secondary::CloneRemove => shuffled::<16>(n, rounds, |map, keys, _| remove_all(&mut map.clone(), keys)),
                 }
             }
         }
     };
 }
 
-secondary_map!(plain, SecondaryMap<DefaultKey, u64>);
-secondary_map!(sparse, SparseSecondaryMap<DefaultKey, u64>);
-secondary_map!(folded, SparseSecondaryMap<DefaultKey, u64, BuildFolded>);
+secondary_map!(plain, SecondaryMap);
+secondary_map!(sparse, SparseSecondaryMap);
+secondary_map!(folded, SparseSecondaryMap, BuildFolded);
