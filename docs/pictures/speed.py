@@ -1,76 +1,107 @@
 #!/usr/bin/env python3
-"""Writes speed.svg: the table of instructions of docs/PERFORMANCE.md as bars."""
+"""Writes speed.svg and speed_secondary.svg: the instructions of compare/bench/results.tsv at 1,000 slots as bars."""
 
 import math
 import os
-import re
 import sys
 
 sys.dont_write_bytecode = True
 
 from svg import BLUE, FOLDER, GREEN, INK, ORANGE, SOFT, Picture
 
-MAPS = {"SlotMap": BLUE, "DenseSlotMap": ORANGE, "HopSlotMap": GREEN}
-LOW, HIGH = 0.25, 2.5
-LEFT, WIDTH, BAR = 330, 520, 13
+sys.path.insert(0, os.path.join(FOLDER, "../../compare/bench"))
+
+import operations
+import results
+
+SLOTS = 1_000
+COLORS = [BLUE, ORANGE, GREEN]
+BAR, GAP = 11, 12
+LABEL, WIDTH = 335, 330
+COLUMN = LABEL + WIDTH + 45
+TOP = 112
 
 
-def read():
-    """The rows of the first table whose head names the three maps: a name, and a ratio for each map."""
-    with open(os.path.join(FOLDER, "../PERFORMANCE.md"), encoding="utf-8") as file:
-        lines = file.read().split("\n")
-    start = next(i for i, it in enumerate(lines) if all(f"`{name}`" in it for name in MAPS))
-    rows = []
-    for line in lines[start + 2 :]:
-        if not line.startswith("|"):
-            return rows
-        cells = [it.strip() for it in line.strip("|").split("|")]
-        ratios = [re.search(r"\*\*([\d.]+)\*\*", it) for it in cells[1:]]
-        if len(ratios) != len(MAPS) or not all(ratios):
-            sys.exit(f"speed.py: no three ratios in {line}")
-        rows.append((cells[0].replace("`", ""), [float(it.group(1)) for it in ratios]))
-    return rows
+class Scale:
+    """A log scale whose ends are powers of two."""
+
+    def __init__(self, ratios, left):
+        self.low = min(math.floor(math.log2(min(ratios))), -1)
+        self.high = max(math.ceil(math.log2(max(ratios))), 1)
+        self.left = left
+
+    def x(self, ratio):
+        return self.left + WIDTH * (math.log2(ratio) - self.low) / (self.high - self.low)
+
+    def marks(self):
+        return [2.0**it for it in range(self.low, self.high + 1)]
 
 
-def x_of(ratio):
-    if not LOW <= ratio <= HIGH:
-        sys.exit(f"speed.py: the scale has no room for {ratio}")
-    return LEFT + WIDTH * math.log(ratio / LOW) / math.log(HIGH / LOW)
+def ratios_of(rows, kinds):
+    """For each operation its title, and a ratio, or None, for each map."""
+    family = operations.FAMILIES[next(it.family for it in operations.MAPS if it.name == kinds[0])]
+    found = []
+    for operation in family:
+        cells = [rows.get(("instructions", kind, operation.name, SLOTS)) for kind in kinds]
+        found.append((operation.title.replace("`", ""), [it.ratio if it else None for it in cells]))
+    return found
 
 
-rows = read()
-step = 3 * BAR + 16
-bottom = 96 + step * len(rows)
-picture = Picture(
-    900,
-    bottom + 58,
-    "Instructions beside the Rust crate",
-    "; ".join(f"{name}: " + ", ".join(f"{m} {r}" for m, r in zip(MAPS, ratios)) for name, ratios in rows),
-)
-picture.text(24, 38, "Instructions of an operation, divided by those of the Rust crate", 18, INK, "start", True)
-x = 24
-for name, color in MAPS.items():
-    picture.rect(x, 54, 14, 14, color, color, 2)
-    picture.text(x + 21, 66, name, 13, INK, "start")
-    x += 50 + 9 * len(name)
-picture.text(LEFT + WIDTH, 66, "1,000 slots; fewer is better; log scale", 13, SOFT, "end")
+def draw_scale(picture, scale, bottom):
+    for mark in scale.marks():
+        x = scale.x(mark)
+        picture.line([(x, TOP - 12), (x, bottom)], INK if mark == 1 else "#d0d7de", 2 if mark == 1 else 1)
+        picture.text(x, bottom + 18, f"{mark:g}", 13, INK if mark == 1 else SOFT, bold=mark == 1)
+    picture.text(scale.x(1), bottom + 38, "as the Rust crate", 13, INK)
 
-for mark in (0.25, 0.5, 1, 2):
-    x = x_of(mark)
-    picture.line([(x, 84), (x, bottom)], INK if mark == 1 else "#d0d7de", 2 if mark == 1 else 1)
-    picture.text(x, bottom + 18, f"{mark:g}", 13, INK if mark == 1 else SOFT, bold=mark == 1)
-picture.text(x_of(1), bottom + 38, "as the Rust crate", 13, INK)
-picture.text(LEFT, bottom + 38, "fewer instructions", 13, SOFT, "start")
-picture.text(LEFT + WIDTH, bottom + 38, "more instructions", 13, SOFT, "end")
 
-for number, (name, ratios) in enumerate(rows):
-    y = 94 + step * number
-    mean = number == len(rows) - 1
-    picture.text(LEFT - 14, y + 1.5 * BAR + 5, name, 13, INK, "end", mean)
-    for place, (ratio, color) in enumerate(zip(ratios, MAPS.values())):
-        one, end, top = x_of(1), x_of(ratio), y + BAR * place
+def draw_bars(picture, scale, title, ratios, y):
+    picture.text(scale.left - 12, y + len(ratios) * BAR / 2 + 5, title, 12.5, INK, "end")
+    for place, (ratio, color) in enumerate(zip(ratios, COLORS)):
+        if ratio is None:
+            continue
+        one, end, top = scale.x(1), scale.x(ratio), y + BAR * place
         picture.rect(min(one, end), top + 1, max(abs(end - one), 1), BAR - 2, color, color, 1, 0.5)
-        side = 6 if end >= one else -6
-        picture.text(end + side, top + 11, f"{ratio:.2f}", 11.5, INK, "start" if end >= one else "end")
+        side = 5 if end >= one else -5
+        picture.text(end + side, top + 10, f"{ratio:.2f}", 10.5, INK, "start" if end >= one else "end")
 
-picture.finish("speed.svg")
+
+def draw(name, title, names, groups):
+    """A picture with a column for each group of operations. `names` says which map has which color."""
+    step = len(names) * BAR + GAP
+    bottom = TOP + step * max(len(it) for it in groups)
+    said = "; ".join(
+        f"{head}: " + ", ".join(f"{m} {r:.2f}" for m, r in zip(names, ratios) if r is not None)
+        for group in groups
+        for head, ratios in group
+    )
+    picture = Picture(COLUMN * len(groups) + 30, bottom + 58, title, said)
+    picture.text(24, 38, title, 18, INK, "start", True)
+    x = 24
+    for head, color in zip(names, COLORS):
+        picture.rect(x, 54, 14, 14, color, color, 2)
+        picture.text(x + 21, 66, head, 13, INK, "start")
+        x += 50 + 8 * len(head)
+    picture.text(24, 90, f"{SLOTS:,} slots; a bar to the left of 1 is fewer instructions; log scale", 13, SOFT, "start")
+    every = [it for group in groups for _, ratios in group for it in ratios if it is not None]
+    for number, group in enumerate(groups):
+        scale = Scale(every, COLUMN * number + LABEL)
+        draw_scale(picture, scale, bottom)
+        for place, (head, ratios) in enumerate(group):
+            draw_bars(picture, scale, head, ratios, TOP + step * place)
+    picture.finish(name)
+
+
+def main():
+    rows = results.read(os.path.join(FOLDER, "../../compare/bench/results.tsv"))
+    primary = ratios_of(rows, ["basic", "dense", "hop"])
+    secondary = ratios_of(rows, ["secondary", "sparse", "folded"])
+    title = "Instructions of an operation, divided by those of the Rust crate"
+    half = (len(primary) + 1) // 2
+    draw("speed.svg", title, ["SlotMap", "DenseSlotMap", "HopSlotMap"], [primary[:half], primary[half:]])
+    names = ["SecondaryMap", "SparseSecondaryMap", "SparseSecondaryMap, a folding hasher in Rust too"]
+    half = (len(secondary) + 1) // 2
+    draw("speed_secondary.svg", title, names, [secondary[:half], secondary[half:]])
+
+
+main()

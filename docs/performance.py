@@ -1,0 +1,210 @@
+#!/usr/bin/env python3
+"""Writes the tables of docs/PERFORMANCE.md from compare/bench/results.tsv. With --check nothing is written.
+
+It fails where a table is out of date, where an operation that is slower than 1.25 times the Rust crate's has no cause in the
+page, where a cause is given for one that isn't, and where README.md has other figures.
+"""
+
+import math
+import os
+import re
+import sys
+
+sys.dont_write_bytecode = True
+
+TOP = os.path.dirname(os.path.dirname(os.path.abspath(__file__)))
+sys.path.insert(0, os.path.join(TOP, "compare/bench"))
+
+import operations
+import results
+
+PAGE = os.path.join(TOP, "docs/PERFORMANCE.md")
+README = os.path.join(TOP, "README.md")
+FIGURES = os.path.join(TOP, "compare/bench/results.tsv")
+MAPS = {it.name: it for it in operations.MAPS}
+PRIMARY, SECONDARY = ["basic", "dense", "hop"], ["secondary", "sparse", "folded"]
+HEADS = {name: f"`{it.type}`" for name, it in MAPS.items()} | {"folded": "the same, a folding hasher in Rust too"}
+SLOW = 1.25
+
+# What the lines of README's table on maps have to say, in figures of instructions at 1,000 slots.
+README_FIGURES = {
+    "SlotMap": "look-up {get-live}, insert {insert-room} to {insert}",
+    "DenseSlotMap": "look-up {get-live}, a step of iteration {iter-full}",
+    "HopSlotMap": "removal and insert {churn}, a step of iteration {iter-full}",
+    "SecondaryMap": "look-up {get}",
+    "SparseSecondaryMap": "look-up {get}",
+}
+
+
+def read(path):
+    with open(path, encoding="utf-8") as file:
+        return file.read()
+
+
+class Figures:
+    def __init__(self):
+        self.rows = results.read(FIGURES)
+
+    def row(self, measure, kind, operation, slots):
+        return self.rows.get((measure, kind, operation, slots))
+
+    def ratios(self, measure, kind, slots):
+        found = [self.row(measure, kind, it.name, slots) for it in operations.operations_of(MAPS[kind])]
+        return [it.ratio for it in found if it]
+
+
+def table(head, rows):
+    lines = ["| " + " | ".join(it) + " |" for it in [head, *rows]]
+    return "\n".join([lines[0], "|" + "---|" * len(head), *lines[1:]])
+
+
+def number(slots):
+    return f"{slots:,}"
+
+
+def mean(ratios):
+    return math.exp(sum(math.log(it) for it in ratios) / len(ratios)) if ratios else math.nan
+
+
+def family(kinds):
+    return operations.FAMILIES[MAPS[kinds[0]].family]
+
+
+def counts(figures, kinds, slots):
+    """What each operation costs in instructions, with the means of the ratios below."""
+
+    def cell(kind, operation):
+        row = figures.row("instructions", kind, operation.name, slots)
+        return f"{row.port:.1f} / {row.rust:.1f} = **{row.ratio:.2f}**" if row else "-"
+
+    rows = [[it.title, *[cell(kind, it) for kind in kinds]] for it in family(kinds)]
+    means = [f"**{mean(figures.ratios('instructions', kind, slots)):.2f}**" for kind in kinds]
+    return table(["What", *[HEADS[it] for it in kinds]], [*rows, ["geometric mean", *means]])
+
+
+TIMES = (1_000, 100_000, 1_000_000)
+
+
+def times(figures, kinds):
+    """The ratios of processor time at each number of slots."""
+
+    def cell(kind, operation):
+        found = [figures.row("time", kind, operation.name, it) for it in TIMES]
+        return " · ".join(f"{it.ratio:.2f}" if it else "?" for it in found) if any(found) else "-"
+
+    rows = [[it.title, *[cell(kind, it) for kind in kinds]] for it in family(kinds)]
+    means = [" · ".join(f"{mean(figures.ratios('time', kind, it)):.2f}" for it in TIMES) for kind in kinds]
+    return table(["What", *[HEADS[it] for it in kinds]], [*rows, ["geometric mean", *means]])
+
+
+def summary(figures):
+    """The means of all maps."""
+    rows = []
+    for measure, sizes in (("instructions", (1_000, 100_000)), ("time", TIMES)):
+        for slots in sizes:
+            found = [figures.ratios(measure, kind, slots) for kind in MAPS]
+            if any(found):
+                cells = [f"**{mean(it):.2f}**, to {max(it):.2f}" if it else "-" for it in found]
+                rows.append([f"{measure}, {number(slots)} slots", *cells])
+    return table(["Geometric mean, and the greatest", *HEADS.values()], rows)
+
+
+def memory(figures):
+    slots = 1_000_000
+
+    def cell(kind, operation):
+        row = figures.row("memory", kind, operation, slots)
+        return f"{row.port:.1f} / {row.rust:.1f} = **{row.ratio:.2f}**" if row else "-"
+
+    kinds = [it for it in MAPS if it != "folded"]
+    names = {"insert": "from an empty map", "insert-room": "with room"}
+    rows = [[title, *[cell(kind, name) for kind in kinds]] for name, title in names.items()]
+    return table(["Bytes for a key", *[HEADS[it] for it in kinds]], rows)
+
+
+TABLES = {
+    "summary": summary,
+    "primary": lambda it: counts(it, PRIMARY, 1_000),
+    "primary-large": lambda it: counts(it, PRIMARY, 100_000),
+    "primary-time": lambda it: times(it, PRIMARY),
+    "secondary": lambda it: counts(it, SECONDARY, 1_000),
+    "secondary-large": lambda it: counts(it, SECONDARY, 100_000),
+    "secondary-time": lambda it: times(it, SECONDARY),
+    "memory": memory,
+}
+
+
+def with_tables(page, figures):
+    """The page with its tables written anew: each stands between two comments."""
+
+    def fresh(match):
+        name = match.group(1)
+        if name not in TABLES:
+            sys.exit(f"docs/PERFORMANCE.md: no table {name}")
+        text = TABLES[name](figures)
+        is_empty = not re.search(r"\d\.\d", text)
+        return f"<!-- table {name} -->\n{'Not measured.' if is_empty else text}\n<!-- end -->"
+
+    return re.sub(r"<!-- table ([\w-]+) -->\n.*?<!-- end -->", fresh, page, flags=re.S)
+
+
+def causes(page):
+    """The operations that the page gives a cause for: the lines `| MAP | OPERATION; OPERATION | CAUSE |`."""
+    titles = {(it.name, op.title): op.name for it in operations.MAPS for op in operations.operations_of(it)}
+    names = {HEADS[name]: name for name in MAPS}
+    found, wrong = set(), []
+    block = page.split("<!-- causes -->")[1].split("<!-- end -->")[0]
+    for line in block.strip().split("\n")[2:]:
+        head, listed, _ = [it.strip() for it in line.strip("|").split("|")]
+        for title in listed.split("; "):
+            operation = titles.get((names.get(head), title))
+            if operation is None:
+                wrong.append(f"docs/PERFORMANCE.md: {head} has no {title}")
+            found.add((names.get(head), operation))
+    return found, wrong
+
+
+def faults_of_causes(page, figures):
+    given, wrong = causes(page)
+    slow = {
+        (kind, operation)
+        for (measure, kind, operation, slots), row in figures.rows.items()
+        if measure == "instructions" and slots == 1_000 and round(row.ratio, 2) > SLOW
+    }
+    wrong += [f"docs/PERFORMANCE.md: no cause for {kind} {operation}" for kind, operation in sorted(slow - given)]
+    wrong += [f"docs/PERFORMANCE.md: {kind} {operation} needs no cause" for kind, operation in sorted(given - slow, key=str)]
+    return wrong
+
+
+def faults_of_readme(figures):
+    text, wrong = read(README), []
+    for name, form in README_FIGURES.items():
+        kind = next(it.name for it in operations.MAPS if it.type == name)
+        ratios = {
+            op.name: f"{figures.row('instructions', kind, op.name, 1_000).ratio:.2f}"
+            for op in operations.operations_of(MAPS[kind])
+        }
+        wanted = re.sub(r"\{([\w-]+)\}", lambda it: ratios[it.group(1)], form)
+        line = next(it for it in text.split("\n") if it.startswith(f"| `{name}` |"))
+        if wanted not in line:
+            wrong.append(f"README.md, line of {name}: {wanted}")
+    return wrong
+
+
+def main():
+    if sys.argv[1:] not in ([], ["--check"]):
+        sys.exit("usage: docs/performance.py [--check]")
+    figures, page = Figures(), read(PAGE)
+    fresh = with_tables(page, figures)
+    wrong = faults_of_causes(page, figures) + faults_of_readme(figures)
+    if fresh != page and sys.argv[1:] == ["--check"]:
+        wrong.append("docs/PERFORMANCE.md is out of date")
+    elif fresh != page:
+        with open(PAGE, "w", encoding="utf-8") as file:
+            file.write(fresh)
+    print("\n".join(wrong), end="\n" if wrong else "")
+    return 1 if wrong else 0
+
+
+if __name__ == "__main__":
+    sys.exit(main())
