@@ -43,6 +43,7 @@ impl<K: Key, V: Drop> SlotMap<K, V> {
     }
 
     // Returns the live key with the smallest index from `start` on.
+    #[inline(always)]
     pub(crate) fn live_from(&self, start: usize) -> Option<K>
         ensures live { IfSome result (λ key.
             IsLive self.now (K.data_of key) × (start ≤ (K.data_of key).index)) }

@@ -1,9 +1,13 @@
 -- Three vectors as one list of slots.
-use Rattle.std.proofs.Common.{◌≡◌, ℕ, zero, suc, ◌<◌, ◌≤◌, List, [], ◌∷◌, ◌++◌, length, set, slice_get, get_or, Option, None, Some, IsSome, option_and_then, refl, sym, ap, ◌∙◌, arith}
+use Rattle.std.proofs.Common.{◌≡◌, ℕ, zero, suc, ◌<◌, ◌≤◌, ◌%◌, List, [], ◌∷◌, ◌++◌, length, set, slice_get, get_or, Option, None, Some, IsSome, option_and_then, refl, sym, ap, subst, ◌∙◌, arith}
+use Rattle.std.proofs.lemmas.Grind.{get_or_default_zero}
 use Rattle.std.proofs.lemmas.Option.{slice_get_read, slice_get_past}
-use Rattle.slotmap_core.specs.Slot.{Laid, version_at, link_at, payload_at, with_payload}
+use Rattle.slotmap_core.specs.Slot.{Laid, version_at, link_at, next_at, next_of, payload_at, with_payload}
 use Rattle.slotmap_core.specs.Columns.{zip_slots, IsColumns}
+use Rattle.slotmap_core.specs.Numbers.{link_of, links_of}
 use Rattle.slotmap_core.specs.declared.layout.Link.{Link}
+use Rattle.slotmap_core.specs.declared.layout.Link.TheVariants.{InUse}
+use Rattle.slotmap_core.proofs.NumberLemmas.{free_is, links-length, links-at, links-set, links-put, links-push}
 
 module _ {P : Type 0} where
   pub zip-length : (vs : List ℕ) (ls : List Link) (xs : List (Option P)) → length ls ≡ length vs → length xs ≡ length vs → length (zip_slots vs ls xs) ≡ length vs
@@ -28,23 +32,37 @@ module _ {P : Type 0} where
   zip-within (v ∷ vs) (l ∷ ls) (x ∷ xs) (suc i) some = omega (arith, zip-within vs ls xs i some)
   zip-within vs ls xs i some = absurd (cc)
 
-  -- What the tactics need of three vectors of one length: their slots first, then what each read of the vectors says of these
+  zip-within_free : (vs : List ℕ) (ls : List Link) (xs : List (Option P)) (i : ℕ) → IsSome (next_at (zip_slots vs ls xs) i) → i < length vs
+  zip-within_free (v ∷ vs) (l ∷ ls) (x ∷ xs) zero some = omega arith
+  zip-within_free (v ∷ vs) (l ∷ ls) (x ∷ xs) (suc i) some = omega (arith, zip-within_free vs ls xs i some)
+  zip-within_free vs ls xs i some = absurd (cc)
+
+  zip-next : (vs : List ℕ) (ls : List Link) (xs : List (Option P)) (i : ℕ) → length ls ≡ length vs → length xs ≡ length vs → next_at (zip_slots vs ls xs) i ≡ option_and_then next_of (slice_get ls i)
+  zip-next [] [] [] i same_l same_x = refl
+  zip-next (v ∷ vs) (l ∷ ls) (x ∷ xs) zero same_l same_x = refl
+  zip-next (v ∷ vs) (l ∷ ls) (x ∷ xs) (suc i) same_l same_x = zip-next vs ls xs i (omega arith) (omega arith)
+  zip-next vs ls xs i same_l same_x = absurd (omega arith)
+
+  zip-link : (vs : List ℕ) (ls : List Link) (xs : List (Option P)) (i : ℕ) → length ls ≡ length vs → length xs ≡ length vs → link_at (zip_slots vs ls xs) i ≡ slice_get ls i
+  zip-link vs ls xs i same_l same_x = (zip-reads vs ls xs i same_l same_x).1
+
+  -- What each read of the vectors says of their slots
   pub zip-known : (vs : List ℕ) (ls : List Link) (xs : List (Option P)) → length ls ≡ length vs → length xs ≡ length vs → (zip_slots vs ls xs ≡ zip_slots vs ls xs) × (length (zip_slots vs ls xs) ≡ length vs)
       × ((i : ℕ) → version_at (zip_slots vs ls xs) i ≡ slice_get vs i)
       × ((i v : ℕ) → i < length vs → v ≡ get_or vs i v → version_at (zip_slots vs ls xs) i ≡ Some v)
       × ((i : ℕ) → length vs ≤ i → version_at (zip_slots vs ls xs) i ≡ None)
-      × ((i : ℕ) (l : Link) → i < length vs → l ≡ get_or ls i l → link_at (zip_slots vs ls xs) i ≡ Some l)
       × ((i : ℕ) (o : Option P) → i < length vs → o ≡ get_or xs i o → payload_at (zip_slots vs ls xs) i ≡ o)
       × ((i : ℕ) → IsSome (payload_at (zip_slots vs ls xs) i) → i < length vs)
+      × ((i : ℕ) → IsSome (next_at (zip_slots vs ls xs) i) → i < length vs)
   zip-known vs ls xs same_l same_x = (
     refl,
     zip-length vs ls xs same_l same_x,
     λ i. (zip-reads vs ls xs i same_l same_x).0,
     λ i v within read. (zip-reads vs ls xs i same_l same_x).0 ∙ slice_get_read vs _ i v refl within read,
     λ i past. (zip-reads vs ls xs i same_l same_x).0 ∙ slice_get_past vs i past,
-    λ i l within read. (zip-reads vs ls xs i same_l same_x).1 ∙ slice_get_read ls _ i l refl (omega arith) read,
     λ i o within read. (zip-reads vs ls xs i same_l same_x).2 ∙ ap (option_and_then (λ x. x)) (slice_get_read xs _ i o refl (omega arith) read),
     zip-within vs ls xs,
+    zip-within_free vs ls xs,
   )
 
   pub zip-set : (vs : List ℕ) (ls : List Link) (xs : List (Option P)) (i v : ℕ) (l : Link) (x : Option P) → zip_slots (set vs i v) (set ls i l) (set xs i x) ≡ set (zip_slots vs ls xs) i (record { version = v; link = l; payload = x })
@@ -63,7 +81,52 @@ module _ {P : Type 0} where
   zip-with_payload vs ls xs i p = refl
 
 -- the same for vectors that hold slots, by what they hold
-pub laid-length : {P : Type 0} {vs : List ℕ} {ls : List Link} {xs : List (Option P)} {n a b d : ℕ} → IsColumns vs ls xs n a b d → {l : Laid P} → record { slots = zip_slots vs ls xs; capacity = n } ≡ l → (length l.slots ≡ length vs) × (l.capacity ≡ n)
-laid-length {P} {vs} {ls} {xs} columns view = (ap (λ l. length l.slots) (sym view) ∙ zip-length vs ls xs columns.links_length columns.payloads_length, ap (λ l. l.capacity) (sym view))
+pub laid-length : {P : Type 0} {vs ns : List ℕ} {xs : List (Option P)} {n a b d : ℕ} → IsColumns vs ns xs n a b d → {l : Laid P} → record { slots = zip_slots vs (links_of vs ns) xs; capacity = n } ≡ l → (length l.slots ≡ length vs) × (l.capacity ≡ n)
+laid-length {P} {vs} {ns} {xs} columns view =
+    (ap (λ l. length l.slots) (sym view) ∙ zip-length vs (links_of vs ns) xs (links-length vs ns columns.numbers_length) columns.payloads_length, ap (λ l. l.capacity) (sym view))
 
-pub ruleset laid = (zip-known, zip-set, zip-push)
+-- what the tactics need of three vectors of one length, whose links are numbers
+pub laid-known : {P : Type 0} (vs ns : List ℕ) (xs : List (Option P)) → length ns ≡ length vs → length xs ≡ length vs → (zip_slots vs (links_of vs ns) xs ≡ zip_slots vs (links_of vs ns) xs) × (length (zip_slots vs (links_of vs ns) xs) ≡ length vs)
+    × ((i : ℕ) → version_at (zip_slots vs (links_of vs ns) xs) i ≡ slice_get vs i)
+    × ((i v : ℕ) → i < length vs → v ≡ get_or vs i v → version_at (zip_slots vs (links_of vs ns) xs) i ≡ Some v)
+    × ((i : ℕ) → length vs ≤ i → version_at (zip_slots vs (links_of vs ns) xs) i ≡ None)
+    × ((i v n : ℕ) → i < length vs → v ≡ get_or vs i v → n ≡ get_or ns i n → link_at (zip_slots vs (links_of vs ns) xs) i ≡ Some (link_of v n))
+    × ((i : ℕ) (o : Option P) → i < length vs → o ≡ get_or xs i o → payload_at (zip_slots vs (links_of vs ns) xs) i ≡ o)
+    × ((i : ℕ) → IsSome (payload_at (zip_slots vs (links_of vs ns) xs) i) → i < length vs)
+    × ((i : ℕ) → IsSome (next_at (zip_slots vs (links_of vs ns) xs) i) → i < length vs)
+    × ((i n : ℕ) → n ≡ get_or ns i n → IsSome (next_at (zip_slots vs (links_of vs ns) xs) i) → next_at (zip_slots vs (links_of vs ns) xs) i ≡ Some n)
+laid-known vs ns xs same_n same_x =
+    let ls = links_of vs ns in
+    let same_l = links-length vs ns same_n in
+    let known = zip-known vs ls xs same_l same_x in
+    let at : (i v n : ℕ) → i < length vs → v ≡ get_or vs i v → n ≡ get_or ns i n → slice_get ls i ≡ Some (link_of v n) =
+    λ i v n within read_v read_n. links-at vs ns i v n (slice_get_read vs _ i v refl within read_v) (slice_get_read ns _ i n refl (omega arith) read_n) in (
+      refl,
+      known.1,
+      known.2,
+      known.3,
+      known.4,
+      λ i v n within read_v read_n. zip-link vs ls xs i same_l same_x ∙ at i v n within read_v read_n,
+      known.5,
+      known.6,
+      known.7,
+      λ i n read some.
+          let within = known.7 i some in
+          let v = get_or vs i 0 in
+          let next = zip-next vs ls xs i same_l same_x ∙ ap (option_and_then next_of) (at i v n within (sym (get_or_default_zero vs i v within)) read) in
+          next ∙ free_is v n (subst IsSome next some),
+    )
+
+-- one more slot, and one that is put to use
+module _ {P : Type 0} (vs ns : List ℕ) (xs : List (Option P)) where
+  pub laid-push : (v n : ℕ) (l : Link) (x : Option P) → length ns ≡ length vs → length xs ≡ length vs → link_of v n ≡ l
+      → zip_slots (vs ++ v ∷ []) (links_of (vs ++ v ∷ []) (ns ++ n ∷ [])) (xs ++ x ∷ []) ≡ zip_slots vs (links_of vs ns) xs ++ record { version = v; link = l; payload = x } ∷ []
+  laid-push v n l x same_n same_x is =
+      ap (λ ls. zip_slots (vs ++ v ∷ []) ls (xs ++ x ∷ [])) (links-push vs ns v n same_n)
+      ∙ zip-push vs (links_of vs ns) xs v (link_of v n) x (links-length vs ns same_n) same_x
+      ∙ ap (λ l. zip_slots vs (links_of vs ns) xs ++ record { version = v; link = l; payload = x } ∷ []) is
+
+  pub laid-put : (i v : ℕ) (x : Option P) → v % 2 ≡ 1 → zip_slots (set vs i v) (links_of (set vs i v) ns) (set xs i x) ≡ set (zip_slots vs (links_of vs ns) xs) i (record { version = v; link = InUse; payload = x })
+  laid-put i v x odd = ap (λ ls. zip_slots (set vs i v) ls (set xs i x)) (links-put vs ns i v odd) ∙ zip-set vs (links_of vs ns) xs i v InUse x
+
+pub ruleset laid = (laid-known, links-set, links-push, zip-set, zip-push)

@@ -8,6 +8,7 @@ pub mod GatherLemmas
 pub mod PlacesLemmas
 pub mod WalkLemmas
 pub mod ColumnLemmas
+pub mod NumberLemmas
 pub mod RowLemmas
 pub mod StackLemmas
 pub mod ContentLemmas

@@ -1,37 +1,51 @@
 -- One vector of rows as a list of slots.
-use Rattle.std.proofs.Common.{◌≡◌, ℕ, zero, suc, ◌+◌, ◌%◌, List, [], ◌∷◌, set, slice_get, get_or, Some, IsSome, option_map, ⊎_elim, refl, sym, ap, ◌∙◌, arith}
+use Rattle.std.proofs.Common.{◌≡◌, ℕ, zero, suc, ◌+◌, ◌%◌, ◌==◌, cond, Bool, true, false, List, [], ◌∷◌, set, slice_get, get_or, Some, None, IsSome, option_map, ⊎_elim, refl, sym, ap, ◌∙◌, arith}
 use Rattle.std.proofs.lemmas.Bool.{cases_lt}
 use Rattle.std.proofs.lemmas.Option.{slice_get-map, same_Some}
 use Rattle.std.proofs.lemmas.List.{map-set}
-use Rattle.slotmap_core.specs.Slot.{payload_at, with_payload, NoneLive}
-use Rattle.slotmap_core.specs.Rows.{slot_of, slots_of, link_of, payload_of}
-use Rattle.slotmap_core.specs.declared.layout.Link.TheVariants.{InUse}
+use Rattle.slotmap_core.specs.Slot.{FitsEmpty, empty, payload_at, version_at, next_at, with_payload, NoneLive}
+use Rattle.slotmap_core.specs.Numbers.{number_of}
+use Rattle.slotmap_core.specs.Rows.{slot_of, slots_of, payload_of}
+use Rattle.slotmap_core.specs.declared.layout.Link.{Link}
 use Rattle.slotmap_core.specs.declared.layout.rows.Row.{Row}
-use Rattle.slotmap_core.specs.declared.layout.rows.Use.{Use}
-use Rattle.slotmap_core.specs.declared.layout.rows.Use.TheVariants.{Full}
+use Rattle.slotmap_core.proofs.NumberLemmas.{even_row, free_is, link-empty}
 
-module _ {P : Type 0} where
-  pub row-at : (rows : List (Row P)) (i : ℕ) (r : Row P) → slice_get rows i ≡ Some r → slice_get (slots_of rows) i ≡ Some (slot_of r)
-  row-at rows i r there = slice_get-map slot_of rows i ∙ ap (option_map slot_of) there
+pub row-at : (rows : List Row) (i : ℕ) (r : Row) → slice_get rows i ≡ Some r → slice_get (slots_of rows) i ≡ Some (slot_of r)
+row-at rows i r there = slice_get-map slot_of rows i ∙ ap (option_map slot_of) there
 
-  in_use : (u : Use P) → IsSome (payload_of u) → link_of u ≡ InUse
-  in_use (Full p) some = refl
-  in_use u some = absurd (cc)
+-- a row with a payload has an odd version
+odd_row : (b : Bool) (n : ℕ) → IsSome (cond b (Some n) None) → b ≡ true
+odd_row true n some = refl
+odd_row false n some = absurd (cc)
 
-  -- the value that a read of a row with a payload returns
-  pub row-payload : (rows : List (Row P)) (i : ℕ) (r : Row P) → r ≡ get_or rows i r → IsSome (payload_at (slots_of rows) i) → payload_at (slots_of rows) i ≡ payload_of r.used
-  row-payload [] i r read some = absurd (cc)
-  row-payload (q ∷ rows) zero r read some = ap (λ (x : Row P). payload_of x.used) (sym read)
-  row-payload (q ∷ rows) (suc i) r read some = row-payload rows i r read some
+in_use : (v n : ℕ) → IsSome (payload_of v n) → (v % 2 == 1) ≡ true
+in_use v n some = odd_row (v % 2 == 1) n some
 
-  pub row-with_payload : (rows : List (Row P)) (i : ℕ) (r : Row P) (p : P) → r ≡ get_or rows i r → IsSome (payload_at (slots_of rows) i) → slots_of (set rows i (record { version = r.version; used = Full p })) ≡ with_payload (slots_of rows) i p
-  row-with_payload [] i r p read some = refl
-  row-with_payload (q ∷ rows) zero r p read some = rw (read, in_use q.used some) refl
-  row-with_payload (q ∷ rows) (suc i) r p read some = ap (λ ss. slot_of q ∷ ss) (row-with_payload rows i r p read some)
+-- the value that a read of a row with a payload returns
+pub row-payload : (rows : List Row) (i : ℕ) (r : Row) → r ≡ get_or rows i r → IsSome (payload_at (slots_of rows) i) → payload_at (slots_of rows) i ≡ Some r.number
+row-payload [] i r read some = absurd (cc)
+row-payload (q ∷ rows) zero r read some = ap (λ b. cond b (Some q.number) None) (in_use q.version q.number some) ∙ ap (λ (x : Row). Some x.number) (sym read)
+row-payload (q ∷ rows) (suc i) r read some = row-payload rows i r read some
 
-  pub NoneLive-more : (rows : List (Row P)) (start i : ℕ) (r : Row P) → NoneLive (slots_of rows) start i → slice_get rows i ≡ Some r → r.version % 2 ≡ 0 → NoneLive (slots_of rows) start (i + 1)
-  NoneLive-more rows start i r even there last j v from below at =
-      ⊎_elim (λ earlier. even j v from earlier at) (λ past. let here : j ≡ i = omega arith in omega (arith, last, same_Some r.version v (sym (ap (option_map (λ s. s.version)) (row-at rows i r there)) ∙ rw here at at))) (cases_lt j i)
+pub row-with_payload : (rows : List Row) (i : ℕ) (r : Row) (p : ℕ) → r ≡ get_or rows i r → IsSome (payload_at (slots_of rows) i) → slots_of (set rows i (record r { number = p })) ≡ with_payload (slots_of rows) i p
+row-with_payload [] i r p read some = refl
+row-with_payload (q ∷ rows) zero r p read some = rw (read, in_use q.version q.number some) refl
+row-with_payload (q ∷ rows) (suc i) r p read some = ap (λ ss. slot_of q ∷ ss) (row-with_payload rows i r p read some)
+
+-- what a read of a free row returns
+pub row-next : (rows : List Row) (i : ℕ) (r : Row) → r ≡ get_or rows i r → IsSome (next_at (slots_of rows) i) → next_at (slots_of rows) i ≡ Some r.number
+row-next [] i r read some = absurd (cc)
+row-next (q ∷ rows) zero r read some =
+    free_is q.version q.number some ∙ ap (λ (x : Row). Some x.number) (sym read)
+row-next (q ∷ rows) (suc i) r read some = row-next rows i r read some
+
+-- the row of a slot that isn't in use
+pub slot-empty : (v : ℕ) (l : Link) → FitsEmpty v l → slot_of (record { version = v; number = number_of l }) ≡ empty v l
+slot-empty v l fits = λ j. record { version = v; link = link-empty v l fits j; payload = ap (λ b. cond b (Some (number_of l)) None) (even_row v fits.even) j }
+
+pub NoneLive-more : (rows : List Row) (start i v : ℕ) → NoneLive (slots_of rows) start i → version_at (slots_of rows) i ≡ Some v → v % 2 ≡ 0 → NoneLive (slots_of rows) start (i + 1)
+NoneLive-more rows start i v even there last j w from below at =
+    ⊎_elim (λ earlier. even j w from earlier at) (λ past. let here : j ≡ i = omega arith in omega (arith, last, same_Some v w (sym there ∙ rw here at at))) (cases_lt j i)
 
 -- what the tactics need of written rows
 pub ruleset laid = (map-set)

@@ -1,5 +1,6 @@
 -- How an insert fills a slot or adds one, and what a look-up of a detached key reads.
-use Rattle.std.proofs.Common.{⊎_elim, true, false, ◌==◌, ◌≡◌, ◌≢◌, ℕ, ◌+◌, ◌-◌, ◌^◌, ◌<◌, List, [], ◌∷◌, ◌++◌, length, set, slice_get, Some, None, option_map, refl, sym, ap, subst, ◌∙◌, arith}
+use Rattle.std.proofs.Common.{⊎_elim, true, false, ◌==◌, ◌≡◌, ◌≢◌, ℕ, ◌+◌, ◌-◌, ◌^◌, ◌<◌, List, [], ◌∷◌, ◌++◌, length, set, slice_get, Some, None, option_map, option_and_then, refl, sym, ap, subst, ◌∙◌, inl, ◌↔◌, arith}
+use Rattle.std.proofs.Math.Nat.{eq-zero-or-pos}
 use Rattle.std.proofs.lemmas.List.{length-map, map_push}
 use Rattle.std.proofs.lemmas.Option.{slice_get_within, same_Some}
 use Rattle.std.specs.FinMap as map
@@ -9,8 +10,8 @@ use Rattle.slotmap_core.specs.Key.{Key, key_cmp}
 use Rattle.slotmap_core.specs.Content.{most}
 use Rattle.slotmap_core.specs.Transition.{Inserts}
 use Rattle.slotmap_core.specs.Places.{Live, Detached as Kept, Vacant, live, detached, is_kept}
-use Rattle.slotmap_core.specs.StackMap.{content, offer, vacant_version, taken, inserted, IsVersion, HasVersion, IsStacked}
-use Rattle.slotmap_core.specs.Slot.{Slot, full, empty, version_at, link_at, version_before, place_of, places_of, walk, IsFreeList, IsSlot, IsSound, map_of}
+use Rattle.slotmap_core.specs.StackMap.{content, offer, vacant_version, taken, inserted, IsOn, IsVersion, HasVersion, IsStacked}
+use Rattle.slotmap_core.specs.Slot.{Slot, full, empty, version_at, link_at, next_at, next_of, version_before, place_of, places_of, walk, IsFreeList, IsSlot, IsSound, map_of}
 use Rattle.slotmap_core.specs.declared.layout.Link.{Link}
 use Rattle.slotmap_core.specs.declared.layout.Link.TheVariants.{Free, Detached}
 use Rattle.slotmap_core.proofs.ListLemmas.{found_within, mapped}
@@ -69,6 +70,23 @@ module _ {P : Type 0} (slots : List (Slot P)) (head free count : ℕ) (sound : I
   inserts-pushed w c below none =
       rw (none, map_push place_of slots (full 1 w)) (inserts (places_of slots) [] c c (offer (places_of slots) []) w (rw none at (stacked_walk slots head free count sound)) below refl (omega arith))
 
+  -- the free list starts with index 0 if and only if it has no slot
+  head_is : (is : List ℕ) → sound.stack ≡ is → IsFreeList slots is head → length is ≡ free → head ≡ 0 ↔ free ≡ 0
+  head_is [] same linked counted = (λ _. sym counted, λ _. linked)
+  head_is (i ∷ is) same linked counted =
+      let positive = (sound.stacked.listed i (subst (λ is. IsOn is i) (sym same) (inl refl))).0 in
+      (λ none. absurd (omega (arith, linked.0)), λ none. absurd (omega arith))
+
+  pub none_free : head ≡ 0 → free ≡ 0
+  none_free none = (head_is sound.stack refl sound.linked sound.counted).0 none
+
+  pub some_free : head ≢ 0 → 0 < free
+  some_free other = ⊎_elim (λ none. absurd (other ((head_is sound.stack refl sound.linked sound.counted).1 none))) (λ some. omega arith) (eq-zero-or-pos free)
+
+  -- then the next key has a new place
+  pub offer-new : head ≡ 0 → offer (places_of slots) (walk slots free head) ≡ key (length slots) 1
+  offer-new none = ap (λ n. offer (places_of slots) (walk slots n head)) (none_free none) ∙ ap (λ n. key n 1) (length-map slots place_of)
+
   -- else the place on top of the stack is filled
   pub record Top : Type 0 where
     pub rest : List ℕ
@@ -109,8 +127,8 @@ module _ {P : Type 0} (slots : List (Slot P)) (head free count : ℕ) (sound : I
   pub top_read : version_at slots head ≡ Some t.version
   top_read = ap (option_map (λ s. s.version)) t.there
 
-  pub top_link : link_at slots head ≡ Some (Free t.next)
-  top_link = ap (option_map (λ s. s.link)) t.there
+  pub top_next : next_at slots head ≡ Some t.next
+  top_next = ap (option_and_then (λ s. next_of s.link)) t.there
 
   pub walk-top : walk slots free head ≡ head ∷ t.rest
   walk-top = walk-stack slots head free count sound ∙ t.whole
@@ -133,9 +151,6 @@ module _ {P : Type 0} (slots : List (Slot P)) (head free count : ℕ) (sound : I
       ∙ ap (λ p. record { places = set (places_of slots) head (Live (vacant_version p) w); vacant = t.rest; capacity = c }) top_place) in
       subst (λ n. Inserts (content (map_of slots head free c)) (offer (places_of slots) (walk slots free head)) w (content n)) (sym after)
       (inserts (places_of slots) (walk slots free head) c c (offer (places_of slots) (walk slots free head)) w (stacked_walk slots head free count sound) below refl (omega arith))
-
-pub same_next : (a b : ℕ) → Free a ≡ Free b → a ≡ b
-same_next a b is = cc
 
 -- what the code reads of a key that may be detached
 module _ {P : Type 0} (slots : List (Slot P)) (head free count : ℕ) (sound : IsSound slots head free count) (k : Key) where

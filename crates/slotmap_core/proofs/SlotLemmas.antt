@@ -8,7 +8,7 @@ use Rattle.slotmap_core.specs.Content.{IsContent}
 use Rattle.slotmap_core.specs.Transition.{with_value, Removes, Detaches, Reattaches}
 use Rattle.slotmap_core.specs.Places.{Live, Detached as Kept, Vacant, Retired as UsedUp, live, live_entry}
 use Rattle.slotmap_core.specs.StackMap.{removed, content, taken, kept_out, IsOn, IsVersion, HasVersion, IsStacked}
-use Rattle.slotmap_core.specs.Slot.{Slot, full, empty, version_at, link_at, payload_at, with_payload, version_before, place_of, places_of, link_next, walk, IsFreeList, IsSlot, IsSound, map_of}
+use Rattle.slotmap_core.specs.Slot.{Slot, FitsEmpty, full, empty, version_at, link_at, payload_at, with_payload, version_before, place_of, places_of, link_next, walk, IsFreeList, IsSlot, IsSound, map_of}
 use Rattle.slotmap_core.specs.declared.layout.Link.{Link}
 use Rattle.slotmap_core.specs.declared.layout.Link.TheVariants.{InUse, Free, Detached, Retired}
 use Rattle.slotmap_core.proofs.ListLemmas.{found_within, mapped, none_from}
@@ -18,6 +18,22 @@ use Rattle.slotmap_core.proofs.PlacesLemmas.{key, get-live_at, len-live-set, tot
 use Rattle.slotmap_core.proofs.ContentLemmas.{some_is, live_at, IsContent-stacked}
 use Rattle.slotmap_core.proofs.StackLemmas.{not_on, IsStacked-kept, IsStacked-freed}
 use Rattle.slotmap_core.proofs.StepLemmas.{content-written, removes, detaches, reattaches}
+
+-- what an empty slot can have
+pub FitsEmpty-free : (v next : ℕ) → v % 2 ≡ 0 → next < 2 ^ 32 - 1 → (v ≡ 0 → next ≡ 0) → FitsEmpty v (Free next)
+FitsEmpty-free v next even named first = record {
+  even = even;
+  unused = λ e. absurd (cc);
+  spent = λ e. absurd (cc);
+  named = λ n e. (let same : next ≡ n = cc in omega arith);
+  first = λ n e none. (let same : next ≡ n = cc in sym same ∙ first none);
+}
+
+pub FitsEmpty-detached : (v : ℕ) → v % 2 ≡ 0 → FitsEmpty v Detached
+FitsEmpty-detached v even = record { even = even; unused = λ e. absurd (cc); spent = λ e. absurd (cc); named = λ n e. absurd (cc); first = λ n e none. absurd (cc) }
+
+pub FitsEmpty-retired : FitsEmpty 0 Retired
+FitsEmpty-retired = record { even = refl; unused = λ e. absurd (cc); spent = λ e. refl; named = λ n e. absurd (cc); first = λ n e none. absurd (cc) }
 
 module _ {P : Type 0} where
   -- the slot at an index, by its version
@@ -36,6 +52,13 @@ module _ {P : Type 0} where
 
   pub IsSlot-empty : (v : ℕ) (l : Link) → v % 2 ≡ 0 → l ≢ InUse → (l ≡ Retired → v ≡ 0) → IsSlot {P = P} (empty v l)
   IsSlot-empty v l even other spent = record { odd = (λ some. absurd (cc), λ odd. absurd (omega arith)); in_use = (λ some. absurd (cc), λ is. absurd (other is)); spent = spent }
+
+  -- the free list starts with the index of a slot
+  pub head_within : (slots : List (Slot P)) (is : List ℕ) (head : ℕ) → 0 < length slots → IsFreeList slots is head → head < length slots
+  head_within slots [] head some linked = omega arith
+  head_within slots (j ∷ js) head some linked =
+      let there = mapped (λ s. s.link) (slice_get slots j) _ linked.1.1 in
+      omega (arith, slice_get_within slots j there.0 there.1, linked.0)
 
   -- the places
   pub place_at : (slots : List (Slot P)) (i : ℕ) (s : Slot P) → slice_get slots i ≡ Some s → slice_get (places_of slots) i ≡ Some (place_of s)
@@ -83,13 +106,16 @@ module _ {P : Type 0} (slots : List (Slot P)) (head free count : ℕ) (sound : I
   pub slots_fit : length slots < 2 ^ 32
   slots_fit = omega (arith, length-map slots place_of, sound.stacked.fits)
 
-  -- what the map holds is well formed
-  pub valid : (c : ℕ) → length slots ≤ c → IsContent true (content (map_of slots head free (c - 1)))
-  valid c holds = IsContent-stacked (map_of slots head free (c - 1)) stacked_walk (omega (arith, length-map slots place_of))
-
   -- the places that no insert can use, the vacant ones and the sentinel are all of them
   pub taken-slots : taken (places_of slots) + free + 1 ≡ length slots
   taken-slots = omega (arith, total (places_of slots) 1 sound.stacked.sentinel, length-map slots place_of, sound.stacked.counted, sound.counted)
+
+  pub head_fits : head < 2 ^ 32 - 1
+  head_fits = omega (arith, head_within slots sound.stack head (omega (arith, taken-slots)) sound.linked, slots_fit)
+
+  -- what the map holds is well formed
+  pub valid : (c : ℕ) → length slots ≤ c → IsContent true (content (map_of slots head free (c - 1)))
+  valid c holds = IsContent-stacked (map_of slots head free (c - 1)) stacked_walk (omega (arith, length-map slots place_of))
 
   -- the live and the vacant places and the sentinel are among the slots
   pub free_below : count + free + 1 ≤ length slots

@@ -17,10 +17,10 @@ module _ {P : Type 0} where
 
   -- the three have one length, and each holds at least `capacity` elements without allocating: a, b and c are their
   -- capacities
-  pub record IsColumns (versions : List ℕ) (links : List Link) (payloads : List (Option P)) (capacity a b c : ℕ) : Type 0 where
-    pub links_length : length links ≡ length versions
+  pub record IsColumns (versions numbers : List ℕ) (payloads : List (Option P)) (capacity a b c : ℕ) : Type 0 where
+    pub numbers_length : length numbers ≡ length versions
     pub payloads_length : length payloads ≡ length versions
     pub limit : capacity < 2 ^ 32
     pub versions_fit : capacity ≤ a
-    pub links_fit : capacity ≤ b
+    pub numbers_fit : capacity ≤ b
     pub payloads_fit : capacity ≤ c

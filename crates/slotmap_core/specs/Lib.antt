@@ -21,9 +21,9 @@ pub mod Places
 pub mod StackMap
 pub mod Slot
 pub mod LayoutLends
+pub mod Numbers
 pub mod Columns
 pub mod Rows
-pub mod RowsLend
 pub mod SlotsLend
 pub mod Walk
 pub mod Slots

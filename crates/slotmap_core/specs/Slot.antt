@@ -1,5 +1,5 @@
 -- The slots of a map: what code keeps at each index. No public clause of a map cites this module.
-use Rattle.std.specs.Prelude.{◌≡◌, ◌↔◌, ℕ, zero, suc, ◌+◌, ◌-◌, ◌%◌, ◌^◌, ◌<◌, ◌≤◌, List, [], ◌∷◌, length, map as list_map, Option, Some, None, IsSome, option_map, option_and_then, slice_get}
+use Rattle.std.specs.Prelude.{◌≡◌, ◌≢◌, ◌↔◌, ℕ, zero, suc, ◌+◌, ◌-◌, ◌%◌, ◌^◌, ◌<◌, ◌≤◌, List, [], ◌∷◌, length, map as list_map, Option, Some, None, IsSome, option_map, option_and_then, slice_get}
 use Rattle.std.specs.FinMap as map
 use Rattle.slotmap_core.specs.Places.{Place, Live, Detached as Kept, Vacant, Retired as UsedUp, live}
 use Rattle.slotmap_core.specs.StackMap.{StackMap, IsStacked}
@@ -11,6 +11,22 @@ pub record Slot (P : Type 0) : Type 0 where
   pub version : ℕ
   pub link : Link
   pub payload : Option P
+
+-- the slot that a free one names
+abbrev pub next_of : Link → Option ℕ
+next_of (Free next) = Some next
+next_of Detached = None
+next_of Retired = None
+next_of InUse = None
+
+-- A slot that isn't in use can have this version and this link. A retired slot has version 0, and of the free ones the sentinel
+-- alone, which names itself. No slot has the last index
+pub record FitsEmpty (version : ℕ) (link : Link) : Type 0 where
+  pub even : version % 2 ≡ 0
+  pub unused : link ≢ InUse
+  pub spent : link ≡ Retired → version ≡ 0
+  pub named : (next : ℕ) → link ≡ Free next → next < 2 ^ 32 - 1
+  pub first : (next : ℕ) → link ≡ Free next → version ≡ 0 → next ≡ 0
 
 module _ {P : Type 0} where
   -- a slot that is in use
@@ -30,6 +46,10 @@ module _ {P : Type 0} where
 
   abbrev pub payload_at : List (Slot P) → ℕ → Option P
   payload_at slots i = option_and_then (λ s. s.payload) (slice_get slots i)
+
+  -- the next slot of the free list, if the slot at an index is free
+  abbrev pub next_at : List (Slot P) → ℕ → Option ℕ
+  next_at slots i = option_and_then (λ s. next_of s.link) (slice_get slots i)
 
   -- the slots with another payload at this index
   abbrev pub with_payload : List (Slot P) → ℕ → P → List (Slot P)
@@ -100,11 +120,16 @@ module _ {P : Type 0} where
     pub live_counted : map.len (live (places_of slots)) ≡ count
     pub stacked : IsStacked (places_of slots) stack
 
+-- so many slots are free if `count` have a payload, and `kept` are detached or retired; slot 0 is none of these
+abbrev pub vacancies : {P : Type 0} → List (Slot P) → ℕ → ℕ → ℕ
+vacancies slots kept count = length slots - (count + kept + 1)
+
 -- what the slots are, as a map that has memory for this many places
 abbrev pub map_of : {P : Type 0} → List (Slot P) → ℕ → ℕ → ℕ → StackMap P
 map_of slots head free capacity = record { places = places_of slots; vacant = walk slots free head; capacity = capacity }
 
 -- what holds of the slots between calls, in a layout with room for `fits` of them
-pub record IsHeld {P : Type 0} (slots : List (Slot P)) (fits head free count : ℕ) : Type 0 where
-  pub sound : IsSound slots head free count
+pub record IsHeld {P : Type 0} (slots : List (Slot P)) (fits head kept count : ℕ) : Type 0 where
+  pub sound : IsSound slots head (vacancies slots kept count) count
+  pub fewer : count + kept + 1 ≤ length slots
   pub holds : length slots ≤ fits

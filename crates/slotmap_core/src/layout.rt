@@ -1,14 +1,14 @@
 //! How the slots of a map lie in memory.
 
-ghost use Rattle.std.specs.Prelude.{◌≡◌, ◌≢◌, ◌+◌, ◌<◌, ◌≤◌, ◌%◌, ◌^◌, ◌++◌, ◌∷◌, [], ℕ, List, length, Some, None, Option, IsSome, IfOk, OnOk, IfSome, IfNone, slice_get, slice_set};
+ghost use Rattle.std.specs.Prelude.{◌≡◌, ◌+◌, ◌<◌, ◌≤◌, ◌%◌, ◌^◌, ◌++◌, ◌∷◌, [], ℕ, List, length, Some, None, Option, IsSome, IfOk, OnOk, IfSome, IfNone, slice_get, slice_set};
 ghost use Rattle.std.specs.Borrow.{sem};
-ghost use Rattle.slotmap_core.specs.Slot.{Slot, full, empty, version_at, link_at, payload_at, with_payload, NoneLive};
+ghost use Rattle.slotmap_core.specs.Slot.{Slot, FitsEmpty, full, empty, version_at, link_at, next_at, payload_at, with_payload, NoneLive};
 ghost use Rattle.slotmap_core.specs.LayoutLends.{lends_payload};
-ghost use Rattle.slotmap_core.specs.declared.layout.Link.TheVariants.{InUse};
 
 use std::alloc::{AllocError, Global};
 
 mod columns;
+mod numbers;
 mod rows;
 
 pub use columns::Columns;
@@ -81,6 +81,11 @@ pub trait Layout<P>: Sized {
         requires { index < length (slots self.now) }
         ensures { link_at (slots self.now) index ≡ Some result };
 
+    /// Returns the slot that a free one names.
+    fn next_free(&self, index: usize) -> u32
+        requires { IsSome (next_at (slots self.now) index) }
+        ensures { next_at (slots self.now) index ≡ Some result };
+
     /// Returns the payload at an index.
     fn payload(&self, index: usize) -> &P
         requires { IsSome (payload_at (slots self.now) index) }
@@ -95,7 +100,7 @@ pub trait Layout<P>: Sized {
     /// Takes out the payload at an index, and leaves this version and link there.
     fn take(&mut self, index: usize, version: u32, link: Link) -> P
         requires there { IsSome (payload_at (slots self.old) index) }
-        requires out { link ≢ InUse }
+        requires out { FitsEmpty version link }
         ensures value { payload_at (slots self.old) index ≡ Some result }
         ensures left { slots self.new ≡ slice_set (slots self.old) index (empty version link) }
         ensures same_room { fits self.new ≡ fits self.old };
@@ -104,20 +109,22 @@ pub trait Layout<P>: Sized {
     fn put(&mut self, index: usize, version: u32, payload: P)
     where
         P: Drop,
-        requires { index < length (slots self.old) }
+        requires within { index < length (slots self.old) }
+        requires odd { version % 2 ≡ 1 }
         ensures put { slots self.new ≡ slice_set (slots self.old) index (full version payload) }
         ensures same_room { fits self.new ≡ fits self.old };
 
     /// Adds a slot with a payload, for which there is room.
     fn push(&mut self, version: u32, payload: P)
-        requires { length (slots self.old) < fits self.old }
+        requires room { length (slots self.old) < fits self.old }
+        requires odd { version % 2 ≡ 1 }
         ensures pushed { slots self.new ≡ slots self.old ++ full version payload ∷ [] }
         ensures same_room { fits self.new ≡ fits self.old };
 
     /// Adds a slot with no payload, for which there is room.
     fn push_empty(&mut self, version: u32, link: Link)
         requires room { length (slots self.old) < fits self.old }
-        requires out { link ≢ InUse }
+        requires out { FitsEmpty version link }
         ensures pushed { slots self.new ≡ slots self.old ++ empty version link ∷ [] }
         ensures same_room { fits self.new ≡ fits self.old };
 
@@ -129,16 +136,17 @@ pub trait Layout<P>: Sized {
         ensures passed { NoneLive (slots self.now) start result }
         ensures odd { (v : ℕ) → version_at (slots self.now) result ≡ Some v → v % 2 ≡ 1 };
 
-    /// Returns a copy of the slots, with clones of the payloads.
-    fn copy(&self) -> Result<Self, AllocError>
-    where
-        P: Clone,
-        requires clones { (x y : P) → P.is_clone x y → y ≡ x }
-        requires few { length (slots self.now) < 2 ^ 32 }
-        ensures same { IfOk result (λ copy. slots copy ≡ slots self.now) }
-        ensures room { IfOk result (λ copy. length (slots copy) ≤ fits copy) };
-
     ghost slots_with: { (s : Self) (i : ℕ) (p : P) → slots (with_payload_at s i p) ≡ with_payload (slots s) i p };
 
     ghost fits_with: { (s : Self) (i : ℕ) (p : P) → fits (with_payload_at s i p) ≡ fits s };
+}
+
+/// A layout whose slots can be copied.
+pub trait CopyLayout<P: Clone>: Layout<P> {
+    /// Returns a copy of the slots, with clones of the payloads.
+    fn copy(&self) -> Result<Self, AllocError>
+        requires clones { (x y : P) → P.is_clone x y → y ≡ x }
+        requires few { length (Self.slots self.now) < 2 ^ 32 }
+        ensures same { IfOk result (λ copy. Self.slots copy ≡ Self.slots self.now) }
+        ensures room { IfOk result (λ copy. length (Self.slots copy) ≤ Self.fits copy) };
 }

@@ -34,7 +34,8 @@ pub struct Slots<P, L: Layout<P>> {
     layout: L,
     // The first slot of the free list, or 0 if no slot is vacant.
     first_vacant: u32,
-    vacant_count: u32,
+    // How many slots are detached or retired.
+    kept_count: u32,
     live_count: u32,
     payloads: PhantomData<P>,
 }
@@ -43,15 +44,15 @@ impl<P, L: Layout<P>> Model for Slots<P, L> {
     ghost use Rattle.std.specs.Prelude.{◌-◌};
     ghost use Rattle.slotmap_core.specs.Content.{Content, content_code};
     ghost use Rattle.slotmap_core.specs.StackMap.{content};
-    ghost use Rattle.slotmap_core.specs.Slot.{map_of, IsHeld};
+    ghost use Rattle.slotmap_core.specs.Slot.{map_of, vacancies, IsHeld};
 
     ghost Value = { Content P };
 
     ghost coded = { content_code P.code };
 
-    ghost view = { λ m. content (map_of (L.slots m.layout) m.first_vacant m.vacant_count (L.fits m.layout - 1)) };
+    ghost view = { λ m. content (map_of (L.slots m.layout) m.first_vacant (vacancies (L.slots m.layout) m.kept_count m.live_count) (L.fits m.layout - 1)) };
 
-    ghost invariant = { λ m. IsHeld (L.slots m.layout) (L.fits m.layout) m.first_vacant m.vacant_count m.live_count };
+    ghost invariant = { λ m. IsHeld (L.slots m.layout) (L.fits m.layout) m.first_vacant m.kept_count m.live_count };
 }
 
 impl<P: Drop, L: Layout<P> + Drop> Slots<P, L> {
@@ -72,7 +73,7 @@ impl<P: Drop, L: Layout<P> + Drop> Slots<P, L> {
         Ok(Slots {
             layout,
             first_vacant: 0,
-            vacant_count: 0,
+            kept_count: 0,
             live_count: 0,
             payloads: PhantomData,
         })
@@ -119,7 +120,7 @@ impl<P, L: Layout<P>> Slots<P, L> {
         ensures fits { result ≤ self.now.capacity }
         ensures valid { IsContent true self.now }
     {
-        self.layout.len() - 1 - self.vacant_count as usize
+        self.kept_count as usize + self.live_count as usize
     }
 
     /// Makes room for `additional` more keys.
@@ -135,7 +136,7 @@ impl<P, L: Layout<P>> Slots<P, L> {
         if additional <= self.capacity() - used {
             return Ok(());
         }
-        let missing = additional - self.vacant_count as usize;
+        let missing = additional - (self.place_count() - used);
         self.layout.reserve(missing)?;
         Ok(())
     }
@@ -146,7 +147,7 @@ impl<P, L: Layout<P>> Slots<P, L> {
         ensures room { IsTrue result → 0 < self.now.room }
         ensures valid { IsContent true self.now }
     {
-        self.vacant_count > 0 || self.layout.len() < self.layout.capacity()
+        self.first_vacant != 0 || self.layout.len() < self.layout.capacity()
     }
 
     /// Makes room for one more key.

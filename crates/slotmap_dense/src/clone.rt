@@ -35,7 +35,7 @@ impl<K: Key, V: Clone> DenseSlotMap<K, V> {
     {
         Ok(DenseSlotMap {
             slots: self.slots.copy()?,
-            keys: self.keys.clone()?,
+            keys: Vec::from_slice(*self.keys.allocator(), &self.keys)?,
             values: self.values.clone()?,
         })
     }

@@ -72,7 +72,7 @@ use std::marker::Model;
 #[derive(Drop)]
 pub struct DenseSlotMap<K: Key, V> {
     // The position of each live key.
-    slots: Slots<u32, Rows<u32>>,
+    slots: Slots<u32, Rows>,
     // The live keys, and at the same positions their values.
     keys: Vec<K>,
     values: Vec<V>,

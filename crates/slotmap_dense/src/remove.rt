@@ -18,7 +18,7 @@ use slotmap_core::slots::Slots;
 // Takes out the pair at a position whose key is no longer in the slots. The last pair moves to that
 // position, and the slot of its key is updated.
 pub(crate) fn close_gap<K: Key, V: Drop>(
-    slots: &mut Slots<u32, Rows<u32>>,
+    slots: &mut Slots<u32, Rows>,
     keys: &mut Vec<K>,
     values: &mut Vec<V>,
     position: u32,

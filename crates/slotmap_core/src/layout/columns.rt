@@ -4,17 +4,19 @@ ghost use Rattle.std.specs.Prelude.{◌≡◌, ◌<◌, ◌≤◌, ◌%◌, ◌^
 ghost use Rattle.slotmap_core.specs.Columns.{AllEven, zip_slots};
 ghost use Rattle.slotmap_core.specs.declared.layout.Link.{Link as LinkOf};
 
-use super::{Layout, Link};
+use super::numbers::{link_for, number_for};
+use super::{CopyLayout, Layout, Link};
 use std::alloc::{AllocError, Global};
 use std::marker::Model;
 
-/// Versions, links and payloads, each in a vector of its own.
+/// Versions, links and payloads, each in a vector of its own. A link takes 4 bytes.
 ///
 /// An iterator reads the versions alone, and a look-up a version and a payload.
 #[derive(Drop)]
 pub struct Columns<P> {
     versions: Vec<u32>,
-    links: Vec<Link>,
+    // At an even version what `number_for` returns, and at an odd one any number.
+    numbers: Vec<u32>,
     payloads: Vec<Option<P>>,
     // This many slots fit in each of the three.
     capacity: usize,
@@ -24,12 +26,13 @@ impl<P> Model for Columns<P> {
     ghost use Rattle.std.specs.Prelude.{vec_capacity};
     ghost use Rattle.slotmap_core.specs.Slot.{Laid};
     ghost use Rattle.slotmap_core.specs.Columns.{zip_slots, IsColumns};
+    ghost use Rattle.slotmap_core.specs.Numbers.{links_of};
 
     ghost Value = { Laid P };
 
-    ghost view = { λ m. record { slots = zip_slots m.versions.items m.links.items m.payloads.items; capacity = m.capacity } };
+    ghost view = { λ m. record { slots = zip_slots m.versions.items (links_of m.versions.items m.numbers.items) m.payloads.items; capacity = m.capacity } };
 
-    ghost invariant = { λ m. IsColumns m.versions.items m.links.items m.payloads.items m.capacity (vec_capacity m.versions) (vec_capacity m.links) (vec_capacity m.payloads) };
+    ghost invariant = { λ m. IsColumns m.versions.items m.numbers.items m.payloads.items m.capacity (vec_capacity m.versions) (vec_capacity m.numbers) (vec_capacity m.payloads) };
 }
 
 // A slot is found in any of the vectors by its index alone.
@@ -64,7 +67,23 @@ fn skip_even(versions: &[u32], start: usize) -> usize
 }
 
 // Returns the first index from `start` on with an odd version, or the number of versions.
+#[inline(always)]
 pub(crate) fn next_odd(versions: &[u32], start: usize) -> usize
+    requires { start ≤ length versions.now }
+    ensures on { start ≤ result }
+    ensures within { result ≤ length versions.now }
+    ensures passed { AllEven versions.now start result }
+    ensures odd { (v : ℕ) → slice_get versions.now result ≡ Some v → v % 2 ≡ 1 }
+{
+    if start < versions.len() && versions[start] % 2 == 1 {
+        return start;
+    }
+    search_odd(versions, start)
+}
+
+// Returns the same, where the version at `start` is mostly even.
+#[inline(never)]
+fn search_odd(versions: &[u32], start: usize) -> usize
     requires { start ≤ length versions.now }
     ensures on { start ≤ result }
     ensures within { result ≤ length versions.now }
@@ -106,14 +125,14 @@ fn growth(len: usize, additional: usize) -> usize
 
 impl<P> Columns<P> {
     // Returns how many slots fit in each of these.
-    fn room(versions: &Vec<u32>, links: &Vec<Link>, payloads: &Vec<Option<P>>) -> usize
+    fn room(versions: &Vec<u32>, numbers: &Vec<u32>, payloads: &Vec<Option<P>>) -> usize
         ensures limit { result < 2 ^ 32 }
         ensures versions_fit { result ≤ vec_capacity versions.now }
-        ensures links_fit { result ≤ vec_capacity links.now }
+        ensures numbers_fit { result ≤ vec_capacity numbers.now }
         ensures payloads_fit { result ≤ vec_capacity payloads.now }
-        ensures greatest { (n : ℕ) → n < 2 ^ 32 → n ≤ vec_capacity versions.now → n ≤ vec_capacity links.now → n ≤ vec_capacity payloads.now → n ≤ result }
+        ensures greatest { (n : ℕ) → n < 2 ^ 32 → n ≤ vec_capacity versions.now → n ≤ vec_capacity numbers.now → n ≤ vec_capacity payloads.now → n ≤ result }
     {
-        let others = links.capacity().min(payloads.capacity());
+        let others = numbers.capacity().min(payloads.capacity());
         versions.capacity().min(others).min(LIMIT)
     }
 
@@ -126,13 +145,13 @@ impl<P> Columns<P> {
 }
 
 impl<P> Columns<P> {
-    // Returns the versions and the payloads, and drops the links.
+    // Returns the versions and the payloads, and drops the numbers.
     pub(crate) fn into_parts(self) -> (Vec<u32>, Vec<Option<P>>)
         ensures { (links : List LinkOf) × (length links ≡ length result.0.items) × (length result.1.items ≡ length result.0.items) × (zip_slots result.0.items links result.1.items ≡ self.slots) }
     {
         let Columns {
             versions,
-            links: _,
+            numbers: _,
             payloads,
             capacity: _,
         } = self;
@@ -153,12 +172,12 @@ impl<P> Layout<P> for Columns<P> {
 
     fn with_capacity(alloc: Global, count: usize) -> Result<Self, AllocError> {
         let versions = Vec::with_capacity(alloc, count)?;
-        let links = Vec::with_capacity(alloc, count)?;
+        let numbers = Vec::with_capacity(alloc, count)?;
         let payloads = Vec::with_capacity(alloc, count)?;
-        let capacity = Columns::room(&versions, &links, &payloads);
+        let capacity = Columns::room(&versions, &numbers, &payloads);
         Ok(Columns {
             versions,
-            links,
+            numbers,
             payloads,
             capacity,
         })
@@ -180,9 +199,9 @@ impl<P> Layout<P> for Columns<P> {
         let more = growth(self.versions.len(), additional);
         // The largest vector first: the memory that it leaves can hold the others.
         self.payloads.reserve(more)?;
-        self.links.reserve(more)?;
+        self.numbers.reserve(more)?;
         self.versions.reserve(more)?;
-        self.capacity = Columns::room(&self.versions, &self.links, &self.payloads);
+        self.capacity = Columns::room(&self.versions, &self.numbers, &self.payloads);
         Ok(())
     }
 
@@ -195,7 +214,11 @@ impl<P> Layout<P> for Columns<P> {
     }
 
     fn link(&self, index: usize) -> Link {
-        self.links[index]
+        link_for(self.versions[index], self.numbers[index])
+    }
+
+    fn next_free(&self, index: usize) -> u32 {
+        self.numbers[index]
     }
 
     fn payload(&self, index: usize) -> &P {
@@ -209,7 +232,7 @@ impl<P> Layout<P> for Columns<P> {
     fn take(&mut self, index: usize, version: u32, link: Link) -> P {
         let payload = self.payloads[index].take().unwrap();
         self.versions[index] = version;
-        self.links[index] = link;
+        self.numbers[index] = number_for(link);
         payload
     }
 
@@ -218,19 +241,18 @@ impl<P> Layout<P> for Columns<P> {
         P: Drop,
     {
         self.versions[index] = version;
-        self.links[index] = Link::InUse;
         self.payloads[index] = Some(payload);
     }
 
     fn push(&mut self, version: u32, payload: P) {
         self.versions.push_reserved(version);
-        self.links.push_reserved(Link::InUse);
+        self.numbers.push_reserved(0);
         self.payloads.push_reserved(Some(payload));
     }
 
     fn push_empty(&mut self, version: u32, link: Link) {
         self.versions.push_reserved(version);
-        self.links.push_reserved(link);
+        self.numbers.push_reserved(number_for(link));
         self.payloads.push_reserved(None);
     }
 
@@ -238,23 +260,24 @@ impl<P> Layout<P> for Columns<P> {
         next_odd(&self.versions, start)
     }
 
-    fn copy(&self) -> Result<Self, AllocError>
-    where
-        P: Clone,
-    {
-        let versions = self.versions.clone()?;
-        let links = self.links.clone()?;
+    ghost slots_with = { λ m i p. refl };
+
+    ghost fits_with = { λ m i p. refl };
+}
+
+#[tactic(auto, using(crate::proofs::ColumnLemmas::laid))]
+impl<P: Clone> CopyLayout<P> for Columns<P> {
+    fn copy(&self) -> Result<Self, AllocError> {
+        let alloc = self.allocator();
+        let versions = Vec::from_slice(alloc, &self.versions)?;
+        let numbers = Vec::from_slice(alloc, &self.numbers)?;
         let payloads = self.payloads.clone()?;
-        let capacity = Columns::room(&versions, &links, &payloads);
+        let capacity = Columns::room(&versions, &numbers, &payloads);
         Ok(Columns {
             versions,
-            links,
+            numbers,
             payloads,
             capacity,
         })
     }
-
-    ghost slots_with = { λ m i p. refl };
-
-    ghost fits_with = { λ m i p. refl };
 }

@@ -1,68 +1,36 @@
 //! Slots in one vector.
 
-ghost use Rattle.std.specs.Prelude.{◌≡◌, ◌≢◌, ℕ, ◌<◌, ◌≤◌, ◌%◌, ◌^◌, length, map as list_map, Some, refl, vec_capacity};
-ghost use Rattle.std.specs.Borrow.{sem};
-ghost use Rattle.std.specs.Option.{option_copied_mut};
-ghost use Rattle.slotmap_core.specs.Slot.{NoneLive, version_at};
-ghost use Rattle.slotmap_core.specs.Rows.{slot_of, slots_of, link_of, payload_of};
-ghost use Rattle.slotmap_core.specs.declared.layout.Link.TheVariants.{InUse};
+ghost use Rattle.std.specs.Prelude.{◌≡◌, ℕ, ◌<◌, ◌≤◌, ◌%◌, ◌^◌, length, map as list_map, Some, refl, vec_capacity};
+ghost use Rattle.slotmap_core.specs.Slot.{NoneLive, FitsEmpty, version_at, empty};
+ghost use Rattle.slotmap_core.specs.Rows.{slot_of, slots_of};
 
-use super::{Layout, Link};
+use super::numbers::{link_for, number_for};
+use super::{CopyLayout, Layout, Link};
 use std::alloc::{AllocError, Global};
 use std::marker::Model;
-use std::mem;
 
-// What a slot is used for, with its payload if it is in use.
-#[derive(Clone, Drop)]
-enum Use<P> {
-    // It has a payload.
-    Full(P),
-    // It is vacant, and names the next slot of the free list, or slot 0 at the list's end.
-    Free(u32),
-    // Its key is detached: the payload was taken out, and the slot is kept for the key.
-    Detached,
-    // It is retired: no key can follow its last one.
-    Retired,
-}
-
-impl<P> Use<P> {
-    ghost use Rattle.slotmap_core.specs.RowsLend.{lends_full};
-
-    // Returns a mutable reference to the payload, if there is one.
-    #[inline(always)]
-    fn payload_mut(&mut self) -> Option<&mut P>
-        ensures* writes_back { sem 𝓛 (lends_full P.row self.entry result) }
-        ensures value { option_copied_mut result ≡ payload_of self.old }
-    {
-        if let Use::Full(payload) = self {
-            Some(payload)
-        } else {
-            None
-        }
-    }
-}
-
-#[derive(Clone, Drop)]
-struct Row<P> {
+#[derive(Clone, Copy)]
+struct Row {
     version: u32,
-    used: Use<P>,
+    // The payload if the version is odd, else what `number_for` returns.
+    number: u32,
 }
 
 /// Versions, links and payloads side by side in one vector.
 ///
-/// A look-up reads one spot of memory, and an iterator passes over the payloads too. So it suits
-/// small payloads, such as positions in another vector.
+/// A look-up reads one spot of memory. A payload is a number, such as a position in another vector,
+/// and lies where a vacant slot has its link. So a slot takes 8 bytes.
 #[derive(Drop)]
-pub struct Rows<P> {
-    rows: Vec<Row<P>>,
+pub struct Rows {
+    rows: Vec<Row>,
 }
 
-impl<P> Model for Rows<P> {
-    ghost use Rattle.std.specs.Prelude.{min, vec_capacity};
+impl Model for Rows {
+    ghost use Rattle.std.specs.Prelude.{ℕ, min, vec_capacity};
     ghost use Rattle.slotmap_core.specs.Slot.{Laid};
     ghost use Rattle.slotmap_core.specs.Rows.{slots_of, most_rows};
 
-    ghost Value = { Laid P };
+    ghost Value = { Laid ℕ };
 
     ghost view = { λ m. record { slots = slots_of m.rows.items; capacity = min (vec_capacity m.rows) most_rows } };
 }
@@ -70,22 +38,28 @@ impl<P> Model for Rows<P> {
 // At most this many slots are counted as fitting.
 const LIMIT: usize = 4294967295;
 
-// Returns the use of a slot with no payload.
-fn vacant<P>(link: Link) -> Use<P>
-    requires { link ≢ InUse }
-    ensures same { link_of result ≡ link }
-    ensures none { payload_of result ≡ None }
+// Returns a row with no payload.
+#[inline(always)]
+fn vacant(version: u32, link: Link) -> Row
+    requires { FitsEmpty version link }
+    ensures { slot_of result ≡ empty version link }
 {
-    match link {
-        Link::InUse => unreachable!(),
-        Link::Free(next) => Use::Free(next),
-        Link::Detached => Use::Detached,
-        Link::Retired => Use::Retired,
+    Row {
+        version,
+        number: number_for(link),
     }
 }
 
+// Returns the version at an index.
+fn version_in(rows: &[Row], index: usize) -> u32
+    requires { index < length rows.now }
+    ensures { version_at (slots_of rows.now) index ≡ Some result }
+{
+    rows[index].version
+}
+
 // Returns the first index from `start` on with an odd version, or the number of slots.
-fn next_odd_row<P>(rows: &[Row<P>], start: usize) -> usize
+fn next_odd_row(rows: &[Row], start: usize) -> usize
     requires { start ≤ length rows.now }
     ensures on { start ≤ result }
     ensures within { result ≤ length rows.now }
@@ -94,7 +68,8 @@ fn next_odd_row<P>(rows: &[Row<P>], start: usize) -> usize
 {
     let mut index = start;
     while index < rows.len() {
-        if rows[index].version % 2 == 1 {
+        let version = version_in(rows, index);
+        if version % 2 == 1 {
             return index;
         }
         index += 1;
@@ -103,7 +78,7 @@ fn next_odd_row<P>(rows: &[Row<P>], start: usize) -> usize
 }
 
 #[tactic(auto, using(crate::proofs::RowLemmas::laid))]
-impl<P> Layout<P> for Rows<P> {
+impl Layout<u32> for Rows {
     ghost use Rattle.std.specs.Prelude.{ℕ, List};
     ghost use Rattle.slotmap_core.specs.Slot.{Slot, Laid, with_payload};
 
@@ -144,76 +119,60 @@ impl<P> Layout<P> for Rows<P> {
     }
 
     fn link(&self, index: usize) -> Link {
-        match self.rows[index].used {
-            Use::Full(_) => Link::InUse,
-            Use::Free(next) => Link::Free(next),
-            Use::Detached => Link::Detached,
-            Use::Retired => Link::Retired,
-        }
+        let row = &self.rows[index];
+        link_for(row.version, row.number)
     }
 
-    fn payload(&self, index: usize) -> &P {
-        match &self.rows[index].used {
-            Use::Full(payload) => payload,
-            _ => unreachable!(),
-        }
+    fn next_free(&self, index: usize) -> u32 {
+        self.rows[index].number
     }
 
-    fn payload_mut(&mut self, index: usize) -> &mut P {
-        self.rows[index].used.payload_mut().unwrap()
+    fn payload(&self, index: usize) -> &u32 {
+        &self.rows[index].number
     }
 
-    fn take(&mut self, index: usize, version: u32, link: Link) -> P {
-        let left = Row {
-            version,
-            used: vacant(link),
-        };
-        match mem::replace(&mut self.rows[index], left).used {
-            Use::Full(payload) => payload,
-            Use::Free(_) => unreachable!(),
-            Use::Detached => unreachable!(),
-            Use::Retired => unreachable!(),
-        }
+    fn payload_mut(&mut self, index: usize) -> &mut u32 {
+        &mut self.rows[index].number
     }
 
-    fn put(&mut self, index: usize, version: u32, payload: P)
-    where
-        P: Drop,
-    {
+    fn take(&mut self, index: usize, version: u32, link: Link) -> u32 {
+        let payload = self.rows[index].number;
+        self.rows[index] = vacant(version, link);
+        payload
+    }
+
+    fn put(&mut self, index: usize, version: u32, payload: u32) {
         self.rows[index] = Row {
             version,
-            used: Use::Full(payload),
+            number: payload,
         };
     }
 
-    fn push(&mut self, version: u32, payload: P) {
+    fn push(&mut self, version: u32, payload: u32) {
         self.rows.push_reserved(Row {
             version,
-            used: Use::Full(payload),
+            number: payload,
         });
     }
 
     fn push_empty(&mut self, version: u32, link: Link) {
-        self.rows.push_reserved(Row {
-            version,
-            used: vacant(link),
-        });
+        self.rows.push_reserved(vacant(version, link));
     }
 
     fn next_live(&self, start: usize) -> usize {
         next_odd_row(&self.rows, start)
     }
 
-    fn copy(&self) -> Result<Self, AllocError>
-    where
-        P: Clone,
-    {
-        Ok(Rows {
-            rows: self.rows.clone()?,
-        })
-    }
-
     ghost slots_with = { λ m i p. refl };
 
     ghost fits_with = { λ m i p. refl };
+}
+
+#[tactic(auto, using(crate::proofs::RowLemmas::laid))]
+impl CopyLayout<u32> for Rows {
+    fn copy(&self) -> Result<Self, AllocError> {
+        Ok(Rows {
+            rows: Vec::from_slice(self.allocator(), &self.rows)?,
+        })
+    }
 }

@@ -64,6 +64,7 @@ impl<P, L: Layout<P>> Slots<P, L> {
     }
 
     /// Returns the live key with the smallest index from `start` on.
+    #[inline(always)]
     pub fn live_from(&self, start: usize) -> Option<KeyData>
         ensures live { IfSome result (λ key. IsLive self.now key × (start ≤ key.index)) }
         ensures first { IfSome result (λ key. (other : Key) → IsLive self.now other → start ≤ other.index → key.index ≤ other.index) }

@@ -5,11 +5,11 @@ ghost use Rattle.slotmap_core.specs.Content.{IsContent};
 ghost use Rattle.slotmap_core.specs.Copy.{IsCopy};
 
 use super::Slots;
-use crate::layout::Layout;
+use crate::layout::CopyLayout;
 use std::alloc::AllocError;
 use std::marker::PhantomData;
 
-impl<P: Clone, L: Layout<P>> Slots<P, L> {
+impl<P: Clone, L: CopyLayout<P>> Slots<P, L> {
     /// Returns a copy, with clones of the payloads.
     pub fn copy(&self) -> Result<Self, AllocError>
         requires { (x y : P) → P.is_clone x y → y ≡ x }
@@ -19,7 +19,7 @@ impl<P: Clone, L: Layout<P>> Slots<P, L> {
         Ok(Slots {
             layout: self.layout.copy()?,
             first_vacant: self.first_vacant,
-            vacant_count: self.vacant_count,
+            kept_count: self.kept_count,
             live_count: self.live_count,
             payloads: PhantomData,
         })

@@ -37,6 +37,7 @@ impl<P, L: Layout<P>> Slots<P, L> {
         ensures valid { StaysValid true self.old self.new }
     {
         self.live_count -= 1;
+        self.kept_count += 1;
         let after = key.version().wrapping_add(1);
         self.layout.take(key.idx() as usize, after, Link::Detached)
     }
@@ -65,6 +66,7 @@ impl<P, L: Layout<P>> Slots<P, L> {
         ensures valid { StaysValid true self.old self.new }
     {
         self.live_count += 1;
+        self.kept_count -= 1;
         self.layout.put(key.idx() as usize, key.version(), payload);
     }
 }

@@ -6,7 +6,7 @@ ghost use Rattle.slotmap_core.specs.Call.{StaysValid};
 
 use super::Slots;
 use crate::keys::KeyData;
-use crate::layout::{Layout, Link};
+use crate::layout::Layout;
 
 impl<P, L: Layout<P>> Slots<P, L> {
     /// Returns the key that the next insert will return, if there is room for it.
@@ -14,7 +14,7 @@ impl<P, L: Layout<P>> Slots<P, L> {
         requires { 0 < self.now.room }
         ensures { result ≡ self.now.offer }
     {
-        if self.vacant_count == 0 {
+        if self.first_vacant == 0 {
             return KeyData::exact(self.layout.len() as u32, 1);
         }
         let index = self.first_vacant;
@@ -32,21 +32,15 @@ impl<P, L: Layout<P>> Slots<P, L> {
         ensures valid { StaysValid true self.old self.new }
     {
         self.live_count += 1;
-        if self.vacant_count == 0 {
+        if self.first_vacant == 0 {
             let index = self.layout.len() as u32;
             self.layout.push(1, payload);
             return KeyData::exact(index, 1);
         }
         let index = self.first_vacant;
-        match self.layout.link(index as usize) {
-            Link::Free(next) => {
-                let version = self.layout.version(index as usize) + 1;
-                self.layout.put(index as usize, version, payload);
-                self.first_vacant = next;
-                self.vacant_count -= 1;
-                KeyData::exact(index, version)
-            }
-            _ => unreachable!(),
-        }
+        let version = self.layout.version(index as usize) + 1;
+        self.first_vacant = self.layout.next_free(index as usize);
+        self.layout.put(index as usize, version, payload);
+        KeyData::exact(index, version)
     }
 }

@@ -65,7 +65,7 @@ impl<P: Drop, L: Layout<P> + Drop> Slots<P, L> {
         let mut layout = L::with_capacity(alloc, list.len())?;
         layout.push_empty(0, Link::Free(0));
         let mut first_vacant = 0;
-        let mut vacant_count = 0;
+        let mut kept_count = 0;
         let mut live_count = 0;
         let mut records = list.into_iter();
         records.next();
@@ -79,11 +79,11 @@ impl<P: Drop, L: Layout<P> + Drop> Slots<P, L> {
                 None => {
                     if version == 0 {
                         layout.push_empty(0, Link::Retired);
+                        kept_count += 1;
                     } else {
                         let index = layout.len() as u32;
                         layout.push_empty(version, Link::Free(first_vacant));
                         first_vacant = index;
-                        vacant_count += 1;
                     }
                 }
             }
@@ -91,7 +91,7 @@ impl<P: Drop, L: Layout<P> + Drop> Slots<P, L> {
         Ok(Slots {
             layout,
             first_vacant,
-            vacant_count,
+            kept_count,
             live_count,
             payloads: PhantomData,
         })

@@ -40,13 +40,13 @@ impl<P, L: Layout<P>> Slots<P, L> {
         let version = key.version();
         self.live_count -= 1;
         if version == u32::MAX {
+            self.kept_count += 1;
             return self.layout.take(index, 0, Link::Retired);
         }
         let payload = self
             .layout
             .take(index, version + 1, Link::Free(self.first_vacant));
         self.first_vacant = key.idx();
-        self.vacant_count += 1;
         payload
     }
 }

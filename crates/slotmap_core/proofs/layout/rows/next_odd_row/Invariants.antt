@@ -5,7 +5,7 @@ use Rattle.slotmap_core.proofs.layout.rows.next_odd_row.Given as goal
 
 -- only even versions were skipped
 abbrev pub invariant-loop-index : goal.invariant-loop-index
-invariant-loop-index g l = (l.start ≤ l.index) × ((l.index ≤ length l.rows) × NoneLive (slots_of l.rows) l.start l.index)
+invariant-loop-index l = (l.start ≤ l.index) × ((l.index ≤ length l.rows) × NoneLive (slots_of l.rows) l.start l.index)
 
 abbrev pub decreases-loop-index : goal.decreases-loop-index
-decreases-loop-index g l = length l.rows - l.index
+decreases-loop-index l = length l.rows - l.index

@@ -1,80 +1,101 @@
-use Rattle.std.proofs.Common.{◌+◌, ◌<◌, length, ap, sym, ◌∙◌, arith}
+use Rattle.std.proofs.Common.{◌+◌, ◌-◌, ◌<◌, length, is_some, ap, sym, ◌∙◌, arith}
 use Rattle.std.proofs.lemmas.List.{length_push}
 use Rattle.std.proofs.lemmas.Option.{slice_get_within, same_Some}
-use Rattle.slotmap_core.specs.Slot.{full}
+use Rattle.slotmap_core.specs.Slot.{full, vacancies}
 use Rattle.slotmap_core.proofs.PlacesLemmas.{key}
 use Rattle.slotmap_core.proofs.SlotLemmas.{taken-slots}
-use Rattle.slotmap_core.proofs.SlotGrowth.{IsSound-pushed, inserts-pushed, top, top_read, top_link, top_version, offer-top, same_next, filled_top, inserts-filled}
-use Rattle.slotmap_core.proofs.HeldLemmas.{held_stays, held_room, held_fits, held-set}
+use Rattle.slotmap_core.proofs.SlotGrowth.{IsSound-pushed, inserts-pushed, none_free, some_free, top, top_read, top_next, top_version, offer-new, offer-top, filled_top, inserts-filled}
+use Rattle.slotmap_core.proofs.HeldLemmas.{held_stays, held_room, held_fits, vacancies-push, vacancies-set, held-set}
 use Rattle.slotmap_core.proofs.slots.Slots.fill.Goals as goal
 
-pub push-requires : goal.push-requires
-push-requires g c = omega (arith, (held_room _ _ _ _ _ c.self.invariant c.self.view_is c.requires).1, c.if-self-eq0.true)
+pub push-requires-clause-room : goal.push-requires-clause-room
+push-requires-clause-room g c = omega (arith, (held_room _ _ _ _ _ c.self.invariant c.self.view_is c.requires).1, none_free _ _ _ _ c.self.invariant.sound c.if-self-eq0.true)
 
 pub invariant_of-self : goal.invariant_of-self
 invariant_of-self g c =
     let room = held_room _ _ _ _ _ c.self.invariant c.self.view_is c.requires in
     let all = taken-slots _ _ _ _ c.self.invariant.sound in
-    let longer = length_push (g.L.Layout.slots c.self.inside.layout) (full 1 c.args.payload) in
-    rw (c.push.ensures.pushed, c.push.ensures.same_room) (record { sound = IsSound-pushed _ _ _ _ c.self.invariant.sound c.args.payload (omega (arith, room.0, c.if-self-eq0.true)); holds = omega (arith, room.1, c.if-self-eq0.true) })
+    let m = c.self.inside in
+    let longer = length_push (g.L.Layout.slots m.layout) (full 1 c.args.payload) in
+    let none = none_free _ _ _ _ c.self.invariant.sound c.if-self-eq0.true in
+    let slots = g.L.Layout.slots m.layout in
+    let free = vacancies-push slots (full 1 c.args.payload) (vacancies slots m.kept_count m.live_count) m.kept_count (m.live_count + 1) (omega (arith, c.self.invariant.fewer)) in
+    rw (c.push.ensures.pushed, c.push.ensures.same_room) (record {
+      sound = rw free (IsSound-pushed _ _ _ _ c.self.invariant.sound c.args.payload (omega (arith, room.0, none)));
+      fewer = omega (arith, c.self.invariant.fewer);
+      holds = omega (arith, room.1, none);
+    })
+
+pub returns-then-self-eq0-clause-value : goal.returns-then-self-eq0-clause-value
+returns-then-self-eq0-clause-value g c =
+    c.exact.ensures ∙ ap (λ n. key n 1) c.len-index.ensures ∙ sym (ap (λ m. m.offer) (sym c.self.view_is) ∙ offer-new _ _ _ _ c.self.invariant.sound c.if-self-eq0.true)
 
 pub returns-then-self-eq0-clause-inserts : goal.returns-then-self-eq0-clause-inserts
 returns-then-self-eq0-clause-inserts g c =
     let room = held_room _ _ _ _ _ c.self.invariant c.self.view_is c.requires in
-    rw (← c.self.view_is, c.push.ensures.pushed, c.push.ensures.same_room) (inserts-pushed _ _ _ _ c.self.invariant.sound c.args.payload _ room.0 c.if-self-eq0.true)
+    let m = c.self.inside in
+    let slots = g.L.Layout.slots m.layout in
+    let free = vacancies-push slots (full 1 c.args.payload) (vacancies slots m.kept_count m.live_count) m.kept_count (m.live_count + 1) (omega (arith, c.self.invariant.fewer)) in
+    rw (← c.self.view_is, c.push.ensures.pushed, c.push.ensures.same_room, free)
+    (inserts-pushed _ _ _ _ c.self.invariant.sound c.args.payload _ room.0 (none_free _ _ _ _ c.self.invariant.sound c.if-self-eq0.true))
 
 pub returns-then-self-eq0-clause-valid : goal.returns-then-self-eq0-clause-valid
 returns-then-self-eq0-clause-valid g c = held_stays _ _ _ _ _ c.self.invariant c.self.view_is _ _ _ _ _ (invariant_of-self g c) c.push.ensures.same_room
 
-pub link-requires : goal.link-requires
-link-requires g c = slice_get_within _ _ _ (top _ _ _ _ c.self.invariant.sound (omega arith)).there
-
 pub version-version-requires : goal.version-version-requires
-version-version-requires g c = slice_get_within _ _ _ (top _ _ _ _ c.self.invariant.sound (omega arith)).there
+version-version-requires g c = slice_get_within _ _ _ (top _ _ _ _ c.self.invariant.sound (some_free _ _ _ _ c.self.invariant.sound c.if-self-eq0.false)).there
 
 pub overflow_add-version : goal.overflow_add-version
 overflow_add-version g c =
-    let t = top _ _ _ _ c.self.invariant.sound (omega arith) in
+    let t = top _ _ _ _ c.self.invariant.sound (some_free _ _ _ _ c.self.invariant.sound c.if-self-eq0.false) in
     let read = same_Some _ _ (sym c.version-version.ensures ∙ top_read _ _ _ _ c.self.invariant.sound t) in
     omega (arith, (top_version _ _ _ _ c.self.invariant.sound t).0)
 
-pub put-requires : goal.put-requires
-put-requires g c = slice_get_within _ _ _ (top _ _ _ _ c.self.invariant.sound (omega arith)).there
+pub next_free-self-inside-requires : goal.next_free-self-inside-requires
+next_free-self-inside-requires g c = ap is_some (top_next _ _ _ _ c.self.invariant.sound (top _ _ _ _ c.self.invariant.sound (some_free _ _ _ _ c.self.invariant.sound c.if-self-eq0.false)))
 
-pub exact-requires-in-Free : goal.exact-requires-in-Free
-exact-requires-in-Free g c =
-    let t = top _ _ _ _ c.self.invariant.sound (omega arith) in
+pub put-requires-clause-odd : goal.put-requires-clause-odd
+put-requires-clause-odd g c =
+    let t = top _ _ _ _ c.self.invariant.sound (some_free _ _ _ _ c.self.invariant.sound c.if-self-eq0.false) in
+    let read = same_Some _ _ (sym c.version-version.ensures ∙ top_read _ _ _ _ c.self.invariant.sound t) in
+    omega (arith, (top_version _ _ _ _ c.self.invariant.sound t).1)
+
+pub put-requires-clause-within : goal.put-requires-clause-within
+put-requires-clause-within g c = slice_get_within _ _ _ (top _ _ _ _ c.self.invariant.sound (some_free _ _ _ _ c.self.invariant.sound c.if-self-eq0.false)).there
+
+pub exact-requires-2 : goal.exact-requires-2
+exact-requires-2 g c =
+    let t = top _ _ _ _ c.self.invariant.sound (some_free _ _ _ _ c.self.invariant.sound c.if-self-eq0.false) in
     let read = same_Some _ _ (sym c.version-version.ensures ∙ top_read _ _ _ _ c.self.invariant.sound t) in
     let good = top_version _ _ _ _ c.self.invariant.sound t in
     let within : c.self.inside.first_vacant < length (g.L.Layout.slots c.self.inside.layout) = slice_get_within _ _ _ t.there in
     let fits = held_fits _ _ _ _ _ c.self.invariant c.self.view_is in
     record { index_fits = omega arith; version_fits = omega (arith, good.0); odd = omega (arith, good.1); one_null = λ last. absurd (omega arith) }
 
-pub invariant_of-self-in-Free : goal.invariant_of-self-in-Free
-invariant_of-self-in-Free g c =
-    let t = top _ _ _ _ c.self.invariant.sound (omega arith) in
+pub invariant_of-self-2 : goal.invariant_of-self-2
+invariant_of-self-2 g c =
+    let t = top _ _ _ _ c.self.invariant.sound (some_free _ _ _ _ c.self.invariant.sound c.if-self-eq0.false) in
     let read = same_Some _ _ (sym c.version-version.ensures ∙ top_read _ _ _ _ c.self.invariant.sound t) in
-    let next = same_next _ _ (sym c.in-Free.is ∙ same_Some _ _ (sym c.link.ensures ∙ top_link _ _ _ _ c.self.invariant.sound t)) in
-    rw (c.put.ensures.put, c.put.ensures.same_room, read, next) (held-set _ _ _ _ _ c.self.invariant _ _ (filled_top _ _ _ _ c.self.invariant.sound t c.args.payload).sound)
-
-pub unreachable-requires : goal.unreachable-requires
-unreachable-requires g c =
-    let t = top _ _ _ _ c.self.invariant.sound (omega arith) in
-    c.in_default.not-Free _ (same_Some _ _ (sym c.link.ensures ∙ top_link _ _ _ _ c.self.invariant.sound t))
+    let next = same_Some _ _ (sym c.next_free-self-inside.ensures ∙ top_next _ _ _ _ c.self.invariant.sound t) in
+    rw (c.put.ensures.put, c.put.ensures.same_room, read, next)
+    (held-set _ _ _ _ _ c.self.invariant _ _ (filled_top _ _ _ _ c.self.invariant.sound t c.args.payload).sound _ (omega (arith, some_free _ _ _ _ c.self.invariant.sound c.if-self-eq0.false)))
 
 pub returns-clause-value : goal.returns-clause-value
 returns-clause-value g c =
-    let t = top _ _ _ _ c.self.invariant.sound (omega arith) in
+    let t = top _ _ _ _ c.self.invariant.sound (some_free _ _ _ _ c.self.invariant.sound c.if-self-eq0.false) in
     let read = same_Some _ _ (sym c.version-version.ensures ∙ top_read _ _ _ _ c.self.invariant.sound t) in
-    c.exact-in-Free.ensures ∙ ap (λ v. key c.self.inside.first_vacant (v + 1)) read ∙ sym (ap (λ m. m.offer) (sym c.self.view_is) ∙ offer-top _ _ _ _ c.self.invariant.sound t)
+    c.exact-2.ensures ∙ ap (λ v. key c.self.inside.first_vacant (v + 1)) read ∙ sym (ap (λ m. m.offer) (sym c.self.view_is) ∙ offer-top _ _ _ _ c.self.invariant.sound t)
 
 pub returns-clause-inserts : goal.returns-clause-inserts
 returns-clause-inserts g c =
-    let t = top _ _ _ _ c.self.invariant.sound (omega arith) in
+    let t = top _ _ _ _ c.self.invariant.sound (some_free _ _ _ _ c.self.invariant.sound c.if-self-eq0.false) in
     let read = same_Some _ _ (sym c.version-version.ensures ∙ top_read _ _ _ _ c.self.invariant.sound t) in
-    let next = same_next _ _ (sym c.in-Free.is ∙ same_Some _ _ (sym c.link.ensures ∙ top_link _ _ _ _ c.self.invariant.sound t)) in
+    let next = same_Some _ _ (sym c.next_free-self-inside.ensures ∙ top_next _ _ _ _ c.self.invariant.sound t) in
     let room = held_room _ _ _ _ _ c.self.invariant c.self.view_is c.requires in
-    rw (← c.self.view_is, c.put.ensures.put, c.put.ensures.same_room, read, next) (inserts-filled _ _ _ _ c.self.invariant.sound t c.args.payload _ room.0)
+    let m = c.self.inside in
+    let slots = g.L.Layout.slots m.layout in
+    let free = vacancies-set slots m.first_vacant (full (t.version + 1) c.args.payload) (vacancies slots m.kept_count m.live_count - 1) m.kept_count (m.live_count + 1) (omega (arith, some_free _ _ _ _ c.self.invariant.sound c.if-self-eq0.false)) in
+    rw (← c.self.view_is, c.put.ensures.put, c.put.ensures.same_room, read, next, free) (inserts-filled _ _ _ _ c.self.invariant.sound t c.args.payload _ room.0)
 
 pub returns-clause-valid : goal.returns-clause-valid
-returns-clause-valid g c = held_stays _ _ _ _ _ c.self.invariant c.self.view_is _ _ _ _ _ (invariant_of-self-in-Free g c) c.put.ensures.same_room
+returns-clause-valid g c = held_stays _ _ _ _ _ c.self.invariant c.self.view_is _ _ _ _ _ (invariant_of-self-2 g c) c.put.ensures.same_room

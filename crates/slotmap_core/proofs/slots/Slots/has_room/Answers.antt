@@ -2,16 +2,16 @@ use Rattle.std.proofs.Common.{arith, ltb-true}
 use Rattle.slotmap_core.proofs.HeldLemmas.{held_valid, held_reuses, held_spare}
 use Rattle.slotmap_core.proofs.slots.Slots.has_room.Goals as goal
 
-pub returns-then-self-gt0-clause-room : goal.returns-then-self-gt0-clause-room
-returns-then-self-gt0-clause-room g c = λ _. held_reuses _ _ _ _ _ c.self.invariant c.self.view_is (omega arith)
+pub returns-then-self-ne0-clause-room : goal.returns-then-self-ne0-clause-room
+returns-then-self-ne0-clause-room g c = λ _. held_reuses _ _ _ _ _ c.self.invariant c.self.view_is c.if-self-ne0.true
 
-pub returns-then-self-gt0-clause-valid : goal.returns-then-self-gt0-clause-valid
-returns-then-self-gt0-clause-valid g c = held_valid _ _ _ _ _ c.self.invariant c.self.view_is
+pub returns-then-self-ne0-clause-valid : goal.returns-then-self-ne0-clause-valid
+returns-then-self-ne0-clause-valid g c = held_valid _ _ _ _ _ c.self.invariant c.self.view_is
 
-pub returns-else-self-gt0-clause-room : goal.returns-else-self-gt0-clause-room
-returns-else-self-gt0-clause-room g c = λ less.
+pub returns-else-self-ne0-clause-room : goal.returns-else-self-ne0-clause-room
+returns-else-self-ne0-clause-room g c = λ less.
     let spare = ltb-true c.len.result c.capacity.result less in
     held_spare _ _ _ _ _ c.self.invariant c.self.view_is (omega (arith, c.capacity.ensures.value, c.capacity.ensures.limit)) (omega (arith, c.len.ensures, c.capacity.ensures.value))
 
-pub returns-else-self-gt0-clause-valid : goal.returns-else-self-gt0-clause-valid
-returns-else-self-gt0-clause-valid g c = held_valid _ _ _ _ _ c.self.invariant c.self.view_is
+pub returns-else-self-ne0-clause-valid : goal.returns-else-self-ne0-clause-valid
+returns-else-self-ne0-clause-valid g c = held_valid _ _ _ _ _ c.self.invariant c.self.view_is

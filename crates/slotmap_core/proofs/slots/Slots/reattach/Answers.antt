@@ -1,25 +1,36 @@
-use Rattle.std.proofs.Common.{arith}
+use Rattle.std.proofs.Common.{◌+◌, ◌-◌, inl, inr, arith}
 use Rattle.std.proofs.lemmas.Option.{slice_get_within}
-use Rattle.slotmap_core.proofs.SlotLemmas.{free_below, reattached, reattaches-slots}
-use Rattle.slotmap_core.proofs.HeldLemmas.{held_stays, held_kept, held_fits, held-set}
+use Rattle.slotmap_core.specs.Slot.{full, vacancies}
+use Rattle.slotmap_core.proofs.SlotLemmas.{reattached, reattaches-slots}
+use Rattle.slotmap_core.proofs.HeldLemmas.{held_valid, held_stays, held_kept, held_fits, vacancies-set, held-set, kept_positive}
 use Rattle.slotmap_core.proofs.slots.Slots.reattach.Goals as goal
 
 pub overflow_add-self : goal.overflow_add-self
-overflow_add-self g c =
-    omega (arith, free_below _ _ _ _ c.self.invariant.sound, held_fits _ _ _ _ _ c.self.invariant c.self.view_is)
+overflow_add-self g c = omega (arith, c.self.invariant.fewer, held_fits _ _ _ _ _ c.self.invariant c.self.view_is)
 
-pub put-requires : goal.put-requires
-put-requires g c = rw c.idx.ensures.value (slice_get_within _ _ _ (held_kept _ _ _ _ _ c.self.invariant c.self.view_is c.args.key c.requires).there)
+pub overflow_sub-self : goal.overflow_sub-self
+overflow_sub-self g c = kept_positive _ _ _ _ _ c.self.invariant c.self.view_is c.args.key c.requires c.args.payload
+
+pub put-requires-clause-odd : goal.put-requires-clause-odd
+put-requires-clause-odd g c = rw c.version.ensures.value ((held_valid _ _ _ _ _ c.self.invariant c.self.view_is).keys c.args.key (inl (inr c.requires))).odd
+
+pub put-requires-clause-within : goal.put-requires-clause-within
+put-requires-clause-within g c = rw c.idx.ensures.value (slice_get_within _ _ _ (held_kept _ _ _ _ _ c.self.invariant c.self.view_is c.args.key c.requires).there)
 
 pub invariant_of-self : goal.invariant_of-self
 invariant_of-self g c =
     let found = held_kept _ _ _ _ _ c.self.invariant c.self.view_is c.args.key c.requires in
-    rw (c.put.ensures.put, c.put.ensures.same_room, c.idx.ensures.value, c.version.ensures.value) (held-set _ _ _ _ _ c.self.invariant _ _ (reattached _ _ _ _ c.self.invariant.sound _ _ _ found.there found.before c.args.payload).sound)
+    let positive = kept_positive _ _ _ _ _ c.self.invariant c.self.view_is c.args.key c.requires c.args.payload in
+    rw (c.put.ensures.put, c.put.ensures.same_room, c.idx.ensures.value, c.version.ensures.value)
+    (held-set _ _ _ _ _ c.self.invariant _ _ (reattached _ _ _ _ c.self.invariant.sound _ _ _ found.there found.before c.args.payload).sound _ (omega (arith, positive, c.self.invariant.fewer)))
 
 pub returns-clause-reattaches : goal.returns-clause-reattaches
 returns-clause-reattaches g c =
     let found = held_kept _ _ _ _ _ c.self.invariant c.self.view_is c.args.key c.requires in
-    rw (← c.self.view_is, c.put.ensures.put, c.put.ensures.same_room, c.idx.ensures.value, c.version.ensures.value) (reattaches-slots _ _ _ _ c.self.invariant.sound _ _ _ found.there found.before c.args.payload _)
+    let positive = kept_positive _ _ _ _ _ c.self.invariant c.self.view_is c.args.key c.requires c.args.payload in
+    let m = c.self.inside in
+    let free = vacancies-set (g.L.Layout.slots m.layout) c.args.key.index (full c.args.key.version c.args.payload) (vacancies (g.L.Layout.slots m.layout) m.kept_count m.live_count) (m.kept_count - 1) (m.live_count + 1) (omega (arith, positive, c.self.invariant.fewer)) in
+    rw (← c.self.view_is, c.put.ensures.put, c.put.ensures.same_room, c.idx.ensures.value, c.version.ensures.value, free) (reattaches-slots _ _ _ _ c.self.invariant.sound _ _ _ found.there found.before c.args.payload _)
 
 pub returns-clause-valid : goal.returns-clause-valid
 returns-clause-valid g c = held_stays _ _ _ _ _ c.self.invariant c.self.view_is _ _ _ _ _ (invariant_of-self g c) c.put.ensures.same_room

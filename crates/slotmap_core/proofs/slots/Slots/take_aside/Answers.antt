@@ -1,19 +1,31 @@
-use Rattle.std.proofs.Common.{is_some, ap}
-use Rattle.slotmap_core.proofs.SlotLemmas.{count_positive, detached, detaches-slots}
-use Rattle.slotmap_core.proofs.HeldLemmas.{held_stays, held_present, held-set, held_value}
+use Rattle.std.proofs.Common.{◌+◌, ◌-◌, ◌%◌, ◌^◌, is_some, ap, arith}
+use Rattle.slotmap_core.specs.Slot.{empty, vacancies}
+use Rattle.slotmap_core.specs.declared.layout.Link.TheVariants.{Detached}
+use Rattle.slotmap_core.proofs.SlotLemmas.{FitsEmpty-detached, count_positive, detached, detaches-slots}
+use Rattle.slotmap_core.proofs.HeldLemmas.{held_stays, held_present, held_fits, vacancies-set, held-set, held_value}
 use Rattle.slotmap_core.proofs.slots.Slots.take_aside.Goals as goal
 
 pub overflow_sub-self : goal.overflow_sub-self
 overflow_sub-self g c =
     count_positive _ _ _ _ c.self.invariant.sound _ _ _ (held_present _ _ _ _ _ c.self.invariant c.self.view_is c.args.key c.requires).there
 
+pub overflow_add-self : goal.overflow_add-self
+overflow_add-self g c = omega (arith, c.self.invariant.fewer, held_fits _ _ _ _ _ c.self.invariant c.self.view_is)
+
 pub take-requires-clause-there : goal.take-requires-clause-there
 take-requires-clause-there g c = rw c.idx.ensures.value (ap is_some (held_present _ _ _ _ _ c.self.invariant c.self.view_is c.args.key c.requires).read)
+
+pub take-requires-clause-out : goal.take-requires-clause-out
+take-requires-clause-out g c =
+    let found = held_present _ _ _ _ _ c.self.invariant c.self.view_is c.args.key c.requires in
+    FitsEmpty-detached _ (omega (arith, found.odd, c.version-after.ensures.value))
 
 pub invariant_of-self : goal.invariant_of-self
 invariant_of-self g c =
     let found = held_present _ _ _ _ _ c.self.invariant c.self.view_is c.args.key c.requires in
-    rw (c.take.ensures.left, c.take.ensures.same_room, c.idx.ensures.value, c.version-after.ensures.value) (held-set _ _ _ _ _ c.self.invariant _ _ (detached _ _ _ _ c.self.invariant.sound _ _ _ found.there).sound)
+    let positive = count_positive _ _ _ _ c.self.invariant.sound _ _ _ found.there in
+    rw (c.take.ensures.left, c.take.ensures.same_room, c.idx.ensures.value, c.version-after.ensures.value)
+    (held-set _ _ _ _ _ c.self.invariant _ _ (detached _ _ _ _ c.self.invariant.sound _ _ _ found.there).sound _ (omega (arith, positive, c.self.invariant.fewer)))
 
 pub returns-clause-value : goal.returns-clause-value
 returns-clause-value g c = held_value _ _ _ _ _ c.self.invariant c.self.view_is c.args.key c.requires _ c.idx.ensures.value _ c.take.ensures.value
@@ -21,7 +33,10 @@ returns-clause-value g c = held_value _ _ _ _ _ c.self.invariant c.self.view_is 
 pub returns-clause-detaches : goal.returns-clause-detaches
 returns-clause-detaches g c =
     let found = held_present _ _ _ _ _ c.self.invariant c.self.view_is c.args.key c.requires in
-    rw (← c.self.view_is, c.take.ensures.left, c.take.ensures.same_room, c.idx.ensures.value, c.version-after.ensures.value) (detaches-slots _ _ _ _ c.self.invariant.sound _ _ _ found.there _)
+    let positive = count_positive _ _ _ _ c.self.invariant.sound _ _ _ found.there in
+    let m = c.self.inside in
+    let free = vacancies-set (g.L.Layout.slots m.layout) c.args.key.index (empty ((c.args.key.version + 1) % 2 ^ 32) Detached) (vacancies (g.L.Layout.slots m.layout) m.kept_count m.live_count) (m.kept_count + 1) (m.live_count - 1) (omega (arith, positive, c.self.invariant.fewer)) in
+    rw (← c.self.view_is, c.take.ensures.left, c.take.ensures.same_room, c.idx.ensures.value, c.version-after.ensures.value, free) (detaches-slots _ _ _ _ c.self.invariant.sound _ _ _ found.there _)
 
 pub returns-clause-valid : goal.returns-clause-valid
 returns-clause-valid g c = held_stays _ _ _ _ _ c.self.invariant c.self.view_is _ _ _ _ _ (invariant_of-self g c) c.take.ensures.same_room

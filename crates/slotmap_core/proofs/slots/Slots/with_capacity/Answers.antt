@@ -1,12 +1,15 @@
-use Rattle.std.proofs.Common.{arith}
+use Rattle.std.proofs.Common.{refl, arith}
 use Rattle.slotmap_core.proofs.PlacesLemmas.{sentinel_alone}
-use Rattle.slotmap_core.proofs.SlotLemmas.{valid}
+use Rattle.slotmap_core.proofs.SlotLemmas.{valid, FitsEmpty-free}
 use Rattle.slotmap_core.proofs.SlotGrowth.{IsSound-sentinel, taken-sentinel}
 use Rattle.slotmap_core.proofs.slots.Slots.with_capacity.Goals as goal
 
+pub push_empty-requires-clause-out : goal.push_empty-requires-clause-out
+push_empty-requires-clause-out g c = FitsEmpty-free 0 0 refl (omega arith) (λ _. refl)
+
 pub invariant_of-result : goal.invariant_of-result
 invariant_of-result g c =
-    rw (c.push_empty.ensures.pushed, c.push_empty.ensures.same_room, c.in_ok-layout.ensures.none) (record { sound = IsSound-sentinel; holds = omega (arith, c.in_ok-layout.ensures.room) })
+    rw (c.push_empty.ensures.pushed, c.push_empty.ensures.same_room, c.in_ok-layout.ensures.none) (record { sound = IsSound-sentinel; fewer = omega arith; holds = omega (arith, c.in_ok-layout.ensures.room) })
 
 pub returns-clause-starts : goal.returns-clause-starts
 returns-clause-starts g c =
