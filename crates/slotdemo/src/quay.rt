@@ -79,49 +79,64 @@ impl Quay {
     /// Lets the events of an hour happen.
     pub fn hour(&mut self, rt: &HostRuntime, hour: u64) -> Result<(), DayError> {
         for _ in 0..self.events.len() {
-            let Some((_, event)) = self.events.pop_due(hour) else {
-                break;
-            };
-            print!(rt; "{hour:>2}:00  ")?;
-            self.happen(rt, event)?;
+            match self.events.pop_due(hour) {
+                Some((_, event)) => self.happen(rt, hour, event)?,
+                None => break,
+            }
         }
         Ok(())
     }
 
-    fn happen(&mut self, rt: &HostRuntime, event: Event) -> Result<(), DayError> {
+    fn happen(&mut self, rt: &HostRuntime, hour: u64, event: Event) -> Result<(), DayError> {
         match event {
-            Event::Arrives(name, weight) => self.arrive(rt, name, weight),
-            Event::Boards(name, other) => self.board(rt, name, other),
-            Event::Leaves(name) => self.leave(rt, name),
+            Event::Arrives(name, weight) => self.arrive(rt, hour, name, weight),
+            Event::Boards(name, other) => self.board(rt, hour, name, other),
+            Event::Leaves(name) => self.leave(rt, hour, name),
         }
     }
 
-    fn arrive(&mut self, rt: &HostRuntime, name: &'static str, weight: u32) -> Result<(), DayError> {
+    fn arrive(
+        &mut self,
+        rt: &HostRuntime,
+        hour: u64,
+        name: &'static str,
+        weight: u32,
+    ) -> Result<(), DayError> {
         let node = self.nodes.add_root(name)?;
         let thing = self.things.spawn(node)?;
         self.things.attach_name(thing, name)?;
         self.things.attach_position(thing, weight)?;
-        println!(rt; "the {name} arrives, which weighs {weight}")?;
+        println!(rt; "{hour}:00 the {name} arrives, of {weight} tons")?;
         Ok(())
     }
 
-    fn board(&mut self, rt: &HostRuntime, name: &str, other: &str) -> Result<(), DayError> {
-        let alloc = rt.alloc();
-        let (Some(thing), Some(place)) = (self.find(alloc, name)?, self.find(alloc, other)?) else {
-            println!(rt; "the {name} can't board the {other}: one of them has left")?;
-            return Ok(());
-        };
-        match self.nodes.reparent(self.node(thing), self.node(place)) {
-            Ok(()) => println!(rt; "the {name} boards the {other}")?,
-            Err(error) => println!(rt; "the {name} can't board the {other}: {error}")?,
+    fn board(
+        &mut self,
+        rt: &HostRuntime,
+        hour: u64,
+        name: &str,
+        other: &str,
+    ) -> Result<(), DayError> {
+        let thing = self.node(rt.alloc(), name)?;
+        let place = self.node(rt.alloc(), other)?;
+        match (thing, place) {
+            (Some(node), Some(parent)) => match self.nodes.reparent(node, parent) {
+                Ok(()) => println!(rt; "{hour}:00 the {name} boards the {other}")?,
+                Err(error) => println!(rt;
+                    "{hour}:00 the {name} can't board the {other}: {error}"
+                )?,
+            },
+            _ => println!(rt;
+                "{hour}:00 the {name} can't board the {other}: one of them has left"
+            )?,
         }
         Ok(())
     }
 
-    fn leave(&mut self, rt: &HostRuntime, name: &str) -> Result<(), DayError> {
+    fn leave(&mut self, rt: &HostRuntime, hour: u64, name: &str) -> Result<(), DayError> {
         if let Some(thing) = self.find(rt.alloc(), name)? {
             self.things.despawn(thing);
-            println!(rt; "the {name} leaves")?;
+            println!(rt; "{hour}:00 the {name} leaves")?;
         }
         Ok(())
     }
@@ -129,29 +144,32 @@ impl Quay {
     // The thing of this name.
     fn find(&self, alloc: Global, name: &str) -> Result<Option<DefaultKey>, DayError> {
         for thing in self.things.both(alloc)? {
-            if self.things.name(thing).is_some_and(|other| *other == name) {
-                return Ok(Some(thing));
+            if let Some(other) = self.things.name(thing) {
+                if *other == name {
+                    return Ok(Some(thing));
+                }
             }
         }
         Ok(None)
     }
 
-    // The node of a thing.
-    fn node(&self, thing: DefaultKey) -> DefaultKey {
-        match self.things.get(thing) {
-            Some(node) => *node,
-            None => thing,
+    // The node of the thing of this name.
+    fn node(&self, alloc: Global, name: &str) -> Result<Option<DefaultKey>, DayError> {
+        match self.find(alloc, name)? {
+            Some(thing) => Ok(self.things.get(thing).copied()),
+            None => Ok(None),
         }
     }
 
-    /// Lists what is at the quay, with how deep it is aboard.
+    /// Lists what is at the quay, and how deep aboard.
     pub fn list(&self, rt: &HostRuntime) -> Result<(), DayError> {
         println!(rt; "at the end of the day:")?;
         for thing in self.things.both(rt.alloc())? {
-            let depth = self.nodes.depth(self.node(thing)).unwrap_or(0);
-            if let (Some(name), Some(weight)) = (self.things.name(thing), self.things.position(thing)) {
-                println!(rt; "  the {name}, {weight}, is {depth} deep")?;
-            }
+            let (Some(node), Some(name)) = (self.things.get(thing), self.things.name(thing)) else {
+                continue;
+            };
+            let depth = self.nodes.depth(*node).unwrap_or(0);
+            println!(rt; "the {name}, aboard of {depth}")?;
         }
         Ok(())
     }

@@ -1,5 +1,5 @@
 -- What a change of the nodes does to the way up from each.
-use Rattle.std.proofs.Common.{◌≡◌, ◌≢◌, ℕ, zero, suc, ◌+◌, ◌≤◌, ◌<◌, ◌↔◌, ◌⊎◌, Bool, true, false, Option, Some, None, is_some, refl, sym, ap, subst, ◌∙◌, inl, inr, arith}
+use Rattle.std.proofs.Common.{◌≡◌, ◌≢◌, ℕ, zero, suc, ◌+◌, ◌≤◌, ◌<◌, ◌↔◌, ◌⊎◌, Bool, true, false, Option, Some, None, Result, Ok, Err, IfOk, OnErr, is_some, refl, sym, ap, subst, ◌∙◌, inl, inr, arith}
 use Rattle.std.specs.FinMap as map
 use Rattle.slotmap.specs.Words.{Key, key_cmp}
 use Rattle.slotmap.proofs.Callers.{keys, same_or_other}
@@ -23,7 +23,7 @@ module _ {T : Type 0} where
       ap suc (one_way nodes n m b.0 (subst (Leads nodes n) same a.1.2) b.1.2)
 
   -- the nodes of a way are distinct, so it has no more than there are
-  OnWay : Nodes T → Nodes T → ℕ → Key → Type 0
+  abbrev OnWay : Nodes T → Nodes T → ℕ → Key → Type 0
   OnWay nodes m n k = (q : Key) (i : ℕ) → i ≤ n → Leads nodes i q → (j : ℕ) → StepsTo nodes j k q → i + j ≡ n → has_node m q
 
   short_in : (nodes m : Nodes T) (n : ℕ) (k : Key) → Leads nodes n k → OnWay nodes m n k → n + 1 ≤ map.len m
@@ -138,9 +138,15 @@ module _ {T : Type 0} where
       the_other : (q : Key) → q ≢ k → map.get (map.insert nodes k node) q ≡ map.get nodes q
       the_other q other = grind (arith, keys)
 
+  -- a node was added, or nothing was done
+  pub tree_add : {E : Type 0} (old new : Nodes T) (node : Node T) (result : Result Key E) → IfOk result (λ k. new ≡ map.insert old k node) → IfOk result (λ k. lacks_node old k) → OnErr result (new ≡ old)
+      → IsTree old → ((k : Key) → lacks_node old k → IsTree (map.insert old k node)) → IsTree new
+  tree_add old new node (Ok k) is fresh same tree added = subst IsTree (sym is) (added k fresh)
+  tree_add old new node (Err e) is fresh same tree added = subst IsTree (sym same) tree
+
   -- a node that gets another parent
   module _ (nodes : Nodes T) (k p : Key) (node : Node T) (at : map.get nodes k ≡ Some node) where
-    moved : Nodes T
+    abbrev pub moved : Nodes T
     moved = map.insert nodes k (record node { parent = Some p })
 
     moved_here : map.get moved k ≡ Some (record node { parent = Some p })

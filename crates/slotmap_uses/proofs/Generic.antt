@@ -1,13 +1,13 @@
 -- What a change of a map of keys, or of an ordered map, does to each key: nothing here speaks of the structures.
-use Rattle.std.proofs.Common.{◌≡◌, ◌≢◌, ◌+◌, ◌≤◌, ◌⊎◌, Bool, true, false, Option, Some, None, OnSome, is_some, is_eq, refl, sym, ap, inl, inr, arith}
+use Rattle.std.proofs.Common.{◌≡◌, ◌≢◌, ◌+◌, ◌≤◌, ◌⊎◌, Bool, true, false, Option, Some, None, OnSome, Result, Ok, Err, OnOk, OnErr, is_err, is_some, is_eq, refl, sym, ap, ◌∙◌, inl, inr, arith}
 use Rattle.std.specs.declared.cmp.Ordering.{Ordering}
 use Rattle.std.specs.Ordering.{eq_by_cmp}
 use Rattle.std.specs.Cmp.{IsTotalOrder, tied_itself, Equal-is}
 use Rattle.std.specs.FinMap as map
 use Rattle.std.specs.BTreeMap as tree
 use Rattle.std.proofs.lemmas.Map.Lookups.{CmpEqualImpliesEq}
-use Rattle.slotmap.specs.Words.{Key, key_cmp, Content, IsContent, IsSpent, Removes}
-use Rattle.slotmap.proofs.Callers.{keys_total, exact_keys, removed_spent}
+use Rattle.slotmap.specs.Words.{Key, key_cmp, Content, IsContent, IsSpent, Inserts, Removes}
+use Rattle.slotmap.proofs.Callers.{keys, keys_total, exact_keys, inserted_fresh, removed_spent}
 
 module _ {K : Type 0} {R : K → K → Ordering} (total : IsTotalOrder R) (exact : CmpEqualImpliesEq R) where
   pub tied : (q k : K) → eq_by_cmp R q k ≡ true → q ≡ k
@@ -25,12 +25,12 @@ module _ {K : Type 0} {R : K → K → Ordering} (total : IsTotalOrder R) (exact
   -- a tree map after one key got a value, or lost its own
   module _ {X : Type 0} (old new : tree.BTreeMap K X) (k : K) (w : Option X) (updates : tree.Updates R old new k w) where
     pub tree_here : tree.get R new k ≡ w
-    tree_here = updates.1.0
+    tree_here = updates.1
 
     pub tree_other : (q : K) → q ≢ k → tree.get R new q ≡ tree.get R old q
     tree_other q other = elim (eq_by_cmp R k q) as (λ b. eq_by_cmp R k q ≡ b → tree.get R new q ≡ tree.get R old q) [
       | true ↦ λ same. absurd (other (sym (tied k q same)))
-      | false ↦ λ apart. updates.1.1.0 q apart
+      | false ↦ λ apart. updates.2 q apart
     ] refl
 
 module _ {X : Type 0} where
@@ -56,3 +56,19 @@ module _ {X : Type 0} where
 pub removed_for_good : {V : Type 0} (reuses : Bool) (old new : Content V) → IsContent reuses old → (k : Key) (result : Option V) → result ≡ map.get old.live k → OnSome result (Removes old k new) → OnSome result (IsSpent new k)
 removed_for_good reuses old new well k None is removes = tt
 removed_for_good reuses old new well k (Some v) is removes = removed_spent old new reuses well k (ap is_some (sym is)) removes
+
+-- an insert that is undone leaves the same keys and values
+pub insert_undone : {V : Type 0} (old mid : Content V) (k : Key) (v : V) (live : map.FinMap key_cmp V) → IsContent true old → Inserts old k v mid → live ≡ map.remove mid.live k → live ≡ old.live
+insert_undone old mid k v live well inserts is =
+    let fresh = inserted_fresh true old k v mid well inserts in
+    let undone : map.remove (map.insert old.live k v) k ≡ old.live = grind (arith, keys) in
+    is ∙ ap (λ m. map.remove m k) inserts.live ∙ undone
+
+-- what is said of an error, or of a success
+pub at_err : {A B P : Type 0} (r : Result A B) → is_err r ≡ true → OnErr r P → P
+at_err (Ok x) is h = absurd (cc)
+at_err (Err e) is h = h
+
+pub at_ok : {A B P : Type 0} (r : Result A B) → is_err r ≡ false → OnOk r P → P
+at_ok (Ok x) is h = h
+at_ok (Err e) is h = absurd (cc)

@@ -129,6 +129,16 @@ module _ {T : Type 0} where
         kept : (t : Turn) → t ≢ j.turn → t ≢ (time, count) → get turn_cmp new t ≡ get turn_cmp old t
         kept t left there = tree_other turns_total exact_turns mid new j.turn None takes t left ∙ tree_other turns_total exact_turns old mid (time, count) (Some k) puts t there
 
+    -- a queue with the same entries
+    pub queue_same : (new : BTreeMap Turn Key) → new.entries ≡ old.entries → IsQueue jobs count new
+    queue_same new same = record {
+      queued = λ k j found. get_same j.turn ∙ is.queued k j found;
+      waits = λ t k found. is.waits t k (sym (get_same t) ∙ found);
+      numbered = is.numbered;
+    } where
+      get_same : (t : Turn) → get turn_cmp new t ≡ get turn_cmp old t
+      get_same t = rw same refl
+
     -- the first turn of the queue is that of the job that comes next
     pub first_turn : (t : Turn) (k : Key) → get turn_cmp old t ≡ Some k → IsLowerBound turn_cmp old t → (now : ℕ) → t.0 ≤ now → (job : T) × IsNext jobs now k job
     first_turn t k there least now due = let w = is.waits t k there in
@@ -143,4 +153,4 @@ module _ {T : Type 0} where
 
     -- an empty queue has no job
     pub none_queued : length old.entries ≡ 0 → (now : ℕ) → NoneDue jobs now
-    none_queued empty now q j found = absurd (let is : get turn_cmp old j.turn ≡ None = no_entries old old.entries refl empty j.turn in let h = sym is ∙ is.queued q j found in cc)
+    none_queued empty now q j found = absurd (let nothing : get turn_cmp old j.turn ≡ None = no_entries old old.entries refl empty j.turn in let h = sym nothing ∙ is.queued q j found in cc)

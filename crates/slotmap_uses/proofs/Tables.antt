@@ -3,7 +3,7 @@ use Rattle.std.proofs.Common.{◌≡◌, ◌≢◌, ◌⊎◌, ℕ, ◌<◌, ◌
 use Rattle.std.specs.FinMap as map
 use Rattle.std.specs.Cmp.{nat_cmp_total}
 use Rattle.std.proofs.lemmas.Bool.Decides.{nat_tests}
-use Rattle.slotmap.specs.Words.{Key, key_cmp, null_key, Content, IsContent, IsLive, Inserts, Keeps, Pairs, get, entry, has_entry, put, remove}
+use Rattle.slotmap.specs.Words.{Key, key_cmp, null_key, Content, IsContent, IsLive, Inserts, Keeps, Pairs, get, entry, has_entry, put, bind, remove}
 use Rattle.slotmap.proofs.Callers.{same_or_other, inserted_fresh, secondary, keys}
 use Rattle.slotmap_uses.specs.Beside.{IsBeside}
 
@@ -27,6 +27,20 @@ module _ {P : Type 0} (m : Pairs P) (k q : Key) where
   pub removed : get (remove m k) k ≡ None
   removed = grind (arith, secondary)
 
+module _ {P : Type 0} (m : Pairs P) (k : Key) (v w : P) (here : get m k ≡ Some v) where
+  -- a value that replaces another one
+  pub get-bind_other : (q : Key) → q ≢ k → get (bind m k w) q ≡ get m q
+  get-bind_other q other = elim (by_index q.index k.index) [
+    | inl at ↦ (let apart : q.version ≢ k.version = λ same. other (λ i. record { index = at i; version = same i }) in
+        let new : get (bind m k w) q ≡ None = grind (arith, secondary) in
+        let old : get m q ≡ None = grind (arith, nat_tests) in
+        new ∙ sym old)
+    | inr elsewhere ↦ grind (arith, secondary)
+  ]
+
+  pub get-bind_here : get (bind m k w) k ≡ Some w
+  get-bind_here = grind (arith, secondary)
+
 pub none_where : {A : Type 0} (o : Option A) → (is_some o ≡ true → ⊥) → o ≡ None
 none_where None not = refl
 none_where (Some x) not = absurd (not refl)
@@ -45,6 +59,18 @@ module _ {E P : Type 0} (c new : Content E) (m : Pairs P) (k : Key) (beside : Is
 
   pub beside_kept : new.live ≡ c.live → IsBeside new m
   beside_kept is q there = rw is (beside q there)
+
+  pub beside_detach : IsBeside c (remove m k)
+  beside_detach q there = elim (same_or_other q k) [
+    | inl e ↦ (let gone : get (remove m k) k ≡ None = grind (arith, secondary) in let t = rw e at there in absurd (cc))
+    | inr other ↦ beside q (rw (get-remove_other m k q other) at there)
+  ]
+
+  pub beside_bind : (v w : P) → get m k ≡ Some v → IsBeside c (bind m k w)
+  beside_bind v w here q there = elim (same_or_other q k) [
+    | inl e ↦ rw e (beside k (ap is_some here))
+    | inr other ↦ beside q (rw (get-bind_other m k v w here q other) at there)
+  ]
 
   pub beside_despawn : new.live ≡ map.remove c.live k → IsBeside new (remove m k)
   beside_despawn is q there = elim (same_or_other q k) [

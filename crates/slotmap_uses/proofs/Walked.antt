@@ -4,7 +4,8 @@ use Rattle.std.proofs.lemmas.List.{length-map}
 use Rattle.std.specs.Option.{option_or}
 use Rattle.std.specs.Ordering.{eq_by_cmp}
 use Rattle.slotmap.specs.Words.{Key, key_cmp}
-use Rattle.slotmap_core.proofs.KeyLemmas.{keys_total, exact_keys, itself}
+use Rattle.slotmap.proofs.Callers.{keys_total, exact_keys}
+use Rattle.slotmap_uses.proofs.Generic.{itself}
 use Rattle.slotmap_uses.specs.Sequence.{value_of, first_or, key_after, IsOnce}
 use Rattle.slotmap_uses.proofs.Chains.{value_of-append, key_after-split, once_apart}
 

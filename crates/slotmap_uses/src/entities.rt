@@ -251,10 +251,10 @@ impl<E: Drop, P: Drop, N: Drop> World<E, P, N> {
         ensures entities { self.new.entities ≡ self.old.entities }
         ensures names { self.new.names ≡ self.old.names }
     {
-        match self.positions.get_mut(key) {
-            Some(place) => Ok(mem::replace(place, position)),
-            None => Err(position),
-        }
+        let Some(place) = self.positions.get_mut(key) else {
+            return Err(position);
+        };
+        Ok(mem::replace(place, position))
     }
 
     // Whether an entity has both components.
