@@ -1,0 +1,185 @@
+-- What a change of the nodes does to the way up from each.
+use Rattle.std.proofs.Common.{◌≡◌, ◌≢◌, ℕ, zero, suc, ◌+◌, ◌≤◌, ◌<◌, ◌↔◌, ◌⊎◌, Bool, true, false, Option, Some, None, Result, Ok, Err, IfOk, OnErr, is_some, refl, sym, ap, subst, ◌∙◌, inl, inr, arith}
+use Rattle.std.specs.FinMap as map
+use Rattle.slotmap.specs.Words.{Key, key_cmp}
+use Rattle.slotmap.proofs.Callers.{keys, same_or_other}
+use Rattle.slotmap_uses.specs.declared.scene.Node.{Node}
+use Rattle.slotmap_uses.specs.Climb.{Nodes, has_node, lacks_node, parent_in, parent_of, Leads, IsTree, StepsTo, IsWithin, with_parent, with_parent_in}
+use Rattle.slotmap_uses.proofs.Generic.{left_in, len_removed, some_entry}
+
+module _ {T : Type 0} where
+  leads_live : (nodes : Nodes T) (n : ℕ) (k : Key) → Leads nodes n k → has_node nodes k
+  leads_live nodes zero k leads = leads.0
+  leads_live nodes (suc n) k leads = leads.1.0
+
+  -- a way up ends at one place
+  one_way : (nodes : Nodes T) (n m : ℕ) (k : Key) → Leads nodes n k → Leads nodes m k → n ≡ m
+  one_way nodes zero zero k a b = refl
+  one_way nodes zero (suc m) k a b = absurd (let h = sym a.1 ∙ b.1.1 in cc)
+  one_way nodes (suc n) zero k a b = absurd (let h = sym b.1 ∙ a.1.1 in cc)
+  one_way nodes (suc n) (suc m) k a b =
+      let h = sym a.1.1 ∙ b.1.1 in
+      let same : a.0 ≡ b.0 = cc in
+      ap suc (one_way nodes n m b.0 (subst (Leads nodes n) same a.1.2) b.1.2)
+
+  -- the nodes of a way are distinct, so it has no more than there are
+  abbrev OnWay : Nodes T → Nodes T → ℕ → Key → Type 0
+  OnWay nodes m n k = (q : Key) (i : ℕ) → i ≤ n → Leads nodes i q → (j : ℕ) → StepsTo nodes j k q → i + j ≡ n → has_node m q
+
+  short_in : (nodes m : Nodes T) (n : ℕ) (k : Key) → Leads nodes n k → OnWay nodes m n k → n + 1 ≤ map.len m
+  short_in nodes m zero k leads on = some_entry m k (on k zero (omega arith) leads zero refl refl)
+  short_in nodes m (suc n) k leads on =
+      let here : has_node m k = on k (suc n) (omega arith) leads zero refl (omega arith) in
+      let less = short_in nodes (map.remove m k) n leads.0 leads.1.2 (λ q i le up j steps sum.
+      let there : has_node m q = on q i (omega arith) up (suc j) (leads.0, (leads.1.1, steps)) (omega arith) in
+      let other : q ≢ k = λ same. (let e = one_way nodes i (suc n) k (subst (Leads nodes i) same up) leads in omega arith) in
+      left_in m k q other there) in
+      let all = len_removed m k here in
+      omega arith
+
+  pub short : (nodes : Nodes T) (n : ℕ) (k : Key) → Leads nodes n k → n < map.len nodes
+  short nodes n k leads = let h = short_in nodes nodes n k leads (λ q i le up j steps sum. leads_live nodes i q up) in omega arith
+
+  -- where a way goes on, and where it ends
+  pub next_up : (nodes : Nodes T) (n : ℕ) (k p : Key) → Leads nodes n k → parent_of nodes k ≡ Some p → (m : ℕ) × ((n ≡ suc m) × Leads nodes m p)
+  next_up nodes zero k p leads is = absurd (let h = sym leads.1 ∙ is in cc)
+  next_up nodes (suc n) k p leads is = let h = sym leads.1.1 ∙ is in let same : leads.0 ≡ p = cc in (n, (refl, subst (Leads nodes n) same leads.1.2))
+
+  pub ends : (nodes : Nodes T) (n : ℕ) (k : Key) → Leads nodes n k → parent_of nodes k ≡ None → n ≡ 0
+  ends nodes zero k leads is = refl
+  ends nodes (suc n) k leads is = absurd (let h = sym leads.1.1 ∙ is in cc)
+
+  -- whether k is within other is up to its parent, if k is another node
+  pub within_up : (nodes : Nodes T) (k p other : Key) → parent_of nodes k ≡ Some p → k ≢ other → IsWithin nodes k other ↔ IsWithin nodes p other
+  within_up nodes k p other is apart = (λ w. down w.0 w.1, λ w. (suc w.0, (p, (is, w.1))))
+    where
+      down : (n : ℕ) → StepsTo nodes n k other → IsWithin nodes p other
+      down zero same = absurd (apart same)
+      down (suc n) steps = let h = sym steps.1.0 ∙ is in let same : steps.0 ≡ p = cc in (n, subst (λ x. StepsTo nodes n x other) same steps.1.1)
+
+  pub root_within : (nodes : Nodes T) (k other : Key) → parent_of nodes k ≡ None → k ≢ other → IsWithin nodes k other → ⊥
+  root_within nodes k other is apart w = by w.0 w.1
+    where
+      by : (n : ℕ) → StepsTo nodes n k other → ⊥
+      by zero same = apart same
+      by (suc n) steps = let h = sym steps.1.0 ∙ is in cc
+
+  -- what a loop up from a node knows at another one, so many steps up
+  pub record Climbing (nodes : Nodes T) (from at : Key) (steps : ℕ) : Type 0 where
+    pub left : ℕ
+    pub up : Leads nodes left at
+    pub all : Leads nodes (steps + left) from
+    pub few : steps + left < map.len nodes
+
+  pub climbing_start : (nodes : Nodes T) → IsTree nodes → (k : Key) → has_node nodes k → Climbing nodes k k 0
+  climbing_start nodes tree k live =
+      let up = tree k live in
+      let less = short nodes up.0 k up.1 in
+      let same : up.0 ≡ 0 + up.0 = omega arith in
+      record { left = up.0; up = up.1; all = subst (λ n. Leads nodes n k) same up.1; few = omega arith }
+
+  module _ (nodes : Nodes T) (from at : Key) (steps : ℕ) (climbing : Climbing nodes from at steps) where
+    pub climbing_live : has_node nodes at
+    climbing_live = leads_live nodes climbing.left at climbing.up
+
+    module _ (node : Node T) (there : map.get nodes at ≡ Some node) where
+      pub climbing_step : (p : Key) → node.parent ≡ Some p → Climbing nodes from p (steps + 1)
+      climbing_step p is =
+          let next = next_up nodes climbing.left at p climbing.up (ap parent_in there ∙ is) in
+          let one = next.1.0 in
+          let few = climbing.few in
+          let sum : steps + climbing.left ≡ steps + 1 + next.0 = omega arith in
+          record { left = next.0; up = next.1.1; all = subst (λ n. Leads nodes n from) sum climbing.all; few = omega arith }
+
+      pub climbing_end : node.parent ≡ None → Leads nodes steps from
+      climbing_end is =
+          let none = ends nodes climbing.left at climbing.up (ap parent_in there ∙ is) in
+          let sum : steps + climbing.left ≡ steps = omega arith in
+          subst (λ n. Leads nodes n from) sum climbing.all
+
+      -- whether it is within another node, which isn't here, is up to the parent
+      pub within_step : (p other : Key) → at ≢ other → node.parent ≡ Some p → (IsWithin nodes from other ↔ IsWithin nodes at other) → IsWithin nodes from other ↔ IsWithin nodes p other
+      within_step p other apart is same = let up = within_up nodes at p other (ap parent_in there ∙ is) apart in (λ w. up.0 (same.0 w), λ w. same.1 (up.1 w))
+
+      pub within_none : (other : Key) → at ≢ other → node.parent ≡ None → (IsWithin nodes from other ↔ IsWithin nodes at other) → IsWithin nodes from other → ⊥
+      within_none other apart is same w = root_within nodes at other (ap parent_in there ∙ is) apart (same.0 w)
+
+    pub climbing_over : steps ≡ map.len nodes → ⊥
+    climbing_over all = let few = climbing.few in omega arith
+
+  -- nodes that stay, with the same parents, lead up as before
+  pub leads_kept : (old new : Nodes T) → ((q : Key) → has_node old q → has_node new q × (parent_of new q ≡ parent_of old q)) → (n : ℕ) (k : Key) → Leads old n k → Leads new n k
+  leads_kept old new kept zero k leads = let h = kept k leads.0 in (h.0, h.1 ∙ leads.1)
+  leads_kept old new kept (suc n) k leads = let h = kept k leads.1.0 in (leads.0, (h.0, h.1 ∙ leads.1.1, leads_kept old new kept n leads.0 leads.1.2))
+
+  module _ (nodes : Nodes T) (k : Key) (node : Node T) (fresh : lacks_node nodes k) where
+    inserted_kept : (q : Key) → has_node nodes q → has_node (map.insert nodes k node) q × (parent_of (map.insert nodes k node) q ≡ parent_of nodes q)
+    inserted_kept q there =
+        let other : q ≢ k = λ same. (let h = sym (subst (has_node nodes) same there) ∙ fresh in cc) in
+        let is : map.get (map.insert nodes k node) q ≡ map.get nodes q = grind (arith, keys) in
+        (ap is_some is ∙ there, ap parent_in is)
+
+    inserted_here : map.get (map.insert nodes k node) k ≡ Some node
+    inserted_here = grind (arith, keys)
+
+    pub tree_root : IsTree nodes → node.parent ≡ None → IsTree (map.insert nodes k node)
+    tree_root tree none q there = elim (same_or_other q k) [
+      | inl same ↦ (zero, rw same (ap is_some inserted_here, ap parent_in inserted_here ∙ none))
+      | inr other ↦ (let was : has_node nodes q = sym (ap is_some (the_other q other)) ∙ there in let up = tree q was in (up.0, leads_kept nodes (map.insert nodes k node) inserted_kept up.0 q up.1))
+    ] where
+      the_other : (q : Key) → q ≢ k → map.get (map.insert nodes k node) q ≡ map.get nodes q
+      the_other q other = grind (arith, keys)
+
+    pub tree_child : (p : Key) → IsTree nodes → has_node nodes p → node.parent ≡ Some p → IsTree (map.insert nodes k node)
+    tree_child p tree live is q there = elim (same_or_other q k) [
+      | inl same ↦ (let up = tree p live in (suc up.0, rw same (p, (ap is_some inserted_here, ap parent_in inserted_here ∙ is, leads_kept nodes (map.insert nodes k node) inserted_kept up.0 p up.1))))
+      | inr other ↦ (let was : has_node nodes q = sym (ap is_some (the_other q other)) ∙ there in let up = tree q was in (up.0, leads_kept nodes (map.insert nodes k node) inserted_kept up.0 q up.1))
+    ] where
+      the_other : (q : Key) → q ≢ k → map.get (map.insert nodes k node) q ≡ map.get nodes q
+      the_other q other = grind (arith, keys)
+
+  -- a node was added, or nothing was done
+  pub tree_add : {E : Type 0} (old new : Nodes T) (node : Node T) (result : Result Key E) → IfOk result (λ k. new ≡ map.insert old k node) → IfOk result (λ k. lacks_node old k) → OnErr result (new ≡ old)
+      → IsTree old → ((k : Key) → lacks_node old k → IsTree (map.insert old k node)) → IsTree new
+  tree_add old new node (Ok k) is fresh same tree added = subst IsTree (sym is) (added k fresh)
+  tree_add old new node (Err e) is fresh same tree added = subst IsTree (sym same) tree
+
+  -- a node that gets another parent
+  module _ (nodes : Nodes T) (k p : Key) (node : Node T) (at : map.get nodes k ≡ Some node) where
+    abbrev pub moved : Nodes T
+    moved = map.insert nodes k (record node { parent = Some p })
+
+    moved_here : map.get moved k ≡ Some (record node { parent = Some p })
+    moved_here = grind (arith, keys)
+
+    moved_other : (q : Key) → q ≢ k → map.get moved q ≡ map.get nodes q
+    moved_other q other = grind (arith, keys)
+
+    -- outside of what is below k the way up is the same
+    outside : (n : ℕ) (q : Key) → (IsWithin nodes q k → ⊥) → Leads nodes n q → Leads moved n q
+    outside zero q out leads = let is = moved_other q (λ same. out (zero, same)) in (ap is_some is ∙ leads.0, ap parent_in is ∙ leads.1)
+    outside (suc n) q out leads =
+        let is = moved_other q (λ same. out (zero, same)) in
+        (leads.0, (ap is_some is ∙ leads.1.0, ap parent_in is ∙ leads.1.1, outside n leads.0 (λ w. out (suc w.0, (leads.0, (leads.1.1, w.1)))) leads.1.2))
+
+    module _ (m : ℕ) (up : Leads nodes m p) (out : IsWithin nodes p k → ⊥) where
+      at_k : Leads moved (suc m) k
+      at_k = (p, (ap is_some moved_here, ap parent_in moved_here, outside m p out up))
+
+      still : (n : ℕ) (q : Key) → Leads nodes n q → (i : ℕ) × Leads moved i q
+      still zero q leads = elim (same_or_other q k) [
+        | inl same ↦ (suc m, subst (Leads moved (suc m)) (sym same) at_k)
+        | inr other ↦ (let is = moved_other q other in (zero, (ap is_some is ∙ leads.0, ap parent_in is ∙ leads.1)))
+      ]
+      still (suc n) q leads = elim (same_or_other q k) [
+        | inl same ↦ (suc m, subst (Leads moved (suc m)) (sym same) at_k)
+        | inr other ↦ (let is = moved_other q other in
+            let above = still n leads.0 leads.1.2 in
+            (suc above.0, (leads.0, (ap is_some is ∙ leads.1.0, ap parent_in is ∙ leads.1.1, above.1))))
+      ]
+
+      pub tree_moved : IsTree nodes → IsTree moved
+      tree_moved tree q there = elim (same_or_other q k) [
+        | inl same ↦ (suc m, subst (Leads moved (suc m)) (sym same) at_k)
+        | inr other ↦ (let was : has_node nodes q = sym (ap is_some (moved_other q other)) ∙ there in let leads = tree q was in still leads.0 q leads.1)
+      ]

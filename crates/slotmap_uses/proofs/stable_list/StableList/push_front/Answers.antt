@@ -1,0 +1,8 @@
+use Rattle.std.proofs.Common.{IfOk, ◌≡◌, ◌∷◌, Ok, Err}
+use Rattle.slotmap_uses.specs.Sequence.{PutsBetween}
+use Rattle.slotmap_uses.proofs.Chains.{put_first}
+use Rattle.std.proofs.lemmas.Result.{IfOk-weaker}
+use Rattle.slotmap_uses.proofs.stable_list.StableList.push_front.Goals as goal
+
+pub returns-clause-ok : goal.returns-clause-ok
+returns-clause-ok g c = IfOk-weaker c.put.result (λ key. PutsBetween c.args.self.now _ _ (key, c.args.value) c.put.new.self) _ (λ key puts. put_first c.args.self.now c.put.new.self _ (key, c.args.value) puts) c.put.ensures.ok

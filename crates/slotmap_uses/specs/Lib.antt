@@ -1,0 +1,8 @@
+pub mod Beside
+pub mod Chain
+pub mod Climb
+pub mod GraphParts
+pub mod Refused
+pub mod Schedule
+pub mod Sequence
+pub mod World

@@ -1,0 +1,277 @@
+//! Entities with components: an entity store.
+//!
+//! An entity of a [`World`] is a key that no other entity ever had. Its components stand in side
+//! tables beside the entities, under the same keys, and leave with it. What is proved of it:
+//!
+//! - A component is never seen under a later entity, even if that has the same slot.
+//! - Whoever has a component is alive.
+//! - A call on one entity changes no component of another, and none of another kind.
+//!
+//! The entities stand in a `DenseSlotMap`, packed for iteration. The positions stand in a
+//! `SecondaryMap`, for most entities, and the names in a `SparseSecondaryMap`, for few. Each call
+//! takes constant time, unless a table grows; [`World::both`] takes time linear in the number of
+//! entities.
+//!
+//! ```
+//! let mut world: World<u8, (i32, i32), &str> = World::new(alloc)?;
+//! let hero = world.spawn(1)?;
+//! world.attach_position(hero, (3, 4))?;
+//! world.despawn(hero);
+//! let other = world.spawn(2)?;
+//! assert_eq!(rt; world.position(other), None);
+//! ```
+#![tactic(auto, using(slotmap::proofs::Callers::keys))]
+
+ghost use Rattle.std.specs.Prelude.{◌≡◌, ◌≢◌, ◌&&◌, Some, None, IfOk, OnOk, IfErr, OnErr, IfSome, IsSome, IfNone, OnSome, false, true, option_copied, is_some, filter};
+ghost use Rattle.std.specs.FinMap as map;
+ghost use Rattle.slotmap.specs.Words.{Key as KeyOf, IsLive, IsNew, IsSpent, KeepsSpent, Refuses, get};
+ghost use Rattle.slotmap_uses.specs.World.{RefusesAttach, has_both};
+
+use slotmap::{
+    DefaultKey, DenseSlotMap, InsertError, PutError, ReserveError, SecondaryMap, SparseSecondaryMap,
+};
+use std::alloc::{AllocError, Global};
+use std::marker::Model;
+use std::mem;
+use thiserror::Error;
+
+/// Entities with values of type `E`, each with a position, a name, both or none.
+///
+/// A clause sees `entities`, which has the value of each entity, their order, and the two tables.
+#[derive(Drop)]
+pub struct World<E, P, N> {
+    entities: DenseSlotMap<DefaultKey, E>,
+    positions: SecondaryMap<DefaultKey, P>,
+    names: SparseSecondaryMap<DefaultKey, N>,
+}
+
+impl<E, P, N> Model for World<E, P, N> {
+    ghost use Rattle.slotmap_uses.specs.World.{World as Seen, world_code};
+
+    ghost Value = { Seen E P N };
+
+    ghost coded = { world_code E.code P.code N.code };
+
+    ghost use Rattle.slotmap_uses.specs.Beside.{IsBeside};
+
+    ghost view = { λ w. record { entities = w.entities.content; order = w.entities.keys; positions = w.positions.pairs; names = w.names.pairs } };
+
+    ghost invariant = { λ w. IsBeside w.entities.content w.positions.pairs × IsBeside w.entities.content w.names.pairs };
+}
+
+/// A component was not attached. The error holds it.
+#[derive(Debug, Drop, Error)]
+pub enum AttachError<C> {
+    /// The entity is gone.
+    #[error("the entity is gone")]
+    Gone(C),
+    /// The allocation fails.
+    #[error("out of memory")]
+    Memory(C),
+}
+
+impl<E: Drop, P: Drop, N: Drop> World<E, P, N> {
+    /// Makes a world with no entity.
+    ///
+    /// It fails only if memory runs out.
+    pub fn new(alloc: Global) -> Result<Self, ReserveError>
+        ensures entities { IfOk result (λ world. IsNew world.entities) }
+        ensures positions { IfOk result (λ world. world.positions ≡ map.empty) }
+        ensures names { IfOk result (λ world. world.names ≡ map.empty) }
+    {
+        let entities = DenseSlotMap::new(alloc)?;
+        let positions = SecondaryMap::new(alloc)?;
+        let names = SparseSecondaryMap::new(alloc)?;
+        Ok(World {
+            entities,
+            positions,
+            names,
+        })
+    }
+
+    /// Returns how many entities there are.
+    pub fn len(&self) -> usize
+        ensures { result ≡ map.len self.now.entities.live }
+    {
+        self.entities.len()
+    }
+
+    /// Adds an entity with no component, and returns its key.
+    ///
+    /// If the call fails, the error holds the value, and the world is as before.
+    pub fn spawn(&mut self, entity: E) -> Result<DefaultKey, InsertError<E>>
+        // A new entity, with no component.
+        ensures adds { IfOk result (λ key. self.new.entities.live ≡ map.insert self.old.entities.live key entity) }
+        ensures fresh { IfOk result (λ key. map.get self.old.entities.live key ≡ None) }
+        ensures bare { IfOk result (λ key. (get self.new.positions key ≡ None) × (get self.new.names key ≡ None)) }
+
+        // Why the call failed, and what that leaves.
+        ensures err { IfErr result (Refuses self.old.entities entity) }
+        ensures unchanged { OnErr result (self.new.entities.live ≡ self.old.entities.live) }
+
+        // All else is as before.
+        ensures positions { self.new.positions ≡ self.old.positions }
+        ensures names { self.new.names ≡ self.old.names }
+        ensures gone { KeepsSpent self.old.entities self.new.entities }
+    {
+        self.entities.insert(entity)
+    }
+
+    /// Removes an entity, and drops its components. It returns the entity's value, or `None` if it is
+    /// gone. The key is spent for good.
+    pub fn despawn(&mut self, key: DefaultKey) -> Option<E>
+        // The entity is gone, with its components.
+        ensures value { result ≡ map.get self.old.entities.live key }
+        ensures removed { self.new.entities.live ≡ map.remove self.old.entities.live key }
+        ensures bare { (get self.new.positions key ≡ None) × (get self.new.names key ≡ None) }
+        ensures for_good { OnSome result (IsSpent self.new.entities key) }
+
+        // All else is as before.
+        ensures others { (q : KeyOf) → q ≢ key
+            → (get self.new.positions q ≡ get self.old.positions q) × (get self.new.names q ≡ get self.old.names q) }
+        ensures gone { KeepsSpent self.old.entities self.new.entities }
+    {
+        self.positions.remove(key);
+        self.names.remove(key);
+        self.entities.remove(key)
+    }
+
+    /// Returns the value of an entity, or `None` if it is gone.
+    pub fn get(&self, key: DefaultKey) -> Option<&E>
+        ensures { option_copied result ≡ map.get self.now.entities.live key }
+    {
+        self.entities.get(key)
+    }
+
+    /// Gives an entity a position, and returns the one that it had.
+    ///
+    /// If the call fails, the error holds the position, and the world is as before.
+    pub fn attach_position(
+        &mut self,
+        key: DefaultKey,
+        position: P,
+    ) -> Result<Option<P>, AttachError<P>>
+        // The entity has this position now.
+        ensures before { IfOk result (λ before. before ≡ get self.old.positions key) }
+        ensures there { OnOk result (get self.new.positions key ≡ Some position) }
+        ensures live { OnOk result (IsLive self.old.entities key) }
+
+        // Why the call failed, and what that leaves.
+        ensures err { IfErr result (RefusesAttach self.old.entities key position) }
+        ensures unchanged { OnErr result (self.new ≡ self.old) }
+
+        // All else is as before.
+        ensures others { (q : KeyOf) → q ≢ key → get self.new.positions q ≡ get self.old.positions q }
+        ensures entities { self.new.entities ≡ self.old.entities }
+        ensures names { self.new.names ≡ self.old.names }
+    {
+        if !self.entities.contains_key(key) {
+            return Err(AttachError::Gone(position));
+        }
+        match self.positions.insert(key, position) {
+            Ok(before) => Ok(before),
+            Err(PutError(position)) => Err(AttachError::Memory(position)),
+        }
+    }
+
+    /// Gives an entity a name, and returns the one that it had.
+    ///
+    /// If the call fails, the error holds the name, and the world is as before.
+    pub fn attach_name(&mut self, key: DefaultKey, name: N) -> Result<Option<N>, AttachError<N>>
+        // The entity has this name now.
+        ensures before { IfOk result (λ before. before ≡ get self.old.names key) }
+        ensures there { OnOk result (get self.new.names key ≡ Some name) }
+        ensures live { OnOk result (IsLive self.old.entities key) }
+
+        // Why the call failed, and what that leaves.
+        ensures err { IfErr result (RefusesAttach self.old.entities key name) }
+        ensures unchanged { OnErr result (self.new ≡ self.old) }
+
+        // All else is as before.
+        ensures others { (q : KeyOf) → q ≢ key → get self.new.names q ≡ get self.old.names q }
+        ensures entities { self.new.entities ≡ self.old.entities }
+        ensures positions { self.new.positions ≡ self.old.positions }
+    {
+        if !self.entities.contains_key(key) {
+            return Err(AttachError::Gone(name));
+        }
+        match self.names.insert(key, name) {
+            Ok(before) => Ok(before),
+            Err(PutError(name)) => Err(AttachError::Memory(name)),
+        }
+    }
+
+    /// Takes the position off an entity, and returns it, if it has one.
+    pub fn detach_position(&mut self, key: DefaultKey) -> Option<P>
+        ensures value { result ≡ get self.old.positions key }
+        ensures gone { get self.new.positions key ≡ None }
+        ensures others { (q : KeyOf) → q ≢ key → get self.new.positions q ≡ get self.old.positions q }
+        ensures entities { self.new.entities ≡ self.old.entities }
+        ensures names { self.new.names ≡ self.old.names }
+    {
+        self.positions.remove(key)
+    }
+
+    /// Takes the name off an entity, and returns it, if it has one.
+    pub fn detach_name(&mut self, key: DefaultKey) -> Option<N>
+        ensures value { result ≡ get self.old.names key }
+        ensures gone { get self.new.names key ≡ None }
+        ensures others { (q : KeyOf) → q ≢ key → get self.new.names q ≡ get self.old.names q }
+        ensures entities { self.new.entities ≡ self.old.entities }
+        ensures positions { self.new.positions ≡ self.old.positions }
+    {
+        self.names.remove(key)
+    }
+
+    /// Returns the position of an entity, or `None` if it has none, or is gone.
+    pub fn position(&self, key: DefaultKey) -> Option<&P>
+        ensures value { option_copied result ≡ get self.now.positions key }
+        ensures live { IsSome result → IsLive self.now.entities key }
+    {
+        self.positions.get(key)
+    }
+
+    /// Returns the name of an entity, or `None` if it has none, or is gone.
+    pub fn name(&self, key: DefaultKey) -> Option<&N>
+        ensures value { option_copied result ≡ get self.now.names key }
+        ensures live { IsSome result → IsLive self.now.entities key }
+    {
+        self.names.get(key)
+    }
+
+    /// Moves an entity that has a position to another one, and returns the old one. It allocates
+    /// nothing. If the entity has no position, the new one comes back.
+    pub fn move_to(&mut self, key: DefaultKey, position: P) -> Result<P, P>
+        ensures before { IfOk result (λ before. get self.old.positions key ≡ Some before) }
+        ensures there { OnOk result (get self.new.positions key ≡ Some position) }
+        ensures others { (q : KeyOf) → q ≢ key → get self.new.positions q ≡ get self.old.positions q }
+        ensures err { IfErr result (λ back. back ≡ position) }
+        ensures none { OnErr result (get self.old.positions key ≡ None) }
+        ensures unchanged { OnErr result (self.new ≡ self.old) }
+        ensures entities { self.new.entities ≡ self.old.entities }
+        ensures names { self.new.names ≡ self.old.names }
+    {
+        let Some(place) = self.positions.get_mut(key) else {
+            return Err(position);
+        };
+        Ok(mem::replace(place, position))
+    }
+
+    // Whether an entity has both components.
+    fn has_both(&self, key: DefaultKey) -> bool
+        ensures { result ≡ (is_some (get self.now.positions key) && is_some (get self.now.names key)) }
+    {
+        self.positions.contains_key(key) && self.names.contains_key(key)
+    }
+
+    /// Returns the entities that have both a position and a name, in packed order: a join of the two
+    /// tables.
+    pub fn both(&self, alloc: Global) -> Result<Vec<DefaultKey>, AllocError>
+        ensures { IfOk result (λ found. found.items ≡ filter (has_both self.now) self.now.order) }
+    {
+        self.entities
+            .keys()
+            .filter(|key| self.has_both(*key))
+            .collect(alloc)
+    }
+}

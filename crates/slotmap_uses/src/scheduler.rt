@@ -1,0 +1,256 @@
+//! Jobs that wait for their time, each under a handle by which it can be cancelled.
+//!
+//! A [`Scheduler`] is a timer queue. It gives out one handle for each job, and runs none itself:
+//! [`Scheduler::pop_due`] returns the job whose turn it is. What is proved of it:
+//!
+//! - Jobs come by ascending time, and jobs of one time in the order in which they were scheduled.
+//! - A job that was cancelled or returned never comes again. Its handle is spent for good, so it
+//!   finds no later job either.
+//! - A call that fails hands the job back, and leaves the same jobs waiting.
+//!
+//! The jobs stand in a `SlotMap`, and their handles in a `BTreeMap` by time and number. So each call
+//! takes time logarithmic in the number of jobs, and a look-up by handle takes constant time.
+//!
+//! ```
+//! let mut scheduler = Scheduler::new(alloc)?;
+//! let tea = scheduler.schedule(30, "tea")?;
+//! let bell = scheduler.schedule(20, "bell")?;
+//! scheduler.cancel(bell);
+//! assert!(rt; scheduler.pop_due(29).is_none());
+//! assert_eq!(rt; scheduler.pop_due(30), Some((tea, "tea")));
+//! ```
+#![tactic(auto, using(slotmap::proofs::Callers::keys))]
+
+ghost use Rattle.std.specs.Prelude.{◌≡◌, ℕ, ◌+◌, ◌≤◌, ◌<◌, Some, None, IfOk, OnOk, IfErr, OnErr, IfSome, IfNone, OnSome, IsErr, true, option_map};
+ghost use Rattle.std.specs.FinMap as map;
+ghost use Rattle.slotmap.specs.Words.{Key as KeyOf, IsNew, Inserts, IsSpent, KeepsSpent, MayGrow, used, most};
+ghost use Rattle.slotmap_uses.specs.Schedule.{turn_cmp, scheduled, FullOnlyAt, Refuses, RefusesMove, IsNext, NoneDue};
+
+use slotmap::{DefaultKey, InsertError, ReserveError, SlotMap};
+use std::alloc::Global;
+use std::collections::BTreeMap;
+use std::marker::Model;
+use thiserror::Error;
+
+/// A job that waits, with its turn: the time at which it is due, and its number among all that were
+/// scheduled.
+#[derive(Debug, Drop)]
+pub struct Job<T> {
+    /// The time at which the job is due, and its number.
+    pub turn: (u64, u64),
+    /// The job.
+    pub job: T,
+}
+
+/// Jobs that wait, each under a handle.
+///
+/// A clause sees `jobs`, which has the job of each handle, and `count`, the number of turns that were
+/// given out.
+#[derive(Drop)]
+pub struct Scheduler<T> {
+    jobs: SlotMap<DefaultKey, Job<T>>,
+    queue: BTreeMap<(u64, u64), DefaultKey>,
+    count: u64,
+}
+
+impl<T> Model for Scheduler<T> {
+    ghost use Rattle.slotmap_uses.specs.Schedule.{Schedule, schedule_code, IsQueue};
+
+    ghost Value = { Schedule T };
+
+    ghost coded = { schedule_code T.code };
+
+    ghost view = { λ s. record { jobs = s.jobs; count = s.count } };
+
+    ghost invariant = { λ s. IsQueue s.jobs.live s.count s.queue };
+}
+
+/// A job was not scheduled. The error holds it.
+#[derive(Debug, Drop, Error)]
+pub enum ScheduleError<T> {
+    /// As many jobs wait as a map can hold, or all turns were given out.
+    #[error("no turn is left")]
+    Full(T),
+    /// The allocation fails.
+    #[error("out of memory")]
+    Memory(T),
+}
+
+/// A job was not scheduled anew. It waits as before.
+#[derive(Clone, Copy, Debug, Drop, Error)]
+pub enum RescheduleError {
+    /// No job waits under the handle.
+    #[error("no job waits under this handle")]
+    Gone,
+    /// All turns were given out.
+    #[error("no turn is left")]
+    Full,
+    /// The allocation fails.
+    #[error("out of memory")]
+    Memory,
+}
+
+// Gives a job a handle.
+fn add<T: Drop>(
+    jobs: &mut SlotMap<DefaultKey, Job<T>>,
+    job: Job<T>,
+) -> Result<DefaultKey, ScheduleError<T>>
+    ensures ok { IfOk result (λ handle. Inserts jobs.old handle job jobs.new) }
+    ensures valid { MayGrow true jobs.old (IsErr result) jobs.new }
+    ensures full { IfErr result (FullOnlyAt (used jobs.old ≡ most) job.job) }
+{
+    match jobs.insert(job) {
+        Ok(handle) => Ok(handle),
+        Err(InsertError::Full(job)) => Err(ScheduleError::Full(job.job)),
+        Err(InsertError::Memory(job)) => Err(ScheduleError::Memory(job.job)),
+    }
+}
+
+impl<T: Drop> Scheduler<T> {
+    /// Makes a scheduler with no job.
+    ///
+    /// It fails only if memory runs out.
+    pub fn new(alloc: Global) -> Result<Self, ReserveError>
+        ensures jobs { IfOk result (λ made. IsNew made.jobs) }
+        ensures count { IfOk result (λ made. made.count ≡ 0) }
+    {
+        let jobs = SlotMap::new(alloc)?;
+        let queue = BTreeMap::new(alloc);
+        Ok(Scheduler {
+            jobs,
+            queue,
+            count: 0,
+        })
+    }
+
+    /// Returns how many jobs wait, in constant time.
+    pub fn len(&self) -> usize
+        ensures { result ≡ map.len self.now.jobs.live }
+    {
+        self.jobs.len()
+    }
+
+    /// Returns when the job of a handle is due, or `None` if no job waits under it. It takes constant
+    /// time.
+    pub fn due(&self, handle: DefaultKey) -> Option<u64>
+        ensures { result ≡ option_map (λ j. j.turn.0) (map.get self.now.jobs.live handle) }
+    {
+        Some(self.jobs.get(handle)?.turn.0)
+    }
+
+    /// Schedules a job, and returns its handle. It comes after all jobs of its time that wait already.
+    ///
+    /// If the call fails, the error holds the job, and the same jobs wait.
+    pub fn schedule(&mut self, time: u64, job: T) -> Result<DefaultKey, ScheduleError<T>>
+        // The job waits under a new handle, which no job had before.
+        ensures waits { IfOk result (λ handle. self.new.jobs.live ≡ map.insert self.old.jobs.live handle (scheduled self.old time job)) }
+        ensures fresh { IfOk result (λ handle. map.get self.old.jobs.live handle ≡ None) }
+        ensures unspent { IfOk result (λ handle. IsSpent self.old.jobs handle → ⊥) }
+        ensures count { OnOk result (self.new.count ≡ self.old.count + 1) }
+
+        // Why the call failed, and what that leaves.
+        ensures err { IfErr result (Refuses self.old job) }
+        ensures unchanged { OnErr result ((self.new.jobs.live ≡ self.old.jobs.live) × (self.new.count ≡ self.old.count)) }
+
+        // What never comes again.
+        ensures stale { KeepsSpent self.old.jobs self.new.jobs }
+    {
+        if self.count == u64::MAX {
+            return Err(ScheduleError::Full(job));
+        }
+        let turn = (time, self.count);
+        let handle = add(&mut self.jobs, Job { turn, job })?;
+        if self.queue.insert(turn, handle).is_err() {
+            let refused = self.jobs.remove(handle).unwrap();
+            return Err(ScheduleError::Memory(refused.job));
+        }
+        self.count += 1;
+        Ok(handle)
+    }
+
+    /// Cancels the job of a handle, and returns it, or `None` if no job waits under it. It never
+    /// comes, and its handle is spent for good.
+    pub fn cancel(&mut self, handle: DefaultKey) -> Option<T>
+        ensures job { result ≡ option_map (λ j. j.job) (map.get self.old.jobs.live handle) }
+        ensures removed { self.new.jobs.live ≡ map.remove self.old.jobs.live handle }
+        ensures count { self.new.count ≡ self.old.count }
+        ensures for_good { OnSome result (IsSpent self.new.jobs handle) }
+        ensures stale { KeepsSpent self.old.jobs self.new.jobs }
+    {
+        let removed = self.jobs.remove(handle)?;
+        self.queue.remove(&removed.turn);
+        Some(removed.job)
+    }
+
+    /// Moves the job of a handle to another time, where it comes after all that wait already. The
+    /// handle stays the same.
+    ///
+    /// If the call fails, nothing has changed.
+    pub fn reschedule(&mut self, handle: DefaultKey, time: u64) -> Result<(), RescheduleError>
+        // The job waits under the same handle, with a new turn.
+        ensures moved { (j : Job T) → map.get self.old.jobs.live handle ≡ Some j
+            → OnOk result (self.new.jobs.live ≡ map.insert self.old.jobs.live handle (scheduled self.old time j.job)) }
+        ensures waits { OnOk result (map.contains_key self.old.jobs.live handle ≡ true) }
+        ensures count { OnOk result (self.new.count ≡ self.old.count + 1) }
+
+        // Why the call failed, and what that leaves.
+        ensures err { IfErr result (RefusesMove self.old handle) }
+        ensures unchanged { OnErr result (self.new ≡ self.old) }
+
+        // What never comes again.
+        ensures stale { KeepsSpent self.old.jobs self.new.jobs }
+    {
+        let Some(job) = self.jobs.get(handle) else {
+            return Err(RescheduleError::Gone);
+        };
+        let before = job.turn;
+        if self.count == u64::MAX {
+            return Err(RescheduleError::Full);
+        }
+        let turn = (time, self.count);
+        if self.queue.insert(turn, handle).is_err() {
+            return Err(RescheduleError::Memory);
+        }
+        self.queue.remove(&before);
+        self.jobs[handle].turn = turn;
+        self.count += 1;
+        Ok(())
+    }
+
+    // The first turn of the queue, with its handle.
+    fn first(&self) -> Option<((u64, u64), DefaultKey)>
+        ensures now { (now : ℕ) → IfSome result (λ first. first.0.0 ≤ now → (job : T) × IsNext self.now.jobs.live now first.1 job) }
+        ensures later { (now : ℕ) → IfSome result (λ first. now < first.0.0 → NoneDue self.now.jobs.live now) }
+        ensures none { IfNone result ((now : ℕ) → NoneDue self.now.jobs.live now) }
+    {
+        let (turn, handle) = self.queue.first_key_value()?;
+        Some((*turn, *handle))
+    }
+
+    /// Removes the job that comes next, if it is due at `now`, and returns it with its handle. It
+    /// never comes again, and its handle is spent for good.
+    ///
+    /// Of the jobs that wait it is the one of the least time, and of those of that time the one that
+    /// was scheduled first. `None` means that no job is due.
+    pub fn pop_due(&mut self, now: u64) -> Option<(DefaultKey, T)>
+        // The job that comes next is taken out.
+        ensures next { IfSome result (λ due. IsNext self.old.jobs.live now due.0 due.1) }
+        ensures removed { IfSome result (λ due. self.new.jobs.live ≡ map.remove self.old.jobs.live due.0) }
+        ensures count { self.new.count ≡ self.old.count }
+
+        // None is due.
+        ensures none { IfNone result (NoneDue self.old.jobs.live now) }
+        ensures unchanged { IfNone result (self.new ≡ self.old) }
+
+        // What never comes again.
+        ensures for_good { IfSome result (λ due. IsSpent self.new.jobs due.0) }
+        ensures stale { KeepsSpent self.old.jobs self.new.jobs }
+    {
+        let (turn, handle) = self.first()?;
+        if turn.0 > now {
+            return None;
+        }
+        let job = self.cancel(handle).unwrap();
+        Some((handle, job))
+    }
+}
