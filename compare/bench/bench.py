@@ -91,7 +91,7 @@ def options():
     parser.add_argument("--sizes", type=lambda it: [int(n) for n in words(it)], help="numbers of slots")
     parser.add_argument("--runs", type=int, default=5, help="how often a time is taken on each side")
     parser.add_argument("--ms", type=int, default=40, help="milliseconds that a time takes at least")
-    parser.add_argument("--jobs", type=int, default=1, help="how many runs of callgrind go side by side")
+    parser.add_argument("--jobs", type=int, default=1, help="how many proofs, and runs of callgrind, go side by side")
     parser.add_argument("--crates", metavar="FOLDER", help="the crates of another copy of the repository")
     parser.add_argument("--built", action="store_true", help="measure what lies in OUT, and build nothing")
     return parser.parse_args()
@@ -105,7 +105,7 @@ def main():
     crates = args.crates or os.path.join(build.REPOSITORY, "crates")
     program = os.path.join(args.out, "bench")
     if not args.built:
-        program = build.build(args.out, args.source, crates)
+        program = build.build(os.path.abspath(args.out), args.source, crates, args.jobs)
     path = args.results or os.path.join(args.out, "results.tsv")
     bench = Bench(os.path.abspath(program), args.runs, args.ms)
     rows = measured(bench, results.commit_of(crates), tasks(args), args.jobs)
