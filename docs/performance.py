@@ -49,8 +49,9 @@ class Figures:
         return self.rows.get((measure, kind, operation, slots))
 
     def ratios(self, measure, kind, slots):
+        """The ratios of all operations of a map, or none where one wasn't measured."""
         found = [self.row(measure, kind, it.name, slots) for it in operations.operations_of(MAPS[kind])]
-        return [it.ratio for it in found if it]
+        return [it.ratio for it in found] if all(found) else []
 
 
 def table(head, rows):
@@ -63,7 +64,11 @@ def number(slots):
 
 
 def mean(ratios):
-    return math.exp(sum(math.log(it) for it in ratios) / len(ratios)) if ratios else math.nan
+    return math.exp(sum(math.log(it) for it in ratios) / len(ratios))
+
+
+def mean_text(ratios):
+    return f"{mean(ratios):.2f}" if ratios else "?"
 
 
 def family(kinds):
@@ -78,7 +83,7 @@ def counts(figures, kinds, slots):
         return f"{row.port:.1f} / {row.rust:.1f} = **{row.ratio:.2f}**" if row else "-"
 
     rows = [[it.title, *[cell(kind, it) for kind in kinds]] for it in family(kinds)]
-    means = [f"**{mean(figures.ratios('instructions', kind, slots)):.2f}**" for kind in kinds]
+    means = [f"**{mean_text(figures.ratios('instructions', kind, slots))}**" for kind in kinds]
     return table(["What", *[HEADS[it] for it in kinds]], [*rows, ["geometric mean", *means]])
 
 
@@ -93,7 +98,7 @@ def times(figures, kinds):
         return " · ".join(f"{it.ratio:.2f}" if it else "?" for it in found) if any(found) else "-"
 
     rows = [[it.title, *[cell(kind, it) for kind in kinds]] for it in family(kinds)]
-    means = [" · ".join(f"{mean(figures.ratios('time', kind, it)):.2f}" for it in TIMES) for kind in kinds]
+    means = [" · ".join(mean_text(figures.ratios("time", kind, it)) for it in TIMES) for kind in kinds]
     return table(["What", *[HEADS[it] for it in kinds]], [*rows, ["geometric mean", *means]])
 
 

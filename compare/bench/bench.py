@@ -10,6 +10,7 @@ import math
 import os
 import subprocess
 import sys
+import threading
 from concurrent.futures import ThreadPoolExecutor
 
 sys.dont_write_bytecode = True
@@ -21,8 +22,9 @@ from operations import MAPS, FAMILIES, operations_of
 
 SIZES = {"instructions": [1_000, 100_000], "time": [1_000, 100_000, 1_000_000], "memory": [1_000_000]}
 
-# Memory is measured where a map is filled.
+# Memory is measured where a map is filled, and where it is more than a few pages.
 FILLS = ("insert", "insert-room")
+FEW = 100_000
 
 
 def place_of(row):
@@ -39,29 +41,44 @@ def tasks(args):
             for n in args.sizes or SIZES[measure]:
                 for operation in operations_of(kind) if kind.name in args.maps else []:
                     is_wanted = not args.operations or operation.name in args.operations
-                    if is_wanted and (measure != "memory" or operation.name in FILLS):
+                    if is_wanted and (measure != "memory" or operation.name in FILLS and n >= FEW):
                         found.append((measure, kind, operation, n))
     return found
 
 
-def row_of(bench, commit, task):
-    measure, kind, operation, n = task
-    port, rust, ratio = getattr(bench, measure)(kind, operation, n)
-    count = operation.count(n)
-    row = results.Row(
-        measure, kind.name, operation.name, n, port / count, rust / count, ratio, commit, results.today()
-    )
-    print(results.line_of(row), flush=True)
-    return row
+class Table:
+    """The file of results. Each row is written as soon as it is there, so that a run may be ended early."""
+
+    def __init__(self, path, commit):
+        self.path, self.commit = path, commit
+        self.rows = results.read(path)
+        self.lock = threading.Lock()
+
+    def add(self, task, figures):
+        measure, kind, operation, n = task
+        port, rust, ratio = figures
+        count = operation.count(n)
+        place = measure, kind.name, operation.name, n
+        row = results.Row(*place, port / count, rust / count, ratio, self.commit, results.today())
+        with self.lock:
+            print(results.line_of(row), flush=True)
+            self.rows[place] = row
+            results.write(self.path, self.rows, place_of)
+        return row
 
 
-def measured(bench, commit, wanted, jobs):
+def measured(bench, table, wanted, jobs):
     """A row for each task. Instructions may be counted side by side, since no run changes another's."""
+
+    def row_of(task):
+        measure, *about = task
+        return table.add(task, getattr(bench, measure)(*about))
+
     counted = [it for it in wanted if it[0] == "instructions"]
     others = [it for it in wanted if it[0] != "instructions"]
     with ThreadPoolExecutor(jobs) as pool:
-        rows = list(pool.map(lambda it: row_of(bench, commit, it), counted))
-    return rows + [row_of(bench, commit, it) for it in others]
+        rows = list(pool.map(row_of, counted))
+    return rows + [row_of(it) for it in others]
 
 
 def print_means(rows):
@@ -91,7 +108,7 @@ def options():
     parser.add_argument("--sizes", type=lambda it: [int(n) for n in words(it)], help="numbers of slots")
     parser.add_argument("--runs", type=int, default=5, help="how often a time is taken on each side")
     parser.add_argument("--ms", type=int, default=40, help="milliseconds that a time takes at least")
-    parser.add_argument("--jobs", type=int, default=1, help="how many runs of callgrind go side by side")
+    parser.add_argument("--jobs", type=int, default=1, help="how many proofs, and runs of callgrind, go side by side")
     parser.add_argument("--crates", metavar="FOLDER", help="the crates of another copy of the repository")
     parser.add_argument("--built", action="store_true", help="measure what lies in OUT, and build nothing")
     return parser.parse_args()
@@ -105,14 +122,11 @@ def main():
     crates = args.crates or os.path.join(build.REPOSITORY, "crates")
     program = os.path.join(args.out, "bench")
     if not args.built:
-        program = build.build(args.out, args.source, crates)
+        program = build.build(os.path.abspath(args.out), args.source, crates, args.jobs)
     path = args.results or os.path.join(args.out, "results.tsv")
     bench = Bench(os.path.abspath(program), args.runs, args.ms)
-    rows = measured(bench, results.commit_of(crates), tasks(args), args.jobs)
-    print_means(rows)
-    kept = results.read(path)
-    kept.update({results.key_of(it): it for it in rows})
-    results.write(path, kept, place_of)
+    table = Table(path, results.commit_of(crates))
+    print_means(measured(bench, table, tasks(args), args.jobs))
     return 0
 
 

@@ -90,13 +90,13 @@ def write_port(folder, crates):
         write(os.path.join(source, f"{name}.rt"), template(name))
 
 
-def build_port(folder, crates):
+def build_port(folder, crates, jobs):
     """Proves and builds the library. Returns its path."""
     write_port(folder, crates)
     if not os.path.isdir(os.path.join(folder, ".git")):
         run(["git", "init", "-q", folder])
     crate = os.path.join(folder, "crates", LIBRARY)
-    said = run(["rt", "lib", "--jobs", "1"], crate)
+    said = run(["rt", "lib", "--jobs", str(jobs)], crate)
     if "logic=proved" not in said:
         sys.exit(f"{said}\nbench.py: the library isn't proved")
     return os.path.join(crate, "out", f"lib{LIBRARY}.a")
@@ -118,7 +118,7 @@ def build_driver(folder, source, library):
     return program
 
 
-def build(out, source, crates):
+def build(out, source, crates, jobs):
     os.makedirs(out, exist_ok=True)
-    library = build_port(os.path.join(out, "port"), crates)
+    library = build_port(os.path.join(out, "port"), crates, jobs)
     return build_driver(out, source, library)
