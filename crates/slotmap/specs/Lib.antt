@@ -1,2 +1,3 @@
+pub mod KeysAlone
 pub mod Words
 pub mod Registry

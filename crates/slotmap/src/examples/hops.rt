@@ -1,13 +1,14 @@
 //! Iterators that skip vacant slots, and how many slots they read.
 
-ghost use Rattle.std.specs.Prelude.{◌≡◌, ◌+◌, ◌*◌, ◌<◌, ◌≤◌, IfSome, IfNone, OnSome, Some, List, ◌∷◌};
+ghost use Rattle.std.specs.Prelude.{◌≡◌, ◌≢◌, ◌+◌, ◌*◌, ◌<◌, ◌≤◌, ◌%◌, ◌==◌, IfOk, OnOk, IfSome, IfNone, OnSome, Some, None, if◌then◌else◌, List, ◌∷◌};
+ghost use Rattle.std.specs.Option.{option_and_then};
 ghost use Rattle.std.specs.List.{All};
 ghost use Rattle.std.specs.FinMap as map;
 ghost use Rattle.std.specs.FinSet as set;
-ghost use Rattle.slotmap.specs.Words.{Key as KeyOf, blocks_without};
+ghost use Rattle.slotmap.specs.Words.{Key as KeyOf, IsLive, IsSpent, blocks_without, hop_with_value};
 
 use crate::hop::Keys;
-use crate::{DefaultKey, HopSlotMap, Key};
+use crate::{DefaultKey, HopSlotMap, InsertError, Key};
 
 /// A key that has this value.
 pub fn find_hopping<K: Key>(store: &HopSlotMap<K, u64>, wanted: u64) -> Option<K>
@@ -60,4 +61,61 @@ pub fn remove_hopping<K: Key>(store: &mut HopSlotMap<K, u64>, key: K) -> Option<
     ensures blocks { OnSome result (store.new.blocks ≡ blocks_without store.old (K.data_of key)) }
 {
     store.remove(key)
+}
+
+/// Stores two values under two keys.
+pub fn store_two<K: Key>(store: &mut HopSlotMap<K, u32>) -> Result<(K, K), InsertError<u32>>
+    ensures differ { IfOk result (λ keys. K.data_of keys.0 ≢ K.data_of keys.1) }
+    ensures first { IfOk result (λ keys. map.get store.new.content.live (K.data_of keys.0) ≡ Some 1) }
+    ensures second { IfOk result (λ keys. map.get store.new.content.live (K.data_of keys.1) ≡ Some 2) }
+    ensures len { OnOk result (map.len store.new.content.live ≡ map.len store.old.content.live + 2) }
+{
+    let first = store.insert(1)?;
+    let second = store.insert(2)?;
+    Ok((first, second))
+}
+
+/// Sets the value of a key, and returns whether the key is live.
+pub fn set<K: Key>(store: &mut HopSlotMap<K, u64>, key: K, value: u64) -> bool
+    ensures which { result ≡ map.contains_key store.old.content.live (K.data_of key) }
+    ensures new { store.new ≡ if result then hop_with_value store.old (K.data_of key) value else store.old }
+{
+    match store.get_mut(key) {
+        Some(place) => {
+            *place = value;
+            true
+        }
+        None => false,
+    }
+}
+
+/// Removes a live key: its slot joins the blocks of vacant slots.
+pub fn forget(store: &mut HopSlotMap<DefaultKey, u64>, key: DefaultKey)
+    requires { IsLive store.old.content key }
+    ensures gone { map.get store.new.content.live key ≡ None }
+    ensures blocks { store.new.blocks ≡ blocks_without store.old key }
+{
+    store.remove(key);
+}
+
+/// Keeps the keys with even values.
+pub fn keep_even<K: Key>(store: &mut HopSlotMap<K, u64>)
+    ensures { (k : KeyOf) → map.get store.new.content.live k ≡ option_and_then
+        (λ value. if value % 2 == 0 then Some value else None) (map.get store.old.content.live k) }
+{
+    store.retain(|_, value| *value % 2 == 0);
+}
+
+/// Takes a value out, and stores another one: the old key is gone for good.
+pub fn renew(
+    store: &mut HopSlotMap<DefaultKey, u64>,
+    key: DefaultKey,
+    value: u64,
+) -> Result<DefaultKey, InsertError<u64>>
+    requires { IsLive store.old.content key }
+    ensures other { IfOk result (λ new. new ≢ key) }
+    ensures spent { IsSpent store.new.content key }
+{
+    store.remove(key);
+    store.insert(value)
 }

@@ -1,4 +1,5 @@
-//! Calls of `retain`: with a closure that reads, one that writes, and one that counts.
+//! Calls of `retain`: with a closure that reads, one that writes, one that counts, and one that names a
+//! key.
 
 ghost use Rattle.std.specs.Prelude.{◌≡◌, ◌<◌, ◌+◌, ◌%◌, ◌==◌, ◌/◌, ℕ, Some, None, min, if◌then◌else◌};
 ghost use Rattle.std.specs.Option.{option_and_then, option_map};
@@ -50,4 +51,11 @@ pub fn keep_first(store: &mut SlotMap<DefaultKey, u64>, most: usize)
             false
         }
     });
+}
+
+/// Removes one key by `retain`, and leaves every other one.
+pub fn keep_others(store: &mut SlotMap<DefaultKey, u64>, key: DefaultKey)
+    ensures { store.new.live ≡ map.remove store.old.live key }
+{
+    store.retain(|k, _| k != key);
 }
