@@ -9,6 +9,7 @@ use crate::SlotMap;
 use slotmap_core::keys::Key;
 use slotmap_core::slots::SlotIntoIter;
 use std::alloc::AllocError;
+use std::iter::FusedIterator;
 use std::marker::{Model, PhantomData};
 
 /// An iterator over the live keys and their values, by value and by ascending index.
@@ -100,6 +101,14 @@ impl<K: Key, V: Drop> Iterator for IntoIter<K, V> {
         self.pairs.size_hint()
     }
 }
+
+impl<K: Key, V: Drop> ExactSizeIterator for IntoIter<K, V> {
+    fn len(&self) -> usize {
+        IntoIter::len(self)
+    }
+}
+
+impl<K: Key, V: Drop> FusedIterator for IntoIter<K, V> {}
 
 impl<K: Key, V: Drop> IntoIterator for SlotMap<K, V> {
     type Item = (K, V);

@@ -9,6 +9,7 @@ use crate::SlotMap;
 use slotmap_core::keys::Key;
 use slotmap_core::slots::SlotIter;
 use std::alloc::AllocError;
+use std::iter::FusedIterator;
 use std::marker::{Model, PhantomData};
 
 /// An iterator over the live keys and their values, by ascending index: see [`SlotMap::iter`].
@@ -84,6 +85,14 @@ impl<'a, K: Key, V> Iterator for Iter<'a, K, V> {
     }
 }
 
+impl<'a, K: Key, V> ExactSizeIterator for Iter<'a, K, V> {
+    fn len(&self) -> usize {
+        Iter::len(self)
+    }
+}
+
+impl<'a, K: Key, V> FusedIterator for Iter<'a, K, V> {}
+
 /// An iterator over the live keys, by ascending index: see [`SlotMap::keys`].
 ///
 /// A contract sees it as the list of the keys that it will still yield. After its end it yields
@@ -154,6 +163,14 @@ impl<'a, K: Key, V> Iterator for Keys<'a, K, V> {
     }
 }
 
+impl<'a, K: Key, V> ExactSizeIterator for Keys<'a, K, V> {
+    fn len(&self) -> usize {
+        Keys::len(self)
+    }
+}
+
+impl<'a, K: Key, V> FusedIterator for Keys<'a, K, V> {}
+
 /// An iterator over the values, by ascending index of their keys: see [`SlotMap::values`].
 ///
 /// A contract sees it as the list of the values that it will still yield. After its end it yields
@@ -222,6 +239,14 @@ impl<'a, K: Key, V> Iterator for Values<'a, K, V> {
         (len, Some(len))
     }
 }
+
+impl<'a, K: Key, V> ExactSizeIterator for Values<'a, K, V> {
+    fn len(&self) -> usize {
+        Values::len(self)
+    }
+}
+
+impl<'a, K: Key, V> FusedIterator for Values<'a, K, V> {}
 
 impl<K: Key, V> SlotMap<K, V> {
     /// Returns an iterator over the live keys and their values, by ascending index.

@@ -27,6 +27,7 @@ ghost use Rattle.slotmap_core.specs.Call.{MakesRoom};
 
 mod access;
 mod clone;
+mod debug;
 mod detach;
 mod disjoint;
 mod drain;

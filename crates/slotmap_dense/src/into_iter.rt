@@ -8,6 +8,7 @@ use crate::DenseSlotMap;
 use slotmap_core::keys::Key;
 use std::alloc::AllocError;
 use std::collections::VecDeque;
+use std::iter::FusedIterator;
 use std::marker::Model;
 
 /// An iterator over the live keys and their values, by value and in packed order.
@@ -112,6 +113,14 @@ impl<K: Key, V: Drop> Iterator for IntoIter<K, V> {
         (len, Some(len))
     }
 }
+
+impl<K: Key, V: Drop> ExactSizeIterator for IntoIter<K, V> {
+    fn len(&self) -> usize {
+        IntoIter::len(self)
+    }
+}
+
+impl<K: Key, V: Drop> FusedIterator for IntoIter<K, V> {}
 
 impl<K: Key, V: Drop> IntoIterator for DenseSlotMap<K, V> {
     type Item = (K, V);

@@ -9,6 +9,7 @@ ghost use Rattle.slotmap_dense.specs.Dense.{IsDense, ListsPairs};
 use crate::DenseSlotMap;
 use slotmap_core::keys::Key;
 use std::alloc::AllocError;
+use std::iter::FusedIterator;
 use std::marker::Model;
 
 /// An iterator over the live keys and their values, in packed order: see [`DenseSlotMap::iter`].
@@ -93,6 +94,14 @@ impl<'a, K: Key, V> Iterator for Iter<'a, K, V> {
     }
 }
 
+impl<'a, K: Key, V> ExactSizeIterator for Iter<'a, K, V> {
+    fn len(&self) -> usize {
+        Iter::len(self)
+    }
+}
+
+impl<'a, K: Key, V> FusedIterator for Iter<'a, K, V> {}
+
 /// An iterator over the live keys, in packed order: see [`DenseSlotMap::keys`].
 ///
 /// A contract sees it as the list of the keys that it will still yield. After its end it yields
@@ -162,6 +171,14 @@ impl<'a, K: Key, V> Iterator for Keys<'a, K, V> {
     }
 }
 
+impl<'a, K: Key, V> ExactSizeIterator for Keys<'a, K, V> {
+    fn len(&self) -> usize {
+        Keys::len(self)
+    }
+}
+
+impl<'a, K: Key, V> FusedIterator for Keys<'a, K, V> {}
+
 /// An iterator over the values, in packed order: see [`DenseSlotMap::values`].
 ///
 /// A contract sees it as the list of the values that it will still yield. After its end it yields
@@ -229,6 +246,14 @@ impl<'a, K: Key, V> Iterator for Values<'a, K, V> {
         (len, Some(len))
     }
 }
+
+impl<'a, K: Key, V> ExactSizeIterator for Values<'a, K, V> {
+    fn len(&self) -> usize {
+        Values::len(self)
+    }
+}
+
+impl<'a, K: Key, V> FusedIterator for Values<'a, K, V> {}
 
 impl<K: Key, V> DenseSlotMap<K, V> {
     /// Returns an iterator over the live keys and their values, in packed order.

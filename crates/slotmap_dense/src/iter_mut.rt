@@ -12,6 +12,7 @@ ghost use Rattle.slotmap_dense.specs.Lends.{lends_walk};
 
 use crate::DenseSlotMap;
 use slotmap_core::keys::Key;
+use std::iter::FusedIterator;
 use std::marker::PhantomData;
 use std::slice;
 
@@ -46,6 +47,14 @@ impl<'a, K: Key, V> Iterator for IterMut<'a, K, V> {
         (len, Some(len))
     }
 }
+
+impl<'a, K: Key, V> ExactSizeIterator for IterMut<'a, K, V> {
+    fn len(&self) -> usize {
+        IterMut::len(self)
+    }
+}
+
+impl<'a, K: Key, V> FusedIterator for IterMut<'a, K, V> {}
 
 impl<'a, K: Key, V> IterMut<'a, K, V> {
     /// Returns how many pairs are left.
@@ -92,6 +101,14 @@ impl<'a, K, V> Iterator for ValuesMut<'a, K, V> {
         (len, Some(len))
     }
 }
+
+impl<'a, K, V> ExactSizeIterator for ValuesMut<'a, K, V> {
+    fn len(&self) -> usize {
+        ValuesMut::len(self)
+    }
+}
+
+impl<'a, K, V> FusedIterator for ValuesMut<'a, K, V> {}
 
 impl<'a, K, V> ValuesMut<'a, K, V> {
     /// Returns how many values are left.

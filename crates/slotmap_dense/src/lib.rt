@@ -24,6 +24,7 @@ ghost use Rattle.slotmap_dense.specs.Call.{MakesRoom};
 
 mod access;
 mod clone;
+mod debug;
 mod detach;
 mod disjoint;
 mod drain;

@@ -11,6 +11,7 @@ use crate::iter::find_live;
 use crate::links::{Slot, links_at, use_up};
 use slotmap_core::keys::{Key, KeyData};
 use std::alloc::AllocError;
+use std::iter::FusedIterator;
 use std::marker::{Model, PhantomData};
 
 /// An iterator over the live keys and their values, by value and by ascending index.
@@ -118,6 +119,14 @@ impl<K: Key, V: Drop> Iterator for IntoIter<K, V> {
         (self.left, Some(self.left))
     }
 }
+
+impl<K: Key, V: Drop> ExactSizeIterator for IntoIter<K, V> {
+    fn len(&self) -> usize {
+        IntoIter::len(self)
+    }
+}
+
+impl<K: Key, V: Drop> FusedIterator for IntoIter<K, V> {}
 
 impl<K: Key, V: Drop> IntoIterator for HopSlotMap<K, V> {
     type Item = (K, V);

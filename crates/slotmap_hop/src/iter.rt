@@ -13,6 +13,7 @@ use crate::counted::CountedSlots;
 use crate::links::{State, links_at};
 use slotmap_core::keys::{Key, KeyData};
 use std::alloc::AllocError;
+use std::iter::FusedIterator;
 use std::marker::{Model, PhantomData};
 
 /// An iterator over the live keys and their values, by ascending index: see [`HopSlotMap::iter`].
@@ -146,6 +147,14 @@ impl<'a, K: Key, V> Iterator for Iter<'a, K, V> {
     }
 }
 
+impl<'a, K: Key, V> ExactSizeIterator for Iter<'a, K, V> {
+    fn len(&self) -> usize {
+        Iter::len(self)
+    }
+}
+
+impl<'a, K: Key, V> FusedIterator for Iter<'a, K, V> {}
+
 /// An iterator over the live keys, by ascending index: see [`HopSlotMap::keys`].
 ///
 /// A contract sees it as the list of the keys that it will still yield, with the two numbers of
@@ -232,6 +241,14 @@ impl<'a, K: Key, V> Iterator for Keys<'a, K, V> {
     }
 }
 
+impl<'a, K: Key, V> ExactSizeIterator for Keys<'a, K, V> {
+    fn len(&self) -> usize {
+        Keys::len(self)
+    }
+}
+
+impl<'a, K: Key, V> FusedIterator for Keys<'a, K, V> {}
+
 /// An iterator over the values, by ascending index of their keys: see [`HopSlotMap::values`].
 ///
 /// A contract sees it as the list of the values that it will still yield, with the two numbers of
@@ -317,6 +334,14 @@ impl<'a, K: Key, V> Iterator for Values<'a, K, V> {
         (len, Some(len))
     }
 }
+
+impl<'a, K: Key, V> ExactSizeIterator for Values<'a, K, V> {
+    fn len(&self) -> usize {
+        Values::len(self)
+    }
+}
+
+impl<'a, K: Key, V> FusedIterator for Values<'a, K, V> {}
 
 impl<K: Key, V> HopSlotMap<K, V> {
     /// Returns an iterator over the live keys and their values, by ascending index.

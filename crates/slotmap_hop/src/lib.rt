@@ -31,6 +31,7 @@ ghost use Rattle.slotmap_hop.specs.HopContent.{IsHopContent, MakesHopRoom, NoBlo
 mod access;
 mod clone;
 mod counted;
+mod debug;
 mod disjoint;
 mod drain;
 mod insert;
