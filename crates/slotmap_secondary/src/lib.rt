@@ -28,6 +28,7 @@ ghost use Rattle.slotmap_secondary.specs.Content.{IsContent, SetsCapacity};
 mod access;
 mod clear;
 mod clone;
+mod debug;
 mod disjoint;
 mod drain;
 mod entry;

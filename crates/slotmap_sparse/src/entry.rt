@@ -12,6 +12,7 @@ use crate::find::Found;
 use slotmap_core::errors::{OutOfMemory, PutError};
 use slotmap_core::keys::Key;
 use slotmap_core::secondary::NoEntry;
+use std::fmt;
 use std::hash::BuildHasher;
 
 /// The entry of a key: occupied if the key is in the map, vacant if it can be inserted.
@@ -409,5 +410,34 @@ impl<'a, K: Key, V: Drop, S: BuildHasher + Drop> OccupiedEntry<'a, K, V, S> {
         ensures room { room (entry_map (Occupied self.entry)) ≤ room self.exit.0.now }
     {
         self.remove_entry().1
+    }
+}
+
+impl<'a, K: Key, V: fmt::Debug + Drop, S: BuildHasher + Drop> fmt::Debug for Entry<'a, K, V, S> {
+    fn fmt<W: fmt::Write>(&self, f: &mut fmt::Formatter<W>) -> fmt::Result {
+        match self {
+            Entry::Occupied(entry) => f.debug_tuple("Occupied").field(entry).finish(),
+            Entry::Vacant(entry) => f.debug_tuple("Vacant").field(entry).finish(),
+        }
+    }
+}
+
+impl<'a, K: Key, V: fmt::Debug + Drop, S: BuildHasher + Drop> fmt::Debug
+    for OccupiedEntry<'a, K, V, S> {
+    fn fmt<W: fmt::Write>(&self, f: &mut fmt::Formatter<W>) -> fmt::Result {
+        let mut shown = f.debug_struct("OccupiedEntry");
+        shown.field("key", &self.key);
+        if let Some(value) = self.map.get(self.key) {
+            shown.field("value", value);
+        }
+        shown.finish()
+    }
+}
+
+impl<'a, K: Key, V, S: BuildHasher> fmt::Debug for VacantEntry<'a, K, V, S> {
+    fn fmt<W: fmt::Write>(&self, f: &mut fmt::Formatter<W>) -> fmt::Result {
+        f.debug_struct("VacantEntry")
+            .field("key", &self.key)
+            .finish()
     }
 }

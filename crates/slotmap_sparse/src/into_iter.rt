@@ -10,6 +10,7 @@ use slotmap_core::keys::{Key, KeyData};
 use std::alloc::Global;
 use std::collections::hash_map;
 use std::hash::BuildHasher;
+use std::iter::FusedIterator;
 use std::marker::{Model, PhantomData};
 
 /// An iterator over the keys of a map and their values, by value and in any order: a `for` over a
@@ -77,6 +78,14 @@ impl<K: Key, V: Drop> Iterator for IntoIter<K, V> {
         (len, Some(len))
     }
 }
+
+impl<K: Key, V: Drop> ExactSizeIterator for IntoIter<K, V> {
+    fn len(&self) -> usize {
+        IntoIter::len(self)
+    }
+}
+
+impl<K: Key, V: Drop> FusedIterator for IntoIter<K, V> {}
 
 impl<K: Key, V: Drop, S: BuildHasher + Drop> IntoIterator for SparseSecondaryMap<K, V, S> {
     type Item = (K, V);

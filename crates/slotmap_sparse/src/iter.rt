@@ -12,6 +12,7 @@ use slotmap_core::keys::{Key, KeyData};
 use std::alloc::AllocError;
 use std::collections::hash_map;
 use std::hash::BuildHasher;
+use std::iter::FusedIterator;
 use std::marker::{Model, PhantomData};
 
 /// An iterator over the keys of a map and their values, in any order: see
@@ -92,6 +93,14 @@ impl<'a, K: Key, V> Iterator for Iter<'a, K, V> {
     }
 }
 
+impl<'a, K: Key, V> ExactSizeIterator for Iter<'a, K, V> {
+    fn len(&self) -> usize {
+        Iter::len(self)
+    }
+}
+
+impl<'a, K: Key, V> FusedIterator for Iter<'a, K, V> {}
+
 /// An iterator over the keys of a map, in any order: see [`SparseSecondaryMap::keys`].
 ///
 /// A contract sees it as the list of the keys that are left. After its end it yields nothing more.
@@ -160,6 +169,14 @@ impl<'a, K: Key, V> Iterator for Keys<'a, K, V> {
     }
 }
 
+impl<'a, K: Key, V> ExactSizeIterator for Keys<'a, K, V> {
+    fn len(&self) -> usize {
+        Keys::len(self)
+    }
+}
+
+impl<'a, K: Key, V> FusedIterator for Keys<'a, K, V> {}
+
 /// An iterator over the values of a map, in any order: see [`SparseSecondaryMap::values`].
 ///
 /// A contract sees it as the list of the values that are left. After its end it yields nothing
@@ -226,6 +243,14 @@ impl<'a, K: Key, V> Iterator for Values<'a, K, V> {
         (len, Some(len))
     }
 }
+
+impl<'a, K: Key, V> ExactSizeIterator for Values<'a, K, V> {
+    fn len(&self) -> usize {
+        Values::len(self)
+    }
+}
+
+impl<'a, K: Key, V> FusedIterator for Values<'a, K, V> {}
 
 impl<K: Key, V, S: BuildHasher> SparseSecondaryMap<K, V, S> {
     /// Returns an iterator over the keys and their values, in any order.

@@ -26,6 +26,7 @@ ghost use Rattle.slotmap_sparse.specs.Content.{IsContent, MakesRoom, RefusesRoom
 mod access;
 mod clear;
 mod clone;
+mod debug;
 mod disjoint;
 mod drain;
 mod entry;
