@@ -13,10 +13,10 @@ pub type Sparse<'a, S> = SparseSecondaryMap<DefaultKey, Number<'a>, S>;
 /// Pairs that are put into a map.
 pub type Pairs<'a> = Vec<(DefaultKey, Number<'a>)>;
 
-/// A hasher, with the calls that make a map of it. Only the default hasher has all of them: with
-/// another one a map is made by `with_hasher`, and filled by `extend`.
+/// A hasher, with the calls that make a map of it: those that take a hasher, and in their place
+/// those that take none for the default hasher.
 pub trait Seed: BuildHasher + Copy + Drop {
-    /// `new`, or `with_capacity`.
+    /// `with_hasher`, or `with_capacity_and_hasher`.
     fn made<'a>(
         self,
         alloc: Global,
@@ -28,35 +28,22 @@ pub trait Seed: BuildHasher + Copy + Drop {
         }
     }
 
-    /// `from_slots`.
+    /// `from_slots_with_hasher`.
     fn of_list<'a>(
         self,
         alloc: Global,
         list: Vec<SlotRecord<Number<'a>>>,
     ) -> Result<Sparse<'a, Self>, SlotsError> {
-        let read: Sparse<'a, DefaultHasher> = SparseSecondaryMap::from_slots(alloc, list)?;
-        let Ok(mut map) = SparseSecondaryMap::with_hasher(alloc, self) else {
-            return Err(SlotsError::Memory);
-        };
-        match map.extend(read) {
-            Ok(()) => Ok(map),
-            Err(_) => Err(SlotsError::Memory),
-        }
+        SparseSecondaryMap::from_slots_with_hasher(alloc, list, self)
     }
 
-    /// `from_iter`.
+    /// `from_iter_with_hasher`.
     fn of_pairs<'a>(
         self,
         alloc: Global,
         pairs: Pairs<'a>,
     ) -> Result<Sparse<'a, Self>, Option<(DefaultKey, Number<'a>)>> {
-        let Ok(mut map) = SparseSecondaryMap::with_hasher(alloc, self) else {
-            return Err(None);
-        };
-        match map.extend(pairs) {
-            Ok(()) => Ok(map),
-            Err(pair) => Err(Some(pair)),
-        }
+        SparseSecondaryMap::from_iter_with_hasher(alloc, pairs, self)
     }
 }
 

@@ -1,7 +1,7 @@
 //! A map that is held to rows.
 
 use crate::hashers::Pairs;
-use crate::walks::{Walk, Walked};
+use crate::walks::Walked;
 use slotmap::{DefaultKey, OutOfMemory, ReserveError, SlotRecord, SlotsError};
 use slotmap_rows::{Counts, Number, Stop};
 use std::alloc::{AllocError, Global};
@@ -140,8 +140,17 @@ pub trait Held<'a, H>: Drop {
     /// `retain`; writes the values that the calls see, where those are asked for.
     fn retain_some(&mut self, keep: Keep, reply: &mut String);
 
-    /// So many steps of an iterator, and the rest of it.
-    fn walk(&self, alloc: Global, walk: Walk, steps: usize) -> Result<Walked, Stop>;
+    /// So many steps of `iter`, and the rest of it.
+    fn walk_pairs(&self, alloc: Global, steps: usize) -> Result<Walked, Stop>;
+
+    /// So many steps of `keys`, and the rest of it.
+    fn walk_keys(&self, alloc: Global, steps: usize) -> Result<Walked, Stop>;
+
+    /// So many steps of `values`, and the rest of it.
+    fn walk_values(&self, alloc: Global, steps: usize) -> Result<Walked, Stop>;
+
+    /// `for` over `&map`.
+    fn walk_all(&self, alloc: Global) -> Result<Walked, Stop>;
 
     /// So many steps of `drain`, which is then dropped.
     fn drain_some(&mut self, alloc: Global, steps: usize) -> Result<Walked, Stop>;

@@ -8,8 +8,8 @@
 //! - `secondary`: `SecondaryMap`;
 //! - `sparse`, `random`, `constant`: `SparseSecondaryMap` with its default hasher, with a
 //!   `RandomState`, and with a hasher that gives one number for every key. For the latter two
-//!   `new` is `with_hasher`, `with_capacity` is `with_capacity_and_hasher`, and a map of pairs or
-//!   of a list is made by `with_hasher` and `extend`;
+//!   `new` is `with_hasher`, `with_capacity` is `with_capacity_and_hasher`, `from_slots` is
+//!   `from_slots_with_hasher`, and `from_iter` is `from_iter_with_hasher`;
 //! - `plain_secondary`, `plain_sparse`: both maps with plain numbers for values;
 //! - `run_secondary`, `run_sparse`: runs by `run_secondary`;
 //! - `basic_with_secondary`, `basic_with_sparse`, and the same of `dense` and `hop`: runs by

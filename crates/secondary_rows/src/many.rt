@@ -17,21 +17,14 @@ pub fn on_steps<'a, M: Held<'a, H> + Secondary<DefaultKey, Number<'a>>, H: Copy>
 ) -> Result<(), Stop> {
     let steps = number as usize;
     let (alloc, is_ordered) = (maps.alloc, M::IS_ORDERED);
-    let walk = match name {
-        "drain" => {
-            let walked = maps.map.drain_some(alloc, steps)?;
-            return write_walked(reply, Walk::Iter, is_ordered, walked);
-        }
-        "into_iter" => {
-            let walked = maps.map.copy()?.take_some(alloc, steps)?;
-            return write_walked(reply, Walk::Iter, is_ordered, walked);
-        }
-        "iter" => Walk::Iter,
-        "keys" => Walk::Keys,
-        "values" => Walk::Values,
+    let (walk, walked) = match name {
+        "drain" => (Walk::Pairs, maps.map.drain_some(alloc, steps)?),
+        "into_iter" => (Walk::Pairs, maps.map.copy()?.take_some(alloc, steps)?),
+        "iter" => (Walk::Pairs, maps.map.walk_pairs(alloc, steps)?),
+        "keys" => (Walk::Keys, maps.map.walk_keys(alloc, steps)?),
+        "values" => (Walk::Values, maps.map.walk_values(alloc, steps)?),
         _ => return on_number(maps, name, number, reply),
     };
-    let walked = maps.map.walk(alloc, walk, steps)?;
     write_walked(reply, walk, is_ordered, walked)
 }
 
@@ -46,8 +39,8 @@ pub fn on_all<'a, M: Held<'a, H> + Secondary<DefaultKey, Number<'a>>, H: Copy>(
         "is_empty" => write!(reply, "{}", maps.map.is_vacant())?,
         "clear" => maps.map.clear_all(),
         "for" => {
-            let walked = maps.map.walk(maps.alloc, Walk::For, 0)?;
-            return write_walked(reply, Walk::For, M::IS_ORDERED, walked);
+            let walked = maps.map.walk_all(maps.alloc)?;
+            return write_walked(reply, Walk::Pairs, M::IS_ORDERED, walked);
         }
         _ => return on_bare(maps, name, reply),
     }

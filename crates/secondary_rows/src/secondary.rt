@@ -2,10 +2,8 @@
 
 use crate::hashers::{NoHasher, Pairs};
 use crate::held::{Change, Held, Keep, Put, Told, Way};
-use crate::shared::{
-    change_by_entry, keep_even, looked, put_by_entry, retained, told, walks, written,
-};
-use crate::walks::{Walk, Walked, drained, of_key, of_pair, of_taken, of_value, stepped, walked};
+use crate::shared::{change_by_entry, keep_even, looked, put_by_entry, retained, told, written};
+use crate::walks::{Shown, Walked, drained, listed, looped, rested, stepped};
 use slotmap::secondary::Entry;
 use slotmap::{
     DefaultKey, NoEntry, OutOfMemory, ReserveError, SecondaryMap, SlotRecord, SlotsError,
@@ -121,8 +119,26 @@ impl<'a> Held<'a, NoHasher> for SecondaryMap<DefaultKey, Number<'a>> {
         retained!(self, keep, reply)
     }
 
-    fn walk(&self, alloc: Global, walk: Walk, steps: usize) -> Result<Walked, Stop> {
-        walks!(self, alloc, walk, steps)
+    fn walk_pairs(&self, alloc: Global, steps: usize) -> Result<Walked, Stop> {
+        let mut walk = self.iter();
+        let walked = stepped!(walk, steps, alloc);
+        rested!(walk, walked, alloc)
+    }
+
+    fn walk_keys(&self, alloc: Global, steps: usize) -> Result<Walked, Stop> {
+        let mut walk = self.keys();
+        let walked = stepped!(walk, steps, alloc);
+        rested!(walk, walked, alloc)
+    }
+
+    fn walk_values(&self, alloc: Global, steps: usize) -> Result<Walked, Stop> {
+        let mut walk = self.values();
+        let walked = stepped!(walk, steps, alloc);
+        rested!(walk, walked, alloc)
+    }
+
+    fn walk_all(&self, alloc: Global) -> Result<Walked, Stop> {
+        looped!(self, alloc)
     }
 
     fn drain_some(&mut self, alloc: Global, steps: usize) -> Result<Walked, Stop> {
@@ -131,7 +147,7 @@ impl<'a> Held<'a, NoHasher> for SecondaryMap<DefaultKey, Number<'a>> {
 
     fn take_some(self, alloc: Global, steps: usize) -> Result<Walked, Stop> {
         let mut walk = self.into_iter();
-        Ok(stepped!(walk, of_taken, steps, alloc))
+        Ok(stepped!(walk, steps, alloc))
     }
 
     fn into_pairs(self, alloc: Global) -> Result<Pairs<'a>, Stop> {

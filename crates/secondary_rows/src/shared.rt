@@ -61,29 +61,6 @@ macro_rules! retained {
     }};
 }
 
-/// An iterator's steps.
-macro_rules! walks {
-    ($map:expr, $alloc:expr, $walk:expr, $steps:expr) => {
-        match $walk {
-            Walk::Iter => walked!($map.iter(), of_pair, $steps, $alloc),
-            Walk::Keys => walked!($map.keys(), of_key, $steps, $alloc),
-            Walk::Values => walked!($map.values(), of_value, $steps, $alloc),
-            Walk::For => {
-                let mut items = Vec::with_capacity($alloc, $map.len())?;
-                for pair in $map {
-                    items.push(of_pair(pair))?;
-                }
-                Ok(Walked {
-                    items,
-                    left: 0,
-                    rest: Vec::new($alloc),
-                    is_sound: true,
-                })
-            }
-        }
-    };
-}
-
 /// What an entry is.
 macro_rules! told {
     ($entry:expr) => {
@@ -151,5 +128,4 @@ pub(crate) use looked;
 pub(crate) use put_by_entry;
 pub(crate) use retained;
 pub(crate) use told;
-pub(crate) use walks;
 pub(crate) use written;

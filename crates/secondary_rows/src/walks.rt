@@ -1,17 +1,17 @@
 //! Iterators, step by step.
 
+ghost use Rattle.std.specs.Iterator.{IsFinite};
+
 use slotmap::{DefaultKey, Key};
 use slotmap_rows::{Number, Stop, write_key, write_pair};
-use std::alloc::AllocError;
+use std::alloc::{AllocError, Global};
 
-/// An iterator of a map.
+/// What an iterator of a map yields.
 #[derive(Clone, Copy, PartialEq, Eq)]
 pub enum Walk {
-    Iter,
+    Pairs,
     Keys,
     Values,
-    /// `for` over `&map`.
-    For,
 }
 
 /// A key and the number of a value: what an iterator yields, with the null key or 0 for what it
@@ -29,38 +29,87 @@ pub struct Walked {
     pub is_sound: bool,
 }
 
-pub fn of_key(key: DefaultKey) -> Item {
-    (key, 0)
+/// What an iterator yields.
+pub trait Shown {
+    fn shown(self) -> Item;
 }
 
-pub fn of_value(value: &Number<'_>) -> Item {
-    (DefaultKey::null(), value.value)
+impl Shown for DefaultKey {
+    fn shown(self) -> Item {
+        (self, 0)
+    }
 }
 
-pub fn of_pair(pair: (DefaultKey, &Number<'_>)) -> Item {
-    (pair.0, pair.1.value)
+impl<'a, 'n> Shown for &'a Number<'n> {
+    fn shown(self) -> Item {
+        (DefaultKey::null(), self.value)
+    }
 }
 
-/// The item of a pair that was taken out of its map; the value is dropped.
-pub fn of_taken(pair: (DefaultKey, Number<'_>)) -> Item {
-    (pair.0, pair.1.value)
+impl<'a, 'n> Shown for (DefaultKey, &'a Number<'n>) {
+    fn shown(self) -> Item {
+        (self.0, self.1.value)
+    }
+}
+
+/// A pair that was taken out of its map; the value is dropped.
+impl<'n> Shown for (DefaultKey, Number<'n>) {
+    fn shown(self) -> Item {
+        (self.0, self.1.value)
+    }
+}
+
+/// What an iterator yields, to its end.
+pub fn listed<I: Iterator + Drop>(mut walk: I, alloc: Global) -> Result<Vec<Item>, Stop>
+where
+    I::Item: Shown + Drop,
+    requires can { I.can_next walk }
+    requires ends { IsFinite (I.remaining walk) }
+{
+    let mut items = Vec::new(alloc);
+    for item in walk.by_ref() {
+        items.push(item.shown())?;
+    }
+    if walk.next().is_some() {
+        return Err(Stop::Unknown);
+    }
+    Ok(items)
+}
+
+impl Walked {
+    /// What some steps yielded, how many were then left, and the size hint.
+    pub fn after(
+        alloc: Global,
+        items: Vec<Item>,
+        left: usize,
+        hint: (usize, Option<usize>),
+    ) -> Walked {
+        Walked {
+            items,
+            left,
+            rest: Vec::new(alloc),
+            is_sound: hint == (left, Some(left)),
+        }
+    }
+
+    /// Adds the rest, and what a clone of the iterator yielded.
+    pub fn with_rest(mut self, rest: Vec<Item>, again: Vec<Item>) -> Walked {
+        let is_same = rest.as_slice() == again.as_slice();
+        let is_whole = self.left == rest.len();
+        self.is_sound = self.is_sound && is_same && is_whole;
+        self.rest = rest;
+        self
+    }
 }
 
 /// So many steps of an iterator. The room for the items is asked for before the first step.
 macro_rules! stepped {
-    ($walk:ident, $item:ident, $steps:expr, $alloc:expr) => {{
+    ($walk:ident, $steps:expr, $alloc:expr) => {{
         let mut items = Vec::with_capacity($alloc, $walk.len().min($steps))?;
         for item in $walk.by_ref().take($steps) {
-            items.push($item(item))?;
+            items.push(item.shown())?;
         }
-        let left = $walk.len();
-        let is_sound = $walk.size_hint() == (left, Some(left));
-        Walked {
-            items,
-            left,
-            rest: Vec::new($alloc),
-            is_sound,
-        }
+        Walked::after($alloc, items, $walk.len(), $walk.size_hint())
     }};
 }
 
@@ -71,43 +120,41 @@ macro_rules! drained {
         let mut items = Vec::with_capacity($alloc, $map.len().min($steps))?;
         let mut drain = $map.drain();
         for pair in drain.by_ref().take($steps) {
-            items.push(of_taken(pair))?;
+            items.push(pair.shown())?;
         }
-        let left = drain.len();
-        let is_sound = drain.size_hint() == (left, Some(left));
-        Ok(Walked {
+        Ok(Walked::after(
+            $alloc,
             items,
-            left,
-            rest: Vec::new($alloc),
-            is_sound,
-        })
+            drain.len(),
+            drain.size_hint(),
+        ))
     }};
 }
 
-/// So many steps of an iterator, and then the rest, which a clone has to yield too.
-macro_rules! walked {
-    ($walk:expr, $item:ident, $steps:expr, $alloc:expr) => {{
-        let mut walk = $walk;
-        let mut walked = stepped!(walk, $item, $steps, $alloc);
-        let mut copy = walk.clone()?;
-        let mut again = Vec::new($alloc);
-        for item in copy.by_ref() {
-            again.push($item(item))?;
+/// The rest of an iterator, which a clone has to yield too, after some steps.
+macro_rules! rested {
+    ($walk:ident, $walked:ident, $alloc:expr) => {{
+        let again = listed($walk.clone()?, $alloc)?;
+        let rest = listed($walk, $alloc)?;
+        Ok($walked.with_rest(rest, again))
+    }};
+}
+
+/// The items of `for` over `&map`.
+macro_rules! looped {
+    ($map:expr, $alloc:expr) => {{
+        let mut items = Vec::with_capacity($alloc, $map.len())?;
+        for pair in $map {
+            items.push(pair.shown())?;
         }
-        for item in walk.by_ref() {
-            walked.rest.push($item(item))?;
-        }
-        let is_over = walk.next().is_none() && copy.next().is_none();
-        let is_same = walked.rest.as_slice() == again.as_slice();
-        let is_whole = walked.left == walked.rest.len();
-        walked.is_sound = walked.is_sound && is_over && is_same && is_whole;
-        Ok(walked)
+        Ok(Walked::after($alloc, items, 0, (0, Some(0))))
     }};
 }
 
 pub(crate) use drained;
+pub(crate) use looped;
+pub(crate) use rested;
 pub(crate) use stepped;
-pub(crate) use walked;
 
 // How many items a result shows at most; of more it says how many they are.
 const SHOWN: usize = 1000;
@@ -123,7 +170,7 @@ pub fn write_walked(
     walked: Walked,
 ) -> Result<(), Stop> {
     reply.push_str(match walk {
-        Walk::Iter | Walk::For => "pairs",
+        Walk::Pairs => "pairs",
         Walk::Keys => "keys",
         Walk::Values => "values",
     })?;

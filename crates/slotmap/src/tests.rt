@@ -1,10 +1,9 @@
-//! Tests of what no row of calls can say: names, keys, messages, JSON, `Debug`, hashers of one's own and runs one after the other, over
+//! Tests of what no row of calls can say: names, keys, messages, JSON, `Debug` and runs one after the other, over
 //! the names of this crate. Rows of calls lie in `crates/primary_rows` and `crates/secondary_rows`. Expected values were worked out
 //! by hand or come from the Rust crate, never from this port's own results.
 
 mod debug;
 mod errors;
-mod hashers;
 mod json;
 mod keys;
 mod lists;
