@@ -25,7 +25,7 @@ pub struct Walked {
     /// How many it said were left after the steps.
     pub left: usize,
     pub rest: Vec<Item>,
-    /// Whether its size hint, its clone and its end agree with that.
+    /// Whether its size hint and its clone agree with that.
     pub is_sound: bool,
 }
 
@@ -60,18 +60,15 @@ impl<'n> Shown for (DefaultKey, Number<'n>) {
 }
 
 /// What an iterator yields, to its end.
-pub fn listed<I: Iterator + Drop>(mut walk: I, alloc: Global) -> Result<Vec<Item>, Stop>
+pub fn listed<I: Iterator + Drop>(walk: I, alloc: Global) -> Result<Vec<Item>, Stop>
 where
     I::Item: Shown + Drop,
     requires can { I.can_next walk }
     requires ends { IsFinite (I.remaining walk) }
 {
     let mut items = Vec::new(alloc);
-    for item in walk.by_ref() {
+    for item in walk {
         items.push(item.shown())?;
-    }
-    if walk.next().is_some() {
-        return Err(Stop::Unknown);
     }
     Ok(items)
 }
@@ -184,7 +181,7 @@ pub fn write_walked(
     write_items(reply, walk, (is_ordered, is_open), items)?;
     write!(reply, ", {left} left")?;
     if !is_sound {
-        reply.push_str(" and another clone, end or size hint")?;
+        reply.push_str(" and another clone or size hint")?;
     }
     write_items(reply, walk, (is_ordered, is_open), rest)
 }

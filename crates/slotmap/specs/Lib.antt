@@ -1,3 +1,2 @@
 pub mod KeysAlone
 pub mod Words
-pub mod Registry

@@ -1,4 +1,6 @@
 -- The words that callers' clauses cite, all in one module. Declares nothing.
+pub use Rattle.slotmap_core.specs.Lifo.{IsBasic}
+pub use Rattle.slotmap_core.specs.Law.{IsRefusal, keys_told}
 pub use Rattle.slotmap_core.specs.Key.{Key, IsKey, null_key, is_last, next_version, is_older, key_cmp, coded_key, same_keys}
 pub use Rattle.slotmap_core.specs.Content.{Content, content_code, IsContent, IsLive, IsDetached, IsRetired, IsVacant, Stands, used, places, most}
 pub use Rattle.slotmap_core.specs.Spent.{IsSpent, KeepsSpent}

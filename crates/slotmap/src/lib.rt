@@ -14,8 +14,6 @@
 //! commands from `slotmap_run`.
 #![tactic(auto)]
 
-mod examples;
-
 /// The iterators of [`SlotMap`].
 pub mod basic {
     pub use slotmap_basic::{Drain, IntoIter, Iter, Keys, SlotMap, Values};

@@ -12,6 +12,7 @@
 #![tactic(auto, using(slotmap::proofs::Callers::keys))]
 
 pub mod entities;
+pub mod examples;
 pub mod graph;
 pub mod scene;
 pub mod scheduler;

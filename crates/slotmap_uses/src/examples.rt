@@ -1,0 +1,20 @@
+//! Callers of the library, each proved from its contracts alone.
+#![tactic(auto, using(slotmap::proofs::Callers::keys))]
+
+pub mod drains;
+pub mod exchange;
+pub mod hops;
+pub mod lookups;
+pub mod own_key;
+pub mod packed;
+pub mod registry;
+pub mod retains;
+pub mod same_keys;
+pub mod scheduler;
+pub mod side_table;
+pub mod side_writes;
+pub mod sparse_table;
+pub mod stale;
+pub mod strangers;
+pub mod tour;
+pub mod walks;
