@@ -1,13 +1,11 @@
 //! Iterators that skip vacant slots, and how many slots they read.
 
-ghost use Rattle.std.specs.Prelude.{◌≡◌, ◌≢◌, ◌+◌, ◌*◌, ◌<◌, ◌≤◌, ◌%◌, ◌==◌, IfOk, OnOk, IfSome, IfNone, OnSome, Some, None, if◌then◌else◌, List, ◌∷◌};
+ghost use Rattle.std.specs.Prelude.{◌≡◌, ◌≢◌, ◌+◌, ◌*◌, ◌≤◌, ◌%◌, ◌==◌, IfOk, OnOk, IfSome, IfNone, Some, None, if◌then◌else◌};
 ghost use Rattle.std.specs.Option.{option_and_then};
-ghost use Rattle.std.specs.List.{All};
 ghost use Rattle.std.specs.FinMap as map;
 ghost use Rattle.std.specs.FinSet as set;
 ghost use Rattle.slotmap.specs.Words.{Key as KeyOf, IsLive, IsSpent, blocks_without, hop_with_value};
 
-use slotmap::hop::Keys;
 use slotmap::{DefaultKey, HopSlotMap, InsertError, Key};
 
 /// A key that has this value.
@@ -42,25 +40,6 @@ pub fn count_reads<K: Key>(store: &HopSlotMap<K, u64>) -> usize
     let mut keys = store.keys();
     while let Some(_) = keys.next() {}
     keys.reads()
-}
-
-/// How many slots a step reads: at most two, if no retired slot comes before the next key.
-pub fn step_reads<K: Key>(keys: &mut Keys<'_, K, u64>) -> usize
-    requires { (k : KeyOf) (rest : List KeyOf) → keys.old.rest ≡ k ∷ rest → All (λ retired. k.index < retired.index) keys.old.retired }
-    ensures { result ≤ 2 }
-{
-    let before = keys.reads();
-    match keys.next() {
-        Some(_) => keys.reads() - before,
-        None => 0,
-    }
-}
-
-/// Removes a key. Its slot makes a block, or joins those beside it.
-pub fn remove_hopping<K: Key>(store: &mut HopSlotMap<K, u64>, key: K) -> Option<u64>
-    ensures blocks { OnSome result (store.new.blocks ≡ blocks_without store.old (K.data_of key)) }
-{
-    store.remove(key)
 }
 
 /// Stores two values under two keys.

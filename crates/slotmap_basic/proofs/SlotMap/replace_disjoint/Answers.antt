@@ -1,4 +1,4 @@
-use Rattle.std.proofs.Common.{◌≡◌, get_or, length, map as map_list, set, take, is_some, ◌+◌, sym, ap, ◌∙◌, arith}
+use Rattle.std.proofs.Common.{◌≡◌, get_or, length, map as map_list, set, take, is_some, true, ◌+◌, sym, ap, ◌∙◌, arith}
 use Rattle.std.proofs.lemmas.List.{get_or-map, length-map}
 use Rattle.slotmap_core.specs.Transition.{with_value}
 use Rattle.slotmap_core.specs.Disjoint.{value_of}
