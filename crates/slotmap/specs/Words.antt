@@ -11,3 +11,7 @@ pub use Rattle.slotmap_core.specs.Copy.{IsCopy}
 pub use Rattle.slotmap_core.specs.Disjoint.{CanReplace, AreValuesOf, with_values}
 pub use Rattle.slotmap_core.specs.Secondary.{Pairs, get, entry, has_entry, put, bind, remove, keyed}
 pub use Rattle.slotmap_core.specs.Contents.{contents}
+pub use Rattle.slotmap_hop.specs.HopContent.{HopContent, IsHopContent, StaysHop, GrowsHop, MakesHopRoom, NoBlocks, blocks_without, blocks_without_all, hop_with_value, hop_with_values}
+pub use Rattle.slotmap_hop.specs.Blocks.{Blocks, shorter, offer_place}
+pub use Rattle.slotmap_hop.specs.Retain.{RetainsByIndex}
+pub use Rattle.slotmap_hop.specs.Walk.{Walking, ReadsFew, CountsReads, CountsReadsSomewhere, ListsRetired}

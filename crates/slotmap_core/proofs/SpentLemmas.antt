@@ -141,7 +141,7 @@ module _ {V : Type 0} where
       (Leaves-with_values (with_value c k v) keys values (λ i d within. same_live c k v here _ ∙ All-tail (IsLive c) k keys live i d within))
 
   pub spent_with_values : (c : Content V) (keys : List Key) (values : List V) → CanReplace c keys → KeepsSpent c (with_values c keys values)
-  spent_with_values c keys values can = spent_leaves c (with_values c keys values) (Leaves-with_values c keys values can.live)
+  spent_with_values c keys values can = spent_leaves c (with_values c keys values) (Leaves-with_values c keys values can.there)
 
   -- by the clauses of an insert, whatever it returns
   module _ (old new : Content V) (reuses : Bool) {K E : Type 0} (answer : Result K E) (valid : MayGrow reuses old (IsErr answer) new) (data_of : K → Key) (v : V) where

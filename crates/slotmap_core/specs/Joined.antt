@@ -1,5 +1,5 @@
 -- The machine of a primary map and a secondary map beside it.
-use Rattle.std.specs.Prelude.{◌≡◌, ℕ, zero, suc, Option, Some, None, Bool, false, List, [], ◌∷◌, ◌++◌}
+use Rattle.std.specs.Prelude.{◌≡◌, ℕ, zero, suc, Option, Some, None, Bool, List, [], ◌∷◌, ◌++◌}
 use Rattle.std.specs.List.{slice_get}
 use Rattle.std.specs.Fn.{FnReturnsAt, Shared}
 use Rattle.std.specs.Borrow.{Bor}
@@ -57,10 +57,10 @@ module _ {K V W R : Type 0} (given : Given K W R) where
       primary_step.DetachStep (record { data_of = given.data_of; looks = λ v r. ⊥; keeps = λ k v w stays. ⊥; makes = λ k r. ⊥; reuses = given.reuses }) old.primary c r new.primary
       × (new.secondary ≡ old.secondary)
 
-  -- a step of the secondary map; no command is an `or_put`
+  -- a step of the secondary map
   abbrev pub Second : Joined K V W → SecondaryCommand K W → SecondaryReply W R → Joined K V W → Type 0
   Second old c r new =
-      secondary_step.Step (record { data_of = given.data_of; looks = given.looks; takes_older = false }) old.secondary c r new.secondary
+      secondary_step.Step (record { data_of = given.data_of; looks = given.looks }) old.secondary c r new.secondary
       × (new.primary ≡ old.primary) × (new.keys ≡ old.keys)
 
   -- the key that is returned is the next one that a number names

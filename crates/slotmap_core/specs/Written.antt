@@ -56,7 +56,3 @@ module _ {V : Type 0} where
   abbrev pub read_slots : List (SlotRecord V) → List (SlotRecord V)
   read_slots [] = []
   read_slots (first ∷ rest) = empty_slot 0 ∷ rest
-
-  -- whenever a map with the content c is written as a list, it is this one
-  abbrev pub WritesAlone : Content V → List (SlotRecord V) → Type 0
-  WritesAlone c slots = (again : List (SlotRecord V)) → Writes c again → again ≡ slots

@@ -1,10 +1,12 @@
 -- An iterator skips a block of vacant places in one step.
-use Rattle.std.proofs.Common.{◌≡◌, ◌≢◌, ℕ, zero, suc, ◌+◌, ◌-◌, ◌*◌, ◌<◌, ◌≤◌, ◌^◌, ◌%◌, true, List, [], ◌∷◌, length, drop, get_or, set, slice_get, Some, refl, sym, ap, subst, ◌∙◌, arith}
+use Rattle.std.proofs.Common.{◌≡◌, ◌≢◌, ℕ, zero, suc, ◌+◌, ◌-◌, ◌*◌, ◌<◌, ◌≤◌, ◌^◌, ◌%◌, true, List, [], ◌∷◌, ◌++◌, length, drop, get_or, set, slice_get, Some, refl, sym, ap, subst, ◌∙◌, arith}
 use Rattle.std.proofs.lemmas.Option.{slice_get_within, get_or_from_slice_get}
-use Rattle.std.proofs.lemmas.List.{drop_more, drop_all, drop-set-lt}
+use Rattle.std.proofs.lemmas.List.{drop_more, drop_all, drop-set-lt, append_assoc, length-append}
+use Rattle.std.proofs.lemmas.List.Elements.{All-nil, All-cons, All-push, All-weaker}
+use Rattle.std.specs.List.{All}
 use Rattle.std.specs.FinMap as map
 use Rattle.std.specs.FinSet as set
-use Rattle.slotmap_core.specs.Key.{Key, key_cmp}
+use Rattle.slotmap_core.specs.Key.{Key, key_cmp, last_version}
 use Rattle.slotmap_core.specs.Places.{Place, Live, Detached, Vacant, Retired, live, retired, live_entry, retired_entry}
 use Rattle.slotmap_core.specs.Gather.{gather}
 use Rattle.slotmap_core.proofs.PlacesLemmas.{key, retired_fits}
@@ -17,8 +19,8 @@ use Rattle.slotmap_hop.specs.declared.links.State.{State}
 use Rattle.slotmap_hop.specs.declared.links.State.TheVariants.{Occupied, Free, UsedUp}
 use Rattle.slotmap_hop.specs.Blocks.{Begins, IsBlock}
 use Rattle.slotmap_hop.specs.Links.{vacant_at, end_at, fronts_of}
-use Rattle.slotmap_hop.specs.Slots.{place_in, layout, places_of, IsSound}
-use Rattle.slotmap_hop.specs.Walk.{retired_among, pairs_left, retired_left, StandsAt, IsWalk, CanGoOn, FindsLive, FindsNone, ReadsOnTheWay}
+use Rattle.slotmap_hop.specs.Slots.{place_in, layout, places_of, hop_content, IsSound}
+use Rattle.slotmap_hop.specs.Walk.{pairs_left, retired_left, StandsAt, IsWalk, CanGoOn, FindsLive, FindsNone, ReadsOnTheWay, ListsRetired}
 use Rattle.slotmap_hop.proofs.BlockLemmas.{clash, back_of}
 use Rattle.slotmap_hop.proofs.Circle.{bounded_by_length, circle_block}
 use Rattle.slotmap_hop.proofs.Vacating.{zero_in_circle}
@@ -27,6 +29,19 @@ use Rattle.slotmap_hop.proofs.SlotLemmas.{vacant_place, place_not_vacant, slots_
 
 drop-found : {X : Type 0} (xs : List X) (i : ℕ) (x : X) → slice_get xs i ≡ Some x → drop i xs ≡ x ∷ drop (i + 1) xs
 drop-found xs i x found = drop_more xs i x (slice_get_within xs i x found) ∙ ap (λ y. y ∷ drop (i + 1) xs) (get_or_from_slice_get xs i x x found)
+
+module _ {V : Type 0} where
+  -- the keys of retired places, where the first place has index i
+  abbrev retired_list : ℕ → List (Place V) → List Key
+  retired_list i ps = gather [] (λ ks e. e.0 ∷ ks) retired_entry i ps
+
+  -- the retired places from j on aren't below j
+  above : (i j : ℕ) (ps : List (Place V)) → i ≤ j → All (λ k. i ≤ k.index) (retired_list j ps)
+  above i j [] low = All-nil (λ k. i ≤ k.index)
+  above i j (Live version value ∷ ps) low = above i (j + 1) ps (omega arith)
+  above i j (Detached version ∷ ps) low = above i (j + 1) ps (omega arith)
+  above i j (Vacant n ∷ ps) low = above i (j + 1) ps (omega arith)
+  above i j (Retired ∷ ps) low = All-cons (λ k. i ≤ k.index) (key j last_version) (retired_list (j + 1) ps) low (above i (j + 1) ps (omega arith))
 
 module _ {V : Type 0} (slots : List (Slot V)) where
   -- what is yielded at a place of each kind
@@ -42,14 +57,14 @@ module _ {V : Type 0} (slots : List (Slot V)) where
   pairs-retired : (i : ℕ) → slice_get (places_of slots) i ≡ Some Retired → pairs_left slots i ≡ pairs_left slots (i + 1)
   pairs-retired i found = ap (at_list i) (drop-found (places_of slots) i Retired found)
 
-  pub retired-live : (i v : ℕ) (x : V) → slice_get (places_of slots) i ≡ Some (Live v x) → retired_left slots i ≡ retired_left slots (i + 1)
-  retired-live i v x found = ap retired_among (drop-found (places_of slots) i (Live v x) found)
+  retired-live : (i v : ℕ) (x : V) → slice_get (places_of slots) i ≡ Some (Live v x) → retired_left slots i ≡ retired_left slots (i + 1)
+  retired-live i v x found = ap (retired_list i) (drop-found (places_of slots) i (Live v x) found)
 
   retired-vacant : (i n : ℕ) → slice_get (places_of slots) i ≡ Some (Vacant n) → retired_left slots i ≡ retired_left slots (i + 1)
-  retired-vacant i n found = ap retired_among (drop-found (places_of slots) i (Vacant n) found)
+  retired-vacant i n found = ap (retired_list i) (drop-found (places_of slots) i (Vacant n) found)
 
-  retired-retired : (i : ℕ) → slice_get (places_of slots) i ≡ Some Retired → retired_left slots i ≡ suc (retired_left slots (i + 1))
-  retired-retired i found = ap retired_among (drop-found (places_of slots) i Retired found)
+  retired-retired : (i : ℕ) → slice_get (places_of slots) i ≡ Some Retired → retired_left slots i ≡ key i last_version ∷ retired_left slots (i + 1)
+  retired-retired i found = ap (retired_list i) (drop-found (places_of slots) i Retired found)
 
   -- a sequence of vacant places holds nothing
   skip : (k i : ℕ) → ((x : ℕ) → i ≤ x → x < i + k → vacant_at (layout slots) x ≡ true) → (pairs_left slots i ≡ pairs_left slots (i + k)) × (retired_left slots i ≡ retired_left slots (i + k))
@@ -83,8 +98,11 @@ module _ {V : Type 0} (slots : List (Slot V)) (reads0 start : ℕ) where
   pub record OnTheWay (reads place : ℕ) : Type 0 where
     pub stands : StandsAt slots place
     pub same : pairs_left slots start ≡ pairs_left slots place
-    pub few_vacant : vacant_at (layout slots) place ≡ true → reads + 2 * retired_left slots place ≤ reads0 + 2 * retired_left slots start
-    pub few : reads + 2 * retired_left slots place ≤ reads0 + 2 * retired_left slots start + 1
+    pub gone : List Key
+    pub still : retired_left slots start ≡ gone ++ retired_left slots place
+    pub below : All (λ k. k.index < place) gone
+    pub few_vacant : vacant_at (layout slots) place ≡ true → reads ≤ reads0 + 2 * length gone
+    pub few : reads ≤ reads0 + 2 * length gone + 1
     pub passed : reads + start ≤ reads0 + place
     pub begun : reads0 ≤ reads
     pub before : reads0 ≤ start
@@ -93,6 +111,9 @@ module _ {V : Type 0} (slots : List (Slot V)) (reads0 start : ℕ) where
   way_begins can = record {
     stands = can.stands;
     same = refl;
+    gone = [];
+    still = refl;
+    below = All-nil (λ k. k.index < start);
     few_vacant = λ vacant. omega arith;
     few = omega arith;
     passed = omega arith;
@@ -103,6 +124,9 @@ module _ {V : Type 0} (slots : List (Slot V)) (reads0 start : ℕ) where
   -- after all places nothing is left
   pub way_ends : (reads place : ℕ) → OnTheWay reads place → length slots ≤ place → pairs_left slots start ≡ []
   way_ends reads place way past = way.same ∙ ap (at_list slots place) (drop_all place (places_of slots) (omega (arith, length-places slots)))
+
+  pub way_few : (reads place : ℕ) → OnTheWay reads place → reads ≤ reads0 + 2 * length (retired_left slots start) + 1
+  way_few reads place way = omega (arith, way.few, ap length way.still, length-append way.gone (retired_left slots place))
 
   module _ (reads place : ℕ) (way : OnTheWay reads place) (way_inside : place < length slots) where
     pub way_room : reads + 1 < 2 ^ 64
@@ -127,8 +151,11 @@ module _ {V : Type 0} (slots : List (Slot V)) (reads0 start : ℕ) where
               at_front = λ again. clash (vacant_at (layout slots)) (end_at (layout slots) place + 1) again block.ends;
             };
             same = way.same ∙ past.0;
+            gone = way.gone;
+            still = way.still ∙ ap (λ ks. way.gone ++ ks) past.1;
+            below = All-weaker (λ k. k.index < place) (λ k. k.index < end_at (layout slots) place + 1) (λ k low. omega (arith, block.ordered)) way.gone way.below;
             few_vacant = λ again. clash (vacant_at (layout slots)) (end_at (layout slots) place + 1) again block.ends;
-            few = omega (arith, past.1);
+            few = omega (arith, few);
             passed = omega (arith, way.passed, block.ordered);
             begun = omega (arith, way.begun);
             before = way.before;
@@ -163,8 +190,11 @@ module _ {V : Type 0} (slots : List (Slot V)) (reads0 start : ℕ) where
               at_front = λ vacant left next. let same : left ≡ place = omega arith in rw same live;
             };
             same = way.same ∙ past;
-            few_vacant = λ vacant. omega (arith, way.few, retired-retired slots place spent);
-            few = omega (arith, way.few, retired-retired slots place spent);
+            gone = way.gone ++ key place last_version ∷ [];
+            still = way.still ∙ ap (λ ks. way.gone ++ ks) (retired-retired slots place spent) ∙ sym (append_assoc way.gone (key place last_version ∷ []) (retired_left slots (place + 1)));
+            below = All-push (λ k. k.index < place + 1) way.gone (key place last_version) (All-weaker (λ k. k.index < place) (λ k. k.index < place + 1) (λ k low. omega arith) way.gone way.below) (omega arith);
+            few_vacant = λ vacant. omega (arith, way.few, length-append way.gone (key place last_version ∷ []));
+            few = omega (arith, way.few, length-append way.gone (key place last_version ∷ []));
             passed = omega (arith, way.passed);
             begun = omega (arith, way.begun);
             before = way.before;
@@ -177,22 +207,38 @@ module _ {V : Type 0} (slots : List (Slot V)) (reads0 start : ℕ) where
       pub way_reads : (x : V) → s.state ≡ Occupied x → ReadsOnTheWay slots reads0 start (reads + 1) place
       way_reads x is =
           let at = here (Occupied x) is in
+          let still = way.still ∙ ap (λ ks. way.gone ++ ks) (retired-live slots place s.version x at) in
           record {
+            gone = way.gone;
+            still = still;
+            before = way.below;
+            after = All-weaker (λ k. place + 1 ≤ k.index) (λ k. place < k.index) (λ k low. omega arith) (retired_left slots (place + 1)) (above (place + 1) (place + 1) (drop (place + 1) (places_of slots)) (omega arith));
             some = omega (arith, way.begun);
-            few = omega (arith, way.few, retired-live slots place s.version x at);
+            few = omega (arith, way.few, ap length still, length-append way.gone (retired_left slots (place + 1)));
             passed = omega (arith, way.passed);
           }
 
 module _ {V : Type 0} where
-  -- the number of retired keys
-  len-retired_from : (j : ℕ) (ps : List (Place V)) → set.len (gather (set.empty {R = key_cmp}) (λ s e. set.insert s e.0) retired_entry j ps) ≡ retired_among ps
+  set-retired_from : (j : ℕ) (ps : List (Place V)) → set.from_list (retired_list j ps) ≡ gather (set.empty {R = key_cmp}) (λ s e. set.insert s e.0) retired_entry j ps
+  set-retired_from j [] = refl
+  set-retired_from j (Live version value ∷ ps) = set-retired_from (j + 1) ps
+  set-retired_from j (Detached version ∷ ps) = set-retired_from (j + 1) ps
+  set-retired_from j (Vacant n ∷ ps) = set-retired_from (j + 1) ps
+  set-retired_from j (Retired ∷ ps) = ap (λ s. set.insert s (key j last_version)) (set-retired_from (j + 1) ps)
+
+  len-retired_from : (j : ℕ) (ps : List (Place V)) → set.len (gather (set.empty {R = key_cmp}) (λ s e. set.insert s e.0) retired_entry j ps) ≡ length (retired_list j ps)
   len-retired_from j [] = set.len-empty key_cmp
   len-retired_from j (Live version value ∷ ps) = let more = len-add detached_laws (λ k. k.index) (retired_entry {V = V}) retired_fits j (Live version value) ps in omega (arith, len-retired_from (j + 1) ps)
   len-retired_from j (Detached version ∷ ps) = let more = len-add detached_laws (λ k. k.index) (retired_entry {V = V}) retired_fits j (Detached version) ps in omega (arith, len-retired_from (j + 1) ps)
   len-retired_from j (Vacant n ∷ ps) = let more = len-add detached_laws (λ k. k.index) (retired_entry {V = V}) retired_fits j (Vacant n) ps in omega (arith, len-retired_from (j + 1) ps)
   len-retired_from j (Retired ∷ ps) = let more = len-add detached_laws (λ k. k.index) (retired_entry {V = V}) retired_fits j Retired ps in omega (arith, len-retired_from (j + 1) ps)
 
-  pub len-retired : (ps : List (Place V)) → set.len (retired ps) ≡ retired_among ps
+  -- they are the retired keys, each once
+  set-retired : (ps : List (Place V)) → set.from_list (retired_list 0 ps) ≡ retired ps
+  unfolding retired
+  set-retired ps = set-retired_from 0 ps
+
+  len-retired : (ps : List (Place V)) → set.len (retired ps) ≡ length (retired_list 0 ps)
   unfolding retired
   len-retired ps = len-retired_from 0 ps
 
@@ -248,8 +294,10 @@ module _ {V : Type 0} (slots : List (Slot V)) (vacant elems : ℕ) (sound : IsSo
   pub pairs-start : pairs_left slots (end_at (layout slots) 0 + 1) ≡ map.entries (live (places_of slots))
   pairs-start = sym (past_block slots 0 (end_at (layout slots) 0) first_place).0 ∙ sym (entries-live (places_of slots))
 
-  pub retired-start : retired_left slots (end_at (layout slots) 0 + 1) ≡ set.len (retired (places_of slots))
-  retired-start = sym (past_block slots 0 (end_at (layout slots) 0) first_place).1 ∙ sym (len-retired (places_of slots))
+  pub retired-start : (c : ℕ) → ListsRetired (hop_content slots c) (retired_left slots (end_at (layout slots) 0 + 1))
+  retired-start c =
+      let all : retired_list 0 (places_of slots) ≡ retired_left slots (end_at (layout slots) 0 + 1) = (past_block slots 0 (end_at (layout slots) 0) first_place).1 in
+      subst (ListsRetired (hop_content slots c)) all (record { all = set-retired (places_of slots); once = sym (len-retired (places_of slots)) })
 
   pub walk_starts : IsWalk slots 0 (end_at (layout slots) 0 + 1) elems
   walk_starts =

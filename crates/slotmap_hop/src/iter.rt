@@ -3,10 +3,9 @@
 ghost use Rattle.std.specs.Prelude.{◌≡◌, ◌≤◌, length, Some, IfSome, IfNone, ⊤};
 ghost use Rattle.std.specs.Iterator.{YieldsFirstBy, item_count, at_most, UpTo};
 ghost use Rattle.std.specs.FinMap as map;
-ghost use Rattle.std.specs.FinSet as set;
 ghost use Rattle.slotmap_core.specs.Listing.{IsListing, IsKeyListing, IsValueListing};
 ghost use Rattle.slotmap_hop.specs.HopContent.{IsHopContent};
-ghost use Rattle.slotmap_hop.specs.Walk.{CanGoOn, FindsLive, FindsNone, ReadsOnTheWay, ReadsToTheEnd, CountsReads, StartsIter};
+ghost use Rattle.slotmap_hop.specs.Walk.{CanGoOn, FindsLive, FindsNone, ReadsOnTheWay, ReadsToTheEnd, CountsReads, CountsReadsSomewhere, ListsRetired, StartsIter};
 
 use crate::HopSlotMap;
 use crate::counted::CountedSlots;
@@ -22,7 +21,7 @@ use std::marker::{Model, PhantomData};
 ///
 /// - the list of the pairs that it will still yield
 /// - the number of slots that it has read
-/// - the number of retired slots that it hasn't passed
+/// - the keys of the retired slots that it hasn't passed
 ///
 /// After its end it yields nothing. A clone yields the same pairs; cloning allocates nothing.
 #[derive(Drop)]
@@ -123,7 +122,7 @@ impl<'a, K, V> Clone for Iter<'a, K, V> {
 impl<'a, K: Key, V> Iterator for Iter<'a, K, V> {
     type Item = (K, &'a V);
 
-    ghost next_gives = { λ old given new. YieldsFirstBy (λ item. (K.data_of item.0, item.1.now)) (λ it. it.rest) old given new × CountsReads old given new };
+    ghost next_gives = { λ old given new. YieldsFirstBy (λ item. (K.data_of item.0, item.1.now)) (λ it. it.rest) old given new × CountsReads (λ item. K.data_of item.0) old given new };
 
     ghost remaining = { item_count (λ it. it.rest) };
 
@@ -157,8 +156,8 @@ impl<'a, K: Key, V> FusedIterator for Iter<'a, K, V> {}
 
 /// An iterator over the live keys, by ascending index: see [`HopSlotMap::keys`].
 ///
-/// A contract sees it as the list of the keys that it will still yield, with the two numbers of
-/// [`Iter`]. After its end it yields nothing. A clone yields the same keys; cloning allocates
+/// A contract sees it as the list of the keys that it will still yield, with the two other
+/// parts of [`Iter`]. After its end it yields nothing. A clone yields the same keys; cloning allocates
 /// nothing.
 #[derive(Drop)]
 pub struct Keys<'a, K, V> {
@@ -222,7 +221,7 @@ impl<'a, K, V> Clone for Keys<'a, K, V> {
 impl<'a, K: Key, V> Iterator for Keys<'a, K, V> {
     type Item = K;
 
-    ghost next_gives = { λ old given new. YieldsFirstBy K.data_of (λ it. it.rest) old given new × CountsReads old given new };
+    ghost next_gives = { λ old given new. YieldsFirstBy K.data_of (λ it. it.rest) old given new × CountsReads K.data_of old given new };
 
     ghost remaining = { item_count (λ it. it.rest) };
 
@@ -251,8 +250,8 @@ impl<'a, K: Key, V> FusedIterator for Keys<'a, K, V> {}
 
 /// An iterator over the values, by ascending index of their keys: see [`HopSlotMap::values`].
 ///
-/// A contract sees it as the list of the values that it will still yield, with the two numbers of
-/// [`Iter`]. After its end it yields nothing. A clone yields the same values; cloning allocates
+/// A contract sees it as the list of the values that it will still yield, with the two other
+/// parts of [`Iter`]. After its end it yields nothing. A clone yields the same values; cloning allocates
 /// nothing.
 #[derive(Drop)]
 pub struct Values<'a, K, V> {
@@ -316,7 +315,7 @@ impl<'a, K, V> Clone for Values<'a, K, V> {
 impl<'a, K: Key, V> Iterator for Values<'a, K, V> {
     type Item = &'a V;
 
-    ghost next_gives = { λ old given new. YieldsFirstBy (λ item. item.now) (λ it. it.rest) old given new × CountsReads old given new };
+    ghost next_gives = { λ old given new. YieldsFirstBy (λ item. item.now) (λ it. it.rest) old given new × CountsReadsSomewhere old given new };
 
     ghost remaining = { item_count (λ it. it.rest) };
 
@@ -360,7 +359,7 @@ impl<K: Key, V> HopSlotMap<K, V> {
     pub fn iter(&self) -> Iter<'_, K, V>
         ensures listing { IsListing self.now.content.live result.rest }
         ensures in_order { result.rest ≡ map.entries self.now.content.live }
-        ensures retired { result.retired ≡ set.len self.now.content.retired }
+        ensures retired { ListsRetired self.now result.retired }
         ensures reads { result.reads ≡ 0 }
         ensures valid { IsHopContent self.now }
     {
@@ -386,7 +385,7 @@ impl<K: Key, V> HopSlotMap<K, V> {
     pub fn keys(&self) -> Keys<'_, K, V>
         ensures listing { IsKeyListing self.now.content.live result.rest }
         ensures in_order { result.rest ≡ map.keys self.now.content.live }
-        ensures retired { result.retired ≡ set.len self.now.content.retired }
+        ensures retired { ListsRetired self.now result.retired }
         ensures reads { result.reads ≡ 0 }
         ensures valid { IsHopContent self.now }
     {
@@ -406,7 +405,7 @@ impl<K: Key, V> HopSlotMap<K, V> {
     pub fn values(&self) -> Values<'_, K, V>
         ensures listing { IsValueListing self.now.content.live result.rest }
         ensures in_order { result.rest ≡ map.values self.now.content.live }
-        ensures retired { result.retired ≡ set.len self.now.content.retired }
+        ensures retired { ListsRetired self.now result.retired }
         ensures reads { result.reads ≡ 0 }
         ensures valid { IsHopContent self.now }
     {

@@ -24,7 +24,7 @@ where
     ghost ready = { λ self map _. L.IsAlwaysCallable self.look };
 
     ghost step = { λ self old command reply new. Step
-        (given_secondary K.data_of L.Fn self.look S.takes_older)
+        (given_secondary K.data_of L.Fn self.look)
         (S.pairs old) command reply (S.pairs new) };
 
     fn serve(&self, map: &mut S, command: SecondaryCommand<K, V>) -> SecondaryReply<V, R> {
@@ -84,12 +84,12 @@ where
     requires looks { L.IsAlwaysCallable look }
 
     // Replies and content are a run of the machine.
-    ensures run { let what = given_secondary K.data_of L.Fn look S.takes_older in
+    ensures run { let what = given_secondary K.data_of L.Fn look in
         IfOk result (λ replies. Run (Step what)
         (S.pairs map.old) commands.items replies.items (S.pairs map.new)) }
 
     // Each other map that held the same returns the same replies, if no allocation fails.
-    ensures agrees { let what = given_secondary K.data_of L.Fn look S.takes_older in
+    ensures agrees { let what = given_secondary K.data_of L.Fn look in
         IfOk result (λ replies. AllByRecursion HadMemory replies.items → IsFunction what.looks →
         EachAgrees what (S.pairs map.old) commands.items replies.items (S.pairs map.new)) }
 

@@ -142,7 +142,7 @@ impl<K: Key, V: Drop, S: BuildHasher + Drop> SparseSecondaryMap<K, V, S> {
     /// assert!(rt; matches!(map.or_put(DefaultKey::null(), 7), OrPut::NoEntry(7)));
     /// ```
     pub fn or_put(&mut self, key: K, value: V) -> OrPut<V>
-        ensures does { OrPuts false self.old.pairs (K.data_of key) value result self.new.pairs }
+        ensures does { OrPuts self.old.pairs (K.data_of key) value result self.new.pairs }
         ensures room { result ≡ or_put.Memory value → self.old.capacity ≤ map.len self.old.pairs }
 
         // Allocates only if nothing is at the index, and never for the null key.

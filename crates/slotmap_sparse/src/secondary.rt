@@ -1,7 +1,5 @@
 //! The trait `Secondary` for this map.
 
-ghost use Rattle.std.specs.Prelude.{false};
-
 use crate::SparseSecondaryMap;
 use slotmap_core::errors::PutError;
 use slotmap_core::keys::Key;
@@ -9,9 +7,6 @@ use slotmap_core::secondary::{OrPut, Secondary};
 use std::hash::BuildHasher;
 
 impl<K: Key, V: Drop, S: BuildHasher + Drop> Secondary<K, V> for SparseSecondaryMap<K, V, S> {
-    // `or_put` allocates only if nothing is at the index.
-    ghost takes_older = { false };
-
     ghost pairs = { λ m. m.pairs };
 
     fn len(&self) -> usize {

@@ -1,6 +1,13 @@
 use Rattle.std.proofs.Common.{map as map_list}
-use Rattle.slotmap_core.proofs.DisjointLemmas.{Exchanged}
+use Rattle.std.proofs.Common.{true}
+use Rattle.slotmap_core.specs.Content.{IsContent}
+use Rattle.slotmap_core.specs.Transition.{with_value}
+use Rattle.slotmap_core.specs.Disjoint.{value_of}
+use Rattle.slotmap_core.proofs.SeveralLemmas.{Exchanged}
 use Rattle.slotmap_basic.proofs.SlotMap.replace_disjoint.Given as goal
 
 abbrev pub invariant-loop-i : goal.invariant-loop-i
-invariant-loop-i g l = Exchanged l.fn.self (map_list g.K.Key.data_of l.keys) l.initial.values l.self l.values l.i
+invariant-loop-i g l = record {
+  well : IsContent true l.self;
+  done : Exchanged value_of with_value l.fn.self (map_list g.K.Key.data_of l.keys) l.initial.values l.self l.values l.i;
+}

@@ -1,7 +1,9 @@
 use Rattle.std.proofs.Common.{◌≡◌, map as map_list}
-use Rattle.slotmap_core.proofs.DisjointLemmas.{Exchanged}
+use Rattle.slotmap_core.specs.Transition.{with_value}
+use Rattle.slotmap_core.specs.Disjoint.{value_of}
+use Rattle.slotmap_core.proofs.SeveralLemmas.{Exchanged}
 use Rattle.slotmap_hop.specs.HopContent.{StaysHop}
 use Rattle.slotmap_hop.proofs.HopSlotMap.replace_disjoint.Given as goal
 
 abbrev pub invariant-loop-i : goal.invariant-loop-i
-invariant-loop-i g l = Exchanged l.fn.self.content (map_list g.K.Key.data_of l.keys) l.initial.values l.self.content l.values l.i × (l.self.blocks ≡ l.fn.self.blocks) × StaysHop l.fn.self l.self
+invariant-loop-i g l = Exchanged value_of with_value l.fn.self.content (map_list g.K.Key.data_of l.keys) l.initial.values l.self.content l.values l.i × (l.self.blocks ≡ l.fn.self.blocks) × StaysHop l.fn.self l.self

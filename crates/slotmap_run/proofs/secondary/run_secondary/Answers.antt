@@ -7,10 +7,10 @@ use Rattle.slotmap_run.proofs.secondary.run_secondary.Goals as goal
 
 pub returns-clause-run : goal.returns-clause-run
 returns-clause-run g c =
-    let step = Step (given_secondary g.K.Key.data_of g.L.Fn c.args.look g.S.Secondary.takes_older) in
+    let step = Step (given_secondary g.K.Key.data_of g.L.Fn c.args.look) in
     IfOk-weaker c.run_all.result _ _ (λ replies ran. run_seen _ step g.S.Secondary.pairs (λ s r c t h. h) _ _ _ _ ran) c.run_all.ensures.run
 
 pub returns-clause-agrees : goal.returns-clause-agrees
 returns-clause-agrees g c =
-    let what = given_secondary g.K.Key.data_of g.L.Fn c.args.look g.S.Secondary.takes_older in
+    let what = given_secondary g.K.Key.data_of g.L.Fn c.args.look in
     IfOk-weaker c.run_all.result _ _ (λ replies ran had function. each_agrees what function _ _ _ _ (run_seen _ (Step what) g.S.Secondary.pairs (λ s r c t h. h) _ _ _ _ ran) had) c.run_all.ensures.run

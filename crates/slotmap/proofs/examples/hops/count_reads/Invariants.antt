@@ -6,7 +6,7 @@ use Rattle.slotmap.proofs.examples.hops.count_reads.Given as goal
 -- each read so far counts against a key or a retired slot that was passed
 abbrev pub invariant-loop : goal.invariant-loop
 invariant-loop g l =
-    l.keys.reads + 2 * l.keys.retired + 2 * length l.keys.rest ≤ 2 * map.len l.store.content.live + 2 * set.len l.store.content.retired
+    l.keys.reads + 2 * length l.keys.retired + 2 * length l.keys.rest ≤ 2 * map.len l.store.content.live + 2 * set.len l.store.content.retired
 
 abbrev pub decreases-loop : goal.decreases-loop
 decreases-loop g l = length l.keys.rest

@@ -1,4 +1,4 @@
-use Rattle.std.proofs.Common.{rules, ◌≡◌, refl, sym, ap, ◌∙◌, arith}
+use Rattle.std.proofs.Common.{◌≡◌, refl, sym, ap, ◌∙◌, arith}
 use Rattle.slotmap_core.proofs.PlacesLemmas.{key}
 use Rattle.slotmap_core.proofs.KeyLemmas.{key_from-odd}
 use Rattle.slotmap_hop.proofs.SlotLemmas.{slots_fit}
@@ -17,4 +17,8 @@ returns-clause-steps g c =
     let is : g.K.Key.data_of c.from-key.result ≡ key c.in_ok-place.place c.in_ok-place.version =
     ap g.K.Key.data_of (g.met.K.Key.from_gives_key _ _ c.from-key.ensures) ∙ g.met.K.Key.from_data _ c.new.ensures.valid ∙ c.new.ensures.value
     ∙ key_from-odd _ _ (omega (arith, slots_fit _ _ _ c.self.invariant.stands.sound)) (found_version _ _ _ _ c.self.invariant _ _ _ _ found.found found.reads) in
-    (ap (λ w. w.rest) (sym c.self.view_is) ∙ found.found.first ∙ rw (is, found.slots) refl, search rules)
+    let way = found.reads in
+    let index : (g.K.Key.data_of c.from-key.result).index ≡ c.in_ok-place.place = ap (λ k. k.index) is in (
+      ap (λ w. w.rest) (sym c.self.view_is) ∙ found.found.first ∙ rw (is, found.slots) refl,
+      rw (index, found.slots, ← c.self.view_is) (record { passed = way.gone; still = way.still; before = way.before; after = way.after; some = way.some; few = way.few }),
+    )
