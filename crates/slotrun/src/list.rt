@@ -1,10 +1,11 @@
 //! Maps written as the JSON text of their list of slots, and read from it.
 
+use serde::{Deserialize, Deserializer, Format};
 use serde_json::Value;
 use slotmap_basic::SlotMap;
 use slotmap_core::errors::{JsonError, OutOfMemory, SlotsError};
 use slotmap_core::keys::DefaultKey;
-use slotmap_core::serial::{SlotRecord, slots_from_value};
+use slotmap_core::serial::SlotRecord;
 use slotmap_dense::DenseSlotMap;
 use slotmap_hop::HopSlotMap;
 use std::alloc::Global;
@@ -105,17 +106,52 @@ fn read_map<M: Listed>(alloc: Global, text: &str) -> Result<M, LoadError> {
 }
 
 fn read_slots(alloc: Global, text: &str) -> Result<Vec<SlotRecord<i32>>, JsonError> {
-    match Value::from_str(alloc, text) {
-        Ok(json) => slots_from_value(alloc, &json, number),
+    match serde_json::from_str::<SlotList>(alloc, text) {
+        Ok(list) => Ok(list.slots),
         Err(error) if error.is_memory() => Err(JsonError::Memory),
         Err(_) => Err(JsonError::Shape),
     }
 }
 
-// Reads a value as a number of 32 bits.
-fn number(value: &Value) -> Result<i32, JsonError> {
-    let number = value.as_i64().ok_or(JsonError::Shape)?;
-    i32::try_from(number).map_err(|_| JsonError::Shape)
+/// The slots of a JSON text. It is read record by record, so one record at a time is a JSON value.
+#[derive(Drop)]
+struct SlotList {
+    slots: Vec<SlotRecord<i32>>,
+}
+
+impl<'de> Deserialize<'de> for SlotList {
+    fn deserialize<F: Format>(
+        alloc: Global,
+        from: &mut Deserializer<'de, '_, F>,
+    ) -> Result<SlotList, F::Error> {
+        from.begin_seq()?;
+        let mut slots = Vec::new(alloc);
+        // It ends at the end of the array, or at the first error.
+        for _ in 0..u64::MAX {
+            if !from.next_item()? {
+                break;
+            }
+            let record: Value = Deserialize::deserialize(alloc, from)?;
+            let Some(slot) = read_slot(&record) else {
+                return Err(from.invalid());
+            };
+            if slots.push(slot).is_err() {
+                return Err(from.no_memory());
+            }
+        }
+        Ok(SlotList { slots })
+    }
+}
+
+// Reads one record as `slots_from_value` reads each element of an array: a value that is null or absent is none, and
+// other members are ignored.
+fn read_slot(record: &Value) -> Option<SlotRecord<i32>> {
+    let version = u32::try_from(record.get("version")?.as_u64()?).ok()?;
+    let value = match record.get("value") {
+        Some(value) if !value.is_null() => Some(i32::try_from(value.as_i64()?).ok()?),
+        _ => None,
+    };
+    Some(SlotRecord { value, version })
 }
 
 /// Writes why a map wasn't read.
