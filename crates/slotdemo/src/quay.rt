@@ -4,7 +4,7 @@ use slotmap::{DefaultKey, InsertError, ReserveError};
 use slotmap_uses::entities::{AttachError, World};
 use slotmap_uses::scene::{AddError, Scene};
 use slotmap_uses::scheduler::{RescheduleError, ScheduleError, Scheduler};
-use std::alloc::{AllocError, Global};
+use std::alloc::Global;
 use std::io;
 use thiserror::Error;
 
@@ -37,7 +37,7 @@ pub enum DayError {
     #[error("no weight: {0}")]
     Weight(#[from] AttachError<u32>),
     #[error("out of memory")]
-    Memory(#[from] AllocError),
+    Memory,
     #[error("nothing printed: {0}")]
     Print(#[from] io::Error),
 }
@@ -47,6 +47,8 @@ pub enum DayError {
 pub struct Quay {
     // Each thing is an entity whose value is its node.
     things: World<DefaultKey, u32, &'static str>,
+    // All that ever arrived. The key of a thing that has left finds nothing.
+    arrived: Vec<DefaultKey>,
     nodes: Scene<&'static str>,
     events: Scheduler<Event>,
 }
@@ -56,6 +58,7 @@ impl Quay {
     pub fn new(alloc: Global) -> Result<Quay, DayError> {
         Ok(Quay {
             things: World::new(alloc)?,
+            arrived: Vec::new(alloc),
             nodes: Scene::new(alloc)?,
             events: Scheduler::new(alloc)?,
         })
@@ -106,7 +109,10 @@ impl Quay {
         let thing = self.things.spawn(node)?;
         self.things.attach_name(thing, name)?;
         self.things.attach_position(thing, weight)?;
-        println!(rt; "{hour}:00 the {name} arrives, of {weight} tons")?;
+        if self.arrived.push(thing).is_err() {
+            return Err(DayError::Memory);
+        }
+        println!(rt; "{hour}:00 the {name} arrives, {weight} t")?;
         Ok(())
     }
 
@@ -117,8 +123,8 @@ impl Quay {
         name: &str,
         other: &str,
     ) -> Result<(), DayError> {
-        let thing = self.node(rt.alloc(), name)?;
-        let place = self.node(rt.alloc(), other)?;
+        let thing = self.node(name);
+        let place = self.node(other);
         match (thing, place) {
             (Some(node), Some(parent)) => match self.nodes.reparent(node, parent) {
                 Ok(()) => println!(rt; "{hour}:00 the {name} boards the {other}")?,
@@ -134,42 +140,39 @@ impl Quay {
     }
 
     fn leave(&mut self, rt: &HostRuntime, hour: u64, name: &str) -> Result<(), DayError> {
-        if let Some(thing) = self.find(rt.alloc(), name)? {
+        if let Some(thing) = self.find(name) {
             self.things.despawn(thing);
             println!(rt; "{hour}:00 the {name} leaves")?;
         }
         Ok(())
     }
 
-    // The thing of this name.
-    fn find(&self, alloc: Global, name: &str) -> Result<Option<DefaultKey>, DayError> {
-        for thing in self.things.both(alloc)? {
-            if let Some(other) = self.things.name(thing) {
+    // The thing of this name, if it is at the quay.
+    fn find(&self, name: &str) -> Option<DefaultKey> {
+        for thing in self.arrived.iter() {
+            if let Some(other) = self.things.name(*thing) {
                 if *other == name {
-                    return Ok(Some(thing));
+                    return Some(*thing);
                 }
             }
         }
-        Ok(None)
+        None
     }
 
     // The node of the thing of this name.
-    fn node(&self, alloc: Global, name: &str) -> Result<Option<DefaultKey>, DayError> {
-        match self.find(alloc, name)? {
-            Some(thing) => Ok(self.things.get(thing).copied()),
-            None => Ok(None),
-        }
+    fn node(&self, name: &str) -> Option<DefaultKey> {
+        let thing = self.find(name)?;
+        self.things.get(thing).copied()
     }
 
-    /// Lists what is at the quay, and how deep aboard.
+    /// Lists what is at the quay, and how many things each is aboard of.
     pub fn list(&self, rt: &HostRuntime) -> Result<(), DayError> {
         println!(rt; "at the end of the day:")?;
-        for thing in self.things.both(rt.alloc())? {
-            let (Some(node), Some(name)) = (self.things.get(thing), self.things.name(thing)) else {
-                continue;
-            };
-            let depth = self.nodes.depth(*node).unwrap_or(0);
-            println!(rt; "the {name}, aboard of {depth}")?;
+        for thing in self.arrived.iter() {
+            if let (Some(node), Some(name)) = (self.things.get(*thing), self.things.name(*thing)) {
+                let depth = self.nodes.depth(*node).unwrap_or(0);
+                println!(rt; "the {name}: depth {depth}")?;
+            }
         }
         Ok(())
     }

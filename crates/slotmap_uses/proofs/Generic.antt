@@ -1,5 +1,5 @@
 -- What a change of a map of keys, or of an ordered map, does to each key: nothing here speaks of the structures.
-use Rattle.std.proofs.Common.{◌≡◌, ◌≢◌, ◌+◌, ◌≤◌, ◌⊎◌, Bool, true, false, Option, Some, None, OnSome, Result, Ok, Err, OnOk, OnErr, is_err, is_some, is_eq, refl, sym, ap, ◌∙◌, inl, inr, arith}
+use Rattle.std.proofs.Common.{◌≡◌, ◌≢◌, ℕ, zero, suc, ◌+◌, ◌≤◌, ◌<◌, ◌↔◌, ◌⊎◌, Bool, true, false, Option, Some, None, IsSome, IfNone, OnSome, Result, Ok, Err, OnOk, OnErr, is_err, is_some, is_eq, refl, sym, ap, ◌∙◌, inl, inr, arith}
 use Rattle.std.specs.declared.cmp.Ordering.{Ordering}
 use Rattle.std.specs.Ordering.{eq_by_cmp}
 use Rattle.std.specs.Cmp.{IsTotalOrder, tied_itself, Equal-is}
@@ -72,3 +72,12 @@ at_err (Err e) is h = h
 pub at_ok : {A B P : Type 0} (r : Result A B) → is_err r ≡ false → OnOk r P → P
 at_ok (Ok x) is h = h
 at_ok (Err e) is h = absurd (cc)
+
+pub for_none : {A P : Type 0} (r : Option A) → P → IfNone r P
+for_none None h = h
+for_none (Some x) h = tt
+
+-- where there is none, there are 0
+pub none_counted : {A : Type 0} (n : ℕ) (r : Option A) → r ≡ None → IsSome r ↔ (0 < n) → n ≡ 0
+none_counted zero r is same = refl
+none_counted (suc n) r is same = absurd (let h = same.1 (omega arith) in let e = ap is_some is in cc)

@@ -9,8 +9,7 @@
 //!
 //! The entities stand in a `DenseSlotMap`, packed for iteration. The positions stand in a
 //! `SecondaryMap`, for most entities, and the names in a `SparseSecondaryMap`, for few. Each call
-//! takes constant time, unless a table grows; [`World::both`] takes time linear in the number of
-//! entities.
+//! takes constant time, unless a table grows.
 //!
 //! ```
 //! let mut world: World<u8, (i32, i32), &str> = World::new(alloc)?;
@@ -22,22 +21,22 @@
 //! ```
 #![tactic(auto, using(slotmap::proofs::Callers::keys))]
 
-ghost use Rattle.std.specs.Prelude.{◌≡◌, ◌≢◌, ◌&&◌, Some, None, IfOk, OnOk, IfErr, OnErr, IfSome, IsSome, IfNone, OnSome, false, true, option_copied, is_some, filter};
+ghost use Rattle.std.specs.Prelude.{◌≡◌, ◌≢◌, Some, None, IfOk, OnOk, IfErr, OnErr, IfSome, IsSome, IfNone, OnSome, false, true, option_copied};
 ghost use Rattle.std.specs.FinMap as map;
 ghost use Rattle.slotmap.specs.Words.{Key as KeyOf, IsLive, IsNew, IsSpent, KeepsSpent, Refuses, get};
-ghost use Rattle.slotmap_uses.specs.World.{RefusesAttach, has_both};
+ghost use Rattle.slotmap_uses.specs.World.{RefusesAttach};
 
 use slotmap::{
     DefaultKey, DenseSlotMap, InsertError, PutError, ReserveError, SecondaryMap, SparseSecondaryMap,
 };
-use std::alloc::{AllocError, Global};
+use std::alloc::Global;
 use std::marker::Model;
 use std::mem;
 use thiserror::Error;
 
 /// Entities with values of type `E`, each with a position, a name, both or none.
 ///
-/// A clause sees `entities`, which has the value of each entity, their order, and the two tables.
+/// A clause sees `entities`, which has the value of each entity, and the two tables.
 #[derive(Drop)]
 pub struct World<E, P, N> {
     entities: DenseSlotMap<DefaultKey, E>,
@@ -54,7 +53,7 @@ impl<E, P, N> Model for World<E, P, N> {
 
     ghost use Rattle.slotmap_uses.specs.Beside.{IsBeside};
 
-    ghost view = { λ w. record { entities = w.entities.content; order = w.entities.keys; positions = w.positions.pairs; names = w.names.pairs } };
+    ghost view = { λ w. record { entities = w.entities.content; positions = w.positions.pairs; names = w.names.pairs } };
 
     ghost invariant = { λ w. IsBeside w.entities.content w.positions.pairs × IsBeside w.entities.content w.names.pairs };
 }
@@ -255,23 +254,5 @@ impl<E: Drop, P: Drop, N: Drop> World<E, P, N> {
             return Err(position);
         };
         Ok(mem::replace(place, position))
-    }
-
-    // Whether an entity has both components.
-    fn has_both(&self, key: DefaultKey) -> bool
-        ensures { result ≡ (is_some (get self.now.positions key) && is_some (get self.now.names key)) }
-    {
-        self.positions.contains_key(key) && self.names.contains_key(key)
-    }
-
-    /// Returns the entities that have both a position and a name, in packed order: a join of the two
-    /// tables.
-    pub fn both(&self, alloc: Global) -> Result<Vec<DefaultKey>, AllocError>
-        ensures { IfOk result (λ found. found.items ≡ filter (has_both self.now) self.now.order) }
-    {
-        self.entities
-            .keys()
-            .filter(|key| self.has_both(*key))
-            .collect(alloc)
     }
 }

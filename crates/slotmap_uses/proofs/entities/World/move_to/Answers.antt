@@ -2,12 +2,12 @@ use Rattle.std.proofs.Common.{sym}
 use Rattle.slotmap_uses.proofs.Tables.{beside_bind, get-bind_here, get-bind_other}
 use Rattle.slotmap_uses.proofs.entities.World.move_to.Goals as goal
 
-pub invariant_of-self : goal.invariant_of-self
-invariant_of-self g c =
-    (beside_bind c.self.inside.entities.content c.self.inside.entities.content c.self.inside.positions.pairs c.args.key c.self.invariant.0 _ c.args.position (sym c.in-Some.ensures.value), c.self.invariant.1)
+pub invariant_of-self-2 : goal.invariant_of-self-2
+invariant_of-self-2 g c =
+    (beside_bind c.self.inside.entities.content c.self.inside.entities.content c.self.inside.positions.pairs c.args.key c.self.invariant.0 _ c.replace.new.dest (sym c.in-Some.ensures.value), c.self.invariant.1)
 
 pub returns-clause-there : goal.returns-clause-there
-returns-clause-there g c = get-bind_here c.self.inside.positions.pairs c.args.key _ c.args.position (sym c.in-Some.ensures.value)
+returns-clause-there g c = rw c.replace.ensures.after (get-bind_here c.self.inside.positions.pairs c.args.key _ c.args.position (sym c.in-Some.ensures.value))
 
 pub returns-clause-others : goal.returns-clause-others
-returns-clause-others g c q other = rw (← c.self.view_is) (get-bind_other c.self.inside.positions.pairs c.args.key _ c.args.position (sym c.in-Some.ensures.value) q other)
+returns-clause-others g c q other = rw (← c.self.view_is) (get-bind_other c.self.inside.positions.pairs c.args.key _ c.replace.new.dest (sym c.in-Some.ensures.value) q other)

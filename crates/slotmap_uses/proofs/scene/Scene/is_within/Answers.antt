@@ -10,7 +10,7 @@ pub index-requires : goal.index-requires
 index-requires g c = rw c.self.view_is (climbing_live _ _ _ _ c.loop-step.invariant.0)
 
 pub returns-then-eq : goal.returns-then-eq
-returns-then-eq g c = (λ _. c.loop-step.invariant.1.1 (zero, (same_keys c.loop-step.at c.args.other).0 c.if-eq.ensures), λ _. refl)
+returns-then-eq g c = (λ _. c.loop-step.invariant.1.1 (zero, (same_keys c.loop-step.at c.args.other).0 (sym c.if-eq.ensures)), λ _. refl)
 
 pub returns-in-None : goal.returns-in-None
 returns-in-None g c =
