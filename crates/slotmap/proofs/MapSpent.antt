@@ -46,8 +46,8 @@ module _ {V : Type 0} (j : Key) (answer : Option V) where
     pub remove_spent-hop : OnSome answer (Removes old.content j new.content) → OnSome answer (IsSpent new.content j)
     remove_spent-hop = remove_spent old.content new.content true (hop_stays valid) j answer is
 
-ruleset inserts = (spent_insert, insert_not_spent, spent_insert-dense, insert_not_spent-dense, spent_insert-hop, insert_not_spent-hop)
+pub ruleset inserts = (spent_insert, insert_not_spent, spent_insert-dense, insert_not_spent-dense, spent_insert-hop, insert_not_spent-hop)
 
-ruleset removals = (spent_remove, live_remove_spent, spent_remove-dense, live_remove_spent-dense, spent_remove-hop, live_remove_spent-hop)
+pub ruleset removals = (spent_remove, live_remove_spent, spent_remove-dense, live_remove_spent-dense, spent_remove-hop, live_remove_spent-hop)
 
 pub ruleset spent = (inserts, removals, remove_spent, remove_spent-dense, remove_spent-hop, spent_detach, spent_detach-dense, spent_leaves, spent_stale, spent_finds_nothing, spent_not_detached)
