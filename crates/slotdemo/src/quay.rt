@@ -8,15 +8,35 @@ use std::alloc::Global;
 use std::io;
 use thiserror::Error;
 
-/// What happens at an hour. Things are called by their names.
-#[derive(Clone, Copy, Debug, Drop)]
+/// What comes to the quay.
+#[derive(Clone, Copy, Debug, PartialEq, Eq)]
+pub enum Thing {
+    Ferry,
+    Truck,
+    Dog,
+    Gull,
+}
+
+impl Thing {
+    fn name(self) -> &'static str {
+        match self {
+            Thing::Ferry => "ferry",
+            Thing::Truck => "truck",
+            Thing::Dog => "dog",
+            Thing::Gull => "gull",
+        }
+    }
+}
+
+/// What happens at an hour.
+#[derive(Clone, Copy, Debug)]
 pub enum Event {
     /// A thing of this weight arrives.
-    Arrives(&'static str, u32),
+    Arrives(Thing, u32),
     /// A thing goes aboard another, with all that is aboard it.
-    Boards(&'static str, &'static str),
+    Boards(Thing, Thing),
     /// A thing leaves for good.
-    Leaves(&'static str),
+    Leaves(Thing),
 }
 
 /// Why the day ended early.
@@ -29,11 +49,11 @@ pub enum DayError {
     #[error("not put off: {0}")]
     Reschedule(#[from] RescheduleError),
     #[error("no node: {0}")]
-    Node(#[from] AddError<&'static str>),
+    Node(#[from] AddError<Thing>),
     #[error("no entity: {0}")]
     Entity(#[from] InsertError<DefaultKey>),
     #[error("no name: {0}")]
-    Name(#[from] AttachError<&'static str>),
+    Name(#[from] AttachError<Thing>),
     #[error("no weight: {0}")]
     Weight(#[from] AttachError<u32>),
     #[error("out of memory")]
@@ -45,11 +65,12 @@ pub enum DayError {
 /// The things at the quay, and the events to come.
 #[derive(Drop)]
 pub struct Quay {
-    // Each thing is an entity whose value is its node.
-    things: World<DefaultKey, u32, &'static str>,
+    // Each is an entity whose value is its node, whose position is its weight, and whose name is
+    // what it is.
+    things: World<DefaultKey, u32, Thing>,
     // All that ever arrived. The key of a thing that has left finds nothing.
     arrived: Vec<DefaultKey>,
-    nodes: Scene<&'static str>,
+    nodes: Scene<Thing>,
     events: Scheduler<Event>,
 }
 
@@ -92,9 +113,9 @@ impl Quay {
 
     fn happen(&mut self, rt: &HostRuntime, hour: u64, event: Event) -> Result<(), DayError> {
         match event {
-            Event::Arrives(name, weight) => self.arrive(rt, hour, name, weight),
-            Event::Boards(name, other) => self.board(rt, hour, name, other),
-            Event::Leaves(name) => self.leave(rt, hour, name),
+            Event::Arrives(thing, weight) => self.arrive(rt, hour, thing, weight),
+            Event::Boards(thing, other) => self.board(rt, hour, thing, other),
+            Event::Leaves(thing) => self.leave(rt, hour, thing),
         }
     }
 
@@ -102,16 +123,17 @@ impl Quay {
         &mut self,
         rt: &HostRuntime,
         hour: u64,
-        name: &'static str,
+        thing: Thing,
         weight: u32,
     ) -> Result<(), DayError> {
-        let node = self.nodes.add_root(name)?;
-        let thing = self.things.spawn(node)?;
-        self.things.attach_name(thing, name)?;
-        self.things.attach_position(thing, weight)?;
-        if self.arrived.push(thing).is_err() {
+        let node = self.nodes.add_root(thing)?;
+        let key = self.things.spawn(node)?;
+        self.things.attach_name(key, thing)?;
+        self.things.attach_position(key, weight)?;
+        if self.arrived.push(key).is_err() {
             return Err(DayError::Memory);
         }
+        let name = thing.name();
         println!(rt; "{hour}:00 the {name} arrives, {weight} t")?;
         Ok(())
     }
@@ -120,58 +142,60 @@ impl Quay {
         &mut self,
         rt: &HostRuntime,
         hour: u64,
-        name: &str,
-        other: &str,
+        thing: Thing,
+        other: Thing,
     ) -> Result<(), DayError> {
-        let thing = self.node(name);
-        let place = self.node(other);
-        match (thing, place) {
+        let name = thing.name();
+        let place = other.name();
+        match (self.node(thing), self.node(other)) {
             (Some(node), Some(parent)) => match self.nodes.reparent(node, parent) {
-                Ok(()) => println!(rt; "{hour}:00 the {name} boards the {other}")?,
+                Ok(()) => println!(rt; "{hour}:00 the {name} boards the {place}")?,
                 Err(error) => println!(rt;
-                    "{hour}:00 the {name} can't board the {other}: {error}"
+                    "{hour}:00 the {name} can't board the {place}: {error}"
                 )?,
             },
             _ => println!(rt;
-                "{hour}:00 the {name} can't board the {other}: one of them has left"
+                "{hour}:00 the {name} can't board the {place}: one of them has left"
             )?,
         }
         Ok(())
     }
 
-    fn leave(&mut self, rt: &HostRuntime, hour: u64, name: &str) -> Result<(), DayError> {
-        if let Some(thing) = self.find(name) {
-            self.things.despawn(thing);
+    fn leave(&mut self, rt: &HostRuntime, hour: u64, thing: Thing) -> Result<(), DayError> {
+        if let Some(key) = self.find(thing) {
+            self.things.despawn(key);
+            let name = thing.name();
             println!(rt; "{hour}:00 the {name} leaves")?;
         }
         Ok(())
     }
 
-    // The thing of this name, if it is at the quay.
-    fn find(&self, name: &str) -> Option<DefaultKey> {
-        for thing in self.arrived.iter() {
-            if let Some(other) = self.things.name(*thing) {
-                if *other == name {
-                    return Some(*thing);
+    // The key of a thing, if it is at the quay.
+    fn find(&self, thing: Thing) -> Option<DefaultKey> {
+        for key in self.arrived.iter() {
+            if let Some(other) = self.things.name(*key) {
+                if *other == thing {
+                    return Some(*key);
                 }
             }
         }
         None
     }
 
-    // The node of the thing of this name.
-    fn node(&self, name: &str) -> Option<DefaultKey> {
-        let thing = self.find(name)?;
-        self.things.get(thing).copied()
+    // The node of a thing, if it is at the quay.
+    fn node(&self, thing: Thing) -> Option<DefaultKey> {
+        let key = self.find(thing)?;
+        self.things.get(key).copied()
     }
 
     /// Lists what is at the quay, and how many things each is aboard of.
     pub fn list(&self, rt: &HostRuntime) -> Result<(), DayError> {
         println!(rt; "at the end of the day:")?;
-        for thing in self.arrived.iter() {
-            if let (Some(node), Some(name)) = (self.things.get(*thing), self.things.name(*thing)) {
+        for key in self.arrived.iter() {
+            if let (Some(node), Some(thing)) = (self.things.get(*key), self.things.name(*key)) {
                 let depth = self.nodes.depth(*node).unwrap_or(0);
-                println!(rt; "the {name}: depth {depth}")?;
+                let name = thing.name();
+                println!(rt; "the {name}, aboard of {depth}")?;
             }
         }
         Ok(())
