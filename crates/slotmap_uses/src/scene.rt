@@ -7,11 +7,8 @@
 //!   would close a cycle.
 //! - A call that fails changes nothing, and hands back what it was given.
 //!
-//! A call takes constant time, except for these:
-//!
-//! - `depth` and `reparent` take time linear in the number of nodes above the one that they are
-//!   given.
-//! - `children` takes time linear in the number of all nodes.
+//! A call takes constant time, except that `depth` and `reparent` take time linear in the number of
+//! nodes above the one that they are given.
 //!
 //! ```
 //! let mut scene = Scene::new(alloc)?;
