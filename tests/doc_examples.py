@@ -126,6 +126,16 @@ def facade_names():
     return sorted(modules | {name for module, _, name in facade() if not module})
 
 
+def names_of_uses():
+    """The structures of slotmap_uses by their paths, such as `slotmap_uses::graph::Graph`."""
+    src = os.path.join(TOP, "crates/slotmap_uses/src")
+    for name in sorted(os.listdir(src)):
+        if name.endswith(".rt"):
+            with open(os.path.join(src, name), encoding="utf-8") as file:
+                for item in re.findall(r"(?m)^pub struct (\w+)", file.read()):
+                    yield f"slotmap_uses::{name[:-3]}::{item}"
+
+
 def write_crate(folder, examples):
     """Writes the tests, a file for each crate. Returns for each line of these files its example and its line there."""
     src = os.path.join(folder, "crates/doc_examples/src")
@@ -140,6 +150,7 @@ def write_crate(folder, examples):
         words = set(re.findall(r"\w+", text))
         names = [it for it in facade_names() + ["Key"] if it in words or it == "Key"]
         out, where = [f"use slotmap::{{{', '.join(sorted(set(names)))}}};"], {}
+        out += [f"use {it};" for it in names_of_uses() if crate == "slotmap_uses" and it.split("::")[-1] in words]
         if "Value" in words:
             out.append("use serde_json::Value;")
         if "Global" in words:
