@@ -11,7 +11,7 @@ use thiserror::Error;
 pub enum TourError {
     #[error("no map: {0}")]
     Map(#[from] ReserveError),
-    #[error("no place for a word: {0}")]
+    #[error("no slot for a word: {0}")]
     Insert(#[from] InsertError<&'static str>),
     #[error("nothing printed: {0}")]
     Print(#[from] io::Error),
