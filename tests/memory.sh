@@ -12,9 +12,14 @@
 #   was refused, the other lines are then those of the script without the refused line.
 #
 # Row files with a call that is repeated over 1,000 times are left out, and the random rows of secondary_rows, which count
-# drops after an `extend`: it keeps the pairs before the fault, and is called again with the rest. The first fault is
-# printed, and ends the script with status 1. It uses the programs as they were built, by `rt run` in their folders or by
-# the gate, needs a C compiler, and takes some minutes on four cores. JOBS=N sets how many runs there are at a time.
+# drops after an `extend`: it keeps the pairs before the fault, and is called again with the rest.
+#
+# No row asks for far more memory than it needs. Over a file of rows the largest request is at most 256 KiB, which is ten
+# thousand slots of 24 bytes. Where a call is repeated over 1,000 times it is at most 16 MiB.
+#
+# The first fault is printed, and ends the script with status 1. It uses the programs as they were built, by `rt run` in
+# their folders or by the gate, needs a C compiler, and takes some minutes on four cores. JOBS=N sets how many runs there
+# are at a time.
 set -euo pipefail
 top=$(cd "$(dirname "$0")/.." && pwd)
 
@@ -133,7 +138,7 @@ try_case() {
     enter_case "$case"
     run_case "$case/full" REFUSE_COUNT 1
     echo "$status" >"$case/status"
-    requests=$(sed -n 's/^requests //p' "$case/full.errors")
+    requests=$(sed -n 's/^requests \([0-9]*\) .*/\1/p' "$case/full.errors")
     if [ "$status" != "$6" ] || [ -z "$requests" ]; then
         echo "fault: $program $words <$input ends with status $status where no memory is refused"
         exit 1
@@ -146,10 +151,22 @@ try_case() {
     cases=$((cases + 1))
 }
 
+# check_largest PROGRAM FILE: no request of a program over a file of rows is too large.
+check_largest() {
+    local data=$top/crates/$1/data most=262144 largest
+    ! grep -qE '^repeat [0-9]{4,} ' "$data/$2" || most=16777216
+    largest=$(env -C "$data" "LD_PRELOAD=$scratch/refuse.so" REFUSE_COUNT=1 "$top/crates/$1/out/$1" "$2" 2>&1 >/dev/null |
+        sed -n 's/.* largest //p')
+    [ "$largest" -le "$most" ] && return
+    echo "fault: $1 $2 asks for $largest bytes at once, and at most $most would do"
+    exit 1
+}
+
 # try_rows PROGRAM: the row files that the program's file `args` names.
 try_rows() {
     local data=$top/crates/$1/data file
     while read -r file; do
+        check_largest "$1" "$file"
         if grep -qE '^repeat [0-9]{4,} ' "$data/$file"; then
             echo "$1 $file: left out, since a call is repeated over 1,000 times"
         elif [[ $1/$file = secondary_rows/random-* ]]; then

@@ -4,7 +4,7 @@
  *
  *   REFUSE_AT=N      request N alone
  *   REFUSE_FROM=N    request N and all after it
- *   REFUSE_COUNT=1   none; at the end their number is written to standard error
+ *   REFUSE_COUNT=1   none; at the end their number, and the size of the largest in bytes, are written to standard error
  *
  * Build it with: cc -O2 -shared -fPIC -o refuse.so refuse.c
  */
@@ -21,6 +21,7 @@ extern void *__libc_realloc(void *block, size_t size);
 extern void *__libc_memalign(size_t alignment, size_t size);
 
 static long requests;
+static size_t largest;
 static long refused_alone;
 static long refused_from;
 
@@ -31,8 +32,10 @@ static long number_of(const char *name)
 }
 
 /* Counts a request, and says whether it is refused. */
-static int is_refused(void)
+static int is_refused(size_t size)
 {
+    if (size > largest)
+        largest = size;
     if (requests == 0) {
         refused_alone = number_of("REFUSE_AT");
         refused_from = number_of("REFUSE_FROM");
@@ -47,27 +50,27 @@ static int is_refused(void)
 
 void *malloc(size_t size)
 {
-    return is_refused() ? NULL : __libc_malloc(size);
+    return is_refused(size) ? NULL : __libc_malloc(size);
 }
 
 void *calloc(size_t count, size_t size)
 {
-    return is_refused() ? NULL : __libc_calloc(count, size);
+    return is_refused(count * size) ? NULL : __libc_calloc(count, size);
 }
 
 void *realloc(void *block, size_t size)
 {
-    return is_refused() ? NULL : __libc_realloc(block, size);
+    return is_refused(size) ? NULL : __libc_realloc(block, size);
 }
 
 void *aligned_alloc(size_t alignment, size_t size)
 {
-    return is_refused() ? NULL : __libc_memalign(alignment, size);
+    return is_refused(size) ? NULL : __libc_memalign(alignment, size);
 }
 
 int posix_memalign(void **block, size_t alignment, size_t size)
 {
-    void *made = is_refused() ? NULL : __libc_memalign(alignment, size);
+    void *made = is_refused(size) ? NULL : __libc_memalign(alignment, size);
     if (made == NULL)
         return ENOMEM;
     *block = made;
@@ -76,12 +79,12 @@ int posix_memalign(void **block, size_t alignment, size_t size)
 
 static void __attribute__((destructor)) tell(void)
 {
-    char line[32];
+    char line[64];
     int length;
 
     if (getenv("REFUSE_COUNT") == NULL)
         return;
-    length = snprintf(line, sizeof line, "requests %ld\n", requests);
+    length = snprintf(line, sizeof line, "requests %ld largest %zu\n", requests, largest);
     if (write(STDERR_FILENO, line, (size_t)length) != length)
         _exit(4);
 }
