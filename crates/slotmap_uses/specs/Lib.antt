@@ -1,4 +1,3 @@
-pub mod Beside
 pub mod Chain
 pub mod Climb
 pub mod GraphParts

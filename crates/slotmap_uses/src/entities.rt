@@ -21,22 +21,25 @@
 //! ```
 #![tactic(auto, using(slotmap::proofs::Callers::keys))]
 
-ghost use Rattle.std.specs.Prelude.{◌≡◌, ◌≢◌, Some, None, IfOk, OnOk, IfErr, OnErr, IfSome, IsSome, IfNone, OnSome, false, true, option_copied};
+ghost use Rattle.std.specs.Prelude.{◌≡◌, ◌≢◌, Some, None, IfOk, OnOk, IfErr, OnErr, IfSome, IsSome, IfNone, OnSome, false, true, option_copied, ◌&&◌};
 ghost use Rattle.std.specs.FinMap as map;
-ghost use Rattle.slotmap.specs.Words.{Key as KeyOf, IsLive, IsNew, IsSpent, KeepsSpent, Refuses, get};
-ghost use Rattle.slotmap_uses.specs.World.{RefusesAttach};
+ghost use Rattle.std.specs.List.{filter};
+ghost use Rattle.slotmap.specs.Words.{Key as KeyOf, IsLive, IsNew, IsSpent, KeepsSpent, Refuses, get, contains_key};
+ghost use Rattle.slotmap.specs.Words.{Appends, ClosesGap, SameOrder, IsEmpty};
+ghost use Rattle.slotmap_uses.specs.World.{RefusesAttach, has_both};
 
 use slotmap::{
     DefaultKey, DenseSlotMap, InsertError, PutError, ReserveError, SecondaryMap, SparseSecondaryMap,
 };
-use std::alloc::Global;
+use std::alloc::{AllocError, Global};
 use std::marker::Model;
 use std::mem;
 use thiserror::Error;
 
 /// Entities with values of type `E`, each with a position, a name, both or none.
 ///
-/// A clause sees `entities`, which has the value of each entity, and the two tables.
+/// A clause sees `entities`, which has the value of each entity and their packed order, and the two
+/// tables.
 #[derive(Drop)]
 pub struct World<E, P, N> {
     entities: DenseSlotMap<DefaultKey, E>,
@@ -51,9 +54,9 @@ impl<E, P, N> Model for World<E, P, N> {
 
     ghost coded = { world_code E.code P.code N.code };
 
-    ghost use Rattle.slotmap_uses.specs.Beside.{IsBeside};
+    ghost use Rattle.slotmap.specs.Words.{IsBeside};
 
-    ghost view = { λ w. record { entities = w.entities.content; positions = w.positions.pairs; names = w.names.pairs } };
+    ghost view = { λ w. record { entities = w.entities; positions = w.positions.pairs; names = w.names.pairs } };
 
     ghost invariant = { λ w. IsBeside w.entities.content w.positions.pairs × IsBeside w.entities.content w.names.pairs };
 }
@@ -69,12 +72,23 @@ pub enum AttachError<C> {
     Memory(C),
 }
 
+// Whether a key is in both tables.
+fn is_in_both<P: Drop, N: Drop>(
+    positions: &SecondaryMap<DefaultKey, P>,
+    names: &SparseSecondaryMap<DefaultKey, N>,
+    key: DefaultKey,
+) -> bool
+    ensures { result ≡ contains_key positions.now.pairs key && contains_key names.now.pairs key }
+{
+    positions.contains_key(key) && names.contains_key(key)
+}
+
 impl<E: Drop, P: Drop, N: Drop> World<E, P, N> {
     /// Makes a world with no entity.
     ///
     /// It fails only if memory runs out.
     pub fn new(alloc: Global) -> Result<Self, ReserveError>
-        ensures entities { IfOk result (λ world. IsNew world.entities) }
+        ensures entities { IfOk result (λ world. IsNew world.entities.content × IsEmpty world.entities) }
         ensures positions { IfOk result (λ world. world.positions ≡ map.empty) }
         ensures names { IfOk result (λ world. world.names ≡ map.empty) }
     {
@@ -90,7 +104,7 @@ impl<E: Drop, P: Drop, N: Drop> World<E, P, N> {
 
     /// Returns how many entities there are.
     pub fn len(&self) -> usize
-        ensures { result ≡ map.len self.now.entities.live }
+        ensures { result ≡ map.len self.now.entities.content.live }
     {
         self.entities.len()
     }
@@ -100,18 +114,22 @@ impl<E: Drop, P: Drop, N: Drop> World<E, P, N> {
     /// If the call fails, the error holds the value, and the world is as before.
     pub fn spawn(&mut self, entity: E) -> Result<DefaultKey, InsertError<E>>
         // A new entity, with no component.
-        ensures adds { IfOk result (λ key. self.new.entities.live ≡ map.insert self.old.entities.live key entity) }
-        ensures fresh { IfOk result (λ key. map.get self.old.entities.live key ≡ None) }
-        ensures bare { IfOk result (λ key. (get self.new.positions key ≡ None) × (get self.new.names key ≡ None)) }
+        ensures adds { IfOk result (λ key. self.new.entities.content.live ≡ map.insert self.old.entities.content.live key entity) }
+        ensures fresh { IfOk result (λ key. map.get self.old.entities.content.live key ≡ None) }
+        ensures no_position { IfOk result (λ key. get self.new.positions key ≡ None) }
+        ensures no_name { IfOk result (λ key. get self.new.names key ≡ None) }
+        // It is the last in the packed order.
+        ensures order { IfOk result (λ key. Appends self.old.entities key entity self.new.entities) }
 
         // Why the call failed, and what that leaves.
-        ensures err { IfErr result (Refuses self.old.entities entity) }
-        ensures unchanged { OnErr result (self.new.entities.live ≡ self.old.entities.live) }
+        ensures err { IfErr result (Refuses self.old.entities.content entity) }
+        ensures unchanged { OnErr result (self.new.entities.content.live ≡ self.old.entities.content.live) }
+        ensures same_order { OnErr result (SameOrder self.old.entities self.new.entities) }
 
         // All else is as before.
         ensures positions { self.new.positions ≡ self.old.positions }
         ensures names { self.new.names ≡ self.old.names }
-        ensures gone { KeepsSpent self.old.entities self.new.entities }
+        ensures gone { KeepsSpent self.old.entities.content self.new.entities.content }
     {
         self.entities.insert(entity)
     }
@@ -120,15 +138,18 @@ impl<E: Drop, P: Drop, N: Drop> World<E, P, N> {
     /// gone. The key is spent for good.
     pub fn despawn(&mut self, key: DefaultKey) -> Option<E>
         // The entity is gone, with its components.
-        ensures value { result ≡ map.get self.old.entities.live key }
-        ensures removed { self.new.entities.live ≡ map.remove self.old.entities.live key }
-        ensures bare { (get self.new.positions key ≡ None) × (get self.new.names key ≡ None) }
-        ensures for_good { OnSome result (IsSpent self.new.entities key) }
+        ensures value { result ≡ map.get self.old.entities.content.live key }
+        ensures removed { self.new.entities.content.live ≡ map.remove self.old.entities.content.live key }
+        ensures no_position { get self.new.positions key ≡ None }
+        ensures no_name { get self.new.names key ≡ None }
+        ensures for_good { OnSome result (IsSpent self.new.entities.content key) }
+        // The last entity takes its position in the packed order.
+        ensures order { IfSome result (λ value. ClosesGap self.old.entities key value self.new.entities) }
 
         // All else is as before.
         ensures others { (q : KeyOf) → q ≢ key
             → (get self.new.positions q ≡ get self.old.positions q) × (get self.new.names q ≡ get self.old.names q) }
-        ensures gone { KeepsSpent self.old.entities self.new.entities }
+        ensures gone { KeepsSpent self.old.entities.content self.new.entities.content }
     {
         self.positions.remove(key);
         self.names.remove(key);
@@ -137,7 +158,7 @@ impl<E: Drop, P: Drop, N: Drop> World<E, P, N> {
 
     /// Returns the value of an entity, or `None` if it is gone.
     pub fn get(&self, key: DefaultKey) -> Option<&E>
-        ensures { option_copied result ≡ map.get self.now.entities.live key }
+        ensures { option_copied result ≡ map.get self.now.entities.content.live key }
     {
         self.entities.get(key)
     }
@@ -153,10 +174,10 @@ impl<E: Drop, P: Drop, N: Drop> World<E, P, N> {
         // The entity has this position now.
         ensures before { IfOk result (λ before. before ≡ get self.old.positions key) }
         ensures there { OnOk result (get self.new.positions key ≡ Some position) }
-        ensures live { OnOk result (IsLive self.old.entities key) }
+        ensures live { OnOk result (IsLive self.old.entities.content key) }
 
         // Why the call failed, and what that leaves.
-        ensures err { IfErr result (RefusesAttach self.old.entities key position) }
+        ensures err { IfErr result (RefusesAttach self.old.entities.content key position) }
         ensures unchanged { OnErr result (self.new ≡ self.old) }
 
         // All else is as before.
@@ -180,10 +201,10 @@ impl<E: Drop, P: Drop, N: Drop> World<E, P, N> {
         // The entity has this name now.
         ensures before { IfOk result (λ before. before ≡ get self.old.names key) }
         ensures there { OnOk result (get self.new.names key ≡ Some name) }
-        ensures live { OnOk result (IsLive self.old.entities key) }
+        ensures live { OnOk result (IsLive self.old.entities.content key) }
 
         // Why the call failed, and what that leaves.
-        ensures err { IfErr result (RefusesAttach self.old.entities key name) }
+        ensures err { IfErr result (RefusesAttach self.old.entities.content key name) }
         ensures unchanged { OnErr result (self.new ≡ self.old) }
 
         // All else is as before.
@@ -225,7 +246,7 @@ impl<E: Drop, P: Drop, N: Drop> World<E, P, N> {
     /// Returns the position of an entity, or `None` if it has none, or is gone.
     pub fn position(&self, key: DefaultKey) -> Option<&P>
         ensures value { option_copied result ≡ get self.now.positions key }
-        ensures live { IsSome result → IsLive self.now.entities key }
+        ensures live { IsSome result → IsLive self.now.entities.content key }
     {
         self.positions.get(key)
     }
@@ -233,9 +254,34 @@ impl<E: Drop, P: Drop, N: Drop> World<E, P, N> {
     /// Returns the name of an entity, or `None` if it has none, or is gone.
     pub fn name(&self, key: DefaultKey) -> Option<&N>
         ensures value { option_copied result ≡ get self.now.names key }
-        ensures live { IsSome result → IsLive self.now.entities key }
+        ensures live { IsSome result → IsLive self.now.entities.content key }
     {
         self.names.get(key)
+    }
+
+    /// Returns the entities that have both a position and a name, in the packed order of the entities.
+    ///
+    /// It fails only if memory runs out. Linear in the number of entities.
+    ///
+    /// ```
+    /// let mut world: World<u8, (i32, i32), &str> = World::new(alloc)?;
+    /// let hero = world.spawn(1)?;
+    /// let rock = world.spawn(2)?;
+    /// world.attach_position(hero, (3, 4))?;
+    /// world.attach_position(rock, (5, 6))?;
+    /// world.attach_name(hero, "Ann")?;
+    /// assert_eq!(rt; world.with_both(alloc)?.as_slice(), [hero].as_slice());
+    /// ```
+    pub fn with_both(&self, alloc: Global) -> Result<Vec<DefaultKey>, AllocError>
+        ensures { IfOk result (λ found. found.items ≡ filter (has_both self.now) self.now.entities.keys) }
+    {
+        let mut found = Vec::new(alloc);
+        for key in self.entities.keys() {
+            if is_in_both(&self.positions, &self.names, key) {
+                found.push(key)?;
+            }
+        }
+        Ok(found)
     }
 
     /// Moves an entity that has a position to another one, and returns the old one. It allocates

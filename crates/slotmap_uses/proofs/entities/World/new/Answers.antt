@@ -1,4 +1,4 @@
-use Rattle.slotmap_uses.proofs.Tables.{beside_empty}
+use Rattle.slotmap.proofs.Callers.{beside_empty}
 use Rattle.slotmap_uses.proofs.entities.World.new.Goals as goal
 
 pub invariant_of-result : goal.invariant_of-result

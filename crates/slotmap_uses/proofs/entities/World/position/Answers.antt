@@ -1,4 +1,4 @@
-use Rattle.slotmap_uses.proofs.Tables.{some_copied}
+use Rattle.slotmap.proofs.Callers.{some_copied}
 use Rattle.slotmap_uses.proofs.entities.World.position.Goals as goal
 
 pub returns-clause-live : goal.returns-clause-live

@@ -1,18 +1,17 @@
-use Rattle.std.proofs.Common.{false}
-use Rattle.slotmap.proofs.Callers.{spent_insert}
-use Rattle.slotmap_uses.proofs.Tables.{beside_insert, spawn_bare}
+use Rattle.slotmap.proofs.Callers.{beside_insert, insert_absent, spent_insert-dense}
 use Rattle.slotmap_uses.proofs.entities.World.spawn.Goals as goal
 
 pub invariant_of-self : goal.invariant_of-self
 invariant_of-self g c = (
-  beside_insert _ _ _ _ _ c.insert.ensures.ok _ c.self.invariant.0 c.insert.ensures.valid.unchanged,
-  beside_insert _ _ _ _ _ c.insert.ensures.ok _ c.self.invariant.1 c.insert.ensures.valid.unchanged,
+  beside_insert _ _ _ c.self.invariant.0 _ _ _ c.insert.ensures.ok c.insert.ensures.valid.unchanged,
+  beside_insert _ _ _ c.self.invariant.1 _ _ _ c.insert.ensures.ok c.insert.ensures.valid.unchanged,
 )
 
-pub returns-clause-bare : goal.returns-clause-bare
-returns-clause-bare g c =
-    spawn_bare _ _ _ _ _ c.insert.ensures.ok _ _ c.self.invariant.0 c.self.invariant.1 c.insert.ensures.valid.before.content
+pub returns-clause-no_position : goal.returns-clause-no_position
+returns-clause-no_position g c = insert_absent _ _ _ c.self.invariant.0 _ _ _ c.insert.ensures.ok _ c.insert.ensures.valid.before.content
+
+pub returns-clause-no_name : goal.returns-clause-no_name
+returns-clause-no_name g c = insert_absent _ _ _ c.self.invariant.1 _ _ _ c.insert.ensures.ok _ c.insert.ensures.valid.before.content
 
 pub returns-clause-gone : goal.returns-clause-gone
-returns-clause-gone g c = rw (← c.self.view_is)
-    (spent_insert _ _ false _ (record { before = c.insert.ensures.valid.before.content; after = c.insert.ensures.valid.after.content; capacity = c.insert.ensures.valid.capacity; unchanged = c.insert.ensures.valid.unchanged }) _ _ c.insert.ensures.ok)
+returns-clause-gone g c = rw (← c.self.view_is) (spent_insert-dense _ _ _ _ _ c.insert.ensures.valid c.insert.ensures.ok)
