@@ -1,7 +1,11 @@
+pub mod Adjacent
 pub mod Chains
 pub mod Climbs
-pub mod Ends
 pub mod Generic
+pub mod GraphSteps
+pub mod LeadLemmas
 pub mod Queue
+pub mod Search
 pub mod Tables
+pub mod Thinned
 pub mod Walked

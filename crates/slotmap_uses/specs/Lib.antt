@@ -1,6 +1,7 @@
 pub mod Chain
 pub mod Climb
 pub mod GraphParts
+pub mod GraphSearch
 pub mod Refused
 pub mod Registry
 pub mod Schedule
