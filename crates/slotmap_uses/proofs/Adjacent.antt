@@ -1,15 +1,14 @@
 -- The lists of the edges of each node: what a change of the edges asks of them.
-use Rattle.std.proofs.Common.{Result, Ok, Err, OnOk, IsOk, is_ok, ◌≡◌, ◌≢◌, ℕ, ◌+◌, ◌<◌, ◌⊎◌, Bool, true, false, Option, Some, None, IsSome, if◌then◌else◌, List, [], ◌∷◌, ◌++◌, is_some, refl, sym, ap, ◌∙◌, inl, inr, arith, length, get_or, drop, drop-cons, add-one, ◌≤◌}
+use Rattle.std.proofs.Common.{Result, Ok, Err, OnOk, IsOk, is_ok, ◌≡◌, ◌≢◌, ℕ, ◌+◌, ◌<◌, true, false, Some, None, if◌then◌else◌, List, [], ◌∷◌, ◌++◌, refl, sym, ap, ◌∙◌, inl, inr, arith, length, get_or, drop, drop-cons, add-one, ◌≤◌}
 use Rattle.std.specs.List.{swap_remove}
 use Rattle.std.proofs.Math.ListN.{drop_of_length-le}
 use Rattle.std.proofs.lemmas.List.Sorted.{sum_by-IsPermutation, IsPermutation-swap_remove}
 use Rattle.std.specs.FinMap as map
-use Rattle.std.proofs.lemmas.Bool.Decides.{nat_tests}
-use Rattle.std.proofs.lemmas.List.Sums.{sum_by-cons, sum_by-append, sum_by_push}
+use Rattle.std.proofs.lemmas.List.Sums.{sum_by-cons, sum_by_push}
 use Rattle.slotmap.specs.Words.{Key, key_cmp, same_keys}
-use Rattle.slotmap.proofs.Callers.{keys_total, same_or_other, keys}
+use Rattle.slotmap.proofs.Callers.{same_or_other, keys}
 use Rattle.slotmap_uses.specs.declared.graph.Edge.{Edge}
-use Rattle.slotmap_uses.specs.GraphParts.{is_key, same, times, ends_at, ListsEdges, touches, avoids}
+use Rattle.slotmap_uses.specs.GraphParts.{is_key, same, times, ends_at, ListsEdges}
 
 pub is_itself : (k : Key) → is_key k k ≡ true
 is_itself k = (same_keys k k).1 refl

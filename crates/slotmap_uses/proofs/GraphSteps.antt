@@ -1,12 +1,11 @@
 -- What a call makes of a graph, as a whole.
-use Rattle.std.proofs.Common.{◌≡◌, ◌≢◌, ◌<◌, ◌+◌, ℕ, ◌⊎◌, Bool, true, false, Option, Some, None, OnSome, IfSome, IfNone, Result, Ok, Err, IfOk, IsErr, List, [], ◌∷◌, ◌++◌, is_some, not, ◌||◌, if◌then◌else◌, refl, sym, ap, ◌∙◌, inl, inr, arith}
-use Rattle.std.specs.Option.{option_and_then}
+use Rattle.std.proofs.Common.{◌≡◌, ◌≢◌, ◌<◌, ◌+◌, true, false, Option, Some, None, IfSome, IfNone, Result, Ok, Err, IfOk, IsErr, List, [], ◌∷◌, ◌++◌, is_some, ◌||◌, refl, sym, ap, ◌∙◌, inl, inr, arith}
 use Rattle.std.specs.FinMap as map
 use Rattle.std.specs.declared.vec.Vec.{Vec}
-use Rattle.slotmap.specs.Words.{Key, key_cmp, Content, IsContent, IsLive, Inserts, Keeps, IsNew, IsSpent, KeepsSpent, Pairs, IsBeside, get, remove}
+use Rattle.slotmap.specs.Words.{Key, key_cmp, Content, IsContent, IsLive, Inserts, Keeps, Pairs, IsBeside, get, remove}
 use Rattle.slotmap.proofs.Callers.{keys, same_or_other, get-put_live, get-put_other, beside_insert, beside_empty, beside_removed, live-remove_other, live-insert_still, removed_gone, get-remove_other, secondary}
 use Rattle.slotmap_uses.specs.declared.graph.Edge.{Edge}
-use Rattle.slotmap_uses.specs.GraphParts.{IsGraph, EndsLive, IsAdjacency, ListsEdges, PutsAlone, list_in, listed, times, same, ends_at, is_key, from, to, touches, avoids}
+use Rattle.slotmap_uses.specs.GraphParts.{IsGraph, EndsLive, IsAdjacency, PutsAlone, list_in, listed, times, same, ends_at, is_key, from, to, touches}
 use Rattle.slotmap_uses.proofs.Adjacent.{lists_added, lists_removed, first_listed, none_listed, nothing_listed, is_itself, is_other, one_itself}
 
 pub puts_alone : {N V : Type 0} (nodes : Content N) (m : Pairs V) (k : Key) → IsBeside nodes m → IsLive nodes k → IsContent true nodes → PutsAlone m k

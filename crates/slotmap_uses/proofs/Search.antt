@@ -1,13 +1,13 @@
 -- A search from a node, along the edges.
-use Rattle.std.proofs.Common.{◌≡◌, ◌≢◌, ℕ, zero, suc, ◌+◌, ◌<◌, ◌≤◌, ◌⊎◌, ⊎_elim, Bool, true, false, Option, Some, None, List, [], ◌∷◌, ◌++◌, length, get_or, drop, drop-cons, add-one, append_assoc, if◌then◌else◌, is_some, refl, sym, ap, ◌∙◌, inl, inr, arith}
+use Rattle.std.proofs.Common.{◌≡◌, ◌≢◌, ℕ, zero, suc, ◌+◌, ◌<◌, ◌≤◌, ◌⊎◌, ⊎_elim, Bool, true, false, Some, None, List, [], ◌∷◌, ◌++◌, length, get_or, drop, drop-cons, add-one, append_assoc, if◌then◌else◌, is_some, refl, sym, ap, ◌∙◌, inl, inr, arith}
 use Rattle.std.specs.FinMap as map
 use Rattle.std.proofs.lemmas.List.Sums.{sum_by-append}
-use Rattle.slotmap.specs.Words.{Key, key_cmp, Content, IsContent, IsLive, Pairs, IsBeside, get, contains_key}
-use Rattle.slotmap.proofs.Callers.{keys, same_or_other, live-remove_other, len_removed, keys_total, exact_keys, secondary}
+use Rattle.slotmap.specs.Words.{Key, key_cmp, Content, IsLive, Pairs, IsBeside, get, contains_key}
+use Rattle.slotmap.proofs.Callers.{same_or_other, live-remove_other, len_removed, keys_total, exact_keys, secondary}
 use Rattle.std.proofs.lemmas.List.{append-nil, drop-append-le}
 use Rattle.slotmap_uses.specs.declared.graph.Edge.{Edge}
 use Rattle.slotmap_uses.specs.GraphParts.{EndsLive, ListsEdges, times, same, ends_at, from}
-use Rattle.slotmap_uses.specs.GraphSearch.{Joins, LeadsBy, Leads, AllLed, HasNext, AreSeen, GoesOn, Finds}
+use Rattle.slotmap_uses.specs.GraphSearch.{LeadsBy, Leads, AllLed, HasNext, AreSeen, GoesOn, Finds}
 use Rattle.slotmap_uses.proofs.Adjacent.{one_itself, one_other, times_first, times_there, none_behind}
 
 -- what is behind the i-th key of a list

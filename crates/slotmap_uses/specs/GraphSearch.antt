@@ -1,7 +1,7 @@
 -- Which nodes a search finds.
-use Rattle.std.specs.Prelude.{◌≡◌, ℕ, zero, suc, ◌<◌, ◌≤◌, ◌⊎◌, Option, Some, true, List, ◌++◌, if◌then◌else◌}
+use Rattle.std.specs.Prelude.{◌≡◌, ℕ, zero, suc, Some, true, List, ◌++◌, if◌then◌else◌}
 use Rattle.std.specs.FinMap as map
-use Rattle.slotmap.specs.Words.{Key, key_cmp, Content, IsLive, IsBeside, Pairs, contains_key}
+use Rattle.slotmap.specs.Words.{Key, key_cmp, Content, IsBeside, Pairs, contains_key}
 use Rattle.slotmap_uses.specs.declared.graph.Edge.{Edge}
 use Rattle.slotmap_uses.specs.GraphParts.{times}
 

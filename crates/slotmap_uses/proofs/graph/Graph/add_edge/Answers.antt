@@ -1,6 +1,5 @@
-use Rattle.std.proofs.Common.{true, sym, ◌∙◌}
+use Rattle.std.proofs.Common.{sym, ◌∙◌}
 use Rattle.slotmap.specs.Words.{IsLive}
-use Rattle.slotmap_uses.specs.GraphParts.{IsGraph}
 use Rattle.slotmap_uses.proofs.GraphSteps.{puts_alone, out_roomed, into_roomed, edge_added}
 use Rattle.slotmap_uses.proofs.graph.Graph.add_edge.Goals as goal
 

@@ -1,5 +1,4 @@
-use Rattle.std.proofs.Common.{◌≡◌, ◌∷◌, Some, IfSome, IfNone, sym, ◌∙◌}
-use Rattle.slotmap_uses.proofs.GraphSteps.{out_touches, into_touches, none_touches, into_found, into_none}
+use Rattle.slotmap_uses.proofs.GraphSteps.{out_touches, into_found, into_none}
 use Rattle.slotmap_uses.proofs.graph.Graph.edge_at.Goals as goal
 
 pub returns-in-Some-clause-some : goal.returns-in-Some-clause-some

@@ -1,4 +1,4 @@
-use Rattle.std.proofs.Common.{◌≡◌, Some, is_some, refl, sym, ap, ◌∙◌}
+use Rattle.std.proofs.Common.{◌≡◌, Some, is_some, ap}
 use Rattle.std.specs.FinMap as map
 use Rattle.slotmap.specs.Words.{IsLive}
 use Rattle.slotmap_uses.specs.GraphParts.{EndsLive}

@@ -1,4 +1,4 @@
-use Rattle.std.proofs.Common.{◌≡◌, Some, is_some, refl, sym, ap, ◌∙◌}
+use Rattle.std.proofs.Common.{◌≡◌, Some, is_some, refl, ap}
 use Rattle.std.specs.FinMap as map
 use Rattle.slotmap_uses.proofs.LeadLemmas.{lead_step, lead_end, listed_edge, listed_from}
 use Rattle.slotmap_uses.proofs.graph.Graph.neighbours.Goals as goal

@@ -1,4 +1,4 @@
-use Rattle.std.proofs.Common.{◌≡◌, refl, sym, ap, ◌∙◌, arith}
+use Rattle.std.proofs.Common.{sym, ◌∙◌, arith}
 use Rattle.slotmap.specs.Words.{IsLive}
 use Rattle.slotmap.proofs.Callers.{beside_empty}
 use Rattle.slotmap_uses.proofs.GraphSteps.{puts_alone}

@@ -1,4 +1,4 @@
-use Rattle.std.proofs.Common.{is_some, refl, sym, ap, ◌∙◌, arith}
+use Rattle.std.proofs.Common.{is_some, refl, ap, ◌∙◌, arith}
 use Rattle.slotmap.proofs.Callers.{keys_total, exact_keys, len_removed, of_some}
 use Rattle.slotmap_uses.proofs.Thinned.{thinned_start, thinned_step, thinned_end, thinned_spent}
 use Rattle.slotmap_uses.proofs.graph.Graph.remove_edges_of.Goals as goal

@@ -1,4 +1,4 @@
-use Rattle.std.proofs.Common.{◌≡◌, true, sym, ap, ◌∙◌}
+use Rattle.std.proofs.Common.{◌≡◌, true, ap, ◌∙◌}
 use Rattle.std.specs.FinMap as map
 use Rattle.slotmap.proofs.Callers.{remove_spent, spent_remove}
 use Rattle.slotmap_uses.proofs.GraphSteps.{node_removed}

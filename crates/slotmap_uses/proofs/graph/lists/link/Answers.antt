@@ -1,7 +1,5 @@
-use Rattle.std.proofs.Common.{◌≡◌, ◌∙◌, ◌++◌, ◌∷◌, [], sym, ap, IsOk}
 use Rattle.slotmap_uses.proofs.Tables.{get-bind_here, get-bind_other}
 use Rattle.slotmap_uses.proofs.Adjacent.{ok_pushed}
-use Rattle.slotmap_uses.specs.GraphParts.{list_in}
 use Rattle.slotmap_uses.proofs.graph.lists.link.Goals as goal
 
 pub returns-clause-adds : goal.returns-clause-adds

@@ -1,4 +1,4 @@
-use Rattle.std.proofs.Common.{◌≡◌, ◌∙◌, sym, ap, arith}
+use Rattle.std.proofs.Common.{◌∙◌, sym, ap}
 use Rattle.slotmap_uses.proofs.Tables.{get-bind_here, get-bind_other}
 use Rattle.slotmap_uses.proofs.Adjacent.{ok_less}
 use Rattle.slotmap_uses.specs.GraphParts.{list_in}

@@ -1,7 +1,7 @@
-use Rattle.std.proofs.Common.{◌≡◌, ◌≢◌, refl, sym, ap, ◌∙◌, arith, length, drop, ◌<◌}
+use Rattle.std.proofs.Common.{◌≡◌, ◌≢◌, refl, sym, ap, ◌∙◌, arith, length, ◌<◌}
 use Rattle.std.proofs.lemmas.List.{get_or_default}
 use Rattle.slotmap.specs.Words.{same_keys}
-use Rattle.slotmap_uses.specs.GraphParts.{times, same}
+use Rattle.slotmap_uses.specs.GraphParts.{times}
 use Rattle.slotmap_uses.proofs.Adjacent.{times_taken, times_behind, none_behind}
 use Rattle.slotmap_uses.proofs.graph.lists.take_out.Goals as goal
 
