@@ -8,7 +8,7 @@ use Rattle.slotmap.specs.Words.{Key, key_cmp}
 use Rattle.slotmap.proofs.Callers.{keys_total, exact_keys}
 use Rattle.slotmap_uses.proofs.Generic.{tied, untied, itself, len_removed, still_in, left_in}
 use Rattle.slotmap_uses.specs.declared.stable_list.Node.{Node}
-use Rattle.slotmap_uses.specs.Sequence.{value_of, first_or, last_or, key_after, key_before, put_after, put_before, without, IsOnce, IsGap, PutsBetween}
+use Rattle.slotmap_uses.specs.Sequence.{Sequence, value_of, first_or, last_or, key_after, key_before, put_after, put_before, without, IsOnce, IsGap, PutsBetween}
 use Rattle.slotmap_uses.specs.Chain.{Nodes, follow_node, follow_key, follow, node_at, IsChain, with_next, with_prev, with_next_of, with_prev_of, outer}
 
 abbrev same : Key → Key → Bool
@@ -50,6 +50,10 @@ if_some P None f = tt
 if_some P (Some x) f = f x refl
 
 module _ {T : Type 0} where
+  -- two models of a list have the same elements
+  pub elements_are : {a b : Sequence T} → a ≡ b → a.elements ≡ b.elements
+  elements_are is = ap (λ (s : Sequence T). s.elements) is
+
   -- lists that are put together
   pub first_or-append : (xs ys : List (Key × T)) (o : Option Key) → first_or (xs ++ ys) o ≡ first_or xs (first_or ys o)
   first_or-append [] ys o = refl
@@ -124,7 +128,7 @@ module _ {T : Type 0} where
       (x ∷ rest.0, (rest.1.0, ap (λ l. x ∷ l) rest.1.1, ap (λ b. cond b (Some x.1) (value_of k rest.0)) apart ∙ rest.1.2))) h
 
   -- the end of a list
-  snoc_view : (xs : List (Key × T)) → (xs ≡ []) ⊎ ((ys : List (Key × T)) × ((e : Key × T) × (xs ≡ ys ++ e ∷ [])))
+  pub snoc_view : (xs : List (Key × T)) → (xs ≡ []) ⊎ ((ys : List (Key × T)) × ((e : Key × T) × (xs ≡ ys ++ e ∷ [])))
   snoc_view [] = inl refl
   snoc_view (x ∷ xs) = elim (snoc_view xs) [
     | inl none ↦ inr ([], (x, ap (λ l. x ∷ l) none))
@@ -222,7 +226,7 @@ module _ {T : Type 0} where
       ∙ ap (λ t. cond (same q x.0) (option_map (to_prev o) (cond t (Some (record { value = x.1; prev = p; next = first_or xs n })) (node_at (Some x.0) xs n x.0))) (node_at p (x ∷ xs) n q)) (sym one)
 
   -- the key at an end stands in the list
-  last_stands : (xs : List (Key × T)) (k : Key) → last_or xs None ≡ Some k → (v : T) × (value_of k xs ≡ Some v)
+  pub last_stands : (xs : List (Key × T)) (k : Key) → last_or xs None ≡ Some k → (v : T) × (value_of k xs ≡ Some v)
   last_stands xs k is = elim (snoc_view xs) [
     | inl none ↦ absurd (let e : last_or xs None ≡ None = ap (λ l. last_or l None) none in cc)
     | inr some ↦ let e : Some some.1.0.0 ≡ Some k = sym (ap (λ l. last_or l None) some.1.1 ∙ last_or-append some.0 (some.1.0 ∷ []) None) ∙ is in
@@ -237,20 +241,21 @@ module _ {T : Type 0} where
           by' (Some v) there = (v, value_of-append ys (e ∷ []) k ∙ ap (λ o. option_or o (value_of k (e ∷ []))) there)
           by' None gone = (e.1, value_of-append ys (e ∷ []) k ∙ ap (λ o. option_or o (value_of k (e ∷ []))) gone ∙ ap (λ b. cond b (Some e.1) None) (subst (λ (x : Key). same x e.0 ≡ true) name (itself keys_total exact_keys e.0)))
 
-  first_stands : (xs : List (Key × T)) (k : Key) → first_or xs None ≡ Some k → (v : T) × (value_of k xs ≡ Some v)
+  pub first_stands : (xs : List (Key × T)) (k : Key) → first_or xs None ≡ Some k → (v : T) × (value_of k xs ≡ Some v)
   first_stands [] k is = absurd (cc)
   first_stands (x ∷ xs) k is = let name : x.0 ≡ k = cc in (x.1, ap (λ b. cond b (Some x.1) (value_of k xs)) (subst (λ (y : Key). same y x.0 ≡ true) name (itself keys_total exact_keys x.0)))
 
-  -- a list is what following the links gives
-  follow_is : (nodes : Nodes T) (p : Option Key) (xs : List (Key × T)) → IsOnce xs → ((q : Key) (v : T) → value_of q xs ≡ Some v → map.get nodes q ≡ node_at p xs None q) → follow nodes (length xs) (first_or xs None) ≡ xs
-  follow_is nodes p [] once is = refl
-  follow_is nodes p (x ∷ xs) once is =
+  -- a list is what following the links gives, whatever comes after it
+  follow_is : (nodes : Nodes T) (p : Option Key) (xs after : List (Key × T)) → IsOnce (xs ++ after) → ((q : Key) (v : T) → value_of q (xs ++ after) ≡ Some v → map.get nodes q ≡ node_at p (xs ++ after) None q) → follow nodes (length xs) (first_or (xs ++ after) None) ≡ xs
+  follow_is nodes p [] after once is = refl
+  follow_is nodes p (x ∷ xs) after once is =
+      let all = xs ++ after in
       let one = itself keys_total exact_keys x.0 in
-      let here : map.get nodes x.0 ≡ Some (record { value = x.1; prev = p; next = first_or xs None }) = is x.0 x.1 (ap (λ b. cond b (Some x.1) (value_of x.0 xs)) one) ∙ ap (λ b. cond b (Some (record { value = x.1; prev = p; next = first_or xs None })) (node_at (Some x.0) xs None x.0)) one in
+      let here : map.get nodes x.0 ≡ Some (record { value = x.1; prev = p; next = first_or all None }) = is x.0 x.1 (ap (λ b. cond b (Some x.1) (value_of x.0 all)) one) ∙ ap (λ b. cond b (Some (record { value = x.1; prev = p; next = first_or all None })) (node_at (Some x.0) all None x.0)) one in
       ap (λ o. follow_node x.0 o (follow nodes (length xs))) here
-      ∙ ap (λ l. x ∷ l) (follow_is nodes (Some x.0) xs once.1 (λ q v there.
-      let other : same q x.0 ≡ false = other_key q x.0 (λ e. let none = sym (ap (λ k. value_of k xs) e) ∙ there in absurd (let n = once.0 in cc)) in
-      is q v (ap (λ b. cond b (Some x.1) (value_of q xs)) other ∙ there) ∙ ap (λ b. cond b (Some (record { value = x.1; prev = p; next = first_or xs None })) (node_at (Some x.0) xs None q)) other))
+      ∙ ap (λ l. x ∷ l) (follow_is nodes (Some x.0) xs after once.1 (λ q v there.
+      let other : same q x.0 ≡ false = other_key q x.0 (λ e. let none = sym (ap (λ k. value_of k all) e) ∙ there in absurd (let n = once.0 in cc)) in
+      is q v (ap (λ b. cond b (Some x.1) (value_of q all)) other ∙ there) ∙ ap (λ b. cond b (Some (record { value = x.1; prev = p; next = first_or all None })) (node_at (Some x.0) all None q)) other))
 
   -- what stands in the first part doesn't stand in the second
   once_right_apart : (xs ys : List (Key × T)) (q : Key) (v : T) → IsOnce (xs ++ ys) → value_of q xs ≡ Some v → value_of q ys ≡ None
@@ -283,7 +288,7 @@ module _ {T : Type 0} where
   get-relinked nodes at next at' prev q =
       get-with_prev (with_next nodes at next) at' prev q ∙ relinked_same (to_prev prev) at' (map.get (with_next nodes at next)) (relinked (to_next next) at (map.get nodes)) (get-with_next nodes at next) q
 
-  len_written : (nodes : Nodes T) (k : Key) (node old : Node T) → map.get nodes k ≡ Some old → map.len (map.insert nodes k node) ≡ map.len nodes
+  pub len_written : (nodes : Nodes T) (k : Key) (node old : Node T) → map.get nodes k ≡ Some old → map.len (map.insert nodes k node) ≡ map.len nodes
   len_written nodes k node old found = map.len-insert keys_total nodes k node ∙ ap (λ o. cond (is_some o) (map.len nodes) (map.len nodes + 1)) found
 
   len-with_next : (nodes : Nodes T) (at next : Option Key) → map.len (with_next nodes at next) ≡ map.len nodes
@@ -317,7 +322,23 @@ module _ {T : Type 0} where
   -- following the links gives the list
   pub chain_is : (nodes : Nodes T) (first last : Option Key) (xs : List (Key × T)) → IsChain nodes first last xs → follow nodes (map.len nodes) first ≡ xs
   chain_is nodes first last xs chain =
-      ap (follow nodes (map.len nodes)) chain.first_is ∙ ap (λ n. follow nodes n (first_or xs None)) (sym chain.count) ∙ follow_is nodes None xs chain.once (λ q v there. chain.nodes_are q)
+      let all = append-nil xs in
+      ap (follow nodes (map.len nodes)) chain.first_is ∙ ap (λ n. follow nodes n (first_or xs None)) (sym chain.count) ∙ ap (λ l. follow nodes (length xs) (first_or l None)) (sym all)
+      ∙ follow_is nodes None xs [] (subst IsOnce (sym all) chain.once) (λ q v there. chain.nodes_are q ∙ ap (λ l. node_at None l None q) (sym all))
+
+  -- a part of the list is what following the links from its first element gives
+  pub follow_part : (nodes : Nodes T) (before xs after : List (Key × T)) → IsOnce (before ++ (xs ++ after)) → ((q : Key) → map.get nodes q ≡ node_at None (before ++ (xs ++ after)) None q)
+      → follow nodes (length xs) (first_or (xs ++ after) None) ≡ xs
+  follow_part nodes before xs after once is = follow_is nodes (last_or before None) xs after (once_right before (xs ++ after) once) (λ q v there.
+      is q ∙ node_at-append None None before (xs ++ after) q ∙ ap (λ o. option_or o (node_at (last_or before None) (xs ++ after) None q)) (absent_node None (first_or (xs ++ after) None) before q (once_apart before (xs ++ after) q v once there)))
+
+  -- the node of an element
+  pub node_here : (ys : List (Key × T)) (e : Key × T) (zs : List (Key × T)) → IsOnce (ys ++ e ∷ zs) → node_at None (ys ++ e ∷ zs) None e.0 ≡ Some (record { value = e.1; prev = last_or ys None; next = first_or zs None })
+  node_here ys e zs once =
+      let one = itself keys_total exact_keys e.0 in
+      let apart = once_apart ys (e ∷ zs) e.0 e.1 once (ap (λ b. cond b (Some e.1) (value_of e.0 zs)) one) in
+      node_at-append None None ys (e ∷ zs) e.0 ∙ ap (λ o. option_or o (node_at (last_or ys None) (e ∷ zs) None e.0)) (absent_node None (Some e.0) ys e.0 apart)
+      ∙ ap (λ b. cond b (Some (record { value = e.1; prev = last_or ys None; next = first_or zs None })) (node_at (Some e.0) zs None e.0)) one
 
   pub chain_empty : IsChain (map.empty {X = Node T} {R = key_cmp}) None None []
   chain_empty = record { nodes_are = map.get-empty key_cmp; once = tt; count = sym (map.len-empty key_cmp (Node T)); first_is = refl; last_is = refl }

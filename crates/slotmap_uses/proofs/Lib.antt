@@ -1,11 +1,16 @@
 pub mod Adjacent
 pub mod Chains
 pub mod Climbs
+pub mod Cursors
 pub mod Generic
 pub mod GraphSteps
+pub mod Iterated
 pub mod LeadLemmas
+pub mod Looks
+pub mod Moves
+pub mod Pops
 pub mod Queue
 pub mod Search
 pub mod Tables
 pub mod Thinned
-pub mod Walked
+pub mod Written

@@ -1,5 +1,5 @@
 -- What a change of the jobs and of the queue does to a scheduler.
-use Rattle.std.proofs.Common.{◌≡◌, ◌≢◌, ℕ, ◌+◌, ◌<◌, ◌≤◌, ◌⊎◌, true, false, Option, Some, None, is_some, IsSome, List, [], ◌∷◌, length, refl, sym, ap, ◌∙◌, inl, inr, arith}
+use Rattle.std.proofs.Common.{◌≡◌, ◌≢◌, ℕ, ◌+◌, ◌<◌, ◌≤◌, false, Option, Some, None, is_some, IsSome, Result, Ok, Err, OnOk, OnErr, List, [], ◌∷◌, length, refl, sym, ap, ◌∙◌, inl, inr, arith}
 use Rattle.std.specs.Ordering.{nat_cmp, is_gt}
 use Rattle.std.specs.Cmp.{IsTotalOrder, nat_cmp_total}
 use Rattle.std.specs.FinMap as map
@@ -7,7 +7,7 @@ use Rattle.std.specs.BTreeMap.{BTreeMap, get, Updates, IsLowerBound}
 use Rattle.std.proofs.lemmas.Cmp.{on_total, then_total}
 use Rattle.std.proofs.lemmas.Bool.Decides.{nat_tests}
 use Rattle.std.proofs.lemmas.Map.Lookups.{CmpEqualImpliesEq, exact_pairs, exact_unsigned}
-use Rattle.slotmap.specs.Words.{Key, key_cmp}
+use Rattle.slotmap.specs.Words.{Key}
 use Rattle.slotmap.proofs.Callers.{keys}
 use Rattle.slotmap_uses.specs.declared.scheduler.Job.{Job}
 use Rattle.slotmap_uses.specs.Schedule.{Turn, turn_cmp, IsUpTo, Jobs, IsQueue, IsNext, NoneDue}
@@ -58,17 +58,37 @@ module _ {T : Type 0} where
         let both = sym w.1 ∙ at in
         let e : record { turn = t; job = w.0 } ≡ j = cc in ap (λ (x : Job T). x.turn) e
 
+    -- a queue with the same handles at the same turns
+    queue_alike : (new : BTreeMap Turn Key) → ((t : Turn) → get turn_cmp new t ≡ get turn_cmp old t) → IsQueue jobs count new
+    queue_alike new same = record {
+      queued = λ k j found. same j.turn ∙ is.queued k j found;
+      waits = λ t k found. is.waits t k (sym (same t) ∙ found);
+      numbered = is.numbered;
+    }
+
+    pub queue_same : (new : BTreeMap Turn Key) → new.entries ≡ old.entries → IsQueue jobs count new
+    queue_same new same = queue_alike new (λ t. rw same refl)
+
+    -- the next turn isn't in the queue yet
+    next_unqueued : (time : ℕ) → get turn_cmp old (time, count) ≡ None
+    next_unqueued time = by (get turn_cmp old (time, count)) refl
+      where
+        by : (o : Option Key) → get turn_cmp old (time, count) ≡ o → get turn_cmp old (time, count) ≡ None
+        by None none = none
+        by (Some k) there = absurd (let w = is.waits (time, count) k there in let less = is.numbered k _ w.1 in omega arith)
+
     -- a new job comes after all others
-    pub queue_scheduled : (new : BTreeMap Turn Key) (k : Key) (time : ℕ) (job : T) → map.contains_key jobs k ≡ false → Updates turn_cmp old new (time, count) (Some k)
+    queue_with : (new : BTreeMap Turn Key) (k : Key) (time : ℕ) (job : T) → map.contains_key jobs k ≡ false
+        → get turn_cmp new (time, count) ≡ Some k → ((t : Turn) → t ≢ (time, count) → get turn_cmp new t ≡ get turn_cmp old t)
         → IsQueue (map.insert jobs k (record { turn = (time, count); job = job })) (count + 1) new
-    queue_scheduled new k time job fresh updates = record {
+    queue_with new k time job fresh at others = record {
       queued = λ q j found. elim (get_after_insert jobs k _ q j found) [
-        | inl here ↦ rw (here.0, here.1) (tree_here turns_total exact_turns old new (time, count) (Some k) updates)
-        | inr there ↦ tree_other turns_total exact_turns old new (time, count) (Some k) updates j.turn (other_number j.turn (time, count) (is.numbered q j there.1)) ∙ is.queued q j there.1
+        | inl here ↦ rw (here.0, here.1) at
+        | inr there ↦ others j.turn (other_number j.turn (time, count) (is.numbered q j there.1)) ∙ is.queued q j there.1
       ];
       waits = λ t q found. elim (alike_or_apart turns_total exact_turns t (time, count)) [
-        | inl here ↦ (job, (let e = sym (tree_here turns_total exact_turns old new (time, count) (Some k) updates) ∙ rw here at found in let same : k ≡ q = cc in rw (here, ← same) (grind (arith, keys))))
-        | inr there ↦ (let before = sym (tree_other turns_total exact_turns old new (time, count) (Some k) updates t there) ∙ found in
+        | inl here ↦ (job, (let e = sym at ∙ rw here at found in let same : k ≡ q = cc in rw (here, ← same) (grind (arith, keys))))
+        | inr there ↦ (let before = sym (others t there) ∙ found in
             let w = is.waits t q before in
             (w.0, insert_other q _ w.1))
       ];
@@ -79,6 +99,27 @@ module _ {T : Type 0} where
     } where
       insert_other : (q : Key) (j : Job T) → map.get jobs q ≡ Some j → map.get (map.insert jobs k (record { turn = (time, count); job = job })) q ≡ Some j
       insert_other q j there = let other : q ≢ k = λ same. (let live = ap (λ x. map.contains_key jobs x) same ∙ fresh in let some = ap is_some there in absurd (cc)) in grind (arith, keys)
+
+    -- the next turn is put into the queue, under no handle yet
+    module _ (mid : BTreeMap Turn Key) (time : ℕ) (any : Key) (puts : Updates turn_cmp old mid (time, count) (Some any)) where
+      -- then it gets the handle of the new job
+      pub queue_scheduled : (new : BTreeMap Turn Key) (k : Key) (job : T) → map.contains_key jobs k ≡ false → Updates turn_cmp mid new (time, count) (Some k)
+          → IsQueue (map.insert jobs k (record { turn = (time, count); job = job })) (count + 1) new
+      queue_scheduled new k job fresh writes = queue_with new k time job fresh
+          (tree_here turns_total exact_turns mid new (time, count) (Some k) writes)
+          (λ t other. tree_other turns_total exact_turns mid new (time, count) (Some k) writes t other ∙ tree_other turns_total exact_turns old mid (time, count) (Some any) puts t other)
+
+      -- it is there, so its insert can't fail
+      pub queued_again : {R E : Type 0} {P : Type 0} (answer : Result R E) → OnErr answer (get turn_cmp mid (time, count) ≡ None) → OnOk answer P → P
+      queued_again (Ok x) absent ok = ok
+      queued_again (Err e) absent ok = absurd (let h = sym absent ∙ tree_here turns_total exact_turns old mid (time, count) (Some any) puts in cc)
+
+      -- or it is taken out again
+      pub queue_undone : (new : BTreeMap Turn Key) → Updates turn_cmp mid new (time, count) None → IsQueue jobs count new
+      queue_undone new takes = queue_alike new (λ t. elim (alike_or_apart turns_total exact_turns t (time, count)) [
+        | inl here ↦ rw here (tree_here turns_total exact_turns mid new (time, count) None takes ∙ sym (next_unqueued time))
+        | inr there ↦ tree_other turns_total exact_turns mid new (time, count) None takes t there ∙ tree_other turns_total exact_turns old mid (time, count) (Some any) puts t there
+      ])
 
     module _ (k : Key) (j : Job T) (at : map.get jobs k ≡ Some j) where
       -- a job is taken out, and its turn too
@@ -128,16 +169,6 @@ module _ {T : Type 0} where
 
         kept : (t : Turn) → t ≢ j.turn → t ≢ (time, count) → get turn_cmp new t ≡ get turn_cmp old t
         kept t left there = tree_other turns_total exact_turns mid new j.turn None takes t left ∙ tree_other turns_total exact_turns old mid (time, count) (Some k) puts t there
-
-    -- a queue with the same entries
-    pub queue_same : (new : BTreeMap Turn Key) → new.entries ≡ old.entries → IsQueue jobs count new
-    queue_same new same = record {
-      queued = λ k j found. get_same j.turn ∙ is.queued k j found;
-      waits = λ t k found. is.waits t k (sym (get_same t) ∙ found);
-      numbered = is.numbered;
-    } where
-      get_same : (t : Turn) → get turn_cmp new t ≡ get turn_cmp old t
-      get_same t = rw same refl
 
     -- the first turn of the queue is that of the job that comes next
     pub first_turn : (t : Turn) (k : Key) → get turn_cmp old t ≡ Some k → IsLowerBound turn_cmp old t → (now : ℕ) → t.0 ≤ now → (job : T) × IsNext jobs now k job

@@ -1,5 +1,5 @@
 -- How a list is kept in a map of nodes.
-use Rattle.std.specs.Prelude.{◌≡◌, ℕ, zero, suc, List, [], ◌∷◌, length, Option, Some, None, cond}
+use Rattle.std.specs.Prelude.{◌≡◌, ℕ, zero, suc, Bool, true, List, [], ◌∷◌, ◌++◌, length, Option, Some, None, IfSome, cond}
 use Rattle.std.specs.Ordering.{eq_by_cmp}
 use Rattle.std.specs.FinMap as map
 use Rattle.slotmap.specs.Words.{Key, key_cmp}
@@ -58,3 +58,35 @@ module _ {T : Type 0} where
   abbrev pub with_prev : Nodes T → Option Key → Option Key → Nodes T
   with_prev nodes None prev = nodes
   with_prev nodes (Some k) prev = with_prev_of nodes k (map.get nodes k) prev
+
+  -- the neighbours of k have nodes
+  abbrev pub HasNeighbours : Nodes T → Key → Type 0
+  HasNeighbours nodes k = (node : Node T) → map.get nodes k ≡ Some node
+      → IfSome node.prev (λ p. map.contains_key nodes p ≡ true) × IfSome node.next (λ n. map.contains_key nodes n ≡ true)
+
+  -- the neighbours of k's node are linked to each other; the nodes, and the ends of the list, before and after
+  pub record Unlinks (old : Nodes T) (first last : Option Key) (k : Key) (new : Nodes T) (new_first new_last : Option Key) : Type 0 where
+    pub node : Node T
+    pub found : map.get old k ≡ Some node
+    pub nodes : new ≡ with_prev (with_next old node.prev node.next) node.next node.prev
+    pub first_is : new_first ≡ outer node.prev first node.next
+    pub last_is : new_last ≡ outer node.next last node.prev
+
+  -- k's node is linked between these two
+  pub record Links (old : Nodes T) (first last : Option Key) (k : Key) (prev next : Option Key) (new : Nodes T) (new_first new_last : Option Key) : Type 0 where
+    pub node : Node T
+    pub found : map.get old k ≡ Some node
+    pub nodes : new ≡ with_prev (with_next (map.insert old k (record { value = node.value; prev = prev; next = next })) prev (Some k)) next (Some k)
+    pub first_is : new_first ≡ outer prev first (Some k)
+    pub last_is : new_last ≡ outer next last (Some k)
+
+  -- these elements are those that an iterator has left: what stands before them and after them in the list, and its two ends
+  pub record IsWalk (nodes : Nodes T) (left : ℕ) (first last : Option Key) : Type 0 where
+    pub before : List (Key × T)
+    pub ahead : List (Key × T)
+    pub after : List (Key × T)
+    pub nodes_are : (q : Key) → map.get nodes q ≡ node_at None (before ++ (ahead ++ after)) None q
+    pub once : IsOnce (before ++ (ahead ++ after))
+    pub left_is : left ≡ length ahead
+    pub first_is : first ≡ first_or (ahead ++ after) None
+    pub last_is : last ≡ last_or (before ++ ahead) None

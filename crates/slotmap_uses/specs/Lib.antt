@@ -2,6 +2,7 @@ pub mod Chain
 pub mod Climb
 pub mod GraphParts
 pub mod GraphSearch
+pub mod ListLends
 pub mod Refused
 pub mod Registry
 pub mod Schedule

@@ -1,8 +1,23 @@
 -- A list as its user sees it: keys with their values, from front to back.
-use Rattle.std.specs.Prelude.{◌≡◌, List, [], ◌∷◌, ◌++◌, Option, Some, None, cond}
+use Rattle.std.specs.Prelude.{◌≡◌, refl, List, [], ◌∷◌, ◌++◌, Option, Some, None, Bool, cond, not, ◌&&◌, nat_eq, is_some}
+use Rattle.std.specs.Coded.{Coded, code_by, coded×, coded_list}
 use Rattle.std.specs.Ordering.{eq_by_cmp}
 use Rattle.std.specs.FinMap.Entries.{find}
-use Rattle.slotmap.specs.Words.{Key, key_cmp}
+use Rattle.slotmap.specs.Words.{Key, key_cmp, coded_key, Content, keys_code}
+
+pub record Sequence (T : Type 0) : Type 0 where
+  -- the elements from front to back: each cursor with its value
+  pub elements : List (Key × T)
+  -- the cursors without their values; `IsSpent` says which are gone for good
+  pub cursors : Content (Unit {0})
+
+-- by which a proof tells two lists apart
+abbrev pub sequence_code : {T : Type 0} → Coded T → Coded (Sequence T)
+sequence_code {T} code = code_by (List (Key × T) × Content (Unit {0})) (coded× (coded_list (coded× coded_key code)) keys_code) (λ s. (s.elements, s.cursors)) (λ p. record { elements = p.0; cursors = p.1 }) (λ _. refl)
+
+-- whether two keys are one
+abbrev pub is_same : Key → Key → Bool
+is_same k q = nat_eq k.index q.index && nat_eq k.version q.version
 
 module _ {T : Type 0} where
   -- the value of a key
@@ -43,6 +58,43 @@ module _ {T : Type 0} where
   abbrev pub without : Key → List (Key × T) → List (Key × T)
   without k [] = []
   without k (e ∷ es) = cond (eq_by_cmp key_cmp k e.0) es (e ∷ without k es)
+
+  -- the list once the element of k, which has this value, was taken out and put back in
+  abbrev pub put_again : (Key × T → List (Key × T) → List (Key × T)) → Key → Option T → List (Key × T) → List (Key × T)
+  put_again put k None es = es
+  put_again put k (Some v) es = put (k, v) (without k es)
+
+  -- the list with the element of k at its front, at its back, or beside another one; without k it stays the same
+  abbrev pub moved_to_front : Key → List (Key × T) → List (Key × T)
+  moved_to_front k es = put_again (λ x rest. x ∷ rest) k (value_of k es) es
+
+  abbrev pub moved_to_back : Key → List (Key × T) → List (Key × T)
+  moved_to_back k es = put_again (λ x rest. rest ++ x ∷ []) k (value_of k es) es
+
+  abbrev pub moved_after : Key → Key → List (Key × T) → List (Key × T)
+  moved_after k other es = put_again (put_after other) k (value_of k es) es
+
+  abbrev pub moved_before : Key → Key → List (Key × T) → List (Key × T)
+  moved_before k other es = put_again (put_before other) k (value_of k es) es
+
+  -- both keys are in the list, and they are two
+  abbrev pub are_two : Key → Key → List (Key × T) → Bool
+  are_two k other es = not (is_same k other) && (is_some (value_of k es) && is_some (value_of other es))
+
+  -- the list once the value of k was written
+  abbrev pub with_value_at : Key → T → List (Key × T) → List (Key × T)
+  with_value_at k v [] = []
+  with_value_at k v (e ∷ es) = cond (eq_by_cmp key_cmp k e.0) ((e.0, v) ∷ es) (e ∷ with_value_at k v es)
+
+  -- the first element and the rest, or that there is none
+  abbrev pub TakesFront : List (Key × T) → Option (Key × T) → List (Key × T) → Type 0
+  TakesFront old None new = (old ≡ []) × (new ≡ [])
+  TakesFront old (Some x) new = old ≡ x ∷ new
+
+  -- the last element and the rest, or that there is none
+  abbrev pub TakesBack : List (Key × T) → Option (Key × T) → List (Key × T) → Type 0
+  TakesBack old None new = (old ≡ []) × (new ≡ [])
+  TakesBack old (Some x) new = old ≡ new ++ x ∷ []
 
   -- no key stands twice
   abbrev pub IsOnce : List (Key × T) → Type 0

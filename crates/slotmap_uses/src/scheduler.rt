@@ -6,10 +6,11 @@
 //! - Jobs come by ascending time, and jobs of one time in the order in which they were scheduled.
 //! - A job that was cancelled or returned never comes again. Its handle is spent for good, so it
 //!   finds no later job either.
-//! - A call that fails hands the job back, and leaves the same jobs waiting.
+//! - A call that fails hands the job back, and leaves the same jobs waiting. It spends no handle.
 //!
-//! The jobs stand in a `SlotMap`, and their handles in a `BTreeMap` by time and number. So each call
-//! takes time logarithmic in the number of jobs, and a look-up by handle takes constant time.
+//! The jobs stand in a `SlotMap`, and their handles in a `BTreeMap` by time and number. So `schedule`,
+//! `reschedule`, `cancel`, `peek` and `pop_due` take time logarithmic in the number of jobs. `len`,
+//! `is_empty` and `due` take constant time.
 //!
 //! ```
 //! let mut scheduler = Scheduler::new(alloc)?;
@@ -21,12 +22,12 @@
 //! ```
 #![tactic(auto, using(slotmap::proofs::Callers::keys))]
 
-ghost use Rattle.std.specs.Prelude.{◌≡◌, ℕ, ◌+◌, ◌≤◌, ◌<◌, Some, None, IfOk, OnOk, IfErr, OnErr, IfSome, IfNone, OnSome, IsErr, true, option_map};
+ghost use Rattle.std.specs.Prelude.{◌≡◌, ℕ, ◌+◌, ◌≤◌, ◌<◌, Some, None, IfOk, OnOk, IfErr, OnErr, IfSome, IfNone, OnSome, IsErr, true, option_map, IsTrue, ◌↔◌};
 ghost use Rattle.std.specs.FinMap as map;
-ghost use Rattle.slotmap.specs.Words.{Key as KeyOf, IsNew, Inserts, IsSpent, KeepsSpent, MayGrow, used, most};
+ghost use Rattle.slotmap.specs.Words.{IsNew, Inserts, Keeps, IsSpent, KeepsSpent, MayGrow, used, most};
 ghost use Rattle.slotmap_uses.specs.Schedule.{turn_cmp, scheduled, FullOnlyAt, Refuses, RefusesMove, IsNext, NoneDue};
 
-use slotmap::{DefaultKey, InsertError, ReserveError, SlotMap};
+use slotmap::{DefaultKey, InsertError, Key, ReserveError, SlotMap};
 use std::alloc::Global;
 use std::collections::BTreeMap;
 use std::marker::Model;
@@ -130,6 +131,13 @@ impl<T: Drop> Scheduler<T> {
         self.jobs.len()
     }
 
+    /// Returns whether no job waits, in constant time.
+    pub fn is_empty(&self) -> bool
+        ensures { IsTrue result ↔ (map.len self.now.jobs.live ≡ 0) }
+    {
+        self.len() == 0
+    }
+
     /// Returns when the job of a handle is due, or `None` if no job waits under it. It takes constant
     /// time.
     pub fn due(&self, handle: DefaultKey) -> Option<u64>
@@ -140,7 +148,8 @@ impl<T: Drop> Scheduler<T> {
 
     /// Schedules a job, and returns its handle. It comes after all jobs of its time that wait already.
     ///
-    /// If the call fails, the error holds the job, and the same jobs wait.
+    /// If the call fails, the error holds the job, and the scheduler is as before: no handle is spent.
+    /// It takes time logarithmic in the number of jobs.
     pub fn schedule(&mut self, time: u64, job: T) -> Result<DefaultKey, ScheduleError<T>>
         // The job waits under a new handle, which no job had before.
         ensures waits { IfOk result (λ handle. self.new.jobs.live ≡ map.insert self.old.jobs.live handle (scheduled self.old time job)) }
@@ -150,7 +159,7 @@ impl<T: Drop> Scheduler<T> {
 
         // Why the call failed, and what that leaves.
         ensures err { IfErr result (Refuses self.old job) }
-        ensures unchanged { OnErr result ((self.new.jobs.live ≡ self.old.jobs.live) × (self.new.count ≡ self.old.count)) }
+        ensures unchanged { OnErr result (Keeps self.old.jobs self.new.jobs × (self.new.count ≡ self.old.count)) }
 
         // What never comes again.
         ensures stale { KeepsSpent self.old.jobs self.new.jobs }
@@ -159,13 +168,22 @@ impl<T: Drop> Scheduler<T> {
             return Err(ScheduleError::Full(job));
         }
         let turn = (time, self.count);
-        let handle = add(&mut self.jobs, Job { turn, job })?;
-        if self.queue.insert(turn, handle).is_err() {
-            let refused = self.jobs.remove(handle).unwrap();
-            return Err(ScheduleError::Memory(refused.job));
+        // The turn goes in first, under no handle yet: if that fails, no handle was made.
+        if self.queue.insert(turn, DefaultKey::null()).is_err() {
+            return Err(ScheduleError::Memory(job));
         }
-        self.count += 1;
-        Ok(handle)
+        match add(&mut self.jobs, Job { turn, job }) {
+            Ok(handle) => {
+                // The turn is there, so this only writes its handle, and can't fail.
+                let _ = self.queue.insert(turn, handle);
+                self.count += 1;
+                Ok(handle)
+            }
+            Err(error) => {
+                self.queue.remove(&turn);
+                Err(error)
+            }
+        }
     }
 
     /// Cancels the job of a handle, and returns it, or `None` if no job waits under it. It never
@@ -217,14 +235,23 @@ impl<T: Drop> Scheduler<T> {
         Ok(())
     }
 
-    // The first turn of the queue, with its handle.
-    fn first(&self) -> Option<((u64, u64), DefaultKey)>
-        ensures now { (now : ℕ) → IfSome result (λ first. first.0.0 ≤ now → (job : T) × IsNext self.now.jobs.live now first.1 job) }
-        ensures later { (now : ℕ) → IfSome result (λ first. now < first.0.0 → NoneDue self.now.jobs.live now) }
+    /// Returns the time and the handle of the job that comes next, or `None` if no job waits. It takes
+    /// time logarithmic in the number of jobs.
+    ///
+    /// ```
+    /// let mut scheduler = Scheduler::new(alloc)?;
+    /// let tea = scheduler.schedule(30, "tea")?;
+    /// scheduler.schedule(30, "bell")?;
+    /// assert_eq!(rt; scheduler.peek(), Some((30, tea)));
+    /// ```
+    pub fn peek(&self) -> Option<(u64, DefaultKey)>
+        // It comes next from its time on, and no job is due before.
+        ensures now { (now : ℕ) → IfSome result (λ next. next.0 ≤ now → (job : T) × IsNext self.now.jobs.live now next.1 job) }
+        ensures later { (now : ℕ) → IfSome result (λ next. now < next.0 → NoneDue self.now.jobs.live now) }
         ensures none { IfNone result ((now : ℕ) → NoneDue self.now.jobs.live now) }
     {
         let (turn, handle) = self.queue.first_key_value()?;
-        Some((*turn, *handle))
+        Some((turn.0, *handle))
     }
 
     /// Removes the job that comes next, if it is due at `now`, and returns it with its handle. It
@@ -246,8 +273,8 @@ impl<T: Drop> Scheduler<T> {
         ensures for_good { IfSome result (λ due. IsSpent self.new.jobs due.0) }
         ensures stale { KeepsSpent self.old.jobs self.new.jobs }
     {
-        let (turn, handle) = self.first()?;
-        if turn.0 > now {
+        let (time, handle) = self.peek()?;
+        if time > now {
             return None;
         }
         let job = self.cancel(handle).unwrap();

@@ -1,68 +1,87 @@
 //! A doubly linked list whose elements have cursors that stay valid.
 //!
-//! Each element of a [`StableList`] has a cursor, which is a key. It leads to the element until that
-//! is removed, wherever other elements come and go. What is proved of it:
+//! Each element of a [`StableList`] has a [`Cursor`]. It leads to the element until that is removed,
+//! wherever other elements come and go, and wherever the element moves. What is proved of it:
 //!
 //! - A clause sees the list as its cursors with their values, from front to back. Each call says
 //!   which list it leaves.
+//! - The cursor of a removed element is gone for good: no later element has it.
 //! - A call with a cursor that isn't in the list is refused, and hands the value back.
-//! - The cursor of a new element is that of no other one in the list.
+//! - A call that moves an element allocates nothing, and the element keeps its cursor.
+//! - An iterator yields the elements from front to back, or from back to front.
 //!
-//! Each call takes constant time, except for `to_vec`.
+//! Each call takes constant time, except for `to_vec` and `clear`. These take time linear in the number
+//! of elements, or in that of the most elements that there were at once. A push or an insert may have
+//! to grow the vectors of the map, and takes constant time on average.
 //!
 //! ```
 //! let mut list = StableList::new(alloc)?;
 //! let one = list.push_back(1)?;
-//! list.push_back(3)?;
+//! let three = list.push_back(3)?;
 //! list.insert_after(one, 2)?;
 //! assert_eq!(rt; list.to_vec(alloc)?.as_slice(), [1, 2, 3].as_slice());
+//!
+//! list.move_to_front(three);
+//! list.remove(one);
+//! assert_eq!(rt; list.to_vec(alloc)?.as_slice(), [3, 2].as_slice());
+//! assert_eq!(rt; list.get(one), None);
 //! ```
 #![tactic(auto)]
 
-ghost use Rattle.std.specs.Prelude.{◌≡◌, ◌++◌, ◌∷◌, [], Some, None, length, option_copied, IfOk, OnOk, IfErr, OnErr, IfSome, OnSome, IfNone, IsSome, ℕ};
+ghost use Rattle.std.specs.Prelude.{◌≡◌, ◌++◌, ◌∷◌, [], Some, None, true, false, is_some, length, option_copied, if◌then◌else◌, IsTrue, ◌↔◌};
+ghost use Rattle.std.specs.Prelude.{IfOk, OnOk, IfErr, OnErr, IfSome, OnSome, IfNone, IsSome};
 ghost use Rattle.std.specs.Prelude.{map as map_list};
 ghost use Rattle.std.specs.FinMap as map;
-ghost use Rattle.slotmap.specs.Words.{Key, key_cmp};
-ghost use Rattle.slotmap.specs.Words.{IsLive};
+ghost use Rattle.slotmap.specs.Words.{Key as KeyOf, IsLive, IsNew, IsSpent, KeepsSpent};
 ghost use Rattle.slotmap_uses.specs.Sequence.{value_of, first_or, last_or, key_after, key_before, put_after, put_before, without, IsGap, PutsBetween, IsOnce};
+ghost use Rattle.slotmap_uses.specs.Sequence.{moved_to_front, moved_to_back, moved_after, moved_before, are_two, TakesFront, TakesBack};
 ghost use Rattle.slotmap_uses.specs.Refused.{IsRefused, HandsBack};
 
-use slotmap::{DefaultKey, ReserveError, SlotMap};
+use slotmap::{ReserveError, SlotMap};
 use std::alloc::{AllocError, Global};
 use std::marker::Model;
 use thiserror::Error;
 
+pub mod callers;
+mod cursor;
+mod iter;
 mod links;
+mod moves;
 
+pub use cursor::Cursor;
+pub use iter::Iter;
 use links::{add, same, set_next, set_prev};
 
 #[derive(Drop)]
 struct Node<T> {
     value: T,
-    prev: Option<DefaultKey>,
-    next: Option<DefaultKey>,
+    prev: Option<Cursor>,
+    next: Option<Cursor>,
 }
 
 /// A list whose elements have cursors.
 ///
-/// A contract sees it as the list of its cursors with their values, from front to back.
+/// A clause sees `elements`, the list of the cursors with their values, from front to back, and
+/// `cursors`, by which it says that a cursor is gone for good.
 #[derive(Drop)]
 pub struct StableList<T> {
-    nodes: SlotMap<DefaultKey, Node<T>>,
-    first: Option<DefaultKey>,
-    last: Option<DefaultKey>,
+    nodes: SlotMap<Cursor, Node<T>>,
+    first: Option<Cursor>,
+    last: Option<Cursor>,
 }
 
 impl<T> Model for StableList<T> {
-    ghost use Rattle.std.specs.Prelude.{List};
     ghost use Rattle.std.specs.FinMap as map;
-    ghost use Rattle.slotmap.specs.Words.{Key};
+    ghost use Rattle.slotmap.specs.Words.{without_values};
+    ghost use Rattle.slotmap_uses.specs.Sequence.{Sequence, sequence_code};
 
-    ghost Value = { List (Key × T) };
+    ghost Value = { Sequence T };
+
+    ghost coded = { sequence_code T.code };
 
     ghost use Rattle.slotmap_uses.specs.Chain.{follow, IsChain};
 
-    ghost view = { λ l. follow l.nodes.live (map.len l.nodes.live) l.first };
+    ghost view = { λ l. record { elements = follow l.nodes.live (map.len l.nodes.live) l.first; cursors = without_values l.nodes } };
 
     ghost invariant = { λ l. IsChain l.nodes.live l.first l.last (follow l.nodes.live (map.len l.nodes.live) l.first) };
 }
@@ -97,11 +116,11 @@ impl<T: Drop> StableList<T> {
     ///
     /// It fails only if memory runs out.
     pub fn new(alloc: Global) -> Result<Self, ReserveError>
-        ensures empty { IfOk result (λ list. list ≡ []) }
+        ensures empty { IfOk result (λ list. list.elements ≡ []) }
         ensures err { IfErr result (λ error. error ≡ ReserveError.Memory) }
     {
         Ok(StableList {
-            nodes: SlotMap::new(alloc)?,
+            nodes: SlotMap::with_key(alloc)?,
             first: None,
             last: None,
         })
@@ -109,28 +128,36 @@ impl<T: Drop> StableList<T> {
 
     /// Returns the number of elements.
     pub fn len(&self) -> usize
-        ensures { result ≡ length self.now }
+        ensures { result ≡ length self.now.elements }
     {
         self.nodes.len()
     }
 
+    /// Returns whether the list has no element.
+    pub fn is_empty(&self) -> bool
+        ensures { IsTrue result ↔ (length self.now.elements ≡ 0) }
+    {
+        self.len() == 0
+    }
+
     /// Returns the cursor of the element at the front, or `None` if the list is empty.
-    pub fn first(&self) -> Option<DefaultKey>
-        ensures { result ≡ first_or self.now None }
+    pub fn first(&self) -> Option<Cursor>
+        ensures { result ≡ first_or self.now.elements None }
     {
         self.first
     }
 
     /// Returns the cursor of the element at the back, or `None` if the list is empty.
-    pub fn last(&self) -> Option<DefaultKey>
-        ensures { result ≡ last_or self.now None }
+    pub fn last(&self) -> Option<Cursor>
+        ensures { result ≡ last_or self.now.elements None }
     {
         self.last
     }
 
     /// Returns the value of a cursor, or `None` if it isn't in the list.
-    pub fn get(&self, cursor: DefaultKey) -> Option<&T>
-        ensures { option_copied result ≡ value_of cursor self.now }
+    pub fn get(&self, cursor: Cursor) -> Option<&T>
+        ensures value { option_copied result ≡ value_of cursor self.now.elements }
+        ensures gone { IsSpent self.now.cursors cursor → result ≡ None }
     {
         let node = self.nodes.get(cursor)?;
         Some(&node.value)
@@ -138,16 +165,16 @@ impl<T: Drop> StableList<T> {
 
     /// Returns the cursor after this one, or `None` at the back and for a cursor that isn't in the
     /// list.
-    pub fn next(&self, cursor: DefaultKey) -> Option<DefaultKey>
-        ensures { result ≡ key_after cursor self.now }
+    pub fn next(&self, cursor: Cursor) -> Option<Cursor>
+        ensures { result ≡ key_after cursor self.now.elements }
     {
         self.nodes.get(cursor)?.next
     }
 
     /// Returns the cursor before this one, or `None` at the front and for a cursor that isn't in the
     /// list.
-    pub fn prev(&self, cursor: DefaultKey) -> Option<DefaultKey>
-        ensures { result ≡ key_before None cursor self.now }
+    pub fn prev(&self, cursor: Cursor) -> Option<Cursor>
+        ensures { result ≡ key_before None cursor self.now.elements }
     {
         self.nodes.get(cursor)?.prev
     }
@@ -155,15 +182,17 @@ impl<T: Drop> StableList<T> {
     // Puts an element between two neighbours.
     fn put(
         &mut self,
-        prev: Option<DefaultKey>,
-        next: Option<DefaultKey>,
+        prev: Option<Cursor>,
+        next: Option<Cursor>,
         value: T,
-    ) -> Result<DefaultKey, PushError<T>>
-        requires { IsGap self.old prev next }
-        ensures ok { IfOk result (λ key. PutsBetween self.old prev next (key, value) self.new) }
-        ensures fresh { IfOk result (λ key. value_of key self.old ≡ None) }
+    ) -> Result<Cursor, PushError<T>>
+        requires { IsGap self.old.elements prev next }
+        ensures ok { IfOk result (λ key. PutsBetween self.old.elements prev next (key, value) self.new.elements) }
+        ensures fresh { IfOk result (λ key. value_of key self.old.elements ≡ None) }
+        ensures unspent { IfOk result (λ key. IsSpent self.old.cursors key → ⊥) }
         ensures err { IfErr result (λ error. HandsBack value error) }
-        ensures unchanged { OnErr result (self.new ≡ self.old) }
+        ensures unchanged { OnErr result (self.new.elements ≡ self.old.elements) }
+        ensures gone { KeepsSpent self.old.cursors self.new.cursors }
     {
         let node = Node {
             value,
@@ -178,12 +207,14 @@ impl<T: Drop> StableList<T> {
 
     /// Adds an element at the back, and returns its cursor.
     ///
-    /// If the call fails, the error holds the value, and the list is as before.
-    pub fn push_back(&mut self, value: T) -> Result<DefaultKey, PushError<T>>
-        ensures ok { IfOk result (λ key. self.new ≡ self.old ++ (key, value) ∷ []) }
-        ensures fresh { IfOk result (λ key. value_of key self.old ≡ None) }
+    /// If the call fails, the error holds the value, and the list has the same elements.
+    pub fn push_back(&mut self, value: T) -> Result<Cursor, PushError<T>>
+        ensures ok { IfOk result (λ key. self.new.elements ≡ self.old.elements ++ (key, value) ∷ []) }
+        ensures fresh { IfOk result (λ key. value_of key self.old.elements ≡ None) }
+        ensures unspent { IfOk result (λ key. IsSpent self.old.cursors key → ⊥) }
         ensures err { IfErr result (λ error. HandsBack value error) }
-        ensures unchanged { OnErr result (self.new ≡ self.old) }
+        ensures unchanged { OnErr result (self.new.elements ≡ self.old.elements) }
+        ensures gone { KeepsSpent self.old.cursors self.new.cursors }
     {
         let last = self.last;
         self.put(last, None, value)
@@ -191,12 +222,14 @@ impl<T: Drop> StableList<T> {
 
     /// Adds an element at the front, and returns its cursor.
     ///
-    /// If the call fails, the error holds the value, and the list is as before.
-    pub fn push_front(&mut self, value: T) -> Result<DefaultKey, PushError<T>>
-        ensures ok { IfOk result (λ key. self.new ≡ (key, value) ∷ self.old) }
-        ensures fresh { IfOk result (λ key. value_of key self.old ≡ None) }
+    /// If the call fails, the error holds the value, and the list has the same elements.
+    pub fn push_front(&mut self, value: T) -> Result<Cursor, PushError<T>>
+        ensures ok { IfOk result (λ key. self.new.elements ≡ (key, value) ∷ self.old.elements) }
+        ensures fresh { IfOk result (λ key. value_of key self.old.elements ≡ None) }
+        ensures unspent { IfOk result (λ key. IsSpent self.old.cursors key → ⊥) }
         ensures err { IfErr result (λ error. HandsBack value error) }
-        ensures unchanged { OnErr result (self.new ≡ self.old) }
+        ensures unchanged { OnErr result (self.new.elements ≡ self.old.elements) }
+        ensures gone { KeepsSpent self.old.cursors self.new.cursors }
     {
         let first = self.first;
         self.put(None, first, value)
@@ -204,17 +237,15 @@ impl<T: Drop> StableList<T> {
 
     /// Adds an element after that of a cursor, and returns its cursor.
     ///
-    /// If the call fails, the error holds the value, and the list is as before.
-    pub fn insert_after(
-        &mut self,
-        cursor: DefaultKey,
-        value: T,
-    ) -> Result<DefaultKey, PlaceError<T>>
-        ensures ok { IfOk result (λ key. self.new ≡ put_after cursor (key, value) self.old) }
-        ensures fresh { IfOk result (λ key. value_of key self.old ≡ None) }
-        ensures stands { OnOk result (IsSome (value_of cursor self.old)) }
-        ensures err { IfErr result (λ error. IsRefused cursor self.old value error) }
-        ensures unchanged { OnErr result (self.new ≡ self.old) }
+    /// If the call fails, the error holds the value, and the list has the same elements.
+    pub fn insert_after(&mut self, cursor: Cursor, value: T) -> Result<Cursor, PlaceError<T>>
+        ensures ok { IfOk result (λ key. self.new.elements ≡ put_after cursor (key, value) self.old.elements) }
+        ensures fresh { IfOk result (λ key. value_of key self.old.elements ≡ None) }
+        ensures unspent { IfOk result (λ key. IsSpent self.old.cursors key → ⊥) }
+        ensures stands { OnOk result (IsSome (value_of cursor self.old.elements)) }
+        ensures err { IfErr result (λ error. IsRefused cursor self.old.elements value error) }
+        ensures unchanged { OnErr result (self.new.elements ≡ self.old.elements) }
+        ensures gone { KeepsSpent self.old.cursors self.new.cursors }
     {
         let next = match self.nodes.get(cursor) {
             Some(node) => node.next,
@@ -229,17 +260,15 @@ impl<T: Drop> StableList<T> {
 
     /// Adds an element before that of a cursor, and returns its cursor.
     ///
-    /// If the call fails, the error holds the value, and the list is as before.
-    pub fn insert_before(
-        &mut self,
-        cursor: DefaultKey,
-        value: T,
-    ) -> Result<DefaultKey, PlaceError<T>>
-        ensures ok { IfOk result (λ key. self.new ≡ put_before cursor (key, value) self.old) }
-        ensures fresh { IfOk result (λ key. value_of key self.old ≡ None) }
-        ensures stands { OnOk result (IsSome (value_of cursor self.old)) }
-        ensures err { IfErr result (λ error. IsRefused cursor self.old value error) }
-        ensures unchanged { OnErr result (self.new ≡ self.old) }
+    /// If the call fails, the error holds the value, and the list has the same elements.
+    pub fn insert_before(&mut self, cursor: Cursor, value: T) -> Result<Cursor, PlaceError<T>>
+        ensures ok { IfOk result (λ key. self.new.elements ≡ put_before cursor (key, value) self.old.elements) }
+        ensures fresh { IfOk result (λ key. value_of key self.old.elements ≡ None) }
+        ensures unspent { IfOk result (λ key. IsSpent self.old.cursors key → ⊥) }
+        ensures stands { OnOk result (IsSome (value_of cursor self.old.elements)) }
+        ensures err { IfErr result (λ error. IsRefused cursor self.old.elements value error) }
+        ensures unchanged { OnErr result (self.new.elements ≡ self.old.elements) }
+        ensures gone { KeepsSpent self.old.cursors self.new.cursors }
     {
         let prev = match self.nodes.get(cursor) {
             Some(node) => node.prev,
@@ -253,10 +282,12 @@ impl<T: Drop> StableList<T> {
     }
 
     /// Removes the element of a cursor, and returns its value, or `None` if the cursor isn't in the
-    /// list.
-    pub fn remove(&mut self, cursor: DefaultKey) -> Option<T>
-        ensures value { result ≡ value_of cursor self.old }
-        ensures removed { self.new ≡ without cursor self.old }
+    /// list. The cursor is gone for good.
+    pub fn remove(&mut self, cursor: Cursor) -> Option<T>
+        ensures value { result ≡ value_of cursor self.old.elements }
+        ensures removed { self.new.elements ≡ without cursor self.old.elements }
+        ensures for_good { OnSome result (IsSpent self.new.cursors cursor) }
+        ensures gone { KeepsSpent self.old.cursors self.new.cursors }
         ensures stale { IfNone result (self.new ≡ self.old) }
     {
         let node = self.nodes.remove(cursor)?;
@@ -265,17 +296,78 @@ impl<T: Drop> StableList<T> {
         Some(node.value)
     }
 
+    /// Removes the element at the front, and returns its cursor and its value, or `None` if the list
+    /// is empty. The cursor is gone for good.
+    pub fn pop_front(&mut self) -> Option<(Cursor, T)>
+        ensures front { TakesFront self.old.elements result self.new.elements }
+        ensures for_good { IfSome result (λ element. IsSpent self.new.cursors element.0) }
+        ensures gone { KeepsSpent self.old.cursors self.new.cursors }
+        ensures empty { IfNone result (self.new ≡ self.old) }
+    {
+        let cursor = self.first?;
+        let value = self.remove(cursor)?;
+        Some((cursor, value))
+    }
+
+    /// Removes the element at the back, and returns its cursor and its value, or `None` if the list
+    /// is empty. The cursor is gone for good.
+    pub fn pop_back(&mut self) -> Option<(Cursor, T)>
+        ensures back { TakesBack self.old.elements result self.new.elements }
+        ensures for_good { IfSome result (λ element. IsSpent self.new.cursors element.0) }
+        ensures gone { KeepsSpent self.old.cursors self.new.cursors }
+        ensures empty { IfNone result (self.new ≡ self.old) }
+    {
+        let cursor = self.last?;
+        let value = self.remove(cursor)?;
+        Some((cursor, value))
+    }
+
+    /// Removes all elements. Their cursors are gone for good.
+    pub fn clear(&mut self)
+        ensures empty { self.new.elements ≡ [] }
+        ensures for_good { (k : KeyOf) → IsSome (value_of k self.old.elements) → IsSpent self.new.cursors k }
+        ensures gone { KeepsSpent self.old.cursors self.new.cursors }
+    {
+        self.nodes.clear();
+        self.first = None;
+        self.last = None;
+    }
+
+    /// Returns an iterator over the elements with their cursors, from front to back. It can be
+    /// turned round, and yields from both ends.
+    ///
+    /// It is made in constant time, and each step takes constant time.
+    ///
+    /// ```
+    /// let mut list = StableList::new(alloc)?;
+    /// let one = list.push_back(1)?;
+    /// let two = list.push_back(2)?;
+    /// let mut elements = list.iter();
+    /// assert_eq!(rt; elements.next_back(), Some((two, &2)));
+    /// assert_eq!(rt; elements.next(), Some((one, &1)));
+    /// assert_eq!(rt; elements.next(), None);
+    /// ```
+    pub fn iter(&self) -> Iter<'_, T>
+        ensures elements { result ≡ self.now.elements }
+        ensures once { IsOnce result }
+    {
+        Iter {
+            nodes: &self.nodes,
+            first: self.first,
+            last: self.last,
+            left: self.nodes.len(),
+        }
+    }
+
     /// Returns the values from front to back, in time linear in their number.
     pub fn to_vec(&self, alloc: Global) -> Result<Vec<T>, AllocError>
     where
         T: Copy,
-        ensures { IfOk result (λ values. values.items ≡ map_list (λ e. e.1) self.now) }
+        ensures { IfOk result (λ values. values.items ≡ map_list (λ e. e.1) self.now.elements) }
     {
         let mut values = Vec::new(alloc);
-        let mut at = self.first;
-        while let Some(cursor) = at {
-            values.push(*self.get(cursor).unwrap())?;
-            at = self.next(cursor);
+        for (_, value) in self {
+            values.push(*value)?;
         }
         Ok(values)
     }

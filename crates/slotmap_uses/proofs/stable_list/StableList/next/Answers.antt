@@ -3,11 +3,11 @@ use Rattle.std.specs.Option.{option_map}
 use Rattle.std.specs.FinMap as map
 use Rattle.slotmap.specs.Words.{Key, key_cmp}
 use Rattle.slotmap_uses.specs.Sequence.{key_after}
-use Rattle.slotmap_uses.proofs.Chains.{next_found, next_absent}
+use Rattle.slotmap_uses.proofs.Chains.{elements_are, next_found, next_absent}
 use Rattle.slotmap_uses.proofs.stable_list.StableList.next.Goals as goal
 
 pub returns : goal.returns
-returns g c = next_found _ _ _ _ c.args.cursor _ c.self.invariant (sym (rw c.in_ok-get.was at c.get.ensures.value)) ∙ ap (key_after c.args.cursor) c.self.view_is
+returns g c = next_found _ _ _ _ c.args.cursor _ c.self.invariant (sym (rw c.in_ok-get.was at c.get.ensures.value)) ∙ ap (key_after c.args.cursor) (elements_are c.self.view_is)
 
 pub returns-in_err-get : goal.returns-in_err-get
-returns-in_err-get g c = rw c.from_residual.ensures (next_absent _ _ _ _ c.args.cursor c.self.invariant (sym (rw c.in_err-get.was at c.get.ensures.value)) ∙ ap (key_after c.args.cursor) c.self.view_is)
+returns-in_err-get g c = rw c.from_residual.ensures (next_absent _ _ _ _ c.args.cursor c.self.invariant (sym (rw c.in_err-get.was at c.get.ensures.value)) ∙ ap (key_after c.args.cursor) (elements_are c.self.view_is))

@@ -1,9 +1,9 @@
-use Rattle.std.proofs.Common.{◌-◌, length}
-use Rattle.slotmap_uses.proofs.Walked.{Walked}
+use Rattle.std.proofs.Common.{◌≡◌, ◌++◌, map}
 use Rattle.slotmap_uses.proofs.stable_list.StableList.to_vec.Given as goal
 
-abbrev pub invariant-loop-at : goal.invariant-loop-at
-invariant-loop-at g l = Walked l.self l.at l.values.items
-
-abbrev pub decreases-loop-at : goal.decreases-loop-at
-decreases-loop-at g l = length l.self - length l.values.items
+-- the values so far, and then those of the elements that are left
+abbrev pub invariant-loop-value : goal.invariant-loop-value
+invariant-loop-value g l =
+    (goal.iterator-loop-value g).can_next l.value-iterator
+    × (goal.iterator-loop-value g).is_finite l.value-iterator
+    × (l.values.items ++ map (λ e. e.1) l.value-iterator ≡ map (λ e. e.1) l.self.elements)

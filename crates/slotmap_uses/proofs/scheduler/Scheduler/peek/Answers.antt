@@ -1,6 +1,6 @@
 use Rattle.slotmap_uses.proofs.Generic.{for_none, none_counted}
 use Rattle.slotmap_uses.proofs.Queue.{first_turn, first_later, none_queued}
-use Rattle.slotmap_uses.proofs.scheduler.Scheduler.first.Goals as goal
+use Rattle.slotmap_uses.proofs.scheduler.Scheduler.peek.Goals as goal
 
 pub returns-clause-now : goal.returns-clause-now
 returns-clause-now g c now due = rw (← c.self.view_is) (first_turn _ _ _ c.self.invariant _ _ c.in_ok-turn.ensures.value c.in_ok-turn.ensures.least now due)

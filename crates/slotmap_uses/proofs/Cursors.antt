@@ -1,0 +1,42 @@
+-- The cursors of a list, without the values: which calls keep them, and which are gone for good.
+use Rattle.std.proofs.Common.{◌≡◌, Bool, true, false, cond, Option, Some, None, is_some, Result, Ok, Err, IfOk, IsErr, OnErr, OnSome, IfNone, IfSome, refl, sym, ap, ◌∙◌, arith}
+use Rattle.std.specs.FinMap as map
+use Rattle.slotmap.specs.Words.{Key, key_cmp, Content, IsContent, IsLive, IsSpent, KeepsSpent, Inserts, Removes, Keeps, Leaves, MayGrow, StaysValid, keys_of, without_values, with_value}
+use Rattle.slotmap.proofs.Callers.{keys_total, exact_keys, keys, contains-keys_of, spent_alone, alone_spent, keeps_spent_alone, spent_finds_nothing, inserted_not_spent, spent_insert, spent_remove, remove_spent, spent_leaves, left_spent}
+
+same_units : (a b : Option (Unit {0})) → is_some a ≡ is_some b → a ≡ b
+same_units None None is = refl
+same_units None (Some y) is = absurd (cc)
+same_units (Some x) None is = absurd (cc)
+same_units (Some x) (Some y) is = refl
+
+module _ {V : Type 0} where
+  written_in : (m : map.FinMap key_cmp V) (k : Key) (v : V) → map.contains_key m k ≡ true → (q : Key) → map.contains_key (map.insert m k v) q ≡ map.contains_key m q
+  written_in m k v live q = grind (arith, keys)
+
+  keys-written : (m : map.FinMap key_cmp V) (k : Key) (v : V) → map.contains_key m k ≡ true → keys_of (map.insert m k v) ≡ keys_of m
+  keys-written m k v live = map.same_map keys_total exact_keys _ _ (λ q. same_units (map.get (keys_of (map.insert m k v)) q) (map.get (keys_of m) q)
+      (contains-keys_of (map.insert m k v) q ∙ written_in m k v live q ∙ sym (contains-keys_of m q)))
+
+  -- a value that is written under a live key changes no key
+  pub alone-written : (c : Content V) (k : Key) (v : V) → IsLive c k → without_values (with_value c k v) ≡ without_values c
+  alone-written c k v live = ap (λ (m : map.FinMap key_cmp (Unit {0})). record (without_values c) { live = m }) (keys-written c.live k v live)
+
+  -- contents with the same keys have the same live keys
+  pub same_live : (old new : Content V) → without_values new ≡ without_values old → (q : Key) → map.contains_key new.live q ≡ map.contains_key old.live q
+  same_live old new is q = sym (contains-keys_of new.live q) ∙ ap (λ (c : Content (Unit {0})). map.contains_key c.live q) is ∙ contains-keys_of old.live q
+
+  -- a key that is gone for good finds nothing
+  pub gone_finds_nothing : (c : Content V) (k : Key) → IsSpent (without_values c) k → map.get c.live k ≡ None
+  gone_finds_nothing c k spent = spent_finds_nothing c k (alone_spent c k spent)
+
+  -- what is gone for good, where a content has the keys that another one had once a call returned
+  pub gone_stays : (old mid : Content V) (new : Content (Unit {0})) → new ≡ without_values mid → KeepsSpent old mid → KeepsSpent (without_values old) new
+  gone_stays old mid new is keeps k spent = rw is (keeps_spent_alone old mid keeps k spent)
+
+  pub gone_here : (mid : Content V) (new : Content (Unit {0})) → new ≡ without_values mid → (k : Key) → IsSpent mid k → IsSpent new k
+  gone_here mid new is k spent = rw is (spent_alone mid k spent)
+
+  -- a key that is returned by an insert was not gone
+  pub new_not_gone : (old mid : Content V) → IsContent true old → (k : Key) (v : V) → Inserts old k v mid → IsSpent (without_values old) k → ⊥
+  new_not_gone old mid well k v inserts spent = inserted_not_spent old mid true well k v inserts k (alone_spent old k spent) refl
