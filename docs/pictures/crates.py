@@ -23,11 +23,13 @@ CRATES = {
     "primary_rows": (0.5, 3, "program: rows of primary maps"),
     "secondary_rows": (2.5, 3, "program: rows of secondary maps"),
     "slotmap_uses": (4.5, 3, "five structures on the maps"),
+    "slotdemo": (4.5, 4, "program: a demonstration"),
 }
 COLORS = {
     "slotmap": BLUE, "slotrun": ORANGE, "primary_rows": GREEN, "secondary_rows": RED, "slotmap_uses": BLUE,
+    "slotdemo": ORANGE,
 }
-PITCH, LEFT, TOPS = 152, 22, [478, 340, 196, 66]
+PITCH, LEFT, TOPS = 152, 22, [598, 460, 316, 186, 66]
 HEIGHT = 56
 
 
@@ -56,7 +58,7 @@ if set(uses) != set(CRATES):
 
 picture = Picture(
     1102,
-    558,
+    678,
     "The crates and which of them uses which",
     "; ".join(f"{name} uses {', '.join(sorted(others))}" for name, others in sorted(uses.items()) if others),
 )
@@ -79,7 +81,7 @@ def drop(name, to, shift, bus, color):
 
 
 # Two crates that use the same ones have a level and a shift each, so that their lines keep apart.
-LEVELS = {"slotmap": (30, -12), "slotrun": (52, 12), "primary_rows": (28, -12), "secondary_rows": (48, 12), "slotmap_uses": (38, 36)}
+LEVELS = {"slotmap": (30, -12), "slotrun": (52, 12), "primary_rows": (28, -12), "secondary_rows": (48, 12), "slotmap_uses": (38, 36), "slotdemo": (32, 0)}
 for name in uses:
     for to in sorted(uses[name], key=lambda it: CRATES[it][0]):
         if to == "slotmap_core":
