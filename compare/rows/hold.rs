@@ -199,8 +199,8 @@ impl<'t> Held<'t> {
         let Some(row) = &mut self.row else {
             return false;
         };
-        if call == "dropped" && is_run(self.kind) {
-            // (a run drops what its commands hold)
+        if matches!(call, "dropped" | "looks") && is_run(self.kind) {
+            // (a run drops what its commands hold, and here no closure looks at a value)
             self.leave_out(call);
             return false;
         }

@@ -48,7 +48,7 @@
 //!
 //! Calls in runs: `insert V`, `insert_made`, `insert_many N` of the values from 1 on, `get K`, `contains_key K`, `replace K V`,
 //! `remove K`, `retain even`, `clear`, `drain_into`, `keys_into`, `len` and `reserve N`; where keys can be detached also `detach K`
-//! and `reattach K V`.
+//! and `reattach K V`. `looks` is no command: how often the last run called `look`.
 #![tactic(auto)]
 
 mod basic;

@@ -7,7 +7,7 @@ use crate::steps::{Answer, Step, detach_command, plain_command, read_step, write
 use slotmap::{
     DefaultKey, Detaching, Primary, Reply, run, run_detaching, run_detaching_new, run_new,
 };
-use slotmap_rows::{Counts, Number, Stop, Subject, Word};
+use slotmap_rows::{Counts, Number, Stop, Subject, Word, look};
 use std::alloc::Global;
 use std::marker::PhantomData;
 
@@ -34,11 +34,6 @@ pub struct Plain;
 
 /// `run_detaching_new` and `run_detaching`.
 pub struct Detachable;
-
-// What a `Get` is shown.
-fn look(value: &Number<'_>) -> u64 {
-    value.value
-}
 
 // The commands of the steps, each of which has one.
 fn commands<C: Drop, F: FnMut(Step) -> Option<C>>(
@@ -114,7 +109,8 @@ impl<'a, M: Detaching<DefaultKey, Number<'a>>> Runner<'a, M> for Detachable {
     }
 }
 
-/// The commands of a row, and the map of its last run.
+/// The commands of a row, and the map of its last run. `looks` gives how often that run called
+/// `look`.
 #[derive(Drop)]
 pub struct Runs<'a, M, R> {
     alloc: Global,
@@ -143,8 +139,11 @@ impl<'a, M: Drop, R: Runner<'a, M>> Runs<'a, M, R> {
 
     // Runs all commands of the row on a new map, and once more in two runs: writes the last reply.
     fn run_all(&mut self, reply: &mut String) -> Result<(), Stop> {
+        self.counts.begin_looks();
         let (map, replies) = R::run_new(self.alloc, self.counts, &self.steps)?;
         write_last(reply, &replies, self.steps.len())?;
+        let looks = self.counts.looks();
+        self.counts.begin_looks();
         let (first, second) = self.steps.split_at(self.steps.len() / 2);
         let (mut other, replies) = R::run_new(self.alloc, self.counts, first)?;
         all_served(&replies)?;
@@ -154,13 +153,17 @@ impl<'a, M: Drop, R: Runner<'a, M>> Runs<'a, M, R> {
         if reply.as_str() != self.again.as_str() {
             write!(reply, " and by two runs {}", self.again)?;
         }
+        if looks != self.counts.looks() {
+            write!(reply, " and by two runs another number of looks")?;
+        }
         self.map = Some(map);
         Ok(())
     }
 
-    // Adds the commands of a call, and runs all.
+    // Adds the commands of a call, and runs all. `looks` adds none.
     fn add(&mut self, name: &str, words: Words, reply: &mut String) -> Result<(), Stop> {
         match (name, words) {
+            ("looks", Words::Nothing) => return Ok(write!(reply, "{}", self.counts.looks())?),
             ("insert_many", Words::Number(count)) => {
                 for value in 0..count {
                     self.steps.push(Step::Insert(value.wrapping_add(1)))?;

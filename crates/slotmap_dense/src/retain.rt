@@ -3,6 +3,7 @@
 ghost use Rattle.std.specs.Prelude.{◌≡◌, ◌<◌, ◌+◌, ◌++◌, ◌∷◌, [], IfSome, IfNone, OnOk, OnErr, Some, List, map as list_map, length, slice_get, reverse};
 ghost use Rattle.std.specs.FinMap as map;
 ghost use Rattle.std.specs.List.{zip};
+ghost use Rattle.std.specs.Borrow.{sem};
 ghost use Rattle.slotmap_core.specs.Transition.{Leaves, Removes};
 ghost use Rattle.slotmap_core.specs.Listing.{IsListing, IsKeyListing};
 ghost use Rattle.slotmap_core.specs.Retain.{RetainsBy, CallableOnEach};
@@ -18,6 +19,8 @@ use slotmap_core::errors::OutOfMemory;
 use slotmap_core::keys::Key;
 
 impl<K: Key, V: Drop> DenseSlotMap<K, V> {
+    ghost use Rattle.slotmap_dense.specs.Lends.{lends_value};
+
     // Takes out the last pair of the packed order, or returns `None` if no key is live.
     pub(crate) fn take_last(&mut self) -> Option<(K, V)>
         ensures takes { TakesLast K.data_of self.old result self.new }
@@ -38,6 +41,16 @@ impl<K: Key, V: Drop> DenseSlotMap<K, V> {
         ensures valid { IsDense self.now }
     {
         self.keys[position]
+    }
+
+    // Lends the value at a position of the packed order. Its key is there for the contract.
+    fn value_at(&mut self, _key: K, position: usize) -> &mut V
+        requires { slice_get self.old.keys position ≡ Some (K.data_of _key) }
+        ensures* writes_back { sem 𝓛 (lends_value K.row V.row K.Key self.entry (K.data_of _key) result) }
+        ensures value { map.get self.old.content.live (K.data_of _key) ≡ Some result.now }
+        ensures valid { IsDense self.old }
+    {
+        &mut self.values[position]
     }
 
     // Removes the key at a position of the packed order.
@@ -82,7 +95,7 @@ impl<K: Key, V: Drop> DenseSlotMap<K, V> {
         let mut position = 0;
         while position < self.len() {
             let key = self.key_at(position);
-            if f(key, self.get_unchecked_mut(key)) {
+            if f(key, self.value_at(key, position)) {
                 position += 1;
             } else {
                 self.take_at(position);

@@ -33,7 +33,7 @@ mod stop;
 mod texts;
 mod words;
 
-pub use number::{Counts, Number};
+pub use number::{Counts, Number, look};
 pub use rows::{Subject, hold};
 pub use stop::Stop;
 pub use texts::{

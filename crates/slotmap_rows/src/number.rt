@@ -3,12 +3,13 @@
 use std::alloc::AllocError;
 use std::cell::Cell;
 
-/// How many values were made, cloned and dropped.
+/// How many values were made, cloned, dropped and looked at.
 #[derive(Drop)]
 pub struct Counts {
     made: Cell<u64>,
     cloned: Cell<u64>,
     dropped: Cell<u64>,
+    looks: Cell<u64>,
 }
 
 impl Counts {
@@ -18,6 +19,7 @@ impl Counts {
             made: Cell::new(0),
             cloned: Cell::new(0),
             dropped: Cell::new(0),
+            looks: Cell::new(0),
         }
     }
 
@@ -43,12 +45,22 @@ impl Counts {
         cloned
     }
 
-    /// Returns all numbers as they are now.
+    /// Begins to count anew how often `look` is called.
+    pub fn begin_looks(&self) {
+        self.looks.set(0);
+    }
+
+    /// Returns how often `look` was called since then.
+    pub fn looks(&self) -> u64 {
+        self.looks.get()
+    }
+
+    /// Returns all numbers of values as they are now.
     pub(crate) fn seen(&self) -> [u64; 3] {
         [self.made.get(), self.cloned.get(), self.dropped.get()]
     }
 
-    /// Sets all numbers back to what `seen` returned.
+    /// Sets these numbers back to what `seen` returned.
     pub(crate) fn set_back(&self, seen: [u64; 3]) {
         self.made.set(seen[0]);
         self.cloned.set(seen[1]);
@@ -74,6 +86,12 @@ impl<'a> Number<'a> {
         count(&counts.made);
         Number { value, counts }
     }
+}
+
+/// Returns what a number is, and counts this call: what a run shows of a value.
+pub fn look(value: &Number<'_>) -> u64 {
+    count(&value.counts.looks);
+    value.value
 }
 
 impl<'a> Drop for Number<'a> {

@@ -43,14 +43,17 @@ loop-position-smaller-then-f g c = omega (arith, c.loop-position-test.true, c.le
 pub loop-position-smaller : goal.loop-position-smaller
 loop-position-smaller g c = omega (arith, c.loop-position-test.true, c.len.ensures.value, len_keys c.loop-position.self c.len.ensures.valid, c.take_at.ensures.fewer)
 
+pub value_at-requires : goal.value_at-requires
+value_at-requires g c = c.key_at-key.ensures.comes.stands
+
 pub f-requires : goal.f-requires
 f-requires g c =
     let at = c.loop-position in
     let key = g.K.Key.data_of c.key_at-key.result in
     let rest = rest_of at.position at.self.keys at.self.values in
-    let found : map.get rest key ≡ Some c.get_unchecked_mut.result.now = c.key_at-key.ensures.comes.found ∙ c.get_unchecked_mut.ensures.value in
+    let found : map.get rest key ≡ Some c.value_at.result.now = c.key_at-key.ensures.comes.found ∙ c.value_at.ensures.value in
     c.requires.at at.f c.key_at-key.result _ (record { visits = at.invariant.visits; calls = at.invariant.calls; rest = rest; listed = at.invariant.visited.listed; to_come = ap is_some found })
-    (Visits-rest g.K.Key.data_of c.args.self.now.content.live at.invariant.visits rest at.self.content.live at.invariant.visited key c.get_unchecked_mut.result.now found)
+    (Visits-rest g.K.Key.data_of c.args.self.now.content.live at.invariant.visits rest at.self.content.live at.invariant.visited key c.value_at.result.now found)
 
 pub loop-position-preserved-then-f : goal.loop-position-preserved-then-f
 loop-position-preserved-then-f g c =
@@ -59,8 +62,8 @@ loop-position-preserved-then-f g c =
     let key = g.K.Key.data_of c.key_at-key.result in
     let comes = c.key_at-key.ensures.comes in
     let rest = rest_of at.position at.self.keys at.self.values in
-    let visit : Visit g.row.K.Denot g.row.V.Denot = record { key = c.key_at-key.result; before = c.get_unchecked_mut.result.now; after = c.f.new.arg3; stays = c.f.result } in
-    let found : map.get rest key ≡ Some visit.before = comes.found ∙ c.get_unchecked_mut.ensures.value in
+    let visit : Visit g.row.K.Denot g.row.V.Denot = record { key = c.key_at-key.result; before = c.value_at.result.now; after = c.f.new.arg3; stays = c.f.result } in
+    let found : map.get rest key ≡ Some visit.before = comes.found ∙ c.value_at.ensures.value in
     let seen = Visits-call g.K.Key.data_of old.live at.invariant.visits rest at.self.content.live visit at.invariant.visited found in
     let live : cond visit.stays (map.insert at.self.content.live key visit.after) (map.remove at.self.content.live key) ≡ map.insert at.self.content.live key visit.after = ap (λ b. cond b (map.insert at.self.content.live key visit.after) (map.remove at.self.content.live key)) c.if-f.true in
     record {
@@ -82,8 +85,8 @@ loop-position-preserved g c =
     let key = g.K.Key.data_of c.key_at-key.result in
     let comes = c.key_at-key.ensures.comes in
     let rest = rest_of at.position at.self.keys at.self.values in
-    let visit : Visit g.row.K.Denot g.row.V.Denot = record { key = c.key_at-key.result; before = c.get_unchecked_mut.result.now; after = c.f.new.arg3; stays = c.f.result } in
-    let found : map.get rest key ≡ Some visit.before = comes.found ∙ c.get_unchecked_mut.ensures.value in
+    let visit : Visit g.row.K.Denot g.row.V.Denot = record { key = c.key_at-key.result; before = c.value_at.result.now; after = c.f.new.arg3; stays = c.f.result } in
+    let found : map.get rest key ≡ Some visit.before = comes.found ∙ c.value_at.ensures.value in
     let seen = Visits-call g.K.Key.data_of old.live at.invariant.visits rest at.self.content.live visit at.invariant.visited found in
     let written = with_value_of at.self key visit.after in
     let well = IsDense-with_value at.self key visit.after at.invariant.well comes.is_live in
