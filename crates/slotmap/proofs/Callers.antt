@@ -28,6 +28,7 @@ pub use Rattle.slotmap_core.proofs.Walks.{Walks, walk_start, walk_here, walk_nex
 -- a side table beside a primary map
 pub use Rattle.slotmap_core.proofs.SideTables.{beside_absent, beside_empty, beside_kept, beside_inserted, beside_removed, beside_insert, beside_put, insert_absent}
 pub use Rattle.slotmap_core.proofs.SideTables.{live_has_entry, get-put_live, get-put_other, attach_beside, attach_finds, attach_others}
+pub use Rattle.slotmap.proofs.TableLemmas.{get-bind_here, get-bind_other, beside_bound, beside_taken}
 pub use Rattle.slotmap_core.proofs.StandLemmas.{removed_gone, others_stay as get-remove_other}
 
 pub ruleset keys = (core.keys, contents_of_maps)

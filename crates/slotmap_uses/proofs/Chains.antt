@@ -5,8 +5,7 @@ use Rattle.std.specs.Ordering.{eq_by_cmp}
 use Rattle.std.specs.FinMap as map
 use Rattle.std.specs.FinMap.Entries.{find}
 use Rattle.slotmap.specs.Words.{Key, key_cmp}
-use Rattle.slotmap.proofs.Callers.{keys_total, exact_keys}
-use Rattle.slotmap_uses.proofs.Generic.{tied, untied, itself, len_removed, still_in, left_in}
+use Rattle.slotmap.proofs.Callers.{keys_total, exact_keys, tied, untied, itself, len_removed, still_in, left_in}
 use Rattle.slotmap_uses.specs.declared.stable_list.Node.{Node}
 use Rattle.slotmap_uses.specs.Sequence.{Sequence, value_of, first_or, last_or, key_after, key_before, put_after, put_before, without, IsOnce, IsGap, PutsBetween}
 use Rattle.slotmap_uses.specs.Chain.{Nodes, follow_node, follow_key, follow, node_at, IsChain, with_next, with_prev, with_next_of, with_prev_of, outer}
@@ -429,7 +428,7 @@ module _ {T : Type 0} where
             ∙ relink ys zs (λ _. None) (Some k) (first_or zs None) (Some k) (last_or ys None) (map.get (map.remove nodes k)) once (λ _ _. refl) (λ _ _. refl) removed q
             ∙ sym (node_at-append None None ys zs q);
         once = once;
-        count = length-append ys zs ∙ (let e = length-append ys ((k, v) ∷ zs) in let c = chain.count in let r = len_removed nodes k (ap is_some found) in omega arith)
+        count = length-append ys zs ∙ (let e = length-append ys ((k, v) ∷ zs) in let c = chain.count in let r = len_removed keys_total exact_keys nodes k (ap is_some found) in omega arith)
             ∙ sym (len-with_prev (with_next (map.remove nodes k) (last_or ys None) (first_or zs None)) (first_or zs None) (last_or ys None) ∙ len-with_next (map.remove nodes k) (last_or ys None) (first_or zs None));
         first_is = outer_first ys ((k, v) ∷ zs) zs first chain.first_is;
         last_is = outer_last zs (ys ++ (k, v) ∷ []) last (last_or ys None) (chain.last_is ∙ ap (λ l. last_or l None) (sym (append_assoc ys ((k, v) ∷ []) zs))) ∙ sym (last_or-append ys zs None);
@@ -448,7 +447,7 @@ module _ {T : Type 0} where
     where
       by : (o : Option (Node T)) → map.contains_key (with_next_of nodes k o next) q ≡ true
       by None = there
-      by (Some node) = still_in nodes k (to_next next node) q there
+      by (Some node) = still_in keys_total exact_keys nodes k (to_next next node) q there
 
   stands_in : (nodes : Nodes T) (first last : Option Key) (xs : List (Key × T)) (q : Key) (v : T) → IsChain nodes first last xs → value_of q xs ≡ Some v → map.contains_key nodes q ≡ true
   stands_in nodes first last xs q v chain there = by (map.get nodes q) (value_found nodes first last xs q chain ∙ there)
@@ -491,7 +490,7 @@ module _ {T : Type 0} where
       let s = split_at nodes first last xs k node chain found in
       let end = sym s.prev ∙ is in
       let there = last_stands s.before l end in
-      left_in nodes k l
+      left_in keys_total exact_keys nodes k l
       (λ e. let none = s.absent in let some = there.1 in let same_value : value_of l s.before ≡ value_of k s.before = ap (λ j. value_of j s.before) e in absurd (cc))
       (prev_stands nodes first last s.before ((k, node.value) ∷ s.after) (subst (IsChain nodes first last) s.list chain) l end)
 
@@ -503,7 +502,7 @@ module _ {T : Type 0} where
       let chain' = subst (IsChain nodes first last) s.list chain in
       let after = (once_right s.before ((k, node.value) ∷ s.after) chain'.once).0 in
       let other : b ≢ k = (λ e. let none = after in let some = there.1 in let same_value : value_of b s.after ≡ value_of k s.after = ap (λ j. value_of j s.after) e in absurd (cc)) in
-      left_in nodes k b other
+      left_in keys_total exact_keys nodes k b other
       (stands_in nodes first last (s.before ++ (k, node.value) ∷ s.after) b there.0 chain'
       (in_right s.before ((k, node.value) ∷ s.after) b there.0 chain'.once (ap (λ t. cond t (Some node.value) (value_of b s.after)) (other_key b k other) ∙ there.1)))
 
@@ -562,7 +561,7 @@ module _ {T : Type 0} where
   without_absent nodes first last xs k chain none = without_none xs k (sym (value_found nodes first last xs k chain) ∙ ap (option_map (λ n. n.value)) none)
 
   pub stands-insert : (nodes : Nodes T) (k : Key) (node : Node T) (q : Key) → map.contains_key nodes q ≡ true → map.contains_key (map.insert nodes k node) q ≡ true
-  stands-insert nodes k node q there = still_in nodes k node q there
+  stands-insert nodes k node q there = still_in keys_total exact_keys nodes k node q there
 
   -- between which neighbours an element stands
   pub gap_last : (xs : List (Key × T)) (last : Option Key) → last ≡ last_or xs None → IsGap xs last None

@@ -2,10 +2,9 @@
 use Rattle.std.proofs.Common.{◌≡◌, ◌≢◌, ℕ, zero, suc, ◌+◌, ◌≤◌, ◌<◌, ◌↔◌, ◌⊎◌, Bool, true, false, Option, Some, None, Result, Ok, Err, IfOk, OnErr, is_some, refl, sym, ap, subst, ◌∙◌, inl, inr, arith}
 use Rattle.std.specs.FinMap as map
 use Rattle.slotmap.specs.Words.{Key, key_cmp}
-use Rattle.slotmap.proofs.Callers.{keys, same_or_other}
+use Rattle.slotmap.proofs.Callers.{keys, same_or_other, keys_total, exact_keys, left_in, len_removed, some_entry}
 use Rattle.slotmap_uses.specs.declared.scene.Node.{Node}
 use Rattle.slotmap_uses.specs.Climb.{Nodes, has_node, lacks_node, parent_in, parent_of, Leads, IsTree, StepsTo, IsWithin, with_parent, with_parent_in}
-use Rattle.slotmap_uses.proofs.Generic.{left_in, len_removed, some_entry}
 
 module _ {T : Type 0} where
   leads_live : (nodes : Nodes T) (n : ℕ) (k : Key) → Leads nodes n k → has_node nodes k
@@ -27,14 +26,14 @@ module _ {T : Type 0} where
   OnWay nodes m n k = (q : Key) (i : ℕ) → i ≤ n → Leads nodes i q → (j : ℕ) → StepsTo nodes j k q → i + j ≡ n → has_node m q
 
   short_in : (nodes m : Nodes T) (n : ℕ) (k : Key) → Leads nodes n k → OnWay nodes m n k → n + 1 ≤ map.len m
-  short_in nodes m zero k leads on = some_entry m k (on k zero (omega arith) leads zero refl refl)
+  short_in nodes m zero k leads on = some_entry keys_total exact_keys m k (on k zero (omega arith) leads zero refl refl)
   short_in nodes m (suc n) k leads on =
       let here : has_node m k = on k (suc n) (omega arith) leads zero refl (omega arith) in
       let less = short_in nodes (map.remove m k) n leads.0 leads.1.2 (λ q i le up j steps sum.
       let there : has_node m q = on q i (omega arith) up (suc j) (leads.0, (leads.1.1, steps)) (omega arith) in
       let other : q ≢ k = λ same. (let e = one_way nodes i (suc n) k (subst (Leads nodes i) same up) leads in omega arith) in
-      left_in m k q other there) in
-      let all = len_removed m k here in
+      left_in keys_total exact_keys m k q other there) in
+      let all = len_removed keys_total exact_keys m k here in
       omega arith
 
   pub short : (nodes : Nodes T) (n : ℕ) (k : Key) → Leads nodes n k → n < map.len nodes

@@ -2,7 +2,6 @@ pub mod Adjacent
 pub mod Chains
 pub mod Climbs
 pub mod Cursors
-pub mod Generic
 pub mod GraphSteps
 pub mod Iterated
 pub mod LeadLemmas
@@ -10,7 +9,7 @@ pub mod Looks
 pub mod Moves
 pub mod Pops
 pub mod Queue
+pub mod Results
 pub mod Search
-pub mod Tables
 pub mod Thinned
 pub mod Written

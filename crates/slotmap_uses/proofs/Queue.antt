@@ -1,23 +1,35 @@
 -- What a change of the jobs and of the queue does to a scheduler.
-use Rattle.std.proofs.Common.{◌≡◌, ◌≢◌, ℕ, ◌+◌, ◌<◌, ◌≤◌, false, Option, Some, None, is_some, IsSome, Result, Ok, Err, OnOk, OnErr, List, [], ◌∷◌, length, refl, sym, ap, ◌∙◌, inl, inr, arith}
-use Rattle.std.specs.Ordering.{nat_cmp, is_gt}
+use Rattle.std.proofs.Common.{◌≡◌, ◌≢◌, ℕ, ◌+◌, ◌<◌, ◌≤◌, true, false, Option, Some, None, is_some, IsSome, Result, Ok, Err, OnOk, OnErr, List, [], ◌∷◌, length, refl, sym, ap, ◌∙◌, inl, inr, arith}
+use Rattle.std.specs.declared.cmp.Ordering.{Ordering}
+use Rattle.std.specs.Ordering.{nat_cmp, is_gt, eq_by_cmp}
 use Rattle.std.specs.Cmp.{IsTotalOrder, nat_cmp_total}
 use Rattle.std.specs.FinMap as map
+use Rattle.std.specs.BTreeMap as tree
 use Rattle.std.specs.BTreeMap.{BTreeMap, get, Updates, IsLowerBound}
 use Rattle.std.proofs.lemmas.Cmp.{on_total, then_total}
 use Rattle.std.proofs.lemmas.Bool.Decides.{nat_tests}
 use Rattle.std.proofs.lemmas.Map.Lookups.{CmpEqualImpliesEq, exact_pairs, exact_unsigned}
 use Rattle.slotmap.specs.Words.{Key}
-use Rattle.slotmap.proofs.Callers.{keys}
+use Rattle.slotmap.proofs.Callers.{keys, keys_total, exact_keys, tied, alike_or_apart, get_after_insert, get_after_remove}
 use Rattle.slotmap_uses.specs.declared.scheduler.Job.{Job}
 use Rattle.slotmap_uses.specs.Schedule.{Turn, turn_cmp, IsUpTo, Jobs, IsQueue, IsNext, NoneDue}
-use Rattle.slotmap_uses.proofs.Generic.{alike_or_apart, tree_here, tree_other, get_after_insert, get_after_remove}
 
 exact_turns : CmpEqualImpliesEq turn_cmp
 exact_turns = exact_pairs nat_cmp nat_cmp exact_unsigned exact_unsigned
 
 turns_total : IsTotalOrder turn_cmp
 turns_total = then_total (on_total (λ (t : Turn). t.0) nat_cmp_total) (on_total (λ (t : Turn). t.1) nat_cmp_total)
+
+-- a tree map after one key got a value, or lost its own
+module _ {K X : Type 0} {R : K → K → Ordering} (total : IsTotalOrder R) (exact : CmpEqualImpliesEq R) (old new : tree.BTreeMap K X) (k : K) (w : Option X) (updates : tree.Updates R old new k w) where
+  tree_here : tree.get R new k ≡ w
+  tree_here = updates.1
+
+  tree_other : (q : K) → q ≢ k → tree.get R new q ≡ tree.get R old q
+  tree_other q other = elim (eq_by_cmp R k q) as (λ b. eq_by_cmp R k q ≡ b → tree.get R new q ≡ tree.get R old q) [
+    | true ↦ λ same. absurd (other (sym (tied total exact k q same)))
+    | false ↦ λ apart. updates.2 q apart
+  ] refl
 
 up_to : (a b : Turn) → is_gt (turn_cmp a b) ≡ false → IsUpTo a b
 up_to a b h = grind (arith, nat_tests)
@@ -82,7 +94,7 @@ module _ {T : Type 0} where
         → get turn_cmp new (time, count) ≡ Some k → ((t : Turn) → t ≢ (time, count) → get turn_cmp new t ≡ get turn_cmp old t)
         → IsQueue (map.insert jobs k (record { turn = (time, count); job = job })) (count + 1) new
     queue_with new k time job fresh at others = record {
-      queued = λ q j found. elim (get_after_insert jobs k _ q j found) [
+      queued = λ q j found. elim (get_after_insert keys_total exact_keys jobs k _ q j found) [
         | inl here ↦ rw (here.0, here.1) at
         | inr there ↦ others j.turn (other_number j.turn (time, count) (is.numbered q j there.1)) ∙ is.queued q j there.1
       ];
@@ -92,7 +104,7 @@ module _ {T : Type 0} where
             let w = is.waits t q before in
             (w.0, insert_other q _ w.1))
       ];
-      numbered = λ q j found. elim (get_after_insert jobs k _ q j found) [
+      numbered = λ q j found. elim (get_after_insert keys_total exact_keys jobs k _ q j found) [
         | inl here ↦ (let e = ap (λ (x : Job T). x.turn.1) here.1 in omega arith)
         | inr there ↦ (let less = is.numbered q j there.1 in omega arith)
       ];
@@ -125,7 +137,7 @@ module _ {T : Type 0} where
       -- a job is taken out, and its turn too
       pub queue_removed : (new : BTreeMap Turn Key) → Updates turn_cmp old new j.turn None → IsQueue (map.remove jobs k) count new
       queue_removed new updates = record {
-        queued = λ q i found. (let left = get_after_remove jobs k q i found in
+        queued = λ q i found. (let left = get_after_remove keys_total exact_keys jobs k q i found in
             tree_other turns_total exact_turns old new j.turn None updates i.turn (λ same. left.0 (one_turn k q j i at left.1 same)) ∙ is.queued q i left.1);
         waits = λ t q found. elim (alike_or_apart turns_total exact_turns t j.turn) [
           | inl here ↦ absurd (let h = sym (tree_here turns_total exact_turns old new j.turn None updates) ∙ rw here at found in cc)
@@ -134,14 +146,14 @@ module _ {T : Type 0} where
               let other : q ≢ k = λ same. there (one_handle k j t at (rw same at before)) in
               (w.0, grind (arith, keys)))
         ];
-        numbered = λ q i found. is.numbered q i (get_after_remove jobs k q i found).1;
+        numbered = λ q i found. is.numbered q i (get_after_remove keys_total exact_keys jobs k q i found).1;
       }
 
       -- a job gets a turn after all others: the new one is put into the queue, and then the old one is taken out
       pub queue_moved : (mid new : BTreeMap Turn Key) (time : ℕ) → Updates turn_cmp old mid (time, count) (Some k) → Updates turn_cmp mid new j.turn None
           → IsQueue (map.insert jobs k (record { turn = (time, count); job = j.job })) (count + 1) new
       queue_moved mid new time puts takes = record {
-        queued = λ q i found. elim (get_after_insert jobs k _ q i found) [
+        queued = λ q i found. elim (get_after_insert keys_total exact_keys jobs k _ q i found) [
           | inl here ↦ rw (here.0, here.1) (tree_other turns_total exact_turns mid new j.turn None takes (time, count) (λ same. older (sym same)) ∙ tree_here turns_total exact_turns old mid (time, count) (Some k) puts)
           | inr there ↦ kept i.turn (λ same. there.0 (one_turn k q j i at there.1 same)) (other_number i.turn (time, count) (is.numbered q i there.1)) ∙ is.queued q i there.1
         ];
@@ -159,7 +171,7 @@ module _ {T : Type 0} where
                 (w.0, grind (arith, keys)))
           ]
         ];
-        numbered = λ q i found. elim (get_after_insert jobs k _ q i found) [
+        numbered = λ q i found. elim (get_after_insert keys_total exact_keys jobs k _ q i found) [
           | inl here ↦ (let e = ap (λ (x : Job T). x.turn.1) here.1 in omega arith)
           | inr there ↦ (let less = is.numbered q i there.1 in omega arith)
         ];

@@ -1,5 +1,5 @@
 use Rattle.slotmap.proofs.Callers.{removed_gone, get-remove_other}
-use Rattle.slotmap_uses.proofs.Tables.{beside_taken}
+use Rattle.slotmap.proofs.Callers.{beside_taken}
 use Rattle.slotmap_uses.proofs.entities.World.detach_position.Goals as goal
 
 pub invariant_of-self : goal.invariant_of-self

@@ -1,5 +1,5 @@
 use Rattle.std.proofs.Common.{sym}
-use Rattle.slotmap_uses.proofs.Tables.{beside_bound, get-bind_here, get-bind_other}
+use Rattle.slotmap.proofs.Callers.{beside_bound, get-bind_here, get-bind_other}
 use Rattle.slotmap_uses.proofs.entities.World.move_to.Goals as goal
 
 pub invariant_of-self-2 : goal.invariant_of-self-2

@@ -1,4 +1,4 @@
-use Rattle.slotmap_uses.proofs.Tables.{get-bind_here, get-bind_other}
+use Rattle.slotmap.proofs.Callers.{get-bind_here, get-bind_other}
 use Rattle.slotmap_uses.proofs.Adjacent.{ok_pushed}
 use Rattle.slotmap_uses.proofs.graph.lists.link.Goals as goal
 

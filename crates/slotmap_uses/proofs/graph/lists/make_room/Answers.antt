@@ -1,5 +1,5 @@
 use Rattle.std.proofs.Common.{◌∙◌, sym, ap}
-use Rattle.slotmap_uses.proofs.Tables.{get-bind_here, get-bind_other}
+use Rattle.slotmap.proofs.Callers.{get-bind_here, get-bind_other}
 use Rattle.slotmap_uses.proofs.Adjacent.{ok_less}
 use Rattle.slotmap_uses.specs.GraphParts.{list_in}
 use Rattle.slotmap_uses.proofs.graph.lists.make_room.Goals as goal

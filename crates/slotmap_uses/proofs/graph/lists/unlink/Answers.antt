@@ -1,5 +1,5 @@
 use Rattle.std.proofs.Common.{sym}
-use Rattle.slotmap_uses.proofs.Tables.{get-bind_here, get-bind_other}
+use Rattle.slotmap.proofs.Callers.{get-bind_here, get-bind_other}
 use Rattle.slotmap_uses.proofs.graph.lists.unlink.Goals as goal
 
 pub returns-in-Some-clause-takes : goal.returns-in-Some-clause-takes

@@ -1,4 +1,4 @@
-use Rattle.slotmap_uses.proofs.Generic.{for_none, none_counted}
+use Rattle.slotmap_uses.proofs.Results.{for_none, none_counted}
 use Rattle.slotmap_uses.proofs.Queue.{first_turn, first_later, none_queued}
 use Rattle.slotmap_uses.proofs.scheduler.Scheduler.peek.Goals as goal
 

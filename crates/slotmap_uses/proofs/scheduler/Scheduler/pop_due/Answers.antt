@@ -1,4 +1,4 @@
-use Rattle.slotmap_uses.proofs.Generic.{for_none}
+use Rattle.slotmap_uses.proofs.Results.{for_none}
 use Rattle.slotmap_uses.proofs.scheduler.Scheduler.pop_due.Goals as goal
 
 pub returns-in_err-time-clause-none : goal.returns-in_err-time-clause-none

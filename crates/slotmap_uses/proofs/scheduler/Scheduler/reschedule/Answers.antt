@@ -1,6 +1,6 @@
 use Rattle.std.proofs.Common.{◌≡◌, sym, ap, ◌∙◌, is_some}
 use Rattle.slotmap.proofs.Callers.{spent_with_value}
-use Rattle.slotmap_uses.proofs.Generic.{at_ok}
+use Rattle.slotmap_uses.proofs.Results.{at_ok}
 use Rattle.slotmap_uses.proofs.Queue.{queue_moved}
 use Rattle.slotmap_uses.proofs.scheduler.Scheduler.reschedule.Goals as goal
 

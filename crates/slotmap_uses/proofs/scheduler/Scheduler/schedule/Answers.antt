@@ -1,6 +1,6 @@
 use Rattle.std.proofs.Common.{true, refl, sym, ◌∙◌}
 use Rattle.slotmap.proofs.Callers.{spent_inserts, inserted_fresh}
-use Rattle.slotmap_uses.proofs.Generic.{at_err, at_ok}
+use Rattle.slotmap_uses.proofs.Results.{at_err, at_ok}
 use Rattle.slotmap_uses.proofs.Queue.{queue_same, queue_scheduled, queued_again, queue_undone}
 use Rattle.slotmap_uses.proofs.scheduler.Scheduler.schedule.Goals as goal
 

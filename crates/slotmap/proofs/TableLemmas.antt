@@ -1,8 +1,10 @@
--- Side tables beside the entities: what a call that changes one table alone does to it.
+-- What a call that changes one side table alone does to it: the value of one key, or its removal.
 use Rattle.std.proofs.Common.{◌≡◌, ◌≢◌, ℕ, Option, Some, None, is_some, inl, inr, ◌⊎◌, refl, sym, ap, ◌∙◌, arith}
 use Rattle.std.proofs.lemmas.Bool.Decides.{nat_tests}
 use Rattle.slotmap.specs.Words.{Key, Content, IsBeside, Pairs, get, bind, remove}
-use Rattle.slotmap.proofs.Callers.{same_or_other, secondary, get-remove_other, removed_gone}
+use Rattle.slotmap_core.proofs.KeyLemmas.{same_or_other}
+use Rattle.slotmap_core.proofs.SecondaryCallers.{secondary}
+use Rattle.slotmap_core.proofs.StandLemmas.{removed_gone, others_stay as get-remove_other}
 
 by_index : (i j : ℕ) → (i ≡ j) ⊎ (i ≢ j)
 by_index i j = elim (same_or_other (record { index = i; version = 0 }) (record { index = j; version = 0 })) [
