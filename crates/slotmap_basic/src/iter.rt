@@ -1,8 +1,9 @@
 //! Iterators over the keys and values of a map, by ascending index.
 
-ghost use Rattle.std.specs.Prelude.{◌≡◌, ◌≤◌, length, Some, IfSome, ⊤};
+ghost use Rattle.std.specs.Prelude.{◌≡◌, ◌≤◌, length, Some, IfSome, ⊤, true};
 ghost use Rattle.std.specs.Iterator.{YieldsFirstBy, item_count, at_most, UpTo};
 ghost use Rattle.std.specs.FinMap as map;
+ghost use Rattle.slotmap_core.specs.Content.{IsContent};
 ghost use Rattle.slotmap_core.specs.Listing.{IsListing, IsKeyListing, IsValueListing};
 
 use crate::SlotMap;
@@ -264,7 +265,9 @@ impl<K: Key, V> SlotMap<K, V> {
     pub fn iter(&self) -> Iter<'_, K, V>
         ensures listing { IsListing self.now.live result }
         ensures in_order { result ≡ map.entries self.now.live }
+        ensures valid { IsContent true self.now }
     {
+        self.slots.note_valid();
         Iter {
             pairs: self.slots.iter(),
             key_type: PhantomData,
@@ -284,6 +287,7 @@ impl<K: Key, V> SlotMap<K, V> {
     pub fn keys(&self) -> Keys<'_, K, V>
         ensures listing { IsKeyListing self.now.live result }
         ensures in_order { result ≡ map.keys self.now.live }
+        ensures valid { IsContent true self.now }
     {
         Keys { pairs: self.iter() }
     }
@@ -301,6 +305,7 @@ impl<K: Key, V> SlotMap<K, V> {
     pub fn values(&self) -> Values<'_, K, V>
         ensures listing { IsValueListing self.now.live result }
         ensures in_order { result ≡ map.values self.now.live }
+        ensures valid { IsContent true self.now }
     {
         Values { pairs: self.iter() }
     }

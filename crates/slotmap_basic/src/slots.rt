@@ -1,6 +1,7 @@
 //! Lists of slots: a map written out, and a map read back.
 
 ghost use Rattle.std.specs.Prelude.{◌≡◌, IfOk, IsOk, IfErr, true, Some};
+ghost use Rattle.slotmap_core.specs.Content.{IsContent};
 ghost use Rattle.slotmap_core.specs.Contents.{contents, start_stack};
 ghost use Rattle.slotmap_core.specs.ListRead.{ReadsAs};
 ghost use Rattle.slotmap_core.specs.Slots.{Accepts, RefusesStart};
@@ -38,7 +39,9 @@ impl<K: Key, V: Drop> SlotMap<K, V> {
         requires { (x y : V) → V.is_clone x y → y ≡ x }
         ensures writes { IfOk result (λ slots. Writes self.now slots.items) }
         ensures contents { IfOk result (λ slots. contents slots.items ≡ self.now.live) }
+        ensures valid { IsContent true self.now }
     {
+        self.slots.note_valid();
         self.slots.to_slots()
     }
 
