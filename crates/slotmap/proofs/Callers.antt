@@ -18,7 +18,7 @@ pub use Rattle.slotmap_core.proofs.SpentLemmas.{spent_removes, spent_remove, rem
 pub use Rattle.slotmap_core.proofs.SpentLemmas.{spent_leaves, left_spent, spent_keeps, spent_with_value, spent_with_values}
 pub use Rattle.slotmap_core.proofs.SpentLemmas.{spent_detach, spent_detaches, spent_reattaches, spent_copy, spent_restores, forgotten_spent}
 -- the same facts of a content by the records of a `DenseSlotMap` and of a `HopSlotMap`
-pub use Rattle.slotmap.proofs.MapContents.{if_none, on_err, of_some, some_copied}
+pub use Rattle.slotmap.proofs.MapContents.{if_none, on_err, of_some, some_copied, insert_undone}
 pub use Rattle.slotmap.proofs.MapContents.{dense_well, dense_stays, dense_grows, hop_well, hop_stays, hop_grows}
 pub use Rattle.slotmap.proofs.MapSpent.{spent_insert-dense, insert_not_spent-dense, spent_remove-dense, live_remove_spent-dense, remove_spent-dense, spent_detach-dense}
 pub use Rattle.slotmap.proofs.MapSpent.{spent_insert-hop, insert_not_spent-hop, spent_remove-hop, live_remove_spent-hop, remove_spent-hop}

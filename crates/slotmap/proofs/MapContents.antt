@@ -1,10 +1,10 @@
 -- Callers of a `DenseSlotMap` or a `HopSlotMap`: what the records of these maps say of the content, in the words that the
 -- lemmas over contents take.
-use Rattle.std.proofs.Common.{◌≡◌, ◌+◌, true, false, Option, Some, None, is_some, IsSome, OnSome, IfNone, Result, Ok, Err, IsErr, OnErr, Bor, option_copied, refl, ap}
+use Rattle.std.proofs.Common.{◌≡◌, ◌+◌, ◌∙◌, arith, Bool, true, false, Option, Some, None, is_some, IsSome, OnSome, IfNone, Result, Ok, Err, IsErr, OnErr, Bor, option_copied, refl, ap}
 use Rattle.std.specs.FinMap as map
 use Rattle.std.specs.FinSet as set
-use Rattle.slotmap_core.proofs.Callers.{inserted_fresh, inserted_len, not_detached-grows}
-use Rattle.slotmap.specs.Words.{Key, IsContent, IsLive, Inserts, Keeps, StaysValid, MayGrow, Dense, IsDense, StaysDense, GrowsDense, HopContent, IsHopContent, StaysHop, GrowsHop}
+use Rattle.slotmap_core.proofs.Callers.{keys, inserted_fresh, inserted_len, not_detached-grows}
+use Rattle.slotmap.specs.Words.{Key, key_cmp, Content, IsContent, IsLive, Inserts, Keeps, StaysValid, MayGrow, Dense, IsDense, StaysDense, GrowsDense, HopContent, IsHopContent, StaysHop, GrowsHop}
 
 -- an equation that holds of an absent result or of an error, seen through a function: of a map's content, or of its pairs
 pub if_none : {X A B : Type 0} (a b : A) (f : A → B) (o : Option X) → IfNone o (a ≡ b) → IfNone o (f a ≡ f b)
@@ -51,6 +51,14 @@ module _ {V : Type 0} where
       | Err e ↦ λ same err. same
     ] unchanged;
   }
+
+  -- an insert whose key is removed again leaves the entries as they were
+  pub insert_undone : (reuses : Bool) (old new : Content V) (k : Key) (v : V) (live : map.FinMap key_cmp V) → IsContent reuses old → Inserts old k v new
+      → live ≡ map.remove new.live k → live ≡ old.live
+  insert_undone reuses old new k v live well inserts removed =
+      let fresh = inserted_fresh reuses old k v new well inserts in
+      let undone : map.remove (map.insert old.live k v) k ≡ old.live = grind (arith, keys) in
+      removed ∙ ap (λ m. map.remove m k) inserts.live ∙ undone
 
   -- for tactics: what an insert into such a map says of its key, and of how many keys there are
   module _ (old : Dense V) (k : Key) (v : V) (new : Dense V) where

@@ -1,10 +1,10 @@
 //! Iterators that skip vacant slots, and how many slots they read.
 
-ghost use Rattle.std.specs.Prelude.{◌≡◌, ◌≢◌, ◌+◌, ◌*◌, ◌≤◌, ◌%◌, ◌==◌, IfOk, OnOk, IfSome, IfNone, Some, None, if◌then◌else◌};
+ghost use Rattle.std.specs.Prelude.{◌≡◌, ◌≢◌, ◌+◌, ◌*◌, ◌≤◌, ◌%◌, ◌==◌, IfOk, OnOk, IfErr, IfSome, IfNone, Some, None, if◌then◌else◌};
 ghost use Rattle.std.specs.Option.{option_and_then};
 ghost use Rattle.std.specs.FinMap as map;
 ghost use Rattle.std.specs.FinSet as set;
-ghost use Rattle.slotmap.specs.Words.{Key as KeyOf, IsLive, IsSpent, blocks_without, hop_with_value};
+ghost use Rattle.slotmap.specs.Words.{Key as KeyOf, IsLive, IsSpent, Refuses, blocks_without, hop_with_value};
 
 use slotmap::{DefaultKey, HopSlotMap, InsertError, Key};
 
@@ -52,6 +52,19 @@ pub fn store_two<K: Key>(store: &mut HopSlotMap<K, u32>) -> Result<(K, K), Inser
     let first = store.insert(1)?;
     let second = store.insert(2)?;
     Ok((first, second))
+}
+
+/// Inserts a value, and removes its key again.
+pub fn push_pop<K: Key>(
+    store: &mut HopSlotMap<K, u64>,
+    value: u64,
+) -> Result<Option<u64>, InsertError<u64>>
+    ensures ok { IfOk result (λ back. back ≡ Some value) }
+    ensures err { IfErr result (λ error. Refuses store.old.content value error) }
+    ensures live { store.new.content.live ≡ store.old.content.live }
+{
+    let key = store.insert(value)?;
+    Ok(store.remove(key))
 }
 
 /// Sets the value of a key, and returns whether the key is live.

@@ -1,10 +1,10 @@
 //! Values packed in one vector: what the slices of a dense map are good for, and the calls that all
 //! maps have.
 
-ghost use Rattle.std.specs.Prelude.{◌≡◌, ◌≢◌, ◌+◌, ◌++◌, ◌∷◌, [], ◌%◌, ◌==◌, IfOk, OnOk, Some, None, if◌then◌else◌};
+ghost use Rattle.std.specs.Prelude.{◌≡◌, ◌≢◌, ◌+◌, ◌++◌, ◌∷◌, [], ◌%◌, ◌==◌, IfOk, OnOk, IfErr, Some, None, if◌then◌else◌};
 ghost use Rattle.std.specs.Option.{option_and_then};
 ghost use Rattle.std.specs.FinMap as map;
-ghost use Rattle.slotmap.specs.Words.{Key as KeyOf, IsLive, IsSpent, with_value_of};
+ghost use Rattle.slotmap.specs.Words.{Key as KeyOf, IsLive, IsSpent, Refuses, with_value_of};
 
 use slotmap::{DefaultKey, DenseSlotMap, InsertError, Key};
 
@@ -49,6 +49,19 @@ pub fn append_two<K: Key>(store: &mut DenseSlotMap<K, u32>) -> Result<(K, K), In
     let first = store.insert(1)?;
     let second = store.insert(2)?;
     Ok((first, second))
+}
+
+/// Inserts a value, and removes its key again.
+pub fn push_pop<K: Key>(
+    store: &mut DenseSlotMap<K, u64>,
+    value: u64,
+) -> Result<Option<u64>, InsertError<u64>>
+    ensures ok { IfOk result (λ back. back ≡ Some value) }
+    ensures err { IfErr result (λ error. Refuses store.old.content value error) }
+    ensures live { store.new.content.live ≡ store.old.content.live }
+{
+    let key = store.insert(value)?;
+    Ok(store.remove(key))
 }
 
 /// Sets the value of a key, and returns whether the key is live.
