@@ -7,7 +7,7 @@ use Rattle.slotmap_uses.specs.declared.scene.Node.{Node}
 use Rattle.slotmap_uses.specs.Climb.{Nodes, has_node, lacks_node, parent_in, parent_of, Leads, IsTree, StepsTo, IsWithin, with_parent, with_parent_in}
 
 module _ {T : Type 0} where
-  leads_live : (nodes : Nodes T) (n : ℕ) (k : Key) → Leads nodes n k → has_node nodes k
+  pub leads_live : (nodes : Nodes T) (n : ℕ) (k : Key) → Leads nodes n k → has_node nodes k
   leads_live nodes zero k leads = leads.0
   leads_live nodes (suc n) k leads = leads.1.0
 

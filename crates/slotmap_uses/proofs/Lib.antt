@@ -12,4 +12,5 @@ pub mod Queue
 pub mod Results
 pub mod Search
 pub mod Thinned
+pub mod Worlds
 pub mod Written

@@ -8,3 +8,5 @@ pub mod Registry
 pub mod Schedule
 pub mod Sequence
 pub mod World
+pub mod WorldOffset
+pub mod WorldValues

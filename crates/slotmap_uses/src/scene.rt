@@ -28,6 +28,8 @@ use std::alloc::Global;
 use std::marker::Model;
 use thiserror::Error;
 
+pub mod world;
+
 /// A node: its value, and the key of its parent. A root has none.
 #[derive(Debug, Drop)]
 pub struct Node<T> {

@@ -1,0 +1,165 @@
+-- What a fold of the values on the way up comes to.
+use Rattle.std.proofs.Common.{zero, suc, inl, inr, ◌≡◌, ◌≢◌, List, [], ◌∷◌, Option, Some, None, true, false, is_some, IfSome, IfNone, refl, sym, ap, subst, ◌∙◌, option_map, arith}
+use Rattle.std.specs.Fn.{Mut, Called}
+use Rattle.std.specs.Borrow.{Bor}
+use Rattle.std.specs.List.{FoldsTo, fold}
+use Rattle.std.specs.FinMap as map
+use Rattle.slotmap.specs.Words.{Key}
+use Rattle.slotmap.proofs.Callers.{keys, same_or_other}
+use Rattle.slotmap_uses.specs.declared.scene.Node.{Node}
+use Rattle.slotmap_uses.specs.Climb.{Nodes, has_node, lacks_node, parent_of, parent_in, IsTree, IsWithin, with_parent, with_parent_in}
+use Rattle.slotmap_uses.proofs.Climbs.{next_up, leads_live}
+use Rattle.slotmap_uses.specs.WorldValues.{value_of, IsPathFrom, IsPathUp, world_along, IsWorld, CallsAt, FoldsUp}
+
+module _ {T : Type 0} (nodes : Nodes T) where
+  -- the node at k, in front of a path from its parent
+  pub path_step : (k : Key) (node : Node T) → map.get nodes k ≡ Some node → (above : List T) → IsPathFrom nodes node.parent above → IsPathUp nodes k (node.value ∷ above)
+  path_step k node there above path = (ap (option_map (λ n. n.value)) there, subst (λ p. IsPathFrom nodes p above) (sym (ap parent_in there)) path)
+
+  -- a path goes up from a node that is there
+  path_live : (k : Key) (values : List T) → IsPathUp nodes k values → has_node nodes k
+  path_live k [] path = absurd path
+  path_live k (v ∷ above) path = found (map.get nodes k) path.0
+    where
+      found : (node : Option (Node T)) → option_map (λ n. n.value) node ≡ Some v → is_some node ≡ true
+      found None is = absurd (cc)
+      found (Some node) is = refl
+
+  -- there is one path
+  pub one_path : (p : Option Key) (a b : List T) → IsPathFrom nodes p a → IsPathFrom nodes p b → a ≡ b
+  one_path None [] [] x y = refl
+  one_path None [] (v ∷ vs) x y = absurd y
+  one_path None (v ∷ vs) b x y = absurd x
+  one_path (Some k) [] b x y = absurd x
+  one_path (Some k) (v ∷ vs) [] x y = absurd y
+  one_path (Some k) (v ∷ vs) (w ∷ ws) x y =
+      let h = sym x.0 ∙ y.0 in
+      let same : v ≡ w = cc in
+      λ i. same i ∷ one_path (parent_of nodes k) vs ws x.1 y.1 i
+
+  -- and so one value in the coordinates of the root
+  pub one_world : (under : T → T → T) (k : Key) (v w : T) → IsWorld under nodes k v → IsWorld under nodes k w → v ≡ w
+  one_world under k v w a b =
+      let same = one_path (Some k) (a.own ∷ a.above) (b.own ∷ b.above) a.path b.path in
+      let own : a.own ≡ b.own = cc in
+      let above : a.above ≡ b.above = cc in
+      a.made ∙ (λ i. world_along under (own i) (above i)) ∙ sym b.made
+
+  -- a root is where its own value says
+  pub world_root : (under : T → T → T) (k : Key) (node : Node T) → map.get nodes k ≡ Some node → node.parent ≡ None → IsWorld under nodes k node.value
+  world_root under k node there top = record { own = node.value; above = []; path = path_step k node there [] (subst (λ p. IsPathFrom nodes p []) (sym top) tt); made = refl }
+
+  -- any other node is where its own value says, under its parent
+  pub world_child : (under : T → T → T) (k p : Key) (node : Node T) (w : T) → map.get nodes k ≡ Some node → node.parent ≡ Some p → IsWorld under nodes p w → IsWorld under nodes k (under node.value w)
+  world_child under k p node w there up world = record {
+    own = node.value;
+    above = world.own ∷ world.above;
+    path = path_step k node there (world.own ∷ world.above) (subst (λ q. IsPathFrom nodes q (world.own ∷ world.above)) (sym up) world.path);
+    made = ap (under node.value) world.made;
+  }
+
+  -- what `world` returns, where it is known by these two
+  pub world_is : (under : T → T → T) (k : Key) (w : T) (result : Option T) → IsWorld under nodes k w → IfSome result (IsWorld under nodes k) → IfNone result (lacks_node nodes k) → result ≡ Some w
+  world_is under k w None world some none = let live = path_live k (world.own ∷ world.above) world.path in absurd (cc)
+  world_is under k w (Some v) world some none = ap Some (one_world under k v w some world)
+
+-- what is done from the node up, done from the root down
+module _ {T : Type 0} (under : T → T → T) (joins : (a b c : T) → under (under a b) c ≡ under a (under b c)) where
+  fold_under : (v p : T) (above : List T) → fold under (under v p) above ≡ under v (fold under p above)
+  fold_under v p [] = refl
+  fold_under v p (q ∷ above) = ap (λ x. fold under x above) (joins v p q) ∙ fold_under v (under p q) above
+
+  pub fold_world : (v : T) (above : List T) → fold under v above ≡ world_along under v above
+  fold_world v [] = refl
+  fold_world v (p ∷ above) = fold_under v p above ∙ ap (under v) (fold_world p above)
+
+-- what a loop up from a node knows at another one: what is called from there on is the rest of all calls
+module _ {F A T : Type 0} (g : Mut F (A × (Bor T × Unit {0})) A) (nodes : Nodes T) where
+  pub record Folding (from : Key) (f₀ : F) (start : A) (at : Key) (f : F) (total : A) : Type 0 where
+    pub rest : (above : List T) (last : F) (end : A) → IsPathUp nodes at above → FoldsTo (CallsAt g) (f, total) above (last, end) → FoldsUp g nodes from f₀ start end
+
+  pub folding_start : (k : Key) (f : F) (start : A) → Folding k f start k f start
+  folding_start k f start = record { rest = λ above last end path calls. record { values = above; path = path; last = last; calls = calls } }
+
+  module _ (from : Key) (f₀ : F) (start : A) (at : Key) (f : F) (total : A) (folding : Folding from f₀ start at f total) (node : Node T) (there : map.get nodes at ≡ Some node) (f' : F) (next : A) (call : CallsAt g (f, total) node.value (f', next)) where
+    pub folding_step : (p : Key) → node.parent ≡ Some p → Folding from f₀ start p f' next
+    folding_step p is = record { rest = λ above last end path calls. folding.rest (node.value ∷ above) last end (path_step nodes at node there above (subst (λ q. IsPathFrom nodes q above) (sym is) path)) ((f', next), call, calls) }
+
+    pub folding_end : node.parent ≡ None → FoldsUp g nodes from f₀ start next
+    folding_end is = folding.rest (node.value ∷ []) f' next (path_step nodes at node there [] (subst (λ q. IsPathFrom nodes q []) (sym is) tt)) ((f', next), call, refl)
+
+-- a fold by the closure that puts each value under the next one
+module _ {F T : Type 0} (g : Mut F (T × (Bor T × Unit {0})) T) (under : T → T → T) (puts : (f f' : F) (v p w : T) → CallsAt g (f, v) p (f', w) → w ≡ under v p) where
+  folded : (above : List T) (f last : F) (v w : T) → FoldsTo (CallsAt g) (f, v) above (last, w) → w ≡ fold under v above
+  folded [] f last v w calls = sym (ap (λ s. s.1) calls)
+  folded (p ∷ above) f last v w calls = folded above calls.0.0 last calls.0.1 w calls.2 ∙ ap (λ x. fold under x above) (puts f calls.0.0 v p calls.0.1 calls.1)
+
+  module _ (joins : (a b c : T) → under (under a b) c ≡ under a (under b c)) (nodes : Nodes T) (k p : Key) (node : Node T) (there : map.get nodes k ≡ Some node) (up : node.parent ≡ Some p) where
+    pub world_of_fold : (f : F) (w : T) → FoldsUp g nodes p f node.value w → IsWorld under nodes k w
+    world_of_fold f w folds = record {
+      own = node.value;
+      above = folds.values;
+      path = path_step nodes k node there folds.values (subst (λ q. IsPathFrom nodes q folds.values) (sym up) folds.path);
+      made = folded folds.values f folds.last node.value w folds.calls ∙ fold_world under joins node.value folds.values;
+    }
+
+    pub world_of_folds : (f : F) (result : Option T) → IfSome result (FoldsUp g nodes p f node.value) → IfSome result (IsWorld under nodes k)
+    world_of_folds f None folds = tt
+    world_of_folds f (Some w) folds = world_of_fold f w folds
+
+-- a parent is there
+module _ {T : Type 0} (nodes : Nodes T) (k p : Key) (node : Node T) (there : map.get nodes k ≡ Some node) (up : node.parent ≡ Some p) where
+  pub parent_there : IsTree nodes → has_node nodes p
+  parent_there tree =
+      let way = tree k (ap is_some there) in
+      let next = next_up nodes way.0 k p way.1 (ap parent_in there ∙ up) in
+      leads_live nodes next.0 p next.1.1
+
+  pub parent_found : IsTree nodes → {X : Type 0} (result : Option X) → IfNone result (lacks_node nodes p) → IfNone result (lacks_node nodes k)
+  parent_found tree None lacks = let live = parent_there tree in absurd (cc)
+  parent_found tree (Some w) lacks = tt
+
+-- what a node keeps that gets another parent, and where it then is
+module _ {T : Type 0} (nodes : Nodes T) (k : Key) where
+  -- each node keeps its own value
+  pub value_kept : (parent : Option Key) (q : Key) → value_of (with_parent nodes k parent) q ≡ value_of nodes q
+  value_kept parent q = at (map.get nodes k) refl
+    where
+      at : (found : Option (Node T)) → map.get nodes k ≡ found → value_of (with_parent_in nodes k found parent) q ≡ value_of nodes q
+      at None is = refl
+      at (Some node) is = elim (same_or_other q k) [
+        | inl same ↦ (let here : map.get (map.insert nodes k (record node { parent = parent })) k ≡ Some (record node { parent = parent }) = grind (arith, keys) in
+            rw same (ap (option_map (λ n. n.value)) here ∙ sym (ap (option_map (λ n. n.value)) is)))
+        | inr other ↦ (let there : map.get (map.insert nodes k (record node { parent = parent })) q ≡ map.get nodes q = grind (arith, keys) in ap (option_map (λ n. n.value)) there)
+      ]
+
+  module _ (p : Key) (node : Node T) (there : map.get nodes k ≡ Some node) where
+    abbrev moved_node : Node T
+    moved_node = record node { parent = Some p }
+
+    abbrev after : Nodes T
+    after = map.insert nodes k moved_node
+
+    moved_here : map.get after k ≡ Some moved_node
+    moved_here = grind (arith, keys)
+
+    moved_other : (q : Key) → q ≢ k → map.get after q ≡ map.get nodes q
+    moved_other q other = grind (arith, keys)
+
+    -- a path that doesn't come by k stays
+    path_outside : (q : Option Key) (values : List T) → ((r : Key) → q ≡ Some r → IsWithin nodes r k → ⊥) → IsPathFrom nodes q values → IsPathFrom after q values
+    path_outside None [] out path = tt
+    path_outside None (v ∷ above) out path = absurd path
+    path_outside (Some q) [] out path = absurd path
+    path_outside (Some q) (v ∷ above) out path =
+        let is = moved_other q (λ same. out q refl (zero, same)) in (
+          ap (option_map (λ n. n.value)) is ∙ path.0,
+          subst (λ r. IsPathFrom after r above) (sym (ap parent_in is)) (path_outside (parent_of nodes q) above (λ r up w. out q refl (suc w.0, (r, (up, w.1)))) path.1),
+        )
+
+    -- after `reparent` the node is where its own value says, under its new parent, which is where it was
+    pub world_moved : (under : T → T → T) (w : T) → (IsWithin nodes p k → ⊥) → IsWorld under nodes p w → IsWorld under (with_parent nodes k (Some p)) k (under node.value w)
+    world_moved under w out world =
+        let kept : IsWorld under after p w = record { own = world.own; above = world.above; path = path_outside (Some p) (world.own ∷ world.above) (λ r is within. out (let same : r ≡ p = cc in subst (λ x. IsWithin nodes x k) same within)) world.path; made = world.made } in
+        let is : after ≡ with_parent nodes k (Some p) = ap (λ found. with_parent_in nodes k found (Some p)) (sym there) in
+        subst (λ m. IsWorld under m k (under node.value w)) is (world_child after under k p moved_node w moved_here refl kept)
