@@ -163,3 +163,33 @@ module _ {T : Type 0} (nodes : Nodes T) (k : Key) where
         let kept : IsWorld under after p w = record { own = world.own; above = world.above; path = path_outside (Some p) (world.own ∷ world.above) (λ r is within. out (let same : r ≡ p = cc in subst (λ x. IsWithin nodes x k) same within)) world.path; made = world.made } in
         let is : after ≡ with_parent nodes k (Some p) = ap (λ found. with_parent_in nodes k found (Some p)) (sym there) in
         subst (λ m. IsWorld under m k (under node.value w)) is (world_child after under k p moved_node w moved_here refl kept)
+
+-- where a node is that is added
+module _ {T : Type 0} (nodes : Nodes T) (k : Key) (node : Node T) (fresh : lacks_node nodes k) where
+  abbrev added : Nodes T
+  added = map.insert nodes k node
+
+  added_here : map.get added k ≡ Some node
+  added_here = grind (arith, keys)
+
+  added_other : (q : Key) → has_node nodes q → map.get added q ≡ map.get nodes q
+  added_other q live =
+      let other : q ≢ k = λ same. (let h = sym (subst (has_node nodes) same live) ∙ fresh in cc) in
+      grind (arith, keys)
+
+  -- each path stays
+  path_added : (q : Option Key) (values : List T) → IsPathFrom nodes q values → IsPathFrom added q values
+  path_added None [] path = tt
+  path_added None (v ∷ above) path = absurd path
+  path_added (Some q) [] path = absurd path
+  path_added (Some q) (v ∷ above) path =
+      let is = added_other q (path_live nodes q (v ∷ above) path) in
+      (ap (option_map (λ n. n.value)) is ∙ path.0, subst (λ r. IsPathFrom added r above) (sym (ap parent_in is)) (path_added (parent_of nodes q) above path.1))
+
+  pub world_added_root : (under : T → T → T) → node.parent ≡ None → IsWorld under added k node.value
+  world_added_root under top = world_root added under k node added_here top
+
+  pub world_added_child : (under : T → T → T) (p : Key) (w : T) → node.parent ≡ Some p → IsWorld under nodes p w → IsWorld under added k (under node.value w)
+  world_added_child under p w up world =
+      let kept : IsWorld under added p w = record { own = world.own; above = world.above; path = path_added (Some p) (world.own ∷ world.above) world.path; made = world.made } in
+      world_child added under k p node w added_here up kept

@@ -1,6 +1,7 @@
 //! Callers of the library, each proved from its contracts alone.
 #![tactic(auto, using(slotmap::proofs::Callers::keys))]
 
+pub mod arm;
 pub mod drains;
 pub mod exchange;
 pub mod hops;

@@ -1,0 +1,38 @@
+//! An arm of three pieces, each given by its shift from the one that it hangs on.
+
+ghost use Rattle.std.specs.Prelude.{◌≡◌, ◌+ℤ◌, Some, IfOk};
+ghost use Rattle.std.specs.Int.{int_wrap, w32};
+
+use crate::scene::world::Offset;
+use crate::scene::{AddError, Scene};
+use slotmap::ReserveError;
+use std::alloc::Global;
+use thiserror::Error;
+
+/// Why there is no arm.
+#[derive(Debug, Drop, Error)]
+pub enum ArmError {
+    #[error("no scene: {0}")]
+    Scene(#[from] ReserveError),
+    #[error("no piece: {0}")]
+    Piece(#[from] AddError<Offset>),
+}
+
+/// Returns where the hand is: its shift, that of the elbow and that of the shoulder add up.
+pub fn hand_of_arm(
+    alloc: Global,
+    shoulder: Offset,
+    elbow: Offset,
+    hand: Offset,
+) -> Result<Option<Offset>, ArmError>
+    ensures { IfOk result (λ place. place ≡ Some (record {
+      x = int_wrap w32 (hand.x +ℤ elbow.x +ℤ shoulder.x);
+      y = int_wrap w32 (hand.y +ℤ elbow.y +ℤ shoulder.y);
+    })) }
+{
+    let mut arm = Scene::new(alloc)?;
+    let upper = arm.add_root(shoulder)?;
+    let lower = arm.add_child(upper, elbow)?;
+    let tip = arm.add_child(lower, hand)?;
+    Ok(arm.world(tip))
+}
