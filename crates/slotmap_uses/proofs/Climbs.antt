@@ -1,10 +1,10 @@
 -- What a change of the nodes does to the way up from each.
-use Rattle.std.proofs.Common.{◌≡◌, ◌≢◌, ℕ, zero, suc, ◌+◌, ◌≤◌, ◌<◌, ◌↔◌, ◌⊎◌, Bool, true, false, Option, Some, None, Result, Ok, Err, IfOk, OnErr, is_some, refl, sym, ap, subst, ◌∙◌, inl, inr, arith}
+use Rattle.std.proofs.Common.{◌≡◌, ◌≢◌, ℕ, zero, suc, ◌+◌, ◌≤◌, ◌<◌, ◌↔◌, true, Option, Some, None, Result, Ok, Err, IfOk, OnErr, is_some, refl, sym, ap, subst, ◌∙◌, inl, inr, arith}
 use Rattle.std.specs.FinMap as map
-use Rattle.slotmap.specs.Words.{Key, key_cmp}
+use Rattle.slotmap.specs.Words.{Key}
 use Rattle.slotmap.proofs.Callers.{keys, same_or_other, keys_total, exact_keys, left_in, len_removed, some_entry}
 use Rattle.slotmap_uses.specs.declared.scene.Node.{Node}
-use Rattle.slotmap_uses.specs.Climb.{Nodes, has_node, lacks_node, parent_in, parent_of, Leads, IsTree, StepsTo, IsWithin, with_parent, with_parent_in}
+use Rattle.slotmap_uses.specs.Climb.{Nodes, has_node, lacks_node, parent_in, parent_of, Leads, IsTree, StepsTo, IsWithin}
 
 module _ {T : Type 0} where
   pub leads_live : (nodes : Nodes T) (n : ℕ) (k : Key) → Leads nodes n k → has_node nodes k
@@ -129,56 +129,84 @@ module _ {T : Type 0} where
       the_other : (q : Key) → q ≢ k → map.get (map.insert nodes k node) q ≡ map.get nodes q
       the_other q other = grind (arith, keys)
 
-    pub tree_child : (p : Key) → IsTree nodes → has_node nodes p → node.parent ≡ Some p → IsTree (map.insert nodes k node)
-    tree_child p tree live is q there = elim (same_or_other q k) [
-      | inl same ↦ (let up = tree p live in (suc up.0, rw same (p, (ap is_some inserted_here, ap parent_in inserted_here ∙ is, leads_kept nodes (map.insert nodes k node) inserted_kept up.0 p up.1))))
-      | inr other ↦ (let was : has_node nodes q = sym (ap is_some (the_other q other)) ∙ there in let up = tree q was in (up.0, leads_kept nodes (map.insert nodes k node) inserted_kept up.0 q up.1))
-    ] where
-      the_other : (q : Key) → q ≢ k → map.get (map.insert nodes k node) q ≡ map.get nodes q
-      the_other q other = grind (arith, keys)
+  -- what holds of the nodes still holds where a node was added, or nothing was done
+  pub holds_after : {E : Type 0} (P : Nodes T → Type 0) (old new : Nodes T) (f : Key → Nodes T) (result : Result Key E) → IfOk result (λ k. new ≡ f k) → IfOk result (λ k. lacks_node old k) → OnErr result (new ≡ old)
+      → P old → ((k : Key) → lacks_node old k → P (f k)) → P new
+  holds_after P old new f (Ok k) is fresh same holds added = subst P (sym is) (added k fresh)
+  holds_after P old new f (Err e) is fresh same holds added = subst P (sym same) holds
 
-  -- a node was added, or nothing was done
-  pub tree_add : {E : Type 0} (old new : Nodes T) (node : Node T) (result : Result Key E) → IfOk result (λ k. new ≡ map.insert old k node) → IfOk result (λ k. lacks_node old k) → OnErr result (new ≡ old)
-      → IsTree old → ((k : Key) → lacks_node old k → IsTree (map.insert old k node)) → IsTree new
-  tree_add old new node (Ok k) is fresh same tree added = subst IsTree (sym is) (added k fresh)
-  tree_add old new node (Err e) is fresh same tree added = subst IsTree (sym same) tree
+  -- who is whose parent, after one node got another parent or none
+  pub record Parents (old new : Nodes T) (k : Key) (parent : Option Key) : Type 0 where
+    pub same_keys : (q : Key) → map.contains_key new q ≡ map.contains_key old q
+    pub here : parent_of new k ≡ parent
+    pub others : (q : Key) → q ≢ k → parent_of new q ≡ parent_of old q
 
-  -- a node that gets another parent
-  module _ (nodes : Nodes T) (k p : Key) (node : Node T) (at : map.get nodes k ≡ Some node) where
-    abbrev pub moved : Nodes T
-    moved = map.insert nodes k (record node { parent = Some p })
+  -- a node becomes a root
+  module _ (old new : Nodes T) (k : Key) (changes : Parents old new k None) (live : has_node old k) where
+    root_now : Leads new zero k
+    root_now = (changes.same_keys k ∙ live, changes.here)
 
-    moved_here : map.get moved k ≡ Some (record node { parent = Some p })
-    moved_here = grind (arith, keys)
+    still_up : (n : ℕ) (q : Key) → Leads old n q → (i : ℕ) × Leads new i q
+    still_up zero q leads = elim (same_or_other q k) [
+      | inl same ↦ (zero, subst (Leads new zero) (sym same) root_now)
+      | inr other ↦ (zero, (changes.same_keys q ∙ leads.0, changes.others q other ∙ leads.1))
+    ]
+    still_up (suc n) q leads = elim (same_or_other q k) [
+      | inl same ↦ (zero, subst (Leads new zero) (sym same) root_now)
+      | inr other ↦ (let above = still_up n leads.0 leads.1.2 in
+          (suc above.0, (leads.0, (changes.same_keys q ∙ leads.1.0, changes.others q other ∙ leads.1.1, above.1))))
+    ]
 
-    moved_other : (q : Key) → q ≢ k → map.get moved q ≡ map.get nodes q
-    moved_other q other = grind (arith, keys)
+    pub tree_cut : IsTree old → IsTree new
+    tree_cut tree q there = let up = tree q (sym (changes.same_keys q) ∙ there) in still_up up.0 q up.1
 
+  -- a node gets a parent that is not below it
+  module _ (old new : Nodes T) (k p : Key) (changes : Parents old new k (Some p)) (live : has_node old k) where
     -- outside of what is below k the way up is the same
-    outside : (n : ℕ) (q : Key) → (IsWithin nodes q k → ⊥) → Leads nodes n q → Leads moved n q
-    outside zero q out leads = let is = moved_other q (λ same. out (zero, same)) in (ap is_some is ∙ leads.0, ap parent_in is ∙ leads.1)
+    outside : (n : ℕ) (q : Key) → (IsWithin old q k → ⊥) → Leads old n q → Leads new n q
+    outside zero q out leads = (changes.same_keys q ∙ leads.0, changes.others q (λ same. out (zero, same)) ∙ leads.1)
     outside (suc n) q out leads =
-        let is = moved_other q (λ same. out (zero, same)) in
-        (leads.0, (ap is_some is ∙ leads.1.0, ap parent_in is ∙ leads.1.1, outside n leads.0 (λ w. out (suc w.0, (leads.0, (leads.1.1, w.1)))) leads.1.2))
+        (leads.0, (changes.same_keys q ∙ leads.1.0, changes.others q (λ same. out (zero, same)) ∙ leads.1.1, outside n leads.0 (λ w. out (suc w.0, (leads.0, (leads.1.1, w.1)))) leads.1.2))
 
-    module _ (m : ℕ) (up : Leads nodes m p) (out : IsWithin nodes p k → ⊥) where
-      at_k : Leads moved (suc m) k
-      at_k = (p, (ap is_some moved_here, ap parent_in moved_here, outside m p out up))
+    module _ (m : ℕ) (up : Leads old m p) (out : IsWithin old p k → ⊥) where
+      at_k : Leads new (suc m) k
+      at_k = (p, (changes.same_keys k ∙ live, changes.here, outside m p out up))
 
-      still : (n : ℕ) (q : Key) → Leads nodes n q → (i : ℕ) × Leads moved i q
+      still : (n : ℕ) (q : Key) → Leads old n q → (i : ℕ) × Leads new i q
       still zero q leads = elim (same_or_other q k) [
-        | inl same ↦ (suc m, subst (Leads moved (suc m)) (sym same) at_k)
-        | inr other ↦ (let is = moved_other q other in (zero, (ap is_some is ∙ leads.0, ap parent_in is ∙ leads.1)))
+        | inl same ↦ (suc m, subst (Leads new (suc m)) (sym same) at_k)
+        | inr other ↦ (zero, (changes.same_keys q ∙ leads.0, changes.others q other ∙ leads.1))
       ]
       still (suc n) q leads = elim (same_or_other q k) [
-        | inl same ↦ (suc m, subst (Leads moved (suc m)) (sym same) at_k)
-        | inr other ↦ (let is = moved_other q other in
-            let above = still n leads.0 leads.1.2 in
-            (suc above.0, (leads.0, (ap is_some is ∙ leads.1.0, ap parent_in is ∙ leads.1.1, above.1))))
+        | inl same ↦ (suc m, subst (Leads new (suc m)) (sym same) at_k)
+        | inr other ↦ (let above = still n leads.0 leads.1.2 in
+            (suc above.0, (leads.0, (changes.same_keys q ∙ leads.1.0, changes.others q other ∙ leads.1.1, above.1))))
       ]
 
-      pub tree_moved : IsTree nodes → IsTree moved
-      tree_moved tree q there = elim (same_or_other q k) [
-        | inl same ↦ (suc m, subst (Leads moved (suc m)) (sym same) at_k)
-        | inr other ↦ (let was : has_node nodes q = sym (ap is_some (moved_other q other)) ∙ there in let leads = tree q was in still leads.0 q leads.1)
-      ]
+      pub tree_hung : IsTree old → IsTree new
+      tree_hung tree q there = let leads = tree q (sym (changes.same_keys q) ∙ there) in still leads.0 q leads.1
+
+  -- a node that has a parent is there
+  pub has_parent : (nodes : Nodes T) (k p : Key) → parent_of nodes k ≡ Some p → has_node nodes k
+  has_parent nodes k p is = by (map.get nodes k) is
+    where
+      by : (o : Option (Node T)) → parent_in o ≡ Some p → is_some o ≡ true
+      by None e = absurd (cc)
+      by (Some node) e = refl
+
+  -- no node is above itself
+  steps_sum : (nodes : Nodes T) (n j m : ℕ) (k other : Key) → Leads nodes n k → StepsTo nodes j k other → Leads nodes m other → n ≡ j + m
+  steps_sum nodes n zero m k other up same up_other = one_way nodes n m k up (subst (Leads nodes m) (sym same) up_other) ∙ omega arith
+  steps_sum nodes n (suc j) m k other up steps up_other =
+      let next = next_up nodes n k steps.0 up steps.1.0 in
+      let sum = steps_sum nodes next.0 j m steps.0 other next.1.1 steps.1.1 up_other in
+      let one = next.1.0 in
+      omega arith
+
+  pub no_cycle : (nodes : Nodes T) → IsTree nodes → (k p : Key) → parent_of nodes k ≡ Some p → IsWithin nodes p k → ⊥
+  no_cycle nodes tree k p is within =
+      let up = tree k (has_parent nodes k p is) in
+      let next = next_up nodes up.0 k p up.1 is in
+      let sum = steps_sum nodes next.0 within.0 up.0 p k next.1.1 within.1 up.1 in
+      let one = next.1.0 in
+      omega arith

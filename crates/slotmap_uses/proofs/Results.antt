@@ -17,3 +17,7 @@ for_none (Some x) h = tt
 pub none_counted : {A : Type 0} (n : ℕ) (r : Option A) → r ≡ None → IsSome r ↔ (0 < n) → n ≡ 0
 none_counted zero r is same = refl
 none_counted (suc n) r is same = absurd (let h = same.1 (omega arith) in let e = ap is_some is in cc)
+
+pub err_so : {A B P Q : Type 0} (r : Result A B) → (P → Q) → OnErr r P → OnErr r Q
+err_so (Ok x) so h = tt
+err_so (Err e) so h = so h

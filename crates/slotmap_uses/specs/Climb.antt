@@ -1,6 +1,6 @@
 -- How the nodes of a scene lead up to their roots.
-use Rattle.std.specs.Prelude.{◌≡◌, ℕ, zero, suc, Option, Some, None, true, false, refl, ⊤}
-use Rattle.std.specs.Coded.{Coded, code_by, coded×, coded_option}
+use Rattle.std.specs.Prelude.{◌≡◌, ℕ, zero, suc, Option, Some, None, List, true, false, refl, ⊤}
+use Rattle.std.specs.Coded.{Coded, code_by, coded×, coded_list, coded_option}
 use Rattle.std.specs.FinMap as map
 use Rattle.slotmap.specs.Words.{Key, key_cmp, coded_key}
 use Rattle.slotmap_uses.specs.declared.scene.Node.{Node}
@@ -15,7 +15,9 @@ Nodes T = map.FinMap key_cmp (Node T)
 
 -- by which a proof tells two nodes apart
 abbrev pub node_code : {T : Type 0} → Coded T → Coded (Node T)
-node_code {T} t = code_by (T × Option Key) (coded× t (coded_option coded_key)) (λ n. (n.value, n.parent)) (λ p. record { value = p.0; parent = p.1 }) (λ _. refl)
+node_code {T} t =
+    code_by (T × (Option Key × List Key)) (coded× t (coded× (coded_option coded_key) (coded_list coded_key)))
+    (λ n. (n.value, (n.parent, n.children))) (λ p. record { value = p.0; parent = p.1.0; children = p.1.1 }) (λ _. refl)
 
 module _ {T : Type 0} where
   abbrev pub has_node : Nodes T → Key → Type 0
@@ -76,8 +78,10 @@ module _ {T : Type 0} where
   RefusesChild nodes parent v (Full back) = has_node nodes parent × (back ≡ v)
   RefusesChild nodes parent v (Memory back) = has_node nodes parent × (back ≡ v)
 
-  -- `GoneNode` and `GoneParent` where there is no such node; `Cycle` if and only if the parent is the node, or below it
+  -- `GoneNode` and `GoneParent` where there is no such node; `Cycle` if and only if the parent is the node, or below it;
+  -- `Memory` only if none of them is to be said
   abbrev pub RefusesParent : Nodes T → Key → Key → ReparentError → Type 0
   RefusesParent nodes k parent move.GoneNode = lacks_node nodes k
   RefusesParent nodes k parent move.GoneParent = has_node nodes k × lacks_node nodes parent
   RefusesParent nodes k parent move.Cycle = has_node nodes k × has_node nodes parent × IsWithin nodes parent k
+  RefusesParent nodes k parent move.Memory = has_node nodes k × has_node nodes parent × (IsWithin nodes parent k → ⊥)

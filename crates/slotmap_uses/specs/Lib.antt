@@ -1,5 +1,6 @@
 pub mod Chain
 pub mod Climb
+pub mod Family
 pub mod GraphParts
 pub mod GraphSearch
 pub mod ListLends

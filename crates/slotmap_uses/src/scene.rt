@@ -1,42 +1,63 @@
-//! A scene: nodes in trees, where each has a parent or is a root.
+//! A scene: nodes in trees, where each has a parent or is a root, and an ordered list of children.
 //!
-//! A [`Scene`] gives each node a key, and keeps for each the key of its parent. What is proved of it:
+//! A [`Scene`] gives each node a key, and keeps for each the key of its parent and those of its
+//! children. What is proved of it:
 //!
 //! - The nodes form trees: each leads up to a root in so many steps, which [`Scene::depth`] counts.
+//! - Each node stands once among the children of its parent, and nowhere else.
 //! - [`Scene::reparent`] moves a node with all that is below it. It is refused exactly where that
 //!   would close a cycle.
+//! - [`Scene::remove`] removes a node with all that is below it, and no other.
 //! - A call that fails changes nothing, and hands back what it was given.
 //!
-//! A call takes constant time, except that `depth` and `reparent` take time linear in the number of
-//! nodes above the one that they are given.
+//! A call takes constant time, unless a list of children grows, with these exceptions:
+//!
+//! - [`Scene::depth`] and [`Scene::reparent`] take time linear in the number of nodes above the one
+//!   that they are given.
+//! - [`Scene::reparent`], [`Scene::make_root`] and [`Scene::remove`] look for the node among the
+//!   children of its parent, and those behind it move up.
+//! - [`Scene::remove`] takes time linear in the number of nodes that it removes.
 //!
 //! ```
 //! let mut scene = Scene::new(alloc)?;
 //! let car = scene.add_root("car")?;
 //! let wheel = scene.add_child(car, "wheel")?;
+//! let door = scene.add_child(car, "door")?;
+//! assert_eq!(rt; scene.children(car), [wheel, door].as_slice());
 //! assert_eq!(rt; scene.depth(wheel), Some(1));
 //! assert!(rt; scene.reparent(car, wheel).is_err());
+//! assert_eq!(rt; scene.remove(car), Some("car"));
+//! assert_eq!(rt; scene.len(), 0);
 //! ```
 #![tactic(auto, using(slotmap::proofs::Callers::keys))]
 
 ghost use Rattle.std.specs.Prelude.{◌≡◌, ◌↔◌, Some, None, IfOk, IfErr, OnOk, OnErr, IfSome, IfNone, IsTrue, false, true, option_copied, option_map};
 ghost use Rattle.std.specs.FinMap as map;
-ghost use Rattle.slotmap_uses.specs.Climb.{HandsBack, IsNotGone, RefusesChild, RefusesParent, Leads, IsWithin, has_node, lacks_node, parent_of, with_parent};
+ghost use Rattle.slotmap.specs.Words.{Key as KeyOf};
+ghost use Rattle.slotmap_uses.specs.declared.scene.ReparentError.TheVariants as move_error;
+ghost use Rattle.slotmap_uses.specs.Climb.{HandsBack, IsNotGone, RefusesChild, RefusesParent, Leads, IsWithin, has_node, lacks_node};
+ghost use Rattle.slotmap_uses.specs.Family.{attached, children_of, detached, forgets, leaf, value_of};
 
-use slotmap::{DefaultKey, InsertError, ReserveError, SlotMap};
-use std::alloc::Global;
+pub use crate::scene::children::Children;
+use crate::scene::links::{add, add_below, leave_parent, push_child, remove_tree, set_parent};
+use slotmap::{DefaultKey, ReserveError, SlotMap};
+use std::alloc::{AllocError, Global};
 use std::marker::Model;
 use thiserror::Error;
 
+mod children;
+mod links;
 pub mod world;
 
-/// A node: its value, and the key of its parent. A root has none.
+/// A node: its value, the key of its parent and those of its children. A root has no parent.
 #[derive(Debug, Drop)]
 pub struct Node<T> {
     /// What the node holds.
     pub value: T,
     /// The key of its parent.
     pub parent: Option<DefaultKey>,
+    /// The keys of its children, in order.
+    pub children: Children,
 }
 
 /// Nodes in trees.
@@ -44,13 +65,15 @@ pub struct Node<T> {
 /// A clause sees the finite map from keys to nodes.
 #[derive(Drop)]
 pub struct Scene<T> {
+    alloc: Global,
     nodes: SlotMap<DefaultKey, Node<T>>,
 }
 
 impl<T> Model for Scene<T> {
     ghost use Rattle.std.specs.FinMap as map;
     ghost use Rattle.slotmap.specs.Words.{coded_key};
-    ghost use Rattle.slotmap_uses.specs.Climb.{Nodes, node_code, IsTree};
+    ghost use Rattle.slotmap_uses.specs.Climb.{Nodes, node_code};
+    ghost use Rattle.slotmap_uses.specs.Family.{IsScene};
 
     ghost Value = { Nodes T };
 
@@ -58,7 +81,7 @@ impl<T> Model for Scene<T> {
 
     ghost view = { λ scene. scene.nodes.live };
 
-    ghost invariant = { λ scene. IsTree scene.nodes.live };
+    ghost invariant = { λ scene. IsScene scene.nodes.live };
 }
 
 /// A node was not added. The error holds its value.
@@ -87,23 +110,16 @@ pub enum ReparentError {
     /// The new parent is the node itself, or below it.
     #[error("the new parent is below the node")]
     Cycle,
+    /// The allocation fails.
+    #[error("out of memory")]
+    Memory,
 }
 
-// Adds a node.
-fn add<T: Drop>(
-    nodes: &mut SlotMap<DefaultKey, Node<T>>,
-    node: Node<T>,
-) -> Result<DefaultKey, AddError<T>>
-    ensures adds { IfOk result (λ key. nodes.new.live ≡ map.insert nodes.old.live key node) }
-    ensures fresh { IfOk result (λ key. lacks_node nodes.old.live key) }
-    ensures err { IfErr result (HandsBack node.value) }
-    ensures not_gone { IfErr result IsNotGone }
-    ensures unchanged { OnErr result (nodes.new.live ≡ nodes.old.live) }
-{
-    match nodes.insert(node) {
-        Ok(key) => Ok(key),
-        Err(InsertError::Full(node)) => Err(AddError::Full(node.value)),
-        Err(InsertError::Memory(node)) => Err(AddError::Memory(node.value)),
+impl From<AllocError> for ReparentError {
+    ghost from_gives = { λ a e. e ≡ move_error.Memory };
+
+    fn from(_: AllocError) -> ReparentError {
+        ReparentError::Memory
     }
 }
 
@@ -115,7 +131,7 @@ impl<T: Drop> Scene<T> {
         ensures { IfOk result (λ scene. scene ≡ map.empty) }
     {
         let nodes = SlotMap::new(alloc)?;
-        Ok(Scene { nodes })
+        Ok(Scene { alloc, nodes })
     }
 
     /// Returns how many nodes there are.
@@ -125,37 +141,43 @@ impl<T: Drop> Scene<T> {
         self.nodes.len()
     }
 
-    /// Returns a node with its parent, or `None` if it is gone.
+    /// Returns a node with its parent and its children, or `None` if it is gone.
     pub fn get(&self, node: DefaultKey) -> Option<&Node<T>>
         ensures { option_copied result ≡ map.get self.now node }
     {
         self.nodes.get(node)
     }
 
-    /// Adds a root, and returns its key.
+    /// Returns the keys of the children of a node, in order.
+    ///
+    /// A node that is gone has none.
+    pub fn children(&self, node: DefaultKey) -> &[DefaultKey]
+        ensures { result.now ≡ children_of self.now node }
+    {
+        match self.nodes.get(node) {
+            Some(node) => node.children.as_slice(),
+            None => &[],
+        }
+    }
+
+    /// Adds a root with no children, and returns its key.
     ///
     /// If the call fails, the error holds the value, and the scene is as before.
     pub fn add_root(&mut self, value: T) -> Result<DefaultKey, AddError<T>>
-        ensures adds { IfOk result (λ key. self.new ≡ map.insert self.old key (record { value = value; parent = None })) }
+        ensures adds { IfOk result (λ key. self.new ≡ map.insert self.old key (leaf value)) }
         ensures fresh { IfOk result (λ key. lacks_node self.old key) }
         ensures err { IfErr result (HandsBack value) }
         ensures not_gone { IfErr result IsNotGone }
         ensures unchanged { OnErr result (self.new ≡ self.old) }
     {
-        add(
-            &mut self.nodes,
-            Node {
-                value,
-                parent: None,
-            },
-        )
+        add(&mut self.nodes, self.alloc, value)
     }
 
-    /// Adds a node below another one, and returns its key.
+    /// Adds a node with no children as the last child of another one, and returns its key.
     ///
     /// If the call fails, the error holds the value, and the scene is as before.
     pub fn add_child(&mut self, parent: DefaultKey, value: T) -> Result<DefaultKey, AddError<T>>
-        ensures adds { IfOk result (λ key. self.new ≡ map.insert self.old key (record { value = value; parent = Some parent })) }
+        ensures adds { IfOk result (λ key. self.new ≡ attached (map.insert self.old key (leaf value)) key parent) }
         ensures fresh { IfOk result (λ key. lacks_node self.old key) }
         ensures live { OnOk result (has_node self.old parent) }
         ensures err { IfErr result (RefusesChild self.old parent value) }
@@ -164,8 +186,7 @@ impl<T: Drop> Scene<T> {
         if !self.nodes.contains_key(parent) {
             return Err(AddError::Gone(value));
         }
-        let parent = Some(parent);
-        add(&mut self.nodes, Node { value, parent })
+        add_below(&mut self.nodes, self.alloc, parent, value)
     }
 
     /// Returns how many nodes are above a node, or `None` if it is gone.
@@ -204,12 +225,12 @@ impl<T: Drop> Scene<T> {
         false
     }
 
-    /// Puts a node below another one, with all that is below it.
+    /// Makes a node the last child of another one, with all that is below it.
     ///
-    /// It fails exactly if one of the two is gone, or if the new parent is the node or below it.
-    /// The scene is then as before.
+    /// It fails exactly if one of the two is gone, if the new parent is the node or below it, or if
+    /// memory runs out. The scene is then as before.
     pub fn reparent(&mut self, node: DefaultKey, parent: DefaultKey) -> Result<(), ReparentError>
-        ensures moved { OnOk result (self.new ≡ with_parent self.old node (Some parent)) }
+        ensures moved { OnOk result (self.new ≡ attached (detached self.old node) node parent) }
         ensures nodes { OnOk result (has_node self.old node × has_node self.old parent) }
         ensures no_cycle { OnOk result (IsWithin self.old parent node → ⊥) }
         ensures err { IfErr result (RefusesParent self.old node parent) }
@@ -224,7 +245,38 @@ impl<T: Drop> Scene<T> {
         if self.is_within(parent, node) {
             return Err(ReparentError::Cycle);
         }
-        self.nodes[node].parent = Some(parent);
+        push_child(&mut self.nodes, parent, node)?;
+        leave_parent(&mut self.nodes, node);
+        set_parent(&mut self.nodes, node, Some(parent));
         Ok(())
+    }
+
+    /// Makes a node a root, with all that is below it, and returns whether the node is there.
+    pub fn make_root(&mut self, node: DefaultKey) -> bool
+        ensures which { IsTrue result ↔ has_node self.old node }
+        ensures new { self.new ≡ detached self.old node }
+    {
+        if !self.nodes.contains_key(node) {
+            return false;
+        }
+        leave_parent(&mut self.nodes, node);
+        set_parent(&mut self.nodes, node, None);
+        true
+    }
+
+    /// Removes a node with all that is below it, and returns its value, or `None` if it is gone.
+    ///
+    /// It allocates nothing.
+    pub fn remove(&mut self, node: DefaultKey) -> Option<T>
+        ensures value { result ≡ value_of self.old node }
+        ensures removed { (k : KeyOf) → IsWithin self.old k node → lacks_node self.new k }
+        ensures others { (k : KeyOf) → (IsWithin self.old k node → ⊥) → map.get self.new k ≡ option_map (forgets node) (map.get self.old k) }
+        ensures unchanged { IfNone result (self.new ≡ self.old) }
+    {
+        if !self.nodes.contains_key(node) {
+            return None;
+        }
+        self.make_root(node);
+        Some(remove_tree(&mut self.nodes, node))
     }
 }

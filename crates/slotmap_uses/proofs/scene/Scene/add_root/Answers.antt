@@ -1,7 +1,10 @@
-use Rattle.std.proofs.Common.{None, refl}
-use Rattle.slotmap_uses.proofs.Climbs.{tree_add, tree_root}
+use Rattle.std.specs.FinMap as map
+use Rattle.slotmap_uses.specs.Family.{IsScene, leaf}
+use Rattle.slotmap_uses.proofs.Climbs.{holds_after}
+use Rattle.slotmap_uses.proofs.Families.{scene_leaf}
 use Rattle.slotmap_uses.proofs.scene.Scene.add_root.Goals as goal
 
 pub invariant_of-self : goal.invariant_of-self
 invariant_of-self g c =
-    tree_add _ _ (record { value = c.args.value; parent = None }) _ c.add.ensures.adds c.add.ensures.fresh c.add.ensures.unchanged c.self.invariant (λ k fresh. tree_root _ k _ fresh c.self.invariant refl)
+    holds_after IsScene _ _ (λ k. map.insert c.self.inside.nodes.live k (leaf c.args.value)) _ c.add.ensures.adds c.add.ensures.fresh c.add.ensures.unchanged c.self.invariant
+    (λ k fresh. scene_leaf c.self.inside.nodes.live k c.args.value fresh c.self.invariant)

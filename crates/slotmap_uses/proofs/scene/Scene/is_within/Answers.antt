@@ -1,10 +1,10 @@
-use Rattle.std.proofs.Common.{◌≡◌, ◌≢◌, zero, refl, sym, ap, ◌∙◌, arith}
+use Rattle.std.proofs.Common.{◌≢◌, zero, refl, sym}
 use Rattle.slotmap.specs.Words.{same_keys}
 use Rattle.slotmap_uses.proofs.Climbs.{climbing_start, climbing_live, climbing_step, within_step, within_none}
 use Rattle.slotmap_uses.proofs.scene.Scene.is_within.Goals as goal
 
 pub loop-step-init : goal.loop-step-init
-loop-step-init g c = rw (← c.self.view_is) (climbing_start _ c.self.invariant c.args.node (rw (← c.self.view_is) at c.requires), (λ w. w, λ w. w))
+loop-step-init g c = rw (← c.self.view_is) (climbing_start _ c.self.invariant.tree c.args.node (rw (← c.self.view_is) at c.requires), (λ w. w, λ w. w))
 
 pub index-requires : goal.index-requires
 index-requires g c = rw c.self.view_is (climbing_live _ _ _ _ c.loop-step.invariant.0)
