@@ -126,14 +126,20 @@ def facade_names():
     return sorted(modules | {name for module, _, name in facade() if not module})
 
 
+def names_in(path, module):
+    """The structures and traits of a file of slotmap_uses and of its public modules, by their paths."""
+    with open(path, encoding="utf-8") as file:
+        text = file.read()
+    for item in re.findall(r"(?m)^pub (?:struct|trait) (\w+)", text):
+        yield f"{module}::{item}"
+    for child in re.findall(r"(?m)^pub mod (\w+);", text):
+        if child != "examples":
+            yield from names_in(os.path.join(path[:-3].removesuffix("/lib"), child + ".rt"), f"{module}::{child}")
+
+
 def names_of_uses():
-    """The structures of slotmap_uses by their paths, such as `slotmap_uses::graph::Graph`."""
-    src = os.path.join(TOP, "crates/slotmap_uses/src")
-    for name in sorted(os.listdir(src)):
-        if name.endswith(".rt"):
-            with open(os.path.join(src, name), encoding="utf-8") as file:
-                for item in re.findall(r"(?m)^pub struct (\w+)", file.read()):
-                    yield f"slotmap_uses::{name[:-3]}::{item}"
+    """The structures and traits of slotmap_uses by their paths, such as `slotmap_uses::graph::Graph`."""
+    return names_in(os.path.join(TOP, "crates/slotmap_uses/src/lib.rt"), "slotmap_uses")
 
 
 def write_crate(folder, examples):

@@ -38,7 +38,7 @@ pub trait Transform: Copy {
     /// ```
     /// let hand = Offset { x: 3, y: -4 };
     /// let elbow = Offset { x: 5, y: 0 };
-    /// assert_eq!(rt; hand.under(&elbow), Offset { x: 8, y: -4 });
+    /// assert_eq!(rt; Transform::under(&hand, &elbow), Offset { x: 8, y: -4 });
     /// ```
     fn under(&self, parent: &Self) -> Self
         ensures { result ≡ under self.now parent.now };
