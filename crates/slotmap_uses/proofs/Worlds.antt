@@ -1,5 +1,5 @@
 -- What a fold of the values on the way up comes to.
-use Rattle.std.proofs.Common.{zero, suc, inl, inr, ◌≡◌, ◌≢◌, List, [], ◌∷◌, Option, Some, None, true, false, is_some, IfSome, IfNone, refl, sym, ap, subst, ◌∙◌, option_map, arith}
+use Rattle.std.proofs.Common.{zero, suc, inl, inr, ◌≡◌, ◌≢◌, List, [], ◌∷◌, ◌++◌, Option, Some, None, true, false, is_some, IfSome, IfNone, refl, sym, ap, subst, ◌∙◌, option_map, arith}
 use Rattle.std.specs.Fn.{Mut, Called}
 use Rattle.std.specs.Borrow.{Bor}
 use Rattle.std.specs.List.{FoldsTo, fold}
@@ -8,8 +8,10 @@ use Rattle.slotmap.specs.Words.{Key}
 use Rattle.slotmap.proofs.Callers.{keys, same_or_other}
 use Rattle.slotmap_uses.specs.declared.scene.Node.{Node}
 use Rattle.slotmap_uses.specs.Climb.{Nodes, has_node, lacks_node, parent_of, parent_in, IsTree, IsWithin, with_parent, with_parent_in}
+use Rattle.slotmap_uses.specs.Family.{value_of, leaf, without, with_children_in, with_child, without_child, attached, detached}
 use Rattle.slotmap_uses.proofs.Climbs.{next_up, leads_live}
-use Rattle.slotmap_uses.specs.WorldValues.{value_of, IsPathFrom, IsPathUp, world_along, IsWorld, CallsAt, FoldsUp}
+use Rattle.slotmap_uses.proofs.Families.{parented_here, parented_other, written_here, written_other, attached_parents, detached_parents}
+use Rattle.slotmap_uses.specs.WorldValues.{IsPathFrom, IsPathUp, world_along, IsWorld, CallsAt, FoldsUp}
 
 module _ {T : Type 0} (nodes : Nodes T) where
   -- the node at k, in front of a path from its parent
@@ -119,77 +121,106 @@ module _ {T : Type 0} (nodes : Nodes T) (k p : Key) (node : Node T) (there : map
   parent_found tree None lacks = let live = parent_there tree in absurd (cc)
   parent_found tree (Some w) lacks = tt
 
--- what a node keeps that gets another parent, and where it then is
+-- each node keeps its own value where parents and lists of children alone change
+module _ {T : Type 0} (nodes : Nodes T) where
+  value_parented : (k : Key) (parent : Option Key) (q : Key) → value_of (with_parent nodes k parent) q ≡ value_of nodes q
+  value_parented k parent q = elim (same_or_other q k) [
+    | inl same ↦ rw same (ap (option_map (λ n. n.value)) (parented_here nodes k parent (map.get nodes k) refl) ∙ kept (map.get nodes k))
+    | inr other ↦ ap (option_map (λ n. n.value)) (parented_other nodes k parent (map.get nodes k) q other)
+  ] where
+    kept : (o : Option (Node T)) → option_map (λ n. n.value) (option_map (λ (n : Node T). record n { parent = parent }) o) ≡ option_map (λ n. n.value) o
+    kept None = refl
+    kept (Some node) = refl
+
+  value_written : (p : Key) (f : List Key → List Key) (q : Key) → value_of (with_children_in nodes p (map.get nodes p) f) q ≡ value_of nodes q
+  value_written p f q = elim (same_or_other q p) [
+    | inl same ↦ rw same (ap (option_map (λ n. n.value)) (written_here nodes p f (map.get nodes p) refl) ∙ kept (map.get nodes p))
+    | inr other ↦ ap (option_map (λ n. n.value)) (written_other nodes p f (map.get nodes p) q other)
+  ] where
+    kept : (o : Option (Node T)) → option_map (λ n. n.value) (option_map (λ (n : Node T). record n { children = f n.children }) o) ≡ option_map (λ n. n.value) o
+    kept None = refl
+    kept (Some node) = refl
+
+  value_left : (o : Option Key) (k q : Key) → value_of (without_child nodes o k) q ≡ value_of nodes q
+  value_left None k q = refl
+  value_left (Some p) k q = value_written p (without k) q
+
 module _ {T : Type 0} (nodes : Nodes T) (k : Key) where
-  -- each node keeps its own value
-  pub value_kept : (parent : Option Key) (q : Key) → value_of (with_parent nodes k parent) q ≡ value_of nodes q
-  value_kept parent q = at (map.get nodes k) refl
-    where
-      at : (found : Option (Node T)) → map.get nodes k ≡ found → value_of (with_parent_in nodes k found parent) q ≡ value_of nodes q
-      at None is = refl
-      at (Some node) is = elim (same_or_other q k) [
-        | inl same ↦ (let here : map.get (map.insert nodes k (record node { parent = parent })) k ≡ Some (record node { parent = parent }) = grind (arith, keys) in
-            rw same (ap (option_map (λ n. n.value)) here ∙ sym (ap (option_map (λ n. n.value)) is)))
-        | inr other ↦ (let there : map.get (map.insert nodes k (record node { parent = parent })) q ≡ map.get nodes q = grind (arith, keys) in ap (option_map (λ n. n.value)) there)
-      ]
+  pub value_detached : (q : Key) → value_of (detached nodes k) q ≡ value_of nodes q
+  value_detached q = value_parented (without_child nodes (parent_of nodes k) k) k None q ∙ value_left nodes (parent_of nodes k) k q
 
-  module _ (p : Key) (node : Node T) (there : map.get nodes k ≡ Some node) where
-    abbrev moved_node : Node T
-    moved_node = record node { parent = Some p }
+  pub value_attached : (p q : Key) → value_of (attached nodes k p) q ≡ value_of nodes q
+  value_attached p q = value_parented (with_child nodes p k) k (Some p) q ∙ value_written nodes p (λ ks. ks ++ k ∷ []) q
 
-    abbrev after : Nodes T
-    after = map.insert nodes k moved_node
+-- where a node k is that gets another parent, or is added: all other nodes keep their values and their parents
+module _ {T : Type 0} (old new : Nodes T) (k : Key) (values : (q : Key) → has_node old q → q ≢ k → value_of new q ≡ value_of old q)
+    (parents : (q : Key) → has_node old q → q ≢ k → parent_of new q ≡ parent_of old q) where
+  -- a path that doesn't come by k stays
+  path_outside : (q : Option Key) (vs : List T) → ((r : Key) → q ≡ Some r → IsWithin old r k → ⊥) → IsPathFrom old q vs → IsPathFrom new q vs
+  path_outside None [] out path = tt
+  path_outside None (v ∷ above) out path = absurd path
+  path_outside (Some q) [] out path = absurd path
+  path_outside (Some q) (v ∷ above) out path =
+      let live = path_live old q (v ∷ above) path in
+      let apart : q ≢ k = λ same. out q refl (zero, same) in (
+        values q live apart ∙ path.0,
+        subst (λ r. IsPathFrom new r above) (sym (parents q live apart)) (path_outside (parent_of old q) above (λ r up w. out q refl (suc w.0, (r, (up, w.1)))) path.1),
+      )
 
-    moved_here : map.get after k ≡ Some moved_node
-    moved_here = grind (arith, keys)
+  -- where k wasn't there, each path stays
+  path_added : lacks_node old k → (q : Option Key) (vs : List T) → IsPathFrom old q vs → IsPathFrom new q vs
+  path_added fresh None [] path = tt
+  path_added fresh None (v ∷ above) path = absurd path
+  path_added fresh (Some q) [] path = absurd path
+  path_added fresh (Some q) (v ∷ above) path =
+      let live = path_live old q (v ∷ above) path in
+      let apart : q ≢ k = λ same. (let h = sym (subst (has_node old) same live) ∙ fresh in cc) in
+      (values q live apart ∙ path.0, subst (λ r. IsPathFrom new r above) (sym (parents q live apart)) (path_added fresh (parent_of old q) above path.1))
 
-    moved_other : (q : Key) → q ≢ k → map.get after q ≡ map.get nodes q
-    moved_other q other = grind (arith, keys)
+  -- k is where its own value says, under its new parent
+  module _ (under : T → T → T) (v : T) (p : Key) (w : T) (here : value_of new k ≡ Some v) (up : parent_of new k ≡ Some p) (world : IsWorld under old p w) where
+    under_parent : IsPathFrom new (Some p) (world.own ∷ world.above) → IsWorld under new k (under v w)
+    under_parent path = record {
+      own = v;
+      above = world.own ∷ world.above;
+      path = (here, subst (λ q. IsPathFrom new q (world.own ∷ world.above)) (sym up) path);
+      made = ap (under v) world.made;
+    }
 
-    -- a path that doesn't come by k stays
-    path_outside : (q : Option Key) (values : List T) → ((r : Key) → q ≡ Some r → IsWithin nodes r k → ⊥) → IsPathFrom nodes q values → IsPathFrom after q values
-    path_outside None [] out path = tt
-    path_outside None (v ∷ above) out path = absurd path
-    path_outside (Some q) [] out path = absurd path
-    path_outside (Some q) (v ∷ above) out path =
-        let is = moved_other q (λ same. out q refl (zero, same)) in (
-          ap (option_map (λ n. n.value)) is ∙ path.0,
-          subst (λ r. IsPathFrom after r above) (sym (ap parent_in is)) (path_outside (parent_of nodes q) above (λ r up w. out q refl (suc w.0, (r, (up, w.1)))) path.1),
-        )
+    pub world_below : (IsWithin old p k → ⊥) → IsWorld under new k (under v w)
+    world_below out = under_parent (path_outside (Some p) (world.own ∷ world.above) (λ r is within. out (let same : r ≡ p = cc in subst (λ x. IsWithin old x k) same within)) world.path)
 
-    -- after `reparent` the node is where its own value says, under its new parent, which is where it was
-    pub world_moved : (under : T → T → T) (w : T) → (IsWithin nodes p k → ⊥) → IsWorld under nodes p w → IsWorld under (with_parent nodes k (Some p)) k (under node.value w)
-    world_moved under w out world =
-        let kept : IsWorld under after p w = record { own = world.own; above = world.above; path = path_outside (Some p) (world.own ∷ world.above) (λ r is within. out (let same : r ≡ p = cc in subst (λ x. IsWithin nodes x k) same within)) world.path; made = world.made } in
-        let is : after ≡ with_parent nodes k (Some p) = ap (λ found. with_parent_in nodes k found (Some p)) (sym there) in
-        subst (λ m. IsWorld under m k (under node.value w)) is (world_child after under k p moved_node w moved_here refl kept)
+    pub world_new : lacks_node old k → IsWorld under new k (under v w)
+    world_new fresh = under_parent (path_added fresh (Some p) (world.own ∷ world.above) world.path)
+
+-- after `reparent` a node is where its own value says, under its new parent, which is where it was
+module _ {T : Type 0} (nodes : Nodes T) (k p : Key) (live : has_node nodes k) (out : IsWithin nodes p k → ⊥) where
+  abbrev moved : Nodes T
+  moved = attached (detached nodes k) k p
+
+  pub world_moved : (under : T → T → T) (v w : T) → value_of nodes k ≡ Some v → IsWorld under nodes p w → IsWorld under moved k (under v w)
+  world_moved under v w own world =
+      let gone = detached_parents nodes k in
+      let back = attached_parents (detached nodes k) k p (gone.same_keys k ∙ live) in
+      let value : (q : Key) → value_of moved q ≡ value_of nodes q = λ q. value_attached (detached nodes k) k p q ∙ value_detached nodes k q in
+      world_below nodes moved k (λ q there other. value q) (λ q there other. back.others q other ∙ gone.others q other) under v p w (value k ∙ own) back.here world out
 
 -- where a node is that is added
-module _ {T : Type 0} (nodes : Nodes T) (k : Key) (node : Node T) (fresh : lacks_node nodes k) where
+module _ {T : Type 0} (nodes : Nodes T) (k : Key) (v : T) where
   abbrev added : Nodes T
-  added = map.insert nodes k node
+  added = map.insert nodes k (leaf v)
 
-  added_here : map.get added k ≡ Some node
+  added_here : map.get added k ≡ Some (leaf v)
   added_here = grind (arith, keys)
 
-  added_other : (q : Key) → has_node nodes q → map.get added q ≡ map.get nodes q
-  added_other q live =
-      let other : q ≢ k = λ same. (let h = sym (subst (has_node nodes) same live) ∙ fresh in cc) in
-      grind (arith, keys)
+  added_other : (q : Key) → q ≢ k → map.get added q ≡ map.get nodes q
+  added_other q other = grind (arith, keys)
 
-  -- each path stays
-  path_added : (q : Option Key) (values : List T) → IsPathFrom nodes q values → IsPathFrom added q values
-  path_added None [] path = tt
-  path_added None (v ∷ above) path = absurd path
-  path_added (Some q) [] path = absurd path
-  path_added (Some q) (v ∷ above) path =
-      let is = added_other q (path_live nodes q (v ∷ above) path) in
-      (ap (option_map (λ n. n.value)) is ∙ path.0, subst (λ r. IsPathFrom added r above) (sym (ap parent_in is)) (path_added (parent_of nodes q) above path.1))
+  pub world_added_root : (under : T → T → T) → IsWorld under added k v
+  world_added_root under = world_root added under k (leaf v) added_here refl
 
-  pub world_added_root : (under : T → T → T) → node.parent ≡ None → IsWorld under added k node.value
-  world_added_root under top = world_root added under k node added_here top
-
-  pub world_added_child : (under : T → T → T) (p : Key) (w : T) → node.parent ≡ Some p → IsWorld under nodes p w → IsWorld under added k (under node.value w)
-  world_added_child under p w up world =
-      let kept : IsWorld under added p w = record { own = world.own; above = world.above; path = path_added (Some p) (world.own ∷ world.above) world.path; made = world.made } in
-      world_child added under k p node w added_here up kept
+  pub world_added_child : lacks_node nodes k → (under : T → T → T) (p : Key) (w : T) → IsWorld under nodes p w → IsWorld under (attached added k p) k (under v w)
+  world_added_child fresh under p w world =
+      let put = attached_parents added k p (ap is_some added_here) in
+      world_new nodes (attached added k p) k (λ q there other. value_attached added k p q ∙ ap (option_map (λ n. n.value)) (added_other q other))
+      (λ q there other. put.others q other ∙ ap parent_in (added_other q other)) under v p w (value_attached added k p k ∙ ap (option_map (λ n. n.value)) added_here) put.here world fresh

@@ -1,17 +1,13 @@
 -- The values on the way from a node up to its root, and what is made of them.
-use Rattle.std.specs.Prelude.{◌≡◌, Option, Some, None, List, [], ◌∷◌, ⊤, option_map}
+use Rattle.std.specs.Prelude.{◌≡◌, Option, Some, None, List, [], ◌∷◌, ⊤}
 use Rattle.std.specs.Fn.{Mut, Called}
 use Rattle.std.specs.Borrow.{Bor}
 use Rattle.std.specs.List.{FoldsTo}
-use Rattle.std.specs.FinMap as map
 use Rattle.slotmap.specs.Words.{Key}
 use Rattle.slotmap_uses.specs.Climb.{Nodes, parent_of}
+use Rattle.slotmap_uses.specs.Family.{value_of}
 
 module _ {T : Type 0} where
-  -- the value of the node k
-  abbrev pub value_of : Nodes T → Key → Option T
-  value_of nodes k = option_map (λ node. node.value) (map.get nodes k)
-
   -- the values from a node up to its root, its own first; above a root there are none
   abbrev pub IsPathFrom : Nodes T → Option Key → List T → Type 0
   IsPathFrom nodes None [] = ⊤

@@ -16,12 +16,12 @@ returns c =
     let lower = c.in_ok-lower.ensures in
     let tip = c.in_ok-tip.ensures in
     let at_upper : IsWorld shifted c.add_root.new.self c.in_ok-upper.upper c.args.shoulder =
-    subst (λ m. IsWorld shifted m c.in_ok-upper.upper c.args.shoulder) (sym upper.adds) (world_added_root _ _ (record { value = c.args.shoulder; parent = None }) upper.fresh shifted refl) in
+    subst (λ m. IsWorld shifted m c.in_ok-upper.upper c.args.shoulder) (sym upper.adds) (world_added_root _ _ c.args.shoulder shifted) in
     let at_lower : IsWorld shifted c.add_child.new.self c.in_ok-lower.lower (shifted c.args.elbow c.args.shoulder) =
     subst (λ m. IsWorld shifted m c.in_ok-lower.lower (shifted c.args.elbow c.args.shoulder)) (sym lower.adds)
-    (world_added_child _ _ (record { value = c.args.elbow; parent = Some c.in_ok-upper.upper }) lower.fresh shifted _ _ refl at_upper) in
+    (world_added_child _ _ c.args.elbow lower.fresh shifted _ _ at_upper) in
     let at_tip : IsWorld shifted c.add_child-2.new.self c.in_ok-tip.tip (shifted c.args.hand (shifted c.args.elbow c.args.shoulder)) =
     subst (λ m. IsWorld shifted m c.in_ok-tip.tip (shifted c.args.hand (shifted c.args.elbow c.args.shoulder))) (sym tip.adds)
-    (world_added_child _ _ (record { value = c.args.hand; parent = Some c.in_ok-lower.lower }) tip.fresh shifted _ _ refl at_lower) in
+    (world_added_child _ _ c.args.hand tip.fresh shifted _ _ at_lower) in
     world_is _ shifted _ _ _ at_tip c.world.ensures.some c.world.ensures.none
     ∙ (λ i. Some (record { x = wrap_three c.args.hand.x c.args.elbow.x c.args.shoulder.x i; y = wrap_three c.args.hand.y c.args.elbow.y c.args.shoulder.y i }))

@@ -5,7 +5,7 @@ use Rattle.slotmap_uses.proofs.scene.Scene.fold_up.Goals as goal
 
 pub loop-step-init : goal.loop-step-init
 loop-step-init g c = record {
-  climbing = rw (← c.self.view_is) (climbing_start _ c.self.invariant c.args.node (sym c.contains_key.ensures.value ∙ c.if-not-contains_key.false));
+  climbing = rw (← c.self.view_is) (climbing_start _ c.self.invariant.tree c.args.node (sym c.contains_key.ensures.value ∙ c.if-not-contains_key.false));
   folding = folding_start _ _ _ _ _;
   callable = c.requires;
 }

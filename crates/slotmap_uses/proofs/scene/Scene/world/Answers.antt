@@ -16,4 +16,4 @@ returns-in-Some-clause-some g c =
 pub returns-in-Some-clause-none : goal.returns-in-Some-clause-none
 returns-in-Some-clause-none g c =
     let there = rw c.self.view_is at (sym c.in_ok-own.ensures.value) in
-    parent_found _ c.args.node c.in-Some.parent c.in_ok-own.own.now there c.in-Some.is (subst IsTree c.self.view_is c.self.invariant) _ c.fold_up.ensures.none
+    parent_found _ c.args.node c.in-Some.parent c.in_ok-own.own.now there c.in-Some.is (subst IsTree c.self.view_is c.self.invariant.tree) _ c.fold_up.ensures.none
