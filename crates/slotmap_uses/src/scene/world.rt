@@ -82,7 +82,7 @@ impl<T: Drop> Scene<T> {
     /// let mut scene = Scene::new(alloc)?;
     /// let car = scene.add_root(1)?;
     /// let wheel = scene.add_child(car, 2)?;
-    /// assert_eq!(rt; scene.fold_up(wheel, 0, |sum, value| sum * 10 + *value), Some(21));
+    /// assert_eq!(rt; scene.fold_up(wheel, 0, |most: u64, value| most.max(*value)), Some(2));
     /// ```
     pub fn fold_up<A: Drop, F: FnMut(A, &T) -> A>(
         &self,
