@@ -184,7 +184,8 @@ module _ {T : Type 0} where
     listed_parent p k more = by_parent (parent_of nodes k) p (parent_of nodes k ≡ Some p) (λ is. is) (λ other. absurd (let none = listed_never p k other in omega arith))
 
   -- what each count is by itself makes the lists right
-  pub make_listed : (nodes : Nodes T) → ((p k : Key) → parent_of nodes k ≡ Some p → times k (children_of nodes p) ≡ 1) → ((p k : Key) → parent_of nodes k ≢ Some p → times k (children_of nodes p) ≡ 0) → AreListed nodes
+  pub make_listed : (nodes : Nodes T) → ((p k : Key) → parent_of nodes k ≡ Some p → times k (children_of nodes p) ≡ 1)
+      → ((p k : Key) → parent_of nodes k ≢ Some p → times k (children_of nodes p) ≡ 0) → AreListed nodes
   make_listed nodes once never p k = by_parent (parent_of nodes k) p (times k (children_of nodes p) ≡ is_parent (parent_of nodes k) p)
       (λ is. once p k is ∙ sym (is_its_parent (parent_of nodes k) p is)) (λ other. never p k other ∙ sym (is_no_parent (parent_of nodes k) p other))
 
@@ -205,12 +206,16 @@ module _ {T : Type 0} where
       above (suc n) leads = let h = sym leads.1.1 ∙ is in let same : leads.0 ≡ p = cc in leads_live nodes n p (subst (Leads nodes n) same leads.1.2)
 
   -- and still is so where no parent and no key changed
-  pub parent_stands : (nodes new : Nodes T) → IsTree nodes → ((q : Key) → map.contains_key new q ≡ map.contains_key nodes q) → (k : Key) → parent_of new k ≡ parent_of nodes k → IfSome (parent_of new k) (λ p. has_node new p)
+  pub parent_stands : (nodes new : Nodes T) → IsTree nodes → ((q : Key) → map.contains_key new q ≡ map.contains_key nodes q)
+      → (k : Key) → parent_of new k ≡ parent_of nodes k → IfSome (parent_of new k) (λ p. has_node new p)
   parent_stands nodes new tree kept k same = by (parent_of new k) refl
     where
       by : (o : Option Key) → parent_of new k ≡ o → IfSome o (λ p. has_node new p)
       by None is = tt
       by (Some p) is = kept p ∙ parent_there nodes tree k p (sym same ∙ is)
+
+  pub found_stands : (nodes : Nodes T) → IsTree nodes → (k : Key) (node : Node T) → map.get nodes k ≡ Some node → IfSome node.parent (λ p. has_node nodes p)
+  found_stands nodes tree k node there = subst (λ o. IfSome o (λ p. has_node nodes p)) (ap parent_in there) (parent_stands nodes nodes tree (λ q. refl) k refl)
 
   pub scene_leaf : (nodes : Nodes T) (k : Key) (v : T) → lacks_node nodes k → IsScene nodes → IsScene (map.insert nodes k (leaf v))
   scene_leaf nodes k v fresh scene = record {

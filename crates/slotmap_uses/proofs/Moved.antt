@@ -10,7 +10,8 @@ use Rattle.slotmap_uses.specs.GraphParts.{times}
 use Rattle.slotmap_uses.specs.Family.{without, children_in, IsScene, leaf, value_of, forgets, with_child, without_child, detached, attached}
 use Rattle.slotmap_uses.proofs.Children.{without_none, without_pushed}
 use Rattle.slotmap_uses.proofs.Climbs.{no_cycle}
-use Rattle.slotmap_uses.proofs.Families.{by_parent, listed_once, listed_never, parent_there, parented_here, parented_other, written_here, written_other, written_keys, written_parent, parent_stands, detached_parents, scene_leaf, scene_detached, scene_attached}
+use Rattle.slotmap_uses.proofs.Families.{by_parent, listed_once, listed_never, parent_there, parented_here, parented_other, written_here, written_other, written_keys, written_parent}
+use Rattle.slotmap_uses.proofs.Families.{parent_stands, detached_parents, scene_leaf, scene_detached, scene_attached}
 
 module _ {T : Type 0} where
   -- a node comes, as the last child of another one
@@ -101,7 +102,8 @@ module _ {T : Type 0} where
     scene_removed new others q out = others q (λ w. out (within_before nodes k q k w)) ∙ detached_get q (λ same. out (zero, same))
 
     -- the value of a root is that of the node
-    value_left : (o : Option (Node T)) → option_map (λ (n : Node T). n.value) (option_map (λ (n : Node T). record n { parent = None }) (option_map (forgets k) o)) ≡ option_map (λ (n : Node T). n.value) o
+    value_left : (o : Option (Node T))
+        → option_map (λ (n : Node T). n.value) (option_map (λ (n : Node T). record n { parent = None }) (option_map (forgets k) o)) ≡ option_map (λ (n : Node T). n.value) o
     value_left None = refl
     value_left (Some n) = refl
 
@@ -191,7 +193,8 @@ module _ {T : Type 0} where
 
     the_same : with_parent (without_child pushed (parent_of nodes k) k) k (Some p) ≡ attached (detached nodes k) k p
     the_same = map.same_map keys_total exact_keys (with_parent (without_child pushed (parent_of nodes k) k) k (Some p)) (attached (detached nodes k) k p) (λ q. elim (same_or_other q k) [
-      | inl is ↦ rw is (with_given (without_child pushed (parent_of nodes k) k) ∙ ap given at_self ∙ given_twice (map.get nodes k) ∙ sym (with_given (with_child (detached nodes k) p k) ∙ ap given target_self))
+      | inl is ↦ rw is (with_given (without_child pushed (parent_of nodes k) k) ∙ ap given at_self ∙ given_twice (map.get nodes k)
+          ∙ sym (with_given (with_child (detached nodes k) p k) ∙ ap given target_self))
       | inr other ↦ parented_other (without_child pushed (parent_of nodes k) k) k (Some p) (map.get (without_child pushed (parent_of nodes k) k) k) q other ∙ at_other q other
           ∙ sym (parented_other (with_child (detached nodes k) p k) k (Some p) (map.get (with_child (detached nodes k) p k) k) q other)
     ])

@@ -89,7 +89,9 @@ module _ {T : Type 0} where
       left = λ k n is. (n.children, is);
       above = λ c p there is. parent_there old scene.tree c p is;
       below = λ c p there is. inl (let one = listed_once old scene.listed p c is in omega arith);
-      once = λ c p. by_parent (parent_of old c) p (times c (children_of old p) ≤ 1) (λ is. let one = listed_once old scene.listed p c is in omega arith) (λ other. let none = listed_never old scene.listed p c other in omega arith);
+      once = λ c p. by_parent (parent_of old c) p (times c (children_of old p) ≤ 1)
+          (λ is. let one = listed_once old scene.listed p c is in omega arith)
+          (λ other. let none = listed_never old scene.listed p c other in omega arith);
       named = λ c p more. (let is = listed_parent old scene.listed p c more in (
         has_parent old c p is,
         is,
@@ -164,7 +166,8 @@ module _ {T : Type 0} where
             | inl more ↦ elim (same_or_other p at) [
               | inl here ↦ elim (same_or_other child c) [
                 | inl this ↦ inr (zero, this)
-                | inr another ↦ inl (rw here (let m = rw here at more in let sum = counted c in let none = one_other child c another in let now_is = ap (times c) (ap children_in popped_here) in omega arith))
+                | inr another ↦ inl (rw here (let m = rw here at more in let sum = counted c in let none = one_other child c another in
+                    let now_is = ap (times c) (ap children_in popped_here) in omega arith))
               ]
               | inr elsewhere ↦ inl (let alike = ap (times c) (popped_kids p elsewhere) in omega arith)
             ]
@@ -218,7 +221,8 @@ module _ {T : Type 0} where
 
         removed_kids : (c q : Key) → 0 < times c (children_of removed q) → (q ≢ at) × (0 < times c (children_of now q))
         removed_kids c q more = elim (same_or_other q at) [
-          | inl is ↦ absurd (let m : 0 < times c (children_of removed at) = subst (λ x. 0 < times c (children_of removed x)) is more in let none = ap (times c) (ap children_in removed_here) in omega arith)
+          | inl is ↦ absurd (let m : 0 < times c (children_of removed at) = subst (λ x. 0 < times c (children_of removed x)) is more in
+              let none = ap (times c) (ap children_in removed_here) in omega arith)
           | inr other ↦ (other, (let alike = ap (times c) (ap children_in (removed_other q other)) in omega arith))
         ]
 
@@ -312,7 +316,8 @@ module _ {T : Type 0} where
       down_less rest child split = down_smaller old now (popped rest) scene.tree at child old_here (child_named rest child split).1 (popped_len rest)
 
       -- the list was empty, and the leaf was removed
-      module _ (rest : List Key) (empty : n.children ≡ []) (split : n.children ≡ rest ++ []) (new : Nodes T) (gone : new ≡ map.remove (popped rest) at) (leaf : Node T) (taken : Some leaf ≡ map.get (popped rest) at) where
+      module _ (rest : List Key) (empty : n.children ≡ []) (split : n.children ≡ rest ++ []) (new : Nodes T)
+          (gone : new ≡ map.remove (popped rest) at) (leaf : Node T) (taken : Some leaf ≡ map.get (popped rest) at) where
         new_is : new ≡ map.remove now at
         new_is = gone ∙ ap (λ m. map.remove m at) (popped_none rest split)
 

@@ -4,8 +4,8 @@
 //! - [`stable_list`]: a linked list whose elements have cursors that stay valid.
 //! - [`graph`]: nodes and edges under keys of their own.
 //! - [`entities`]: an entity store with components in side tables.
-//! - [`scene`]: nodes in trees, which never close a cycle; [`scene::world`] puts together the values
-//!   on the way to a root.
+//! - [`scene`]: nodes in trees, which never close a cycle, with their children in order;
+//!   [`scene::world`] puts together the values on the way to a root.
 //! - [`scheduler`]: jobs that come in order of time, and can be cancelled by their handles.
 //!
 //! In each of them a key that is removed stays stale for good, as in the map below it. No module

@@ -10,13 +10,13 @@
 //! - [`Scene::remove`] removes a node with all that is below it, and no other.
 //! - A call that fails changes nothing, and hands back what it was given.
 //!
-//! A call takes constant time, unless a list of children grows, with these exceptions:
+//! A call takes constant time, unless a vector grows, with these exceptions:
 //!
-//! - [`Scene::depth`] and [`Scene::reparent`] take time linear in the number of nodes above the one
-//!   that they are given.
+//! - [`Scene::depth`] takes time linear in the number of nodes above the node, and
+//!   [`Scene::reparent`] in the number of those above the new parent.
 //! - [`Scene::reparent`], [`Scene::make_root`] and [`Scene::remove`] look for the node among the
-//!   children of its parent, and those behind it move up.
-//! - [`Scene::remove`] takes time linear in the number of nodes that it removes.
+//!   children of its parent, and those behind it move up: time linear in the number of siblings.
+//! - [`Scene::remove`] takes time linear in the number of nodes that it removes, besides.
 //!
 //! ```
 //! let mut scene = Scene::new(alloc)?;
@@ -35,8 +35,9 @@ ghost use Rattle.std.specs.Prelude.{◌≡◌, ◌↔◌, Some, None, IfOk, IfEr
 ghost use Rattle.std.specs.FinMap as map;
 ghost use Rattle.slotmap.specs.Words.{Key as KeyOf};
 ghost use Rattle.slotmap_uses.specs.declared.scene.ReparentError.TheVariants as move_error;
-ghost use Rattle.slotmap_uses.specs.Climb.{HandsBack, IsNotGone, RefusesChild, RefusesParent, Leads, IsWithin, has_node, lacks_node};
-ghost use Rattle.slotmap_uses.specs.Family.{attached, children_of, detached, forgets, leaf, value_of};
+ghost use Rattle.slotmap_uses.specs.Climb.{HandsBack, IsNotGone, RefusesChild, RefusesParent, Leads, IsWithin, has_node, lacks_node, parent_of};
+ghost use Rattle.slotmap_uses.specs.Family.{attached, children_of, detached, forgets, is_parent, leaf, value_of};
+ghost use Rattle.slotmap_uses.specs.GraphParts.{times};
 
 pub use crate::scene::children::Children;
 use crate::scene::links::{add, add_below, leave_parent, push_child, remove_tree, set_parent};
@@ -148,16 +149,27 @@ impl<T: Drop> Scene<T> {
         self.nodes.get(node)
     }
 
-    /// Returns the keys of the children of a node, in order.
+    /// Returns the keys of the children of a node, in order: each node whose parent it is, once.
     ///
     /// A node that is gone has none.
     pub fn children(&self, node: DefaultKey) -> &[DefaultKey]
-        ensures { result.now ≡ children_of self.now node }
+        ensures value { result.now ≡ children_of self.now node }
+        ensures listed { (k : KeyOf) → times k result.now ≡ is_parent (parent_of self.now k) node }
     {
         match self.nodes.get(node) {
             Some(node) => node.children.as_slice(),
             None => &[],
         }
+    }
+
+    /// Returns the key of the parent of a node, or `None` if the node is a root or is gone.
+    ///
+    /// The parent is there.
+    pub fn parent(&self, node: DefaultKey) -> Option<DefaultKey>
+        ensures value { result ≡ parent_of self.now node }
+        ensures live { IfSome result (λ parent. has_node self.now parent) }
+    {
+        self.nodes.get(node)?.parent
     }
 
     /// Adds a root with no children, and returns its key.
@@ -227,6 +239,8 @@ impl<T: Drop> Scene<T> {
 
     /// Makes a node the last child of another one, with all that is below it.
     ///
+    /// It comes last even if it was a child of the new parent before.
+    ///
     /// It fails exactly if one of the two is gone, if the new parent is the node or below it, or if
     /// memory runs out. The scene is then as before.
     pub fn reparent(&mut self, node: DefaultKey, parent: DefaultKey) -> Result<(), ReparentError>
@@ -251,7 +265,9 @@ impl<T: Drop> Scene<T> {
         Ok(())
     }
 
-    /// Makes a node a root, with all that is below it, and returns whether the node is there.
+    /// Makes a node a root, which keeps all that is below it, and returns whether the node is there.
+    ///
+    /// It allocates nothing.
     pub fn make_root(&mut self, node: DefaultKey) -> bool
         ensures which { IsTrue result ↔ has_node self.old node }
         ensures new { self.new ≡ detached self.old node }

@@ -12,7 +12,8 @@ returns-then-eq c =
     let items = c.loop-at.keys.items in
     let below : c.loop-at.at < length items = omega (arith, c.loop-at.keys.ok.0) in
     let is : c.index.result.now ≡ c.args.key = (same_keys c.index.result.now c.args.key).0 (sym c.if-eq.ensures) in
-    c.remove.ensures.by_index.2 ∙ sym (without_here c.args.key items c.loop-at.at c.index.result.now below c.index.ensures is c.loop-at.invariant.1) ∙ ap (λ v. without c.args.key v.items) c.loop-at.invariant.0
+    c.remove.ensures.by_index.2 ∙ sym (without_here c.args.key items c.loop-at.at c.index.result.now below c.index.ensures is c.loop-at.invariant.1)
+    ∙ ap (λ v. without c.args.key v.items) c.loop-at.invariant.0
 
 pub loop-at-preserved : goal.loop-at-preserved
 loop-at-preserved c =
