@@ -1,22 +1,32 @@
 -- What a fold of the values on the way up comes to.
-use Rattle.std.proofs.Common.{zero, suc, inl, inr, ◌≡◌, ◌≢◌, List, [], ◌∷◌, ◌++◌, Option, Some, None, true, false, is_some, IfSome, IfNone, refl, sym, ap, subst, ◌∙◌, option_map, arith}
-use Rattle.std.specs.Fn.{Mut, Called}
+use Rattle.std.proofs.Common.{◌≡◌, ◌≢◌, ℕ, zero, suc, List, [], ◌∷◌, ◌++◌, append_assoc, Option, Some, None, IfSome, IfNone, is_some, option_map, true, inl, inr, refl, sym, ap, subst, ◌∙◌, arith}
+use Rattle.std.specs.Fn.{Mut, Takes}
 use Rattle.std.specs.Borrow.{Bor}
 use Rattle.std.specs.List.{FoldsTo, fold}
+use Rattle.std.proofs.lemmas.Fn.{FoldsTo-push, chained_keeps}
 use Rattle.std.specs.FinMap as map
 use Rattle.slotmap.specs.Words.{Key}
 use Rattle.slotmap.proofs.Callers.{keys, same_or_other}
 use Rattle.slotmap_uses.specs.declared.scene.Node.{Node}
-use Rattle.slotmap_uses.specs.Climb.{Nodes, has_node, lacks_node, parent_of, parent_in, IsTree, IsWithin, with_parent, with_parent_in}
+use Rattle.slotmap_uses.specs.Climb.{Nodes, has_node, lacks_node, parent_of, parent_in, Leads, IsTree, IsWithin, with_parent}
 use Rattle.slotmap_uses.specs.Family.{value_of, leaf, without, with_children_in, with_child, without_child, attached, detached}
-use Rattle.slotmap_uses.proofs.Climbs.{next_up, leads_live}
+use Rattle.slotmap_uses.proofs.Climbs.{climbing_start, climbing_live, climbing_step}
 use Rattle.slotmap_uses.proofs.Families.{parented_here, parented_other, written_here, written_other, attached_parents, detached_parents}
-use Rattle.slotmap_uses.specs.WorldValues.{IsPathFrom, IsPathUp, world_along, IsWorld, CallsAt, FoldsUp}
+use Rattle.slotmap_uses.specs.WorldValues.{IsPathFrom, IsPathUp, world_along, IsWorld, CallsAt, FoldsUp, CallableUp}
 
 module _ {T : Type 0} (nodes : Nodes T) where
   -- the node at k, in front of a path from its parent
   pub path_step : (k : Key) (node : Node T) → map.get nodes k ≡ Some node → (above : List T) → IsPathFrom nodes node.parent above → IsPathUp nodes k (node.value ∷ above)
-  path_step k node there above path = (ap (option_map (λ n. n.value)) there, subst (λ p. IsPathFrom nodes p above) (sym (ap parent_in there)) path)
+  path_step k node there above path =
+      (ap (option_map (λ n. n.value)) there, subst (λ p. IsPathFrom nodes p above) (sym (ap parent_in there)) path)
+
+  -- a root is the end of its path
+  root_path : (k : Key) (node : Node T) → map.get nodes k ≡ Some node → node.parent ≡ None → IsPathUp nodes k (node.value ∷ [])
+  root_path k node there top = path_step k node there [] (subst (λ p. IsPathFrom nodes p []) (sym top) tt)
+
+  -- any other node is in front of a path from its parent
+  child_path : (k p : Key) (node : Node T) → map.get nodes k ≡ Some node → node.parent ≡ Some p → (above : List T) → IsPathUp nodes p above → IsPathUp nodes k (node.value ∷ above)
+  child_path k p node there up above path = path_step k node there above (subst (λ q. IsPathFrom nodes q above) (sym up) path)
 
   -- a path goes up from a node that is there
   path_live : (k : Key) (values : List T) → IsPathUp nodes k values → has_node nodes k
@@ -49,19 +59,21 @@ module _ {T : Type 0} (nodes : Nodes T) where
 
   -- a root is where its own value says
   pub world_root : (under : T → T → T) (k : Key) (node : Node T) → map.get nodes k ≡ Some node → node.parent ≡ None → IsWorld under nodes k node.value
-  world_root under k node there top = record { own = node.value; above = []; path = path_step k node there [] (subst (λ p. IsPathFrom nodes p []) (sym top) tt); made = refl }
+  world_root under k node there top = record { own = node.value; above = []; path = root_path k node there top; made = refl }
 
   -- any other node is where its own value says, under its parent
-  pub world_child : (under : T → T → T) (k p : Key) (node : Node T) (w : T) → map.get nodes k ≡ Some node → node.parent ≡ Some p → IsWorld under nodes p w → IsWorld under nodes k (under node.value w)
+  pub world_child : (under : T → T → T) (k p : Key) (node : Node T) (w : T) → map.get nodes k ≡ Some node → node.parent ≡ Some p
+      → IsWorld under nodes p w → IsWorld under nodes k (under node.value w)
   world_child under k p node w there up world = record {
     own = node.value;
     above = world.own ∷ world.above;
-    path = path_step k node there (world.own ∷ world.above) (subst (λ q. IsPathFrom nodes q (world.own ∷ world.above)) (sym up) world.path);
+    path = child_path k p node there up (world.own ∷ world.above) world.path;
     made = ap (under node.value) world.made;
   }
 
   -- what `world` returns, where it is known by these two
-  pub world_is : (under : T → T → T) (k : Key) (w : T) (result : Option T) → IsWorld under nodes k w → IfSome result (IsWorld under nodes k) → IfNone result (lacks_node nodes k) → result ≡ Some w
+  pub world_is : (under : T → T → T) (k : Key) (w : T) (result : Option T) → IsWorld under nodes k w
+      → IfSome result (IsWorld under nodes k) → IfNone result (lacks_node nodes k) → result ≡ Some w
   world_is under k w None world some none = let live = path_live k (world.own ∷ world.above) world.path in absurd (cc)
   world_is under k w (Some v) world some none = ap Some (one_world under k v w some world)
 
@@ -75,33 +87,77 @@ module _ {T : Type 0} (under : T → T → T) (joins : (a b c : T) → under (un
   fold_world v [] = refl
   fold_world v (p ∷ above) = fold_under v p above ∙ ap (under v) (fold_world p above)
 
--- what a loop up from a node knows at another one: what is called from there on is the rest of all calls
+-- from each node that leads up to a root there is a path
+module _ {T : Type 0} (nodes : Nodes T) where
+  live_value : (k : Key) → has_node nodes k → (v : T) × (value_of nodes k ≡ Some v)
+  live_value k live = found (map.get nodes k) live
+    where
+      found : (node : Option (Node T)) → is_some node ≡ true → (v : T) × (option_map (λ n. n.value) node ≡ Some v)
+      found None is = absurd (cc)
+      found (Some node) is = (node.value, refl)
+
+  path_of : (n : ℕ) (k : Key) → Leads nodes n k → (v : T) × (above : List T) × IsPathUp nodes k (v ∷ above)
+  path_of zero k leads = let own = live_value k leads.0 in (own.0, [], (own.1, subst (λ p. IsPathFrom nodes p []) (sym leads.1) tt))
+  path_of (suc n) k leads =
+      let own = live_value k leads.1.0 in
+      let up = path_of n leads.0 leads.1.2 in
+      (own.0, up.0 ∷ up.1, (own.1, subst (λ p. IsPathFrom nodes p (up.0 ∷ up.1)) (sym leads.1.1) up.2))
+
+-- what a loop up from a node knows at another one: the values below it, and the calls for these
 module _ {F A T : Type 0} (g : Mut F (A × (Bor T × Unit {0})) A) (nodes : Nodes T) where
   pub record Folding (from : Key) (f₀ : F) (start : A) (at : Key) (f : F) (total : A) : Type 0 where
-    pub rest : (above : List T) (last : F) (end : A) → IsPathUp nodes at above → FoldsTo (CallsAt g) (f, total) above (last, end) → FoldsUp g nodes from f₀ start end
+    pub below : List T
+    pub calls : FoldsTo (CallsAt g) (f₀, start) below (f, total)
+    pub path : (above : List T) → IsPathUp nodes at above → IsPathUp nodes from (below ++ above)
 
   pub folding_start : (k : Key) (f : F) (start : A) → Folding k f start k f start
-  folding_start k f start = record { rest = λ above last end path calls. record { values = above; path = path; last = last; calls = calls } }
+  folding_start k f start = record { below = []; calls = refl; path = λ above up. up }
 
-  module _ (from : Key) (f₀ : F) (start : A) (at : Key) (f : F) (total : A) (folding : Folding from f₀ start at f total) (node : Node T) (there : map.get nodes at ≡ Some node) (f' : F) (next : A) (call : CallsAt g (f, total) node.value (f', next)) where
-    pub folding_step : (p : Key) → node.parent ≡ Some p → Folding from f₀ start p f' next
-    folding_step p is = record { rest = λ above last end path calls. folding.rest (node.value ∷ above) last end (path_step nodes at node there above (subst (λ q. IsPathFrom nodes q above) (sym is) path)) ((f', next), call, calls) }
+  module _ (from : Key) (f₀ : F) (start : A) (at : Key) (f : F) (total : A) (folding : Folding from f₀ start at f total) (node : Node T) (there : map.get nodes at ≡ Some node) where
+    pub folding_takes : CallableUp g nodes from f₀ start → (n : ℕ) → Leads nodes n at → (shown : Bor T) → shown.now ≡ node.value → Takes g f (total, (shown, tt))
+    folding_takes callable n leads shown same =
+        let up = path_of nodes n at leads in
+        let path : IsPathUp nodes at (shown.now ∷ up.1) = (ap (option_map (λ n. n.value)) there ∙ ap Some (sym same), up.2.1) in
+        callable.at folding.below up.1 f total shown (folding.path (shown.now ∷ up.1) path) folding.calls
 
-    pub folding_end : node.parent ≡ None → FoldsUp g nodes from f₀ start next
-    folding_end is = folding.rest (node.value ∷ []) f' next (path_step nodes at node there [] (subst (λ q. IsPathFrom nodes q []) (sym is) tt)) ((f', next), call, refl)
+    module _ (f' : F) (next : A) (call : CallsAt g (f, total) node.value (f', next)) where
+      folded_here : FoldsTo (CallsAt g) (f₀, start) (folding.below ++ node.value ∷ []) (f', next)
+      folded_here = FoldsTo-push (CallsAt g) (f₀, start) folding.below (f, total) node.value (f', next) folding.calls call
+
+      pub folding_step : (p : Key) → node.parent ≡ Some p → Folding from f₀ start p f' next
+      folding_step p is = record {
+        below = folding.below ++ node.value ∷ [];
+        calls = folded_here;
+        path = λ above up. subst (IsPathUp nodes from) (sym (append_assoc folding.below (node.value ∷ []) above)) (folding.path (node.value ∷ above) (child_path nodes at p node there is above up));
+      }
+
+      pub folding_end : node.parent ≡ None → FoldsUp g nodes from f₀ start next
+      folding_end is = record { values = folding.below ++ node.value ∷ []; path = folding.path (node.value ∷ []) (root_path nodes at node there is); last = f'; calls = folded_here }
+
+  -- for a caller: what holds from call to call, and lets the closure be called
+  pub callable_up : (J : List T → F × A → Type 0) → ((below : List T) (q : F × A) (v : T) (r : F × A) → J below q → CallsAt g q v r → J (below ++ v ∷ []) r)
+      → (k : Key) (f : F) (start : A) → J [] (f, start)
+      → ((below above : List T) (f' : F) (so_far : A) (shown : Bor T) → IsPathUp nodes k (below ++ shown.now ∷ above) → J below (f', so_far) → Takes g f' (so_far, (shown, tt)))
+      → CallableUp g nodes k f start
+  callable_up J keeps k f start holds takes = record {
+    at = λ below above f' so_far shown path calls. takes below above f' so_far shown path (chained_keeps (CallsAt g) J keeps below (f, start) (f', so_far) holds calls);
+  }
 
 -- a fold by the closure that puts each value under the next one
-module _ {F T : Type 0} (g : Mut F (T × (Bor T × Unit {0})) T) (under : T → T → T) (puts : (f f' : F) (v p w : T) → CallsAt g (f, v) p (f', w) → w ≡ under v p) where
+module _ {F T : Type 0} (g : Mut F (T × (Bor T × Unit {0})) T) (under : T → T → T)
+    (puts : (f f' : F) (v p w : T) → CallsAt g (f, v) p (f', w) → w ≡ under v p) where
   folded : (above : List T) (f last : F) (v w : T) → FoldsTo (CallsAt g) (f, v) above (last, w) → w ≡ fold under v above
   folded [] f last v w calls = sym (ap (λ s. s.1) calls)
-  folded (p ∷ above) f last v w calls = folded above calls.0.0 last calls.0.1 w calls.2 ∙ ap (λ x. fold under x above) (puts f calls.0.0 v p calls.0.1 calls.1)
+  folded (p ∷ above) f last v w calls =
+      folded above calls.0.0 last calls.0.1 w calls.2 ∙ ap (λ x. fold under x above) (puts f calls.0.0 v p calls.0.1 calls.1)
 
-  module _ (joins : (a b c : T) → under (under a b) c ≡ under a (under b c)) (nodes : Nodes T) (k p : Key) (node : Node T) (there : map.get nodes k ≡ Some node) (up : node.parent ≡ Some p) where
+  module _ (joins : (a b c : T) → under (under a b) c ≡ under a (under b c)) (nodes : Nodes T) (k p : Key) (node : Node T)
+      (there : map.get nodes k ≡ Some node) (up : node.parent ≡ Some p) where
     pub world_of_fold : (f : F) (w : T) → FoldsUp g nodes p f node.value w → IsWorld under nodes k w
     world_of_fold f w folds = record {
       own = node.value;
       above = folds.values;
-      path = path_step nodes k node there folds.values (subst (λ q. IsPathFrom nodes q folds.values) (sym up) folds.path);
+      path = child_path nodes k p node there up folds.values folds.path;
       made = folded folds.values f folds.last node.value w folds.calls ∙ fold_world under joins node.value folds.values;
     }
 
@@ -111,15 +167,18 @@ module _ {F T : Type 0} (g : Mut F (T × (Bor T × Unit {0})) T) (under : T → 
 
 -- a parent is there
 module _ {T : Type 0} (nodes : Nodes T) (k p : Key) (node : Node T) (there : map.get nodes k ≡ Some node) (up : node.parent ≡ Some p) where
-  pub parent_there : IsTree nodes → has_node nodes p
-  parent_there tree =
-      let way = tree k (ap is_some there) in
-      let next = next_up nodes way.0 k p way.1 (ap parent_in there ∙ up) in
-      leads_live nodes next.0 p next.1.1
+  parent_there : IsTree nodes → has_node nodes p
+  parent_there tree = climbing_live nodes k p 1 (climbing_step nodes k k 0 (climbing_start nodes tree k (ap is_some there)) node there p up)
 
   pub parent_found : IsTree nodes → {X : Type 0} (result : Option X) → IfNone result (lacks_node nodes p) → IfNone result (lacks_node nodes k)
   parent_found tree None lacks = let live = parent_there tree in absurd (cc)
   parent_found tree (Some w) lacks = tt
+
+-- where a path stays, what is put together along it stays
+world_kept : {T : Type 0} (under : T → T → T) (old new : Nodes T) (k : Key) (w : T) → ((values : List T) → IsPathUp old k values → IsPathUp new k values)
+    → IsWorld under old k w → IsWorld under new k w
+world_kept under old new k w kept world =
+    record { own = world.own; above = world.above; path = kept (world.own ∷ world.above) world.path; made = world.made }
 
 -- each node keeps its own value where parents and lists of children alone change
 module _ {T : Type 0} (nodes : Nodes T) where

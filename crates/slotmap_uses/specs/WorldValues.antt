@@ -1,6 +1,6 @@
 -- The values on the way from a node up to its root, and what is made of them.
-use Rattle.std.specs.Prelude.{◌≡◌, Option, Some, None, List, [], ◌∷◌, ⊤}
-use Rattle.std.specs.Fn.{Mut, Called}
+use Rattle.std.specs.Prelude.{◌≡◌, Option, Some, None, List, [], ◌∷◌, ◌++◌, ⊤}
+use Rattle.std.specs.Fn.{Mut, Called, Takes}
 use Rattle.std.specs.Borrow.{Bor}
 use Rattle.std.specs.List.{FoldsTo}
 use Rattle.slotmap.specs.Words.{Key}
@@ -44,3 +44,8 @@ module _ {F A T : Type 0} (g : Mut F (A × (Bor T × Unit {0})) A) where
     pub path : IsPathUp nodes k values
     pub last : F
     pub calls : FoldsTo CallsAt (f, start) values (last, end)
+
+  -- f may be called for each value from k up to its root, after calls for all values below it
+  pub record CallableUp (nodes : Nodes T) (k : Key) (f : F) (start : A) : Type 0 where
+    pub at : (below above : List T) (f' : F) (so_far : A) (shown : Bor T) → IsPathUp nodes k (below ++ shown.now ∷ above)
+        → FoldsTo CallsAt (f, start) below (f', so_far) → Takes g f' (so_far, (shown, tt))

@@ -21,7 +21,7 @@
 
 ghost use Rattle.std.specs.Prelude.{◌≡◌, IfSome, IfNone};
 ghost use Rattle.slotmap_uses.specs.Climb.{lacks_node};
-ghost use Rattle.slotmap_uses.specs.WorldValues.{FoldsUp, IsWorld};
+ghost use Rattle.slotmap_uses.specs.WorldValues.{CallableUp, FoldsUp, IsWorld};
 
 use crate::scene::Scene;
 use slotmap::DefaultKey;
@@ -92,7 +92,8 @@ impl<T: Drop> Scene<T> {
     ) -> Option<A>
     where
         F: Drop,
-        requires { F.IsAlwaysCallable f }
+        // For each value on the way, after calls for the values below it.
+        requires { CallableUp F.FnMut self.now node f start }
         ensures some { IfSome result (FoldsUp F.FnMut self.now node f start) }
         ensures none { IfNone result (lacks_node self.now node) }
     {

@@ -1,13 +1,12 @@
-use Rattle.std.proofs.Common.{refl, sym, ◌∙◌, of_calls}
-use Rattle.slotmap_uses.proofs.Climbs.{climbing_start, climbing_live, climbing_step}
-use Rattle.slotmap_uses.proofs.Worlds.{folding_start, folding_step, folding_end}
+use Rattle.std.proofs.Common.{refl, sym, ◌∙◌}
+use Rattle.slotmap_uses.proofs.Climbs.{climbing_start, climbing_step}
+use Rattle.slotmap_uses.proofs.Worlds.{folding_start, folding_takes, folding_step, folding_end}
 use Rattle.slotmap_uses.proofs.scene.Scene.fold_up.Goals as goal
 
 pub loop-step-init : goal.loop-step-init
 loop-step-init g c = record {
   climbing = rw (← c.self.view_is) (climbing_start _ c.self.invariant.tree c.args.node (sym c.contains_key.ensures.value ∙ c.if-not-contains_key.false));
   folding = folding_start _ _ _ _ _;
-  callable = c.requires;
 }
 
 pub returns-in-None-clause-some : goal.returns-in-None-clause-some
@@ -22,5 +21,10 @@ loop-step-preserved g c =
       climbing = climbing_step _ _ _ _ c.loop-step.invariant.climbing _ there _ c.in-Some.is;
       folding = folding_step _ _ _ _ _ _ _ _ c.loop-step.invariant.folding _ there c.f-total.new.self c.f-total.result
           (record { shown = _; shows = refl; called = c.f-total.ensures }) _ c.in-Some.is;
-      callable = search of_calls;
     }
+
+pub f-total-requires : goal.f-total-requires
+f-total-requires g c =
+    let there = rw c.self.view_is at c.index-node.ensures in
+    let climbing = c.loop-step.invariant.climbing in
+    folding_takes _ _ _ _ _ _ _ _ c.loop-step.invariant.folding _ there c.requires climbing.left climbing.up _ refl

@@ -7,5 +7,4 @@ abbrev pub invariant-loop-step : goal.invariant-loop-step
 invariant-loop-step g l = record {
   climbing : Climbing l.self l.fn.node l.at l._step;
   folding : Folding g.F.FnMut l.self l.fn.node l.fn.f l.fn.start l.at l.f l.total;
-  callable : goal.F-IsAlwaysCallable g l.f;
 }
