@@ -174,12 +174,6 @@ module _ {T : Type 0} (nodes : Nodes T) (k p : Key) (node : Node T) (there : map
   parent_found tree None lacks = let live = parent_there tree in absurd (cc)
   parent_found tree (Some w) lacks = tt
 
--- where a path stays, what is put together along it stays
-world_kept : {T : Type 0} (under : T → T → T) (old new : Nodes T) (k : Key) (w : T) → ((values : List T) → IsPathUp old k values → IsPathUp new k values)
-    → IsWorld under old k w → IsWorld under new k w
-world_kept under old new k w kept world =
-    record { own = world.own; above = world.above; path = kept (world.own ∷ world.above) world.path; made = world.made }
-
 -- each node keeps its own value where parents and lists of children alone change
 module _ {T : Type 0} (nodes : Nodes T) where
   value_parented : (k : Key) (parent : Option Key) (q : Key) → value_of (with_parent nodes k parent) q ≡ value_of nodes q

@@ -3,9 +3,9 @@
 ghost use Rattle.std.specs.Prelude.{◌≡◌, ◌+ℤ◌, Some, IfOk};
 ghost use Rattle.std.specs.Int.{int_wrap, w32};
 
-use crate::scene::world::Offset;
+use crate::scene::world::{Offset, Transform};
 use crate::scene::{AddError, Scene};
-use slotmap::ReserveError;
+use slotmap::{DefaultKey, ReserveError};
 use std::alloc::Global;
 use thiserror::Error;
 
@@ -35,4 +35,18 @@ pub fn hand_of_arm(
     let lower = arm.add_child(upper, elbow)?;
     let tip = arm.add_child(lower, hand)?;
     Ok(arm.world(tip))
+}
+
+/// Moves the hand to another piece of its arm, and returns where it is then.
+///
+/// It keeps its own shift, and is then under that piece, which stays where it was.
+pub fn move_hand(arm: &mut Scene<Offset>, hand: DefaultKey, piece: DefaultKey) -> Option<Offset> {
+    let shift = arm.get(hand)?.value;
+    let base = arm.world(piece)?;
+    let Ok(()) = arm.reparent(hand, piece) else {
+        return None;
+    };
+    let place = arm.world(hand)?;
+    prove_eq!(place, shift.under(&base));
+    Some(place)
 }

@@ -1,4 +1,3 @@
-use denote.Param.Always.{always_mut}
 use Rattle.slotmap_uses.proofs.Climbs.{Climbing}
 use Rattle.slotmap_uses.proofs.Worlds.{Folding}
 use Rattle.slotmap_uses.proofs.scene.Scene.fold_up.Given as goal
