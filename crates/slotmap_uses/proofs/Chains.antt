@@ -1,14 +1,13 @@
 -- What a change of the nodes does to the list.
-use Rattle.std.proofs.Common.{◌≡◌, ◌≢◌, ℕ, zero, suc, ◌+◌, Bool, true, false, cond, List, [], ◌∷◌, ◌++◌, length, Option, Some, None, is_some, IfSome, ◌⊎◌, inl, inr, refl, sym, ap, subst, ◌∙◌, arith, length-append, append_assoc, append-nil}
+use Rattle.std.proofs.Common.{◌≡◌, ◌≢◌, ◌+◌, Bool, true, false, cond, List, [], ◌∷◌, ◌++◌, length, Option, Some, None, is_some, IfSome, ◌⊎◌, inl, inr, refl, sym, ap, subst, ◌∙◌, arith, length-append, append_assoc, append-nil}
 use Rattle.std.specs.Option.{option_or, option_map}
 use Rattle.std.specs.Ordering.{eq_by_cmp}
 use Rattle.std.specs.FinMap as map
-use Rattle.std.specs.FinMap.Entries.{find}
 use Rattle.slotmap.specs.Words.{Key, key_cmp}
 use Rattle.slotmap.proofs.Callers.{keys_total, exact_keys, tied, untied, itself, len_removed, still_in, left_in}
 use Rattle.slotmap_uses.specs.declared.stable_list.Node.{Node}
 use Rattle.slotmap_uses.specs.Sequence.{Sequence, value_of, first_or, last_or, key_after, key_before, put_after, put_before, without, IsOnce, IsGap, PutsBetween}
-use Rattle.slotmap_uses.specs.Chain.{Nodes, follow_node, follow_key, follow, node_at, IsChain, with_next, with_prev, with_next_of, with_prev_of, outer}
+use Rattle.slotmap_uses.specs.Chain.{Nodes, follow_node, follow, node_at, IsChain, with_next, with_prev, with_next_of, with_prev_of, outer}
 
 abbrev same : Key → Key → Bool
 same q k = eq_by_cmp key_cmp q k

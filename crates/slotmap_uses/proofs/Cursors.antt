@@ -1,8 +1,8 @@
 -- The cursors of a list, without the values: which calls keep them, and which are gone for good.
-use Rattle.std.proofs.Common.{◌≡◌, Bool, true, false, cond, Option, Some, None, is_some, Result, Ok, Err, IfOk, IsErr, OnErr, OnSome, IfNone, IfSome, refl, sym, ap, ◌∙◌, arith}
+use Rattle.std.proofs.Common.{◌≡◌, true, Option, Some, None, is_some, refl, sym, ap, ◌∙◌, arith}
 use Rattle.std.specs.FinMap as map
-use Rattle.slotmap.specs.Words.{Key, key_cmp, Content, IsContent, IsLive, IsSpent, KeepsSpent, Inserts, Removes, Keeps, Leaves, MayGrow, StaysValid, keys_of, without_values, with_value}
-use Rattle.slotmap.proofs.Callers.{keys_total, exact_keys, keys, contains-keys_of, spent_alone, alone_spent, keeps_spent_alone, spent_finds_nothing, inserted_not_spent, spent_insert, spent_remove, remove_spent, spent_leaves, left_spent}
+use Rattle.slotmap.specs.Words.{Key, key_cmp, Content, IsContent, IsLive, IsSpent, KeepsSpent, Inserts, keys_of, without_values, with_value}
+use Rattle.slotmap.proofs.Callers.{keys_total, exact_keys, keys, contains-keys_of, spent_alone, alone_spent, keeps_spent_alone, spent_finds_nothing, inserted_not_spent}
 
 same_units : (a b : Option (Unit {0})) → is_some a ≡ is_some b → a ≡ b
 same_units None None is = refl

@@ -1,13 +1,11 @@
 -- Steps of an iterator over a list, from either end.
-use Rattle.std.proofs.Common.{◌≡◌, ℕ, zero, suc, ◌+◌, ◌-◌, ◌<◌, Bool, true, false, cond, List, [], ◌∷◌, ◌++◌, length, Option, Some, None, inl, inr, refl, sym, ap, subst, ◌∙◌, arith, length-append, append_assoc, append-nil}
-use Rattle.std.specs.Option.{option_or}
-use Rattle.std.specs.Ordering.{eq_by_cmp}
+use Rattle.std.proofs.Common.{◌≡◌, ℕ, zero, suc, ◌-◌, ◌<◌, List, [], ◌∷◌, ◌++◌, length, Option, Some, None, inl, inr, refl, sym, ap, subst, ◌∙◌, arith, length-append, append_assoc, append-nil}
 use Rattle.std.specs.FinMap as map
-use Rattle.slotmap.specs.Words.{Key, key_cmp}
+use Rattle.slotmap.specs.Words.{Key}
 use Rattle.slotmap_uses.specs.declared.stable_list.Node.{Node}
-use Rattle.slotmap_uses.specs.Sequence.{value_of, first_or, last_or, IsOnce}
+use Rattle.slotmap_uses.specs.Sequence.{first_or, last_or, IsOnce}
 use Rattle.slotmap_uses.specs.Chain.{Nodes, follow_node, follow, node_at, IsChain, IsWalk}
-use Rattle.slotmap_uses.proofs.Chains.{first_or-append, last_or-append, follow_part, node_here, snoc_view}
+use Rattle.slotmap_uses.proofs.Chains.{last_or-append, follow_part, node_here, snoc_view}
 
 module _ {T : Type 0} where
   -- all elements are left at the beginning

@@ -1,13 +1,13 @@
 -- An element that moves: its node is linked out of the list, and then in again.
-use Rattle.std.proofs.Common.{◌≡◌, ◌≢◌, ℕ, Bool, true, false, not, ◌&&◌, cond, List, [], ◌∷◌, ◌++◌, length, Option, Some, None, is_some, IfSome, refl, sym, ap, subst, ◌∙◌, arith, append-nil}
+use Rattle.std.proofs.Common.{◌≡◌, ◌≢◌, Bool, true, false, not, ◌&&◌, cond, List, [], ◌∷◌, ◌++◌, Option, Some, None, is_some, IfSome, refl, sym, ap, subst, ◌∙◌, arith, append-nil}
 use Rattle.std.specs.Option.{option_map}
 use Rattle.std.specs.Ordering.{eq_by_cmp}
 use Rattle.std.specs.FinMap as map
 use Rattle.slotmap.specs.Words.{Key, key_cmp, same_keys, Content}
 use Rattle.slotmap.proofs.Callers.{keys_total, exact_keys, keys, tied}
 use Rattle.slotmap_uses.specs.declared.stable_list.Node.{Node}
-use Rattle.slotmap_uses.specs.Sequence.{Sequence, value_of, first_or, last_or, put_after, put_before, put_again, without, moved_to_front, moved_to_back, moved_after, moved_before, is_same, are_two, IsOnce, IsGap, PutsBetween}
-use Rattle.slotmap_uses.specs.Chain.{Nodes, follow, IsChain, HasNeighbours, Unlinks, Links, with_next, with_prev, with_next_of, with_prev_of, outer}
+use Rattle.slotmap_uses.specs.Sequence.{Sequence, value_of, first_or, put_after, put_before, put_again, without, moved_to_front, moved_to_back, moved_after, moved_before, is_same, are_two, IsGap, PutsBetween}
+use Rattle.slotmap_uses.specs.Chain.{Nodes, IsChain, HasNeighbours, Unlinks, Links, with_next, with_prev, with_next_of, with_prev_of, outer}
 use Rattle.slotmap_uses.proofs.Chains.{if_some, value_found, stands_is_some, removal, removed_prev, removed_next, chain_put, gap_prev, gap_next, gap_after, gap_before, put_behind, put_ahead}
 
 three : (a b c : Bool) → (not a && (b && c)) ≡ true → (a ≡ false) × (b ≡ true) × (c ≡ true)

@@ -1,10 +1,10 @@
 -- A value that is written in a list.
-use Rattle.std.proofs.Common.{◌≡◌, ◌≢◌, ℕ, suc, Bool, true, false, cond, List, [], ◌∷◌, length, Option, Some, None, is_some, ◌⊎◌, inl, inr, refl, sym, ap, subst, ◌∙◌, arith}
+use Rattle.std.proofs.Common.{◌≡◌, suc, Bool, true, false, cond, List, [], ◌∷◌, length, Option, Some, None, is_some, ◌⊎◌, inl, inr, refl, sym, ap, ◌∙◌}
 use Rattle.std.specs.Option.{option_map}
 use Rattle.std.specs.Ordering.{eq_by_cmp}
 use Rattle.std.specs.FinMap as map
 use Rattle.slotmap.specs.Words.{Key, key_cmp, Content, without_values, with_value}
-use Rattle.slotmap.proofs.Callers.{keys_total, exact_keys, keys, tied, itself}
+use Rattle.slotmap.proofs.Callers.{keys_total, exact_keys, tied, itself}
 use Rattle.slotmap_uses.specs.declared.stable_list.Node.{Node}
 use Rattle.slotmap_uses.specs.Sequence.{Sequence, value_of, first_or, last_or, with_value_at, IsOnce}
 use Rattle.slotmap_uses.specs.Chain.{Nodes, follow, node_at, IsChain}

@@ -1,5 +1,5 @@
 -- What comes back from a call that is refused.
-use Rattle.std.specs.Prelude.{◌≡◌, List, Option, None, IsSome}
+use Rattle.std.specs.Prelude.{◌≡◌, List, None, IsSome}
 use Rattle.slotmap.specs.Words.{Key}
 use Rattle.slotmap_uses.specs.declared.stable_list.PushError.{PushError}
 use Rattle.slotmap_uses.specs.declared.stable_list.PushError.TheVariants as push

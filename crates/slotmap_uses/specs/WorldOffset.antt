@@ -1,5 +1,5 @@
 -- Two offsets, one after the other.
-use Rattle.std.specs.Prelude.{◌≡◌, ◌+ℤ◌, refl}
+use Rattle.std.specs.Prelude.{◌≡◌, ◌+ℤ◌}
 use Rattle.std.specs.Int.{int_wrap, w32}
 use Rattle.std.proofs.Common.{sym, ap, ◌∙◌}
 use Rattle.std.proofs.Math.IntN.{ℤ, +ℤ_assoc}

@@ -1,4 +1,4 @@
-use Rattle.std.proofs.Common.{◌≡◌, Some, None, refl, sym, ap, subst, ◌∙◌}
+use Rattle.std.proofs.Common.{◌≡◌, Some, sym, ap, subst, ◌∙◌}
 use Rattle.std.specs.Int.{int_wrap, w32}
 use Rattle.std.proofs.Math.IntN.{ℤ, ◌+ℤ◌, +ℤ_assoc}
 use Rattle.std.proofs.lemmas.Int.{int_wrap-add_right}

@@ -1,7 +1,7 @@
-use Rattle.std.proofs.Common.{◌≡◌, None, Some, ap, sym, ◌∙◌, subst}
+use Rattle.std.proofs.Common.{ap, ◌∙◌}
 use Rattle.std.specs.Option.{option_map}
 use Rattle.std.specs.FinMap as map
-use Rattle.slotmap.specs.Words.{Key, key_cmp}
+use Rattle.slotmap.specs.Words.{key_cmp}
 use Rattle.slotmap_uses.proofs.Chains.{elements_are, value_found}
 use Rattle.slotmap_uses.proofs.Cursors.{gone_finds_nothing}
 use Rattle.slotmap_uses.proofs.stable_list.StableList.get.Goals as goal

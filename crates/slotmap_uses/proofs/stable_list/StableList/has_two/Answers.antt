@@ -1,5 +1,5 @@
-use Rattle.std.proofs.Common.{◌≡◌, is_some, subst, sym, ◌∙◌}
-use Rattle.slotmap_uses.specs.Sequence.{value_of, is_same}
+use Rattle.std.proofs.Common.{subst, sym, ◌∙◌}
+use Rattle.slotmap_uses.specs.Sequence.{is_same}
 use Rattle.slotmap_uses.specs.Chain.{IsChain}
 use Rattle.slotmap_uses.proofs.Chains.{elements_are}
 use Rattle.slotmap_uses.proofs.Moves.{stands_here, not_two, both_two}

@@ -1,6 +1,5 @@
-use Rattle.std.proofs.Common.{◌≡◌, None, Some, true, is_some, IsSome, ap, sym, ◌∙◌, subst, refl}
+use Rattle.std.proofs.Common.{ap, sym, ◌∙◌, subst, refl}
 use Rattle.std.specs.Option.{option_map}
-use Rattle.std.specs.FinMap as map
 use Rattle.slotmap_uses.specs.Sequence.{value_of, IsOnce}
 use Rattle.slotmap_uses.proofs.Chains.{elements_are, value_found, gap_before, put_ahead, stands_is_some}
 use Rattle.slotmap_uses.proofs.stable_list.StableList.insert_before.Goals as goal

@@ -1,4 +1,4 @@
-use Rattle.std.proofs.Common.{◌≡◌, [], ◌∷◌, ◌++◌, None, refl, subst, sym, ap, ◌∙◌}
+use Rattle.std.proofs.Common.{[], ◌∷◌, ◌++◌, None, refl, subst, sym, ap, ◌∙◌}
 use Rattle.slotmap_uses.specs.Sequence.{Sequence}
 use Rattle.slotmap_uses.specs.Chain.{IsChain}
 use Rattle.slotmap_uses.proofs.Chains.{elements_are, chain_is, self_chain}

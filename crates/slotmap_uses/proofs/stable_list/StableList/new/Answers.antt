@@ -1,7 +1,3 @@
-use Rattle.std.proofs.Common.{◌≡◌, None, Some, ap, sym, ◌∙◌, subst}
-use Rattle.std.specs.Option.{option_map}
-use Rattle.std.specs.FinMap as map
-use Rattle.slotmap.specs.Words.{Key, key_cmp}
 use Rattle.slotmap_uses.proofs.Chains.{chain_new, chain_is, self_chain}
 use Rattle.slotmap_uses.proofs.stable_list.StableList.new.Goals as goal
 

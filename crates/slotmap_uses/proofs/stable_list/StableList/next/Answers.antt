@@ -1,7 +1,4 @@
-use Rattle.std.proofs.Common.{◌≡◌, None, Some, ap, sym, ◌∙◌, subst}
-use Rattle.std.specs.Option.{option_map}
-use Rattle.std.specs.FinMap as map
-use Rattle.slotmap.specs.Words.{Key, key_cmp}
+use Rattle.std.proofs.Common.{ap, sym, ◌∙◌}
 use Rattle.slotmap_uses.specs.Sequence.{key_after}
 use Rattle.slotmap_uses.proofs.Chains.{elements_are, next_found, next_absent}
 use Rattle.slotmap_uses.proofs.stable_list.StableList.next.Goals as goal

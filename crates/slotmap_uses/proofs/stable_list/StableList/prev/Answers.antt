@@ -1,7 +1,4 @@
-use Rattle.std.proofs.Common.{◌≡◌, None, Some, ap, sym, ◌∙◌, subst}
-use Rattle.std.specs.Option.{option_map}
-use Rattle.std.specs.FinMap as map
-use Rattle.slotmap.specs.Words.{Key, key_cmp}
+use Rattle.std.proofs.Common.{None, ap, sym, ◌∙◌}
 use Rattle.slotmap_uses.specs.Sequence.{key_before}
 use Rattle.slotmap_uses.proofs.Chains.{elements_are, prev_found, prev_absent}
 use Rattle.slotmap_uses.proofs.stable_list.StableList.prev.Goals as goal

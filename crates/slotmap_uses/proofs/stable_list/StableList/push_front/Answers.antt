@@ -1,4 +1,3 @@
-use Rattle.std.proofs.Common.{IfOk, ◌≡◌, ◌∷◌, Ok, Err}
 use Rattle.slotmap_uses.specs.Sequence.{PutsBetween}
 use Rattle.slotmap_uses.proofs.Chains.{put_first}
 use Rattle.std.proofs.lemmas.Result.{IfOk-weaker}

@@ -1,9 +1,8 @@
-use Rattle.std.proofs.Common.{◌≡◌, None, Some, true, IfSome, ◌++◌, ◌∷◌, ap, sym, ◌∙◌, subst, refl}
+use Rattle.std.proofs.Common.{◌≡◌, true, ◌++◌, ◌∷◌, ap, sym, ◌∙◌, subst, refl}
 use Rattle.std.specs.Option.{option_map}
 use Rattle.std.specs.FinMap as map
-use Rattle.slotmap.specs.Words.{Key, key_cmp}
-use Rattle.slotmap_uses.specs.Sequence.{value_of, without, put_after}
-use Rattle.slotmap_uses.specs.Chain.{IsChain, with_next, with_prev, outer}
+use Rattle.slotmap_uses.specs.Sequence.{value_of}
+use Rattle.slotmap_uses.specs.Chain.{IsChain}
 use Rattle.slotmap_uses.proofs.Chains.{elements_are, value_found, put_in, gap_prev, gap_next, self_chain, chain_is, if_some, stands-with_next, stands-insert}
 use Rattle.slotmap.proofs.Callers.{spent_insert}
 use Rattle.slotmap_uses.proofs.Cursors.{gone_stays, new_not_gone}

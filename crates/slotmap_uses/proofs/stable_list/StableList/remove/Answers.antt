@@ -1,9 +1,7 @@
-use Rattle.std.proofs.Common.{◌≡◌, None, Some, true, IfSome, is_some, ◌++◌, ◌∷◌, ap, sym, ◌∙◌, subst, refl}
+use Rattle.std.proofs.Common.{◌≡◌, true, is_some, ap, sym, ◌∙◌}
 use Rattle.std.specs.Option.{option_map}
 use Rattle.std.specs.FinMap as map
-use Rattle.slotmap.specs.Words.{Key, key_cmp}
-use Rattle.slotmap_uses.specs.Sequence.{value_of, without, put_after}
-use Rattle.slotmap_uses.specs.Chain.{IsChain, with_next, with_prev, outer}
+use Rattle.slotmap_uses.specs.Sequence.{value_of, without}
 use Rattle.slotmap_uses.proofs.Chains.{elements_are, value_found, removal, removed_prev, removed_next, without_absent, self_chain, chain_is, if_some, stands-with_next}
 use Rattle.slotmap.proofs.Callers.{removed_spent, spent_removes}
 use Rattle.slotmap_uses.proofs.Cursors.{gone_stays, gone_here}
