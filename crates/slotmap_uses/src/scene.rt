@@ -5,8 +5,8 @@
 //!
 //! - The nodes form trees: each leads up to a root in so many steps, which [`Scene::depth`] counts.
 //! - Each node stands once among the children of its parent, and nowhere else.
-//! - [`Scene::reparent`] moves a node with all that is below it. It is refused exactly where that
-//!   would close a cycle.
+//! - [`Scene::reparent`] moves a node with all that is below it, behind the children of its new
+//!   parent. Unless memory runs out, it is refused exactly if a node is gone or a cycle would close.
 //! - [`Scene::remove`] removes a node with all that is below it, and no other.
 //! - A call that fails changes nothing, and hands back what it was given.
 //!
