@@ -91,6 +91,7 @@ impl<E: Drop, P: Drop, N: Drop> World<E, P, N> {
         ensures entities { IfOk result (λ world. IsNew world.entities.content × IsEmpty world.entities) }
         ensures positions { IfOk result (λ world. world.positions ≡ map.empty) }
         ensures names { IfOk result (λ world. world.names ≡ map.empty) }
+        ensures err { IfErr result (λ error. error ≡ ReserveError.Memory) }
     {
         let entities = DenseSlotMap::new(alloc)?;
         let positions = SecondaryMap::new(alloc)?;

@@ -128,6 +128,7 @@ impl<N: Drop> Graph<N> {
     pub fn new(alloc: Global) -> Result<Self, ReserveError>
         ensures nodes { IfOk result (λ graph. IsNew graph.nodes) }
         ensures edges { IfOk result (λ graph. IsNew graph.edges) }
+        ensures err { IfErr result (λ error. error ≡ ReserveError.Memory) }
     {
         let nodes = SlotMap::with_key(alloc)?;
         let edges = SlotMap::new(alloc)?;

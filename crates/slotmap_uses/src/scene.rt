@@ -129,7 +129,8 @@ impl<T: Drop> Scene<T> {
     ///
     /// It fails only if memory runs out.
     pub fn new(alloc: Global) -> Result<Self, ReserveError>
-        ensures { IfOk result (λ scene. scene ≡ map.empty) }
+        ensures empty { IfOk result (λ scene. scene ≡ map.empty) }
+        ensures err { IfErr result (λ error. error ≡ ReserveError.Memory) }
     {
         let nodes = SlotMap::new(alloc)?;
         Ok(Scene { alloc, nodes })

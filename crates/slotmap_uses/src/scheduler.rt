@@ -114,6 +114,7 @@ impl<T: Drop> Scheduler<T> {
     pub fn new(alloc: Global) -> Result<Self, ReserveError>
         ensures jobs { IfOk result (λ made. IsNew made.jobs) }
         ensures count { IfOk result (λ made. made.count ≡ 0) }
+        ensures err { IfErr result (λ error. error ≡ ReserveError.Memory) }
     {
         let jobs = SlotMap::new(alloc)?;
         let queue = BTreeMap::new(alloc);
