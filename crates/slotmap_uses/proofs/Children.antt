@@ -1,5 +1,5 @@
 -- A list of children without one of them.
-use Rattle.std.proofs.Common.{◌≡◌, ◌≢◌, ℕ, ◌+◌, ◌<◌, ◌≤◌, true, false, if◌then◌else◌, List, [], ◌∷◌, ◌++◌, refl, sym, ap, ◌∙◌, arith, length, get_or, take, drop, drop-cons, add-one, append_assoc}
+use Rattle.std.proofs.Common.{append-nil, ◌≡◌, ◌≢◌, ℕ, ◌+◌, ◌<◌, ◌≤◌, true, false, if◌then◌else◌, List, [], ◌∷◌, ◌++◌, refl, sym, ap, ◌∙◌, arith, length, get_or, take, drop, drop-cons, add-one, append_assoc}
 use Rattle.std.proofs.lemmas.List.{take_more, take_all}
 use Rattle.std.proofs.Math.ListN.{drop_of_length-le}
 use Rattle.slotmap.specs.Words.{Key, same_keys}
@@ -60,8 +60,4 @@ module _ (k : Key) (xs : List Key) (i : ℕ) (x : Key) (below : i < length xs) (
       ∙ sym (append_assoc (take i xs) (x ∷ []) (without k (drop (i + 1) xs))) ∙ ap (λ l. l ++ without k (drop (i + 1) xs)) (sym taken)
 
 pub without_end : (k : Key) (xs : List Key) (i : ℕ) → length xs ≤ i → without k xs ≡ take i xs ++ without k (drop i xs) → without k xs ≡ xs
-without_end k xs i past so_far = so_far ∙ rw (drop_of_length-le xs {i = i} past, take_all i xs past) (append_nil xs)
-  where
-    append_nil : (l : List Key) → l ++ [] ≡ l
-    append_nil [] = refl
-    append_nil (y ∷ l) = ap (λ r. y ∷ r) (append_nil l)
+without_end k xs i past so_far = so_far ∙ rw (drop_of_length-le xs {i = i} past, take_all i xs past) (append-nil xs)

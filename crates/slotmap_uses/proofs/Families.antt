@@ -7,7 +7,7 @@ use Rattle.slotmap.proofs.Callers.{keys, same_or_other, keys_total, exact_keys}
 use Rattle.slotmap_uses.specs.declared.scene.Node.{Node}
 use Rattle.slotmap_uses.specs.Climb.{Nodes, has_node, lacks_node, parent_in, parent_of, Leads, IsTree, IsWithin, with_parent, with_parent_in}
 use Rattle.slotmap_uses.specs.GraphParts.{same, times}
-use Rattle.slotmap_uses.specs.Family.{without, is_parent, children_in, children_of, AreListed, IsScene, leaf, with_children_in, with_child, without_child, detached, attached}
+use Rattle.slotmap_uses.specs.Family.{value_of, without, is_parent, children_in, children_of, AreListed, IsScene, leaf, with_children_in, with_child, without_child, detached, attached}
 use Rattle.slotmap_uses.proofs.Adjacent.{one_itself, one_other, times_pushed}
 use Rattle.slotmap_uses.proofs.Children.{times_without, times_gone}
 use Rattle.slotmap_uses.proofs.Climbs.{leads_live, Parents, tree_cut, tree_hung, tree_root}
@@ -287,3 +287,34 @@ module _ {T : Type 0} where
         | inl at ↦ rw at (let sum = pushed c in let none = one_other k c (λ s. other (sym s)) in omega arith)
         | inr elsewhere ↦ ap (times c) (attached_others nodes k p live q elsewhere)
       ]
+
+-- each node keeps its own value where parents and lists of children alone change
+module _ {T : Type 0} (nodes : Nodes T) where
+  value_parented : (k : Key) (parent : Option Key) (q : Key) → value_of (with_parent nodes k parent) q ≡ value_of nodes q
+  value_parented k parent q = elim (same_or_other q k) [
+    | inl same ↦ rw same (ap (option_map (λ n. n.value)) (parented_here nodes k parent (map.get nodes k) refl) ∙ kept (map.get nodes k))
+    | inr other ↦ ap (option_map (λ n. n.value)) (parented_other nodes k parent (map.get nodes k) q other)
+  ] where
+    kept : (o : Option (Node T)) → option_map (λ n. n.value) (option_map (λ (n : Node T). record n { parent = parent }) o) ≡ option_map (λ n. n.value) o
+    kept None = refl
+    kept (Some node) = refl
+
+  value_written : (p : Key) (f : List Key → List Key) (q : Key) → value_of (with_children_in nodes p (map.get nodes p) f) q ≡ value_of nodes q
+  value_written p f q = elim (same_or_other q p) [
+    | inl same ↦ rw same (ap (option_map (λ n. n.value)) (written_here nodes p f (map.get nodes p) refl) ∙ kept (map.get nodes p))
+    | inr other ↦ ap (option_map (λ n. n.value)) (written_other nodes p f (map.get nodes p) q other)
+  ] where
+    kept : (o : Option (Node T)) → option_map (λ n. n.value) (option_map (λ (n : Node T). record n { children = f n.children }) o) ≡ option_map (λ n. n.value) o
+    kept None = refl
+    kept (Some node) = refl
+
+  value_left : (o : Option Key) (k q : Key) → value_of (without_child nodes o k) q ≡ value_of nodes q
+  value_left None k q = refl
+  value_left (Some p) k q = value_written p (without k) q
+
+module _ {T : Type 0} (nodes : Nodes T) (k : Key) where
+  pub value_detached : (q : Key) → value_of (detached nodes k) q ≡ value_of nodes q
+  value_detached q = value_parented (without_child nodes (parent_of nodes k) k) k None q ∙ value_left nodes (parent_of nodes k) k q
+
+  pub value_attached : (p q : Key) → value_of (attached nodes k p) q ≡ value_of nodes q
+  value_attached p q = value_parented (with_child nodes p k) k (Some p) q ∙ value_written nodes p (λ ks. ks ++ k ∷ []) q

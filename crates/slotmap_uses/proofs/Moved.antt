@@ -1,9 +1,9 @@
 -- A scene after a node came, was moved, or was removed with all that is below it.
-use Rattle.std.proofs.Common.{◌≡◌, ◌≢◌, ℕ, zero, suc, ◌<◌, false, Option, Some, None, IfSome, [], ◌∷◌, ◌++◌, is_some, refl, sym, ap, subst, ◌∙◌, inl, inr, arith}
+use Rattle.std.proofs.Common.{◌≡◌, ◌≢◌, ℕ, zero, suc, ◌<◌, Option, Some, None, IfSome, [], ◌∷◌, ◌++◌, is_some, refl, sym, ap, subst, ◌∙◌, inl, inr, arith}
 use Rattle.std.specs.Prelude.{option_map}
 use Rattle.std.specs.FinMap as map
 use Rattle.slotmap.specs.Words.{Key}
-use Rattle.slotmap.proofs.Callers.{keys, same_or_other, keys_total, exact_keys, still_in}
+use Rattle.slotmap.proofs.Callers.{keys, same_or_other, keys_total, exact_keys, still_in, none_of}
 use Rattle.slotmap_uses.specs.declared.scene.Node.{Node}
 use Rattle.slotmap_uses.specs.Climb.{Nodes, has_node, lacks_node, parent_in, parent_of, StepsTo, IsWithin, with_parent, with_parent_in}
 use Rattle.slotmap_uses.specs.GraphParts.{times}
@@ -101,27 +101,14 @@ module _ {T : Type 0} where
         → (q : Key) → (IsWithin nodes q k → ⊥) → map.get new q ≡ option_map (forgets k) (map.get nodes q)
     scene_removed new others q out = others q (λ w. out (within_before nodes k q k w)) ∙ detached_get q (λ same. out (zero, same))
 
-    -- the value of a root is that of the node
-    value_left : (o : Option (Node T))
-        → option_map (λ (n : Node T). n.value) (option_map (λ (n : Node T). record n { parent = None }) (option_map (forgets k) o)) ≡ option_map (λ (n : Node T). n.value) o
-    value_left None = refl
-    value_left (Some n) = refl
-
     detached_self : map.get (detached nodes k) k ≡ option_map (λ (n : Node T). record n { parent = None }) (option_map (forgets k) (map.get nodes k))
     detached_self = parented_here (without_child nodes (parent_of nodes k) k) k None (map.get (without_child nodes (parent_of nodes k) k) k) refl
         ∙ ap (option_map (λ (n : Node T). record n { parent = None })) (left_get k)
 
-    pub value_detached : value_of (detached nodes k) k ≡ value_of nodes k
-    value_detached = ap (option_map (λ (n : Node T). n.value)) detached_self ∙ value_left (map.get nodes k)
-
   -- a node that is gone
   module _ (nodes : Nodes T) (k : Key) (gone : lacks_node nodes k) where
     no_node : map.get nodes k ≡ None
-    no_node = by (map.get nodes k) gone
-      where
-        by : (o : Option (Node T)) → is_some o ≡ false → o ≡ None
-        by None is = refl
-        by (Some n) is = absurd (cc)
+    no_node = none_of (map.get nodes k) gone
 
     pub detached_gone : detached nodes k ≡ nodes
     detached_gone = ap (λ o. with_parent (without_child nodes (parent_in o) k) k None) no_node ∙ ap (λ o. with_parent_in nodes k o None) no_node

@@ -1,17 +1,16 @@
 -- What a fold of the values on the way up comes to.
-use Rattle.std.proofs.Common.{◌≡◌, ◌≢◌, ℕ, zero, suc, List, [], ◌∷◌, ◌++◌, append_assoc, Option, Some, None, IfSome, IfNone, is_some, option_map, true, inl, inr, refl, sym, ap, subst, ◌∙◌, arith}
+use Rattle.std.proofs.Common.{◌≡◌, ◌≢◌, ℕ, zero, suc, List, [], ◌∷◌, ◌++◌, append_assoc, Option, Some, None, IfSome, IfNone, is_some, option_map, true, refl, sym, ap, subst, ◌∙◌, arith}
 use Rattle.std.specs.Fn.{Mut, Takes}
 use Rattle.std.specs.Borrow.{Bor}
 use Rattle.std.specs.List.{FoldsTo, fold}
 use Rattle.std.proofs.lemmas.Fn.{FoldsTo-push, chained_keeps}
 use Rattle.std.specs.FinMap as map
 use Rattle.slotmap.specs.Words.{Key}
-use Rattle.slotmap.proofs.Callers.{keys, same_or_other}
+use Rattle.slotmap.proofs.Callers.{keys}
 use Rattle.slotmap_uses.specs.declared.scene.Node.{Node}
-use Rattle.slotmap_uses.specs.Climb.{Nodes, has_node, lacks_node, parent_of, parent_in, Leads, IsTree, IsWithin, with_parent}
-use Rattle.slotmap_uses.specs.Family.{value_of, leaf, without, with_children_in, with_child, without_child, attached, detached}
-use Rattle.slotmap_uses.proofs.Climbs.{climbing_start, climbing_live, climbing_step}
-use Rattle.slotmap_uses.proofs.Families.{parented_here, parented_other, written_here, written_other, attached_parents, detached_parents}
+use Rattle.slotmap_uses.specs.Climb.{Nodes, has_node, lacks_node, parent_of, parent_in, Leads, IsTree, IsWithin}
+use Rattle.slotmap_uses.specs.Family.{value_of, leaf, attached, detached}
+use Rattle.slotmap_uses.proofs.Families.{parent_there, attached_parents, detached_parents, value_detached, value_attached}
 use Rattle.slotmap_uses.specs.WorldValues.{IsPathFrom, IsPathUp, world_along, IsWorld, CallsAt, FoldsUp, CallableUp}
 
 module _ {T : Type 0} (nodes : Nodes T) where
@@ -165,45 +164,11 @@ module _ {F T : Type 0} (g : Mut F (T × (Bor T × Unit {0})) T) (under : T → 
     world_of_folds f None folds = tt
     world_of_folds f (Some w) folds = world_of_fold f w folds
 
--- a parent is there
+-- where there is no parent, there is no node
 module _ {T : Type 0} (nodes : Nodes T) (k p : Key) (node : Node T) (there : map.get nodes k ≡ Some node) (up : node.parent ≡ Some p) where
-  parent_there : IsTree nodes → has_node nodes p
-  parent_there tree = climbing_live nodes k p 1 (climbing_step nodes k k 0 (climbing_start nodes tree k (ap is_some there)) node there p up)
-
   pub parent_found : IsTree nodes → {X : Type 0} (result : Option X) → IfNone result (lacks_node nodes p) → IfNone result (lacks_node nodes k)
-  parent_found tree None lacks = let live = parent_there tree in absurd (cc)
+  parent_found tree None lacks = let live = parent_there nodes tree k p (ap parent_in there ∙ up) in absurd (cc)
   parent_found tree (Some w) lacks = tt
-
--- each node keeps its own value where parents and lists of children alone change
-module _ {T : Type 0} (nodes : Nodes T) where
-  value_parented : (k : Key) (parent : Option Key) (q : Key) → value_of (with_parent nodes k parent) q ≡ value_of nodes q
-  value_parented k parent q = elim (same_or_other q k) [
-    | inl same ↦ rw same (ap (option_map (λ n. n.value)) (parented_here nodes k parent (map.get nodes k) refl) ∙ kept (map.get nodes k))
-    | inr other ↦ ap (option_map (λ n. n.value)) (parented_other nodes k parent (map.get nodes k) q other)
-  ] where
-    kept : (o : Option (Node T)) → option_map (λ n. n.value) (option_map (λ (n : Node T). record n { parent = parent }) o) ≡ option_map (λ n. n.value) o
-    kept None = refl
-    kept (Some node) = refl
-
-  value_written : (p : Key) (f : List Key → List Key) (q : Key) → value_of (with_children_in nodes p (map.get nodes p) f) q ≡ value_of nodes q
-  value_written p f q = elim (same_or_other q p) [
-    | inl same ↦ rw same (ap (option_map (λ n. n.value)) (written_here nodes p f (map.get nodes p) refl) ∙ kept (map.get nodes p))
-    | inr other ↦ ap (option_map (λ n. n.value)) (written_other nodes p f (map.get nodes p) q other)
-  ] where
-    kept : (o : Option (Node T)) → option_map (λ n. n.value) (option_map (λ (n : Node T). record n { children = f n.children }) o) ≡ option_map (λ n. n.value) o
-    kept None = refl
-    kept (Some node) = refl
-
-  value_left : (o : Option Key) (k q : Key) → value_of (without_child nodes o k) q ≡ value_of nodes q
-  value_left None k q = refl
-  value_left (Some p) k q = value_written p (without k) q
-
-module _ {T : Type 0} (nodes : Nodes T) (k : Key) where
-  pub value_detached : (q : Key) → value_of (detached nodes k) q ≡ value_of nodes q
-  value_detached q = value_parented (without_child nodes (parent_of nodes k) k) k None q ∙ value_left nodes (parent_of nodes k) k q
-
-  pub value_attached : (p q : Key) → value_of (attached nodes k p) q ≡ value_of nodes q
-  value_attached p q = value_parented (with_child nodes p k) k (Some p) q ∙ value_written nodes p (λ ks. ks ++ k ∷ []) q
 
 -- where a node k is that gets another parent, or is added: all other nodes keep their values and their parents
 module _ {T : Type 0} (old new : Nodes T) (k : Key) (values : (q : Key) → has_node old q → q ≢ k → value_of new q ≡ value_of old q)

@@ -17,6 +17,7 @@ is_parent None p = 0
 is_parent (Some q) p = same q p
 
 module _ {T : Type 0} where
+  -- the children of a node, if there is one
   abbrev pub children_in : Option (Node T) → List Key
   children_in None = []
   children_in (Some node) = node.children
@@ -38,6 +39,7 @@ module _ {T : Type 0} where
   abbrev pub leaf : T → Node T
   leaf v = record { value = v; parent = None; children = [] }
 
+  -- the value of k, if it is there
   abbrev pub value_of : Nodes T → Key → Option T
   value_of nodes k = option_map (λ n. n.value) (map.get nodes k)
 
@@ -45,6 +47,7 @@ module _ {T : Type 0} where
   abbrev pub forgets : Key → Node T → Node T
   forgets k node = record node { children = without k node.children }
 
+  -- the node under p, if there is one, has other children
   abbrev pub with_children_in : Nodes T → Key → Option (Node T) → (List Key → List Key) → Nodes T
   with_children_in nodes p None f = nodes
   with_children_in nodes p (Some node) f = map.insert nodes p (record node { children = f node.children })

@@ -8,8 +8,9 @@
 //!   [`scene::world`] puts together the values on the way to a root.
 //! - [`scheduler`]: jobs that come in order of time, and can be cancelled by their handles.
 //!
-//! In each of them a key that is removed stays stale for good, as in the map below it. No module
-//! speaks of slots or versions.
+//! In each of them a key that is removed stays stale for good, as in the map below it. A clause
+//! says so, except in [`scene`], whose clauses see the nodes that are there alone. No module speaks
+//! of slots or versions.
 #![tactic(auto, using(slotmap::proofs::Callers::keys))]
 
 pub mod entities;
