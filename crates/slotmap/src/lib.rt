@@ -10,8 +10,8 @@
 //! - [`SparseSecondaryMap`] does the same for few of them. Its iterators and entries are in
 //!   [`sparse_secondary`].
 //!
-//! Keys, errors, lists of slots and the traits of the maps come from `slotmap_core`, runs of
-//! commands from `slotmap_run`.
+//! Keys, errors, lists of slots and the traits of the maps come from `slotmap_core`, their JSON
+//! from `slotmap_json`, runs of commands from `slotmap_run`.
 #![tactic(auto)]
 
 /// The iterators of [`SlotMap`].
@@ -56,11 +56,10 @@ pub use slotmap_core::joined::{JoinedCommand, JoinedDetachCommand, JoinedReply};
 pub use slotmap_core::keys::{DefaultKey, Key, KeyData, NodeKey, is_older_version};
 pub use slotmap_core::primary::{Detaching, Primary};
 pub use slotmap_core::secondary::{NoEntry, OrPut, Secondary, SecondaryCommand, SecondaryReply};
-pub use slotmap_core::serial::{
-    SlotRecord, check_slots, key_from_value, key_to_value, slots_from_value, slots_to_value,
-};
+pub use slotmap_core::serial::{SlotRecord, check_slots};
 pub use slotmap_dense::DenseSlotMap;
 pub use slotmap_hop::HopSlotMap;
+pub use slotmap_json::{key_from_value, key_to_value, slots_from_value, slots_to_value};
 pub use slotmap_run::detaching::{run_detaching, run_detaching_new};
 pub use slotmap_run::joined::{run_joined, run_joined_detaching};
 pub use slotmap_run::primary::{run, run_new};

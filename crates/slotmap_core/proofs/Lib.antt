@@ -16,7 +16,6 @@ pub mod StepLemmas
 pub mod SlotLemmas
 pub mod SlotGrowth
 pub mod HeldLemmas
-pub mod JsonLemmas
 pub mod DisjointLemmas
 pub mod ListingLemmas
 pub mod LeaveLemmas

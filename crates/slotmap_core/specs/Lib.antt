@@ -27,7 +27,6 @@ pub mod Rows
 pub mod SlotsLend
 pub mod Walk
 pub mod Slots
-pub mod Json
 pub mod Contents
 pub mod Written
 pub mod Secondary

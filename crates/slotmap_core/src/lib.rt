@@ -1,4 +1,4 @@
-//! Keys, errors, commands, the traits of the maps, lists of slots and their JSON.
+//! Keys, errors, commands, the traits of the maps, slots over a layout, and lists of slots.
 //!
 //! Each example comes after the line `let alloc = rt.alloc();`.
 #![tactic(auto)]
@@ -6,7 +6,6 @@
 pub mod commands;
 pub mod errors;
 pub mod joined;
-mod json;
 pub mod keys;
 pub mod layout;
 pub mod limits;

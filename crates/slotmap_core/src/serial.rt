@@ -1,4 +1,4 @@
-//! Lists of slots, the form in which a map is written and read back, and their JSON.
+//! Lists of slots, the form in which a map is written and read back.
 //!
 //! A list has one `SlotRecord` for each slot of a map, from slot 0 on.
 
@@ -6,7 +6,6 @@ ghost use Rattle.std.specs.Prelude.{◌≡◌, ◌↔◌, ◌^◌, ◌<◌, leng
 ghost use Rattle.slotmap_core.specs.Slots.{IsConsistent, Accepts, AllFitBelow, Refuses};
 
 use crate::errors::SlotsError;
-pub use crate::json::{key_from_value, key_to_value, slots_from_value, slots_to_value};
 
 /// One slot of a list: its value, if there is one, and its version.
 ///

@@ -1,15 +1,20 @@
 //! JSON of keys and of lists of slots.
+//!
+//! It is a crate of its own, so that the maps don't stand over `serde_json`.
+//!
+//! Each example comes after the line `let alloc = rt.alloc();`.
+#![tactic(auto)]
 
 ghost use Rattle.std.specs.Prelude.{◌≡◌, ◌≢◌, [], IfOk, IfErr, OnErr, option_map};
 ghost use Rattle.std.specs.Result.{result_ok};
 ghost use Rattle.serde_json.specs.View.{view};
-ghost use Rattle.slotmap_core.specs.Json.{key_json, read_key, u32_at, GivesJson, IsSlotJson, IsSlotsJson, slot_json, value_at, ReadsJson, ReadsSlot, IsReadAs, IsRefused};
+ghost use Rattle.slotmap_json.specs.Json.{key_json, read_key, u32_at, GivesJson, IsSlotJson, IsSlotsJson, slot_json, value_at, ReadsJson, ReadsSlot, IsReadAs, IsRefused};
 ghost use Rattle.slotmap_core.specs.declared.errors.JsonError.TheVariants.{Shape};
 
-use crate::errors::{JsonError, OutOfMemory};
-use crate::keys::{Key, KeyData};
-use crate::serial::SlotRecord;
 use serde_json::{Value, json};
+use slotmap_core::errors::{JsonError, OutOfMemory};
+use slotmap_core::keys::{Key, KeyData};
+use slotmap_core::serial::SlotRecord;
 use std::alloc::Global;
 
 /// Returns the JSON of a key, as in `{"idx":2,"version":3}`.

@@ -7,7 +7,7 @@ use Rattle.serde_json.specs.Data.{Data, array, Items}
 use Rattle.serde_json.specs.Find.{as_array}
 use Rattle.serde_json.specs.View.{view, items_of, items_view}
 use Rattle.serde_json.specs.declared.value.Value.{Value}
-use Rattle.slotmap_core.specs.Json.{version_at, value_at, ok_map, slot_json, IsSlotJson, ReadsSlot, ReadsAll, HasElements, IsRefused}
+use Rattle.slotmap_json.specs.Json.{version_at, value_at, ok_map, slot_json, IsSlotJson, ReadsSlot, ReadsAll, HasElements, IsRefused}
 use Rattle.slotmap_core.specs.declared.errors.JsonError.{JsonError}
 use Rattle.slotmap_core.specs.declared.errors.JsonError.TheVariants.{Shape, Memory}
 use Rattle.slotmap_core.specs.declared.errors.OutOfMemory.{OutOfMemory}

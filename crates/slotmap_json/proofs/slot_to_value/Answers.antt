@@ -1,9 +1,9 @@
 use Rattle.std.proofs.Common.{refl}
 use Rattle.std.proofs.lemmas.Fn.{says_at}
 use Rattle.serde_json.specs.View.{view}
-use Rattle.slotmap_core.specs.Json.{GivesJson}
-use Rattle.slotmap_core.proofs.JsonLemmas.{slot_json_given}
-use Rattle.slotmap_core.proofs.json.slot_to_value.Goals as goal
+use Rattle.slotmap_json.specs.Json.{GivesJson}
+use Rattle.slotmap_json.proofs.JsonLemmas.{slot_json_given}
+use Rattle.slotmap_json.proofs.slot_to_value.Goals as goal
 
 pub returns-in_ok-f-in-Some : goal.returns-in_ok-f-in-Some
 returns-in_ok-f-in-Some g c =

@@ -1,9 +1,9 @@
 use Rattle.std.proofs.Common.{◌≡◌, Ok, Err, Some, refl, sym, rules}
 use Rattle.std.proofs.lemmas.Fn.{says_at}
 use Rattle.serde_json.specs.View.{view}
-use Rattle.slotmap_core.specs.Json.{ReadsJson, ok_map}
-use Rattle.slotmap_core.proofs.JsonLemmas.{reads_value}
-use Rattle.slotmap_core.proofs.json.slot_from_value.Goals as goal
+use Rattle.slotmap_json.specs.Json.{ReadsJson, ok_map}
+use Rattle.slotmap_json.proofs.JsonLemmas.{reads_value}
+use Rattle.slotmap_json.proofs.slot_from_value.Goals as goal
 
 pub returns-in_err-g-in-Some : goal.returns-in_err-g-in-Some
 returns-in_err-g-in-Some g c =

@@ -1,6 +1,6 @@
-use Rattle.slotmap_core.specs.Json.{GivesJson, IsSlotJson}
-use Rattle.slotmap_core.proofs.JsonLemmas.{goes_further}
-use Rattle.slotmap_core.proofs.json.slots_to_value.Goals as goal
+use Rattle.slotmap_json.specs.Json.{GivesJson, IsSlotJson}
+use Rattle.slotmap_json.proofs.JsonLemmas.{goes_further}
+use Rattle.slotmap_json.proofs.slots_to_value.Goals as goal
 
 pub loop-slot-preserved : goal.loop-slot-preserved
 loop-slot-preserved g c =

@@ -1,10 +1,10 @@
 use Rattle.std.proofs.Common.{◌≡◌, ◌∙◌, Some, Err, ap, rules, arith}
 use Rattle.std.proofs.lemmas.Grind.{common_steps}
 use Rattle.serde_json.specs.View.{view, items_view}
-use Rattle.slotmap_core.specs.Json.{ReadsJson}
+use Rattle.slotmap_json.specs.Json.{ReadsJson}
 use Rattle.slotmap_core.specs.declared.errors.JsonError.TheVariants.{Memory}
-use Rattle.slotmap_core.proofs.JsonLemmas.{some_asked, has_elements, reads_further, refuses_at}
-use Rattle.slotmap_core.proofs.json.slots_from_value.Goals as goal
+use Rattle.slotmap_json.proofs.JsonLemmas.{some_asked, has_elements, reads_further, refuses_at}
+use Rattle.slotmap_json.proofs.slots_from_value.Goals as goal
 
 pub loop-element-preserved : goal.loop-element-preserved
 loop-element-preserved g c =
