@@ -292,7 +292,7 @@ def page_text():
             add_trait(page, 3, item)
 
     section("Errors", lambda it: it.path.endswith("/errors.rt"))
-    section("Lists of slots and JSON", lambda it: it.path.endswith(("/serial.rt", "/json.rt")))
+    section("Lists of slots and JSON", lambda it: it.path.endswith(("/serial.rt", "/slotmap_json/src/lib.rt")))
     section("Runs of commands", lambda it: True)
     if left:
         sys.exit(f"api.py: no section has {left}")

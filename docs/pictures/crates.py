@@ -10,14 +10,15 @@ from svg import BLUE, FOLDER, GREEN, INK, ORANGE, RED, SOFT, Picture
 
 # Where each crate is: its column and row, and what it has.
 CRATES = {
-    "slotmap_core": (3.0, 0, "keys, errors, traits, lists of slots, JSON, definitions"),
+    "slotmap_core": (3.0, 0, "keys, errors, traits, lists of slots, definitions"),
+    "slotmap_json": (0, 1, "JSON"),
     "slotmap_secondary": (1, 1, "SecondaryMap"),
     "slotmap_sparse": (2, 1, "SparseSecondaryMap"),
     "slotmap_basic": (3, 1, "SlotMap"),
     "slotmap_dense": (4, 1, "DenseSlotMap"),
     "slotmap_hop": (5, 1, "HopSlotMap"),
     "slotmap_run": (6, 1, "runs of commands"),
-    "slotmap_rows": (0, 2, "reads rows of tests"),
+    "slotmap_rows": (0.5, 2, "reads rows of tests"),
     "slotmap": (2, 2, "the library to use: all names"),
     "slotrun": (5, 2, "program: runs scripts"),
     "primary_rows": (0.5, 3, "program: rows of primary maps"),
