@@ -2,8 +2,7 @@
 
 ghost use Rattle.std.specs.Prelude.{◌≡◌, ◌≤◌, length, Some, IfSome, IfOk};
 ghost use Rattle.std.specs.Iterator.{YieldsFirstBy, item_count, at_most, UpTo};
-ghost use Rattle.std.specs.FinMap as map;
-ghost use Rattle.slotmap_core.specs.Listing.{IsListing};
+ghost use Rattle.slotmap_core.specs.Listing.{ListsByIndex};
 
 use crate::SlotMap;
 use slotmap_core::keys::Key;
@@ -115,7 +114,7 @@ impl<K: Key, V: Drop> IntoIterator for SlotMap<K, V> {
 
     type IntoIter = IntoIter<K, V>;
 
-    ghost into_iter_gives = { λ m it. IsListing m.live it × (it ≡ map.entries m.live) };
+    ghost into_iter_gives = { λ m it. ListsByIndex m.live it };
 
     fn into_iter(self) -> IntoIter<K, V> {
         IntoIter {

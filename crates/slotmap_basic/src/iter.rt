@@ -4,7 +4,7 @@ ghost use Rattle.std.specs.Prelude.{◌≡◌, ◌≤◌, length, Some, IfSome, 
 ghost use Rattle.std.specs.Iterator.{YieldsFirstBy, item_count, at_most, UpTo};
 ghost use Rattle.std.specs.FinMap as map;
 ghost use Rattle.slotmap_core.specs.Content.{IsContent};
-ghost use Rattle.slotmap_core.specs.Listing.{IsListing, IsKeyListing, IsValueListing};
+ghost use Rattle.slotmap_core.specs.Listing.{IsListing, IsKeyListing, IsValueListing, ListsByIndex};
 
 use crate::SlotMap;
 use slotmap_core::keys::Key;
@@ -316,7 +316,7 @@ impl<'a, K: Key, V> IntoIterator for &'a SlotMap<K, V> {
 
     type IntoIter = Iter<'a, K, V>;
 
-    ghost into_iter_gives = { λ m it. IsListing m.now.live it × (it ≡ map.entries m.now.live) };
+    ghost into_iter_gives = { λ m it. ListsByIndex m.now.live it };
 
     fn into_iter(self) -> Iter<'a, K, V> {
         self.iter()

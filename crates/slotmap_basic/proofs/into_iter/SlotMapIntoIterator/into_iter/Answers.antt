@@ -3,4 +3,4 @@ use Rattle.slotmap_core.proofs.WalkLemmas.{listing-entries}
 use Rattle.slotmap_basic.proofs.into_iter.SlotMapIntoIterator.into_iter.Goals as goal
 
 pub returns : goal.returns
-returns g c = record { into_iter_gives = rw (c.into_iter.ensures, ← c.self.view_is) (listing-entries _, refl) }
+returns g c = record { into_iter_gives = rw (c.into_iter.ensures, ← c.self.view_is) (record { listing = listing-entries _; in_order = refl }) }
