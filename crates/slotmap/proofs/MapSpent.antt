@@ -1,7 +1,8 @@
 -- Which keys of a `DenseSlotMap` or a `HopSlotMap` are spent after a call, by the clauses of the call.
 use Rattle.std.proofs.Common.{◌≡◌, ◌≢◌, true, false, Option, OnSome, IfNone, Result, IfOk, IsErr, OnErr}
 use Rattle.std.specs.FinMap as map
-use Rattle.slotmap_core.proofs.SpentLemmas.{spent_insert, insert_not_spent, spent_remove, live_remove_spent, remove_spent, spent_detach, spent_leaves, spent_stale, spent_finds_nothing, spent_not_detached}
+use Rattle.slotmap_core.proofs.SpentLemmas.{spent_insert, insert_not_spent, spent_remove, live_remove_spent, remove_spent, spent_detach,
+    spent_leaves, spent_stale, spent_finds_nothing, spent_not_detached}
 use Rattle.slotmap.specs.Words.{Key, IsLive, IsSpent, KeepsSpent, Inserts, Removes, Detaches, Keeps, Dense, StaysDense, GrowsDense, HopContent, StaysHop, GrowsHop}
 use Rattle.slotmap.proofs.MapContents.{if_none, dense_stays, dense_grows, hop_stays, hop_grows}
 
@@ -14,7 +15,8 @@ module _ {V K E : Type 0} (answer : Result K E) (data_of : K → Key) (v : V) wh
     pub insert_not_spent-dense : (k : Key) → IsSpent old.content k → IfOk answer (λ key. data_of key ≢ k)
     insert_not_spent-dense = insert_not_spent old.content new.content false answer (dense_grows valid) data_of v ok
 
-  module _ (old new : HopContent V) (valid : GrowsHop old new) (unchanged : OnErr answer (Keeps old.content new.content)) (ok : IfOk answer (λ key. Inserts old.content (data_of key) v new.content)) where
+  module _ (old new : HopContent V) (valid : GrowsHop old new) (unchanged : OnErr answer (Keeps old.content new.content))
+      (ok : IfOk answer (λ key. Inserts old.content (data_of key) v new.content)) where
     pub spent_insert-hop : KeepsSpent old.content new.content
     spent_insert-hop = spent_insert old.content new.content true answer (hop_grows answer valid unchanged) data_of v ok
 

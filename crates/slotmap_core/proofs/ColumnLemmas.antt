@@ -15,7 +15,8 @@ module _ {P : Type 0} where
   zip-length (v ∷ vs) (l ∷ ls) (x ∷ xs) same_l same_x = omega (arith, zip-length vs ls xs (omega arith) (omega arith))
   zip-length (v ∷ vs) ls xs same_l same_x = absurd (omega arith)
 
-  pub zip-at : (vs : List ℕ) (ls : List Link) (xs : List (Option P)) (i v : ℕ) (l : Link) (x : Option P) → slice_get vs i ≡ Some v → slice_get ls i ≡ Some l → slice_get xs i ≡ Some x → slice_get (zip_slots vs ls xs) i ≡ Some (record { version = v; link = l; payload = x })
+  pub zip-at : (vs : List ℕ) (ls : List Link) (xs : List (Option P)) (i v : ℕ) (l : Link) (x : Option P) → slice_get vs i ≡ Some v
+      → slice_get ls i ≡ Some l → slice_get xs i ≡ Some x → slice_get (zip_slots vs ls xs) i ≡ Some (record { version = v; link = l; payload = x })
   zip-at (w ∷ vs) (m ∷ ls) (y ∷ xs) zero v l x at_v at_l at_x = cc
   zip-at (w ∷ vs) (m ∷ ls) (y ∷ xs) (suc i) v l x at_v at_l at_x = zip-at vs ls xs i v l x at_v at_l at_x
   zip-at vs ls xs i v l x at_v at_l at_x = absurd (cc)
@@ -47,7 +48,8 @@ module _ {P : Type 0} where
   zip-link vs ls xs i same_l same_x = (zip-reads vs ls xs i same_l same_x).1
 
   -- What each read of the vectors says of their slots
-  pub zip-known : (vs : List ℕ) (ls : List Link) (xs : List (Option P)) → length ls ≡ length vs → length xs ≡ length vs → (zip_slots vs ls xs ≡ zip_slots vs ls xs) × (length (zip_slots vs ls xs) ≡ length vs)
+  pub zip-known : (vs : List ℕ) (ls : List Link) (xs : List (Option P)) → length ls ≡ length vs → length xs ≡ length vs
+      → (zip_slots vs ls xs ≡ zip_slots vs ls xs) × (length (zip_slots vs ls xs) ≡ length vs)
       × ((i : ℕ) → version_at (zip_slots vs ls xs) i ≡ slice_get vs i)
       × ((i v : ℕ) → i < length vs → v ≡ get_or vs i v → version_at (zip_slots vs ls xs) i ≡ Some v)
       × ((i : ℕ) → length vs ≤ i → version_at (zip_slots vs ls xs) i ≡ None)
@@ -65,13 +67,16 @@ module _ {P : Type 0} where
     zip-within_free vs ls xs,
   )
 
-  pub zip-set : (vs : List ℕ) (ls : List Link) (xs : List (Option P)) (i v : ℕ) (l : Link) (x : Option P) → zip_slots (set vs i v) (set ls i l) (set xs i x) ≡ set (zip_slots vs ls xs) i (record { version = v; link = l; payload = x })
+  pub zip-set : (vs : List ℕ) (ls : List Link) (xs : List (Option P)) (i v : ℕ) (l : Link) (x : Option P)
+      → zip_slots (set vs i v) (set ls i l) (set xs i x) ≡ set (zip_slots vs ls xs) i (record { version = v; link = l; payload = x })
   zip-set (w ∷ vs) [] xs zero v l x = refl
   zip-set (w ∷ vs) (m ∷ ls) [] zero v l x = refl
   zip-set (w ∷ vs) (m ∷ ls) (y ∷ xs) (suc i) v l x = ap (λ ss. record { version = w; link = m; payload = y } ∷ ss) (zip-set vs ls xs i v l x)
   zip-set vs ls xs i v l x = refl
 
-  pub zip-push : (vs : List ℕ) (ls : List Link) (xs : List (Option P)) (v : ℕ) (l : Link) (x : Option P) → length ls ≡ length vs → length xs ≡ length vs → zip_slots (vs ++ v ∷ []) (ls ++ l ∷ []) (xs ++ x ∷ []) ≡ zip_slots vs ls xs ++ record { version = v; link = l; payload = x } ∷ []
+  pub zip-push : (vs : List ℕ) (ls : List Link) (xs : List (Option P)) (v : ℕ) (l : Link) (x : Option P) → length ls ≡ length vs
+      → length xs ≡ length vs → zip_slots (vs ++ v ∷ []) (ls ++ l ∷ []) (xs ++ x ∷ []) ≡ zip_slots vs ls xs ++ record
+      { version = v; link = l; payload = x } ∷ []
   zip-push [] [] [] v l x same_l same_x = refl
   zip-push (w ∷ vs) (m ∷ ls) (y ∷ xs) v l x same_l same_x = ap (λ ss. record { version = w; link = m; payload = y } ∷ ss) (zip-push vs ls xs v l x (omega arith) (omega arith))
   zip-push vs ls xs v l x same_l same_x = absurd (omega arith)
@@ -81,12 +86,14 @@ module _ {P : Type 0} where
   zip-with_payload vs ls xs i p = refl
 
 -- the same for vectors that hold slots, by what they hold
-pub laid-length : {P : Type 0} {vs ns : List ℕ} {xs : List (Option P)} {n a b d : ℕ} → IsColumns vs ns xs n a b d → {l : Laid P} → record { slots = zip_slots vs (links_of vs ns) xs; capacity = n } ≡ l → (length l.slots ≡ length vs) × (l.capacity ≡ n)
+pub laid-length : {P : Type 0} {vs ns : List ℕ} {xs : List (Option P)} {n a b d : ℕ} → IsColumns vs ns xs n a b d → {l : Laid P}
+    → record { slots = zip_slots vs (links_of vs ns) xs; capacity = n } ≡ l → (length l.slots ≡ length vs) × (l.capacity ≡ n)
 laid-length {P} {vs} {ns} {xs} columns view =
     (ap (λ l. length l.slots) (sym view) ∙ zip-length vs (links_of vs ns) xs (links-length vs ns columns.numbers_length) columns.payloads_length, ap (λ l. l.capacity) (sym view))
 
 -- what the tactics need of three vectors of one length, whose links are numbers
-pub laid-known : {P : Type 0} (vs ns : List ℕ) (xs : List (Option P)) → length ns ≡ length vs → length xs ≡ length vs → (zip_slots vs (links_of vs ns) xs ≡ zip_slots vs (links_of vs ns) xs) × (length (zip_slots vs (links_of vs ns) xs) ≡ length vs)
+pub laid-known : {P : Type 0} (vs ns : List ℕ) (xs : List (Option P)) → length ns ≡ length vs → length xs ≡ length vs
+    → (zip_slots vs (links_of vs ns) xs ≡ zip_slots vs (links_of vs ns) xs) × (length (zip_slots vs (links_of vs ns) xs) ≡ length vs)
     × ((i : ℕ) → version_at (zip_slots vs (links_of vs ns) xs) i ≡ slice_get vs i)
     × ((i v : ℕ) → i < length vs → v ≡ get_or vs i v → version_at (zip_slots vs (links_of vs ns) xs) i ≡ Some v)
     × ((i : ℕ) → length vs ≤ i → version_at (zip_slots vs (links_of vs ns) xs) i ≡ None)
@@ -126,7 +133,9 @@ module _ {P : Type 0} (vs ns : List ℕ) (xs : List (Option P)) where
       ∙ zip-push vs (links_of vs ns) xs v (link_of v n) x (links-length vs ns same_n) same_x
       ∙ ap (λ l. zip_slots vs (links_of vs ns) xs ++ record { version = v; link = l; payload = x } ∷ []) is
 
-  pub laid-put : (i v : ℕ) (x : Option P) → v % 2 ≡ 1 → zip_slots (set vs i v) (links_of (set vs i v) ns) (set xs i x) ≡ set (zip_slots vs (links_of vs ns) xs) i (record { version = v; link = InUse; payload = x })
+  pub laid-put : (i v : ℕ) (x : Option P) → v % 2 ≡ 1
+      → zip_slots (set vs i v) (links_of (set vs i v) ns) (set xs i x) ≡ set (zip_slots vs (links_of vs ns) xs) i
+      (record { version = v; link = InUse; payload = x })
   laid-put i v x odd = ap (λ ls. zip_slots (set vs i v) ls (set xs i x)) (links-put vs ns i v odd) ∙ zip-set vs (links_of vs ns) xs i v InUse x
 
 pub ruleset laid = (laid-known, links-set, links-push, zip-set, zip-push)

@@ -1,5 +1,6 @@
 -- Well-formed places and stack, as the content of a primary map.
-use Rattle.std.proofs.Common.{◌≡◌, ◌⊎◌, ◌↔◌, inl, inr, ℕ, ◌+◌, ◌<◌, ◌≤◌, Bool, true, cond, nat_eq, List, [], ◌∷◌, length, slice_get, Option, None, Some, is_some, refl, sym, ap, subst, ◌∙◌, arith, eq-eqb}
+use Rattle.std.proofs.Common.{◌≡◌, ◌⊎◌, ◌↔◌, inl, inr, ℕ, ◌+◌, ◌<◌, ◌≤◌, Bool, true, cond, nat_eq, List, [], ◌∷◌, length, slice_get, Option, None,
+    Some, is_some, refl, sym, ap, subst, ◌∙◌, arith, eq-eqb}
 use Rattle.std.proofs.lemmas.Bool.Decides.{nat_tests}
 use Rattle.std.specs.List.{list_any}
 use Rattle.std.proofs.lemmas.Option.{slice_get_within, same_Some}
@@ -71,7 +72,8 @@ module _ {V : Type 0} (m : StackMap V) (stacked : IsStacked m.places m.vacant) w
     capacity_fits = omega (arith, places_all);
   }
     where
-      offers : (vs : List ℕ) → m.vacant ≡ vs → (map.get (next m.places) (offer m.places m.vacant).index ≡ Some (offer m.places m.vacant).version) ⊎ ((map.len (next m.places) ≡ 0) × ((offer m.places m.vacant).index ≡ places (content m) + 1) × ((offer m.places m.vacant).version ≡ 1))
+      offers : (vs : List ℕ) → m.vacant ≡ vs → (map.get (next m.places) (offer m.places m.vacant).index ≡ Some (offer m.places m.vacant).version)
+          ⊎ ((map.len (next m.places) ≡ 0) × ((offer m.places m.vacant).index ≡ places (content m) + 1) × ((offer m.places m.vacant).version ≡ 1))
       offers [] is = rw is (inr (omega (arith, stacked.counted, ap length is), sym places_all, refl))
       offers (i ∷ rest) is =
           let at = stacked.listed i (subst (λ vs. IsOn vs i) (sym is) (inl refl)) in

@@ -12,7 +12,9 @@ use Rattle.slotmap_core.proofs.MapLaws.{live_laws, detached_laws, next_laws, is_
 use Rattle.slotmap_core.proofs.PlacesLemmas.{key}
 
 -- the element behind what a gathered map has at a key, and the converse
-module _ {P K X M : Type 0} {same_key : K → K → Bool} {empty : M} {get : M → K → Option X} {put : M → K × X → M} {remove : M → K → M} {len : M → ℕ} (laws : IsFinite same_key empty get put remove len) (index : K → ℕ) (entry : ℕ → P → Option (K × X)) (fits : (i : ℕ) (p : P) (e : K × X) → entry i p ≡ Some e → index e.0 ≡ i) where
+module _ {P K X M : Type 0} {same_key : K → K → Bool} {empty : M} {get : M → K → Option X} {put : M → K × X → M} {remove : M → K → M} {len : M → ℕ}
+    (laws : IsFinite same_key empty get put remove len) (index : K → ℕ) (entry : ℕ → P → Option (K × X))
+    (fits : (i : ℕ) (p : P) (e : K × X) → entry i p ≡ Some e → index e.0 ≡ i) where
   pub gathered : (ps : List P) (q : K) (x : X) → get (gather empty put entry 0 ps) q ≡ Some x → (p : P) × (slice_get ps (index q) ≡ Some p) × (entry (index q) p ≡ Some (q, x))
   gathered ps q x is = grind (arith, get-gather laws index entry fits ps q, laws.is_same)
 
@@ -40,7 +42,8 @@ module _ {V : Type 0} where
   unfolding contents
   live_in slots k v is = let at = gathered live_laws (λ k. k.index) live_slot live_fits slots k v is in (at.0, at.1, grind (arith, nat_tests))
 
-  pub in_contents : (slots : List (SlotRecord V)) (i : ℕ) (slot : SlotRecord V) (v : V) → slice_get slots i ≡ Some slot → slot.version % 2 ≡ 1 → slot.value ≡ Some v → map.get (contents slots) (key i slot.version) ≡ Some v
+  pub in_contents : (slots : List (SlotRecord V)) (i : ℕ) (slot : SlotRecord V) (v : V) → slice_get slots i ≡ Some slot → slot.version % 2 ≡ 1
+      → slot.value ≡ Some v → map.get (contents slots) (key i slot.version) ≡ Some v
   unfolding contents
   in_contents slots i slot v found odd valued = gathers live_laws (λ k. k.index) live_slot live_fits slots (key i slot.version) v slot found (grind (arith, nat_tests))
 
@@ -65,7 +68,8 @@ module _ {V : Type 0} where
   unfolding start_next
   next_in slots i next is = let at = gathered next_laws (λ i. i) vacant_slot vacant_fits slots i next is in (at.0, at.1, grind (arith, nat_tests))
 
-  pub in_start_next : (slots : List (SlotRecord V)) (i : ℕ) (slot : SlotRecord V) → slice_get slots i ≡ Some slot → 0 < i → slot.version % 2 ≡ 0 → slot.version ≢ 0 → map.get (start_next slots) i ≡ Some (slot.version + 1)
+  pub in_start_next : (slots : List (SlotRecord V)) (i : ℕ) (slot : SlotRecord V) → slice_get slots i ≡ Some slot → 0 < i → slot.version % 2 ≡ 0
+      → slot.version ≢ 0 → map.get (start_next slots) i ≡ Some (slot.version + 1)
   unfolding start_next
   in_start_next slots i slot found positive even other = gathers next_laws (λ i. i) vacant_slot vacant_fits slots i (slot.version + 1) slot found (slot_vacant i slot positive even other)
 
@@ -83,7 +87,8 @@ module _ {V : Type 0} where
   unfolding start_retired
   retired_in slots k is = let at = gathered detached_laws (λ k. k.index) retired_slot retired_fits slots k tt (rw is) in (at.0, at.1, grind (arith, nat_tests))
 
-  pub in_start_retired : (slots : List (SlotRecord V)) (i : ℕ) (slot : SlotRecord V) → slice_get slots i ≡ Some slot → 0 < i → slot.version ≡ 0 → set.contains (start_retired slots) (key i last_version) ≡ true
+  pub in_start_retired : (slots : List (SlotRecord V)) (i : ℕ) (slot : SlotRecord V) → slice_get slots i ≡ Some slot → 0 < i → slot.version ≡ 0
+      → set.contains (start_retired slots) (key i last_version) ≡ true
   unfolding start_retired
   in_start_retired slots i slot found positive spent =
       sym (is_marked _) ∙ ap is_some (gathers detached_laws (λ k. k.index) retired_slot retired_fits slots (key i last_version) tt slot found (grind (arith, nat_tests)))
@@ -101,7 +106,8 @@ module _ {V : Type 0} where
   unfolding start_issued
   issued_in slots k is = let at = gathered detached_laws (λ k. k.index) issued_slot issued_fits slots k tt (rw is) in (at.0, at.1, grind (arith, nat_tests))
 
-  pub in_start_issued : (slots : List (SlotRecord V)) (i : ℕ) (slot : SlotRecord V) → slice_get slots i ≡ Some slot → 0 < i → set.contains (start_issued slots) (key i (last_issued slot.version)) ≡ true
+  pub in_start_issued : (slots : List (SlotRecord V)) (i : ℕ) (slot : SlotRecord V) → slice_get slots i ≡ Some slot → 0 < i
+      → set.contains (start_issued slots) (key i (last_issued slot.version)) ≡ true
   unfolding start_issued
   in_start_issued slots i slot found positive =
       sym (is_marked _) ∙ ap is_some (gathers detached_laws (λ k. k.index) issued_slot issued_fits slots (key i (last_issued slot.version)) tt slot found (grind (arith, nat_tests)))

@@ -1,5 +1,6 @@
 -- What calls know of slots, by what the map holds.
-use Rattle.std.proofs.Common.{◌≡◌, ◌≢◌, ℕ, zero, suc, ◌+◌, ◌-◌, ◌<◌, ◌≤◌, ◌^◌, ◌%◌, min, true, List, [], ◌∷◌, ◌++◌, length, set, slice_get, Some, None, option_map, is_some, refl, sym, ap, subst, ◌∙◌, arith}
+use Rattle.std.proofs.Common.{◌≡◌, ◌≢◌, ℕ, zero, suc, ◌+◌, ◌-◌, ◌<◌, ◌≤◌, ◌^◌, ◌%◌, min, true, List, [], ◌∷◌, ◌++◌, length, set, slice_get, Some,
+    None, option_map, is_some, refl, sym, ap, subst, ◌∙◌, arith}
 use Rattle.std.proofs.lemmas.List.{length-set, length_push}
 use Rattle.std.proofs.lemmas.Option.{slice_get_within}
 use Rattle.std.specs.FinMap as map
@@ -15,7 +16,8 @@ use Rattle.slotmap_core.proofs.SlotLemmas.{Present, present, live_slot, get-live
 use Rattle.slotmap_core.proofs.StepLemmas.{keeps}
 use Rattle.slotmap_core.proofs.SlotGrowth.{PresentKept, present_kept, some_free}
 
-module _ {P : Type 0} (slots : List (Slot P)) (fits head kept count : ℕ) (held : IsHeld slots fits head kept count) {now : Content P} (view : content (map_of slots head (vacancies slots kept count) (fits - 1)) ≡ now) where
+module _ {P : Type 0} (slots : List (Slot P)) (fits head kept count : ℕ) (held : IsHeld slots fits head kept count) {now : Content P}
+    (view : content (map_of slots head (vacancies slots kept count) (fits - 1)) ≡ now) where
   -- what is held between calls is well formed
   pub held_valid : IsContent true now
   held_valid = subst (IsContent true) view (valid slots head (vacancies slots kept count) count held.sound fits held.holds)
@@ -37,7 +39,8 @@ module _ {P : Type 0} (slots : List (Slot P)) (fits head kept count : ℕ) (held
   kept_positive k aside w =
       let free = vacancies slots kept count in
       let found = held_kept k aside in
-      let after = free_below (set slots k.index (full k.version w)) head free (count + 1) (reattached slots head free count held.sound k.index found.own_version k.version found.there found.before w).sound in
+      let after = free_below (set slots k.index (full k.version w)) head free (count + 1)
+              (reattached slots head free count held.sound k.index found.own_version k.version found.there found.before w).sound in
       omega (arith, after, length-set slots k.index (full k.version w), held.fewer)
 
   pub held_room : 0 < now.room → (taken (places_of slots) < most) × (length slots < fits + vacancies slots kept count)
@@ -63,7 +66,8 @@ module _ {P : Type 0} (slots : List (Slot P)) (fits head kept count : ℕ) (held
   -- if a place is vacant, or one more slot fits, there is room
   pub held_reuses : head ≢ 0 → 0 < now.room
   held_reuses other =
-      omega (arith, some_free slots head (vacancies slots kept count) count held.sound other, ap (λ c. c.room) (sym view), taken-slots slots head (vacancies slots kept count) count held.sound, held.holds, held_fits)
+      omega (arith, some_free slots head (vacancies slots kept count) count held.sound other, ap (λ c. c.room) (sym view),
+          taken-slots slots head (vacancies slots kept count) count held.sound, held.holds, held_fits)
 
   pub held_spare : fits < 2 ^ 32 → length slots < fits → 0 < now.room
   held_spare limit spare = omega (arith, ap (λ c. c.room) (sym view), taken-slots slots head (vacancies slots kept count) count held.sound)
@@ -88,8 +92,10 @@ module _ {P : Type 0} (slots : List (Slot P)) (fits head kept count : ℕ) (held
       grind (arith, held_passed start end passed q is_live)
 
 -- what is held after a call that allocates nothing
-pub held_stays : {P : Type 0} (slots : List (Slot P)) (fits head kept count : ℕ) → IsHeld slots fits head kept count → {now : Content P} → content (map_of slots head (vacancies slots kept count) (fits - 1)) ≡ now
-    → (slots2 : List (Slot P)) (fits2 head2 kept2 count2 : ℕ) → IsHeld slots2 fits2 head2 kept2 count2 → fits2 ≡ fits → StaysValid true now (content (map_of slots2 head2 (vacancies slots2 kept2 count2) (fits2 - 1)))
+pub held_stays : {P : Type 0} (slots : List (Slot P)) (fits head kept count : ℕ) → IsHeld slots fits head kept count → {now : Content P}
+    → content (map_of slots head (vacancies slots kept count) (fits - 1)) ≡ now
+    → (slots2 : List (Slot P)) (fits2 head2 kept2 count2 : ℕ) → IsHeld slots2 fits2 head2 kept2 count2 → fits2 ≡ fits
+        → StaysValid true now (content (map_of slots2 head2 (vacancies slots2 kept2 count2) (fits2 - 1)))
 held_stays slots fits head kept count held view slots2 fits2 head2 kept2 count2 after same = record {
   before = held_valid slots fits head kept count held view;
   after = held_valid slots2 fits2 head2 kept2 count2 after refl;
@@ -104,7 +110,8 @@ vacancies-push slots s free kept count all = omega (arith, length_push slots s)
 pub vacancies-set : {P : Type 0} (slots : List (Slot P)) (i : ℕ) (s : Slot P) (free kept count : ℕ) → count + kept + free + 1 ≡ length slots → vacancies (set slots i s) kept count ≡ free
 vacancies-set slots i s free kept count all = omega (arith, length-set slots i s)
 
-pub held-set : {P : Type 0} (slots : List (Slot P)) (fits head kept count : ℕ) → IsHeld slots fits head kept count → (i : ℕ) (s : Slot P) {head2 free2 count2 : ℕ} → IsSound (set slots i s) head2 free2 count2
+pub held-set : {P : Type 0} (slots : List (Slot P)) (fits head kept count : ℕ) → IsHeld slots fits head kept count
+    → (i : ℕ) (s : Slot P) {head2 free2 count2 : ℕ} → IsSound (set slots i s) head2 free2 count2
     → (kept2 : ℕ) → count2 + kept2 + free2 + 1 ≡ length slots → IsHeld (set slots i s) fits head2 kept2 count2
 held-set slots fits head kept count held i s {head2} {free2} {count2} sound kept2 all = record {
   sound = subst (λ n. IsSound (set slots i s) head2 n count2) (sym (vacancies-set slots i s free2 kept2 count2 all)) sound;
@@ -121,7 +128,8 @@ length-with_payload (s ∷ slots) (suc i) p = omega (arith, length-with_payload 
 pub vacancies-written : {P : Type 0} (slots : List (Slot P)) (i : ℕ) (p : P) (kept count : ℕ) → vacancies (with_payload slots i p) kept count ≡ vacancies slots kept count
 vacancies-written slots i p kept count = ap (λ n. n - (count + kept + 1)) (length-with_payload slots i p)
 
-pub with_payload-held : {P : Type 0} (slots : List (Slot P)) (fits head kept count : ℕ) → IsHeld slots fits head kept count → (i v : ℕ) (x : P) → slice_get slots i ≡ Some (full v x) → (w : P) → IsHeld (with_payload slots i w) fits head kept count
+pub with_payload-held : {P : Type 0} (slots : List (Slot P)) (fits head kept count : ℕ) → IsHeld slots fits head kept count → (i v : ℕ) (x : P)
+    → slice_get slots i ≡ Some (full v x) → (w : P) → IsHeld (with_payload slots i w) fits head kept count
 with_payload-held slots fits head kept count held i v x there w =
     let free = vacancies slots kept count in
     rw (with_payload-is slots head free count held.sound i v x there w)
@@ -142,8 +150,10 @@ room_had c n ok is well room = record {
 }
 
 -- room for n more keys had to be allocated, and was allocated or not
-pub grown : {P : Type 0} (slots : List (Slot P)) (fits head kept count : ℕ) → IsHeld slots fits head kept count → {now : Content P} → content (map_of slots head (vacancies slots kept count) (fits - 1)) ≡ now
-    → (more : ℕ) → fits ≤ more → (n : ℕ) (ok : Type 0) → now.room < n → (ok → (used now + n ≤ most) × (used now + n + 1 ≤ more)) → MakesRoom true now n ok (content (map_of slots head (vacancies slots kept count) (more - 1)))
+pub grown : {P : Type 0} (slots : List (Slot P)) (fits head kept count : ℕ) → IsHeld slots fits head kept count → {now : Content P}
+    → content (map_of slots head (vacancies slots kept count) (fits - 1)) ≡ now
+    → (more : ℕ) → fits ≤ more → (n : ℕ) (ok : Type 0) → now.room < n → (ok → (used now + n ≤ most) × (used now + n + 1 ≤ more))
+        → MakesRoom true now n ok (content (map_of slots head (vacancies slots kept count) (more - 1)))
 grown slots fits head kept count held {now} view more on n ok none enough =
     let after = valid slots head (vacancies slots kept count) count held.sound more (omega (arith, held.holds)) in
     record {

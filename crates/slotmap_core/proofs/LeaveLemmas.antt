@@ -24,7 +24,8 @@ module _ {V : Type 0} where
   has_left_if old new k was gone = ap (λ b. b && not (map.contains_key new.live k)) was ∙ not_of (map.contains_key new.live k) gone
 
   -- if the same keys are live, none was removed
-  Leaves-same : (a b : Content V) → ((q : Key) → map.contains_key b.live q ≡ map.contains_key a.live q) → map.len b.live ≡ map.len a.live → b.detached ≡ a.detached → b.retired ≡ a.retired → b.next ≡ a.next → a.room ≤ b.room → Leaves a b
+  Leaves-same : (a b : Content V) → ((q : Key) → map.contains_key b.live q ≡ map.contains_key a.live q) → map.len b.live ≡ map.len a.live
+      → b.detached ≡ a.detached → b.retired ≡ a.retired → b.next ≡ a.next → a.room ≤ b.room → Leaves a b
   Leaves-same a b live len detached retired next room = record {
     no_more = λ q there. sym (live q) ∙ there;
     detached = detached;
@@ -88,9 +89,11 @@ module _ {V : Type 0} where
       no_more = λ q there. (in_after_remove keys_total exact_keys b.live k q (sym (ap (λ m. map.contains_key m q) removes.live) ∙ there)).1;
       detached = removes.detached;
       retired = λ q.
-          grind (arith, ap (λ s. set.contains s q) removes.retired, set.contains-insert keys_total b.retired k q, get_left b c k removes q, tied keys_total exact_keys q k, itself keys_total exact_keys k);
+          grind (arith, ap (λ s. set.contains s q) removes.retired, set.contains-insert keys_total b.retired k q, get_left b c k removes q,
+              tied keys_total exact_keys q k, itself keys_total exact_keys k);
       next = λ i v. (
-        λ h. ⊎_elim (λ new. inr (k, has_left_if b c k is_live (λ there. absurd (let none = live_no_more b c k removes in cc)), new.2, sym new.0, sym new.1)) (λ was. inl was) (in_freed k b.next i v (sym (ap (λ m. map.get m i) removes.next) ∙ h)),
+        λ h. ⊎_elim (λ new. inr (k, has_left_if b c k is_live (λ there. absurd (let none = live_no_more b c k removes in cc)), new.2, sym new.0, sym new.1))
+            (λ was. inl was) (in_freed k b.next i v (sym (ap (λ m. map.get m i) removes.next) ∙ h)),
         λ h. ap (λ m. map.get m i) removes.next ∙ elim h [
           | inl there ↦ grind (arith, map.get-insert nat_cmp_total b.next k.index (next_version k) i, tied nat_cmp_total exact_unsigned i k.index, well.used_or_vacant k (inl (inl is_live)))
           | inr w ↦

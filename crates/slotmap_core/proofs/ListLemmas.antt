@@ -31,7 +31,8 @@ pub if_none : {A P : Type 0} (o : Option A) → P → IfNone o P
 if_none o p = grind arith
 
 -- a clone of an optional value equals it, if a clone of a value does
-pub same_options : {V : Type 0} (R : Option V → Option V → Type 0) → ((w : V) → R None (Some w) → ⊥) → ((v : V) → R (Some v) None → ⊥) → ((v w : V) → R (Some v) (Some w) → w ≡ v) → (x y : Option V) → R x y → y ≡ x
+pub same_options : {V : Type 0} (R : Option V → Option V → Type 0) → ((w : V) → R None (Some w) → ⊥) → ((v : V) → R (Some v) None → ⊥)
+    → ((v w : V) → R (Some v) (Some w) → w ≡ v) → (x y : Option V) → R x y → y ≡ x
 same_options R more less both x y r = grind arith
 
 pub none_from : {A : Type 0} (o : Option A) → ((x : A) → o ≢ Some x) → o ≡ None

@@ -20,7 +20,8 @@ use Rattle.slotmap_core.proofs.ContentsLemmas.{slot_vacant}
 use Rattle.slotmap_core.proofs.GatherLemmas.{slice_get_push}
 use Rattle.slotmap_core.proofs.PlacesLemmas.{len-live-push}
 use Rattle.slotmap_core.proofs.StartFits.{starts-fit}
-use Rattle.slotmap_core.proofs.StartLemmas.{odd_of, even_where, vacant_place, start_places-push, live-start_places, retired-start_places, next-start_places, detached-start_places, sentinel-start_places}
+use Rattle.slotmap_core.proofs.StartLemmas.{odd_of, even_where, vacant_place, start_places-push, live-start_places, retired-start_places,
+    next-start_places, detached-start_places, sentinel-start_places}
 use Rattle.slotmap_core.proofs.StartStack.{start_stack-push, IsStacked-start_places}
 use Rattle.slotmap_core.proofs.WrittenLemmas.{writes-places, written-restores, written-again}
 use Rattle.slotmap_core.proofs.SlotLemmas.{slot_at, IsSlot-full, IsSlot-empty, IsFreeList-push, walk-stack}
@@ -30,7 +31,9 @@ use Rattle.slotmap_core.proofs.SlotGrowth.{sentinel, IsSound-sentinel, each-push
 pub reads_as : {V : Type 0} (slots : List (SlotRecord V)) (limit : ℕ) → Accepts slots limit → (reuses : Bool) (c : Content V) → StartsFrom slots c → IsContent reuses c → ReadsAs reuses slots c
 reads_as slots limit accepted reuses c starts valid =
     let ps = start_places slots in
-    let writes : Writes c (slots_of ps) = writes-places ps c (starts.live ∙ sym (live-start_places slots limit accepted)) (starts.detached ∙ sym (detached-start_places slots)) (starts.retired ∙ sym (retired-start_places slots limit accepted)) (starts.next ∙ sym (next-start_places slots limit accepted)) (sentinel-start_places slots limit accepted) in
+    let writes : Writes c (slots_of ps) = writes-places ps c (starts.live ∙ sym (live-start_places slots limit accepted))
+            (starts.detached ∙ sym (detached-start_places slots)) (starts.retired ∙ sym (retired-start_places slots limit accepted))
+            (starts.next ∙ sym (next-start_places slots limit accepted)) (sentinel-start_places slots limit accepted) in
     record {
       starts = starts;
       valid = valid;
@@ -45,7 +48,8 @@ module _ {P : Type 0} where
   record_is s slot fits = grind (arith, nat_tests)
 
   -- a loop that writes the records in order goes on to the next one
-  pub records-next : (slots : List (Slot P)) → ((i : ℕ) (s : Slot P) → slice_get slots i ≡ Some s → IsSlot s) → (i : ℕ) (made : SlotRecord P) → version_at slots i ≡ Some made.version → payload_at slots i ≡ made.value → made.version < 2 ^ 32
+  pub records-next : (slots : List (Slot P)) → ((i : ℕ) (s : Slot P) → slice_get slots i ≡ Some s → IsSlot s) → (i : ℕ) (made : SlotRecord P)
+      → version_at slots i ≡ Some made.version → payload_at slots i ≡ made.value → made.version < 2 ^ 32
       → take (i + 1) (slots_of (places_of slots)) ≡ take i (slots_of (places_of slots)) ++ made ∷ []
   records-next slots each i made version value fits =
       let records = slots_of (places_of slots) in
@@ -80,7 +84,8 @@ AreRead-first {V} first =
       places = refl;
     }
 
-module _ {V : Type 0} (records : List (SlotRecord V)) (slots : List (Slot V)) (head free count : ℕ) (read : AreRead records slots head free count) (made : SlotRecord V) (consistent : IsConsistent made) where
+module _ {V : Type 0} (records : List (SlotRecord V)) (slots : List (Slot V)) (head free count : ℕ) (read : AreRead records slots head free count)
+    (made : SlotRecord V) (consistent : IsConsistent made) where
   -- one more record, which becomes this slot, and after which these indices are vacant
   one_more : 0 < length records → (s : Slot V) (stack : List ℕ) (head2 free2 count2 : ℕ) → start_stack (records ++ made ∷ []) ≡ stack → IsSlot s → place_of s ≡ start_place made
       → IsFreeList (slots ++ s ∷ []) stack head2 → length stack ≡ free2 → count + cond (is_some (live_entry (length (places_of slots)) (place_of s))) 1 0 ≡ count2
@@ -129,14 +134,17 @@ next_consistent records before after made limit accepted whole =
     grind (arith, common_steps, accepted.consistent (length before) made, slice_get-get_or records (length before) made)
 
 -- the first element that an iterator yields, if there is one
-pub taken_first : {X : Type 0} (items rest : List X) (len left : ℕ) (taken : Option X) → MatchOption taken ((len ≡ 0) × (left ≡ 0)) (λ x. (items ≡ x ∷ rest) × (left + 1 ≡ len)) → 0 < len → (x : X) × (items ≡ x ∷ rest) × (left + 1 ≡ len)
+pub taken_first : {X : Type 0} (items rest : List X) (len left : ℕ) (taken : Option X)
+    → MatchOption taken ((len ≡ 0) × (left ≡ 0)) (λ x. (items ≡ x ∷ rest) × (left + 1 ≡ len)) → 0 < len → (x : X) × (items ≡ x ∷ rest)
+    × (left + 1 ≡ len)
 taken_first items rest len left taken steps some = grind arith
 
 pub some_records : {V : Type 0} (records : List (SlotRecord V)) (limit : ℕ) → Accepts records limit → 0 < length records
 some_records records limit accepted = slice_get_within records 0 accepted.first_empty.0 accepted.first_empty.1
 
 -- all records of an accepted list were read
-module _ {V : Type 0} (records : List (SlotRecord V)) (slots : List (Slot V)) (head free count : ℕ) (read : AreRead records slots head free count) (limit : ℕ) (small : limit ≤ 2 ^ 32) (accepted : Accepts records limit) (versions_fit : AllFitBelow records (length records)) where
+module _ {V : Type 0} (records : List (SlotRecord V)) (slots : List (Slot V)) (head free count : ℕ) (read : AreRead records slots head free count)
+    (limit : ℕ) (small : limit ≤ 2 ^ 32) (accepted : Accepts records limit) (versions_fit : AllFitBelow records (length records)) where
   pub IsSound-read : IsSound slots head free count
   IsSound-read = record {
     each = read.each;

@@ -45,7 +45,8 @@ module _ {V : Type 0} where
   len-with_entries m (e ∷ es) = grind (arith, map.len-insert keys_total (with_entries m es) e.0 e.1, len-with_entries m es)
 
   -- no key is there twice, if the list makes the map longer by its length
-  pub fresh_first : (m : map.FinMap key_cmp V) (e : Key × V) (es : List (Key × V)) → length (e ∷ es) + map.len m ≡ map.len (with_entries m (e ∷ es)) → (map.contains_key (with_entries m es) e.0 ≡ false) × (length es + map.len m ≡ map.len (with_entries m es))
+  pub fresh_first : (m : map.FinMap key_cmp V) (e : Key × V) (es : List (Key × V)) → length (e ∷ es) + map.len m ≡ map.len (with_entries m (e ∷ es))
+      → (map.contains_key (with_entries m es) e.0 ≡ false) × (length es + map.len m ≡ map.len (with_entries m es))
   fresh_first m e es once = grind (arith, map.len-insert keys_total (with_entries m es) e.0 e.1, len-with_entries m es)
 
   apart_from : (m : map.FinMap key_cmp V) (es : List (Key × V)) (k : Key) → length es + map.len m ≡ map.len (with_entries m es) → map.contains_key m k ≡ true → find key_cmp k es ≡ None
@@ -64,7 +65,8 @@ module _ {V : Type 0} where
   IsListingBut-start m = record { all = refl; once = omega arith }
 
   -- an entry of the rest is listed next
-  pub IsListingBut-take : (m : map.FinMap key_cmp V) (es : List (Key × V)) (rest : map.FinMap key_cmp V) (k : Key) (v : V) → IsListingBut m es rest → map.get rest k ≡ Some v → IsListingBut m (es ++ (k, v) ∷ []) (map.remove rest k)
+  pub IsListingBut-take : (m : map.FinMap key_cmp V) (es : List (Key × V)) (rest : map.FinMap key_cmp V) (k : Key) (v : V) → IsListingBut m es rest
+      → map.get rest k ≡ Some v → IsListingBut m (es ++ (k, v) ∷ []) (map.remove rest k)
   IsListingBut-take m es rest k v listing found =
       let kept = insert-remove rest k v ∙ insert_same keys_total exact_keys rest k v found in
       grind (arith, with_entries_push (map.remove rest k) es (k, v), kept, length_push es (k, v), len_removed keys_total exact_keys rest k)
@@ -97,7 +99,8 @@ module _ {V : Type 0} where
   pub listed : (m : map.FinMap key_cmp V) (es : List (Key × V)) (k : Key) (v : V) → IsListing m es → map.get m k ≡ Some v → Contains es (k, v)
   listed m es k v listing found = contained es k v (sym (map.get-from_entries keys_total es k) ∙ ap (λ n. map.get n k) listing.all ∙ found)
 
-  found_at : (es : List (Key × V)) (i : ℕ) (d : Key × V) → length es + map.len (map.empty {X = V} {R = key_cmp}) ≡ map.len (with_entries map.empty es) → i < length es → find key_cmp (get_or es i d).0 es ≡ Some (get_or es i d).1
+  found_at : (es : List (Key × V)) (i : ℕ) (d : Key × V) → length es + map.len (map.empty {X = V} {R = key_cmp}) ≡ map.len (with_entries map.empty es)
+      → i < length es → find key_cmp (get_or es i d).0 es ≡ Some (get_or es i d).1
   found_at [] i d once within = absurd (omega arith)
   found_at (e ∷ es) zero d once within = rw (itself keys_total exact_keys e.0)
   found_at (e ∷ es) (suc i) d once within =

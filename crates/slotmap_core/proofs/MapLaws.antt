@@ -11,7 +11,8 @@ use Rattle.slotmap_core.specs.Key.{Key, key_cmp}
 use Rattle.slotmap_core.proofs.KeyLemmas.{exact_keys, keys_total, tied, itself}
 use Rattle.slotmap_core.proofs.GatherLemmas.{IsFinite}
 
-pub map_laws : {K X : Type 0} {R : K → K → Ordering} → IsTotalOrder R → CmpEqualImpliesEq R → IsFinite {X = X} (eq_by_cmp R) (map.empty {X = X} {R = R}) map.get (λ m e. map.insert m e.0 e.1) map.remove map.len
+pub map_laws : {K X : Type 0} {R : K → K → Ordering} → IsTotalOrder R → CmpEqualImpliesEq R
+    → IsFinite {X = X} (eq_by_cmp R) (map.empty {X = X} {R = R}) map.get (λ m e. map.insert m e.0 e.1) map.remove map.len
 map_laws {K} {X} {R} o same = record {
   get-empty = map.get-empty R;
   get-put = λ m e q. map.get-insert o m e.0 e.1 q;

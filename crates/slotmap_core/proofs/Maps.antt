@@ -42,7 +42,8 @@ module _ {K X : Type 0} {R : K → K → Ordering} (total : IsTotalOrder R) (exa
 
   -- maps that agree at one key and at all others are equal
   pub same_at : (m n : map.FinMap R X) (k : K) → map.get m k ≡ map.get n k → ((q : K) → q ≢ k → map.get m q ≡ map.get n q) → m ≡ n
-  same_at m n k here elsewhere = map.same_map total exact m n (λ q. elim (alike_or_apart total exact q k) [ inl same ↦ subst (λ x. map.get m x ≡ map.get n x) (sym same) here | inr other ↦ elsewhere q other ])
+  same_at m n k here elsewhere =
+      map.same_map total exact m n (λ q. elim (alike_or_apart total exact q k) [ inl same ↦ subst (λ x. map.get m x ≡ map.get n x) (sym same) here | inr other ↦ elsewhere q other ])
 
   pub insert_same : (m : map.FinMap R X) (k : K) (v : X) → map.get m k ≡ Some v → map.insert m k v ≡ m
   insert_same m k v found = same_at (map.insert m k v) m k (get_inserted m k v ∙ sym found) (get_other m k v)

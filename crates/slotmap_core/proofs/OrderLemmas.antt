@@ -41,7 +41,8 @@ module _ {V : Type 0} where
   put_last k v (e ∷ es) above = grind (arith, above e.0, itself keys_total exact_keys e.0, put_last k v es (λ q there. above q (or_right (eq_by_cmp key_cmp q e.0) _ there)))
 
   -- an entry whose key is the smallest is the first
-  pub entries_first : (m : map.FinMap key_cmp V) (k : Key) (v : V) → map.get m k ≡ Some v → ((q : Key) → map.contains_key (map.remove m k) q ≡ true → k.index < q.index) → map.entries m ≡ (k, v) ∷ map.entries (map.remove m k)
+  pub entries_first : (m : map.FinMap key_cmp V) (k : Key) (v : V) → map.get m k ≡ Some v
+      → ((q : Key) → map.contains_key (map.remove m k) q ≡ true → k.index < q.index) → map.entries m ≡ (k, v) ∷ map.entries (map.remove m k)
   entries_first m k v found below =
       ap (λ n. map.entries n) (sym (insert-remove m k v ∙ insert_same keys_total exact_keys m k v found)) ∙ map.entries-insert keys_total (map.remove m k) k v
       ∙ put_first k v (map.entries (map.remove m k)) (λ q there. lesser k q (below q (map.contains_key-keys (map.remove m k) q ∙ there)))
@@ -87,11 +88,13 @@ module _ {V : Type 0} where
             tied keys_total exact_keys q k,
           )) in
           ap (λ n. map.keys n) put_in
-          ∙ ap (λ es. list_map (λ (e : Key × V). e.0) es) (map.entries-insert keys_total stayed k value.0 ∙ put_last k value.0 (map.entries stayed) (λ q there. greater k q (above q (listed_left a b q (map.contains_key-keys stayed q ∙ there)))))
+          ∙ ap (λ es. list_map (λ (e : Key × V). e.0) es) (map.entries-insert keys_total stayed k value.0
+              ∙ put_last k value.0 (map.entries stayed) (λ q there. greater k q (above q (listed_left a b q (map.contains_key-keys stayed q ∙ there)))))
           ∙ map-append (λ (e : Key × V). e.0) (map.entries stayed) ((k, value.0) ∷ [])
 
   -- a key of a smaller index than all that are removed later was removed before
-  pub FreesByIndex-first : (a b c : Content V) (k : Key) → IsLive a k → Removes a k b → ((q : Key) → IsLive b q → k.index < q.index) → ((q : Key) → IsLive c q → IsLive b q) → FreesByIndex b c → FreesByIndex a c
+  pub FreesByIndex-first : (a b c : Content V) (k : Key) → IsLive a k → Removes a k b → ((q : Key) → IsLive b q → k.index < q.index)
+      → ((q : Key) → IsLive c q → IsLive b q) → FreesByIndex b c → FreesByIndex a c
   FreesByIndex-first a b c k is_live removes above no_more later = grind (arith, removes.stack, later, one_more)
     where
       one_more : keys_left a c ≡ k ∷ keys_left b c
@@ -111,4 +114,5 @@ module _ {V : Type 0} where
           )) in
           ap (λ n. map.keys n) put_in
           ∙ ap (λ es. list_map (λ (e : Key × V). e.0) es)
-          (map.entries-insert keys_total stayed k value.0 ∙ put_first k value.0 (map.entries stayed) (λ q there. lesser k q (above q (was_live b c q (listed_left b c q (map.contains_key-keys stayed q ∙ there))))))
+          (map.entries-insert keys_total stayed k value.0 ∙ put_first k value.0 (map.entries stayed)
+              (λ q there. lesser k q (above q (was_live b c q (listed_left b c q (map.contains_key-keys stayed q ∙ there))))))

@@ -29,7 +29,8 @@ module _ {V : Type 0} where
   pairs-places i (v ∷ vs) (l ∷ ls) (None ∷ xs) same_l same_x each = pairs-places (i + 1) vs ls xs (omega arith) (omega arith) (λ j. each (suc j))
   pairs-places i (v ∷ vs) ls xs same_l same_x each = absurd (omega arith)
 
-module _ {V : Type 0} (vs : List ℕ) (ls : List Link) (xs : List (Option V)) (same_l : length ls ≡ length vs) (same_x : length xs ≡ length vs) (head free count : ℕ) (sound : IsSound (zip_slots vs ls xs) head free count) where
+module _ {V : Type 0} (vs : List ℕ) (ls : List Link) (xs : List (Option V)) (same_l : length ls ≡ length vs) (same_x : length xs ≡ length vs)
+    (head free count : ℕ) (sound : IsSound (zip_slots vs ls xs) head free count) where
   pairs-entries : pairs_left 0 vs xs ≡ map.entries (live (places_of (zip_slots vs ls xs)))
   pairs-entries = pairs-places 0 vs ls xs same_l same_x sound.each ∙ sym (entries-live (places_of (zip_slots vs ls xs)))
 
@@ -122,7 +123,8 @@ module _ {V : Type 0} (vs : List ℕ) (xs : List (Option V)) (i : ℕ) (o : Opti
   }
 
 -- places with even versions are skipped
-pass_all : {V : Type 0} (vs : List ℕ) (xs : List (Option V)) (left n i : ℕ) → IsWalk vs xs i left → i + n ≤ length vs → AllEven vs i (i + n) → IsWalk vs xs (i + n) left × (pairs_left (i + n) vs xs ≡ pairs_left i vs xs)
+pass_all : {V : Type 0} (vs : List ℕ) (xs : List (Option V)) (left n i : ℕ) → IsWalk vs xs i left → i + n ≤ length vs → AllEven vs i (i + n)
+    → IsWalk vs xs (i + n) left × (pairs_left (i + n) vs xs ≡ pairs_left i vs xs)
 pass_all vs xs left zero i walk within even = subst (λ m. IsWalk vs xs m left × (pairs_left m vs xs ≡ pairs_left i vs xs)) (omega arith) (walk, refl)
 pass_all vs xs left (suc n) i walk within even =
     let here = found_within vs i (omega arith) in

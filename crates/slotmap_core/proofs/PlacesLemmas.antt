@@ -29,15 +29,19 @@ module _ {V : Type 0} where
   next_fits i p e is = grind arith
 
   -- what is live, detached, retired and next, if place i turns from `old` to `new`
-  pub live-set : (ps : List (Place V)) (i : ℕ) (old new : Place V) → slice_get ps i ≡ Some old → live (set ps i new) ≡ add (λ m e. map.insert m e.0 e.1) (live_entry i new) (add (λ m e. map.remove m e.0) (live_entry i old) (live ps))
+  pub live-set : (ps : List (Place V)) (i : ℕ) (old new : Place V) → slice_get ps i ≡ Some old
+      → live (set ps i new) ≡ add (λ m e. map.insert m e.0 e.1) (live_entry i new) (add (λ m e. map.remove m e.0) (live_entry i old) (live ps))
   unfolding live
   live-set ps i old new found = gather-set live_laws (λ k. k.index) live_entry live_fits ps i old new found
 
-  pub detached-set : (ps : List (Place V)) (i : ℕ) (old new : Place V) → slice_get ps i ≡ Some old → detached (set ps i new) ≡ add (λ s e. set.insert s e.0) (detached_entry i new) (add (λ s e. set.remove s e.0) (detached_entry i old) (detached ps))
+  pub detached-set : (ps : List (Place V)) (i : ℕ) (old new : Place V) → slice_get ps i ≡ Some old
+      → detached (set ps i new) ≡ add (λ s e. set.insert s e.0) (detached_entry i new)
+      (add (λ s e. set.remove s e.0) (detached_entry i old) (detached ps))
   unfolding detached
   detached-set ps i old new found = gather-set detached_laws (λ k. k.index) detached_entry detached_fits ps i old new found
 
-  pub retired-set : (ps : List (Place V)) (i : ℕ) (old new : Place V) → slice_get ps i ≡ Some old → retired (set ps i new) ≡ add (λ s e. set.insert s e.0) (retired_entry i new) (add (λ s e. set.remove s e.0) (retired_entry i old) (retired ps))
+  pub retired-set : (ps : List (Place V)) (i : ℕ) (old new : Place V) → slice_get ps i ≡ Some old
+      → retired (set ps i new) ≡ add (λ s e. set.insert s e.0) (retired_entry i new) (add (λ s e. set.remove s e.0) (retired_entry i old) (retired ps))
   unfolding retired
   retired-set ps i old new found = gather-set detached_laws (λ k. k.index) retired_entry retired_fits ps i old new found
 
@@ -54,7 +58,8 @@ module _ {V : Type 0} where
   pub no_vacancy : (i : ℕ) (p : Place V) → ((n : ℕ) → p ≢ Vacant n) → vacancy i p ≡ None
   no_vacancy i p other = grind arith
 
-  pub next-set : (ps : List (Place V)) (i : ℕ) (old new : Place V) → 0 < i → slice_get ps i ≡ Some old → next (set ps i new) ≡ add (λ m e. map.insert m e.0 e.1) (vacancy i new) (add (λ m e. map.remove m e.0) (vacancy i old) (next ps))
+  pub next-set : (ps : List (Place V)) (i : ℕ) (old new : Place V) → 0 < i → slice_get ps i ≡ Some old
+      → next (set ps i new) ≡ add (λ m e. map.insert m e.0 e.1) (vacancy i new) (add (λ m e. map.remove m e.0) (vacancy i old) (next ps))
   unfolding next
   next-set ps i old new positive found = rw (next-vacancy i new positive, next-vacancy i old positive) at (gather-set next_laws (λ k. k) next_entry next_fits ps i old new found)
 
@@ -92,13 +97,15 @@ module _ {V : Type 0} where
   vacant_at ps i n is = grind (arith, get-next ps i, itself nat_cmp_total exact_unsigned i)
 
 -- the sentinel's place alone holds nothing
-pub sentinel_alone : (V : Type 0) (n : ℕ) → (live {V = V} (Vacant n ∷ []) ≡ map.empty) × (detached {V = V} (Vacant n ∷ []) ≡ set.empty) × (retired {V = V} (Vacant n ∷ []) ≡ set.empty) × (next {V = V} (Vacant n ∷ []) ≡ map.empty)
+pub sentinel_alone : (V : Type 0) (n : ℕ) → (live {V = V} (Vacant n ∷ []) ≡ map.empty) × (detached {V = V} (Vacant n ∷ []) ≡ set.empty)
+    × (retired {V = V} (Vacant n ∷ []) ≡ set.empty) × (next {V = V} (Vacant n ∷ []) ≡ map.empty)
 unfolding live detached retired next
 sentinel_alone V n = (refl, refl, refl, refl)
 
 module _ {V : Type 0} where
   -- how many keys are live, after a change
-  pub len-live-set : (ps : List (Place V)) (i : ℕ) (old new : Place V) → slice_get ps i ≡ Some old → map.len (live (set ps i new)) + cond (is_some (live_entry i old)) 1 0 ≡ map.len (live ps) + cond (is_some (live_entry i new)) 1 0
+  pub len-live-set : (ps : List (Place V)) (i : ℕ) (old new : Place V) → slice_get ps i ≡ Some old
+      → map.len (live (set ps i new)) + cond (is_some (live_entry i old)) 1 0 ≡ map.len (live ps) + cond (is_some (live_entry i new)) 1 0
   unfolding live
   len-live-set ps i old new found =
       let at : 0 + i ≡ i = omega arith in
@@ -110,13 +117,18 @@ module _ {V : Type 0} where
       let at : 0 + length ps ≡ length ps = omega arith in
       rw at at (len-push live_laws (λ k. k.index) live_entry live_fits 0 ps new)
 
-  pub len-next-set : (ps : List (Place V)) (i : ℕ) (old new : Place V) → 0 < i → slice_get ps i ≡ Some old → map.len (next (set ps i new)) + cond (is_some (vacancy i old)) 1 0 ≡ map.len (next ps) + cond (is_some (vacancy i new)) 1 0
+  pub len-next-set : (ps : List (Place V)) (i : ℕ) (old new : Place V) → 0 < i → slice_get ps i ≡ Some old
+      → map.len (next (set ps i new)) + cond (is_some (vacancy i old)) 1 0 ≡ map.len (next ps) + cond (is_some (vacancy i new)) 1 0
   unfolding next
   len-next-set ps i old new positive found =
       let at : 0 + i ≡ i = omega arith in
       rw (at, next-vacancy i old positive, next-vacancy i new positive) at (len-set next_laws (λ k. k) next_entry next_fits 0 ps i old new found)
 
-  total_from : (j : ℕ) (ps : List (Place V)) → 0 < j → map.len (gather (map.empty {X = V} {R = key_cmp}) (λ m e. map.insert m e.0 e.1) live_entry j ps) + set.len (gather (set.empty {R = key_cmp}) (λ s e. set.insert s e.0) detached_entry j ps) + set.len (gather (set.empty {R = key_cmp}) (λ s e. set.insert s e.0) retired_entry j ps) + map.len (gather (map.empty {X = ℕ} {R = nat_cmp}) (λ m e. map.insert m e.0 e.1) next_entry j ps) ≡ length ps
+  total_from : (j : ℕ) (ps : List (Place V)) → 0 < j
+      → map.len (gather (map.empty {X = V} {R = key_cmp}) (λ m e. map.insert m e.0 e.1) live_entry j ps) + set.len
+      (gather (set.empty {R = key_cmp}) (λ s e. set.insert s e.0) detached_entry j ps) + set.len
+      (gather (set.empty {R = key_cmp}) (λ s e. set.insert s e.0) retired_entry j ps) + map.len
+      (gather (map.empty {X = ℕ} {R = nat_cmp}) (λ m e. map.insert m e.0 e.1) next_entry j ps) ≡ length ps
   total_from j [] positive = omega (arith, map.len-empty key_cmp V, set.len-empty key_cmp, map.len-empty nat_cmp ℕ)
   total_from j (p ∷ ps) positive =
       grind (

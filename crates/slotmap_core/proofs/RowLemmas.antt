@@ -27,7 +27,8 @@ row-payload [] i r read some = absurd (cc)
 row-payload (q ∷ rows) zero r read some = ap (λ b. cond b (Some q.number) None) (in_use q.version q.number some) ∙ ap (λ (x : Row). Some x.number) (sym read)
 row-payload (q ∷ rows) (suc i) r read some = row-payload rows i r read some
 
-pub row-with_payload : (rows : List Row) (i : ℕ) (r : Row) (p : ℕ) → r ≡ get_or rows i r → IsSome (payload_at (slots_of rows) i) → slots_of (set rows i (record r { number = p })) ≡ with_payload (slots_of rows) i p
+pub row-with_payload : (rows : List Row) (i : ℕ) (r : Row) (p : ℕ) → r ≡ get_or rows i r → IsSome (payload_at (slots_of rows) i)
+    → slots_of (set rows i (record r { number = p })) ≡ with_payload (slots_of rows) i p
 row-with_payload [] i r p read some = refl
 row-with_payload (q ∷ rows) zero r p read some = rw (read, in_use q.version q.number some) refl
 row-with_payload (q ∷ rows) (suc i) r p read some = ap (λ ss. slot_of q ∷ ss) (row-with_payload rows i r p read some)

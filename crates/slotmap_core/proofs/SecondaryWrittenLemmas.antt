@@ -1,5 +1,6 @@
 -- A secondary map holds what a list of slots says, if at each index it holds what the slot there has.
-use Rattle.std.proofs.Common.{◌≡◌, ℕ, ◌%◌, ◌<◌, List, length, slice_get, Option, None, Some, true, false, cond, eq-eqb, is_some, option_map, refl, sym, ap, subst, ◌∙◌, arith, nat_lt, ltb-true, ltb-false}
+use Rattle.std.proofs.Common.{◌≡◌, ℕ, ◌%◌, ◌<◌, List, length, slice_get, Option, None, Some, true, false, cond, eq-eqb, is_some, option_map, refl,
+    sym, ap, subst, ◌∙◌, arith, nat_lt, ltb-true, ltb-false}
 use Rattle.std.proofs.lemmas.Option.{slice_get_past}
 use Rattle.std.specs.FinMap as map
 use Rattle.slotmap_core.specs.Secondary.{Pairs, IsSecondary, value_at, keyed}
@@ -24,7 +25,8 @@ module _ {V : Type 0} where
       let found = mapped (λ x. (slot.version, x)) slot.value (version, v) (pair_found version (slot_pair (Some slot)) v h) in
       (slot, refl, ap (λ (p : ℕ × V). p.0) found.2, found.1 ∙ ap (λ (p : ℕ × V). Some p.1) found.2)
 
-  module _ (slots : List (SlotRecord V)) (m : Pairs V) (by_place : (i : ℕ) → map.get m i ≡ slot_pair (slice_get slots i)) (odd : (i : ℕ) (slot : SlotRecord V) → slice_get slots i ≡ Some slot → is_some slot.value ≡ true → slot.version % 2 ≡ 1) where
+  module _ (slots : List (SlotRecord V)) (m : Pairs V) (by_place : (i : ℕ) → map.get m i ≡ slot_pair (slice_get slots i))
+      (odd : (i : ℕ) (slot : SlotRecord V) → slice_get slots i ≡ Some slot → is_some slot.value ≡ true → slot.version % 2 ≡ 1) where
     pub contents_by_place : keyed m ≡ contents slots
     contents_by_place = map.same_map keys_total exact_keys _ _ (λ k. same_options (map.get (keyed m) k) (map.get (contents slots) k)
         (λ v found.
@@ -38,7 +40,8 @@ module _ {V : Type 0} where
         ∙ ap (λ b. cond b (Some v) None) (eq-eqb live.0.version k.version (sym (ap (λ q. q.version) live.2.is)))))
 
   -- a list in which each index is written, up to the last one of the map
-  module _ (slots : List (SlotRecord V)) (m : Pairs V) (valid : IsSecondary m) (within : (i : ℕ) → map.contains_key m i ≡ true → i < length slots) (each : (i : ℕ) → i < length slots → slice_get slots i ≡ Some (slot_of (map.get m i))) where
+  module _ (slots : List (SlotRecord V)) (m : Pairs V) (valid : IsSecondary m) (within : (i : ℕ) → map.contains_key m i ≡ true → i < length slots)
+      (each : (i : ℕ) → i < length slots → slice_get slots i ≡ Some (slot_of (map.get m i))) where
     written_by_place : (i : ℕ) → map.get m i ≡ slot_pair (slice_get slots i)
     written_by_place i = elim (nat_lt i (length slots)) as (λ b. nat_lt i (length slots) ≡ b → map.get m i ≡ slot_pair (slice_get slots i)) [
       | true ↦ λ less. read (map.get m i) ∙ ap slot_pair (sym (each i (ltb-true i (length slots) less)))

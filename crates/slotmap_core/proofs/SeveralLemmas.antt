@@ -1,5 +1,6 @@
 -- Several keys of a map get new values, one after another, in a map of any kind.
-use Rattle.std.proofs.Common.{◌≡◌, ◌≢◌, ◌↔◌, ℕ, suc, ◌+◌, ◌<◌, Bool, true, false, List, [], ◌∷◌, ◌++◌, length, get_or, set, take, drop, Option, Some, is_some, map as map_list, refl, sym, ap, subst, ◌∙◌, arith, All}
+use Rattle.std.proofs.Common.{◌≡◌, ◌≢◌, ◌↔◌, ℕ, suc, ◌+◌, ◌<◌, Bool, true, false, List, [], ◌∷◌, ◌++◌, length, get_or, set, take, drop, Option, Some,
+    is_some, map as map_list, refl, sym, ap, subst, ◌∙◌, arith, All}
 use Rattle.std.proofs.lemmas.List.{length-set, take_more, take_more_set, drop_more, drop-set-lt, map_push, length-take-le, get_or-take, get_or_default, get_or-map, length-map}
 use Rattle.std.proofs.lemmas.List.Elements.{All-push}
 use Rattle.std.specs.List.{list_any}
@@ -30,7 +31,8 @@ module _ {M V : Type 0} (get : M → Key → Option V) (put : M → Key → V �
   still_there writes m k q v has_k has_q = grind (arith, same_or_other k q, writes.here m k v, writes.elsewhere m k q v has_k)
 
   -- a key that isn't among the keys keeps its value
-  get-with_values : WriteLaws → (m : M) (ks : List Key) (vs : List V) (q : Key) → All (λ k. is_some (get m k) ≡ true) ks → ((i : ℕ) (d : Key) → i < length ks → get_or ks i d ≢ q) → get (with_values put m ks vs) q ≡ get m q
+  get-with_values : WriteLaws → (m : M) (ks : List Key) (vs : List V) (q : Key) → All (λ k. is_some (get m k) ≡ true) ks
+      → ((i : ℕ) (d : Key) → i < length ks → get_or ks i d ≢ q) → get (with_values put m ks vs) q ≡ get m q
   get-with_values writes m (k ∷ ks) (v ∷ vs) q there other =
       let first = there 0 k (omega arith) in
       get-with_values writes (put m k v) ks vs q (λ i d h. still_there writes m k (get_or ks i d) v first (there (suc i) d (omega arith))) (λ i d h. other (suc i) d (omega arith))
@@ -45,11 +47,14 @@ module _ {M V : Type 0} (get : M → Key → Option V) (put : M → Key → V �
     pub taken : AreValuesOf get old (take i ks) (take i ws)
     pub rest : drop i ws ≡ drop i vs
 
-module _ {M V : Type 0} (get : M → Key → Option V) (put : M → Key → V → M) (writes : WriteLaws get put) (old : M) (ks : List Key) (vs : List V) (now : M) (ws : List V) (i : ℕ) (done : Exchanged get put old ks vs now ws i) where
+module _ {M V : Type 0} (get : M → Key → Option V) (put : M → Key → V → M) (writes : WriteLaws get put) (old : M) (ks : List Key) (vs : List V)
+    (now : M) (ws : List V) (i : ℕ) (done : Exchanged get put old ks vs now ws i) where
   -- the next key still has its old value
   next_value : (d : Key) → i < length ks → get now (get_or ks i d) ≡ get old (get_or ks i d)
   next_value d within =
-      rw done.wrote (get-with_values get put writes old (take i ks) (take i vs) (get_or ks i d) (λ j e h. let below : j < i = omega (arith, length-take-le i ks (omega arith)) in rw (get_or-take i ks j e below) (done.can.there j e (omega arith))) (λ j e h.
+      rw done.wrote (get-with_values get put writes old (take i ks) (take i vs) (get_or ks i d)
+          (λ j e h. let below : j < i = omega (arith, length-take-le i ks (omega arith)) in rw (get_or-take i ks j e below)
+          (done.can.there j e (omega arith))) (λ j e h.
       let below : j < i = omega (arith, length-take-le i ks (omega arith)) in
       rw get_or-take (λ same. done.can.distinct j i e below within (same ∙ get_or_default ks i d e within))))
 
@@ -57,7 +62,8 @@ module _ {M V : Type 0} (get : M → Key → Option V) (put : M → Key → V �
   next_there d within = ap is_some (next_value d within) ∙ done.can.there i d within
 
   -- the value at position i was put under the key there, and w is the old value
-  pub Exchanged-step : (k : Key) (v w : V) → length ks ≡ length vs → i < length ks → k ≡ get_or ks i k → v ≡ get_or ws i v → get now k ≡ Some w → Exchanged get put old ks vs (put now k v) (set ws i w) (i + 1)
+  pub Exchanged-step : (k : Key) (v w : V) → length ks ≡ length vs → i < length ks → k ≡ get_or ks i k → v ≡ get_or ws i v → get now k ≡ Some w
+      → Exchanged get put old ks vs (put now k v) (set ws i w) (i + 1)
   Exchanged-step k v w even within key value was =
       let heads = sym (drop_more ws i v (omega (arith, done.long))) ∙ done.rest ∙ drop_more vs i v (omega arith) in
       let given : get_or vs i v ≡ v = cc in
@@ -95,7 +101,8 @@ module _ {M V K : Type 0} (get : M → Key → Option V) (m : M) (data_of : K �
         can.distinct one.0 i (data_of k) before map_within (here ∙ (by_data one.1 k).0 one.4 ∙ sym (at_key (data_of k)))
 
     -- the next key is in the map, and isn't among those before it
-    pub CanReplace-next : CanReplace get m (map_list data_of (take i ks)) → is_some (get m (data_of k)) ≡ true → list_any (λ y. eq y k) (take i ks) ≡ false → CanReplace get m (map_list data_of (take (i + 1) ks))
+    pub CanReplace-next : CanReplace get m (map_list data_of (take i ks)) → is_some (get m (data_of k)) ≡ true
+        → list_any (λ y. eq y k) (take i ks) ≡ false → CanReplace get m (map_list data_of (take (i + 1) ks))
     CanReplace-next can has new =
         let more : map_list data_of (take (i + 1) ks) ≡ map_list data_of (take i ks) ++ data_of k ∷ [] =
         ap (map_list data_of) (take_more ks i k within ∙ ap (λ x. take i ks ++ x ∷ []) (sym at)) ∙ map_push data_of (take i ks) k in

@@ -1,5 +1,6 @@
 -- How an insert fills a slot or adds one, and what a look-up of a detached key reads.
-use Rattle.std.proofs.Common.{⊎_elim, true, false, ◌==◌, ◌≡◌, ◌≢◌, ℕ, ◌+◌, ◌-◌, ◌^◌, ◌<◌, List, [], ◌∷◌, ◌++◌, length, set, slice_get, Some, None, option_map, option_and_then, refl, sym, ap, subst, ◌∙◌, inl, ◌↔◌, arith}
+use Rattle.std.proofs.Common.{⊎_elim, true, false, ◌==◌, ◌≡◌, ◌≢◌, ℕ, ◌+◌, ◌-◌, ◌^◌, ◌<◌, List, [], ◌∷◌, ◌++◌, length, set, slice_get, Some, None,
+    option_map, option_and_then, refl, sym, ap, subst, ◌∙◌, inl, ◌↔◌, arith}
 use Rattle.std.proofs.Math.Nat.{eq-zero-or-pos}
 use Rattle.std.proofs.lemmas.List.{length-map, map_push}
 use Rattle.std.proofs.lemmas.Option.{slice_get_within, same_Some}
@@ -30,7 +31,9 @@ module _ {P : Type 0} where
 
   pub IsSound-sentinel : IsSound sentinel 0 0 0
   IsSound-sentinel = record {
-    each = λ i s at. ⊎_elim (λ same. subst IsSlot same.1 (IsSlot-empty 0 (Free 0) refl (λ e. absurd (cc)) (λ e. absurd (cc)))) (λ other. absurd (let none = other.1 in cc)) (at_push [] (empty 0 (Free 0)) i s at);
+    each =
+        λ i s at. ⊎_elim (λ same. subst IsSlot same.1 (IsSlot-empty 0 (Free 0) refl (λ e. absurd (cc)) (λ e. absurd (cc))))
+            (λ other. absurd (let none = other.1 in cc)) (at_push [] (empty 0 (Free 0)) i s at);
     stack = [];
     linked = refl;
     counted = refl;
@@ -48,7 +51,8 @@ module _ {P : Type 0} where
   }
 
   -- one more slot at the end
-  pub each-push : (slots : List (Slot P)) (s : Slot P) → ((i : ℕ) (t : Slot P) → slice_get slots i ≡ Some t → IsSlot t) → IsSlot s → (i : ℕ) (t : Slot P) → slice_get (slots ++ s ∷ []) i ≡ Some t → IsSlot t
+  pub each-push : (slots : List (Slot P)) (s : Slot P) → ((i : ℕ) (t : Slot P) → slice_get slots i ≡ Some t → IsSlot t) → IsSlot s
+      → (i : ℕ) (t : Slot P) → slice_get (slots ++ s ∷ []) i ≡ Some t → IsSlot t
   each-push slots s each slot i t there = ⊎_elim (λ same. subst IsSlot same.1 slot) (λ other. each i t other.1) (at_push slots s i t there)
 
 pub taken-sentinel : (P : Type 0) → taken (places_of (sentinel {P = P})) ≡ 0

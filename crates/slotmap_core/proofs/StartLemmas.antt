@@ -28,7 +28,8 @@ module _ {V : Type 0} (slot : SlotRecord V) (consistent : IsConsistent slot) whe
   vacant_place even other = grind (arith, nat_tests)
 
 -- what is gathered from places is what is gathered from their slots, if each place agrees with its slot
-module _ {V E M : Type 0} (empty : M) (put : M → E → M) (entry : ℕ → Place V → Option E) (slot_entry : ℕ → SlotRecord V → Option E) (alike : (i : ℕ) (slot : SlotRecord V) → 0 < i → IsConsistent slot → entry i (place_of slot) ≡ slot_entry i slot) where
+module _ {V E M : Type 0} (empty : M) (put : M → E → M) (entry : ℕ → Place V → Option E) (slot_entry : ℕ → SlotRecord V → Option E)
+    (alike : (i : ℕ) (slot : SlotRecord V) → 0 < i → IsConsistent slot → entry i (place_of slot) ≡ slot_entry i slot) where
   gather-places : (i : ℕ) (slots : List (SlotRecord V)) → 0 < i → AllConsistentBelow slots (length slots)
       → gather empty put entry i (list_map place_of slots) ≡ gather empty put slot_entry i slots
   gather-places i [] positive each = refl
@@ -58,7 +59,8 @@ module _ {V : Type 0} where
   start_places-push (first ∷ rest) slot positive = ap (λ ps. Vacant 1 ∷ ps) (map-append place_of rest (slot ∷ []))
 
   -- the slot that a place comes from
-  pub start_place_at : (slots : List (SlotRecord V)) (i : ℕ) (p : Place V) → 0 < i → slice_get (start_places slots) i ≡ Some p → (slot : SlotRecord V) × (slice_get slots i ≡ Some slot) × (p ≡ place_of slot)
+  pub start_place_at : (slots : List (SlotRecord V)) (i : ℕ) (p : Place V) → 0 < i → slice_get (start_places slots) i ≡ Some p → (slot : SlotRecord V)
+      × (slice_get slots i ≡ Some slot) × (p ≡ place_of slot)
   start_place_at slots i p positive found = grind (arith, slice_get-map)
 
   pub sentinel-start_places : (slots : List (SlotRecord V)) (limit : ℕ) → Accepts slots limit → slice_get (start_places slots) 0 ≡ Some (Vacant 1)

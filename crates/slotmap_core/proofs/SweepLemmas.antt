@@ -53,7 +53,8 @@ module _ {V : Type 0} where
   Swept-next old now i k w swept is_live on = Swept-written old now k.index k w (Swept-to old now i k.index swept on) is_live
 
   -- the key at the index is removed
-  pub Swept-removed : {reuses : Bool} (old now new : Content V) (i : ℕ) (k : Key) → Swept reuses old now i → IsLive now k → k.index ≡ i → Removes now k new → new.capacity ≡ now.capacity → IsContent reuses new → Swept reuses old new (i + 1)
+  pub Swept-removed : {reuses : Bool} (old now new : Content V) (i : ℕ) (k : Key) → Swept reuses old now i → IsLive now k → k.index ≡ i
+      → Removes now k new → new.capacity ≡ now.capacity → IsContent reuses new → Swept reuses old new (i + 1)
   Swept-removed {reuses} old now new i k swept is_live at removes capacity well = record {
     leaves = Leaves-removed reuses now swept.well k is_live new removes old swept.leaves;
     order = FreesByIndex-removed old now new k swept.order (swept.leaves.no_more k is_live) is_live (λ q left. omega (arith, swept.below q left)) removes;
@@ -63,7 +64,8 @@ module _ {V : Type 0} where
   }
 
   -- what the rest ends as once the first key is removed, the whole ends as
-  pub Empties-first : {reuses : Bool} (a b end : Content V) (k : Key) → IsContent reuses a → IsLive a k → Removes a k b → b.capacity ≡ a.capacity → ((q : Key) → IsLive b q → k.index < q.index) → EmptiesByIndex b end → EmptiesByIndex a end
+  pub Empties-first : {reuses : Bool} (a b end : Content V) (k : Key) → IsContent reuses a → IsLive a k → Removes a k b → b.capacity ≡ a.capacity
+      → ((q : Key) → IsLive b q → k.index < q.index) → EmptiesByIndex b end → EmptiesByIndex a end
   Empties-first {reuses} a b end k well is_live removes capacity above ends = record {
     empties = record {
       live = ends.empties.live;
@@ -84,14 +86,18 @@ module _ {V : Type 0} where
 
     -- its entry is the first, if no live key is below i
     pub first_entry : (v : V) → NoneBelow c.live i → map.get c.live k ≡ Some v → map.entries c.live ≡ (k, v) ∷ map.entries (map.remove c.live k)
-    first_entry v above found = entries_first c.live k v found (λ q there. let both = in_after_remove keys_total exact_keys c.live k q there in before_others (ap is_some found) q both.0 both.1 (above q both.1))
+    first_entry v above found =
+        entries_first c.live k v found (λ q there. let both = in_after_remove keys_total exact_keys c.live k q there in before_others (ap is_some found) q both.0 both.1 (above q both.1))
 
     -- and the first of those from i on
     pub next_entry : (v : V) → i ≤ k.index → map.get c.live k ≡ Some v → map.entries (from_index i c.live) ≡ (k, v) ∷ map.entries (from_index (k.index + 1) c.live)
     next_entry v from found =
         let m = from_index i c.live in
-        let rest : map.remove m k ≡ from_index (k.index + 1) c.live = ap (λ n. map.remove n k) (sym (from_index-jump i k.index c.live from next)) ∙ sym (from_index-take k.index c.live k refl (alone_at c well k k.index (ap is_some found) refl)) in
-        entries_first m k v (get_from i c.live k from ∙ found) (λ q there. let both = in_after_remove keys_total exact_keys m k q there in let here = in_from i c.live q both.1 in before_others (ap is_some found) q both.0 here.1 here.0)
+        let rest : map.remove m k ≡ from_index (k.index + 1) c.live = ap (λ n. map.remove n k) (sym (from_index-jump i k.index c.live from next))
+                ∙ sym (from_index-take k.index c.live k refl (alone_at c well k k.index (ap is_some found) refl)) in
+        entries_first m k v (get_from i c.live k from ∙ found)
+            (λ q there. let both = in_after_remove keys_total exact_keys m k q there in let here = in_from i c.live q both.1 in before_others
+            (ap is_some found) q both.0 here.1 here.0)
         ∙ ap (λ n. (k, v) ∷ map.entries n) rest
 
     -- once it is removed, no live key is below the index after its own

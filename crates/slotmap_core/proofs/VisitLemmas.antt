@@ -10,10 +10,12 @@ use Rattle.std.specs.FinMap.Entries.{find}
 use Rattle.slotmap_core.specs.Key.{Key, key_cmp}
 use Rattle.slotmap_core.specs.Listing.{IsListing, IsListingBut, with_entries}
 use Rattle.slotmap_core.specs.Retain.{Visit, CallsAt, CallableOnEach, seen, kept}
-use Rattle.slotmap_core.proofs.ListingLemmas.{get-with_entries, with_entries_push, with_entries-empty, insert-remove, insert-with_entries, remove-with_entries, unlisted, unlisted_where_same, IsListingBut-start, IsListingBut-take, IsListingBut-done}
+use Rattle.slotmap_core.proofs.ListingLemmas.{get-with_entries, with_entries_push, with_entries-empty, insert-remove, insert-with_entries,
+    remove-with_entries, unlisted, unlisted_where_same, IsListingBut-start, IsListingBut-take, IsListingBut-done}
 
 -- what a call saw and left, as a visit
-pub CallsAt-called : {F K V : Type 0} (g : Mut F (K × (MutBor V × Unit {0})) (Bool × (MutBor V × Unit {0}))) {f f' : F} {key : K} {shown left : MutBor V} {stays : Bool} → Called g f (key, (shown, tt)) (stays, (left, tt)) f'
+pub CallsAt-called : {F K V : Type 0} (g : Mut F (K × (MutBor V × Unit {0})) (Bool × (MutBor V × Unit {0}))) {f f' : F} {key : K}
+    {shown left : MutBor V} {stays : Bool} → Called g f (key, (shown, tt)) (stays, (left, tt)) f'
     → CallsAt g f (record { key = key; before = shown.now; after = left.now; stays = stays }) f'
 CallsAt-called g {f} {f'} {key} {shown} {left} {stays} called = record { shown = shown; shows = refl; left = left; leaves = refl; called = called }
 
@@ -40,7 +42,8 @@ module _ {K V : Type 0} (data_of : K → Key) where
   Visits-start m = record { listed = IsListingBut-start m; stay = refl }
 
   -- an entry that no call saw is as it was
-  pub unvisited : (old : map.FinMap key_cmp V) (xs : List (Visit K V)) (rest now : map.FinMap key_cmp V) (k : Key) → Visits old xs rest now → map.get rest k ≡ map.get old k → map.get now k ≡ map.get old k
+  pub unvisited : (old : map.FinMap key_cmp V) (xs : List (Visit K V)) (rest now : map.FinMap key_cmp V) (k : Key) → Visits old xs rest now
+      → map.get rest k ≡ map.get old k → map.get now k ≡ map.get old k
   unvisited old xs rest now k visits same =
       ap (λ n. map.get n k) visits.stay ∙ get-with_entries rest (kept data_of xs) k
       ∙ ap (λ o. option_or o (map.get rest k)) (unkept k xs (unlisted_where_same old (seen data_of xs) rest k visits.listed same)) ∙ same
@@ -68,7 +71,8 @@ module _ {K V : Type 0} (data_of : K → Key) where
           ∙ ap (with_entries (map.remove rest (data_of x.key))) (sym (append-nil (kept data_of xs)))
 
   -- an entry of the rest is one of the old map
-  pub Visits-rest : (old : map.FinMap key_cmp V) (xs : List (Visit K V)) (rest now : map.FinMap key_cmp V) → Visits old xs rest now → (k : Key) (v : V) → map.get rest k ≡ Some v → map.get old k ≡ Some v
+  pub Visits-rest : (old : map.FinMap key_cmp V) (xs : List (Visit K V)) (rest now : map.FinMap key_cmp V) → Visits old xs rest now → (k : Key) (v : V)
+      → map.get rest k ≡ Some v → map.get old k ≡ Some v
   Visits-rest old xs rest now visits k v found =
       ap (λ n. map.get n k) (sym visits.listed.all) ∙ get-with_entries rest (seen data_of xs) k
       ∙ ap (λ o. option_or o (map.get rest k)) (unlisted old (seen data_of xs) rest k visits.listed (ap is_some found)) ∙ found

@@ -27,7 +27,8 @@ module _ {V : Type 0} where
   retired_there ps i found = sym (is_marked _) ∙ ap is_some (gathers detached_laws (λ k. k.index) retired_entry retired_fits ps (key i last_version) tt Retired found refl)
 
 -- the slots that places are written as, in a map with the content of those places
-module _ {V : Type 0} (ps : List (Place V)) (c : Content V) (is_live : c.live ≡ live ps) (is_detached : c.detached ≡ detached ps) (is_retired : c.retired ≡ retired ps) (is_next : c.next ≡ next ps) (sentinel : slice_get ps 0 ≡ Some (Vacant 1)) where
+module _ {V : Type 0} (ps : List (Place V)) (c : Content V) (is_live : c.live ≡ live ps) (is_detached : c.detached ≡ detached ps)
+    (is_retired : c.retired ≡ retired ps) (is_next : c.next ≡ next ps) (sentinel : slice_get ps 0 ≡ Some (Vacant 1)) where
   places_of : places c + 1 ≡ length ps
   places_of = omega (arith, total ps 1 sentinel, ap map.len is_live, ap set.len is_detached, ap set.len is_retired, ap map.len is_next)
 
@@ -138,7 +139,8 @@ module _ {V : Type 0} (reuses : Bool) (c : Content V) (valid : IsContent reuses 
     }
 
 -- a map that was read from a list is written as that list again, except for the first version
-module _ {V : Type 0} (slots : List (SlotRecord V)) (limit : ℕ) (accepted : Accepts slots limit) (read : Content V) (starts : StartsFrom slots read) (again : List (SlotRecord V)) (writes : Writes read again) where
+module _ {V : Type 0} (slots : List (SlotRecord V)) (limit : ℕ) (accepted : Accepts slots limit) (read : Content V) (starts : StartsFrom slots read)
+    (again : List (SlotRecord V)) (writes : Writes read again) where
   slot_again : (i : ℕ) (slot : SlotRecord V) → 0 < i → slice_get slots i ≡ Some slot → slice_get again i ≡ Some slot
   slot_again i slot positive found =
       let consistent = consistent_at slots limit accepted i slot found in

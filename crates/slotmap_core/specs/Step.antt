@@ -101,7 +101,8 @@ module _ {K V R E : Type 0} (given : Given K V R E) where
 
   -- for each live key `keep` writes a value and returns whether the key stays: the key has that value, or is no longer live
   pub record Retains (old new : State V) : Type 0 where
-    pub each : (k : Key) (v : V) → map.get old.live k ≡ Some v → (key : K) × (w : V) × (stays : Bool) × (given.data_of key ≡ k) × given.keeps key v w stays × (map.get new.live k ≡ (if stays then Some w else None))
+    pub each : (k : Key) (v : V) → map.get old.live k ≡ Some v → (key : K) × (w : V) × (stays : Bool) × (given.data_of key ≡ k)
+        × given.keeps key v w stays × (map.get new.live k ≡ (if stays then Some w else None))
     -- no other key becomes live
     pub no_more : (k : Key) → map.get old.live k ≡ None → map.get new.live k ≡ None
     -- the rest of the state is as before

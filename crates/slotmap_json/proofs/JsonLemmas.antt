@@ -14,17 +14,21 @@ use Rattle.slotmap_core.specs.declared.errors.OutOfMemory.{OutOfMemory}
 use Rattle.slotmap_core.specs.declared.serial.SlotRecord.{SlotRecord}
 
 -- one more element of xs agrees with one more value
-pub goes_further : {A : Type 0} (R : A → Data → Type 0) (xs : List A) (before after : List Value) (i : ℕ) (x : A) (y : Value) → i < length xs → x ≡ get_or xs i x → AllZip R (take i xs) (map view before) → R x (view y)
+pub goes_further : {A : Type 0} (R : A → Data → Type 0) (xs : List A) (before after : List Value) (i : ℕ) (x : A) (y : Value) → i < length xs
+    → x ≡ get_or xs i x → AllZip R (take i xs) (map view before) → R x (view y)
     → after ≡ before ++ y ∷ [] → AllZip R (take (i + 1) xs) (map view after)
 goes_further {A} R xs before after i x y within read so_far here pushed =
     rw (pushed, map_push, take_more xs i x within, ← read) (all_zipped_more R (take i xs) (map view before) x (view y) so_far here)
 
 -- the JSON of a slot that has a value
-pub slot_json_given : {V : Type 0} (gives : V → Data → Type 0) (slot : SlotRecord V) (v : V) (x : Data) (r : Result Value OutOfMemory) → slot.value ≡ Some v → gives v x → IfOk r (λ y. view y ≡ slot_json x slot.version) → IfOk r (λ y. IsSlotJson gives slot (view y))
+pub slot_json_given : {V : Type 0} (gives : V → Data → Type 0) (slot : SlotRecord V) (v : V) (x : Data) (r : Result Value OutOfMemory)
+    → slot.value ≡ Some v → gives v x → IfOk r (λ y. view y ≡ slot_json x slot.version) → IfOk r (λ y. IsSlotJson gives slot (view y))
 slot_json_given gives slot v x r is given h = grind arith
 
 -- the result of reading an element that has a value
-pub reads_value : {V : Type 0} (reads : Data → Result V JsonError → Type 0) (d x : Data) (version : ℕ) (read : Result V JsonError) (r : Result (SlotRecord V) JsonError) (u : Option ℕ) → u ≡ version_at d → u ≡ Some version → value_at d ≡ Some x → reads x read → r ≡ ok_map (λ v. record { value = Some v; version = version }) read → ReadsSlot reads d r
+pub reads_value : {V : Type 0} (reads : Data → Result V JsonError → Type 0) (d x : Data) (version : ℕ) (read : Result V JsonError)
+    (r : Result (SlotRecord V) JsonError) (u : Option ℕ) → u ≡ version_at d → u ≡ Some version → value_at d ≡ Some x → reads x read
+    → r ≡ ok_map (λ v. record { value = Some v; version = version }) read → ReadsSlot reads d r
 reads_value reads d x version read r u looked versioned valued reading is = rw (sym looked ∙ versioned, valued) (read, reading, is)
 
 is_array : (d : Data) (items : Items) → Some items ≡ as_array d → d ≡ array items
@@ -46,13 +50,15 @@ has_elements d (v ∷ vs) listed some = (view v, map view vs, is_array d (items_
 
 module _ {V : Type 0} (reads : Data → Result V JsonError → Type 0) where
   -- one more element is read
-  pub reads_further : (vs : List Value) (slots after : List (SlotRecord V)) (i : ℕ) (x : Value) (slot : SlotRecord V) → i < length vs → x ≡ get_or vs i x → ReadsAll reads (map view (take i vs)) slots → ReadsSlot reads (view x) (Ok slot)
+  pub reads_further : (vs : List Value) (slots after : List (SlotRecord V)) (i : ℕ) (x : Value) (slot : SlotRecord V) → i < length vs
+      → x ≡ get_or vs i x → ReadsAll reads (map view (take i vs)) slots → ReadsSlot reads (view x) (Ok slot)
       → after ≡ slots ++ slot ∷ [] → ReadsAll reads (map view (take (i + 1) vs)) after
   reads_further vs slots after i x slot within read so_far here pushed =
       rw (pushed, map_more view vs i x within, ← read) (all_zipped_more (λ d s. ReadsSlot reads d (Ok s)) (map view (take i vs)) slots (view x) slot so_far here)
 
   -- an element fails to be read
-  pub refuses_at : (d : Data) (vs : List Value) (slots : List (SlotRecord V)) (i : ℕ) (x : Value) (e : JsonError) → Some (items_view vs) ≡ as_array d → i < length vs → x ≡ get_or vs i x → ReadsAll reads (map view (take i vs)) slots
+  pub refuses_at : (d : Data) (vs : List Value) (slots : List (SlotRecord V)) (i : ℕ) (x : Value) (e : JsonError) → Some (items_view vs) ≡ as_array d
+      → i < length vs → x ≡ get_or vs i x → ReadsAll reads (map view (take i vs)) slots
       → ReadsSlot reads (view x) (Err e) → IsRefused reads d e
   refuses_at d vs slots i x Shape listed within read so_far here =
       inr (map view (take i vs), view x, map view (drop (i + 1) vs), is_array d (items_view vs) listed ∙ ap (λ ds. array (items_of ds)) (parted vs i x within read), (slots, so_far), here)

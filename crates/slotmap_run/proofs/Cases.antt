@@ -38,7 +38,9 @@ module _ {K V R E : Type 0} (data_of : K → Key) (old new : State V) (r : Reply
   }
 
   -- only the live keys and what is promised change
-  changes : (m : map.FinMap key_cmp V) (n : ℕ) → new ≡ record old { live = m; promised = n } → old.promised ≤ n → (used old + old.promised ≤ most → used old + n ≤ most) → ((k : Key) → map.contains_key m k ≡ true → map.contains_key old.live k ≡ true) → Quiet data_of old new r
+  changes : (m : map.FinMap key_cmp V) (n : ℕ) → new ≡ record old { live = m; promised = n } → old.promised ≤ n
+      → (used old + old.promised ≤ most → used old + n ≤ most) → ((k : Key) → map.contains_key m k ≡ true → map.contains_key old.live k ≡ true)
+      → Quiet data_of old new r
   changes m n e more within fewer = record {
     shrinks = rw e (record {
       tells = quiet;
@@ -91,9 +93,13 @@ module _ {K V R E : Type 0} (given : Given K V R E) where
   quiet_cases old (command.Get k) (reply.Looked None) new h = inr (stays given.data_of old new (reply.Looked None) refl h.1)
   quiet_cases old (command.Get k) (reply.Looked (Some x)) new h = inr (stays given.data_of old new (reply.Looked (Some x)) refl h.1)
   quiet_cases old (command.Contains k) (reply.Flag b) new h = inr (stays given.data_of old new (reply.Flag b) refl h.1)
-  quiet_cases old (command.Replace k v) (reply.Put (Ok b)) new h = inr (changes given.data_of old new (reply.Put (Ok b)) refl _ _ h.1 (omega arith) (λ w. w) (λ q g. ⊎_elim (λ (e : q ≡ given.data_of k). rw e (ap is_some h.0)) (λ p. p.1) (in_after_insert keys_total exact_keys old.live (given.data_of k) v q g)))
+  quiet_cases old (command.Replace k v) (reply.Put (Ok b)) new h =
+      inr (changes given.data_of old new (reply.Put (Ok b)) refl _ _ h.1 (omega arith) (λ w. w)
+          (λ q g. ⊎_elim (λ (e : q ≡ given.data_of k). rw e (ap is_some h.0)) (λ p. p.1)
+          (in_after_insert keys_total exact_keys old.live (given.data_of k) v q g)))
   quiet_cases old (command.Replace k v) (reply.Put (Err b)) new h = inr (stays given.data_of old new (reply.Put (Err b)) refl h.2)
-  quiet_cases old (command.Remove k) (reply.Taken (Some v)) new h = inr (changes given.data_of old new (reply.Taken (Some v)) refl _ _ h.1 (omega arith) (λ w. w) (λ q g. (in_after_remove keys_total exact_keys old.live (given.data_of k) q g).1))
+  quiet_cases old (command.Remove k) (reply.Taken (Some v)) new h =
+      inr (changes given.data_of old new (reply.Taken (Some v)) refl _ _ h.1 (omega arith) (λ w. w) (λ q g. (in_after_remove keys_total exact_keys old.live (given.data_of k) q g).1))
   quiet_cases old (command.Remove k) (reply.Taken None) new h = inr (stays given.data_of old new (reply.Taken None) refl h.1)
   quiet_cases old command.Retain reply.Done new h = inr (changes given.data_of old new reply.Done refl _ _ h.rest (omega arith) (λ w. w) (λ q g. of_none _ _ (h.no_more q) g))
   quiet_cases old command.Clear reply.Done new h = inr (changes given.data_of old new reply.Done refl _ _ h (omega arith) (λ w. w) (λ q g. absurd (none_in_empty V q g)))
@@ -115,11 +121,13 @@ module _ {K V R E : Type 0} (given : Given K V R E) where
   plain_detached old c r new h = ⊎_elim (λ b. ap (λ (s : State V). s.detached) b.is) (λ q. q.detached) (quiet_cases old c r new h)
 
   -- a detached key stays detached until it is reattached
-  pub detached_stays : (k : Key) (old : State V) (c : DetachCommand K V) (r : Reply K V R E) (new : State V) → Spares given.data_of k c r → DetachStep given old c r new → set.contains old.detached k ≡ true → set.contains new.detached k ≡ true
+  pub detached_stays : (k : Key) (old : State V) (c : DetachCommand K V) (r : Reply K V R E) (new : State V) → Spares given.data_of k c r
+      → DetachStep given old c r new → set.contains old.detached k ≡ true → set.contains new.detached k ≡ true
   detached_stays k old (detaching.Plain c) r new spares h was = rw (plain_detached old c r new h) was
   detached_stays k old (detaching.Detach q) (reply.Taken (Some v)) new spares h was = rw (ap (λ (s : State V). s.detached) h.1) (item_still keys_total exact_keys old.detached (given.data_of q) k was)
   detached_stays k old (detaching.Detach q) (reply.Taken None) new spares h was = rw h.1 was
-  detached_stays k old (detaching.Reattach q v) reply.Done new spares h was = rw (ap (λ (s : State V). s.detached) h.1) (item_left keys_total exact_keys old.detached (given.data_of q) k (λ e. spares (sym e)) was)
+  detached_stays k old (detaching.Reattach q v) reply.Done new spares h was =
+      rw (ap (λ (s : State V). s.detached) h.1) (item_left keys_total exact_keys old.detached (given.data_of q) k (λ e. spares (sym e)) was)
   detached_stays k old (detaching.Reattach q v) (reply.NotDetached b) new spares h was = rw h.2 was
   detached_stays k old (detaching.Reattach q v) (reply.Memory b) new spares h was = rw h.4 was
   detached_stays k old _ _ new spares h was = absurd h

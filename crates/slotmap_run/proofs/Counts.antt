@@ -40,7 +40,8 @@ one_out true a b c is apart = sym (apart refl)
 one_out false a b c is apart = is
 
 -- a set of two parts that share nothing
-len_two : (n : ℕ) (s t u : set.FinSet key_cmp) → set.len s ≡ n → ((q : Key) → set.contains u q ≡ (set.contains s q || set.contains t q)) → ((q : Key) → set.contains s q ≡ true → set.contains t q ≡ true → ⊥)
+len_two : (n : ℕ) (s t u : set.FinSet key_cmp) → set.len s ≡ n → ((q : Key) → set.contains u q ≡ (set.contains s q || set.contains t q))
+    → ((q : Key) → set.contains s q ≡ true → set.contains t q ≡ true → ⊥)
     → set.len u ≡ set.len s + set.len t
 len_two zero s t u h is apart =
     let none = set.empty_of_len s h in
@@ -72,7 +73,9 @@ module _ {V : Type 0} where
   is_some-cond false o = refl
 
   -- the same where one part is a map
-  len_with : (n : ℕ) (m : map.FinMap key_cmp V) (t u : set.FinSet key_cmp) → map.len m ≡ n → ((q : Key) → set.contains u q ≡ (map.contains_key m q || set.contains t q)) → ((q : Key) → map.contains_key m q ≡ true → set.contains t q ≡ true → ⊥)
+  len_with : (n : ℕ) (m : map.FinMap key_cmp V) (t u : set.FinSet key_cmp) → map.len m ≡ n
+      → ((q : Key) → set.contains u q ≡ (map.contains_key m q || set.contains t q))
+      → ((q : Key) → map.contains_key m q ≡ true → set.contains t q ≡ true → ⊥)
       → set.len u ≡ map.len m + set.len t
   len_with zero m t u h is apart =
       let none : (q : Key) → map.contains_key m q ≡ false = λ q. ap (λ n. map.contains_key n q) (map.empty_of_len m h) ∙ ap is_some (map.get-empty key_cmp q) in
@@ -120,7 +123,8 @@ module _ {V : Type 0} where
     pub len-all_keys : ((q : Key) → map.contains_key m q ≡ true → set.contains d q ≡ true → ⊥) → ((q : Key) → (map.contains_key m q ≡ true) ⊎ (set.contains d q ≡ true) → set.contains r q ≡ true → ⊥)
         → set.len (all_keys m d r) ≡ map.len m + set.len d + set.len r
     len-all_keys apart others =
-        let whole = len_with (map.len m) m (set.union d r) (all_keys m d r) refl contains-all_keys (λ q g h. elim (of_or (set.contains d q) (set.contains r q) (sym (set.contains-union keys_total d r q) ∙ h)) [
+        let whole = len_with (map.len m) m (set.union d r) (all_keys m d r) refl contains-all_keys
+                (λ q g h. elim (of_or (set.contains d q) (set.contains r q) (sym (set.contains-union keys_total d r q) ∙ h)) [
           | inl l ↦ apart q g l
           | inr l ↦ others q (inl g) l
         ]) in

@@ -32,29 +32,37 @@ module _ {K V R E : Type 0} (given : Given K V R E) where
       let still : IsIssued first.1 (given.data_of key) = rw first.3.1 issued in
       weaker (λ q h e. h (rw e still)) (keys_told given.data_of ss) (told_new (detach_machine given) ds ss first.1 well.last first.4).0
 
-  answered : (old : State V) (key : K) (w : V) (answer : Reply K V R E) (new : State V) → set.contains old.detached (given.data_of key) ≡ true → DetachStep given old (detaching.Reattach key w) answer new → (answer ≡ reply.Done) ⊎ ((given.reuses ≡ false) × (answer ≡ reply.Memory (Some w)))
+  answered : (old : State V) (key : K) (w : V) (answer : Reply K V R E) (new : State V) → set.contains old.detached (given.data_of key) ≡ true
+      → DetachStep given old (detaching.Reattach key w) answer new → (answer ≡ reply.Done) ⊎ ((given.reuses ≡ false) × (answer ≡ reply.Memory (Some w)))
   answered old key w reply.Done new h step = inl refl
   answered old key w (reply.Memory back) new h step = inr (step.0, ap reply.Memory step.3)
   answered old key w (reply.NotDetached back) new h step = let none = step.0 in absurd (cc)
   answered old key w _ new h step = absurd step
 
-  pub detached_reattaches : (commands : List (DetachCommand K V)) (replies : List (Reply K V R E)) → RunsWell (DetachStep given) commands replies → DetachedReattaches given.data_of given.reuses commands replies
+  pub detached_reattaches : (commands : List (DetachCommand K V)) (replies : List (Reply K V R E)) → RunsWell (DetachStep given) commands replies
+      → DetachedReattaches given.data_of given.reuses commands replies
   detached_reattaches commands replies well cs ds es rs ss us key v w answer e f spares is js =
-      let run : Run (DetachStep given) well.first (cs ++ detaching.Detach key ∷ (ds ++ detaching.Reattach key w ∷ es)) (rs ++ reply.Taken (Some v) ∷ (ss ++ answer ∷ us)) well.last = rw (← is, ← js) well.run in
+      let run : Run (DetachStep given) well.first (cs ++ detaching.Detach key ∷ (ds ++ detaching.Reattach key w ∷ es))
+              (rs ++ reply.Taken (Some v) ∷ (ss ++ answer ∷ us)) well.last = rw (← is, ← js) well.run in
       let first = run_split (DetachStep given) cs rs (detaching.Detach key) (reply.Taken (Some v)) (ds ++ detaching.Reattach key w ∷ es) (ss ++ answer ∷ us) well.first well.last e run in
       let second = run_split (DetachStep given) ds ss (detaching.Reattach key w) answer es us first.1 well.last f first.4 in
-      let aside : set.contains first.1.detached (given.data_of key) ≡ true = ap (λ (s : State V). set.contains s.detached (given.data_of key)) first.3.1 ∙ item_inserted keys_total exact_keys first.0.detached (given.data_of key) in
-      let still = run_keeps_by (DetachStep given) (λ s. set.contains s.detached (given.data_of key) ≡ true) (Spares given.data_of (given.data_of key)) (detached_stays given (given.data_of key)) ds ss first.1 second.0 spares second.2 aside in
+      let aside : set.contains first.1.detached (given.data_of key) ≡ true = ap (λ (s : State V). set.contains s.detached (given.data_of key)) first.3.1
+              ∙ item_inserted keys_total exact_keys first.0.detached (given.data_of key) in
+      let still = run_keeps_by (DetachStep given) (λ s. set.contains s.detached (given.data_of key) ≡ true) (Spares given.data_of (given.data_of key))
+              (detached_stays given (given.data_of key)) ds ss first.1 second.0 spares second.2 aside in
       answered second.0 key w answer second.1 still second.3
 
-  replaces : (old : State V) (key : K) (w u : V) (answer : Reply K V R E) (new : State V) → map.get old.live (given.data_of key) ≡ Some w → DetachStep given old (detaching.Plain (command.Replace key u)) answer new → answer ≡ reply.Put (Ok w)
+  replaces : (old : State V) (key : K) (w u : V) (answer : Reply K V R E) (new : State V) → map.get old.live (given.data_of key) ≡ Some w
+      → DetachStep given old (detaching.Plain (command.Replace key u)) answer new → answer ≡ reply.Put (Ok w)
   replaces old key w u (reply.Put (Ok before)) new found step = let same : before ≡ w = ap (λ o. unwrap_or o w) (sym step.0 ∙ found) in ap (λ x. reply.Put (Ok x)) same
   replaces old key w u (reply.Put (Err back)) new found step = let none = step.0 in absurd (cc)
   replaces old key w u _ new found step = absurd step
 
   pub reattach_binds : (commands : List (DetachCommand K V)) (replies : List (Reply K V R E)) → RunsWell (DetachStep given) commands replies → ReattachBinds commands replies
   reattach_binds commands replies well cs ds rs ss key w u answer e is js =
-      let run : Run (DetachStep given) well.first (cs ++ detaching.Reattach key w ∷ detaching.Plain (command.Replace key u) ∷ ds) (rs ++ reply.Done ∷ answer ∷ ss) well.last = rw (← is, ← js) well.run in
+      let run : Run (DetachStep given) well.first (cs ++ detaching.Reattach key w ∷ detaching.Plain (command.Replace key u) ∷ ds)
+              (rs ++ reply.Done ∷ answer ∷ ss) well.last = rw (← is, ← js) well.run in
       let first = run_split (DetachStep given) cs rs (detaching.Reattach key w) reply.Done (detaching.Plain (command.Replace key u) ∷ ds) (answer ∷ ss) well.first well.last e run in
-      let found : map.get first.1.live (given.data_of key) ≡ Some w = ap (λ (s : State V). map.get s.live (given.data_of key)) first.3.1 ∙ get_inserted keys_total exact_keys first.0.live (given.data_of key) w in
+      let found : map.get first.1.live (given.data_of key) ≡ Some w = ap (λ (s : State V). map.get s.live (given.data_of key)) first.3.1
+              ∙ get_inserted keys_total exact_keys first.0.live (given.data_of key) w in
       replaces first.1 key w u answer first.4.0 found first.4.1

@@ -131,7 +131,8 @@ module _ {V : Type 0} (reuses : Bool) (s : State V) (old new : Content V) (ok : 
     }
 
   -- a state with the parts of new and no more keys issued fits, if no more keys are live or detached
-  module _ (t : State V) (live : t.live ≡ new.live) (detached : t.detached ≡ new.detached) (ended : retired t ≡ new.retired) (issued : t.issued ≡ s.issued) (peak : t.peak ≡ s.peak) (promised : t.promised ≤ new.room)
+  module _ (t : State V) (live : t.live ≡ new.live) (detached : t.detached ≡ new.detached) (ended : retired t ≡ new.retired)
+      (issued : t.issued ≡ s.issued) (peak : t.peak ≡ s.peak) (promised : t.promised ≤ new.room)
       (stood : (q : Key) → Stands new q → Stands old q) (same : places new ≡ places old)
       (vacant : Vacates old new) where
     pub less_fits : Fits t new

@@ -15,7 +15,8 @@ use Rattle.slotmap_core.specs.Transition.{IsNew, Inserts, Keeps, Removes, Detach
 use Rattle.slotmap_core.specs.Lifo as lifo
 use Rattle.slotmap_core.specs.Lifo.{Lifo, offer_of, top_key, places_after, after_insert}
 use Rattle.slotmap_core.proofs.KeyLemmas.{keys_total, exact_keys}
-use Rattle.slotmap_core.proofs.Maps.{same_bool, some_entry, in_after_insert, in_inserted, still_in, in_after_remove, left_in, item_after_insert, item_inserted, item_still, item_after_remove, item_left}
+use Rattle.slotmap_core.proofs.Maps.{same_bool, some_entry, in_after_insert, in_inserted, still_in, in_after_remove, left_in, item_after_insert,
+    item_inserted, item_still, item_after_remove, item_left}
 use Rattle.slotmap_core.specs.Law.{keys_told, IsRefusal}
 use Rattle.slotmap_core.specs.Run.{Run}
 use Rattle.slotmap_core.specs.declared.commands.DetachCommand.{DetachCommand}
@@ -28,12 +29,14 @@ key_is : (k : Key) (i v : ℕ) → k.index ≡ i → k.version ≡ v → k ≡ r
 key_is k i v e f = λ j. record { index = e j; version = f j }
 
 module _ {V : Type 0} where
-  live_inserted : (l : set.FinSet key_cmp) (m : map.FinMap key_cmp V) (k : Key) (v : V) → ((q : Key) → set.contains l q ≡ map.contains_key m q) → (q : Key) → set.contains (set.insert l k) q ≡ map.contains_key (map.insert m k v) q
+  live_inserted : (l : set.FinSet key_cmp) (m : map.FinMap key_cmp V) (k : Key) (v : V) → ((q : Key) → set.contains l q ≡ map.contains_key m q)
+      → (q : Key) → set.contains (set.insert l k) q ≡ map.contains_key (map.insert m k v) q
   live_inserted l m k v same q = same_bool _ _
       (λ h. elim (item_after_insert keys_total exact_keys l k q h) [ inl e ↦ rw e (in_inserted keys_total exact_keys m k v) | inr g ↦ still_in keys_total exact_keys m k v q (sym (same q) ∙ g) ])
       (λ h. elim (in_after_insert keys_total exact_keys m k v q h) [ inl e ↦ rw e (item_inserted keys_total exact_keys l k) | inr p ↦ item_still keys_total exact_keys l k q (same q ∙ p.1) ])
 
-  live_removed : (l : set.FinSet key_cmp) (m : map.FinMap key_cmp V) (k : Key) → ((q : Key) → set.contains l q ≡ map.contains_key m q) → (q : Key) → set.contains (set.remove l k) q ≡ map.contains_key (map.remove m k) q
+  live_removed : (l : set.FinSet key_cmp) (m : map.FinMap key_cmp V) (k : Key) → ((q : Key) → set.contains l q ≡ map.contains_key m q) → (q : Key)
+      → set.contains (set.remove l k) q ≡ map.contains_key (map.remove m k) q
   live_removed l m k same q = same_bool _ _
       (λ h. let p = item_after_remove keys_total exact_keys l k q h in left_in keys_total exact_keys m k q p.0 (sym (same q) ∙ p.1))
       (λ h. let p = in_after_remove keys_total exact_keys m k q h in item_left keys_total exact_keys l k q p.0 (same q ∙ p.1))

@@ -27,7 +27,8 @@ module _ {K V R E : Type 0} (given : Given K V R E) where
   plain_refused old command.InsertWith _ new g step is within = absurd is
   plain_refused old _ _ new g step is within = absurd g
 
-  pub detach_refused : (old : State V) (c : DetachCommand K V) (r : Reply K V R E) (new : State V) → DetachGrows c → DetachStep given old c r new → IsRefusal r → used old + old.promised ≤ most → old.promised ≡ 0
+  pub detach_refused : (old : State V) (c : DetachCommand K V) (r : Reply K V R E) (new : State V) → DetachGrows c → DetachStep given old c r new
+      → IsRefusal r → used old + old.promised ≤ most → old.promised ≡ 0
   detach_refused old (detaching.Plain c) r new g step is within = plain_refused old c r new g step is within
   detach_refused old (detaching.Reattach k v) (reply.Memory back) new g step is within = step.2
   detach_refused old (detaching.Reattach k v) (reply.Full back) new g step is within = absurd step

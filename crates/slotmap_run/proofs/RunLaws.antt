@@ -50,7 +50,8 @@ module _ {K V R E : Type 0} (given : Given K V R E) where
   detach_lawful = record { freely = detach_freely given; laws = detach_laws (freed given); unretired = unretired (detach_machine given) }
 
 -- each command that is run on a map is a step of the machine on its content
-follow : {M K V R E C : Type 0} (Step : Given K V R E → State V → C → Reply K V R E → State V → Type 0) (of : C → DetachCommand K V) (given : Given K V R E) (content : M → Content V) (cs : List C) (rs : List (Reply K V R E)) (old new : M)
+follow : {M K V R E C : Type 0} (Step : Given K V R E → State V → C → Reply K V R E → State V → Type 0) (of : C → DetachCommand K V)
+    (given : Given K V R E) (content : M → Content V) (cs : List C) (rs : List (Reply K V R E)) (old new : M)
     → Run (λ old c r new. Served Step of given (content old) c r (content new)) old cs rs new → Run (Follows (Step given)) (content old) cs rs (content new)
 follow Step of given content cs rs old new served = run_seen _ _ content (λ s c r t h. h.follows) cs rs old new served
 

@@ -1,5 +1,6 @@
 -- What the calls of a map ensure is a step of the machine.
-use Rattle.std.proofs.Common.{◌≡◌, ℕ, ◌+◌, ◌<◌, ◌≤◌, List, [], ◌∷◌, ◌++◌, Vec, Global, Result, Ok, Err, IfOk, OnOk, IfErr, OnErr, IsErr, IsOk, Option, Some, None, Bool, false, cond, inl, inr, refl, sym, ap, ◌∙◌, subst, arith, is_some}
+use Rattle.std.proofs.Common.{◌≡◌, ℕ, ◌+◌, ◌<◌, ◌≤◌, List, [], ◌∷◌, ◌++◌, Vec, Global, Result, Ok, Err, IfOk, OnOk, IfErr, OnErr, IsErr, IsOk,
+    Option, Some, None, Bool, false, cond, inl, inr, refl, sym, ap, ◌∙◌, subst, arith, is_some}
 use Rattle.std.specs.Prelude.{map as list_map, MatchOption, IsSomeAnd, OnSome, IfNone, option_copied}
 use Rattle.std.specs.Fn.{Mut}
 use Rattle.std.specs.Borrow.{Bor, MutBor}
@@ -82,7 +83,10 @@ module _ {K V R E : Type 0} (given : Given K V R E) (old new : Content V) (ok : 
   inserts : IsContent given.reuses new → (key : K) (v : V) → Inserts old (given.data_of key) v new → Answers (command.Insert v) (reply.Key key)
   inserts new_ok key v i = record {
     follows = record {
-      step = λ s fits. (after_insert s (given.data_of key) v, (below given.reuses s old new ok fits i.below_limit, inserts_fresh given.reuses s old new ok fits (given.data_of key) v i new_ok, refl), inserts_fits given.reuses s old new ok fits (given.data_of key) v i new_ok);
+      step =
+          λ s fits. (after_insert s (given.data_of key) v,
+              (below given.reuses s old new ok fits i.below_limit, inserts_fresh given.reuses s old new ok fits (given.data_of key) v i new_ok, refl),
+              inserts_fits given.reuses s old new ok fits (given.data_of key) v i new_ok);
       lasts = λ n lasts. inserts_lasts given.reuses old new n ok lasts (given.data_of key) v i;
     };
     orders = λ l is basic told. let both = lifo_inserts given.reuses old new ok l is (given.data_of key) v i in (ap (λ k. k ∷ []) both.0, both.1);
@@ -90,15 +94,22 @@ module _ {K V R E : Type 0} (given : Given K V R E) (old new : Content V) (ok : 
 
   inserts_with : IsContent given.reuses new → (key : K) (v : V) → given.makes key (Ok v) → Inserts old (given.data_of key) v new → Answers command.InsertWith (reply.Key key)
   inserts_with new_ok key v made i = other command.InsertWith (reply.Key key) (λ b. b) (record {
-    step = λ s fits. (after_insert s (given.data_of key) v, (below given.reuses s old new ok fits i.below_limit, inserts_fresh given.reuses s old new ok fits (given.data_of key) v i new_ok, (v, made, refl)), inserts_fits given.reuses s old new ok fits (given.data_of key) v i new_ok);
+    step =
+        λ s fits. (after_insert s (given.data_of key) v,
+            (below given.reuses s old new ok fits i.below_limit, inserts_fresh given.reuses s old new ok fits (given.data_of key) v i new_ok,
+            (v, made, refl)), inserts_fits given.reuses s old new ok fits (given.data_of key) v i new_ok);
     lasts = λ n lasts. inserts_lasts given.reuses old new n ok lasts (given.data_of key) v i;
   })
 
   full : (v back : V) → Refuses old v (Full back) → Keeps old new → Answers (command.Insert v) (reply.Full (Some back))
-  full v back r keeps = refused (command.Insert v) (reply.Full (Some back)) tt (stays_by (Step given) (command.Insert v) (reply.Full (Some back)) keeps (λ s fits. (used_same given.reuses s old new ok fits ∙ r.0, ap Some r.1, refl)))
+  full v back r keeps =
+      refused (command.Insert v) (reply.Full (Some back)) tt
+          (stays_by (Step given) (command.Insert v) (reply.Full (Some back)) keeps
+          (λ s fits. (used_same given.reuses s old new ok fits ∙ r.0, ap Some r.1, refl)))
 
   with_full : used old ≡ most → Keeps old new → Answers command.InsertWith (reply.Full None)
-  with_full r keeps = other command.InsertWith (reply.Full None) (λ b. b) (stays_by (Step given) command.InsertWith (reply.Full None) keeps (λ s fits. (used_same given.reuses s old new ok fits ∙ r, refl, refl)))
+  with_full r keeps =
+      other command.InsertWith (reply.Full None) (λ b. b) (stays_by (Step given) command.InsertWith (reply.Full None) keeps (λ s fits. (used_same given.reuses s old new ok fits ∙ r, refl, refl)))
 
   -- if memory may run out for an insert, it may in the machine
   may_lack : LacksRoom old → (s : State V) → Fits s old → MayLackMemory given.reuses s
@@ -109,13 +120,15 @@ module _ {K V R E : Type 0} (given : Given K V R E) (old new : Content V) (ok : 
   }
 
   no_memory : (v back : V) → Refuses old v (Memory back) → Keeps old new → Answers (command.Insert v) (reply.Memory (Some back))
-  no_memory v back r keeps = refused (command.Insert v) (reply.Memory (Some back)) tt (stays_by (Step given) (command.Insert v) (reply.Memory (Some back)) keeps (λ s fits. (may_lack r.0 s fits, ap Some r.1, refl)))
+  no_memory v back r keeps =
+      refused (command.Insert v) (reply.Memory (Some back)) tt (stays_by (Step given) (command.Insert v) (reply.Memory (Some back)) keeps (λ s fits. (may_lack r.0 s fits, ap Some r.1, refl)))
 
   with_no_memory : LacksRoom old → Keeps old new → Answers command.InsertWith (reply.Memory None)
   with_no_memory r keeps = other command.InsertWith (reply.Memory None) (λ b. b) (stays_by (Step given) command.InsertWith (reply.Memory None) keeps (λ s fits. (may_lack r s fits, refl, refl)))
 
   -- whatever an insert returns
-  pub inserted : (v : V) (r : Result K (InsertError V)) → MayGrow given.reuses old (IsErr r) new → IfOk r (λ key. Inserts old (given.data_of key) v new) → IfErr r (Refuses old v) → Answers (command.Insert v) (insert_reply_of r)
+  pub inserted : (v : V) (r : Result K (InsertError V)) → MayGrow given.reuses old (IsErr r) new
+      → IfOk r (λ key. Inserts old (given.data_of key) v new) → IfErr r (Refuses old v) → Answers (command.Insert v) (insert_reply_of r)
   inserted v (Ok key) valid ok err = inserts valid.after key v ok
   inserted v (Err (Full back)) valid ok err = full v back err (valid.unchanged refl)
   inserted v (Err (Memory back)) valid ok err = no_memory v back err (valid.unchanged refl)
@@ -126,7 +139,8 @@ module _ {K V R E : Type 0} (given : Given K V R E) (old new : Content V) (ok : 
 
   -- whatever an insert of what `make` returns does
   pub inserted_with : (r : Result K (TryInsertError E)) → MayGrow given.reuses old (IsErr r) new
-      → IfOk r (λ key. (v : V) × given.makes key (Ok v) × Inserts old (given.data_of key) v new) → IfErr r (RefusesWith given.data_of given.makes old) → Answers command.InsertWith (insert_with_reply_of r)
+      → IfOk r (λ key. (v : V) × given.makes key (Ok v) × Inserts old (given.data_of key) v new) → IfErr r (RefusesWith given.data_of given.makes old)
+          → Answers command.InsertWith (insert_with_reply_of r)
   inserted_with (Ok key) valid ok err = inserts_with valid.after key ok.0 ok.1 ok.2
   inserted_with (Err with_key.Full) valid ok err = with_full err (valid.unchanged refl)
   inserted_with (Err with_key.Memory) valid ok err = with_no_memory err (valid.unchanged refl)
@@ -159,7 +173,8 @@ module _ {K V R E : Type 0} (given : Given K V R E) (old new : Content V) (ok : 
   })
   replaced key v (Err back) found put none same = stays (command.Replace key v) (reply.Put (Err back)) (λ b. b) (keeps_same old new same) (λ s live _. (rw live (none_of _ none.0), none.1, refl))
 
-  pub removed : (key : K) (taken : Option V) → taken ≡ map.get old.live (given.data_of key) → OnSome taken (Removes old (given.data_of key) new) → IfNone taken (new ≡ old) → Answers (command.Remove key) (reply.Taken taken)
+  pub removed : (key : K) (taken : Option V) → taken ≡ map.get old.live (given.data_of key) → OnSome taken (Removes old (given.data_of key) new)
+      → IfNone taken (new ≡ old) → Answers (command.Remove key) (reply.Taken taken)
   removed key (Some v) is some none = record {
     follows = record {
       step = λ s fits. (after_remove s (given.data_of key), (rw fits.live (sym is), refl), removes_fits given.reuses s old new ok fits (given.data_of key) (ap is_some (sym is)) some);
@@ -182,7 +197,8 @@ module _ {K V R E : Type 0} (given : Given K V R E) (old new : Content V) (ok : 
   too_great m great keeps = stays (command.Reserve m) reply.TooGreat (λ b. b) keeps (λ s live same. (omega arith, refl))
 
   reserves_no_memory : (m : ℕ) → used old + m ≤ most → old.room < m → Keeps old new → Answers (command.Reserve m) (reply.Memory None)
-  reserves_no_memory m within lacks keeps = other (command.Reserve m) (reply.Memory None) (λ b. b) (stays_by (Step given) (command.Reserve m) (reply.Memory None) keeps (λ s fits. let same = used_same given.reuses s old new ok fits in (
+  reserves_no_memory m within lacks keeps =
+      other (command.Reserve m) (reply.Memory None) (λ b. b) (stays_by (Step given) (command.Reserve m) (reply.Memory None) keeps (λ s fits. let same = used_same given.reuses s old new ok fits in (
     record {
       within_limit = omega arith;
       beyond_promise = let promised = fits.promised in omega arith;
@@ -199,7 +215,8 @@ module _ {K V R E : Type 0} (given : Given K V R E) (old new : Content V) (ok : 
   reserved m (Err capacity.Memory) made err = elim (cases_lt old.room m) [ inl lacks ↦ reserves_no_memory m err lacks made.keeps | inr room ↦ let done = made.succeeds room in absurd (cc) ]
 
   -- some keys are removed, and nothing else of the state changes
-  leaves : (c : Command K V) (r : Reply K V R E) → (IsBasic (detaching.Plain c) → ⊥) → Leaves old new → ((s : State V) → s.live ≡ old.live → Step given s c r (record s { live = new.live })) → Answers c r
+  leaves : (c : Command K V) (r : Reply K V R E) → (IsBasic (detaching.Plain c) → ⊥) → Leaves old new
+      → ((s : State V) → s.live ≡ old.live → Step given s c r (record s { live = new.live })) → Answers c r
   leaves c r not_basic l step = other c r not_basic (record {
     step = λ s fits. (record s { live = new.live }, step s fits.live, leaves_fits given.reuses s old new ok fits l);
     lasts = λ n lasts. leaves_lasts given.reuses old new n ok lasts l;
@@ -210,7 +227,8 @@ module _ {K V R E : Type 0} (given : Given K V R E) (old new : Content V) (ok : 
 
   -- whatever a drain into a new vector returns
   pub drained : (done : Result (Unit {0}) OutOfMemory) (first out : Vec (K × V) Global) (r : Reply K V R E) → first.items ≡ [] → OnOk done (r ≡ reply.Drained out) → OnErr done (r ≡ reply.Memory None)
-      → OnOk done ((pairs : List (K × V)) × (out.items ≡ first.items ++ pairs) × IsListing old.live (list_map (λ p. (given.data_of p.0, p.1)) pairs)) → OnOk done (new.live ≡ map.empty) → OnOk done (Leaves old new) → OnErr done ((new ≡ old) × (out.items ≡ first.items))
+      → OnOk done ((pairs : List (K × V)) × (out.items ≡ first.items ++ pairs) × IsListing old.live (list_map (λ p. (given.data_of p.0, p.1)) pairs))
+          → OnOk done (new.live ≡ map.empty) → OnOk done (Leaves old new) → OnErr done ((new ≡ old) × (out.items ≡ first.items))
       → Answers command.Drain r
   drained (Ok done) first out r none told refusal all empty l unchanged =
       let is : out.items ≡ all.0 = all.1 ∙ ap (λ front. front ++ all.0) none in
@@ -225,8 +243,11 @@ module _ {K V R E : Type 0} (given : Given K V R E) (old new : Content V) (ok : 
       rw told (stays command.Keys (reply.Keys out) (λ b. b) keeps (λ s live same. (rw (is, live) all.2, refl)))
   listed (Err e) first out r none told refusal all keeps = rw refusal (stays command.Keys (reply.Memory None) (λ b. b) keeps (λ s live same. (refl, refl)))
 
-  module _ {F : Type 0} (g : Mut F (K × (MutBor V × Unit {0})) (Bool × (MutBor V × Unit {0}))) (f : F) (Is : F → Type 0) (says : (f : F) (x : Visit K V) (f' : F) → Is f → CallsAt g f x f' → Is f' × given.keeps x.key x.before x.after x.stays) (is : Is f) (r : RetainsBy g given.data_of f old.live new.live) where
-    each : (q : Key) (v : V) → map.get old.live q ≡ Some v → (key : K) × (w : V) × (stays : Bool) × (given.data_of key ≡ q) × given.keeps key v w stays × (map.get new.live q ≡ cond stays (Some w) None)
+  module _ {F : Type 0} (g : Mut F (K × (MutBor V × Unit {0})) (Bool × (MutBor V × Unit {0}))) (f : F) (Is : F → Type 0)
+      (says : (f : F) (x : Visit K V) (f' : F) → Is f → CallsAt g f x f' → Is f' × given.keeps x.key x.before x.after x.stays) (is : Is f)
+      (r : RetainsBy g given.data_of f old.live new.live) where
+    each : (q : Key) (v : V) → map.get old.live q ≡ Some v → (key : K) × (w : V) × (stays : Bool) × (given.data_of key ≡ q) × given.keeps key v w stays
+        × (map.get new.live q ≡ cond stays (Some w) None)
     each q v found =
         let at = retained_at g given.data_of Is (λ x. given.keeps x.key x.before x.after x.stays) (λ f f' x. says f x f') is r q v found in
         (at.0.key, at.0.after, at.0.stays, at.2, subst (λ (b : V). given.keeps at.0.key b at.0.after at.0.stays) at.3 at.1, at.4)
@@ -242,7 +263,8 @@ module _ {K V R E : Type 0} (given : Given K V R E) (old new : Content V) (ok : 
   pub plain : (c : Command K V) (r : Reply K V R E) → Answers c r → DetachAnswers (detaching.Plain c) r
   plain c r f = record { follows = record { step = f.follows.step; lasts = f.follows.lasts }; orders = f.orders }
 
-  pub detached : (key : K) (taken : Option V) → taken ≡ map.get old.live (given.data_of key) → OnSome taken (Detaches old (given.data_of key) new) → IfNone taken (new ≡ old) → DetachAnswers (detaching.Detach key) (reply.Taken taken)
+  pub detached : (key : K) (taken : Option V) → taken ≡ map.get old.live (given.data_of key) → OnSome taken (Detaches old (given.data_of key) new)
+      → IfNone taken (new ≡ old) → DetachAnswers (detaching.Detach key) (reply.Taken taken)
   detached key (Some v) is some none = record {
     follows = record {
       step = λ s fits. (after_detach s (given.data_of key), (rw fits.live (sym is), refl), detaches_fits given.reuses s old new ok fits (given.data_of key) (ap is_some (sym is)) some);
@@ -264,13 +286,15 @@ module _ {K V R E : Type 0} (given : Given K V R E) (old new : Content V) (ok : 
     orders = λ l lifo basic told. (refl, lifo_reattaches given.reuses old new ok l lifo (given.data_of key) v r);
   }
 
-  not_detached : (key : K) (v back : V) → RefusesReattach given.reuses old (given.data_of key) v (again.NotDetached back) → Keeps old new → DetachAnswers (detaching.Reattach key v) (reply.NotDetached back)
+  not_detached : (key : K) (v back : V) → RefusesReattach given.reuses old (given.data_of key) v (again.NotDetached back) → Keeps old new
+      → DetachAnswers (detaching.Reattach key v) (reply.NotDetached back)
   not_detached key v back r keeps = record {
     follows = stays_by (DetachStep given) (detaching.Reattach key v) (reply.NotDetached back) keeps (λ s fits. (rw fits.detached (false_of _ r.0), r.1, refl));
     orders = λ l lifo basic told. (refl, rw (ap (λ (d : set.FinSet key_cmp). set.contains d (given.data_of key)) lifo.detached ∙ false_of _ r.0) (lifo_keeps given.reuses old new ok l lifo keeps));
   }
 
-  reattaches_no_memory : (key : K) (v back : V) → RefusesReattach given.reuses old (given.data_of key) v (again.Memory back) → Keeps old new → DetachAnswers (detaching.Reattach key v) (reply.Memory (Some back))
+  reattaches_no_memory : (key : K) (v back : V) → RefusesReattach given.reuses old (given.data_of key) v (again.Memory back) → Keeps old new
+      → DetachAnswers (detaching.Reattach key v) (reply.Memory (Some back))
   reattaches_no_memory key v back r keeps = record {
     follows = stays_by (DetachStep given) (detaching.Reattach key v) (reply.Memory (Some back)) keeps
         (λ s fits. (r.0, rw fits.detached r.1, (let promised = fits.promised in let room = r.2 in omega arith), ap Some r.3, refl));
@@ -278,7 +302,8 @@ module _ {K V R E : Type 0} (given : Given K V R E) (old new : Content V) (ok : 
   }
 
   -- whatever a reattach returns
-  pub reattached : (key : K) (v : V) (r : Result (Unit {0}) (ReattachError V)) → OnOk r (Reattaches old (given.data_of key) v new) → IfErr r (RefusesReattach given.reuses old (given.data_of key) v) → MayGrow given.reuses old (IsErr r) new
+  pub reattached : (key : K) (v : V) (r : Result (Unit {0}) (ReattachError V)) → OnOk r (Reattaches old (given.data_of key) v new)
+      → IfErr r (RefusesReattach given.reuses old (given.data_of key) v) → MayGrow given.reuses old (IsErr r) new
       → DetachAnswers (detaching.Reattach key v) (reattach_reply_of r)
   reattached key v (Ok done) ok err valid = reattaches key v ok
   reattached key v (Err (again.NotDetached back)) ok err valid = not_detached key v back err (valid.unchanged refl)

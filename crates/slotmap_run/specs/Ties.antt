@@ -44,9 +44,11 @@ module _ {K V W C R : Type 0} (data_of : K → Key) (Step : Joined K V W → C �
       × ((d : Dictionary W) (n : ℕ) → Known data_of s.primary d old old_second old_keys (n + 1)
       → (e : Dictionary W) × Telling (record { joined = s; dictionary = d }) command reply (record { joined = t; dictionary = e }) × Known data_of t.primary e new new_second new_keys n)
 
-module _ {M S K V W C R : Type 0} (data_of : K → Key) (content : M → Content V) (pairs : S → Pairs W) (Step : Joined K V W → C → R → Joined K V W → Type 0) (Telling : WithDictionary K V W → C → R → WithDictionary K V W → Type 0) where
+module _ {M S K V W C R : Type 0} (data_of : K → Key) (content : M → Content V) (pairs : S → Pairs W)
+    (Step : Joined K V W → C → R → Joined K V W → Type 0) (Telling : WithDictionary K V W → C → R → WithDictionary K V W → Type 0) where
   -- one command of a joined run: old and new borrow the same maps, and the reply is a step
   pub record JoinServed (old : Beside M S K) (command : C) (reply : R) (new : Beside M S K) : Type 0 where
-    pub follows : Follows data_of Step Telling (content old.primary.now) (pairs old.secondary.now) old.keys.now.items command reply (content new.primary.now) (pairs new.secondary.now) new.keys.now.items
+    pub follows : Follows data_of Step Telling (content old.primary.now) (pairs old.secondary.now) old.keys.now.items command reply
+        (content new.primary.now) (pairs new.secondary.now) new.keys.now.items
     pub same_primary : new.primary.ghost_name ≡ old.primary.ghost_name
     pub same_secondary : new.secondary.ghost_name ≡ old.secondary.ghost_name

@@ -1,9 +1,11 @@
 -- What a call makes of a graph, as a whole.
-use Rattle.std.proofs.Common.{◌≡◌, ◌≢◌, ◌<◌, ◌+◌, true, false, Option, Some, None, IfSome, IfNone, Result, Ok, Err, IfOk, IsErr, List, [], ◌∷◌, ◌++◌, is_some, ◌||◌, refl, sym, ap, ◌∙◌, inl, inr, arith}
+use Rattle.std.proofs.Common.{◌≡◌, ◌≢◌, ◌<◌, ◌+◌, true, false, Option, Some, None, IfSome, IfNone, Result, Ok, Err, IfOk, IsErr, List, [], ◌∷◌, ◌++◌,
+    is_some, ◌||◌, refl, sym, ap, ◌∙◌, inl, inr, arith}
 use Rattle.std.specs.FinMap as map
 use Rattle.std.specs.declared.vec.Vec.{Vec}
 use Rattle.slotmap.specs.Words.{Key, key_cmp, Content, IsContent, IsLive, Inserts, Keeps, Pairs, IsBeside, get, remove}
-use Rattle.slotmap.proofs.Callers.{keys, same_or_other, get-put_live, get-put_other, beside_insert, beside_empty, beside_removed, live-remove_other, live-insert_still, removed_gone, get-remove_other, secondary}
+use Rattle.slotmap.proofs.Callers.{keys, same_or_other, get-put_live, get-put_other, beside_insert, beside_empty, beside_removed, live-remove_other,
+    live-insert_still, removed_gone, get-remove_other, secondary}
 use Rattle.slotmap_uses.specs.declared.graph.Edge.{Edge}
 use Rattle.slotmap_uses.specs.GraphParts.{IsGraph, EndsLive, IsAdjacency, PutsAlone, list_in, listed, times, same, ends_at, is_key, from, to, touches}
 use Rattle.slotmap_uses.proofs.Adjacent.{lists_added, lists_removed, first_listed, none_listed, nothing_listed, is_itself, is_other, one_itself}
@@ -49,7 +51,8 @@ module _ {N Z : Type 0} (nodes : Content N) (edges : map.FinMap key_cmp Edge) (o
     into_beside = still_beside nodes into k graph.into_beside live new others;
   }
 
-  module _ (x : Key) (e : Edge) (new_out new_into : Pairs (Vec Key Z)) (others_out : (q : Key) → q ≢ e.from → get new_out q ≡ get out q) (others_into : (q : Key) → q ≢ e.to → get new_into q ≡ get into q) where
+  module _ (x : Key) (e : Edge) (new_out new_into : Pairs (Vec Key Z)) (others_out : (q : Key) → q ≢ e.from → get new_out q ≡ get out q)
+      (others_into : (q : Key) → q ≢ e.to → get new_into q ≡ get into q) where
     -- an edge comes
     pub edge_added : map.get edges x ≡ None → IsLive nodes e.from → IsLive nodes e.to → listed new_out e.from ≡ listed out e.from ++ x ∷ [] → listed new_into e.to ≡ listed into e.to ++ x ∷ []
         → IsGraph nodes (map.insert edges x e) new_out new_into
@@ -69,7 +72,8 @@ module _ {N Z : Type 0} (nodes : Content N) (edges : map.FinMap key_cmp Edge) (o
         ]
 
     -- an edge goes
-    pub edge_removed : map.get edges x ≡ Some e → ((y : Key) → times y (listed new_out e.from) + same x y ≡ times y (listed out e.from)) → ((y : Key) → times y (listed new_into e.to) + same x y ≡ times y (listed into e.to))
+    pub edge_removed : map.get edges x ≡ Some e → ((y : Key) → times y (listed new_out e.from) + same x y ≡ times y (listed out e.from))
+        → ((y : Key) → times y (listed new_into e.to) + same x y ≡ times y (listed into e.to))
         → IsGraph nodes (map.remove edges x) new_out new_into
     edge_removed there takes_out takes_into = record {
       ends = λ q y found. graph.ends q y (left q y found);
@@ -109,7 +113,8 @@ module _ {N Z : Type 0} (nodes : Content N) (edges : map.FinMap key_cmp Edge) (o
       ap (λ b. b || is_key e.to k) apart_from ∙ apart_to
 
   -- by the clauses of the look-up of the first edge of a list, whatever it returns
-  pub into_found : (k : Key) (found : Option Key) → IfSome found (λ x. (rest : List Key) × (listed into k ≡ x ∷ rest)) → IfSome found (λ x. (e : Edge) × (map.get edges x ≡ Some e) × (touches k e ≡ true))
+  pub into_found : (k : Key) (found : Option Key) → IfSome found (λ x. (rest : List Key) × (listed into k ≡ x ∷ rest))
+      → IfSome found (λ x. (e : Edge) × (map.get edges x ≡ Some e) × (touches k e ≡ true))
   into_found k None is = tt
   into_found k (Some x) is = into_touches k x is.0 is.1
 
@@ -143,7 +148,8 @@ module _ {N Z : Type 0} (nodes : Content N) (edges : map.FinMap key_cmp Edge) (o
     }
 
   -- by the clauses of an insert of a node, whatever it returns
-  pub node_inserted : {K R : Type 0} (new : Content N) (data_of : K → Key) (v : N) (answer : Result K R) → IfOk answer (λ key. Inserts nodes (data_of key) v new) → (IsErr answer → Keeps nodes new) → IsGraph new edges out into
+  pub node_inserted : {K R : Type 0} (new : Content N) (data_of : K → Key) (v : N) (answer : Result K R)
+      → IfOk answer (λ key. Inserts nodes (data_of key) v new) → (IsErr answer → Keeps nodes new) → IsGraph new edges out into
   node_inserted {K = K} {R = R} new data_of v answer ok unchanged = record {
     ends = by answer ok unchanged;
     out_lists = graph.out_lists;
@@ -157,7 +163,8 @@ module _ {N Z : Type 0} (nodes : Content N) (edges : map.FinMap key_cmp Edge) (o
           (rw inserts.live (live-insert_still nodes.live (data_of key) v e.from live.0), rw inserts.live (live-insert_still nodes.live (data_of key) v e.to live.1))
       by (Err r) none keeps x e there = rw ((keeps refl).live) (graph.ends x e there)
 
-pub graph_empty : {N Z : Type 0} (nodes : Content N) (edges : map.FinMap key_cmp Edge) (out into : Pairs (Vec Key Z)) → edges ≡ map.empty → out ≡ map.empty → into ≡ map.empty → IsGraph nodes edges out into
+pub graph_empty : {N Z : Type 0} (nodes : Content N) (edges : map.FinMap key_cmp Edge) (out into : Pairs (Vec Key Z)) → edges ≡ map.empty
+    → out ≡ map.empty → into ≡ map.empty → IsGraph nodes edges out into
 graph_empty {N = N} {Z = Z} nodes edges out into no_edges no_out no_into = record {
   ends = λ x e there. absurd (let none = absent x in cc);
   out_lists = λ k x. rw no_out (bare from k x);

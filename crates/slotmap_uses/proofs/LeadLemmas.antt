@@ -14,7 +14,9 @@ module _ (edges : map.FinMap key_cmp Edge) (node : Key) where
   lead_step ks found now i x e so_far below is there at more =
       let whole : Some (record { from = node; to = e.to }) ≡ map.get edges x = sym (there ∙ ap (λ n. Some (record { from = n; to = e.to })) at) in
       let taken : take (i + 1) ks ≡ take i ks ++ x ∷ [] = take_more ks i x below ∙ ap (λ q. take i ks ++ q ∷ []) (sym is) in
-      rw (more, taken) (map-append (λ k. Some (record { from = node; to = k })) found (e.to ∷ []) ∙ ap (λ q. q ++ Some (record { from = node; to = e.to }) ∷ []) so_far ∙ ap (λ q. list_map (map.get edges) (take i ks) ++ q ∷ []) whole ∙ sym (map-append (map.get edges) (take i ks) (x ∷ [])))
+      rw (more, taken) (map-append (λ k. Some (record { from = node; to = k })) found (e.to ∷ [])
+          ∙ ap (λ q. q ++ Some (record { from = node; to = e.to }) ∷ []) so_far ∙ ap (λ q. list_map (map.get edges) (take i ks) ++ q ∷ []) whole
+          ∙ sym (map-append (map.get edges) (take i ks) (x ∷ [])))
 
   -- what stands in a list of the edges from a node is such an edge
   pub listed_edge : (ks : List Key) (i : ℕ) (x : Key) → ListsEdges from edges node ks → i < length ks → x ≡ get_or ks i x → (e : Edge) × (map.get edges x ≡ Some e) × (e.from ≡ node)
@@ -30,6 +32,7 @@ module _ (edges : map.FinMap key_cmp Edge) (node : Key) where
   lead_end ks found i past leads = rw (take_all i ks past) at leads
 
 -- an edge that is found joins two live nodes
-pub found_live : {N : Type 0} (nodes : Content N) (edges : map.FinMap key_cmp Edge) (k : Key) (found : Option (Bor Edge)) → EndsLive nodes edges → option_copied found ≡ map.get edges k → IfSome found (λ e. IsLive nodes e.now.from × IsLive nodes e.now.to)
+pub found_live : {N : Type 0} (nodes : Content N) (edges : map.FinMap key_cmp Edge) (k : Key) (found : Option (Bor Edge)) → EndsLive nodes edges
+    → option_copied found ≡ map.get edges k → IfSome found (λ e. IsLive nodes e.now.from × IsLive nodes e.now.to)
 found_live nodes edges k None ends is = tt
 found_live nodes edges k (Some e) ends is = ends k e.now (sym is)

@@ -52,12 +52,14 @@ module _ {T : Type 0} where
           let one = itself keys_total exact_keys k in
           let apart = once_apart ys ((k, e.1) ∷ []) k e.1 (subst IsOnce here once) (ap (λ b. cond b (Some e.1) None) one) in
           let rest : without k xs ≡ ys = ap (without k) here ∙ without-split ys k e.1 [] apart ∙ append-nil ys in
-          let there : value_of k xs ≡ Some e.1 = ap (value_of k) here ∙ value_of-append ys ((k, e.1) ∷ []) k ∙ ap (λ o. option_or o (value_of k ((k, e.1) ∷ []))) apart ∙ ap (λ b. cond b (Some e.1) None) one in
+          let there : value_of k xs ≡ Some e.1 = ap (value_of k) here ∙ value_of-append ys ((k, e.1) ∷ []) k
+                  ∙ ap (λ o. option_or o (value_of k ((k, e.1) ∷ []))) apart ∙ ap (λ b. cond b (Some e.1) None) one in
           let value : e.1 ≡ v = (let a = sym there ∙ found in cc) in
           here ∙ ap (λ w. ys ++ (k, w) ∷ []) value ∙ ap (λ l. l ++ (k, v) ∷ []) (sym rest)
 
   -- each cursor of a list that is emptied is gone for good
-  pub emptied_gone : (nodes left : Content (Node T)) (first last : Option Key) (xs : List (Key × T)) → IsContent true nodes → IsChain nodes.live first last xs → Leaves nodes left → left.live ≡ map.empty
+  pub emptied_gone : (nodes left : Content (Node T)) (first last : Option Key) (xs : List (Key × T)) → IsContent true nodes
+      → IsChain nodes.live first last xs → Leaves nodes left → left.live ≡ map.empty
       → (k : Key) → IsSome (value_of k xs) → IsSpent (without_values left) k
   emptied_gone nodes left first last xs well chain leaves empty k there =
       let none : map.contains_key (map.empty {X = Node T} {R = key_cmp}) k ≡ false = grind (arith, keys) in

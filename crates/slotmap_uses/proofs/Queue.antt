@@ -154,7 +154,8 @@ module _ {T : Type 0} where
           → IsQueue (map.insert jobs k (record { turn = (time, count); job = j.job })) (count + 1) new
       queue_moved mid new time puts takes = record {
         queued = λ q i found. elim (get_after_insert keys_total exact_keys jobs k _ q i found) [
-          | inl here ↦ rw (here.0, here.1) (tree_other turns_total exact_turns mid new j.turn None takes (time, count) (λ same. older (sym same)) ∙ tree_here turns_total exact_turns old mid (time, count) (Some k) puts)
+          | inl here ↦ rw (here.0, here.1) (tree_other turns_total exact_turns mid new j.turn None takes (time, count) (λ same. older (sym same))
+              ∙ tree_here turns_total exact_turns old mid (time, count) (Some k) puts)
           | inr there ↦ kept i.turn (λ same. there.0 (one_turn k q j i at there.1 same)) (other_number i.turn (time, count) (is.numbered q i there.1)) ∙ is.queued q i there.1
         ];
         waits = λ t q found. elim (alike_or_apart turns_total exact_turns t j.turn) [
@@ -162,7 +163,8 @@ module _ {T : Type 0} where
           | inr left ↦ elim (alike_or_apart turns_total exact_turns t (time, count)) [
             | inl here ↦ (
               j.job,
-              (let e = sym (tree_here turns_total exact_turns old mid (time, count) (Some k) puts) ∙ sym (tree_other turns_total exact_turns mid new j.turn None takes (time, count) (λ same. older (sym same))) ∙ rw here at found in
+              (let e = sym (tree_here turns_total exact_turns old mid (time, count) (Some k) puts)
+                  ∙ sym (tree_other turns_total exact_turns mid new j.turn None takes (time, count) (λ same. older (sym same))) ∙ rw here at found in
                   let same : k ≡ q = cc in rw (here, ← same) (grind (arith, keys))),
             )
             | inr there ↦ (let before = sym (kept t left there) ∙ found in

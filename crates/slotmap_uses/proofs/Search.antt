@@ -1,5 +1,6 @@
 -- A search from a node, along the edges.
-use Rattle.std.proofs.Common.{◌≡◌, ◌≢◌, ℕ, zero, suc, ◌+◌, ◌<◌, ◌≤◌, ◌⊎◌, ⊎_elim, Bool, true, false, Some, None, List, [], ◌∷◌, ◌++◌, length, get_or, drop, drop-cons, add-one, append_assoc, if◌then◌else◌, is_some, refl, sym, ap, ◌∙◌, inl, inr, arith}
+use Rattle.std.proofs.Common.{◌≡◌, ◌≢◌, ℕ, zero, suc, ◌+◌, ◌<◌, ◌≤◌, ◌⊎◌, ⊎_elim, Bool, true, false, Some, None, List, [], ◌∷◌, ◌++◌, length, get_or,
+    drop, drop-cons, add-one, append_assoc, if◌then◌else◌, is_some, refl, sym, ap, ◌∙◌, inl, inr, arith}
 use Rattle.std.specs.FinMap as map
 use Rattle.std.proofs.lemmas.List.Sums.{sum_by-append}
 use Rattle.slotmap.specs.Words.{Key, key_cmp, Content, IsLive, Pairs, IsBeside, get, contains_key}
@@ -49,7 +50,8 @@ Pending edges node ks i seen = (k : Key) (e : Edge) → map.get edges k ≡ Some
 
 module _ (edges : map.FinMap key_cmp Edge) (node : Key) (ks : List Key) where
   pub pending_start : (seen : Pairs (Unit {0})) → ListsEdges from edges node ks → Pending edges node ks 0 seen
-  pending_start seen lists k e there at = inl (let one : ends_at from node (Some e) ≡ 1 = ap (λ q. same q node) at ∙ one_itself node in let is = lists k ∙ ap (ends_at from node) there ∙ one in omega arith)
+  pending_start seen lists k e there at =
+      inl (let one : ends_at from node (Some e) ≡ 1 = ap (λ q. same q node) at ∙ one_itself node in let is = lists k ∙ ap (ends_at from node) there ∙ one in omega arith)
 
   pub pending_step : (i : ℕ) (x : Key) (e : Edge) (seen new : Pairs (Unit {0})) → i < length ks → x ≡ get_or ks i x → map.get edges x ≡ Some e → contains_key new e.to ≡ true
       → ((q : Key) → contains_key seen q ≡ true → contains_key new q ≡ true) → Pending edges node ks i seen → Pending edges node ks (i + 1) new
@@ -109,7 +111,8 @@ pub record Searching {N : Type 0} (nodes : Content N) (edges : map.FinMap key_cm
 
 module _ {N : Type 0} (nodes : Content N) (edges : map.FinMap key_cmp Edge) (start : Key) where
   -- the start is marked, where none was
-  pub searching_start : (none seen : Pairs (Unit {0})) (found : List Key) → none ≡ map.empty → IsLive nodes start → AreSeen seen found → contains_key seen start ≡ true → ((q : Key) → q ≢ start → get seen q ≡ get none q)
+  pub searching_start : (none seen : Pairs (Unit {0})) (found : List Key) → none ≡ map.empty → IsLive nodes start → AreSeen seen found
+      → contains_key seen start ≡ true → ((q : Key) → q ≢ start → get seen q ≡ get none q)
       → Searching nodes edges start seen found 0
   searching_start none seen found empty live listed begun others = record {
     listed = listed;
@@ -126,7 +129,8 @@ module _ {N : Type 0} (nodes : Content N) (edges : map.FinMap key_cmp Edge) (sta
       ]
 
   module _ (seen : Pairs (Unit {0})) (found : List Key) (at : ℕ) (searching : Searching nodes edges start seen found at) where
-    pub searching_step : (a : Key) → at < length found → a ≡ get_or found at a → (new : Pairs (Unit {0})) (now : List Key) → Finds nodes edges a seen found new now → HasNext edges a new → Searching nodes edges start new now (at + 1)
+    pub searching_step : (a : Key) → at < length found → a ≡ get_or found at a → (new : Pairs (Unit {0})) (now : List Key)
+        → Finds nodes edges a seen found new now → HasNext edges a new → Searching nodes edges start new now (at + 1)
     searching_step a below is new now finds next = record {
       listed = finds.listed;
       live = finds.live;
@@ -183,5 +187,7 @@ no_more_than live (k ∷ ks) once there =
     omega arith
 
 -- a search found no more nodes than there are
-pub searching_fits : {N : Type 0} (nodes : Content N) (edges : map.FinMap key_cmp Edge) (start : Key) (seen : Pairs (Unit {0})) (found : List Key) (at : ℕ) → Searching nodes edges start seen found at → length found ≤ map.len nodes.live
-searching_fits nodes edges start seen found at searching = no_more_than nodes.live found (λ x. listed_once seen found searching.listed x) (λ x more. (searching_found nodes edges start seen found at searching x more).0)
+pub searching_fits : {N : Type 0} (nodes : Content N) (edges : map.FinMap key_cmp Edge) (start : Key) (seen : Pairs (Unit {0})) (found : List Key)
+    (at : ℕ) → Searching nodes edges start seen found at → length found ≤ map.len nodes.live
+searching_fits nodes edges start seen found at searching =
+    no_more_than nodes.live found (λ x. listed_once seen found searching.listed x) (λ x more. (searching_found nodes edges start seen found at searching x more).0)

@@ -24,7 +24,8 @@ module _ (node : Key) (old now : Content Edge) where
   thinned_start is = rw is (record { each = λ k. inl refl; keeps = λ k spent. spent })
 
   module _ (thinned : Thinned node old now) where
-    pub thinned_step : (new : Content Edge) (x : Key) (e : Edge) → map.get now.live x ≡ Some e → touches node e ≡ true → new.live ≡ map.remove now.live x → IsSpent new x → KeepsSpent now new → Thinned node old new
+    pub thinned_step : (new : Content Edge) (x : Key) (e : Edge) → map.get now.live x ≡ Some e → touches node e ≡ true → new.live ≡ map.remove now.live x
+        → IsSpent new x → KeepsSpent now new → Thinned node old new
     thinned_step new x e there touched is spent keeps = record {
       each = λ k. elim (same_or_other k x) [
         | inl at ↦ rw at (inr (here (thinned.each x)))

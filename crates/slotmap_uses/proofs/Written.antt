@@ -48,7 +48,8 @@ module _ {T : Type 0} (k : Key) (v : T) where
   absent-written [] q none = refl
   absent-written (x ∷ xs) q none = by (absent-written xs q) (eq_by_cmp key_cmp k x.0) (eq_by_cmp key_cmp q x.0) refl none
     where
-      by : (value_of q xs ≡ None → value_of q (with_value_at k v xs) ≡ None) → (b c : Bool) → eq_by_cmp key_cmp q x.0 ≡ c → cond c (Some x.1) (value_of q xs) ≡ None → value_of q (cond b ((x.0, v) ∷ xs) (x ∷ with_value_at k v xs)) ≡ None
+      by : (value_of q xs ≡ None → value_of q (with_value_at k v xs) ≡ None) → (b c : Bool) → eq_by_cmp key_cmp q x.0 ≡ c
+          → cond c (Some x.1) (value_of q xs) ≡ None → value_of q (cond b ((x.0, v) ∷ xs) (x ∷ with_value_at k v xs)) ≡ None
       by rest b true is none = absurd (cc)
       by rest true false is none = ap (λ c. cond c (Some v) (value_of q xs)) is ∙ none
       by rest false false is none = ap (λ c. cond c (Some x.1) (value_of q (with_value_at k v xs))) is ∙ rest none
@@ -65,7 +66,8 @@ module _ {T : Type 0} (k : Key) (v : T) where
   written_node node = record node { value = v }
 
   -- the nodes are the same but for the value
-  node-written : (p n : Option Key) (xs : List (Key × T)) (q : Key) → node_at p (with_value_at k v xs) n q ≡ cond (eq_by_cmp key_cmp q k) (option_map written_node (node_at p xs n q)) (node_at p xs n q)
+  node-written : (p n : Option Key) (xs : List (Key × T)) (q : Key)
+      → node_at p (with_value_at k v xs) n q ≡ cond (eq_by_cmp key_cmp q k) (option_map written_node (node_at p xs n q)) (node_at p xs n q)
   unfolding written_node
   node-written p n [] q = same (eq_by_cmp key_cmp q k)
     where
@@ -74,11 +76,15 @@ module _ {T : Type 0} (k : Key) (v : T) where
       same false = refl
   node-written p n (x ∷ xs) q = by (node-written (Some x.0) n xs q) (eq_by_cmp key_cmp k x.0) (eq_by_cmp key_cmp q x.0) (eq_by_cmp key_cmp q k) refl refl refl
     where
-      by : node_at (Some x.0) (with_value_at k v xs) n q ≡ cond (eq_by_cmp key_cmp q k) (option_map written_node (node_at (Some x.0) xs n q)) (node_at (Some x.0) xs n q) → (b c d : Bool) → eq_by_cmp key_cmp k x.0 ≡ b → eq_by_cmp key_cmp q x.0 ≡ c → eq_by_cmp key_cmp q k ≡ d
-          → node_at p (cond b ((x.0, v) ∷ xs) (x ∷ with_value_at k v xs)) n q ≡ cond d (option_map written_node (cond c (Some (record { value = x.1; prev = p; next = first_or xs n })) (node_at (Some x.0) xs n q))) (cond c (Some (record { value = x.1; prev = p; next = first_or xs n })) (node_at (Some x.0) xs n q))
+      by : node_at (Some x.0) (with_value_at k v xs) n q ≡ cond (eq_by_cmp key_cmp q k) (option_map written_node (node_at (Some x.0) xs n q))
+          (node_at (Some x.0) xs n q) → (b c d : Bool) → eq_by_cmp key_cmp k x.0 ≡ b → eq_by_cmp key_cmp q x.0 ≡ c → eq_by_cmp key_cmp q k ≡ d
+          → node_at p (cond b ((x.0, v) ∷ xs) (x ∷ with_value_at k v xs)) n q ≡ cond d
+              (option_map written_node (cond c (Some (record { value = x.1; prev = p; next = first_or xs n })) (node_at (Some x.0) xs n q)))
+              (cond c (Some (record { value = x.1; prev = p; next = first_or xs n })) (node_at (Some x.0) xs n q))
       by rest true true true b c d = ap (λ t. cond t (Some (record { value = v; prev = p; next = first_or xs n })) (node_at (Some x.0) xs n q)) c
       by rest true false false b c d = ap (λ t. cond t (Some (record { value = v; prev = p; next = first_or xs n })) (node_at (Some x.0) xs n q)) c
-      by rest true true false b c d = absurd (let e = tied keys_total exact_keys q x.0 c ∙ sym (tied keys_total exact_keys k x.0 b) in let t = rw e at d in let one = itself keys_total exact_keys k in cc)
+      by rest true true false b c d =
+          absurd (let e = tied keys_total exact_keys q x.0 c ∙ sym (tied keys_total exact_keys k x.0 b) in let t = rw e at d in let one = itself keys_total exact_keys k in cc)
       by rest true false true b c d = absurd (let e = tied keys_total exact_keys q k d in let t = rw e at c in cc)
       by rest false true true b c d = absurd (let e = tied keys_total exact_keys q k d in let t = rw e at c in cc)
       by rest false true false b c d = ap (λ t. cond t (Some (record { value = x.1; prev = p; next = first_or (with_value_at k v xs) n })) (node_at (Some x.0) (with_value_at k v xs) n q)) c
@@ -97,14 +103,17 @@ module _ {T : Type 0} (k : Key) (v : T) where
     first_is = chain.first_is ∙ sym (first_or-written xs None);
     last_is = chain.last_is ∙ sym (last_or-written xs None);
   } where
-    here : (q : Key) (b : Bool) → eq_by_cmp key_cmp q k ≡ b → cond b (Some (record node { value = v })) (map.get nodes q) ≡ cond b (option_map written_node (node_at None xs None q)) (node_at None xs None q)
+    here : (q : Key) (b : Bool) → eq_by_cmp key_cmp q k ≡ b
+        → cond b (Some (record node { value = v })) (map.get nodes q) ≡ cond b (option_map written_node (node_at None xs None q)) (node_at None xs None q)
     here q true same = ap (option_map written_node) (sym found ∙ ap (map.get nodes) (sym (tied keys_total exact_keys q k same)) ∙ chain.nodes_are q)
     here q false apart = chain.nodes_are q
 
   -- what the model of the list is then
   pub seen_written : (nodes : Content (Node T)) (first last : Option Key) (xs : List (Key × T)) (node : Node T) → IsChain nodes.live first last xs → map.get nodes.live k ≡ Some node
       → ◌≡◌ {A = Sequence T}
-      (record { elements = follow (map.insert nodes.live k (record node { value = v })) (map.len (map.insert nodes.live k (record node { value = v }))) first; cursors = without_values (with_value nodes k (record node { value = v })) })
+      (record { elements = follow (map.insert nodes.live k (record node { value = v }))
+          (map.len (map.insert nodes.live k (record node { value = v }))) first;
+          cursors = without_values (with_value nodes k (record node { value = v })) })
       (record { elements = with_value_at k v xs; cursors = without_values nodes })
   seen_written nodes first last xs node chain found =
       let elements = chain_is (map.insert nodes.live k (record node { value = v })) first last (with_value_at k v xs) (chain_written nodes.live first last xs node chain found) in

@@ -13,7 +13,8 @@ pub record Sequence (T : Type 0) : Type 0 where
 
 -- by which a proof tells two lists apart
 abbrev pub sequence_code : {T : Type 0} → Coded T → Coded (Sequence T)
-sequence_code {T} code = code_by (List (Key × T) × Content (Unit {0})) (coded× (coded_list (coded× coded_key code)) keys_code) (λ s. (s.elements, s.cursors)) (λ p. record { elements = p.0; cursors = p.1 }) (λ _. refl)
+sequence_code {T} code =
+    code_by (List (Key × T) × Content (Unit {0})) (coded× (coded_list (coded× coded_key code)) keys_code) (λ s. (s.elements, s.cursors)) (λ p. record { elements = p.0; cursors = p.1 }) (λ _. refl)
 
 -- whether two keys are one
 abbrev pub is_same : Key → Key → Bool
@@ -107,4 +108,5 @@ module _ {T : Type 0} where
 
   -- an element was put into a place between these two neighbours
   abbrev pub PutsBetween : List (Key × T) → Option Key → Option Key → Key × T → List (Key × T) → Type 0
-  PutsBetween old prev next x new = (before : List (Key × T)) × ((after : List (Key × T)) × (old ≡ before ++ after) × (last_or before None ≡ prev) × (first_or after None ≡ next) × (new ≡ before ++ x ∷ after))
+  PutsBetween old prev next x new =
+      (before : List (Key × T)) × ((after : List (Key × T)) × (old ≡ before ++ after) × (last_or before None ≡ prev) × (first_or after None ≡ next) × (new ≡ before ++ x ∷ after))

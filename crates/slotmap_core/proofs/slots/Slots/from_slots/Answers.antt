@@ -24,7 +24,9 @@ loop-record-init g c =
       counted = omega (arith, taken.2, c.into_iter-records.ensures.len, list.ok.0);
       read = rw (c.push_empty.ensures.pushed, c.in_ok-layout.ensures.none) (AreRead-first taken.0);
       few = omega arith;
-      room = rw (c.push_empty.ensures.pushed, c.push_empty.ensures.same_room, c.in_ok-layout.ensures.none) (omega (arith, taken.2, c.into_iter-records.ensures.len, c.in_ok-layout.ensures.room, c.len.ensures));
+      room =
+          rw (c.push_empty.ensures.pushed, c.push_empty.ensures.same_room, c.in_ok-layout.ensures.none)
+              (omega (arith, taken.2, c.into_iter-records.ensures.len, c.in_ok-layout.ensures.room, c.len.ensures));
     })
 
 pub loop-record-preserved-in-Some-value : goal.loop-record-preserved-in-Some-value
@@ -38,14 +40,19 @@ loop-record-preserved-in-Some-value g c =
     let whole : (before.first ∷ at.yielded) ++ made ∷ rest ≡ c.args.list.items = ap (λ xs. before.first ∷ at.yielded ++ xs) (sym steps.0) ∙ before.all in
     let consistent = next_consistent c.args.list.items (before.first ∷ at.yielded) rest made 4294967295 accepted whole in
     let slots = g.L.Layout.slots at.layout in
-    let free = vacancies-push slots (full made.version c.in-Some-value.payload) (vacancies slots at.kept_count at.live_count) at.kept_count (at.live_count + 1) (omega (arith, before.few, before.read.length_is)) in
+    let free = vacancies-push slots (full made.version c.in-Some-value.payload) (vacancies slots at.kept_count at.live_count) at.kept_count
+            (at.live_count + 1) (omega (arith, before.few, before.read.length_is)) in
     record {
       first = before.first;
       all = ap (λ xs. before.first ∷ xs) (append_assoc at.yielded (made ∷ []) rest) ∙ whole;
       counted = omega (arith, before.counted, steps.1, length_push at.yielded made);
-      read = rw (c.push.ensures.pushed, c.in-Some-value.payload-is, free) (AreRead-live (before.first ∷ at.yielded) _ _ _ _ before.read made consistent (omega arith) c.in-Some-value.payload c.in-Some-value.is);
+      read =
+          rw (c.push.ensures.pushed, c.in-Some-value.payload-is, free)
+              (AreRead-live (before.first ∷ at.yielded) _ _ _ _ before.read made consistent (omega arith) c.in-Some-value.payload c.in-Some-value.is);
       few = omega (arith, before.few, length_push at.yielded made);
-      room = rw (c.push.ensures.pushed, c.push.ensures.same_room, c.in-Some-value.payload-is) (omega (arith, before.room, steps.1, length_push (g.L.Layout.slots at.layout) (full made.version c.in-Some-value.payload)));
+      room =
+          rw (c.push.ensures.pushed, c.push.ensures.same_room, c.in-Some-value.payload-is)
+              (omega (arith, before.room, steps.1, length_push (g.L.Layout.slots at.layout) (full made.version c.in-Some-value.payload)));
     }
 
 pub loop-record-preserved-then-version-eq0 : goal.loop-record-preserved-then-version-eq0
@@ -64,9 +71,13 @@ loop-record-preserved-then-version-eq0 g c =
       first = before.first;
       all = ap (λ xs. before.first ∷ xs) (append_assoc at.yielded (made ∷ []) rest) ∙ whole;
       counted = omega (arith, before.counted, steps.1, length_push at.yielded made);
-      read = rw (c.push_empty-then-version-eq0.ensures.pushed, free) (AreRead-retired (before.first ∷ at.yielded) _ _ _ _ before.read made consistent (omega arith) c.in-None-value.is c.if-version-eq0.true);
+      read =
+          rw (c.push_empty-then-version-eq0.ensures.pushed, free)
+              (AreRead-retired (before.first ∷ at.yielded) _ _ _ _ before.read made consistent (omega arith) c.in-None-value.is c.if-version-eq0.true);
       few = omega (arith, before.few, length_push at.yielded made);
-      room = rw (c.push_empty-then-version-eq0.ensures.pushed, c.push_empty-then-version-eq0.ensures.same_room) (omega (arith, before.room, steps.1, length_push (g.L.Layout.slots at.layout) (empty 0 Retired)));
+      room =
+          rw (c.push_empty-then-version-eq0.ensures.pushed, c.push_empty-then-version-eq0.ensures.same_room)
+              (omega (arith, before.room, steps.1, length_push (g.L.Layout.slots at.layout) (empty 0 Retired)));
     }
 
 pub loop-record-preserved : goal.loop-record-preserved
@@ -80,14 +91,19 @@ loop-record-preserved g c =
     let whole : (before.first ∷ at.yielded) ++ made ∷ rest ≡ c.args.list.items = ap (λ xs. before.first ∷ at.yielded ++ xs) (sym steps.0) ∙ before.all in
     let consistent = next_consistent c.args.list.items (before.first ∷ at.yielded) rest made 4294967295 accepted whole in
     let slots = g.L.Layout.slots at.layout in
-    let free = vacancies-push slots (empty made.version (Free at.first_vacant)) (vacancies slots at.kept_count at.live_count + 1) at.kept_count at.live_count (omega (arith, before.few, before.read.length_is)) in
+    let free = vacancies-push slots (empty made.version (Free at.first_vacant))
+            (vacancies slots at.kept_count at.live_count + 1) at.kept_count at.live_count (omega (arith, before.few, before.read.length_is)) in
     record {
       first = before.first;
       all = ap (λ xs. before.first ∷ xs) (append_assoc at.yielded (made ∷ []) rest) ∙ whole;
       counted = omega (arith, before.counted, steps.1, length_push at.yielded made);
-      read = rw (c.push_empty-else-version-eq0.ensures.pushed, c.len-index.ensures, free) (AreRead-vacant (before.first ∷ at.yielded) _ _ _ _ before.read made consistent (omega arith) c.in-None-value.is c.if-version-eq0.false);
+      read =
+          rw (c.push_empty-else-version-eq0.ensures.pushed, c.len-index.ensures, free)
+              (AreRead-vacant (before.first ∷ at.yielded) _ _ _ _ before.read made consistent (omega arith) c.in-None-value.is c.if-version-eq0.false);
       few = omega (arith, before.few, length_push at.yielded made);
-      room = rw (c.push_empty-else-version-eq0.ensures.pushed, c.push_empty-else-version-eq0.ensures.same_room) (omega (arith, before.room, steps.1, length_push (g.L.Layout.slots at.layout) (empty made.version (Free at.first_vacant))));
+      room =
+          rw (c.push_empty-else-version-eq0.ensures.pushed, c.push_empty-else-version-eq0.ensures.same_room)
+              (omega (arith, before.room, steps.1, length_push (g.L.Layout.slots at.layout) (empty made.version (Free at.first_vacant))));
     }
 
 pub push_empty-requires-clause-out : goal.push_empty-requires-clause-out
@@ -125,17 +141,24 @@ push_empty-requires-else-version-eq0-clause-out g c =
 pub invariant_of-result : goal.invariant_of-result
 invariant_of-result g c =
     let at = c.loop-record in
-    let none : into_iter_items at.record-iterator ≡ [] = nil_from_length _ (omega (arith, ap length at.invariant.all, length-append at.yielded (into_iter_items at.record-iterator), at.invariant.counted, c.in-None.ensures.steps.0)) in
-    let all : at.invariant.first ∷ at.yielded ≡ c.args.list.items = ap (λ xs. at.invariant.first ∷ xs) (sym (append-nil at.yielded)) ∙ ap (λ xs. at.invariant.first ∷ at.yielded ++ xs) (sym none) ∙ at.invariant.all in
+    let none : into_iter_items at.record-iterator ≡ [] = nil_from_length _
+            (omega (arith, ap length at.invariant.all, length-append at.yielded (into_iter_items at.record-iterator), at.invariant.counted,
+            c.in-None.ensures.steps.0)) in
+    let all : at.invariant.first ∷ at.yielded ≡ c.args.list.items = ap (λ xs. at.invariant.first ∷ xs) (sym (append-nil at.yielded))
+            ∙ ap (λ xs. at.invariant.first ∷ at.yielded ++ xs) (sym none) ∙ at.invariant.all in
     let accepted = subst (λ l. Accepts l 4294967295) c.deref.ensures.value (c.in_ok-check_slots.ensures.ok.0 refl) in
     let versions_fit = subst (λ l. AllFitBelow l (length l)) c.deref.ensures.value c.in_ok-check_slots.ensures.versions_fit in
-    record { sound = IsSound-read c.args.list.items _ _ _ _ (rw all at at.invariant.read) 4294967295 (omega arith) accepted versions_fit; fewer = omega (arith, at.invariant.few, at.invariant.read.length_is); holds = omega (arith, at.invariant.room) }
+    record { sound = IsSound-read c.args.list.items _ _ _ _ (rw all at at.invariant.read) 4294967295 (omega arith) accepted versions_fit;
+        fewer = omega (arith, at.invariant.few, at.invariant.read.length_is); holds = omega (arith, at.invariant.room) }
 
 pub returns-clause-reads : goal.returns-clause-reads
 returns-clause-reads g c =
     let at = c.loop-record in
-    let none : into_iter_items at.record-iterator ≡ [] = nil_from_length _ (omega (arith, ap length at.invariant.all, length-append at.yielded (into_iter_items at.record-iterator), at.invariant.counted, c.in-None.ensures.steps.0)) in
-    let all : at.invariant.first ∷ at.yielded ≡ c.args.list.items = ap (λ xs. at.invariant.first ∷ xs) (sym (append-nil at.yielded)) ∙ ap (λ xs. at.invariant.first ∷ at.yielded ++ xs) (sym none) ∙ at.invariant.all in
+    let none : into_iter_items at.record-iterator ≡ [] = nil_from_length _
+            (omega (arith, ap length at.invariant.all, length-append at.yielded (into_iter_items at.record-iterator), at.invariant.counted,
+            c.in-None.ensures.steps.0)) in
+    let all : at.invariant.first ∷ at.yielded ≡ c.args.list.items = ap (λ xs. at.invariant.first ∷ xs) (sym (append-nil at.yielded))
+            ∙ ap (λ xs. at.invariant.first ∷ at.yielded ++ xs) (sym none) ∙ at.invariant.all in
     let accepted = subst (λ l. Accepts l 4294967295) c.deref.ensures.value (c.in_ok-check_slots.ensures.ok.0 refl) in
     let versions_fit = subst (λ l. AllFitBelow l (length l)) c.deref.ensures.value c.in_ok-check_slots.ensures.versions_fit in
     let read = rw all at at.invariant.read in

@@ -7,7 +7,8 @@ pub returns-in-Some-clause-step : goal.returns-in-Some-clause-step
 returns-in-Some-clause-step g c =
     let what = given_secondary g.K.Key.data_of g.L.Fn c.args.self.now.look in
     rw c.in-Get.is (
-      subst (λ (x : Option g.row.V.Denot). LooksAt what.looks x (Some c.look.result)) c.in-Some.ensures.value (record { shown = c.in-Some.value; shows = refl; says = record { met = c.look.ensures } }),
+      subst (λ (x : Option g.row.V.Denot). LooksAt what.looks x (Some c.look.result)) c.in-Some.ensures.value
+          (record { shown = c.in-Some.value; shows = refl; says = record { met = c.look.ensures } }),
       refl,
     )
 

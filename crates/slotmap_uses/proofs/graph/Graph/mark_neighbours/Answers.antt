@@ -38,11 +38,13 @@ loop-edge-preserved g c =
     let keeps = marked_keeps c.loop-edge.seen.pairs c.mark.new.seen.pairs e.to c.in_ok-mark.ensures.there c.mark.ensures.others in (
       finds_step c.args.self.now.nodes edges c.args.node c.args.seen.now.pairs c.args.found.now.items c.loop-edge.seen.pairs c.loop-edge.found.items c.loop-edge.invariant.0 ends x e there leads
           c.mark.new.seen.pairs c.mark.new.found.items c.in_ok-mark.ensures.listed c.in_ok-mark.ensures.behind c.in_ok-mark.ensures.there c.mark.ensures.others,
-      pending_step edges c.args.node items c.loop-edge.edge-index x e c.loop-edge.seen.pairs c.mark.new.seen.pairs c.loop-edge-test.true c.edge-item.is there c.in_ok-mark.ensures.there keeps c.loop-edge.invariant.1,
+      pending_step edges c.args.node items c.loop-edge.edge-index x e c.loop-edge.seen.pairs c.mark.new.seen.pairs c.loop-edge-test.true c.edge-item.is
+          there c.in_ok-mark.ensures.there keeps c.loop-edge.invariant.1,
     )
 
 pub returns-clause-finds : goal.returns-clause-finds
 returns-clause-finds g c = c.loop-edge.invariant.0
 
 pub returns-clause-next : goal.returns-clause-next
-returns-clause-next g c = pending_end c.args.self.now.edges.live c.args.node c.edges_from-edge-items.result.now c.loop-edge.edge-index c.loop-edge.seen.pairs c.loop-edge-test.false c.loop-edge.invariant.1
+returns-clause-next g c =
+    pending_end c.args.self.now.edges.live c.args.node c.edges_from-edge-items.result.now c.loop-edge.edge-index c.loop-edge.seen.pairs c.loop-edge-test.false c.loop-edge.invariant.1

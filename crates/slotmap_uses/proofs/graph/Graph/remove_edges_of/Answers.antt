@@ -15,7 +15,8 @@ pub loop-edge-preserved : goal.loop-edge-preserved
 loop-edge-preserved g c =
     let there = c.in-Some.ensures.some in
     let spent = of_some _ c.remove_edge.result (ap is_some (c.remove_edge.ensures.value ∙ there.1)) c.remove_edge.ensures.for_good in (
-      thinned_step c.args.node c.args.self.now.edges c.loop-edge.self.edges c.loop-edge.invariant.0 c.remove_edge.new.self.edges c.in-Some.edge there.0 there.1 there.2 c.remove_edge.ensures.removed spent c.remove_edge.ensures.gone,
+      thinned_step c.args.node c.args.self.now.edges c.loop-edge.self.edges c.loop-edge.invariant.0 c.remove_edge.new.self.edges c.in-Some.edge there.0
+          there.1 there.2 c.remove_edge.ensures.removed spent c.remove_edge.ensures.gone,
       c.remove_edge.ensures.nodes ∙ c.loop-edge.invariant.1,
     )
 

@@ -9,4 +9,5 @@ pub returns-clause-later : goal.returns-clause-later
 returns-clause-later g c now later = rw (← c.self.view_is) (first_later _ _ _ c.self.invariant _ c.in_ok-turn.ensures.least now later)
 
 pub returns-in_err-turn-clause-none : goal.returns-in_err-turn-clause-none
-returns-in_err-turn-clause-none g c = rw (← c.self.view_is) (for_none c.from_residual.result (none_queued _ _ _ c.self.invariant (none_counted _ c.first_key_value.result c.in_err-turn.was c.first_key_value.ensures.variant)))
+returns-in_err-turn-clause-none g c =
+    rw (← c.self.view_is) (for_none c.from_residual.result (none_queued _ _ _ c.self.invariant (none_counted _ c.first_key_value.result c.in_err-turn.was c.first_key_value.ensures.variant)))

@@ -7,4 +7,5 @@ pub returns : goal.returns
 returns g c = next_found _ _ _ _ c.args.cursor _ c.self.invariant (sym (rw c.in_ok-get.was at c.get.ensures.value)) ∙ ap (key_after c.args.cursor) (elements_are c.self.view_is)
 
 pub returns-in_err-get : goal.returns-in_err-get
-returns-in_err-get g c = rw c.from_residual.ensures (next_absent _ _ _ _ c.args.cursor c.self.invariant (sym (rw c.in_err-get.was at c.get.ensures.value)) ∙ ap (key_after c.args.cursor) (elements_are c.self.view_is))
+returns-in_err-get g c =
+    rw c.from_residual.ensures (next_absent _ _ _ _ c.args.cursor c.self.invariant (sym (rw c.in_err-get.was at c.get.ensures.value)) ∙ ap (key_after c.args.cursor) (elements_are c.self.view_is))
