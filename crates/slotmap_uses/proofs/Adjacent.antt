@@ -7,7 +7,7 @@ use Rattle.std.proofs.lemmas.List.Sorted.{sum_by-IsPermutation, IsPermutation-sw
 use Rattle.std.specs.FinMap as map
 use Rattle.std.proofs.lemmas.List.Sums.{sum_by-cons, sum_by_push}
 use Rattle.slotmap.specs.Words.{Key, key_cmp, same_keys}
-use Rattle.slotmap.proofs.Callers.{same_or_other, keys}
+use Rattle.slotmap.proofs.Callers.{get-insert_here, get-insert_other, same_or_other, keys}
 use Rattle.slotmap_uses.specs.declared.graph.Edge.{Edge}
 use Rattle.slotmap_uses.specs.GraphParts.{is_key, same, times, ends_at, ListsEdges}
 
@@ -52,10 +52,10 @@ module _ (end : Edge → Key) (edges : map.FinMap key_cmp Edge) (x : Key) (e : E
   ends_elsewhere k other = one_other (end e) k other
 
   at_inserted : (k : Key) → ends_at end k (map.get (map.insert edges x e) x) ≡ same (end e) k
-  at_inserted k = let is : map.get (map.insert edges x e) x ≡ Some e = grind (arith, keys) in ap (ends_at end k) is
+  at_inserted k = ap (ends_at end k) (get-insert_here edges x e)
 
   beside_inserted : (k y : Key) → y ≢ x → ends_at end k (map.get (map.insert edges x e) y) ≡ ends_at end k (map.get edges y)
-  beside_inserted k y other = let is : map.get (map.insert edges x e) y ≡ map.get edges y = grind (arith, keys) in ap (ends_at end k) is
+  beside_inserted k y other = ap (ends_at end k) (get-insert_other edges x e y other)
 
   at_removed : (k : Key) → ends_at end k (map.get (map.remove edges x) x) ≡ 0
   at_removed k = let is : map.get (map.remove edges x) x ≡ None = grind (arith, keys) in ap (ends_at end k) is

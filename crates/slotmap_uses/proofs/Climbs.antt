@@ -2,7 +2,7 @@
 use Rattle.std.proofs.Common.{◌≡◌, ◌≢◌, ℕ, zero, suc, ◌+◌, ◌≤◌, ◌<◌, ◌↔◌, true, Option, Some, None, Result, Ok, Err, IfOk, OnErr, is_some, refl, sym, ap, subst, ◌∙◌, inl, inr, arith}
 use Rattle.std.specs.FinMap as map
 use Rattle.slotmap.specs.Words.{Key}
-use Rattle.slotmap.proofs.Callers.{keys, same_or_other, keys_total, exact_keys, left_in, len_removed, some_entry}
+use Rattle.slotmap.proofs.Callers.{get-insert_here, get-insert_other, same_or_other, keys_total, exact_keys, left_in, len_removed, some_entry}
 use Rattle.slotmap_uses.specs.declared.scene.Node.{Node}
 use Rattle.slotmap_uses.specs.Climb.{Nodes, has_node, lacks_node, parent_in, parent_of, Leads, IsTree, StepsTo, IsWithin}
 
@@ -115,19 +115,14 @@ module _ {T : Type 0} where
     inserted_kept : (q : Key) → has_node nodes q → has_node (map.insert nodes k node) q × (parent_of (map.insert nodes k node) q ≡ parent_of nodes q)
     inserted_kept q there =
         let other : q ≢ k = λ same. (let h = sym (subst (has_node nodes) same there) ∙ fresh in cc) in
-        let is : map.get (map.insert nodes k node) q ≡ map.get nodes q = grind (arith, keys) in
+        let is = get-insert_other nodes k node q other in
         (ap is_some is ∙ there, ap parent_in is)
-
-    inserted_here : map.get (map.insert nodes k node) k ≡ Some node
-    inserted_here = grind (arith, keys)
 
     pub tree_root : IsTree nodes → node.parent ≡ None → IsTree (map.insert nodes k node)
     tree_root tree none q there = elim (same_or_other q k) [
-      | inl same ↦ (zero, rw same (ap is_some inserted_here, ap parent_in inserted_here ∙ none))
-      | inr other ↦ (let was : has_node nodes q = sym (ap is_some (the_other q other)) ∙ there in let up = tree q was in (up.0, leads_kept nodes (map.insert nodes k node) inserted_kept up.0 q up.1))
-    ] where
-      the_other : (q : Key) → q ≢ k → map.get (map.insert nodes k node) q ≡ map.get nodes q
-      the_other q other = grind (arith, keys)
+      | inl same ↦ (let here = get-insert_here nodes k node in (zero, rw same (ap is_some here, ap parent_in here ∙ none)))
+      | inr other ↦ (let was : has_node nodes q = sym (ap is_some (get-insert_other nodes k node q other)) ∙ there in let up = tree q was in (up.0, leads_kept nodes (map.insert nodes k node) inserted_kept up.0 q up.1))
+    ]
 
   -- what holds of the nodes still holds where a node was added, or nothing was done
   pub holds_after : {E : Type 0} (P : Nodes T → Type 0) (old new : Nodes T) (f : Key → Nodes T) (result : Result Key E)

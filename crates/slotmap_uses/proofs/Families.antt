@@ -3,7 +3,7 @@ use Rattle.std.proofs.Common.{◌≡◌, ◌≢◌, ℕ, zero, suc, ◌+◌, ◌
 use Rattle.std.specs.Prelude.{option_map}
 use Rattle.std.specs.FinMap as map
 use Rattle.slotmap.specs.Words.{Key}
-use Rattle.slotmap.proofs.Callers.{keys, same_or_other, keys_total, exact_keys}
+use Rattle.slotmap.proofs.Callers.{get-insert_here, get-insert_other, same_or_other, keys_total, exact_keys}
 use Rattle.slotmap_uses.specs.declared.scene.Node.{Node}
 use Rattle.slotmap_uses.specs.Climb.{Nodes, has_node, lacks_node, parent_in, parent_of, Leads, IsTree, IsWithin, with_parent, with_parent_in}
 use Rattle.slotmap_uses.specs.GraphParts.{same, times}
@@ -25,28 +25,22 @@ by_parent None p P here other = other (λ e. absurd (cc))
 by_parent (Some q) p P here other = elim (same_or_other q p) [ inl same ↦ here (ap Some same) | inr apart ↦ other (λ e. apart (cc)) ]
 
 module _ {T : Type 0} where
-  get_here : (nodes : Nodes T) (k : Key) (node : Node T) → map.get (map.insert nodes k node) k ≡ Some node
-  get_here nodes k node = grind (arith, keys)
-
-  get_there : (nodes : Nodes T) (k : Key) (node : Node T) (q : Key) → q ≢ k → map.get (map.insert nodes k node) q ≡ map.get nodes q
-  get_there nodes k node q other = grind (arith, keys)
-
   -- the same children are written again
   pub rewritten : (nodes : Nodes T) (p : Key) (node : Node T) → map.get nodes p ≡ Some node → (ks : List Key) → ks ≡ node.children → map.insert nodes p (record node { children = ks }) ≡ nodes
   rewritten nodes p node there ks same = map.same_map keys_total exact_keys (map.insert nodes p (record node { children = ks })) nodes (λ q. elim (same_or_other q p) [
-    | inl is ↦ rw is (get_here nodes p (record node { children = ks }) ∙ ap (λ l. Some (record node { children = l })) same ∙ sym there)
-    | inr other ↦ get_there nodes p (record node { children = ks }) q other
+    | inl is ↦ rw is (get-insert_here nodes p (record node { children = ks }) ∙ ap (λ l. Some (record node { children = l })) same ∙ sym there)
+    | inr other ↦ get-insert_other nodes p (record node { children = ks }) q other
   ])
 
   -- a node that gets another parent
   module _ (nodes : Nodes T) (k : Key) (parent : Option Key) where
     pub parented_other : (o : Option (Node T)) (q : Key) → q ≢ k → map.get (with_parent_in nodes k o parent) q ≡ map.get nodes q
     parented_other None q other = refl
-    parented_other (Some node) q other = get_there nodes k (record node { parent = parent }) q other
+    parented_other (Some node) q other = get-insert_other nodes k (record node { parent = parent }) q other
 
     pub parented_here : (o : Option (Node T)) → map.get nodes k ≡ o → map.get (with_parent_in nodes k o parent) k ≡ option_map (λ (n : Node T). record n { parent = parent }) o
     parented_here None is = is
-    parented_here (Some node) is = get_here nodes k (record node { parent = parent })
+    parented_here (Some node) is = get-insert_here nodes k (record node { parent = parent })
 
     kept_children : (o : Option (Node T)) → children_in (option_map (λ (n : Node T). record n { parent = parent }) o) ≡ children_in o
     kept_children None = refl
@@ -92,11 +86,11 @@ module _ {T : Type 0} where
 
     pub written_other : (o : Option (Node T)) (q : Key) → q ≢ p → map.get (with_children_in nodes p o f) q ≡ map.get nodes q
     written_other None q other = refl
-    written_other (Some node) q other = get_there nodes p (record node { children = f node.children }) q other
+    written_other (Some node) q other = get-insert_other nodes p (record node { children = f node.children }) q other
 
     pub written_here : (o : Option (Node T)) → map.get nodes p ≡ o → map.get (with_children_in nodes p o f) p ≡ option_map (λ (n : Node T). record n { children = f n.children }) o
     written_here None is = is
-    written_here (Some node) is = get_here nodes p (record node { children = f node.children })
+    written_here (Some node) is = get-insert_here nodes p (record node { children = f node.children })
 
     kept_parent : (o : Option (Node T)) → parent_in (option_map (λ (n : Node T). record n { children = f n.children }) o) ≡ parent_in o
     kept_parent None = refl
@@ -222,12 +216,12 @@ module _ {T : Type 0} where
     tree = tree_root nodes k (leaf v) fresh scene.tree refl;
     listed = listed_alike nodes (map.insert nodes k (leaf v))
         (λ q. elim (same_or_other q k) [
-          | inl is ↦ rw is (ap parent_in (get_here nodes k (leaf v)) ∙ sym (ap parent_in (none (map.get nodes k) fresh)))
-          | inr other ↦ ap parent_in (get_there nodes k (leaf v) q other)
+          | inl is ↦ rw is (ap parent_in (get-insert_here nodes k (leaf v)) ∙ sym (ap parent_in (none (map.get nodes k) fresh)))
+          | inr other ↦ ap parent_in (get-insert_other nodes k (leaf v) q other)
         ])
         (λ q. elim (same_or_other q k) [
-          | inl is ↦ rw is (ap children_in (get_here nodes k (leaf v)) ∙ sym (ap children_in (none (map.get nodes k) fresh)))
-          | inr other ↦ ap children_in (get_there nodes k (leaf v) q other)
+          | inl is ↦ rw is (ap children_in (get-insert_here nodes k (leaf v)) ∙ sym (ap children_in (none (map.get nodes k) fresh)))
+          | inr other ↦ ap children_in (get-insert_other nodes k (leaf v) q other)
         ]) scene.listed;
   }
     where

@@ -4,7 +4,7 @@ use Rattle.std.proofs.Common.{◌≡◌, ◌≢◌, ◌<◌, ◌+◌, true, fals
 use Rattle.std.specs.FinMap as map
 use Rattle.std.specs.declared.vec.Vec.{Vec}
 use Rattle.slotmap.specs.Words.{Key, key_cmp, Content, IsContent, IsLive, Inserts, Keeps, Pairs, IsBeside, get, remove}
-use Rattle.slotmap.proofs.Callers.{keys, same_or_other, get-put_live, get-put_other, beside_insert, beside_empty, beside_removed, live-remove_other,
+use Rattle.slotmap.proofs.Callers.{keys, get-insert_here, get-insert_other, same_or_other, get-put_live, get-put_other, beside_insert, beside_empty, beside_removed, live-remove_other,
     live-insert_still, removed_gone, get-remove_other, secondary}
 use Rattle.slotmap_uses.specs.declared.graph.Edge.{Edge}
 use Rattle.slotmap_uses.specs.GraphParts.{IsGraph, EndsLive, IsAdjacency, PutsAlone, list_in, listed, times, same, ends_at, is_key, from, to, touches}
@@ -66,9 +66,9 @@ module _ {N Z : Type 0} (nodes : Content N) (edges : map.FinMap key_cmp Edge) (o
       where
         ends_put : EndsLive nodes (map.insert edges x e)
         ends_put q y there = elim (same_or_other q x) [
-          | inl is ↦ (let here : map.get (map.insert edges x e) x ≡ Some e = grind (arith, keys) in
+          | inl is ↦ (let here = get-insert_here edges x e in
               let one : e ≡ y = (let f = rw is at there in cc) in (rw (← one) live_from, rw (← one) live_to))
-          | inr other ↦ graph.ends q y (let as_before : map.get (map.insert edges x e) q ≡ map.get edges q = grind (arith, keys) in sym as_before ∙ there)
+          | inr other ↦ graph.ends q y (sym (get-insert_other edges x e q other) ∙ there)
         ]
 
     -- an edge goes

@@ -3,7 +3,7 @@ use Rattle.std.proofs.Common.{◌≡◌, ◌≢◌, ℕ, zero, suc, ◌<◌, Opt
 use Rattle.std.specs.Prelude.{option_map}
 use Rattle.std.specs.FinMap as map
 use Rattle.slotmap.specs.Words.{Key}
-use Rattle.slotmap.proofs.Callers.{keys, same_or_other, keys_total, exact_keys, still_in, none_of}
+use Rattle.slotmap.proofs.Callers.{get-insert_here, same_or_other, keys_total, exact_keys, still_in, none_of}
 use Rattle.slotmap_uses.specs.declared.scene.Node.{Node}
 use Rattle.slotmap_uses.specs.Climb.{Nodes, has_node, lacks_node, parent_in, parent_of, StepsTo, IsWithin, with_parent, with_parent_in}
 use Rattle.slotmap_uses.specs.GraphParts.{times}
@@ -20,7 +20,7 @@ module _ {T : Type 0} where
     with_leaf = map.insert nodes k (leaf v)
 
     leaf_here : map.get with_leaf k ≡ Some (leaf v)
-    leaf_here = grind (arith, keys)
+    leaf_here = get-insert_here nodes k (leaf v)
 
     scene_with_leaf : IsScene with_leaf
     scene_with_leaf = scene_leaf nodes k v fresh scene

@@ -1,12 +1,12 @@
 -- What a fold of the values on the way up comes to.
-use Rattle.std.proofs.Common.{◌≡◌, ◌≢◌, ℕ, zero, suc, List, [], ◌∷◌, ◌++◌, append_assoc, Option, Some, None, IfSome, IfNone, is_some, option_map, true, refl, sym, ap, subst, ◌∙◌, arith}
+use Rattle.std.proofs.Common.{◌≡◌, ◌≢◌, ℕ, zero, suc, List, [], ◌∷◌, ◌++◌, append_assoc, Option, Some, None, IfSome, IfNone, is_some, option_map, true, refl, sym, ap, subst, ◌∙◌}
 use Rattle.std.specs.Fn.{Mut, Takes}
 use Rattle.std.specs.Borrow.{Bor}
 use Rattle.std.specs.List.{FoldsTo, fold}
 use Rattle.std.proofs.lemmas.Fn.{FoldsTo-push, chained_keeps}
 use Rattle.std.specs.FinMap as map
 use Rattle.slotmap.specs.Words.{Key}
-use Rattle.slotmap.proofs.Callers.{keys}
+use Rattle.slotmap.proofs.Callers.{get-insert_here, get-insert_other}
 use Rattle.slotmap_uses.specs.declared.scene.Node.{Node}
 use Rattle.slotmap_uses.specs.Climb.{Nodes, has_node, lacks_node, parent_of, parent_in, Leads, IsTree, IsWithin}
 use Rattle.slotmap_uses.specs.Family.{value_of, leaf, attached, detached}
@@ -228,17 +228,11 @@ module _ {T : Type 0} (nodes : Nodes T) (k : Key) (v : T) where
   abbrev added : Nodes T
   added = map.insert nodes k (leaf v)
 
-  added_here : map.get added k ≡ Some (leaf v)
-  added_here = grind (arith, keys)
-
-  added_other : (q : Key) → q ≢ k → map.get added q ≡ map.get nodes q
-  added_other q other = grind (arith, keys)
-
   pub world_added_root : (under : T → T → T) → IsWorld under added k v
-  world_added_root under = world_root added under k (leaf v) added_here refl
+  world_added_root under = world_root added under k (leaf v) (get-insert_here nodes k (leaf v)) refl
 
   pub world_added_child : lacks_node nodes k → (under : T → T → T) (p : Key) (w : T) → IsWorld under nodes p w → IsWorld under (attached added k p) k (under v w)
   world_added_child fresh under p w world =
-      let put = attached_parents added k p (ap is_some added_here) in
-      world_new nodes (attached added k p) k (λ q there other. value_attached added k p q ∙ ap (option_map (λ n. n.value)) (added_other q other))
-      (λ q there other. put.others q other ∙ ap parent_in (added_other q other)) under v p w (value_attached added k p k ∙ ap (option_map (λ n. n.value)) added_here) put.here world fresh
+      let put = attached_parents added k p (ap is_some (get-insert_here nodes k (leaf v))) in
+      world_new nodes (attached added k p) k (λ q there other. value_attached added k p q ∙ ap (option_map (λ n. n.value)) (get-insert_other nodes k (leaf v) q other))
+      (λ q there other. put.others q other ∙ ap parent_in (get-insert_other nodes k (leaf v) q other)) under v p w (value_attached added k p k ∙ ap (option_map (λ n. n.value)) (get-insert_here nodes k (leaf v))) put.here world fresh
