@@ -1,53 +1,16 @@
--- What a put into the slot of a key's index makes of the map.
-use Rattle.std.proofs.Common.{◌≡◌, ◌≢◌, ℕ, ◌+◌, ◌<◌, ◌≤◌, ◌^◌, max, Bool, true, false, cond, List, ◌∷◌, [], ◌++◌, length, set, slice_get, Option, None, Some, nat_eq, ne_eqb, eq-eqb, inl, inr, refl, sym, ap, subst, ◌∙◌, arith}
-use Rattle.std.proofs.lemmas.Bool.{cases_eq}
-use Rattle.std.proofs.lemmas.Option.{slice_get_within, same_Some}
+-- What a put after the last slot makes of the map.
+use Rattle.std.proofs.Common.{◌≡◌, ◌≢◌, ℕ, ◌+◌, ◌<◌, ◌≤◌, ◌^◌, max, Bool, true, false, cond, List, ◌∷◌, [], ◌++◌, length, set, slice_get, Option, None, Some, is_some, nat_eq, ne_eqb, eq-eqb, refl, sym, ap, subst, ◌∙◌, arith}
 use Rattle.std.proofs.lemmas.List.{length_push}
 use Rattle.std.specs.FinMap as map
 use Rattle.slotmap_core.specs.Key.{Key, IsKey, null_key}
-use Rattle.slotmap_core.specs.Secondary.{Pairs, no_entry, vacant, entry_at, value_at, has_entry, entry, get, bind, put}
-use Rattle.slotmap_core.proofs.SecondaryLemmas.{value_of, value_found, put_bound, put_nothing}
-use Rattle.slotmap_core.proofs.GatherLemmas.{slice_get_push, slice_get_push_other}
+use Rattle.slotmap_core.specs.Secondary.{Pairs, no_entry, occupied, vacant, entry_at, value_at, has_entry, entry, get, contains_key, bind, put}
+use Rattle.slotmap_core.proofs.SecondaryLemmas.{value_of, value_of_entry, put_bound, put_nothing}
 use Rattle.slotmap_secondary.specs.declared.slot.Slot.{Slot}
 use Rattle.slotmap_secondary.specs.declared.slot.Slot.TheVariants.{Occupied}
-use Rattle.slotmap_secondary.specs.Content.{Content, IsContent, reached}
-use Rattle.slotmap_secondary.specs.Slots.{pair_in, pairs_of, content_of, IsSound}
-use Rattle.slotmap_secondary.proofs.SlotLemmas.{found, content-write}
+use Rattle.slotmap_secondary.specs.Content.{Content, IsContent, reached, with_value}
+use Rattle.slotmap_secondary.specs.Slots.{pairs_of, content_of, IsSound}
+use Rattle.slotmap_secondary.proofs.SlotLemmas.{each-push}
 use Rattle.slotmap_secondary.proofs.StartLemmas.{pairs-push_key, count_key}
-
-module _ {V : Type 0} (slots : List (Slot V)) (len : ℕ) (sound : IsSound slots len) (k : Key) (s : Slot V) (there : slice_get slots k.index ≡ Some s) where
-  stood : map.get (pairs_of slots) k.index ≡ pair_in s
-  stood = found slots k k.index s refl there
-
-  not_null : nat_eq k.index null_key.index ≡ false
-  not_null = ne_eqb _ _ (λ e. omega (arith, slice_get_within slots k.index s there, sound.fits))
-
-  -- the key's entry is decided by the pair in its slot
-  entry_is : entry (pairs_of slots) k ≡ entry_at k.version (pair_in s)
-  entry_is = ap (λ b. cond b no_entry (entry_at k.version (map.get (pairs_of slots) k.index))) not_null ∙ ap (entry_at k.version) stood
-
-  pub value-stood : get (pairs_of slots) k ≡ value_at k.version (pair_in s)
-  value-stood = ap (value_at k.version) stood
-
-  -- a newer version is there
-  pub value-refused : entry_at k.version (pair_in s) ≡ no_entry → get (pairs_of slots) k ≡ None
-  value-refused none = value-stood ∙ sym (value_found k.version (pair_in s)) ∙ ap value_of none
-
-  pub put-refused : (x : V) → entry_at k.version (pair_in s) ≡ no_entry → put (pairs_of slots) k x ≡ pairs_of slots
-  put-refused x none = put_nothing (pairs_of slots) k x (ap has_entry (entry_is ∙ none))
-
-  -- no newer version is there, and the value is written
-  pub content-put : (x : V) (capacity : ℕ) → has_entry (entry_at k.version (pair_in s)) ≡ true → content_of (set slots k.index (Occupied k.version x)) capacity ≡ record (content_of slots capacity) { pairs = put (pairs_of slots) k x }
-  content-put x capacity has =
-      content-write slots capacity k s x there
-      ∙ ap (λ (m : Pairs V). record (content_of slots capacity) { pairs = m }) (sym (put_bound (pairs_of slots) k x (ap has_entry entry_is ∙ has)))
-
--- the value that was there under this version, or under another
-pub value-same : {V : Type 0} (v w : ℕ) (x : V) → w ≡ v → value_at v (Some (w, x)) ≡ Some x
-value-same v w x same = ap (λ b. cond b (Some x) None) (eq-eqb w v same)
-
-pub value-other : {V : Type 0} (v w : ℕ) (x : V) → (w ≡ v → ⊥) → value_at v (Some (w, x)) ≡ None
-value-other v w x other = ap (λ b. cond b (Some x) None) (ne_eqb w v other)
 
 module _ {V : Type 0} (slots : List (Slot V)) (len : ℕ) (sound : IsSound slots len) (k : Key) (x : V) (at : k.index ≡ length slots) where
   -- one more slot, with a key
@@ -55,13 +18,7 @@ module _ {V : Type 0} (slots : List (Slot V)) (len : ℕ) (sound : IsSound slots
   IsSound-append key fits = record {
     first = omega (arith, length_push slots (Occupied k.version x));
     fits = omega (arith, length_push slots (Occupied k.version x));
-    keys = λ i v y there. elim (cases_eq i (length slots)) [
-      | inl here ↦
-          let is : Occupied k.version x ≡ Occupied v y = same_Some _ _ (sym (slice_get_push slots (Occupied k.version x)) ∙ ap (slice_get (slots ++ Occupied k.version x ∷ [])) (sym here) ∙ there) in
-          let same : k.version ≡ v = cc in
-          subst (λ n. IsKey (record { index = i; version = n })) same (subst (λ n. IsKey (record { index = n; version = k.version })) (at ∙ sym here) key)
-      | inr other ↦ sound.keys i v y (sym (slice_get_push_other slots (Occupied k.version x) i other) ∙ there)
-    ];
+    each = each-push slots len sound (Occupied k.version x) (subst (λ n. IsKey (record { index = n; version = k.version })) at key);
     counted = ap (λ n. n + 1) sound.counted ∙ sym (count_key slots k.version x);
   }
 

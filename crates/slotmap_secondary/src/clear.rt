@@ -32,9 +32,7 @@ impl<K: Key, V: Drop> SecondaryMap<K, V> {
         ensures valid { IsContent self.new }
     {
         for index in start..self.place_count() {
-            if let Some(key) = self.key_at(index) {
-                self.take_live(key);
-            }
+            drop(self.take_at(index));
         }
     }
 }

@@ -1,12 +1,13 @@
 //! What the map holds at an index, and what a key finds there.
 
-ghost use Rattle.std.specs.Prelude.{◌≡◌, None, IfSome, IfNone, true};
+ghost use Rattle.std.specs.Prelude.{◌≡◌, ◌<◌, None, IfSome, IfNone, true};
 ghost use Rattle.std.specs.FinMap as map;
 ghost use Rattle.slotmap_core.specs.Secondary.{contains_key, entry};
 ghost use Rattle.slotmap_secondary.specs.Content.{IsContent};
 
 use crate::SecondaryMap;
-use slotmap_core::keys::{Key, KeyData, is_older_version};
+use crate::slot::Slot;
+use slotmap_core::keys::{Key, KeyData};
 
 // The null key's index.
 pub(crate) const NULL_INDEX: usize = 4294967295;
@@ -27,26 +28,24 @@ impl<K: Key, V: Drop> SecondaryMap<K, V> {
         ensures found { is_found result (entry self.now.pairs (K.data_of key)) }
         ensures valid { IsContent self.now }
     {
-        let key = key.data();
-        let index = key.idx() as usize;
-        if index == NULL_INDEX {
-            // Reads the map, for the clause `valid`.
-            let _ = &self.len;
-            return Found::No;
-        }
-        let Some(slot) = self.slots.get(index) else {
-            return Found::Vacant;
-        };
-        let Some(version) = slot.version() else {
-            return Found::Vacant;
-        };
-        if version == key.version() {
-            Found::Occupied
-        } else if is_older_version(key.version(), version) {
+        let index = key.data().idx() as usize;
+        if index < self.place_count() {
+            self.find_in(key)
+        } else if index == NULL_INDEX {
             Found::No
         } else {
             Found::Vacant
         }
+    }
+
+    // The same for a key whose slot exists.
+    pub(crate) fn find_in(&self, key: K) -> Found
+        requires { (K.data_of key).index < self.now.places }
+        ensures found { is_found result (entry self.now.pairs (K.data_of key)) }
+        ensures valid { IsContent self.now }
+    {
+        let key = key.data();
+        self.slots[key.idx() as usize].find(key.version())
     }
 
     // How many slots there are.
@@ -63,7 +62,9 @@ impl<K: Key, V: Drop> SecondaryMap<K, V> {
             (contains_key self.now.pairs (K.data_of key) ≡ true) × ((K.data_of key).index ≡ index)) }
         ensures none { IfNone result (map.get self.now.pairs index ≡ None) }
     {
-        let version = self.slots.get(index)?.version()?;
-        Some(K::from(KeyData::new(index as u32, version)))
+        match self.slots.get(index)? {
+            Slot::Vacant(_) => None,
+            Slot::Occupied(version, _) => Some(K::from(KeyData::new(index as u32, *version))),
+        }
     }
 }

@@ -140,7 +140,7 @@ impl<K: Key, V: Drop> SecondaryMap<K, V> {
             return Err(ReserveError::TooGreat);
         }
         let mut slots = Vec::with_capacity(alloc, capacity + 1)?;
-        slots.push_reserved(Slot::Vacant);
+        slots.push_reserved(Slot::Vacant(0));
         Ok(SecondaryMap {
             slots,
             len: 0,

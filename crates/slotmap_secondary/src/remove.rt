@@ -1,13 +1,17 @@
 //! The calls that remove one value.
 
-ghost use Rattle.std.specs.Prelude.{◌≡◌, Some, true};
+ghost use Rattle.std.specs.Prelude.{◌≡◌, ◌<◌, Some, true};
 ghost use Rattle.slotmap_core.specs.Secondary.{get, contains_key, remove};
 ghost use Rattle.slotmap_secondary.specs.Content.{IsContent};
 
 use crate::SecondaryMap;
-use slotmap_core::keys::Key;
+use crate::slot::Slot;
+use slotmap_core::keys::{Key, KeyData};
+use std::mem;
 
 impl<K: Key, V: Drop> SecondaryMap<K, V> {
+    ghost use Rattle.slotmap_secondary.specs.Drain.{TakesAt};
+
     /// Removes a key and returns its value, or `None` if the key isn't in the map.
     ///
     /// If it isn't, nothing changes. Takes constant time and allocates nothing. It frees nothing.
@@ -39,5 +43,20 @@ impl<K: Key, V: Drop> SecondaryMap<K, V> {
         let value = self.slots[index].take();
         self.len -= 1;
         value
+    }
+
+    // Removes the key at an index that has a slot, and returns it with its value.
+    pub(crate) fn take_at(&mut self, index: usize) -> Option<(K, V)>
+        requires { index < self.old.places }
+        ensures takes { TakesAt K.data_of self.old index result self.new }
+        ensures valid { IsContent self.new }
+    {
+        match mem::replace(&mut self.slots[index], Slot::Vacant(0)) {
+            Slot::Vacant(_) => None,
+            Slot::Occupied(version, value) => {
+                self.len -= 1;
+                Some((K::from(KeyData::new(index as u32, version)), value))
+            }
+        }
     }
 }
