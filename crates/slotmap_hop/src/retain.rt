@@ -1,17 +1,40 @@
 //! The calls that go over all live keys of a map, by ascending index, and skip vacant slots.
 
-ghost use Rattle.std.specs.Prelude.{◌≡◌, ◌++◌, OnOk, OnErr, List, map as list_map};
+ghost use Rattle.std.specs.Prelude.{◌≡◌, ◌++◌, IfSome, IfNone, OnOk, OnErr, List, map as list_map};
 ghost use Rattle.std.specs.FinMap as map;
 ghost use Rattle.slotmap_core.specs.Transition.{Leaves, FreesByIndex};
 ghost use Rattle.slotmap_core.specs.Retain.{RetainsBy, CallableOnEach};
 ghost use Rattle.slotmap_hop.specs.HopContent.{IsHopContent, IsNextLive, MayStand, StaysHop, blocks_without_all};
 ghost use Rattle.slotmap_hop.specs.Retain.{RetainsByIndex};
+ghost use Rattle.slotmap_hop.specs.Walk.{CanGoOn, FindsLive, FindsNone, ReadsOnTheWay, ReadsToTheEnd};
 
 use crate::HopSlotMap;
 use crate::counted::CountedSlots;
-use crate::iter::find_live;
+use crate::links::State;
 use slotmap_core::errors::OutOfMemory;
 use slotmap_core::keys::{Key, KeyData};
+
+// The first live slot from this one on: its index, its version and its value. The loops over a
+// map that changes find them here.
+fn find_live<'a, V>(counted: &mut CountedSlots<'a, V>, start: usize) -> Option<(usize, u32, &'a V)>
+    requires { CanGoOn counted.old.slots counted.old.reads start }
+    ensures found { IfSome result (λ r. FindsLive counted.old.slots start r.0 r.1 r.2.now) }
+    ensures none { IfNone result (FindsNone counted.old.slots start) }
+    ensures slots { counted.new.slots ≡ counted.old.slots }
+    ensures reads { IfSome result (λ r. ReadsOnTheWay counted.old.slots counted.old.reads start counted.new.reads r.0) }
+    ensures reads_none { IfNone result (ReadsToTheEnd counted.old.slots counted.old.reads start counted.new.reads) }
+{
+    let mut place = start;
+    while place < counted.len() {
+        let slot = counted.read(place);
+        match &slot.state {
+            State::Occupied(value) => return Some((place, slot.version, value)),
+            State::Free(links) => place = links.other_end as usize + 1,
+            State::UsedUp => place += 1,
+        }
+    }
+    None
+}
 
 impl<K: Key, V: Drop> HopSlotMap<K, V> {
     // Returns the live key with the smallest index from this one on.
