@@ -183,6 +183,15 @@ module _ {V : Type 0} (slots : List (Slot V)) (reads0 start : ℕ) where
           let vacant = sym (free_when slots place s links way_inside state) in
           omega (arith, (block_here slots place way.stands vacant).ordered, ap (λ (l : Links). l.other_end) (links_read slots place s links vacant state))
 
+      pub way_within : (links : Links) → s.state ≡ Free links → links.other_end < length slots
+      way_within links is =
+          let read : get_or slots place s ≡ s = get_or_from_slice_get slots place s s found in
+          let state : (get_or slots place s).state ≡ Free links = ap (λ (s : Slot V). s.state) read ∙ is in
+          let vacant = sym (free_when slots place s links way_inside state) in
+          let block = block_here slots place way.stands vacant in
+          let back = slot_within slots (end_at (layout slots) place) (block.inside (end_at (layout slots) place) block.ordered (omega arith)) in
+          omega (arith, back, ap (λ (l : Links). l.other_end) (links_read slots place s links vacant state))
+
       -- a retired place is passed
       pub way_passes : s.state ≡ UsedUp → OnTheWay (reads + 1) (place + 1)
       way_passes is =
