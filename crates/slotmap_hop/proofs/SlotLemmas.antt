@@ -482,6 +482,13 @@ module _ {V : Type 0} (slots : List (Slot V)) (vacant elems : ℕ) (sound : IsSo
       by [] on counted = absurd on
       by (v ∷ vs) on counted = omega arith
 
+  -- an insert adds a place just if none is vacant
+  pub none_offered : vacant ≡ 0 → next_place slots ≡ 0
+  none_offered none = elim (cases_lt 0 (next_place slots)) [ inl some ↦ absurd (omega (arith, counted_positive some)) | inr least ↦ omega arith ]
+
+  pub some_offered : vacant ≢ 0 → 0 < next_place slots
+  some_offered some = elim (cases_lt 0 (next_place slots)) [ inl back ↦ back | inr least ↦ absurd (some (none_left (omega arith))) ]
+
 -- setting a place doesn't change the number of slots
 pub same_length : {V : Type 0} (slots new : List (Slot V)) (i : ℕ) (p : Place V) → places_of new ≡ set (places_of slots) i p → length new ≡ length slots
 same_length slots new i p after = omega (arith, length-places slots, length-places new, ap length after, length-set (places_of slots) i p)

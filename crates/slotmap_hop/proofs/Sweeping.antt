@@ -154,6 +154,10 @@ module _ {K V : Type 0} (data_of : K → Key) where
       none true there = absurd (well.valid.used_or_vacant k (inl (inl is_live)) there)
       none false gone = gone
 
+  -- the index after a live key fits into a link
+  pub live_fits : (m : HopContent V) (k : Key) → IsHopContent m → IsLive m.content k → k.index + 1 < 2 ^ 32
+  live_fits m k well is_live = omega (arith, (well.valid.within k (inl (inl is_live))).1, well.valid.limit)
+
   pub left_less : (m : HopContent V) (k : K) (next : Option K) → IsHopContent m → IsLive m.content (data_of k) → IsNextLive data_of m.content ((data_of k).index + 1) next → indices_left data_of next < indices_left data_of (Some k)
   left_less m k None well is_live comes = omega (arith, (well.valid.keys (data_of k) (inl (inl is_live))).index_fits)
   left_less m k (Some q) well is_live comes = omega (arith, comes.1, (well.valid.keys (data_of k) (inl (inl is_live))).index_fits)
@@ -169,6 +173,12 @@ module _ {K V : Type 0} (data_of : K → Key) where
     comes_after new None less more comes = λ q there. comes q (less q there)
     comes_after new (Some n) less more comes =
         (more (data_of n) comes.0 (λ same. omega (arith, comes.1, ap (λ q. q.index) same)), comes.1, λ q there from. comes.2 q (less q there) from)
+
+    -- the next key after a write to the value of this one
+    pub comes_written : (w : V) (i' : ℕ) (next : Option K) → IsNextLive data_of (with_value now.content (data_of k) w) i' next → IsNextLive data_of now.content i' next
+    comes_written w i' None comes = λ q there. comes q (same_live now.content (data_of k) w sweep.comes.0 q ∙ there)
+    comes_written w i' (Some n) comes =
+        (sym (same_live now.content (data_of k) w sweep.comes.0 (data_of n)) ∙ comes.0, comes.1, λ q there from. comes.2 q (same_live now.content (data_of k) w sweep.comes.0 q ∙ there) from)
 
     -- the key is removed
     pub sweep_removed : (new : HopContent V) (next : Option K) → IsNextLive data_of now.content ((data_of k).index + 1) next → Removes now.content (data_of k) new.content → new.content.capacity ≡ now.content.capacity → IsHopContent new → Sweeping old new ((data_of k).index + 1) next

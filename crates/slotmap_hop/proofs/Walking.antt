@@ -1,7 +1,8 @@
 -- An iterator skips a block of vacant places in one step.
-use Rattle.std.proofs.Common.{◌≡◌, ◌≢◌, ℕ, zero, suc, ◌+◌, ◌-◌, ◌*◌, ◌<◌, ◌≤◌, ◌^◌, ◌%◌, true, List, [], ◌∷◌, ◌++◌, length, drop, get_or, set, slice_get, Some, refl, sym, ap, subst, ◌∙◌, arith}
+use Rattle.std.proofs.Common.{◌≡◌, ◌≢◌, ℕ, zero, suc, ◌+◌, ◌-◌, ◌*◌, ◌<◌, ◌≤◌, ◌^◌, ◌%◌, true, List, [], ◌∷◌, ◌++◌, length, drop, get_or, set, slice_get, Some, refl, sym, ap, subst, ◌∙◌, inl, inr, arith}
+use Rattle.std.proofs.lemmas.Bool.{cases_lt}
 use Rattle.std.proofs.lemmas.Option.{slice_get_within, get_or_from_slice_get}
-use Rattle.std.proofs.lemmas.List.{drop_more, drop_all, drop-set-lt, append_assoc, length-append}
+use Rattle.std.proofs.lemmas.List.{nil_from_length, drop_more, drop_all, drop-set-lt, append_assoc, length-append}
 use Rattle.std.proofs.lemmas.List.Elements.{All-nil, All-cons, All-push, All-weaker}
 use Rattle.std.specs.List.{All}
 use Rattle.std.specs.FinMap as map
@@ -125,6 +126,13 @@ module _ {V : Type 0} (slots : List (Slot V)) (reads0 start : ℕ) where
   pub way_ends : (reads place : ℕ) → OnTheWay reads place → length slots ≤ place → pairs_left slots start ≡ []
   way_ends reads place way past = way.same ∙ ap (at_list slots place) (drop_all place (places_of slots) (omega (arith, length-places slots)))
 
+  -- what is left lies ahead
+  pub way_inside : (reads place : ℕ) → OnTheWay reads place → 0 < length (pairs_left slots start) → place < length slots
+  way_inside reads place way some = elim (cases_lt place (length slots)) [
+    | inl inside ↦ inside
+    | inr past ↦ absurd (omega (arith, some, ap length (way_ends reads place way (omega arith))))
+  ]
+
   pub way_few : (reads place : ℕ) → OnTheWay reads place → reads ≤ reads0 + 2 * length (retired_left slots start) + 1
   way_few reads place way = omega (arith, way.few, ap length way.still, length-append way.gone (retired_left slots place))
 
@@ -175,6 +183,15 @@ module _ {V : Type 0} (slots : List (Slot V)) (reads0 start : ℕ) where
           let vacant = sym (free_when slots place s links way_inside state) in
           omega (arith, (block_here slots place way.stands vacant).ordered, ap (λ (l : Links). l.other_end) (links_read slots place s links vacant state))
 
+      pub way_within : (links : Links) → s.state ≡ Free links → links.other_end < length slots
+      way_within links is =
+          let read : get_or slots place s ≡ s = get_or_from_slice_get slots place s s found in
+          let state : (get_or slots place s).state ≡ Free links = ap (λ (s : Slot V). s.state) read ∙ is in
+          let vacant = sym (free_when slots place s links way_inside state) in
+          let block = block_here slots place way.stands vacant in
+          let back = slot_within slots (end_at (layout slots) place) (block.inside (end_at (layout slots) place) block.ordered (omega arith)) in
+          omega (arith, back, ap (λ (l : Links). l.other_end) (links_read slots place s links vacant state))
+
       -- a retired place is passed
       pub way_passes : s.state ≡ UsedUp → OnTheWay (reads + 1) (place + 1)
       way_passes is =
@@ -199,6 +216,24 @@ module _ {V : Type 0} (slots : List (Slot V)) (reads0 start : ℕ) where
             begun = omega (arith, way.begun);
             before = way.before;
           }
+
+      -- a slot of an odd version is live, and one of an even version isn't
+      pub way_odd : s.version % 2 ≡ 1 → (x : V) × (s.state ≡ Occupied x)
+      way_odd odd = by s.version s.state odd (place_at slots place s found)
+        where
+          by : (v : ℕ) (st : State V) → v % 2 ≡ 1 → slice_get (places_of slots) place ≡ Some (place_in v st) → (x : V) × (st ≡ Occupied x)
+          by v (Occupied value) odd at = (value, refl)
+          by v (Free links) odd at = absurd (omega (arith, odd, (way.stands.sound.stacked.versions place (Vacant (v + 1)) at).1))
+          by zero UsedUp odd at = absurd (omega (arith, odd))
+          by (suc v) UsedUp odd at = absurd (way.stands.sound.none_detached place (suc v) at)
+
+      pub way_used_up : s.version % 2 ≢ 1 → ((links : Links) → s.state ≢ Free links) → s.state ≡ UsedUp
+      way_used_up even other = by s.version s.state even other (place_at slots place s found)
+        where
+          by : (v : ℕ) (st : State V) → v % 2 ≢ 1 → ((links : Links) → st ≢ Free links) → slice_get (places_of slots) place ≡ Some (place_in v st) → st ≡ UsedUp
+          by v (Occupied value) even other at = absurd (even (way.stands.sound.stacked.versions place (Live v value) at).1)
+          by v (Free links) even other at = absurd (other links refl)
+          by v UsedUp even other at = refl
 
       -- a live place is what the search looks for
       pub way_finds : (x : V) → s.state ≡ Occupied x → ((k : Key) → map.contains_key (live (places_of slots)) k ≡ true → start ≤ k.index → place ≤ k.index) → FindsLive slots start place s.version x
@@ -249,6 +284,9 @@ module _ {V : Type 0} (slots : List (Slot V)) (reads place left : ℕ) (walk : I
   -- if something is left, it is found
   pub not_none : 0 < left → FindsNone slots place → ⊥
   not_none some finds = omega (arith, walk.counted, ap length finds.none)
+
+  pub left_none : left ≡ 0 → pairs_left slots place ≡ []
+  left_none none = nil_from_length (pairs_left slots place) (omega (arith, walk.counted))
 
   module _ (found version : ℕ) (value : V) (reads' : ℕ) (finds : FindsLive slots place found version value) (way : ReadsOnTheWay slots reads place reads' found) where
     pub found_inside : found < length slots

@@ -7,6 +7,7 @@ use Rattle.slotmap_core.specs.Key.{Key}
 use Rattle.slotmap_core.specs.Gather.{gather}
 use Rattle.slotmap_core.specs.Places.{Live, live, live_entry, retired_entry}
 use Rattle.slotmap_hop.specs.declared.links.Slot.{Slot}
+use Rattle.slotmap_hop.specs.declared.links.State.TheVariants.{Occupied}
 use Rattle.slotmap_hop.specs.Blocks.{Begins}
 use Rattle.slotmap_hop.specs.HopContent.{HopContent, ListsEntries}
 use Rattle.slotmap_hop.specs.Links.{vacant_at}
@@ -92,6 +93,19 @@ module _ {V : Type 0} where
     pub there : slice_get (places_of slots) found ≡ Some (Live version value)
     pub first : pairs_left slots place ≡ (record { index = found; version = version }, value) ∷ pairs_left slots (found + 1)
     pub least : (k : Key) → map.contains_key (live (places_of slots)) k ≡ true → place ≤ k.index → found ≤ k.index
+
+  -- the first live slot from `place` on is `found`; it is this slot
+  pub record FindsSlot (slots : List (Slot V)) (place found : ℕ) (slot : Slot V) : Type 0 where
+    pub value : V
+    pub is : slot.state ≡ Occupied value
+    pub finds : FindsLive slots place found slot.version value
+
+  -- a step to the next live key, whose slot is this one
+  pub record StepsOn (old new : Walking (Key × V)) (key : Key) (slot : Slot V) : Type 0 where
+    pub value : V
+    pub is : slot.state ≡ Occupied value
+    pub rest : old.rest ≡ (key, value) ∷ new.rest
+    pub reads : ReadsFew key.index old new
 
   -- the number of reads on the way from one place to the live slot that was found
   pub record ReadsOnTheWay (slots : List (Slot V)) (reads place reads' found : ℕ) : Type 0 where

@@ -47,7 +47,7 @@ impl<'a, K: Key, V: Drop> Iterator for Drain<'a, K, V> {
             return None;
         };
         // The key after this one is looked for first, because the removal may join blocks.
-        self.next = self.map.first_live(key.data().idx() as usize + 1);
+        self.next = self.map.first_live(key.data().idx() + 1);
         Some((key, self.map.take_live(key)))
     }
 

@@ -20,12 +20,12 @@ impl<K: Key, V: Drop> HopSlotMap<K, V> {
         requires { 0 < self.now.content.room }
         ensures { result ≡ self.now.content.offer }
     {
-        let front = links_at(self.slots.as_slice(), 0).next;
-        let back = links_at(self.slots.as_slice(), front).other_end;
-        if back == 0 {
-            return KeyData::new(self.slots.len() as u32, 1);
+        if self.vacant_count > 0 {
+            let front = links_at(self.slots.as_slice(), 0).next;
+            let back = links_at(self.slots.as_slice(), front).other_end;
+            return KeyData::new(back, self.slots[back as usize].version + 1);
         }
-        KeyData::new(back, self.slots[back as usize].version + 1)
+        KeyData::new(self.slots.len() as u32, 1)
     }
 
     // Whether the next insert allocates nothing.
@@ -60,9 +60,8 @@ impl<K: Key, V: Drop> HopSlotMap<K, V> {
         ensures valid { StaysHop self.old self.new }
     {
         self.live_count += 1;
-        let front = links_at(self.slots.as_slice(), 0).next;
-        let last = links_at(self.slots.as_slice(), front).other_end;
-        if last == 0 {
+        // The count tells that no slot is vacant, so a new slot is added without reading any links.
+        if self.vacant_count == 0 {
             let key = KeyData::new(self.slots.len() as u32, 1);
             self.slots.push_reserved(Slot {
                 version: 1,
@@ -71,8 +70,11 @@ impl<K: Key, V: Drop> HopSlotMap<K, V> {
             return key;
         }
         self.vacant_count -= 1;
+        let front = links_at(self.slots.as_slice(), 0).next;
+        let block = links_at(self.slots.as_slice(), front);
+        let last = block.other_end;
         let version = self.slots[last as usize].version + 1;
-        fill_back(self.slots.as_mut_slice(), front, last, version, value);
+        fill_back(self.slots.as_mut_slice(), front, block, version, value);
         KeyData::new(last, version)
     }
 

@@ -7,7 +7,7 @@ ghost use Rattle.slotmap_hop.specs.HopContent.{ListsEntries};
 use crate::HopSlotMap;
 use crate::clone::clone_slots;
 use crate::counted::CountedSlots;
-use crate::iter::find_live;
+use crate::iter::next_live;
 use crate::links::{Slot, links_at, use_up};
 use slotmap_core::keys::{Key, KeyData};
 use std::alloc::AllocError;
@@ -103,7 +103,8 @@ impl<K: Key, V: Drop> Iterator for IntoIter<K, V> {
             return None;
         }
         let mut counted = CountedSlots::new(self.slots.as_slice());
-        let (place, version, _) = find_live(&mut counted, self.place)?;
+        let (place, slot) = next_live(&mut counted, self.place);
+        let version = slot.version;
         self.left -= 1;
         self.place = place + 1;
         let key = K::from(KeyData::new(place as u32, version));

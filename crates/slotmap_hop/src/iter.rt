@@ -1,15 +1,15 @@
 //! Iterators over the keys and values of a map, by ascending index.
 
-ghost use Rattle.std.specs.Prelude.{◌≡◌, ◌≤◌, length, Some, IfSome, IfNone, ⊤};
+ghost use Rattle.std.specs.Prelude.{◌≡◌, ◌<◌, ◌≤◌, [], length, Some, IfSome, IfNone, ⊤};
 ghost use Rattle.std.specs.Iterator.{YieldsFirstBy, item_count, at_most, UpTo};
 ghost use Rattle.std.specs.FinMap as map;
 ghost use Rattle.slotmap_core.specs.Listing.{IsListing, IsKeyListing, IsValueListing};
 ghost use Rattle.slotmap_hop.specs.HopContent.{IsHopContent};
-ghost use Rattle.slotmap_hop.specs.Walk.{CanGoOn, FindsLive, FindsNone, ReadsOnTheWay, ReadsToTheEnd, CountsReads, CountsReadsSomewhere, ListsRetired, StartsIter};
+ghost use Rattle.slotmap_hop.specs.Walk.{pairs_left, CanGoOn, FindsSlot, StepsOn, ReadsOnTheWay, CountsReads, CountsReadsSomewhere, ListsRetired, StartsIter};
 
 use crate::HopSlotMap;
 use crate::counted::CountedSlots;
-use crate::links::{State, links_at};
+use crate::links::{Slot, State, links_at};
 use slotmap_core::keys::{Key, KeyData};
 use std::alloc::AllocError;
 use std::iter::FusedIterator;
@@ -45,29 +45,30 @@ impl<'a, K, V> Model for Iter<'a, K, V> {
     ghost invariant = { λ it. IsWalk it.counted.slots it.counted.reads it.place it.left };
 }
 
-// The first live slot from this one on: its index, its version and its value. All that goes over
-// live slots finds them here.
-pub(crate) fn find_live<'a, V>(
+// The next live slot from this one on, and its index. All iterators find their slots here. Since
+// there is one, no index is compared with the end. An odd version says that a slot is live.
+pub(crate) fn next_live<'a, V>(
     counted: &mut CountedSlots<'a, V>,
     start: usize,
-) -> Option<(usize, u32, &'a V)>
-    requires { CanGoOn counted.old.slots counted.old.reads start }
-    ensures found { IfSome result (λ r. FindsLive counted.old.slots start r.0 r.1 r.2.now) }
-    ensures none { IfNone result (FindsNone counted.old.slots start) }
+) -> (usize, &'a Slot<V>)
+    requires can { CanGoOn counted.old.slots counted.old.reads start }
+    requires some { 0 < length (pairs_left counted.old.slots start) }
+    ensures found { FindsSlot counted.old.slots start result.0 result.1.now }
     ensures slots { counted.new.slots ≡ counted.old.slots }
-    ensures reads { IfSome result (λ r. ReadsOnTheWay counted.old.slots counted.old.reads start counted.new.reads r.0) }
-    ensures reads_none { IfNone result (ReadsToTheEnd counted.old.slots counted.old.reads start counted.new.reads) }
+    ensures reads { ReadsOnTheWay counted.old.slots counted.old.reads start counted.new.reads result.0 }
 {
     let mut place = start;
-    while place < counted.len() {
+    loop {
         let slot = counted.read(place);
+        if slot.version % 2 == 1 {
+            return (place, slot);
+        }
         match &slot.state {
-            State::Occupied(value) => return Some((place, slot.version, value)),
             State::Free(links) => place = links.other_end as usize + 1,
-            State::UsedUp => place += 1,
+            _ => place += 1,
         }
     }
-    None
+    unreachable!()
 }
 
 impl<'a, K, V> Iter<'a, K, V> {
@@ -119,6 +120,24 @@ impl<'a, K, V> Clone for Iter<'a, K, V> {
     }
 }
 
+impl<'a, K: Key, V> Iter<'a, K, V> {
+    // The next live key, and its slot.
+    fn step(&mut self) -> Option<(K, &'a Slot<V>)>
+        ensures some { IfSome result (λ r. StepsOn self.old self.new (K.data_of r.0) r.1.now) }
+        ensures none { IfNone result (self.old.rest ≡ []) }
+        ensures unchanged { IfNone result (self.new ≡ self.old) }
+    {
+        if self.left == 0 {
+            return None;
+        }
+        let (place, slot) = next_live(&mut self.counted, self.place);
+        self.left -= 1;
+        self.place = place + 1;
+        let key = K::from(KeyData::new(place as u32, slot.version));
+        Some((key, slot))
+    }
+}
+
 impl<'a, K: Key, V> Iterator for Iter<'a, K, V> {
     type Item = (K, &'a V);
 
@@ -127,14 +146,11 @@ impl<'a, K: Key, V> Iterator for Iter<'a, K, V> {
     ghost remaining = { item_count (λ it. it.rest) };
 
     fn next(&mut self) -> Option<(K, &'a V)> {
-        if self.left == 0 {
-            return None;
+        let (key, slot) = self.step()?;
+        match &slot.state {
+            State::Occupied(value) => Some((key, value)),
+            _ => unreachable!(),
         }
-        let (place, version, value) = find_live(&mut self.counted, self.place)?;
-        self.left -= 1;
-        self.place = place + 1;
-        let key = K::from(KeyData::new(place as u32, version));
-        Some((key, value))
     }
 
     fn size_hint(&self) -> (usize, Option<usize>)
@@ -226,7 +242,7 @@ impl<'a, K: Key, V> Iterator for Keys<'a, K, V> {
     ghost remaining = { item_count (λ it. it.rest) };
 
     fn next(&mut self) -> Option<K> {
-        let (key, _) = self.pairs.next()?;
+        let (key, _) = self.pairs.step()?;
         Some(key)
     }
 

@@ -39,6 +39,7 @@ impl<K: Key, V: Drop> HopSlotMap<K, V> {
     }
 
     // Takes out the value of a live key, without checking that the key is live.
+    #[inline(always)]
     pub(crate) fn take_live(&mut self, key: K) -> V
         requires { IsLive self.old.content (K.data_of key) }
         ensures value { map.get self.old.content.live (K.data_of key) ≡ Some result }

@@ -1,28 +1,53 @@
 //! The calls that go over all live keys of a map, by ascending index, and skip vacant slots.
 
-ghost use Rattle.std.specs.Prelude.{◌≡◌, ◌++◌, OnOk, OnErr, List, map as list_map};
+ghost use Rattle.std.specs.Prelude.{◌≡◌, ◌++◌, IfSome, IfNone, OnOk, OnErr, List, map as list_map};
 ghost use Rattle.std.specs.FinMap as map;
 ghost use Rattle.slotmap_core.specs.Transition.{Leaves, FreesByIndex};
 ghost use Rattle.slotmap_core.specs.Retain.{RetainsBy, CallableOnEach};
 ghost use Rattle.slotmap_hop.specs.HopContent.{IsHopContent, IsNextLive, MayStand, StaysHop, blocks_without_all};
 ghost use Rattle.slotmap_hop.specs.Retain.{RetainsByIndex};
+ghost use Rattle.slotmap_hop.specs.Walk.{CanGoOn, FindsSlot, FindsNone, ReadsOnTheWay, ReadsToTheEnd};
 
 use crate::HopSlotMap;
 use crate::counted::CountedSlots;
-use crate::iter::find_live;
+use crate::links::{Slot, State};
 use slotmap_core::errors::OutOfMemory;
 use slotmap_core::keys::{Key, KeyData};
 
+// The first live slot from this one on, and its index. The loops over a map that changes find their
+// slots here. What is below a length of 32 bits isn't the null index, so no key is tested for that.
+fn find_live<'a, V>(counted: &mut CountedSlots<'a, V>, start: u32) -> Option<(u32, &'a Slot<V>)>
+    requires { CanGoOn counted.old.slots counted.old.reads start }
+    ensures found { IfSome result (λ r. FindsSlot counted.old.slots start r.0 r.1.now) }
+    ensures none { IfNone result (FindsNone counted.old.slots start) }
+    ensures slots { counted.new.slots ≡ counted.old.slots }
+    ensures reads { IfSome result (λ r. ReadsOnTheWay counted.old.slots counted.old.reads start counted.new.reads r.0) }
+    ensures reads_none { IfNone result (ReadsToTheEnd counted.old.slots counted.old.reads start counted.new.reads) }
+{
+    let mut place = start;
+    while place < counted.len() {
+        let slot = counted.read(place as usize);
+        if slot.version % 2 == 1 {
+            return Some((place, slot));
+        }
+        match &slot.state {
+            State::Free(links) => place = links.other_end + 1,
+            _ => place += 1,
+        }
+    }
+    None
+}
+
 impl<K: Key, V: Drop> HopSlotMap<K, V> {
     // Returns the live key with the smallest index from this one on.
-    pub(crate) fn first_live(&self, start: usize) -> Option<K>
+    pub(crate) fn first_live(&self, start: u32) -> Option<K>
         requires { MayStand self.now.content start }
         ensures comes { IsNextLive K.data_of self.now.content start result }
         ensures valid { IsHopContent self.now }
     {
         let mut counted = CountedSlots::new(self.slots.as_slice());
-        let (place, version, _) = find_live(&mut counted, start)?;
-        Some(K::from(KeyData::new(place as u32, version)))
+        let (place, slot) = find_live(&mut counted, start)?;
+        Some(K::from(KeyData::new(place, slot.version)))
     }
 
     /// Calls a closure once for each live key, and removes the keys for which it returns `false`.
@@ -48,9 +73,12 @@ impl<K: Key, V: Drop> HopSlotMap<K, V> {
     {
         let mut next = self.first_live(0);
         while let Some(key) = next {
-            // The key after this one is looked for first, because a removal may join blocks.
-            next = self.first_live(key.data().idx() as usize + 1);
-            if !f(key, self.get_unchecked_mut(key)) {
+            let index = key.data().idx();
+            if f(key, self.get_unchecked_mut(key)) {
+                next = self.first_live(index + 1);
+            } else {
+                // The key after this one is looked for first, because the removal may join blocks.
+                next = self.first_live(index + 1);
                 self.take_live(key);
             }
         }
@@ -75,7 +103,7 @@ impl<K: Key, V: Drop> HopSlotMap<K, V> {
     {
         let mut first = self.first_live(0);
         while let Some(key) = first {
-            first = self.first_live(key.data().idx() as usize + 1);
+            first = self.first_live(key.data().idx() + 1);
             self.take_live(key);
         }
     }
@@ -101,7 +129,7 @@ impl<K: Key, V: Drop> HopSlotMap<K, V> {
         let mut next = self.first_live(0);
         while let Some(key) = next {
             out.push_reserved(key);
-            next = self.first_live(key.data().idx() as usize + 1);
+            next = self.first_live(key.data().idx() + 1);
         }
         Ok(())
     }
@@ -131,7 +159,7 @@ impl<K: Key, V: Drop> HopSlotMap<K, V> {
         out.reserve(self.len())?;
         let mut next = self.first_live(0);
         while let Some(key) = next {
-            next = self.first_live(key.data().idx() as usize + 1);
+            next = self.first_live(key.data().idx() + 1);
             let value = self.take_live(key);
             out.push_reserved((key, value));
         }
