@@ -26,7 +26,9 @@ fn clone_slot<V: Clone>(slot: &Slot<V>) -> Result<Slot<V>, AllocError>
     })
 }
 
-// The same slots, with clones of their values.
+// The same slots, with clones of their values. The loop is compiled alone, so that it has all
+// registers.
+#[inline(never)]
 pub(crate) fn clone_slots<V: Clone>(slots: &Vec<Slot<V>>) -> Result<Vec<Slot<V>>, AllocError>
     requires { (x y : V) → V.is_clone x y → y ≡ x }
     ensures { IfOk result (λ copy. copy.items ≡ slots.now.items) }
