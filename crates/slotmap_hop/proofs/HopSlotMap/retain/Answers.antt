@@ -54,7 +54,9 @@ loop-next-preserved-then-not-stays g c =
     let key = g.K.Key.data_of c.in-Some.key in
     let sweep = subst (Sweeping g.K.Key.data_of old at.self at.invariant.index) c.in-Some.is at.invariant.sweep in
     let index : c.idx.result ≡ key.index = c.idx.ensures.value ∙ ap (λ k. k.index) c.data.ensures.value in
-    let comes = comes_written g.K.Key.data_of old at.self at.invariant.index c.in-Some.key sweep c.f-stays.new.arg3 (key.index + 1) c.first_live-next-in-Some.result (subst (λ i. IsNextLive g.K.Key.data_of (with_value at.self.content key c.f-stays.new.arg3) (i + 1) c.first_live-next-in-Some.result) index c.first_live-next-in-Some.ensures.comes) in
+    let next = c.first_live-next-in-Some.result in
+    let found = subst (λ i. IsNextLive g.K.Key.data_of (with_value at.self.content key c.f-stays.new.arg3) (i + 1) next) index c.first_live-next-in-Some.ensures.comes in
+    let comes = comes_written g.K.Key.data_of old at.self at.invariant.index c.in-Some.key sweep c.f-stays.new.arg3 (key.index + 1) next found in
     let visit : Visit g.row.K.Denot g.row.V.Denot = record { key = c.in-Some.key; before = c.get_unchecked_mut.result.now; after = c.f-stays.new.arg3; stays = c.f-stays.result } in
     let alone : (k q : Key) → IsLive old.content k → IsLive old.content q → q.index ≡ k.index → q ≡ k = λ k q is_live other same. well.valid.apart q k (inl (inl other)) (inl (inl is_live)) same in
     let visited = Visits-here g.K.Key.data_of old at.invariant.visits at.invariant.index c.in-Some.key at.self sweep.comes at.invariant.visited in
@@ -78,7 +80,9 @@ loop-next-preserved g c =
     let key = g.K.Key.data_of c.in-Some.key in
     let sweep = subst (Sweeping g.K.Key.data_of old at.self at.invariant.index) c.in-Some.is at.invariant.sweep in
     let index : c.idx.result ≡ key.index = c.idx.ensures.value ∙ ap (λ k. k.index) c.data.ensures.value in
-    let comes = comes_written g.K.Key.data_of old at.self at.invariant.index c.in-Some.key sweep c.f-stays.new.arg3 (key.index + 1) c.first_live-next-in-Some.result (subst (λ i. IsNextLive g.K.Key.data_of (with_value at.self.content key c.f-stays.new.arg3) (i + 1) c.first_live-next-in-Some.result) index c.first_live-next-in-Some.ensures.comes) in
+    let next = c.first_live-next-in-Some.result in
+    let found = subst (λ i. IsNextLive g.K.Key.data_of (with_value at.self.content key c.f-stays.new.arg3) (i + 1) next) index c.first_live-next-in-Some.ensures.comes in
+    let comes = comes_written g.K.Key.data_of old at.self at.invariant.index c.in-Some.key sweep c.f-stays.new.arg3 (key.index + 1) next found in
     let visit : Visit g.row.K.Denot g.row.V.Denot = record { key = c.in-Some.key; before = c.get_unchecked_mut.result.now; after = c.f-stays.new.arg3; stays = c.f-stays.result } in
     let alone : (k q : Key) → IsLive old.content k → IsLive old.content q → q.index ≡ k.index → q ≡ k = λ k q is_live other same. well.valid.apart q k (inl (inl other)) (inl (inl is_live)) same in
     let visited = Visits-here g.K.Key.data_of old at.invariant.visits at.invariant.index c.in-Some.key at.self sweep.comes at.invariant.visited in
