@@ -21,7 +21,7 @@ use Rattle.slotmap_core.proofs.KeyedVisits.{Keyed-jump, Keyed-done}
 use Rattle.slotmap_hop.specs.declared.links.Links.{Links}
 use Rattle.slotmap_hop.specs.declared.links.Slot.{Slot}
 use Rattle.slotmap_hop.specs.declared.links.State.{State}
-use Rattle.slotmap_hop.specs.declared.links.State.TheVariants.{Occupied, Free, UsedUp}
+use Rattle.slotmap_hop.specs.declared.links.State.TheVariants.{Free, UsedUp}
 use Rattle.slotmap_hop.specs.Blocks.{Begins}
 use Rattle.slotmap_hop.specs.Links.{vacant_at, end_at}
 use Rattle.slotmap_hop.specs.HopContent.{HopContent, IsHopContent, IsNextLive, MayStand, hop_with_value}
@@ -71,9 +71,6 @@ module _ {V : Type 0} (slots : List (Slot V)) (vacant elems : ℕ) (sound : IsSo
     names : (links : Links) → s.state ≡ Free links → links.other_end ≡ end_at (layout slots) place
     names links is = sym (ap (λ (l : Links). l.other_end) (links_read slots place s links (free_here links is) (ap (λ (s : Slot V). s.state) read ∙ is)))
 
-    pub passed-ahead : (links : Links) → s.state ≡ Free links → place ≤ links.other_end
-    passed-ahead links is = omega (arith, names links is, (block_here slots place stands (free_here links is)).ordered)
-
     pub passed-block : (links : Links) → s.state ≡ Free links → Passed slots start (links.other_end + 1)
     passed-block links is =
         let block = block_here slots place stands (free_here links is) in
@@ -107,9 +104,6 @@ module _ {V : Type 0} (slots : List (Slot V)) (vacant elems : ℕ) (sound : IsSo
         not_live : (v u : ℕ) (x : V) → place_in v UsedUp ≡ Live u x → ⊥
         not_live zero u x e = absurd (cc)
         not_live (suc v) u x e = absurd (cc)
-
-    pub found_live : (x : V) → s.state ≡ Occupied x → slice_get (places_of slots) place ≡ Some (Live s.version x)
-    found_live x is = here (Occupied x) is
 
   -- after all places no key is live
   pub passed-all : (place : ℕ) → Passed slots start place → length slots ≤ place → (q : Key) → map.contains_key (live (places_of slots)) q ≡ true → q.index < start

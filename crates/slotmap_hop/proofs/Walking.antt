@@ -21,7 +21,7 @@ use Rattle.slotmap_hop.specs.declared.links.State.TheVariants.{Occupied, Free, U
 use Rattle.slotmap_hop.specs.Blocks.{Begins, IsBlock}
 use Rattle.slotmap_hop.specs.Links.{vacant_at, end_at, fronts_of}
 use Rattle.slotmap_hop.specs.Slots.{place_in, layout, places_of, hop_content, IsSound}
-use Rattle.slotmap_hop.specs.Walk.{pairs_left, retired_left, StandsAt, IsWalk, CanGoOn, FindsLive, FindsNone, ReadsOnTheWay, ListsRetired}
+use Rattle.slotmap_hop.specs.Walk.{pairs_left, retired_left, StandsAt, IsWalk, CanGoOn, FindsLive, ReadsOnTheWay, ListsRetired}
 use Rattle.slotmap_hop.proofs.BlockLemmas.{clash, back_of}
 use Rattle.slotmap_hop.proofs.Circle.{bounded_by_length, circle_block}
 use Rattle.slotmap_hop.proofs.Vacating.{zero_in_circle}
@@ -280,10 +280,6 @@ module _ {V : Type 0} where
 module _ {V : Type 0} (slots : List (Slot V)) (reads place left : ℕ) (walk : IsWalk slots reads place left) where
   pub can_go_on : CanGoOn slots reads place
   can_go_on = record { stands = walk.stands; passed = walk.passed }
-
-  -- if something is left, it is found
-  pub not_none : 0 < left → FindsNone slots place → ⊥
-  not_none some finds = omega (arith, walk.counted, ap length finds.none)
 
   pub left_none : left ≡ 0 → pairs_left slots place ≡ []
   left_none none = nil_from_length (pairs_left slots place) (omega (arith, walk.counted))

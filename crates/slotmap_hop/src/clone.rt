@@ -26,14 +26,15 @@ fn clone_slot<V: Clone>(slot: &Slot<V>) -> Result<Slot<V>, AllocError>
     })
 }
 
-// The same slots, with clones of their values.
+// The same slots, with clones of their values. The address of a slice stays in a register.
 pub(crate) fn clone_slots<V: Clone>(slots: &Vec<Slot<V>>) -> Result<Vec<Slot<V>>, AllocError>
     requires { (x y : V) → V.is_clone x y → y ≡ x }
     ensures { IfOk result (λ copy. copy.items ≡ slots.now.items) }
 {
     let mut copy = Vec::with_capacity(*slots.allocator(), slots.len())?;
-    for index in 0..slots.len() {
-        copy.push_reserved(clone_slot(&slots[index])?);
+    let from = slots.as_slice();
+    for index in 0..from.len() {
+        copy.push_reserved(clone_slot(&from[index])?);
     }
     Ok(copy)
 }

@@ -38,7 +38,7 @@ impl<K: Key, V: Drop> HopSlotMap<K, V> {
         }
     }
 
-    // Takes out the value of a live key, without checking that the key is live.
+    // Takes out the value of a live key, without checking that the key is live. Inlined, as in Rust.
     #[inline(always)]
     pub(crate) fn take_live(&mut self, key: K) -> V
         requires { IsLive self.old.content (K.data_of key) }

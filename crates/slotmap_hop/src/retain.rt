@@ -73,12 +73,10 @@ impl<K: Key, V: Drop> HopSlotMap<K, V> {
     {
         let mut next = self.first_live(0);
         while let Some(key) = next {
-            let index = key.data().idx();
-            if f(key, self.get_unchecked_mut(key)) {
-                next = self.first_live(index + 1);
-            } else {
-                // The key after this one is looked for first, because the removal may join blocks.
-                next = self.first_live(index + 1);
+            let stays = f(key, self.get_unchecked_mut(key));
+            // The key after this one is looked for first, because a removal may join blocks.
+            next = self.first_live(key.data().idx() + 1);
+            if !stays {
                 self.take_live(key);
             }
         }

@@ -79,7 +79,8 @@ links_at-block-requires g c =
 
 pub fill_back-requires-clause-positive : goal.fill_back-requires-clause-positive
 fill_back-requires-clause-positive g c =
-    let read : c.links_at-block.result.other_end ≡ next_place c.self.inside.slots.items = read_back (layout c.self.inside.slots.items) _ _ _ _ (ap layout c.as_slice.ensures.value) (ap layout c.as_slice-2.ensures.value) c.links_at-front.ensures c.links_at-block.ensures in
+    let slots = c.self.inside.slots.items in
+    let read : c.links_at-block.result.other_end ≡ next_place slots = read_back (layout slots) _ _ _ _ (ap layout c.as_slice.ensures.value) (ap layout c.as_slice-2.ensures.value) c.links_at-front.ensures c.links_at-block.ensures in
     omega (arith, read, some_offered _ _ _ c.self.invariant c.if-self-eq0.false)
 
 pub invariant_of-self-2 : goal.invariant_of-self-2

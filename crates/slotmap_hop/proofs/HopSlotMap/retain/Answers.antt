@@ -14,7 +14,7 @@ use Rattle.slotmap_core.proofs.KeyedVisits.{Keyed-from_start, Keyed-at, Keyed-sa
 use Rattle.slotmap_hop.specs.HopContent.{IsNextLive, blocks_without_all, hop_with_value}
 use Rattle.slotmap_hop.specs.Retain.{dropped}
 use Rattle.slotmap_hop.proofs.BlocksLeft.{InOrder-kept, InOrder-dropped}
-use Rattle.slotmap_hop.proofs.Sweeping.{Sweeping, sweep_starts, comes_written, live_fits, sweep_written, sweep_dropped, Visits-here, Visits-end}
+use Rattle.slotmap_hop.proofs.Sweeping.{Sweeping, sweep_starts, comes_written, sweep_written, sweep_dropped, Visits-here, Visits-end}
 use Rattle.slotmap_hop.proofs.HopSlotMap.retain.Goals as goal
 
 pub loop-next-init : goal.loop-next-init
@@ -29,8 +29,8 @@ loop-next-init g c =
       in_order = record { ascending = ap (λ m. map.entries m) (sym (from_index-start c.args.self.now.content.live)); blocks = λ ks. refl };
     }
 
-pub f-requires : goal.f-requires
-f-requires g c =
+pub f-stays-requires : goal.f-stays-requires
+f-stays-requires g c =
     let at = c.loop-next in
     let key = g.K.Key.data_of c.in-Some.key in
     let old = c.args.self.now.content.live in
@@ -44,29 +44,32 @@ take_live-requires g c =
     let at = c.loop-next in
     let key = g.K.Key.data_of c.in-Some.key in
     let sweep = subst (Sweeping g.K.Key.data_of c.args.self.now at.self at.invariant.index) c.in-Some.is at.invariant.sweep in
-    same_live at.self.content key c.f.new.arg3 sweep.comes.0 key ∙ sweep.comes.0
+    same_live at.self.content key c.f-stays.new.arg3 sweep.comes.0 key ∙ sweep.comes.0
 
-pub loop-next-preserved-then-f : goal.loop-next-preserved-then-f
-loop-next-preserved-then-f g c =
+pub loop-next-preserved-then-not-stays : goal.loop-next-preserved-then-not-stays
+loop-next-preserved-then-not-stays g c =
     let at = c.loop-next in
     let old = c.args.self.now in
     let well = c.first_live-next.ensures.valid in
     let key = g.K.Key.data_of c.in-Some.key in
     let sweep = subst (Sweeping g.K.Key.data_of old at.self at.invariant.index) c.in-Some.is at.invariant.sweep in
-    let index : c.idx-index.result ≡ key.index = c.idx-index.ensures.value ∙ ap (λ k. k.index) c.data.ensures.value in
-    let comes = comes_written g.K.Key.data_of old at.self at.invariant.index c.in-Some.key sweep c.f.new.arg3 (key.index + 1) c.first_live-next-then-f.result (subst (λ i. IsNextLive g.K.Key.data_of (with_value at.self.content key c.f.new.arg3) (i + 1) c.first_live-next-then-f.result) index c.first_live-next-then-f.ensures.comes) in
-    let visit : Visit g.row.K.Denot g.row.V.Denot = record { key = c.in-Some.key; before = c.get_unchecked_mut.result.now; after = c.f.new.arg3; stays = c.f.result } in
+    let index : c.idx.result ≡ key.index = c.idx.ensures.value ∙ ap (λ k. k.index) c.data.ensures.value in
+    let next = c.first_live-next-in-Some.result in
+    let found = subst (λ i. IsNextLive g.K.Key.data_of (with_value at.self.content key c.f-stays.new.arg3) (i + 1) next) index c.first_live-next-in-Some.ensures.comes in
+    let comes = comes_written g.K.Key.data_of old at.self at.invariant.index c.in-Some.key sweep c.f-stays.new.arg3 (key.index + 1) next found in
+    let visit : Visit g.row.K.Denot g.row.V.Denot = record { key = c.in-Some.key; before = c.get_unchecked_mut.result.now; after = c.f-stays.new.arg3; stays = c.f-stays.result } in
     let alone : (k q : Key) → IsLive old.content k → IsLive old.content q → q.index ≡ k.index → q ≡ k = λ k q is_live other same. well.valid.apart q k (inl (inl other)) (inl (inl is_live)) same in
     let visited = Visits-here g.K.Key.data_of old at.invariant.visits at.invariant.index c.in-Some.key at.self sweep.comes at.invariant.visited in
-    let live : map.insert at.self.content.live key visit.after ≡ cond visit.stays (map.insert at.self.content.live key visit.after) (map.remove at.self.content.live key) =
-    ap (λ b. cond b (map.insert at.self.content.live key visit.after) (map.remove at.self.content.live key)) (sym c.if-f.true) in
+    let live : c.take_live.new.self.content.live ≡ cond visit.stays (map.insert at.self.content.live key visit.after) (map.remove at.self.content.live key) =
+    c.take_live.ensures.removes.live ∙ remove-insert at.self.content.live key visit.after
+    ∙ ap (λ b. cond b (map.insert at.self.content.live key visit.after) (map.remove at.self.content.live key)) (sym c.if-not-stays.true) in
     record {
       index = key.index + 1;
-      sweep = sweep_written g.K.Key.data_of old at.self at.invariant.index c.in-Some.key sweep visit.after c.first_live-next-then-f.result comes;
+      sweep = sweep_dropped g.K.Key.data_of old at.self at.invariant.index c.in-Some.key sweep visit.after c.take_live.new.self c.first_live-next-in-Some.result comes c.take_live.ensures.removes c.take_live.ensures.valid.capacity c.take_live.ensures.valid.after;
       visits = at.invariant.visits ++ visit ∷ [];
-      calls = FoldsTo-push (CallsAt g.F.FnMut) c.args.f at.invariant.visits at.f visit c.f.new.self at.invariant.calls (CallsAt-called g.F.FnMut c.f.ensures);
+      calls = FoldsTo-push (CallsAt g.F.FnMut) c.args.f at.invariant.visits at.f visit c.f-stays.new.self at.invariant.calls (CallsAt-called g.F.FnMut c.f-stays.ensures);
       visited = rw live (Keyed-at g.K.Key.data_of old.content.live alone at.invariant.visits key.index at.self.content.live visit visited refl c.get_unchecked_mut.ensures.value);
-      in_order = InOrder-kept g.K.Key.data_of old at.self at.invariant.visits at.invariant.index at.invariant.in_order well at.invariant.visited visit sweep.comes c.get_unchecked_mut.ensures.value (hop_with_value at.self key visit.after) c.if-f.true refl refl;
+      in_order = InOrder-dropped g.K.Key.data_of old at.self at.invariant.visits at.invariant.index at.invariant.in_order well at.invariant.visited visit sweep.comes c.get_unchecked_mut.ensures.value (hop_with_value at.self key visit.after) c.take_live.new.self c.if-not-stays.true refl refl c.take_live.ensures.removes c.take_live.ensures.blocks;
     }
 
 pub loop-next-preserved : goal.loop-next-preserved
@@ -76,21 +79,22 @@ loop-next-preserved g c =
     let well = c.first_live-next.ensures.valid in
     let key = g.K.Key.data_of c.in-Some.key in
     let sweep = subst (Sweeping g.K.Key.data_of old at.self at.invariant.index) c.in-Some.is at.invariant.sweep in
-    let index : c.idx-index.result ≡ key.index = c.idx-index.ensures.value ∙ ap (λ k. k.index) c.data.ensures.value in
-    let comes = comes_written g.K.Key.data_of old at.self at.invariant.index c.in-Some.key sweep c.f.new.arg3 (key.index + 1) c.first_live-next-else-f.result (subst (λ i. IsNextLive g.K.Key.data_of (with_value at.self.content key c.f.new.arg3) (i + 1) c.first_live-next-else-f.result) index c.first_live-next-else-f.ensures.comes) in
-    let visit : Visit g.row.K.Denot g.row.V.Denot = record { key = c.in-Some.key; before = c.get_unchecked_mut.result.now; after = c.f.new.arg3; stays = c.f.result } in
+    let index : c.idx.result ≡ key.index = c.idx.ensures.value ∙ ap (λ k. k.index) c.data.ensures.value in
+    let next = c.first_live-next-in-Some.result in
+    let found = subst (λ i. IsNextLive g.K.Key.data_of (with_value at.self.content key c.f-stays.new.arg3) (i + 1) next) index c.first_live-next-in-Some.ensures.comes in
+    let comes = comes_written g.K.Key.data_of old at.self at.invariant.index c.in-Some.key sweep c.f-stays.new.arg3 (key.index + 1) next found in
+    let visit : Visit g.row.K.Denot g.row.V.Denot = record { key = c.in-Some.key; before = c.get_unchecked_mut.result.now; after = c.f-stays.new.arg3; stays = c.f-stays.result } in
     let alone : (k q : Key) → IsLive old.content k → IsLive old.content q → q.index ≡ k.index → q ≡ k = λ k q is_live other same. well.valid.apart q k (inl (inl other)) (inl (inl is_live)) same in
     let visited = Visits-here g.K.Key.data_of old at.invariant.visits at.invariant.index c.in-Some.key at.self sweep.comes at.invariant.visited in
-    let live : c.take_live.new.self.content.live ≡ cond visit.stays (map.insert at.self.content.live key visit.after) (map.remove at.self.content.live key) =
-    c.take_live.ensures.removes.live ∙ remove-insert at.self.content.live key visit.after
-    ∙ ap (λ b. cond b (map.insert at.self.content.live key visit.after) (map.remove at.self.content.live key)) (sym c.if-f.false) in
+    let live : map.insert at.self.content.live key visit.after ≡ cond visit.stays (map.insert at.self.content.live key visit.after) (map.remove at.self.content.live key) =
+    ap (λ b. cond b (map.insert at.self.content.live key visit.after) (map.remove at.self.content.live key)) (sym c.if-not-stays.false) in
     record {
       index = key.index + 1;
-      sweep = sweep_dropped g.K.Key.data_of old at.self at.invariant.index c.in-Some.key sweep visit.after c.take_live.new.self c.first_live-next-else-f.result comes c.take_live.ensures.removes c.take_live.ensures.valid.capacity c.take_live.ensures.valid.after;
+      sweep = sweep_written g.K.Key.data_of old at.self at.invariant.index c.in-Some.key sweep visit.after c.first_live-next-in-Some.result comes;
       visits = at.invariant.visits ++ visit ∷ [];
-      calls = FoldsTo-push (CallsAt g.F.FnMut) c.args.f at.invariant.visits at.f visit c.f.new.self at.invariant.calls (CallsAt-called g.F.FnMut c.f.ensures);
+      calls = FoldsTo-push (CallsAt g.F.FnMut) c.args.f at.invariant.visits at.f visit c.f-stays.new.self at.invariant.calls (CallsAt-called g.F.FnMut c.f-stays.ensures);
       visited = rw live (Keyed-at g.K.Key.data_of old.content.live alone at.invariant.visits key.index at.self.content.live visit visited refl c.get_unchecked_mut.ensures.value);
-      in_order = InOrder-dropped g.K.Key.data_of old at.self at.invariant.visits at.invariant.index at.invariant.in_order well at.invariant.visited visit sweep.comes c.get_unchecked_mut.ensures.value (hop_with_value at.self key visit.after) c.take_live.new.self c.if-f.false refl refl c.take_live.ensures.removes c.take_live.ensures.blocks;
+      in_order = InOrder-kept g.K.Key.data_of old at.self at.invariant.visits at.invariant.index at.invariant.in_order well at.invariant.visited visit sweep.comes c.get_unchecked_mut.ensures.value (hop_with_value at.self key visit.after) c.if-not-stays.false refl refl;
     }
 
 pub returns-clause-retained : goal.returns-clause-retained
