@@ -1,13 +1,12 @@
 -- What a put after the last slot makes of the map.
-use Rattle.std.proofs.Common.{◌≡◌, ◌≢◌, ℕ, ◌+◌, ◌<◌, ◌≤◌, ◌^◌, max, Bool, true, false, cond, List, ◌∷◌, [], ◌++◌, length, set, slice_get, Option, None, Some, is_some, nat_eq, ne_eqb, eq-eqb, refl, sym, ap, subst, ◌∙◌, arith}
+use Rattle.std.proofs.Common.{◌≡◌, ◌≢◌, ℕ, ◌+◌, ◌<◌, ◌≤◌, ◌^◌, max, Bool, true, false, cond, List, ◌∷◌, [], ◌++◌, length, Option, None, Some, ne_eqb, eq-eqb, refl, sym, ap, subst, ◌∙◌, arith}
 use Rattle.std.proofs.lemmas.List.{length_push}
 use Rattle.std.specs.FinMap as map
 use Rattle.slotmap_core.specs.Key.{Key, IsKey, null_key}
-use Rattle.slotmap_core.specs.Secondary.{Pairs, no_entry, occupied, vacant, entry_at, value_at, has_entry, entry, get, contains_key, bind, put}
-use Rattle.slotmap_core.proofs.SecondaryLemmas.{value_of, value_of_entry, put_bound, put_nothing}
+use Rattle.slotmap_core.specs.Secondary.{no_entry, vacant, entry_at, value_at, has_entry, entry, get, bind}
 use Rattle.slotmap_secondary.specs.declared.slot.Slot.{Slot}
 use Rattle.slotmap_secondary.specs.declared.slot.Slot.TheVariants.{Occupied}
-use Rattle.slotmap_secondary.specs.Content.{Content, IsContent, reached, with_value}
+use Rattle.slotmap_secondary.specs.Content.{Content, IsContent, reached}
 use Rattle.slotmap_secondary.specs.Slots.{pairs_of, content_of, IsSound}
 use Rattle.slotmap_secondary.proofs.SlotLemmas.{each-push}
 use Rattle.slotmap_secondary.proofs.StartLemmas.{pairs-push_key, count_key}

@@ -25,7 +25,8 @@ impl<K: Key, V: Drop> SecondaryMap<K, V> {
         ensures removes { self.new ≡ record self.old { pairs = remove self.old.pairs (K.data_of key) } }
         ensures valid { IsContent self.new }
     {
-        if self.contains_key(key) {
+        // `get` tests what kind of slot it is, and `take_live` then needs no test.
+        if self.get(key).is_some() {
             Some(self.take_live(key))
         } else {
             None

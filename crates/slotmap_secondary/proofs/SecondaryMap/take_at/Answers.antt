@@ -3,7 +3,7 @@ use Rattle.std.proofs.lemmas.List.{set-get_or, length-set}
 use Rattle.slotmap_core.specs.Key.{Key}
 use Rattle.slotmap_core.specs.Secondary.{get}
 use Rattle.slotmap_core.proofs.KeyLemmas.{key_from-odd}
-use Rattle.slotmap_secondary.specs.declared.slot.Slot.TheVariants.{Vacant, Occupied}
+use Rattle.slotmap_secondary.specs.declared.slot.Slot.TheVariants.{Vacant}
 use Rattle.slotmap_secondary.proofs.SlotLemmas.{IsSound-clear, content-clear, some_left, valid}
 use Rattle.slotmap_secondary.proofs.ReadLemmas.{there_read, nothing-here, key-here}
 use Rattle.slotmap_secondary.proofs.SecondaryMap.take_at.Goals as goal
