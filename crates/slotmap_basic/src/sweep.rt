@@ -34,9 +34,9 @@ impl<K: Key, V: Drop> SlotMap<K, V> {
         ensures valid { StaysValid true self.old self.new }
     {
         self.slots.note_valid();
-        let mut index = 0;
-        while let Some(key) = self.live_from(index) {
-            index = key.data().idx() as usize + 1;
+        let mut index: u32 = 0;
+        while let Some(key) = self.live_from(index as usize) {
+            index = key.data().idx() + 1;
             if !f(key, self.get_unchecked_mut(key)) {
                 self.take_live(key);
             }

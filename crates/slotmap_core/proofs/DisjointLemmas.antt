@@ -1,5 +1,5 @@
 -- Several live keys get new values, one after another: what SeveralLemmas needs of a content.
-use Rattle.std.proofs.Common.{◌≡◌, [], ◌∷◌, List, refl, sym}
+use Rattle.std.proofs.Common.{◌≡◌, ◌∷◌, List, refl, sym}
 use Rattle.slotmap_core.specs.Key.{Key}
 use Rattle.slotmap_core.specs.Content.{Content}
 use Rattle.slotmap_core.specs.Transition.{with_value}

@@ -1,12 +1,8 @@
 -- A vector of rows as slots. No public clause cites this module.
-use Rattle.std.specs.Prelude.{ℕ, ◌-◌, ◌^◌, ◌%◌, ◌==◌, if◌then◌else◌, List, map as list_map, Option, Some, None}
+use Rattle.std.specs.Prelude.{ℕ, ◌%◌, ◌==◌, if◌then◌else◌, List, map as list_map, Option, Some, None}
 use Rattle.slotmap_core.specs.Slot.{Slot}
 use Rattle.slotmap_core.specs.Numbers.{link_of}
 use Rattle.slotmap_core.specs.declared.layout.rows.Row.{Row}
-
--- so many slots are counted as fitting, at most
-abbrev pub most_rows : ℕ
-most_rows = 2 ^ 32 - 1
 
 abbrev pub payload_of : ℕ → ℕ → Option ℕ
 payload_of version number = if version % 2 == 1 then Some number else None

@@ -28,10 +28,7 @@ impl<K: Key, V: Drop> DenseSlotMap<K, V> {
     {
         let key = self.keys.pop()?;
         self.slots.take(key.data());
-        match self.values.pop() {
-            Some(value) => Some((key, value)),
-            None => unreachable!(),
-        }
+        Some((key, self.values.take_last()))
     }
 
     // The key at a position of the packed order.

@@ -5,6 +5,7 @@ ghost use Rattle.slotmap_core.specs.Columns.{AllEven, zip_slots};
 ghost use Rattle.slotmap_core.specs.declared.layout.Link.{Link as LinkOf};
 
 use super::numbers::{link_for, number_for};
+use super::sure::{sure, sure_mut};
 use super::{CopyLayout, Layout, Link};
 use std::alloc::{AllocError, Global};
 use std::marker::Model;
@@ -81,7 +82,9 @@ pub(crate) fn next_odd(versions: &[u32], start: usize) -> usize
     search_odd(versions, start)
 }
 
-// Returns the same, where the version at `start` is mostly even.
+// Returns the same, where the version at `start` is mostly even. It looks no further than the next
+// block, and the call at its end is a jump, so nothing is saved and restored.
+#[cold]
 #[inline(never)]
 fn search_odd(versions: &[u32], start: usize) -> usize
     requires { start ≤ length versions.now }
@@ -91,6 +94,28 @@ fn search_odd(versions: &[u32], start: usize) -> usize
     ensures odd { (v : ℕ) → slice_get versions.now result ≡ Some v → v % 2 ≡ 1 }
 {
     let mut index = start;
+    while index < versions.len() {
+        if versions[index] % 2 == 1 {
+            return index;
+        }
+        index += 1;
+        if index % BLOCK == 0 {
+            return search_blocks(versions, index);
+        }
+    }
+    index
+}
+
+// Returns the same, where a block begins at `start`.
+#[inline(never)]
+fn search_blocks(versions: &[u32], start: usize) -> usize
+    requires { start ≤ length versions.now }
+    ensures on { start ≤ result }
+    ensures within { result ≤ length versions.now }
+    ensures passed { AllEven versions.now start result }
+    ensures odd { (v : ℕ) → slice_get versions.now result ≡ Some v → v % 2 ≡ 1 }
+{
+    let mut index = skip_even(versions, start);
     while index < versions.len() {
         if versions[index] % 2 == 1 {
             return index;
@@ -222,18 +247,18 @@ impl<P> Layout<P> for Columns<P> {
     }
 
     fn payload(&self, index: usize) -> &P {
-        self.payloads[index].as_ref().unwrap()
+        sure(self.payloads[index].as_ref())
     }
 
     fn payload_mut(&mut self, index: usize) -> &mut P {
-        self.payloads[index].as_mut().unwrap()
+        sure_mut(&mut self.payloads[index])
     }
 
     fn take(&mut self, index: usize, version: u32, link: Link) -> P {
-        let payload = self.payloads[index].take().unwrap();
+        // The version first: a look-up before has read it, and read where it lies.
         self.versions[index] = version;
         self.numbers[index] = number_for(link);
-        payload
+        sure(self.payloads[index].take())
     }
 
     fn put(&mut self, index: usize, version: u32, payload: P)

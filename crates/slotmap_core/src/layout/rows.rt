@@ -23,20 +23,33 @@ struct Row {
 #[derive(Drop)]
 pub struct Rows {
     rows: Vec<Row>,
+    // This many slots fit.
+    capacity: usize,
 }
 
 impl Model for Rows {
-    ghost use Rattle.std.specs.Prelude.{ℕ, min, vec_capacity};
+    ghost use Rattle.std.specs.Prelude.{◌<◌, ◌≤◌, ◌^◌, ℕ, vec_capacity};
     ghost use Rattle.slotmap_core.specs.Slot.{Laid};
-    ghost use Rattle.slotmap_core.specs.Rows.{slots_of, most_rows};
+    ghost use Rattle.slotmap_core.specs.Rows.{slots_of};
 
     ghost Value = { Laid ℕ };
 
-    ghost view = { λ m. record { slots = slots_of m.rows.items; capacity = min (vec_capacity m.rows) most_rows } };
+    ghost view = { λ m. record { slots = slots_of m.rows.items; capacity = m.capacity } };
+
+    ghost invariant = { λ m. (m.capacity < 2 ^ 32) × (m.capacity ≤ vec_capacity m.rows) };
 }
 
 // At most this many slots are counted as fitting.
 const LIMIT: usize = 4294967295;
+
+// Returns how many slots are counted as fitting.
+fn room(rows: &Vec<Row>) -> usize
+    ensures limit { result < 2 ^ 32 }
+    ensures fits { result ≤ vec_capacity rows.now }
+    ensures greatest { (n : ℕ) → n < 2 ^ 32 → n ≤ vec_capacity rows.now → n ≤ result }
+{
+    rows.capacity().min(LIMIT)
+}
 
 // Returns a row with no payload.
 #[inline(always)]
@@ -89,9 +102,9 @@ impl Layout<u32> for Rows {
     ghost with_payload_at = { λ m i p. record m { slots = with_payload m.slots i p } };
 
     fn with_capacity(alloc: Global, count: usize) -> Result<Self, AllocError> {
-        Ok(Rows {
-            rows: Vec::with_capacity(alloc, count)?,
-        })
+        let rows = Vec::with_capacity(alloc, count)?;
+        let capacity = room(&rows);
+        Ok(Rows { rows, capacity })
     }
 
     fn allocator(&self) -> Global {
@@ -103,11 +116,13 @@ impl Layout<u32> for Rows {
     }
 
     fn capacity(&self) -> usize {
-        self.rows.capacity().min(LIMIT)
+        self.capacity
     }
 
     fn reserve(&mut self, additional: usize) -> Result<(), AllocError> {
-        self.rows.reserve(additional)
+        self.rows.reserve(additional)?;
+        self.capacity = room(&self.rows);
+        Ok(())
     }
 
     fn find_version(&self, index: usize) -> Option<u32> {
@@ -171,8 +186,8 @@ impl Layout<u32> for Rows {
 #[tactic(auto, using(crate::proofs::RowLemmas::laid))]
 impl CopyLayout<u32> for Rows {
     fn copy(&self) -> Result<Self, AllocError> {
-        Ok(Rows {
-            rows: Vec::from_slice(self.allocator(), &self.rows)?,
-        })
+        let rows = Vec::from_slice(self.allocator(), &self.rows)?;
+        let capacity = room(&rows);
+        Ok(Rows { rows, capacity })
     }
 }

@@ -19,9 +19,8 @@ impl<P, L: Layout<P>> Slots<P, L> {
         ensures absent { IfNone result (map.contains_key self.now.live key ≡ false) }
         ensures valid { IsContent true self.now }
     {
-        let index = key.idx() as usize;
-        if self.layout.find_version(index)? == key.version() {
-            Some(index)
+        if self.contains_key(key) {
+            Some(key.idx() as usize)
         } else {
             None
         }
@@ -32,7 +31,11 @@ impl<P, L: Layout<P>> Slots<P, L> {
         ensures value { result ≡ map.contains_key self.now.live key }
         ensures valid { IsContent true self.now }
     {
-        self.live_index(key).is_some()
+        let index = key.idx() as usize;
+        if index >= self.layout.len() {
+            return false;
+        }
+        self.layout.version(index) == key.version()
     }
 
     /// Returns the payload of a live key, or `None` if the key isn't live.
@@ -63,6 +66,27 @@ impl<P, L: Layout<P>> Slots<P, L> {
         self.layout.payload_mut(key.idx() as usize)
     }
 
+    // Returns index and version of the live key with the smallest index from `start` on, as numbers:
+    // a key that comes from two places is packed into one register, and taken apart again.
+    #[inline(always)]
+    fn live_slot(&self, start: usize) -> Option<(usize, u32)>
+        ensures live { IfSome result (λ at. IsLive self.now (record { index = at.0; version = at.1 }) × (start ≤ at.0)) }
+        ensures first { IfSome result (λ at. (other : Key) → IsLive self.now other → start ≤ other.index → at.0 ≤ other.index) }
+        ensures none { IfNone result ((other : Key) → IsLive self.now other → other.index < start) }
+        ensures valid { IsContent true self.now }
+    {
+        if start >= self.layout.len() {
+            return None;
+        }
+        let version = self.layout.version(start);
+        if version % 2 == 1 {
+            return Some((start, version));
+        }
+        let index = self.layout.next_live(start);
+        let version = self.layout.find_version(index)?;
+        Some((index, version))
+    }
+
     /// Returns the live key with the smallest index from `start` on.
     #[inline(always)]
     pub fn live_from(&self, start: usize) -> Option<KeyData>
@@ -71,11 +95,7 @@ impl<P, L: Layout<P>> Slots<P, L> {
         ensures none { IfNone result ((other : Key) → IsLive self.now other → other.index < start) }
         ensures valid { IsContent true self.now }
     {
-        if start >= self.layout.len() {
-            return None;
-        }
-        let index = self.layout.next_live(start);
-        let version = self.layout.find_version(index)?;
+        let (index, version) = self.live_slot(start)?;
         Some(KeyData::exact(index as u32, version))
     }
 }

@@ -6,7 +6,7 @@ ghost use Rattle.std.specs.FinMap as map;
 
 use super::Slots;
 use crate::keys::KeyData;
-use crate::layout::{Columns, next_odd, version_in};
+use crate::layout::{Columns, next_odd, sure, version_in};
 use std::alloc::AllocError;
 use std::marker::Model;
 
@@ -75,7 +75,7 @@ impl<'a, P> Iterator for SlotIter<'a, P> {
         self.left -= 1;
         let version = version_in(self.versions, index);
         let key = KeyData::exact(index as u32, version);
-        let payload = self.payloads[index].as_ref().unwrap();
+        let payload = sure(self.payloads[index].as_ref());
         Some((key, payload))
     }
 
@@ -152,7 +152,7 @@ impl<P: Drop> Iterator for SlotIntoIter<P> {
         self.left -= 1;
         let version = self.versions[index];
         let key = KeyData::exact(index as u32, version);
-        let payload = self.payloads[index].take().unwrap();
+        let payload = sure(self.payloads[index].take());
         Some((key, payload))
     }
 

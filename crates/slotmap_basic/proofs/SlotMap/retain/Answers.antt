@@ -48,7 +48,7 @@ loop-key-preserved-then-not-f g c =
     removes.live ∙ remove-insert at.self.live key visit.after ∙ ap (λ b. cond b (map.insert at.self.live key visit.after) (map.remove at.self.live key)) (sym c.if-not-f.true) in
     let alone : (k q : Key) → IsLive old k → IsLive old q → q.index ≡ k.index → q ≡ k = λ k q is_live other same. at.invariant.well.apart q k (inl (inl other)) (inl (inl is_live)) same in
     let visited = Keyed-next g.K.Key.data_of old.live alone at.invariant.visits at.index at.self.live visit at.invariant.visited found.1 c.in-Some.ensures.first c.get_unchecked_mut.ensures.value in
-    rw (c.idx.ensures.value, c.data.ensures.value) (record {
+    rw (c.idx-index.ensures.value, c.data.ensures.value) (record {
       well = at.invariant.well;
       swept = Swept-removed old (with_value at.self key visit.after) c.take_live.new.self key.index key written still refl removes valid.capacity valid.after;
       visits = at.invariant.visits ++ visit ∷ [];
@@ -68,7 +68,7 @@ loop-key-preserved g c =
     ap (λ b. cond b (map.insert at.self.live key visit.after) (map.remove at.self.live key)) (sym c.if-not-f.false) in
     let alone : (k q : Key) → IsLive old k → IsLive old q → q.index ≡ k.index → q ≡ k = λ k q is_live other same. at.invariant.well.apart q k (inl (inl other)) (inl (inl is_live)) same in
     let visited = Keyed-next g.K.Key.data_of old.live alone at.invariant.visits at.index at.self.live visit at.invariant.visited found.1 c.in-Some.ensures.first c.get_unchecked_mut.ensures.value in
-    rw (c.idx.ensures.value, c.data.ensures.value) (record {
+    rw (c.idx-index.ensures.value, c.data.ensures.value) (record {
       well = at.invariant.well;
       swept = Swept-on old (with_value at.self key visit.after) key.index written;
       visits = at.invariant.visits ++ visit ∷ [];

@@ -1,9 +1,7 @@
 use Rattle.std.proofs.Common.{sym, inl, arith}
-use Rattle.slotmap_core.specs.Content.{IsLive}
 use Rattle.slotmap_core.proofs.ListLemmas.{if_none}
-use Rattle.slotmap_core.proofs.PlacesLemmas.{key}
 use Rattle.slotmap_core.proofs.HeldLemmas.{held_valid, held_places, held_live, held_passed, held_ended}
-use Rattle.slotmap_core.proofs.slots.Slots.live_from.Goals as goal
+use Rattle.slotmap_core.proofs.slots.Slots.live_slot.Goals as goal
 
 pub returns-then-start-len-clause-none : goal.returns-then-start-len-clause-none
 returns-then-start-len-clause-none g c = λ other live.
@@ -12,6 +10,12 @@ returns-then-start-len-clause-none g c = λ other live.
 pub returns-then-start-len-clause-valid : goal.returns-then-start-len-clause-valid
 returns-then-start-len-clause-valid g c = held_valid _ _ _ _ _ c.self.invariant c.self.view_is
 
+pub returns-then-version-eq1-clause-live : goal.returns-then-version-eq1-clause-live
+returns-then-version-eq1-clause-live g c = (held_live _ _ _ _ _ c.self.invariant c.self.view_is _ _ c.version-version.ensures c.if-version-eq1.true, omega arith)
+
+pub returns-then-version-eq1-clause-valid : goal.returns-then-version-eq1-clause-valid
+returns-then-version-eq1-clause-valid g c = held_valid _ _ _ _ _ c.self.invariant c.self.view_is
+
 pub returns-in_err-version-clause-none : goal.returns-in_err-version-clause-none
 returns-in_err-version-clause-none g c =
     if_none _ (held_ended _ _ _ _ _ c.self.invariant c.self.view_is c.args.start c.next_live-index.result c.next_live-index.ensures.passed (sym c.in_err-version.ensures))
@@ -19,20 +23,14 @@ returns-in_err-version-clause-none g c =
 pub returns-in_err-version-clause-valid : goal.returns-in_err-version-clause-valid
 returns-in_err-version-clause-valid g c = held_valid _ _ _ _ _ c.self.invariant c.self.view_is
 
-pub exact-requires : goal.exact-requires
-exact-requires g c =
-    let read = sym c.in_ok-version.ensures in
-    let live : IsLive c.args.self.now (key c.next_live-index.result c.in_ok-version.version) = held_live _ _ _ _ _ c.self.invariant c.self.view_is _ _ read (c.next_live-index.ensures.odd _ read) in
-    (held_valid _ _ _ _ _ c.self.invariant c.self.view_is).keys _ (inl (inl live))
-
 pub returns-clause-live : goal.returns-clause-live
 returns-clause-live g c =
     let read = sym c.in_ok-version.ensures in
-    rw c.exact.ensures (held_live _ _ _ _ _ c.self.invariant c.self.view_is _ _ read (c.next_live-index.ensures.odd _ read), c.next_live-index.ensures.on)
+    (held_live _ _ _ _ _ c.self.invariant c.self.view_is _ _ read (c.next_live-index.ensures.odd _ read), c.next_live-index.ensures.on)
 
 pub returns-clause-first : goal.returns-clause-first
 returns-clause-first g c =
-    rw c.exact.ensures (λ other live from. held_passed _ _ _ _ _ c.self.invariant c.self.view_is c.args.start c.next_live-index.result c.next_live-index.ensures.passed other live from)
+    λ other live from. held_passed _ _ _ _ _ c.self.invariant c.self.view_is c.args.start c.next_live-index.result c.next_live-index.ensures.passed other live from
 
 pub returns-clause-valid : goal.returns-clause-valid
 returns-clause-valid g c = held_valid _ _ _ _ _ c.self.invariant c.self.view_is

@@ -1,0 +1,11 @@
+use Rattle.std.proofs.Common.{length, ap, ◌∙◌, arith}
+use Rattle.std.proofs.lemmas.List.{length-map}
+use Rattle.slotmap_core.specs.Rows.{slot_of, slots_of}
+use Rattle.slotmap_core.proofs.layout.rows.RowsCopyLayoutU32.copy.Goals as goal
+
+pub returns-clause-room : goal.returns-clause-room
+returns-clause-room c =
+    let rows = c.in_ok-rows.rows in
+    let same = ap (λ rs. length (slots_of rs)) (c.in_ok-rows.ensures.items ∙ c.deref.ensures.value) ∙ ap (λ l. length l.slots) c.self.view_is in
+    c.room-capacity.ensures.greatest (length (slots_of rows.items)) (omega (arith, same, c.requires.few))
+    (omega (arith, length-map rows.items slot_of, rows.ok.0, rows.ok.1))
