@@ -25,7 +25,8 @@ module _ {K V : Type 0} (data_of : K → Key) (slots : Content ℕ) (keys : Vec 
     held' = dense_of slots' (list_map data_of keys'.items) values'.items (min (vec_capacity keys') (vec_capacity values'))
 
     -- the capacities stay
-    pub stays-valid : IsSound slots' (list_map data_of keys'.items) values'.items → slots'.capacity ≡ slots.capacity → vec_capacity keys' ≡ vec_capacity keys → vec_capacity values' ≡ vec_capacity values → StaysValid held held'
+    pub stays-valid : IsSound slots' (list_map data_of keys'.items) values'.items → slots'.capacity ≡ slots.capacity
+        → vec_capacity keys' ≡ vec_capacity keys → vec_capacity values' ≡ vec_capacity values → StaysValid held held'
     stays-valid sound' slots_same keys_same values_same = record {
       before = dense_valid data_of slots keys values sound;
       after = dense_valid data_of slots' keys' values' sound';
@@ -33,7 +34,8 @@ module _ {K V : Type 0} (data_of : K → Key) (slots : Content ℕ) (keys : Vec 
     }
 
     -- a call that succeeded, with one pair more
-    pub may-grow : (refused : Type 0) → (refused → ⊥) → IsSound slots' (list_map data_of keys'.items) values'.items → slots.capacity ≤ slots'.capacity → vec_capacity keys ≤ vec_capacity keys' → vec_capacity values ≤ vec_capacity values' → MayGrow held refused held'
+    pub may-grow : (refused : Type 0) → (refused → ⊥) → IsSound slots' (list_map data_of keys'.items) values'.items → slots.capacity ≤ slots'.capacity
+        → vec_capacity keys ≤ vec_capacity keys' → vec_capacity values ≤ vec_capacity values' → MayGrow held refused held'
     may-grow refused never sound' slots_more keys_more values_more = record {
       before = dense_valid data_of slots keys values sound;
       after = dense_valid data_of slots' keys' values' sound';
@@ -43,20 +45,26 @@ module _ {K V : Type 0} (data_of : K → Key) (slots : Content ℕ) (keys : Vec 
     }
 
     -- a call that failed: the vectors may have more room, and nothing else changed
-    pub refused-grow : (refused : Type 0) → slots' ≡ slots → keys'.items ≡ keys.items → values'.items ≡ values.items → vec_capacity keys ≤ vec_capacity keys' → vec_capacity values ≤ vec_capacity values' → MayGrow held refused held'
+    pub refused-grow : (refused : Type 0) → slots' ≡ slots → keys'.items ≡ keys.items → values'.items ≡ values.items
+        → vec_capacity keys ≤ vec_capacity keys' → vec_capacity values ≤ vec_capacity values' → MayGrow held refused held'
     refused-grow refused slots_same keys_same values_same keys_more values_more = record {
       before = dense_valid data_of slots keys values sound;
       after = dense_valid data_of slots' keys' values' (rw (slots_same, keys_same, values_same) sound);
       capacity = omega (arith, ap (λ c. c.capacity) slots_same);
-      unchanged = λ _. keeps-over slots slots' (live_of (list_map data_of keys.items) values.items) (live_of (list_map data_of keys'.items) values'.items) (min slots.room (min (vec_capacity keys) (vec_capacity values) - length (list_map data_of keys.items)))
-          (min slots'.room (min (vec_capacity keys') (vec_capacity values') - length (list_map data_of keys'.items))) (min slots.capacity (min (vec_capacity keys) (vec_capacity values))) (min slots'.capacity (min (vec_capacity keys') (vec_capacity values')))
+      unchanged =
+          λ _. keeps-over slots slots' (live_of (list_map data_of keys.items) values.items) (live_of (list_map data_of keys'.items) values'.items)
+              (min slots.room (min (vec_capacity keys) (vec_capacity values) - length (list_map data_of keys.items)))
+          (min slots'.room (min (vec_capacity keys') (vec_capacity values') - length (list_map data_of keys'.items)))
+              (min slots.capacity (min (vec_capacity keys) (vec_capacity values))) (min slots'.capacity (min (vec_capacity keys') (vec_capacity values')))
           (rw slots_same (record { live = refl; detached = refl; retired = refl; next = refl; offer = refl; stack = refl; room = omega arith }))
           (λ j. live_of (list_map data_of (keys_same j)) (values_same j))
           (omega (arith, ap (λ c. c.room) slots_same, ap (λ xs. length (list_map data_of xs)) keys_same));
       same_order = λ _. record { keys = ap (list_map data_of) keys_same; values = values_same };
     }
 
-    module _ (n : ℕ) (slots_ok : Type 0) (slots_room : SlotsMakeRoom true slots n slots_ok slots') (keys_same : keys'.items ≡ keys.items) (values_same : values'.items ≡ values.items) (keys_more : vec_capacity keys ≤ vec_capacity keys') (values_more : vec_capacity values ≤ vec_capacity values') where
+    module _ (n : ℕ) (slots_ok : Type 0) (slots_room : SlotsMakeRoom true slots n slots_ok slots') (keys_same : keys'.items ≡ keys.items)
+        (values_same : values'.items ≡ values.items) (keys_more : vec_capacity keys ≤ vec_capacity keys')
+        (values_more : vec_capacity values ≤ vec_capacity values') where
       sound' : IsSound slots' (list_map data_of keys'.items) values'.items
       sound' = rw (keys_same, values_same) (IsSound-kept slots slots' (list_map data_of keys.items) values.items sound slots_room.after slots_room.keeps)
 
@@ -64,7 +72,8 @@ module _ {K V : Type 0} (data_of : K → Key) (slots : Content ℕ) (keys : Vec 
       abbrev pub HadRoom : Type 0
       HadRoom = (n ≤ slots.room) × (vec_len keys + n ≤ vec_capacity keys) × (vec_len values + n ≤ vec_capacity values)
 
-      pub makes-room : (ok : Type 0) → (ok → slots_ok × (vec_len keys + n ≤ vec_capacity keys') × (vec_len values + n ≤ vec_capacity values')) → (HadRoom → ok) → (HadRoom → (vec_capacity keys' ≡ vec_capacity keys) × (vec_capacity values' ≡ vec_capacity values)) → MakesRoom held n ok held'
+      pub makes-room : (ok : Type 0) → (ok → slots_ok × (vec_len keys + n ≤ vec_capacity keys') × (vec_len values + n ≤ vec_capacity values'))
+          → (HadRoom → ok) → (HadRoom → (vec_capacity keys' ≡ vec_capacity keys) × (vec_capacity values' ≡ vec_capacity values)) → MakesRoom held n ok held'
       makes-room ok made succeeds same = record {
         before = dense_valid data_of slots keys values sound;
         after = dense_valid data_of slots' keys' values' sound';
@@ -73,8 +82,13 @@ module _ {K V : Type 0} (data_of : K → Key) (slots : Content ℕ) (keys : Vec 
         live_and_more = λ is. omega (arith, slots_room.live_and_more (made is).0, (made is).1, (made is).2, all, len', keys.ok.0, counts, values.ok.0, sound.packed.counted);
         succeeds = λ enough. succeeds (had enough);
         had_room = λ enough. held-same (slots_room.had_room (had enough).0) (same (had enough)).0 (same (had enough)).1;
-        keeps = keeps-over slots slots' (live_of (list_map data_of keys.items) values.items) (live_of (list_map data_of keys'.items) values'.items) (min slots.room (min (vec_capacity keys) (vec_capacity values) - length (list_map data_of keys.items)))
-            (min slots'.room (min (vec_capacity keys') (vec_capacity values') - length (list_map data_of keys'.items))) (min slots.capacity (min (vec_capacity keys) (vec_capacity values))) (min slots'.capacity (min (vec_capacity keys') (vec_capacity values'))) slots_room.keeps (rw (keys_same, values_same) refl) (omega (arith, slots_room.keeps.room, len'));
+        keeps =
+            keeps-over slots slots' (live_of (list_map data_of keys.items) values.items) (live_of (list_map data_of keys'.items) values'.items)
+                (min slots.room (min (vec_capacity keys) (vec_capacity values) - length (list_map data_of keys.items)))
+            (min slots'.room (min (vec_capacity keys') (vec_capacity values') - length (list_map data_of keys'.items)))
+                (min slots.capacity (min (vec_capacity keys) (vec_capacity values)))
+                (min slots'.capacity (min (vec_capacity keys') (vec_capacity values'))) slots_room.keeps (rw (keys_same, values_same) refl)
+                (omega (arith, slots_room.keeps.room, len'));
         same_order = record { keys = ap (list_map data_of) keys_same; values = values_same };
         capacity = omega (arith, slots_room.capacity);
       }

@@ -1,5 +1,6 @@
 -- The elements of a list after `swap_remove`, and the entries of two parallel lists.
-use Rattle.std.proofs.Common.{◌≡◌, ◌≢◌, ℕ, zero, suc, ◌+◌, ◌-◌, ◌<◌, ◌≤◌, Bool, true, false, cond, List, [], ◌∷◌, ◌++◌, length, set, take, get_or, slice_get, map as list_map, Some, None, is_some, refl, sym, ap, ◌∙◌, arith}
+use Rattle.std.proofs.Common.{◌≡◌, ◌≢◌, ℕ, zero, suc, ◌+◌, ◌-◌, ◌<◌, ◌≤◌, Bool, true, false, cond, List, [], ◌∷◌, ◌++◌, length, set, take, get_or,
+    slice_get, map as list_map, Some, None, is_some, refl, sym, ap, ◌∙◌, arith}
 use Rattle.std.proofs.lemmas.Bool.{false_from_ne_true}
 use Rattle.std.proofs.lemmas.Option.{slice_get-get_or, get_or_from_slice_get, same_Some}
 use Rattle.std.proofs.lemmas.List.{length-set, set-append_left, set-append_right, map-set, take-map, get_or-map, length-map}
@@ -90,7 +91,8 @@ other_first k q other = false_from_ne_true (eq_by_cmp key_cmp k q) (λ t. other 
 
 module _ {V : Type 0} where
   -- a key that is at one position only is found with the value there
-  pub find-there : (ks : List Key) (vs : List V) (i : ℕ) (k : Key) (v : V) → ((j : ℕ) → slice_get ks j ≡ Some k → j ≡ i) → slice_get ks i ≡ Some k → slice_get vs i ≡ Some v → find key_cmp k (zip ks vs) ≡ Some v
+  pub find-there : (ks : List Key) (vs : List V) (i : ℕ) (k : Key) (v : V) → ((j : ℕ) → slice_get ks j ≡ Some k → j ≡ i) → slice_get ks i ≡ Some k
+      → slice_get vs i ≡ Some v → find key_cmp k (zip ks vs) ≡ Some v
   find-there [] vs i k v alone at_k at_v = absurd (cc)
   find-there (q ∷ ks) [] i k v alone at_k at_v = absurd (cc)
   find-there (q ∷ ks) (w ∷ vs) zero k v alone at_k at_v =
@@ -108,13 +110,16 @@ module _ {V : Type 0} where
       ∙ find-absent ks vs k (λ j there. absent (suc j) there)
 
   -- if each key is in the list once, the map has as many entries as the list
-  pub len-zip : (ks : List Key) (vs : List V) → length vs ≡ length ks → ((i j : ℕ) (k : Key) → slice_get ks i ≡ Some k → slice_get ks j ≡ Some k → j ≡ i) → map.len (map.from_entries {R = key_cmp} (zip ks vs)) ≡ length ks
+  pub len-zip : (ks : List Key) (vs : List V) → length vs ≡ length ks
+      → ((i j : ℕ) (k : Key) → slice_get ks i ≡ Some k → slice_get ks j ≡ Some k → j ≡ i)
+      → map.len (map.from_entries {R = key_cmp} (zip ks vs)) ≡ length ks
   len-zip [] vs same once = map.len-empty key_cmp V
   len-zip (k ∷ ks) [] same once = absurd (omega arith)
   len-zip (k ∷ ks) (v ∷ vs) same once =
       let none = find-absent ks vs k (λ j there. absurd (omega (arith, once 0 (suc j) k refl there))) in
       let fresh : map.contains_key (map.from_entries {R = key_cmp} (zip ks vs)) k ≡ false = ap is_some (map.get-from_entries keys_total (zip ks vs) k ∙ none) in
-      omega (arith, len_inserted keys_total exact_keys (map.from_entries {R = key_cmp} (zip ks vs)) k v fresh, len-zip ks vs (omega arith) (λ i j q at_i at_j. omega (arith, once (suc i) (suc j) q at_i at_j)))
+      omega (arith, len_inserted keys_total exact_keys (map.from_entries {R = key_cmp} (zip ks vs)) k v fresh,
+          len-zip ks vs (omega arith) (λ i j q at_i at_j. omega (arith, once (suc i) (suc j) q at_i at_j)))
 
   put_beside-absent : (ks : List Key) (vs : List V) (k : Key) (v : V) → ((j : ℕ) → slice_get ks j ≡ Some k → ⊥) → length vs ≡ length ks → put_beside ks vs k v ≡ vs
   put_beside-absent [] vs k v absent same = refl
@@ -124,7 +129,8 @@ module _ {V : Type 0} where
       ∙ ap (λ vs. w ∷ vs) (put_beside-absent ks vs k v (λ j there. absent (suc j) there) (omega arith))
 
   -- a value is put beside a key that is in the list once
-  pub put_beside-at : (ks : List Key) (vs : List V) (i : ℕ) (k : Key) (v : V) → ((j : ℕ) → slice_get ks j ≡ Some k → j ≡ i) → slice_get ks i ≡ Some k → length vs ≡ length ks → put_beside ks vs k v ≡ set vs i v
+  pub put_beside-at : (ks : List Key) (vs : List V) (i : ℕ) (k : Key) (v : V) → ((j : ℕ) → slice_get ks j ≡ Some k → j ≡ i) → slice_get ks i ≡ Some k
+      → length vs ≡ length ks → put_beside ks vs k v ≡ set vs i v
   put_beside-at [] vs i k v alone at_k same = absurd (cc)
   put_beside-at (q ∷ ks) [] i k v alone at_k same = absurd (omega arith)
   put_beside-at (q ∷ ks) (w ∷ vs) zero k v alone at_k same =
@@ -140,13 +146,15 @@ module _ {V : Type 0} where
   length-put_beside (q ∷ ks) [] k v same = absurd (omega arith)
   length-put_beside (q ∷ ks) (w ∷ vs) k v same = omega (arith, length-put_beside ks vs k v (omega arith))
 
-  pub find-beside : (ks : List Key) (vs : List V) (k : Key) (v : V) → length vs ≡ length ks → (q : Key) → find key_cmp q (zip ks (put_beside ks vs k v)) ≡ option_map (λ w. cond (eq_by_cmp key_cmp q k) v w) (find key_cmp q (zip ks vs))
+  pub find-beside : (ks : List Key) (vs : List V) (k : Key) (v : V) → length vs ≡ length ks → (q : Key)
+      → find key_cmp q (zip ks (put_beside ks vs k v)) ≡ option_map (λ w. cond (eq_by_cmp key_cmp q k) v w) (find key_cmp q (zip ks vs))
   find-beside [] vs k v same q = refl
   find-beside (x ∷ ks) [] k v same q = absurd (omega arith)
   find-beside (x ∷ ks) (w ∷ vs) k v same q = by (eq_by_cmp key_cmp q x) refl (find-beside ks vs k v (omega arith) q)
     where
       by : (b : Bool) → eq_by_cmp key_cmp q x ≡ b → find key_cmp q (zip ks (put_beside ks vs k v)) ≡ option_map (λ w. cond (eq_by_cmp key_cmp q k) v w) (find key_cmp q (zip ks vs))
-          → cond b (Some (cond (eq_by_cmp key_cmp x k) v w)) (find key_cmp q (zip ks (put_beside ks vs k v))) ≡ option_map (λ w. cond (eq_by_cmp key_cmp q k) v w) (cond b (Some w) (find key_cmp q (zip ks vs)))
+          → cond b (Some (cond (eq_by_cmp key_cmp x k) v w)) (find key_cmp q (zip ks (put_beside ks vs k v))) ≡ option_map
+              (λ w. cond (eq_by_cmp key_cmp q k) v w) (cond b (Some w) (find key_cmp q (zip ks vs)))
       by true t rest = ap (λ x. Some (cond (eq_by_cmp key_cmp x k) v w)) (sym (tied keys_total exact_keys q x t))
       by false t rest = rest
 

@@ -1,5 +1,6 @@
 -- A list of slots is read into a list of positions and two packed lists.
-use Rattle.std.proofs.Common.{◌≡◌, ◌≢◌, inl, inr, ℕ, zero, suc, ◌+◌, ◌<◌, ◌≤◌, ◌%◌, Bool, true, false, ◌==◌, if◌then◌else◌, List, [], ◌∷◌, ◌++◌, length, slice_get, map as list_map, Option, None, Some, is_some, option_map, refl, sym, ap, subst, ◌∙◌, arith}
+use Rattle.std.proofs.Common.{◌≡◌, ◌≢◌, inl, inr, ℕ, zero, suc, ◌+◌, ◌<◌, ◌≤◌, ◌%◌, Bool, true, false, ◌==◌, if◌then◌else◌, List, [], ◌∷◌, ◌++◌,
+    length, slice_get, map as list_map, Option, None, Some, is_some, option_map, refl, sym, ap, subst, ◌∙◌, arith}
 use Rattle.std.proofs.lemmas.Bool.{cases_eq}
 use Rattle.std.proofs.lemmas.List.{length_push, length-map, map_push}
 use Rattle.std.proofs.lemmas.Option.{slice_get-map, slice_get_within, same_Some}
@@ -141,11 +142,13 @@ module _ {V : Type 0} (records : List (SlotRecord V)) (positions : List (SlotRec
 
   more_versions : (made : SlotRecord V) (p : SlotRecord ℕ) → p.version ≡ made.version → versions (positions ++ p ∷ []) ≡ versions (records ++ made ∷ [])
   more_versions made p same =
-      map_push (λ (s : SlotRecord ℕ). s.version) positions p ∙ ap (λ vs. vs ++ p.version ∷ []) split.same_versions ∙ ap (λ v. versions records ++ v ∷ []) same ∙ sym (map_push (λ (s : SlotRecord V). s.version) records made)
+      map_push (λ (s : SlotRecord ℕ). s.version) positions p ∙ ap (λ vs. vs ++ p.version ∷ []) split.same_versions
+          ∙ ap (λ v. versions records ++ v ∷ []) same ∙ sym (map_push (λ (s : SlotRecord V). s.version) records made)
 
   more_values : (made : SlotRecord V) (p : SlotRecord ℕ) → is_some p.value ≡ is_some made.value → with_value (positions ++ p ∷ []) ≡ with_value (records ++ made ∷ [])
   more_values made p same =
-      map_push (λ (s : SlotRecord ℕ). is_some s.value) positions p ∙ ap (λ bs. bs ++ is_some p.value ∷ []) split.same_values ∙ ap (λ b. with_value records ++ b ∷ []) same ∙ sym (map_push (λ (s : SlotRecord V). is_some s.value) records made)
+      map_push (λ (s : SlotRecord ℕ). is_some s.value) positions p ∙ ap (λ bs. bs ++ is_some p.value ∷ []) split.same_values
+          ∙ ap (λ b. with_value records ++ b ∷ []) same ∙ sym (map_push (λ (s : SlotRecord V). is_some s.value) records made)
 
   -- a record with a value
   pub AreSplit-live : (made : SlotRecord V) (v : V) → made.value ≡ Some v → made.version % 2 ≡ 1 → (n : ℕ) → n ≡ length keys → (k : Key) → k ≡ key (length positions) made.version
@@ -153,13 +156,16 @@ module _ {V : Type 0} (records : List (SlotRecord V)) (positions : List (SlotRec
   AreSplit-live made v valued odd n n_is k k_is =
       let p : SlotRecord ℕ = record { value = Some n; version = made.version } in
       let none : map.get (contents positions) k ≡ None = none_past positions p k (ap (λ (x : Key). x.index) k_is) in
-      let placed : contents (positions ++ p ∷ []) ≡ map.insert (contents positions) k (length keys) = contents-live positions p n refl odd ∙ ap (λ q. map.insert (contents positions) q n) (sym k_is) ∙ ap (map.insert (contents positions) k) n_is in
+      let placed : contents (positions ++ p ∷ []) ≡ map.insert (contents positions) k (length keys) = contents-live positions p n refl odd
+              ∙ ap (λ q. map.insert (contents positions) q n) (sym k_is) ∙ ap (map.insert (contents positions) k) n_is in
       let k_there : k ≡ key (length records) made.version = k_is ∙ ap (λ i. key i made.version) same_places in
       record {
         same_versions = more_versions made p refl;
         same_values = more_values made p (sym (ap is_some valued));
         packed = subst (λ m. IsPacked m (keys ++ k ∷ [])) (sym placed) (IsPacked-push (contents positions) keys split.packed k none);
-        lives = live-push (contents positions) keys split.packed values split.same_length k v none ∙ ap (λ m. map.insert m k v) split.lives ∙ ap (λ q. map.insert (contents records) q v) k_there ∙ sym (contents-live records made v valued odd);
+        lives =
+            live-push (contents positions) keys split.packed values split.same_length k v none ∙ ap (λ m. map.insert m k v) split.lives
+                ∙ ap (λ q. map.insert (contents records) q v) k_there ∙ sym (contents-live records made v valued odd);
         same_length = omega (arith, length_push values v, length_push keys k, split.same_length);
         fewer = omega (arith, length_push keys k, length_push records made, split.fewer);
         ascending = ap (λ ks. ks ++ k ∷ []) split.ascending ∙ sym (keys_last (contents records) k v (λ q there. omega (arith, listed_before records q there, ap (λ (x : Key). x.index) k_there)))
@@ -181,7 +187,8 @@ module _ {V : Type 0} (records : List (SlotRecord V)) (positions : List (SlotRec
       }
 
 -- what is collected from two lists that look the same through f and g
-gather-alike : {A B E M : Type 0} (empty : M) (put : M → E → M) (f : A → ℕ) (g : B → ℕ) (entry_a : ℕ → A → Option E) (entry_b : ℕ → B → Option E) → ((i : ℕ) (a : A) (b : B) → f a ≡ g b → entry_a i a ≡ entry_b i b)
+gather-alike : {A B E M : Type 0} (empty : M) (put : M → E → M) (f : A → ℕ) (g : B → ℕ) (entry_a : ℕ → A → Option E) (entry_b : ℕ → B → Option E)
+    → ((i : ℕ) (a : A) (b : B) → f a ≡ g b → entry_a i a ≡ entry_b i b)
     → (i : ℕ) (xs : List A) (ys : List B) → list_map f xs ≡ list_map g ys → gather empty put entry_a i xs ≡ gather empty put entry_b i ys
 gather-alike empty put f g entry_a entry_b alike i [] [] same = refl
 gather-alike empty put f g entry_a entry_b alike i [] (b ∷ ys) same = absurd (cc)
@@ -217,7 +224,8 @@ at_same : {A B X : Type 0} (f : A → X) (g : B → X) (xs : List A) (ys : List 
 at_same f g xs ys i a b same at_a at_b =
     same_Some (f a) (g b) (sym (slice_get-map f xs i ∙ ap (option_map f) at_a) ∙ ap (λ zs. slice_get zs i) same ∙ slice_get-map g ys i ∙ ap (option_map g) at_b)
 
-module _ {V : Type 0} (records : List (SlotRecord V)) (positions : List (SlotRecord ℕ)) (keys : List Key) (values : List V) (split : AreSplit records positions keys values) (limit : ℕ) (accepted : Accepts records limit) where
+module _ {V : Type 0} (records : List (SlotRecord V)) (positions : List (SlotRecord ℕ)) (keys : List Key) (values : List V)
+    (split : AreSplit records positions keys values) (limit : ℕ) (accepted : Accepts records limit) where
   -- if the records are accepted, the positions are
   pub accepted-positions : Accepts positions limit
   accepted-positions =
@@ -226,7 +234,9 @@ module _ {V : Type 0} (records : List (SlotRecord V)) (positions : List (SlotRec
       let here = found_within positions 0 (omega (arith, places, slice_get_within records 0 first.0 first.1)) in
       record {
         short = omega (arith, places, accepted.short);
-        first_empty = (here.0, here.1, ap (λ v. v % 2) (at_same (λ (s : SlotRecord ℕ). s.version) (λ (s : SlotRecord V). s.version) positions records 0 here.0 first.0 split.same_versions here.1 first.1) ∙ first.2);
+        first_empty =
+            (here.0, here.1, ap (λ v. v % 2) (at_same (λ (s : SlotRecord ℕ). s.version)
+                (λ (s : SlotRecord V). s.version) positions records 0 here.0 first.0 split.same_versions here.1 first.1) ∙ first.2);
         consistent = λ i p within found.
             let there = found_within records i (omega (arith, places)) in
             let consistent = accepted.consistent i there.0 (omega (arith, places)) there.1 in

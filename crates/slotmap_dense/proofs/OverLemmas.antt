@@ -45,7 +45,8 @@ module _ {V : Type 0} (c : Content ℕ) (live : map.FinMap key_cmp V) (same : Sa
   }
 
 module _ {V : Type 0} (c d : Content ℕ) (before after : map.FinMap key_cmp V) (room_before room_after capacity_before capacity_after : ℕ) where
-  pub inserts-over : (k : Key) (i : ℕ) (v : V) → SameKeys before c.live → Inserts c k i d → after ≡ map.insert before k v → room_before ≤ room_after + 1 → Inserts (over c before room_before capacity_before) k v (over d after room_after capacity_after)
+  pub inserts-over : (k : Key) (i : ℕ) (v : V) → SameKeys before c.live → Inserts c k i d → after ≡ map.insert before k v
+      → room_before ≤ room_after + 1 → Inserts (over c before room_before capacity_before) k v (over d after room_after capacity_after)
   inserts-over k i v same ins live room = record {
     offered = ins.offered;
     below_limit = omega (arith, ins.below_limit, same.all);
@@ -60,11 +61,14 @@ module _ {V : Type 0} (c d : Content ℕ) (before after : map.FinMap key_cmp V) 
   pub removes-over : (k : Key) → Removes c k d → after ≡ map.remove before k → room_before ≤ room_after → Removes (over c before room_before capacity_before) k (over d after room_after capacity_after)
   removes-over k rem live room = record { live = live; detached = rem.detached; retired = rem.retired; next = rem.next; stack = rem.stack; room = room }
 
-  pub detaches-over : (k : Key) → Detaches c k d → after ≡ map.remove before k → room_before ≤ room_after → Detaches (over c before room_before capacity_before) k (over d after room_after capacity_after)
+  pub detaches-over : (k : Key) → Detaches c k d → after ≡ map.remove before k → room_before ≤ room_after
+      → Detaches (over c before room_before capacity_before) k (over d after room_after capacity_after)
   detaches-over k det live room = record { live = live; detached = det.detached; retired = det.retired; next = det.next; offer = det.offer; stack = det.stack; room = room }
 
-  pub reattaches-over : (k : Key) (i : ℕ) (v : V) → Reattaches c k i d → after ≡ map.insert before k v → room_before ≤ room_after + 1 → Reattaches (over c before room_before capacity_before) k v (over d after room_after capacity_after)
-  reattaches-over k i v rea live room = record { was_detached = rea.was_detached; live = live; detached = rea.detached; retired = rea.retired; next = rea.next; offer = rea.offer; stack = rea.stack; room = room }
+  pub reattaches-over : (k : Key) (i : ℕ) (v : V) → Reattaches c k i d → after ≡ map.insert before k v → room_before ≤ room_after + 1
+      → Reattaches (over c before room_before capacity_before) k v (over d after room_after capacity_after)
+  reattaches-over k i v rea live room =
+      record { was_detached = rea.was_detached; live = live; detached = rea.detached; retired = rea.retired; next = rea.next; offer = rea.offer; stack = rea.stack; room = room }
 
   pub keeps-over : Keeps c d → after ≡ before → room_before ≤ room_after → Keeps (over c before room_before capacity_before) (over d after room_after capacity_after)
   keeps-over same live room = record { live = live; detached = same.detached; retired = same.retired; next = same.next; offer = same.offer; stack = same.stack; room = room }

@@ -191,7 +191,9 @@ module _ (positions : map.FinMap key_cmp ℕ) (keys : List Key) (i : ℕ) (gappe
       was_last = gapped.names (length keys - 1) moved (λ e. absurd (omega arith)) stood
 
 -- what happens to the live keys if k was the key at position i
-module _ {V : Type 0} (before after : map.FinMap key_cmp ℕ) (keys : List Key) (values : List V) (packed : IsPacked before keys) (same : length values ≡ length keys) (k : Key) (v : V) (i : ℕ) (at : map.get before k ≡ Some i) (closed : IsPacked after (swap_remove keys i k)) where
+module _ {V : Type 0} (before after : map.FinMap key_cmp ℕ) (keys : List Key) (values : List V) (packed : IsPacked before keys)
+    (same : length values ≡ length keys) (k : Key) (v : V) (i : ℕ) (at : map.get before k ≡ Some i)
+    (closed : IsPacked after (swap_remove keys i k)) where
   stood : slice_get keys i ≡ Some k
   stood = packed.stands k i at
 

@@ -1,5 +1,6 @@
 -- The pairs from a position on, which a loop has yet to visit.
-use Rattle.std.proofs.Common.{◌≡◌, ◌≢◌, ◌⊎◌, inl, inr, ℕ, zero, suc, ◌+◌, ◌-◌, ◌<◌, ◌≤◌, cond, nat_le, List, [], ◌∷◌, length, set, drop, slice_get, Option, Some, None, is_some, refl, sym, ap, ◌∙◌, arith}
+use Rattle.std.proofs.Common.{◌≡◌, ◌≢◌, ◌⊎◌, inl, inr, ℕ, zero, suc, ◌+◌, ◌-◌, ◌<◌, ◌≤◌, cond, nat_le, List, [], ◌∷◌, length, set, drop, slice_get,
+    Option, Some, None, is_some, refl, sym, ap, ◌∙◌, arith}
 use Rattle.std.proofs.lemmas.Bool.{cases_eq, cases_lt, le-leb, lt-leb}
 use Rattle.std.proofs.lemmas.Option.{slice_get_within, same_Some}
 use Rattle.std.proofs.lemmas.List.{length-set, drop_all}
@@ -69,7 +70,8 @@ module _ (positions : map.FinMap key_cmp ℕ) (keys : List Key) (packed : IsPack
 
     pub rest-next : (w : V) → rest_of (p + 1) keys (set values p w) ≡ map.remove (rest_of p keys values) k
     rest-next w = map.same_map keys_total exact_keys _ _ (λ q. elim (same_or_other q k) [
-      | inl is ↦ after q ∙ ap (λ q. from_position (p + 1) (set values p w) (map.get positions q)) is ∙ ap (from_position (p + 1) (set values p w)) at ∙ from_below (p + 1) (set values p w) p (omega arith)
+      | inl is ↦ after q ∙ ap (λ q. from_position (p + 1) (set values p w) (map.get positions q)) is ∙ ap (from_position (p + 1) (set values p w)) at
+          ∙ from_below (p + 1) (set values p w) p (omega arith)
           ∙ sym (ap (map.get (map.remove (rest_of p keys values) k)) is ∙ get_gone (rest_of p keys values) k)
       | inr other ↦ after q ∙ by q other (map.get positions q) refl ∙ sym (rest_removed q other)
     ])
@@ -87,8 +89,10 @@ module _ (positions : map.FinMap key_cmp ℕ) (keys : List Key) (packed : IsPack
 
     pub rest-written : (w : V) → map.remove (rest_of p keys (set values p w)) k ≡ map.remove (rest_of p keys values) k
     rest-written w = map.same_map keys_total exact_keys _ _ (λ q. elim (same_or_other q k) [
-      | inl is ↦ ap (map.get (map.remove (rest_of p keys (set values p w)) k)) is ∙ get_gone (rest_of p keys (set values p w)) k ∙ sym (ap (map.get (map.remove (rest_of p keys values) k)) is ∙ get_gone (rest_of p keys values) k)
-      | inr other ↦ get_left (rest_of p keys (set values p w)) k q other ∙ get-rest (set values p w) (length-set values p w ∙ same) p q ∙ by q other (map.get positions q) refl ∙ sym (rest_removed q other)
+      | inl is ↦ ap (map.get (map.remove (rest_of p keys (set values p w)) k)) is ∙ get_gone (rest_of p keys (set values p w)) k
+          ∙ sym (ap (map.get (map.remove (rest_of p keys values) k)) is ∙ get_gone (rest_of p keys values) k)
+      | inr other ↦ get_left (rest_of p keys (set values p w)) k q other ∙ get-rest (set values p w) (length-set values p w ∙ same) p q
+          ∙ by q other (map.get positions q) refl ∙ sym (rest_removed q other)
     ])
       where
         by : (q : Key) → q ≢ k → (o : Option ℕ) → map.get positions q ≡ o → from_position p (set values p w) o ≡ from_position p values o
@@ -96,7 +100,9 @@ module _ (positions : map.FinMap key_cmp ℕ) (keys : List Key) (packed : IsPack
         by q other (Some j) named = ap (λ o. cond (nat_le p j) o None) (slice_get-set_other values p j w (elsewhere q j other named))
 
 -- the last pair has moved to the position of k
-module _ {V : Type 0} (before after : map.FinMap key_cmp ℕ) (keys : List Key) (values : List V) (packed : IsPacked before keys) (same : length values ≡ length keys) (k : Key) (v : V) (p : ℕ) (at : map.get before k ≡ Some p) (closed : IsPacked after (swap_remove keys p k)) where
+module _ {V : Type 0} (before after : map.FinMap key_cmp ℕ) (keys : List Key) (values : List V) (packed : IsPacked before keys)
+    (same : length values ≡ length keys) (k : Key) (v : V) (p : ℕ) (at : map.get before k ≡ Some p)
+    (closed : IsPacked after (swap_remove keys p k)) where
   within : p < length keys
   within = slice_get_within keys p k (packed.stands k p at)
 
@@ -116,7 +122,8 @@ module _ {V : Type 0} (before after : map.FinMap key_cmp ℕ) (keys : List Key) 
         let was : slice_get keys (length keys - 1) ≡ Some q = sym (swap_remove_there keys p k inside) ∙ ap (slice_get (swap_remove keys p k)) (sym here) ∙ there in
         let named = packed.names (length keys - 1) q was in (
           λ is. absurd (omega (arith, same_Some (length keys - 1) p (sym named ∙ ap (map.get before) is ∙ at))),
-          ap (from_position p values) named ∙ from_there p values (length keys - 1) (omega arith) ∙ ap (λ n. slice_get values (n - 1)) (sym same) ∙ sym (swap_remove_there values p v (omega (arith, same)))
+          ap (from_position p values) named ∙ from_there p values (length keys - 1) (omega arith) ∙ ap (λ n. slice_get values (n - 1)) (sym same)
+              ∙ sym (swap_remove_there values p v (omega (arith, same)))
               ∙ ap (slice_get (swap_remove values p v)) (sym here) ∙ sym (from_there p (swap_remove values p v) j (omega arith)),
         )
     | inr other ↦
@@ -132,7 +139,8 @@ module _ {V : Type 0} (before after : map.FinMap key_cmp ℕ) (keys : List Key) 
     where
       absent : (q : Key) → q ≢ k → map.get after q ≡ None → (o : Option ℕ) → map.get before q ≡ o → from_position p values o ≡ None
       absent q other none None was = refl
-      absent q other none (Some j) was = absurd (still before after keys values packed same k v p at closed q j (elsewhere before keys packed values same k p at q j other was) (packed.stands q j was) none)
+      absent q other none (Some j) was =
+          absurd (still before after keys values packed same k v p at closed q j (elsewhere before keys packed values same k p at q j other was) (packed.stands q j was) none)
 
       by : (q : Key) (o : Option ℕ) → map.get after q ≡ o → map.get (rest_of p (swap_remove keys p k) (swap_remove values p v)) q ≡ map.get (map.remove (rest_of p keys values) k) q
       by q None none = elim (same_or_other q k) [
@@ -144,7 +152,8 @@ module _ {V : Type 0} (before after : map.FinMap key_cmp ℕ) (keys : List Key) 
           rest_after q ∙ ap (from_position p (swap_remove values p v)) there ∙ sym (rest_before q was.0 ∙ was.1)
 
 -- what a loop finds at a position
-pub Comes-at : {V : Type 0} (slots : Content ℕ) (keys : List Key) (values : List V) (sound : IsSound slots keys values) (spare : ℕ) (p : ℕ) (k : Key) → slice_get keys p ≡ Some k → Comes (dense_of slots keys values spare) p k
+pub Comes-at : {V : Type 0} (slots : Content ℕ) (keys : List Key) (values : List V) (sound : IsSound slots keys values) (spare : ℕ) (p : ℕ) (k : Key)
+    → slice_get keys p ≡ Some k → Comes (dense_of slots keys values spare) p k
 Comes-at slots keys values sound spare p k stands =
     let at = sound.packed.names p k stands in
     let same = sound.same_length in

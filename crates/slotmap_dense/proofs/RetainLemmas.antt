@@ -15,7 +15,8 @@ module _ {K V : Type 0} (data_of : K → Key) where
   dropped_push (y ∷ xs) x = by y.stays (dropped_push xs x)
     where
       by : (b : Bool) → dropped data_of (xs ++ x ∷ []) ≡ dropped data_of xs ++ cond x.stays [] (data_of x.key ∷ [])
-          → cond b (dropped data_of (xs ++ x ∷ [])) (data_of y.key ∷ dropped data_of (xs ++ x ∷ [])) ≡ cond b (dropped data_of xs) (data_of y.key ∷ dropped data_of xs) ++ cond x.stays [] (data_of x.key ∷ [])
+          → cond b (dropped data_of (xs ++ x ∷ [])) (data_of y.key ∷ dropped data_of (xs ++ x ∷ [])) ≡ cond b (dropped data_of xs)
+              (data_of y.key ∷ dropped data_of xs) ++ cond x.stays [] (data_of x.key ∷ [])
       by true rest = rest
       by false rest = ap (λ ks. data_of y.key ∷ ks) rest
 
@@ -37,11 +38,13 @@ module _ {K V : Type 0} (data_of : K → Key) where
       packs = λ xs end rest. one_more xs end (subst (λ b. PacksBy data_of (cond b (position + 1) position) (cond b now.keys (swap_remove now.keys position (data_of x.key))) xs end) (sym stays)
           (subst (λ ks. PacksBy data_of (position + 1) ks xs end) keys rest));
       stack = λ ks.
-          ap (λ ds. option_map (λ stack. pushed_all stack (ds ++ ks)) old.content.stack) (dropped_push visits x ∙ ap (λ b. dropped data_of visits ++ cond b [] (data_of x.key ∷ [])) stays ∙ append-nil (dropped data_of visits))
+          ap (λ ds. option_map (λ stack. pushed_all stack (ds ++ ks)) old.content.stack)
+              (dropped_push visits x ∙ ap (λ b. dropped data_of visits ++ cond b [] (data_of x.key ∷ [])) stays ∙ append-nil (dropped data_of visits))
           ∙ so_far.stack ks ∙ ap (option_map (λ stack. pushed_all stack ks)) (sym stack);
     }
 
-    pub SoFar-dropped : (new : Dense V) → x.stays ≡ false → new.keys ≡ swap_remove now.keys position (data_of x.key) → new.content.stack ≡ option_map (λ stack. pushed stack (data_of x.key)) now.content.stack → SoFar old (visits ++ x ∷ []) position new
+    pub SoFar-dropped : (new : Dense V) → x.stays ≡ false → new.keys ≡ swap_remove now.keys position (data_of x.key)
+        → new.content.stack ≡ option_map (λ stack. pushed stack (data_of x.key)) now.content.stack → SoFar old (visits ++ x ∷ []) position new
     SoFar-dropped new stays keys stack = record {
       packs = λ xs end rest. one_more xs end (subst (λ b. PacksBy data_of (cond b (position + 1) position) (cond b now.keys (swap_remove now.keys position (data_of x.key))) xs end) (sym stays)
           (subst (λ ks. PacksBy data_of position ks xs end) keys rest));

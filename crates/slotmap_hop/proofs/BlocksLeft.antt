@@ -14,7 +14,8 @@ use Rattle.slotmap_hop.specs.Retain.{dropped}
 
 module _ {V : Type 0} where
   -- after one of these keys is removed, the others remain
-  pub blocks_taken : (now new : HopContent V) (k : Key) (ks : List Key) → Removes now.content k new.content → new.blocks ≡ blocks_without now k → blocks_without_all now (k ∷ ks) ≡ blocks_without_all new ks
+  pub blocks_taken : (now new : HopContent V) (k : Key) (ks : List Key) → Removes now.content k new.content → new.blocks ≡ blocks_without now k
+      → blocks_without_all now (k ∷ ks) ≡ blocks_without_all new ks
   blocks_taken now new k ks removes blocks =
       λ j. blocks_without_all (record { content = record now.content { next = sym removes.next j }; blocks = sym blocks j }) ks
 
@@ -38,7 +39,8 @@ module _ {K V : Type 0} (data_of : K → Key) where
   dropped_push (y ∷ xs) x = by y.stays (dropped_push xs x)
     where
       by : (b : Bool) → dropped data_of (xs ++ x ∷ []) ≡ dropped data_of xs ++ cond x.stays [] (data_of x.key ∷ [])
-          → cond b (dropped data_of (xs ++ x ∷ [])) (data_of y.key ∷ dropped data_of (xs ++ x ∷ [])) ≡ cond b (dropped data_of xs) (data_of y.key ∷ dropped data_of xs) ++ cond x.stays [] (data_of x.key ∷ [])
+          → cond b (dropped data_of (xs ++ x ∷ [])) (data_of y.key ∷ dropped data_of (xs ++ x ∷ [])) ≡ cond b (dropped data_of xs)
+              (data_of y.key ∷ dropped data_of xs) ++ cond x.stays [] (data_of x.key ∷ [])
       by true rest = rest
       by false rest = ap (λ ks. data_of y.key ∷ ks) rest
 
@@ -47,7 +49,8 @@ module _ {K V : Type 0} (data_of : K → Key) where
     pub ascending : map.entries old.content.live ≡ seen data_of visits ++ map.entries (from_index index old.content.live)
     pub blocks : (ks : List Key) → blocks_without_all old (dropped data_of visits ++ ks) ≡ blocks_without_all now ks
 
-  module _ (old now : HopContent V) (visits : List (Visit K V)) (index : ℕ) (so_far : InOrder old visits index now) (well : IsHopContent old) (visited : Visits data_of old.content.live visits (from_index index old.content.live) now.content.live)
+  module _ (old now : HopContent V) (visits : List (Visit K V)) (index : ℕ) (so_far : InOrder old visits index now) (well : IsHopContent old)
+      (visited : Visits data_of old.content.live visits (from_index index old.content.live) now.content.live)
       (x : Visit K V) (comes : IsNextLive data_of now.content index (Some x.key)) (found : map.get now.content.live (data_of x.key) ≡ Some x.before) where
     next_seen : map.entries old.content.live ≡ seen data_of (visits ++ x ∷ []) ++ map.entries (from_index ((data_of x.key).index + 1) old.content.live)
     next_seen =
@@ -68,7 +71,8 @@ module _ {K V : Type 0} (data_of : K → Key) where
     }
 
     -- the key is removed
-    pub InOrder-dropped : (written new : HopContent V) → x.stays ≡ false → written.content.next ≡ now.content.next → written.blocks ≡ now.blocks → Removes written.content (data_of x.key) new.content → new.blocks ≡ blocks_without written (data_of x.key)
+    pub InOrder-dropped : (written new : HopContent V) → x.stays ≡ false → written.content.next ≡ now.content.next → written.blocks ≡ now.blocks
+        → Removes written.content (data_of x.key) new.content → new.blocks ≡ blocks_without written (data_of x.key)
         → InOrder old (visits ++ x ∷ []) ((data_of x.key).index + 1) new
     InOrder-dropped written new stays next same removes blocks = record {
       ascending = next_seen;

@@ -33,7 +33,8 @@ module _ {V : Type 0} (m : HopContent V) (n : ℕ) (ok : Type 0) (well : IsHopCo
     after = well;
   }
 
-module _ {V : Type 0} (slots : List (Slot V)) (vacant elems : ℕ) (sound : IsSound slots vacant elems) (fits : ℕ) (holds : length slots ≤ fits) {now : HopContent V} (view : hop_content slots (fits - 1) ≡ now) where
+module _ {V : Type 0} (slots : List (Slot V)) (vacant elems : ℕ) (sound : IsSound slots vacant elems) (fits : ℕ) (holds : length slots ≤ fits)
+    {now : HopContent V} (view : hop_content slots (fits - 1) ≡ now) where
   pub hop_valid : IsHopContent now
   hop_valid = subst IsHopContent view (valid slots vacant elems sound (fits - 1) (omega arith))
 

@@ -1,6 +1,7 @@
 -- What sound slots hold, and that each change of them is the step of its call.
 use mathlib.Core.Path.{fun_ext}
-use Rattle.std.proofs.Common.{◌≡◌, ◌≢◌, inl, inr, ℕ, zero, suc, ◌+◌, ◌-◌, ◌^◌, ◌<◌, ◌≤◌, Bool, true, false, cond, eqb, nat_eq, ◌==◌, ◌||◌, List, [], ◌∷◌, ◌++◌, length, set, slice_get, get_or, Option, Some, None, is_some, refl, sym, ap, subst, ◌∙◌, arith, eq-eqb, ne_eqb, min, IfNone}
+use Rattle.std.proofs.Common.{◌≡◌, ◌≢◌, inl, inr, ℕ, zero, suc, ◌+◌, ◌-◌, ◌^◌, ◌<◌, ◌≤◌, Bool, true, false, cond, eqb, nat_eq, ◌==◌, ◌||◌, List, [],
+    ◌∷◌, ◌++◌, length, set, slice_get, get_or, Option, Some, None, is_some, refl, sym, ap, subst, ◌∙◌, arith, eq-eqb, ne_eqb, min, IfNone}
 use Rattle.std.proofs.lemmas.Bool.{cases_eq, cases_lt, cases_Bool}
 use Rattle.std.proofs.lemmas.Option.{slice_get_within, slice_get_past, slice_get_read, same_Some, get_or_from_slice_get}
 use Rattle.std.proofs.lemmas.List.{length-set, map-append, set-get_or}
@@ -250,8 +251,10 @@ module _ (V : Type 0) where
 
   only_zero : (front back : ℕ) → IsBlock (vacant_at (layout (sentinel_alone V))) front back → (front ≡ 0) × (back ≡ 0)
   only_zero front back block =
-      let low : front ≡ 0 = elim (cases_lt 0 front) [ inl some ↦ clash (vacant_at (layout (sentinel_alone V))) front (block.inside front (omega arith) block.ordered) (beyond front some) | inr none ↦ omega arith ] in
-      let high : back ≡ 0 = elim (cases_lt 0 back) [ inl some ↦ clash (vacant_at (layout (sentinel_alone V))) back (block.inside back block.ordered (omega arith)) (beyond back some) | inr none ↦ omega arith ] in
+      let low : front ≡ 0 = elim (cases_lt 0 front) [ inl some ↦ clash (vacant_at (layout (sentinel_alone V))) front
+              (block.inside front (omega arith) block.ordered) (beyond front some) | inr none ↦ omega arith ] in
+      let high : back ≡ 0 = elim (cases_lt 0 back) [ inl some ↦ clash (vacant_at (layout (sentinel_alone V))) back
+              (block.inside back block.ordered (omega arith)) (beyond back some) | inr none ↦ omega arith ] in
       (low, high)
 
   linked-new : IsLinked (layout (sentinel_alone V)) []
@@ -303,7 +306,9 @@ module _ {V : Type 0} (slots : List (Slot V)) (vacant elems : ℕ) (sound : IsSo
   IsSound-pushed w fits list after = record {
     linked = list;
     none_detached = λ i v found. elim (cases_eq i (length (places_of slots))) [
-      | inl same ↦ let wrong = same_Some (Live 1 w) (Detached v) (sym (slice_get_push (places_of slots) (Live 1 w)) ∙ ap (slice_get (places_of slots ++ Live 1 w ∷ [])) (sym same) ∙ ap (λ ps. slice_get ps i) (sym after) ∙ found) in absurd (cc)
+      | inl same ↦ let wrong =
+          same_Some (Live 1 w) (Detached v) (sym (slice_get_push (places_of slots) (Live 1 w))
+              ∙ ap (slice_get (places_of slots ++ Live 1 w ∷ [])) (sym same) ∙ ap (λ ps. slice_get ps i) (sym after) ∙ found) in absurd (cc)
       | inr other ↦ sound.none_detached i v (sym (slice_get_push_other (places_of slots) (Live 1 w) i other) ∙ ap (λ ps. slice_get ps i) (sym after) ∙ found)
     ];
     elems_live = ap (λ ps. map.len (live ps)) after ∙ omega (arith, len-live-push (places_of slots) (Live 1 w), sound.elems_live);
@@ -312,14 +317,17 @@ module _ {V : Type 0} (slots : List (Slot V)) (vacant elems : ℕ) (sound : IsSo
     counted = sound.counted;
   }
 
-  none_detached-set : (i : ℕ) (old p : Place V) → slice_get (places_of slots) i ≡ Some old → ((v : ℕ) → p ≢ Detached v) → places_of new ≡ set (places_of slots) i p → (j v : ℕ) → slice_get (places_of new) j ≡ Some (Detached v) → ⊥
+  none_detached-set : (i : ℕ) (old p : Place V) → slice_get (places_of slots) i ≡ Some old → ((v : ℕ) → p ≢ Detached v)
+      → places_of new ≡ set (places_of slots) i p → (j v : ℕ) → slice_get (places_of new) j ≡ Some (Detached v) → ⊥
   none_detached-set i old p was other after j v found = elim (cases_eq j i) [
-    | inl same ↦ other v (same_Some p (Detached v) (sym (slice_get-set_same (places_of slots) i p (slice_get_within (places_of slots) i old was)) ∙ ap (slice_get (set (places_of slots) i p)) (sym same) ∙ ap (λ ps. slice_get ps j) (sym after) ∙ found))
+    | inl same ↦ other v (same_Some p (Detached v) (sym (slice_get-set_same (places_of slots) i p (slice_get_within (places_of slots) i old was))
+        ∙ ap (slice_get (set (places_of slots) i p)) (sym same) ∙ ap (λ ps. slice_get ps j) (sym after) ∙ found))
     | inr differs ↦ sound.none_detached j v (sym (slice_get-set_other (places_of slots) i j p differs) ∙ ap (λ ps. slice_get ps j) (sym after) ∙ found)
   ]
 
   -- the place that the next insert uses is filled
-  pub IsSound-filled : (n : ℕ) (w : V) → 0 < next_place slots → slice_get (places_of slots) (next_place slots) ≡ Some (Vacant n) → HasBlockList (layout new) → places_of new ≡ set (places_of slots) (next_place slots) (Live n w) → IsSound new (vacant - 1) (elems + 1)
+  pub IsSound-filled : (n : ℕ) (w : V) → 0 < next_place slots → slice_get (places_of slots) (next_place slots) ≡ Some (Vacant n)
+      → HasBlockList (layout new) → places_of new ≡ set (places_of slots) (next_place slots) (Live n w) → IsSound new (vacant - 1) (elems + 1)
   IsSound-filled n w some was list after =
       let i = next_place slots in
       let on = sound.stacked.complete i n some was in
@@ -328,12 +336,15 @@ module _ {V : Type 0} (slots : List (Slot V)) (vacant elems : ℕ) (sound : IsSo
         none_detached = none_detached-set i (Vacant n) (Live n w) was (λ v e. absurd (cc)) after;
         elems_live = ap (λ ps. map.len (live ps)) after ∙ omega (arith, len-live-set (places_of slots) i (Vacant n) (Live n w) was, sound.elems_live);
         stack = removed sound.stack i;
-        stacked = subst (λ ps. IsStacked ps (removed sound.stack i)) (sym after) (IsStacked-filled (places_of slots) i (removed sound.stack i) n w (IsStacked-first (places_of slots) sound.stack i sound.stacked on) was);
+        stacked =
+            subst (λ ps. IsStacked ps (removed sound.stack i)) (sym after)
+                (IsStacked-filled (places_of slots) i (removed sound.stack i) n w (IsStacked-first (places_of slots) sound.stack i sound.stacked on) was);
         counted = omega (arith, length_removed sound.stack i on, sound.counted);
       }
 
   -- a live place becomes vacant or retired
-  pub IsSound-freed : (i v : ℕ) (x : V) → slice_get (places_of slots) i ≡ Some (Live v x) → v ≢ last_version → HasBlockList (layout new) → places_of new ≡ set (places_of slots) i (Vacant (v + 2)) → IsSound new (vacant + 1) (elems - 1)
+  pub IsSound-freed : (i v : ℕ) (x : V) → slice_get (places_of slots) i ≡ Some (Live v x) → v ≢ last_version → HasBlockList (layout new)
+      → places_of new ≡ set (places_of slots) i (Vacant (v + 2)) → IsSound new (vacant + 1) (elems - 1)
   IsSound-freed i v x was other list after =
       let version = sound.stacked.versions i (Live v x) was in
       record {
@@ -341,11 +352,15 @@ module _ {V : Type 0} (slots : List (Slot V)) (vacant elems : ℕ) (sound : IsSo
         none_detached = none_detached-set i (Live v x) (Vacant (v + 2)) was (λ v e. absurd (cc)) after;
         elems_live = ap (λ ps. map.len (live ps)) after ∙ omega (arith, len-live-set (places_of slots) i (Live v x) (Vacant (v + 2)) was, sound.elems_live);
         stack = i ∷ sound.stack;
-        stacked = subst (λ ps. IsStacked ps (i ∷ sound.stack)) (sym after) (IsStacked-freed (places_of slots) sound.stack sound.stacked i v (v + 2) x was (omega (arith, version.0, version.1), omega (arith, version.1)) (omega (arith, version.1)));
+        stacked =
+            subst (λ ps. IsStacked ps (i ∷ sound.stack)) (sym after)
+                (IsStacked-freed (places_of slots) sound.stack sound.stacked i v (v + 2) x was
+                (omega (arith, version.0, version.1), omega (arith, version.1)) (omega (arith, version.1)));
         counted = omega (arith, sound.counted);
       }
 
-  pub IsSound-used_up : (i v : ℕ) (x : V) → slice_get (places_of slots) i ≡ Some (Live v x) → HasBlockList (layout new) → places_of new ≡ set (places_of slots) i Retired → IsSound new vacant (elems - 1)
+  pub IsSound-used_up : (i v : ℕ) (x : V) → slice_get (places_of slots) i ≡ Some (Live v x) → HasBlockList (layout new)
+      → places_of new ≡ set (places_of slots) i Retired → IsSound new vacant (elems - 1)
   IsSound-used_up i v x was list after = record {
     linked = list;
     none_detached = none_detached-set i (Live v x) Retired was (λ v e. absurd (cc)) after;
@@ -356,13 +371,17 @@ module _ {V : Type 0} (slots : List (Slot V)) (vacant elems : ℕ) (sound : IsSo
   }
 
   -- a value is replaced
-  pub IsSound-rewritten : (i v : ℕ) (x w : V) → slice_get (places_of slots) i ≡ Some (Live v x) → HasBlockList (layout new) → places_of new ≡ set (places_of slots) i (Live v w) → IsSound new vacant elems
+  pub IsSound-rewritten : (i v : ℕ) (x w : V) → slice_get (places_of slots) i ≡ Some (Live v x) → HasBlockList (layout new)
+      → places_of new ≡ set (places_of slots) i (Live v w) → IsSound new vacant elems
   IsSound-rewritten i v x w was list after = record {
     linked = list;
     none_detached = none_detached-set i (Live v x) (Live v w) was (λ v e. absurd (cc)) after;
     elems_live = ap (λ ps. map.len (live ps)) after ∙ omega (arith, len-live-set (places_of slots) i (Live v x) (Live v w) was, sound.elems_live);
     stack = sound.stack;
-    stacked = subst (λ ps. IsStacked ps sound.stack) (sym after) (IsStacked-kept (places_of slots) sound.stack sound.stacked i (Live v x) (Live v w) was (λ n e. absurd (cc)) (λ n e. absurd (cc)) (sound.stacked.versions i (Live v x) was));
+    stacked =
+        subst (λ ps. IsStacked ps sound.stack) (sym after)
+            (IsStacked-kept (places_of slots) sound.stack sound.stacked i (Live v x) (Live v w) was (λ n e. absurd (cc)) (λ n e. absurd (cc))
+            (sound.stacked.versions i (Live v x) was));
     counted = sound.counted;
   }
 
@@ -461,19 +480,25 @@ module _ {V : Type 0} (slots : List (Slot V)) (vacant elems : ℕ) (sound : IsSo
   pub sound-pushed : (w : V) → length slots + 1 < 2 ^ 32 → next_place slots ≡ 0 → IsSound (pushed_slots w) vacant (elems + 1)
   sound-pushed w fits none = IsSound-pushed slots vacant elems sound (pushed_slots w) w fits (blocks-pushed w fits none).0 (places-pushed w)
 
-  pub inserts-pushed : (c d : ℕ) (w : V) → next_place slots ≡ 0 → taken (places_of slots) < most → c ≤ d → Inserts (hop_content slots c).content (hop_content slots c).content.offer w (hop_content (pushed_slots w) d).content
+  pub inserts-pushed : (c d : ℕ) (w : V) → next_place slots ≡ 0 → taken (places_of slots) < most → c ≤ d
+      → Inserts (hop_content slots c).content (hop_content slots c).content.offer w (hop_content (pushed_slots w) d).content
   inserts-pushed c d w none below more =
       let one : (offer_at (places_of slots) (next_place slots)).version ≡ 1 = ap (λ k. k.version) (offer-end none) in
-      inserts-slots slots vacant elems sound (pushed_slots w) c d w below more (places-pushed w ∙ sym ((in_order slots vacant elems sound).fills_end none _ ∙ ap (λ v. places_of slots ++ Live v w ∷ []) one))
+      inserts-slots slots vacant elems sound (pushed_slots w) c d w below more
+          (places-pushed w ∙ sym ((in_order slots vacant elems sound).fills_end none _ ∙ ap (λ v. places_of slots ++ Live v w ∷ []) one))
 
   -- the offered place is filled
-  pub sound-filled : (new : List (Slot V)) (w : V) → 0 < next_place slots → HasBlockList (layout new) → places_of new ≡ set (places_of slots) (next_place slots) (Live (back_slot.slot.version + 1) w) → IsSound new (vacant - 1) (elems + 1)
+  pub sound-filled : (new : List (Slot V)) (w : V) → 0 < next_place slots → HasBlockList (layout new)
+      → places_of new ≡ set (places_of slots) (next_place slots) (Live (back_slot.slot.version + 1) w) → IsSound new (vacant - 1) (elems + 1)
   sound-filled new w some list after = IsSound-filled slots vacant elems sound new (back_slot.slot.version + 1) w some back_slot.place list after
 
-  pub inserts-filled : (new : List (Slot V)) (c d : ℕ) (w : V) → 0 < next_place slots → taken (places_of slots) < most → c ≤ d → places_of new ≡ set (places_of slots) (next_place slots) (Live (back_slot.slot.version + 1) w) → Inserts (hop_content slots c).content (hop_content slots c).content.offer w (hop_content new d).content
+  pub inserts-filled : (new : List (Slot V)) (c d : ℕ) (w : V) → 0 < next_place slots → taken (places_of slots) < most → c ≤ d
+      → places_of new ≡ set (places_of slots) (next_place slots) (Live (back_slot.slot.version + 1) w)
+      → Inserts (hop_content slots c).content (hop_content slots c).content.offer w (hop_content new d).content
   inserts-filled new c d w some below more after =
       let newer : (offer_at (places_of slots) (next_place slots)).version ≡ back_slot.slot.version + 1 = ap (λ k. k.version) (offer-back some) in
-      inserts-slots slots vacant elems sound new c d w below more (after ∙ sym ((in_order slots vacant elems sound).fills_back some _ ∙ ap (λ v. set (places_of slots) (next_place slots) (Live v w)) newer))
+      inserts-slots slots vacant elems sound new c d w below more
+          (after ∙ sym ((in_order slots vacant elems sound).fills_back some _ ∙ ap (λ v. set (places_of slots) (next_place slots) (Live v w)) newer))
 
   pub counted_positive : 0 < next_place slots → 1 ≤ vacant
   counted_positive some = by sound.stack (sound.stacked.complete (next_place slots) (back_slot.slot.version + 1) some back_slot.place) sound.counted
@@ -529,7 +554,8 @@ module _ {V : Type 0} (slots : List (Slot V)) (vacant elems : ℕ) (sound : IsSo
       sym (ap is_some (get-live (places_of slots) k ∙ ap (live_value k.version) (slice_get_past (places_of slots) k.index (omega (arith, length-places slots)))))
 
   module _ (lives : map.FinMap key_cmp V) (all : live (places_of slots) ≡ lives) (k own : Key) (same : own ≡ k) where
-    pub contains-read : (i version : ℕ) → IsKey own → i ≡ own.index → version ≡ own.version → (seen : List (Slot V)) (s : Slot V) → seen ≡ slots → s ≡ get_or seen i s → i < length seen → (s.version == version) ≡ map.contains_key lives k
+    pub contains-read : (i version : ℕ) → IsKey own → i ≡ own.index → version ≡ own.version → (seen : List (Slot V)) (s : Slot V) → seen ≡ slots
+        → s ≡ get_or seen i s → i < length seen → (s.version == version) ≡ map.contains_key lives k
     contains-read i version is at of seen s whole read within =
         let found : slice_get slots i ≡ Some s = ap (λ xs. slice_get xs i) (sym whole) ∙ slice_get_read seen (length seen) i s refl within read in
         rw of (contains-version own s is (ap (slice_get slots) (sym at) ∙ found) ∙ ap (λ m. map.contains_key m own) all ∙ ap (map.contains_key lives) same)
@@ -590,7 +616,8 @@ module _ {V : Type 0} (slots : List (Slot V)) (vacant elems : ℕ) (sound : IsSo
   elems_positive = omega (arith, len-live-set (places_of slots) i (Live v x) Retired place, sound.elems_live)
 
   pub vacant_below : vacant + 1 < 2 ^ 32
-  vacant_below = omega (arith, total (places_of slots) 1 sound.stacked.sentinel, length-places slots, sound.elems_live, sound.stacked.counted, sound.counted, elems_positive, slots_fit slots vacant elems sound)
+  vacant_below =
+      omega (arith, total (places_of slots) 1 sound.stacked.sentinel, length-places slots, sound.elems_live, sound.stacked.counted, sound.counted, elems_positive, slots_fit slots vacant elems sound)
 
   pub can_free : CanFree slots i
   can_free = record {
@@ -614,13 +641,17 @@ module _ {V : Type 0} (slots : List (Slot V)) (vacant elems : ℕ) (sound : IsSo
       let two : v + 1 + 1 ≡ v + 2 = omega arith in
       IsSound-freed slots vacant elems sound new i v x place other list (after ∙ ap (λ n. set (places_of slots) i (Vacant n)) two)
 
-  pub removes-freed : (new : List (Slot V)) (c : ℕ) → v ≢ last_version → places_of new ≡ set (places_of slots) i (Vacant (v + 1 + 1)) → Removes (hop_content slots c).content (key i v) (hop_content new c).content
+  pub removes-freed : (new : List (Slot V)) (c : ℕ) → v ≢ last_version → places_of new ≡ set (places_of slots) i (Vacant (v + 1 + 1))
+      → Removes (hop_content slots c).content (key i v) (hop_content new c).content
   removes-freed new c other after =
       let two : v + 1 + 1 ≡ v + 2 = omega arith in
       let test : nat_eq v last_version ≡ false = ne_eqb v last_version other in
-      removes-slots slots vacant elems sound new c (key i v) x place (after ∙ ap (λ n. set (places_of slots) i (Vacant n)) two ∙ ap (λ b. set (places_of slots) i (cond b Retired (Vacant (v + 2)))) (sym test))
+      removes-slots slots vacant elems sound new c (key i v) x place (after ∙ ap (λ n. set (places_of slots) i (Vacant n)) two
+          ∙ ap (λ b. set (places_of slots) i (cond b Retired (Vacant (v + 2)))) (sym test))
 
-  pub blocks-freed : (new : List (Slot V)) (c : ℕ) → v ≢ last_version → blocks_of (layout new) ≡ vacated (vacant_at (layout slots)) (blocks_of (layout slots)) i → blocks_of (layout new) ≡ blocks_without (hop_content slots c) (key i v)
+  pub blocks-freed : (new : List (Slot V)) (c : ℕ) → v ≢ last_version
+      → blocks_of (layout new) ≡ vacated (vacant_at (layout slots)) (blocks_of (layout slots)) i
+      → blocks_of (layout new) ≡ blocks_without (hop_content slots c) (key i v)
   blocks-freed new c other after =
       let test : nat_eq v last_version ≡ false = ne_eqb v last_version other in
       after ∙ ap (λ f. vacated f (blocks_of (layout slots)) i) (sym (same_counts slots vacant elems sound c))
@@ -641,7 +672,8 @@ module _ {V : Type 0} (slots : List (Slot V)) (vacant elems : ℕ) (sound : IsSo
       ap blocks_of same ∙ ap (λ b. cond b (blocks_of (layout slots)) (vacated (counts_vacant (hop_content slots c).content) (blocks_of (layout slots)) i)) (sym test)
 
 -- another value is written to a live slot
-module _ {V : Type 0} (slots : List (Slot V)) (vacant elems : ℕ) (sound : IsSound slots vacant elems) (i v : ℕ) (x : V) (place : slice_get (places_of slots) i ≡ Some (Live v x)) (u : ℕ) (same : u ≡ v) (w : V) where
+module _ {V : Type 0} (slots : List (Slot V)) (vacant elems : ℕ) (sound : IsSound slots vacant elems) (i v : ℕ) (x : V)
+    (place : slice_get (places_of slots) i ≡ Some (Live v x)) (u : ℕ) (same : u ≡ v) (w : V) where
   abbrev pub rewritten : List (Slot V)
   rewritten = set slots i (record { version = u; state = Occupied w })
 

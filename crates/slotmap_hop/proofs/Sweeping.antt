@@ -1,5 +1,6 @@
 -- A loop over the live keys of a map, which skips vacant places.
-use Rattle.std.proofs.Common.{◌≡◌, ◌≢◌, ℕ, zero, suc, ◌+◌, ◌-◌, ◌<◌, ◌≤◌, Bool, true, false, Option, Some, None, List, length, slice_get, get_or, is_some, eqb, ne_eqb, ◌^◌, refl, sym, ap, subst, ◌∙◌, inl, inr, arith}
+use Rattle.std.proofs.Common.{◌≡◌, ◌≢◌, ℕ, zero, suc, ◌+◌, ◌-◌, ◌<◌, ◌≤◌, Bool, true, false, Option, Some, None, List, length, slice_get, get_or,
+    is_some, eqb, ne_eqb, ◌^◌, refl, sym, ap, subst, ◌∙◌, inl, inr, arith}
 use Rattle.std.proofs.lemmas.Bool.{cases_lt, cases_eq}
 use Rattle.std.proofs.lemmas.Option.{slice_get_within, get_or_from_slice_get, same_Some}
 use Rattle.std.specs.FinMap as map
@@ -45,7 +46,8 @@ module _ {V : Type 0} (slots : List (Slot V)) (vacant elems : ℕ) (sound : IsSo
     where
       begins : MayStand (hop_content slots c).content start → Begins (vacant_at (layout slots)) start
       begins (inl first) = λ left next. absurd (omega arith)
-      begins (inr used) = λ left next. let same : start - 1 ≡ left = omega arith in ap (vacant_at (layout slots)) (sym same) ∙ sym (ap (λ f. f (start - 1)) (same_counts slots vacant elems sound c)) ∙ used
+      begins (inr used) =
+          λ left next. let same : start - 1 ≡ left = omega arith in ap (vacant_at (layout slots)) (sym same) ∙ sym (ap (λ f. f (start - 1)) (same_counts slots vacant elems sound c)) ∙ used
 
   -- a search may begin there
   pub look_begins : (c : ℕ) → MayStand (hop_content slots c).content start → CanGoOn slots 0 start
@@ -109,7 +111,8 @@ module _ {V : Type 0} (slots : List (Slot V)) (vacant elems : ℕ) (sound : IsSo
   pub passed-all : (place : ℕ) → Passed slots start place → length slots ≤ place → (q : Key) → map.contains_key (live (places_of slots)) q ≡ true → q.index < start
   passed-all place passed past q there = elim (cases_lt q.index start) [
     | inl before ↦ before
-    | inr from ↦ let at = live_at (places_of slots) q there in absurd (omega (arith, passed.none q there (omega arith), slice_get_within (places_of slots) q.index (Live q.version at.0) at.1, length-places slots))
+    | inr from ↦ let at =
+        live_at (places_of slots) q there in absurd (omega (arith, passed.none q there (omega arith), slice_get_within (places_of slots) q.index (Live q.version at.0) at.1, length-places slots))
   ]
 
 -- a search has passed nothing at its start
@@ -152,7 +155,8 @@ module _ {K V : Type 0} (data_of : K → Key) where
   pub live_fits : (m : HopContent V) (k : Key) → IsHopContent m → IsLive m.content k → k.index + 1 < 2 ^ 32
   live_fits m k well is_live = omega (arith, (well.valid.within k (inl (inl is_live))).1, well.valid.limit)
 
-  pub left_less : (m : HopContent V) (k : K) (next : Option K) → IsHopContent m → IsLive m.content (data_of k) → IsNextLive data_of m.content ((data_of k).index + 1) next → indices_left data_of next < indices_left data_of (Some k)
+  pub left_less : (m : HopContent V) (k : K) (next : Option K) → IsHopContent m → IsLive m.content (data_of k)
+      → IsNextLive data_of m.content ((data_of k).index + 1) next → indices_left data_of next < indices_left data_of (Some k)
   left_less m k None well is_live comes = omega (arith, (well.valid.keys (data_of k) (inl (inl is_live))).index_fits)
   left_less m k (Some q) well is_live comes = omega (arith, comes.1, (well.valid.keys (data_of k) (inl (inl is_live))).index_fits)
 
@@ -163,7 +167,9 @@ module _ {K V : Type 0} (data_of : K → Key) where
         rw same at (Swept-to old.content now.content ((data_of k).index - i) i sweep.swept)
 
     -- the next key after a change that keeps the same keys live, except perhaps this one
-    comes_after : (new : Content V) (next : Option K) → ((q : Key) → IsLive new q → IsLive now.content q) → ((q : Key) → IsLive now.content q → q ≢ data_of k → IsLive new q) → IsNextLive data_of now.content ((data_of k).index + 1) next → IsNextLive data_of new ((data_of k).index + 1) next
+    comes_after : (new : Content V) (next : Option K) → ((q : Key) → IsLive new q → IsLive now.content q)
+        → ((q : Key) → IsLive now.content q → q ≢ data_of k → IsLive new q) → IsNextLive data_of now.content ((data_of k).index + 1) next
+        → IsNextLive data_of new ((data_of k).index + 1) next
     comes_after new None less more comes = λ q there. comes q (less q there)
     comes_after new (Some n) less more comes =
         (more (data_of n) comes.0 (λ same. omega (arith, comes.1, ap (λ q. q.index) same)), comes.1, λ q there from. comes.2 q (less q there) from)
@@ -175,7 +181,9 @@ module _ {K V : Type 0} (data_of : K → Key) where
         (sym (same_live now.content (data_of k) w sweep.comes.0 (data_of n)) ∙ comes.0, comes.1, λ q there from. comes.2 q (same_live now.content (data_of k) w sweep.comes.0 q ∙ there) from)
 
     -- the key is removed
-    pub sweep_removed : (new : HopContent V) (next : Option K) → IsNextLive data_of now.content ((data_of k).index + 1) next → Removes now.content (data_of k) new.content → new.content.capacity ≡ now.content.capacity → IsHopContent new → Sweeping old new ((data_of k).index + 1) next
+    pub sweep_removed : (new : HopContent V) (next : Option K) → IsNextLive data_of now.content ((data_of k).index + 1) next
+        → Removes now.content (data_of k) new.content → new.content.capacity ≡ now.content.capacity → IsHopContent new
+        → Sweeping old new ((data_of k).index + 1) next
     sweep_removed new next comes removes capacity well = record {
       swept = Swept-removed old.content now.content new.content (data_of k).index (data_of k) swept_here sweep.comes.0 refl removes capacity well.valid;
       valid = well;
@@ -197,7 +205,9 @@ module _ {K V : Type 0} (data_of : K → Key) where
     }
 
     -- the key is removed after a write to its value
-    pub sweep_dropped : (w : V) (new : HopContent V) (next : Option K) → IsNextLive data_of now.content ((data_of k).index + 1) next → Removes (with_value now.content (data_of k) w) (data_of k) new.content → new.content.capacity ≡ now.content.capacity → IsHopContent new → Sweeping old new ((data_of k).index + 1) next
+    pub sweep_dropped : (w : V) (new : HopContent V) (next : Option K) → IsNextLive data_of now.content ((data_of k).index + 1) next
+        → Removes (with_value now.content (data_of k) w) (data_of k) new.content → new.content.capacity ≡ now.content.capacity → IsHopContent new
+        → Sweeping old new ((data_of k).index + 1) next
     sweep_dropped w new next comes removes capacity well =
         let written = Swept-written old.content now.content (data_of k).index (data_of k) w swept_here sweep.comes.0 in
         let still = same_live now.content (data_of k) w sweep.comes.0 (data_of k) ∙ sweep.comes.0 in
@@ -223,7 +233,9 @@ module _ {K V : Type 0} (data_of : K → Key) where
   pub clearing_starts : (m : HopContent V) (next : Option K) → IsHopContent m → IsNextLive data_of m.content 0 next → Clearing m m next
   clearing_starts m next well comes = record { index = 0; sweep = sweep_starts m next well comes; above = λ q there. omega arith }
 
-  pub clearing_removed : (old now new : HopContent V) (k : K) (next : Option K) → Clearing old now (Some k) → IsNextLive data_of now.content ((data_of k).index + 1) next → Removes now.content (data_of k) new.content → new.content.capacity ≡ now.content.capacity → IsHopContent new → Clearing old new next
+  pub clearing_removed : (old now new : HopContent V) (k : K) (next : Option K) → Clearing old now (Some k)
+      → IsNextLive data_of now.content ((data_of k).index + 1) next → Removes now.content (data_of k) new.content
+      → new.content.capacity ≡ now.content.capacity → IsHopContent new → Clearing old new next
   clearing_removed old now new k next clearing comes removes capacity well =
       let alone = alone_at now.content clearing.sweep.valid.valid (data_of k) (data_of k).index clearing.sweep.comes.0 refl in
       let above = none_between old now clearing.index k clearing.sweep now.content.live (λ q there. there) clearing.above in
@@ -234,7 +246,8 @@ module _ {K V : Type 0} (data_of : K → Key) where
       }
 
   -- after the smallest key is removed, each live key has a larger index
-  pub after_above : (now new : HopContent V) (k : K) → IsHopContent now → IsNextLive data_of now.content 0 (Some k) → Removes now.content (data_of k) new.content → (q : Key) → IsLive new.content q → (data_of k).index < q.index
+  pub after_above : (now new : HopContent V) (k : K) → IsHopContent now → IsNextLive data_of now.content 0 (Some k)
+      → Removes now.content (data_of k) new.content → (q : Key) → IsLive new.content q → (data_of k).index < q.index
   after_above now new k well least removes q there =
       let alone = alone_at now.content well.valid (data_of k) (data_of k).index least.0 refl in
       let above = NoneBelow-removed now.content.live (data_of k).index (data_of k) alone (λ q there. least.2 q there (omega arith)) in
@@ -249,11 +262,15 @@ module _ {K V : Type 0} (data_of : K → Key) where
   clearing_ends old now clearing = NoneBelow-end now.content.live clearing.index clearing.sweep.comes clearing.above
 
   -- the visits up to the next key
-  pub Visits-here : (old : HopContent V) (xs : List (Visit K V)) (i : ℕ) (k : K) (now : HopContent V) → IsNextLive data_of now.content i (Some k) → Visits data_of old.content.live xs (from_index i old.content.live) now.content.live → Visits data_of old.content.live xs (from_index (data_of k).index old.content.live) now.content.live
+  pub Visits-here : (old : HopContent V) (xs : List (Visit K V)) (i : ℕ) (k : K) (now : HopContent V) → IsNextLive data_of now.content i (Some k)
+      → Visits data_of old.content.live xs (from_index i old.content.live) now.content.live
+      → Visits data_of old.content.live xs (from_index (data_of k).index old.content.live) now.content.live
   Visits-here old xs i k now comes visits = Keyed-jump data_of old.content.live xs i (data_of k).index now.content.live visits comes.1 comes.2
 
   -- no key is left to visit
-  pub Visits-end : (old : HopContent V) (xs : List (Visit K V)) (i : ℕ) (now : HopContent V) → IsNextLive data_of now.content i None → Visits data_of old.content.live xs (from_index i old.content.live) now.content.live → Visits data_of old.content.live xs map.empty now.content.live
+  pub Visits-end : (old : HopContent V) (xs : List (Visit K V)) (i : ℕ) (now : HopContent V) → IsNextLive data_of now.content i None
+      → Visits data_of old.content.live xs (from_index i old.content.live) now.content.live
+      → Visits data_of old.content.live xs map.empty now.content.live
   Visits-end old xs i now comes visits = Keyed-done data_of old.content.live xs i now.content.live visits comes
 
   from_index-to : (m : map.FinMap key_cmp V) (n i : ℕ) → ((q : Key) → map.contains_key m q ≡ true → i ≤ q.index → i + n ≤ q.index) → from_index (i + n) m ≡ from_index i m
@@ -267,7 +284,8 @@ module _ {K V : Type 0} (data_of : K → Key) where
       absent q at false gone = gone
 
   -- the live keys after the next one
-  pub from_index-next : (m : HopContent V) (i : ℕ) (k : K) → IsHopContent m → IsNextLive data_of m.content i (Some k) → from_index ((data_of k).index + 1) m.content.live ≡ map.remove (from_index i m.content.live) (data_of k)
+  pub from_index-next : (m : HopContent V) (i : ℕ) (k : K) → IsHopContent m → IsNextLive data_of m.content i (Some k)
+      → from_index ((data_of k).index + 1) m.content.live ≡ map.remove (from_index i m.content.live) (data_of k)
   from_index-next m i k well comes =
       let same : i + ((data_of k).index - i) ≡ (data_of k).index = omega (arith, comes.1) in
       from_index-take (data_of k).index m.content.live (data_of k) refl (alone_at m.content well.valid (data_of k) (data_of k).index comes.0 refl)

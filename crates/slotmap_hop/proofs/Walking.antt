@@ -1,5 +1,6 @@
 -- An iterator skips a block of vacant places in one step.
-use Rattle.std.proofs.Common.{◌≡◌, ◌≢◌, ℕ, zero, suc, ◌+◌, ◌-◌, ◌*◌, ◌<◌, ◌≤◌, ◌^◌, ◌%◌, true, List, [], ◌∷◌, ◌++◌, length, drop, get_or, set, slice_get, Some, refl, sym, ap, subst, ◌∙◌, inl, inr, arith}
+use Rattle.std.proofs.Common.{◌≡◌, ◌≢◌, ℕ, zero, suc, ◌+◌, ◌-◌, ◌*◌, ◌<◌, ◌≤◌, ◌^◌, ◌%◌, true, List, [], ◌∷◌, ◌++◌, length, drop, get_or, set,
+    slice_get, Some, refl, sym, ap, subst, ◌∙◌, inl, inr, arith}
 use Rattle.std.proofs.lemmas.Bool.{cases_lt}
 use Rattle.std.proofs.lemmas.Option.{slice_get_within, get_or_from_slice_get}
 use Rattle.std.proofs.lemmas.List.{nil_from_length, drop_more, drop_all, drop-set-lt, append_assoc, length-append}
@@ -76,7 +77,8 @@ module _ {V : Type 0} (slots : List (Slot V)) where
       let same : i + 1 + k ≡ i + suc k = omega arith in
       (pairs-vacant i here.0 here.1 ∙ rest.0 ∙ ap (pairs_left slots) same, retired-vacant i here.0 here.1 ∙ rest.1 ∙ ap (retired_left slots) same)
 
-  pub past_block : (front back : ℕ) → IsBlock (vacant_at (layout slots)) front back → (pairs_left slots front ≡ pairs_left slots (back + 1)) × (retired_left slots front ≡ retired_left slots (back + 1))
+  pub past_block : (front back : ℕ) → IsBlock (vacant_at (layout slots)) front back → (pairs_left slots front ≡ pairs_left slots (back + 1))
+      × (retired_left slots front ≡ retired_left slots (back + 1))
   past_block front back block =
       let same : front + (back + 1 - front) ≡ back + 1 = omega (arith, block.ordered) in
       let all = skip (back + 1 - front) front (λ x low high. block.inside x low (omega (arith, block.ordered))) in
@@ -86,7 +88,8 @@ module _ {V : Type 0} (slots : List (Slot V)) where
   pub block_here : (i : ℕ) → StandsAt slots i → vacant_at (layout slots) i ≡ true → IsBlock (vacant_at (layout slots)) i (end_at (layout slots) i)
   block_here i stands vacant =
       let es = layout slots in
-      let found = back_of (vacant_at es) (length es) (length es) i i (bounded_by_length es) (omega arith) (omega arith) (stands.at_front vacant) (λ x low high. let same : x ≡ i = omega arith in rw same vacant) in
+      let found = back_of (vacant_at es) (length es) (length es) i i (bounded_by_length es) (omega arith) (omega arith) (stands.at_front vacant)
+              (λ x low high. let same : x ≡ i = omega arith in rw same vacant) in
       rw (stands.sound.linked.linked.ends i found.0 found.1).0 found.1
 
 module _ {V : Type 0} where
@@ -209,7 +212,9 @@ module _ {V : Type 0} (slots : List (Slot V)) (reads0 start : ℕ) where
             same = way.same ∙ past;
             gone = way.gone ++ key place last_version ∷ [];
             still = way.still ∙ ap (λ ks. way.gone ++ ks) (retired-retired slots place spent) ∙ sym (append_assoc way.gone (key place last_version ∷ []) (retired_left slots (place + 1)));
-            below = All-push (λ k. k.index < place + 1) way.gone (key place last_version) (All-weaker (λ k. k.index < place) (λ k. k.index < place + 1) (λ k low. omega arith) way.gone way.below) (omega arith);
+            below =
+                All-push (λ k. k.index < place + 1) way.gone (key place last_version)
+                    (All-weaker (λ k. k.index < place) (λ k. k.index < place + 1) (λ k low. omega arith) way.gone way.below) (omega arith);
             few_vacant = λ vacant. omega (arith, way.few, length-append way.gone (key place last_version ∷ []));
             few = omega (arith, way.few, length-append way.gone (key place last_version ∷ []));
             passed = omega (arith, way.passed);
@@ -247,7 +252,9 @@ module _ {V : Type 0} (slots : List (Slot V)) (reads0 start : ℕ) where
             gone = way.gone;
             still = still;
             before = way.below;
-            after = All-weaker (λ k. place + 1 ≤ k.index) (λ k. place < k.index) (λ k low. omega arith) (retired_left slots (place + 1)) (above (place + 1) (place + 1) (drop (place + 1) (places_of slots)) (omega arith));
+            after =
+                All-weaker (λ k. place + 1 ≤ k.index) (λ k. place < k.index) (λ k low. omega arith) (retired_left slots (place + 1))
+                    (above (place + 1) (place + 1) (drop (place + 1) (places_of slots)) (omega arith));
             some = omega (arith, way.begun);
             few = omega (arith, way.few, ap length still, length-append way.gone (retired_left slots (place + 1)));
             passed = omega (arith, way.passed);
@@ -263,8 +270,10 @@ module _ {V : Type 0} where
 
   len-retired_from : (j : ℕ) (ps : List (Place V)) → set.len (gather (set.empty {R = key_cmp}) (λ s e. set.insert s e.0) retired_entry j ps) ≡ length (retired_list j ps)
   len-retired_from j [] = set.len-empty key_cmp
-  len-retired_from j (Live version value ∷ ps) = let more = len-add detached_laws (λ k. k.index) (retired_entry {V = V}) retired_fits j (Live version value) ps in omega (arith, len-retired_from (j + 1) ps)
-  len-retired_from j (Detached version ∷ ps) = let more = len-add detached_laws (λ k. k.index) (retired_entry {V = V}) retired_fits j (Detached version) ps in omega (arith, len-retired_from (j + 1) ps)
+  len-retired_from j (Live version value ∷ ps) =
+      let more = len-add detached_laws (λ k. k.index) (retired_entry {V = V}) retired_fits j (Live version value) ps in omega (arith, len-retired_from (j + 1) ps)
+  len-retired_from j (Detached version ∷ ps) =
+      let more = len-add detached_laws (λ k. k.index) (retired_entry {V = V}) retired_fits j (Detached version) ps in omega (arith, len-retired_from (j + 1) ps)
   len-retired_from j (Vacant n ∷ ps) = let more = len-add detached_laws (λ k. k.index) (retired_entry {V = V}) retired_fits j (Vacant n) ps in omega (arith, len-retired_from (j + 1) ps)
   len-retired_from j (Retired ∷ ps) = let more = len-add detached_laws (λ k. k.index) (retired_entry {V = V}) retired_fits j Retired ps in omega (arith, len-retired_from (j + 1) ps)
 

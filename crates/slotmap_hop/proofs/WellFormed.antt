@@ -10,13 +10,15 @@ use Rattle.slotmap_hop.specs.HopContent.{HopContent, IsHopContent, StaysHop, hop
 use Rattle.slotmap_hop.specs.Slots.{hop_content, IsSound}
 use Rattle.slotmap_hop.proofs.SlotLemmas.{valid}
 
-pub well_formed : {K V : Type 0} (m : Inside K V) (now : HopContent V) → hop_content m.slots.items (vec_capacity m.slots - 1) ≡ now → IsSound m.slots.items m.vacant_count m.live_count → IsHopContent now
+pub well_formed : {K V : Type 0} (m : Inside K V) (now : HopContent V) → hop_content m.slots.items (vec_capacity m.slots - 1) ≡ now
+    → IsSound m.slots.items m.vacant_count m.live_count → IsHopContent now
 well_formed m now view sound = subst IsHopContent view (valid _ _ _ sound _ (omega (arith, m.slots.ok.0, m.slots.ok.1)))
 
 -- another value under a live key keeps it well formed
 pub IsHopContent-with_value : {V : Type 0} (m : HopContent V) (k : Key) (w : V) → IsHopContent m → IsLive m.content k → IsHopContent (hop_with_value m k w)
 IsHopContent-with_value m k w well is_live =
-    let same : map.len (map.insert m.content.live k w) ≡ map.len m.content.live = map.len-insert keys_total m.content.live k w ∙ ap (λ b. cond b (map.len m.content.live) (map.len m.content.live + 1)) is_live in
+    let same : map.len (map.insert m.content.live k w) ≡ map.len m.content.live = map.len-insert keys_total m.content.live k w
+            ∙ ap (λ b. cond b (map.len m.content.live) (map.len m.content.live + 1)) is_live in
     record {
       valid = IsContent-with_value true m.content well.valid k is_live w;
       none_detached = well.none_detached;

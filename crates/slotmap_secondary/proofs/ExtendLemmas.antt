@@ -26,7 +26,9 @@ module _ {V : Type 0} where
         let here : map.contains_key new.pairs k.index ≡ true = ap (λ (m : Pairs V). map.contains_key m k.index) bound ∙ in_inserted nat_cmp_total exact_unsigned at.pairs k.index (k.version, v) in
         record {
           more = omega (arith, before.more, places);
-          last = last_of here places before.last (λ there. ap (λ (m : Pairs V). map.contains_key m (at.places - 1)) bound ∙ still_in nat_cmp_total exact_unsigned at.pairs k.index (k.version, v) (at.places - 1) there);
+          last =
+              last_of here places before.last (λ there. ap (λ (m : Pairs V). map.contains_key m (at.places - 1)) bound
+                  ∙ still_in nat_cmp_total exact_unsigned at.pairs k.index (k.version, v) (at.places - 1) there);
           capacity = omega (arith, before.capacity, reaches.grows);
           had_room = λ within.
               let same = before.had_room (omega (arith, within, places)) in
@@ -46,7 +48,8 @@ module _ {V : Type 0} where
         }
   ]
     where
-      last_of : map.contains_key new.pairs k.index ≡ true → new.places ≡ max at.places (k.index + 1) → (at.places ≡ old.places) ⊎ EndsAtPair at → (EndsAtPair at → map.contains_key new.pairs (at.places - 1) ≡ true)
+      last_of : map.contains_key new.pairs k.index ≡ true → new.places ≡ max at.places (k.index + 1) → (at.places ≡ old.places) ⊎ EndsAtPair at
+          → (EndsAtPair at → map.contains_key new.pairs (at.places - 1) ≡ true)
           → (new.places ≡ old.places) ⊎ EndsAtPair new
       last_of here places last stays = elim (cases_Bool (nat_lt k.index at.places)) [
         | inl is ↦

@@ -1,5 +1,6 @@
 -- The entries of a hash map as a finite map.
-use Rattle.std.proofs.Common.{◌≡◌, ℕ, suc, ◌+◌, true, false, cond, nat_eq, List, [], ◌∷◌, length, Option, Some, None, is_some, refl, sym, ap, subst, ◌∙◌, nat_cmp, arith, ◌<◌, inl, inr, MutBor, Result, Ok, Err, OnOk, IfOk, Bool}
+use Rattle.std.proofs.Common.{◌≡◌, ℕ, suc, ◌+◌, true, false, cond, nat_eq, List, [], ◌∷◌, length, Option, Some, None, is_some, refl, sym, ap, subst,
+    ◌∙◌, nat_cmp, arith, ◌<◌, inl, inr, MutBor, Result, Ok, Err, OnOk, IfOk, Bool}
 use Rattle.std.specs.Option.{option_copied_mut}
 use Rattle.std.specs.Ordering.{eq_by_cmp}
 use Rattle.std.specs.Cmp.{nat_cmp_total, unsigned_tied, nat_eq_equiv}
@@ -42,10 +43,12 @@ module _ {V : Type 0} where
   same_pairs es fs same = map.same_map nat_cmp_total exact_unsigned _ _ (λ q. get-pairs fs q ∙ same q ∙ sym (get-pairs es q))
 
   pub pairs_put : (es fs : Entries V) (k : ℕ) (p : ℕ × V) → ((q : ℕ) → lookup (nat_eq q) fs ≡ cond (nat_eq k q) (Some p) (lookup (nat_eq q) es)) → pairs_of fs ≡ map.insert (pairs_of es) k p
-  pairs_put es fs k p h = map.same_map nat_cmp_total exact_unsigned _ _ (λ q. get-pairs fs q ∙ h q ∙ (λ i. cond (turned k q i) (Some p) (sym (get-pairs es q) i)) ∙ sym (map.get-insert nat_cmp_total (pairs_of es) k p q))
+  pairs_put es fs k p h =
+      map.same_map nat_cmp_total exact_unsigned _ _ (λ q. get-pairs fs q ∙ h q ∙ (λ i. cond (turned k q i) (Some p) (sym (get-pairs es q) i)) ∙ sym (map.get-insert nat_cmp_total (pairs_of es) k p q))
 
   pub pairs_taken : (es fs : Entries V) (k : ℕ) → ((q : ℕ) → lookup (nat_eq q) fs ≡ cond (nat_eq k q) None (lookup (nat_eq q) es)) → pairs_of fs ≡ map.remove (pairs_of es) k
-  pairs_taken es fs k h = map.same_map nat_cmp_total exact_unsigned _ _ (λ q. get-pairs fs q ∙ h q ∙ (λ i. cond (turned k q i) None (sym (get-pairs es q) i)) ∙ sym (map.get-remove nat_cmp_total (pairs_of es) k q))
+  pairs_taken es fs k h =
+      map.same_map nat_cmp_total exact_unsigned _ _ (λ q. get-pairs fs q ∙ h q ∙ (λ i. cond (turned k q i) None (sym (get-pairs es q) i)) ∙ sym (map.get-remove nat_cmp_total (pairs_of es) k q))
 
   none_there : (e : ℕ × (ℕ × V)) (es : Entries V) → IsDistinct nat_eq (keys_of (e ∷ es)) → map.contains_key (pairs_of es) e.0 ≡ false
   none_there e es h = ap is_some (get-pairs es e.0 ∙ lookup-none (nat_eq e.0) es (none_past_head nat_eq_equiv e.0 e es h (nat_eq_equiv.refl e.0)))
@@ -95,7 +98,8 @@ module _ {V : Type 0} where
   IsSound-taken es fs sound unique i taken = record { unique = unique; keys = subst (λ (x : Pairs V). IsSecondary x) (sym taken) (IsSecondary-remove (pairs_of es) i sound.keys) }
 
   -- with another value at an index that is there
-  pub IsSound-written : (es fs : Entries V) → IsSound es → IsDistinct nat_eq (keys_of fs) → (i : ℕ) (p q : ℕ × V) → map.get (pairs_of es) i ≡ Some p → q.0 ≡ p.0 → pairs_of fs ≡ map.insert (pairs_of es) i q → IsSound fs
+  pub IsSound-written : (es fs : Entries V) → IsSound es → IsDistinct nat_eq (keys_of fs) → (i : ℕ) (p q : ℕ × V) → map.get (pairs_of es) i ≡ Some p
+      → q.0 ≡ p.0 → pairs_of fs ≡ map.insert (pairs_of es) i q → IsSound fs
   IsSound-written es fs sound unique i p q at same put = record { unique = unique; keys = subst (λ (x : Pairs V). IsSecondary x) (sym put) written }
     where
       written : IsSecondary (map.insert (pairs_of es) i q)
@@ -107,7 +111,8 @@ module _ {V : Type 0} where
       ]
 
   -- what a write through a reference to the value of a key leaves
-  module _ {S : Type 0} (m n : HashMap ℕ (ℕ × V) S) (sound : IsSound m.entries) (k : Key) (i : ℕ) (at : i ≡ k.index) (p : ℕ × V) (w : V) (stood : lookup (nat_eq i) m.entries ≡ Some p) (written : WritesThrough nat_eq (nat_eq i) m (p.0, w) n) where
+  module _ {S : Type 0} (m n : HashMap ℕ (ℕ × V) S) (sound : IsSound m.entries) (k : Key) (i : ℕ) (at : i ≡ k.index) (p : ℕ × V) (w : V)
+      (stood : lookup (nat_eq i) m.entries ≡ Some p) (written : WritesThrough nat_eq (nat_eq i) m (p.0, w) n) where
     put_there : pairs_of n.entries ≡ map.insert (pairs_of m.entries) i (p.0, w)
     put_there = pairs_put m.entries n.entries i (p.0, w) (written.3 (ap is_some stood)).0
 
@@ -122,9 +127,13 @@ module _ {V : Type 0} where
         λ j. record { pairs = (put_there ∙ (λ l. map.insert (is l).pairs (at l) (version l, w))) j; capacity = memory j }
 
   -- what a reference leaves if nothing was written through it
-  module _ {S : Type 0} (m n : HashMap ℕ (ℕ × V) S) (sound : IsSound m.entries) (i : ℕ) (p : ℕ × V) (stood : lookup (nat_eq i) m.entries ≡ Some p) (written : WritesThrough nat_eq (nat_eq i) m p n) where
+  module _ {S : Type 0} (m n : HashMap ℕ (ℕ × V) S) (sound : IsSound m.entries) (i : ℕ) (p : ℕ × V) (stood : lookup (nat_eq i) m.entries ≡ Some p)
+      (written : WritesThrough nat_eq (nat_eq i) m p n) where
     pairs_kept : pairs_of n.entries ≡ pairs_of m.entries
-    pairs_kept = pairs_put m.entries n.entries i p (written.3 (ap is_some stood)).0 ∙ map.same_map nat_cmp_total exact_unsigned _ _ (λ q. map.get-insert nat_cmp_total (pairs_of m.entries) i p q ∙ by q (eq_by_cmp nat_cmp q i) refl)
+    pairs_kept =
+        pairs_put m.entries n.entries i p (written.3 (ap is_some stood)).0
+            ∙ map.same_map nat_cmp_total exact_unsigned _ _ (λ q. map.get-insert nat_cmp_total (pairs_of m.entries) i p q
+            ∙ by q (eq_by_cmp nat_cmp q i) refl)
       where
         by : (q : ℕ) (b : Bool) → eq_by_cmp nat_cmp q i ≡ b → cond b (Some p) (map.get (pairs_of m.entries) q) ≡ map.get (pairs_of m.entries) q
         by q true t = sym (get-pairs m.entries i ∙ stood) ∙ ap (map.get (pairs_of m.entries)) (sym (tied nat_cmp_total exact_unsigned q i t))
@@ -137,7 +146,9 @@ module _ {V : Type 0} where
     content_kept = let memory : hash_map_len n + spare n ≡ hash_map_len m + spare m = λ j. written.2 j + written.6 j in λ j. record { pairs = pairs_kept j; capacity = memory j }
 
   -- what a put over the pair at the index of a key leaves
-  module _ {S : Type 0} (m n : HashMap ℕ (ℕ × V) S) (sound : IsSound m.entries) (c : Content V) (is : content_of m ≡ c) (k : Key) (key : IsKey k) (i : ℕ) (at : i ≡ k.index) (p : ℕ × V) (v : V) (stood : lookup (nat_eq i) m.entries ≡ Some p) (written : WritesThrough nat_eq (nat_eq i) m (put_over k.version v p) n) where
+  module _ {S : Type 0} (m n : HashMap ℕ (ℕ × V) S) (sound : IsSound m.entries) (c : Content V) (is : content_of m ≡ c) (k : Key) (key : IsKey k)
+      (i : ℕ) (at : i ≡ k.index) (p : ℕ × V) (v : V) (stood : lookup (nat_eq i) m.entries ≡ Some p)
+      (written : WritesThrough nat_eq (nat_eq i) m (put_over k.version v p) n) where
     stands : map.get c.pairs k.index ≡ Some p
     stands = sym (found_pair m.entries c.pairs (ap (λ (x : Content V). x.pairs) is) i ∙ ap (map.get c.pairs) at) ∙ stood
 

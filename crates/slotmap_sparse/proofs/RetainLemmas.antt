@@ -93,7 +93,8 @@ module _ {F G K V : Type 0} (g : Mut F (K × (MutBor V × Unit {0})) (Bool × (M
       let of = of_split xs (e ∷ ys) (of_keys (xs ++ e ∷ ys) sound) in
       let before = came shows c d xs of.0 run in
       let rest = keyed (pairs_of (e ∷ ys)) in
-      let listed : IsListingBut (keyed p) (seen data_of before.visits) rest = subst (λ (x : List (Key × V)). IsListingBut (keyed p) x rest) (sym before.saw) (listed_before xs (e ∷ ys) p is sound.unique) in
+      let listed : IsListingBut (keyed p) (seen data_of before.visits) rest = subst (λ (x : List (Key × V)). IsListingBut (keyed p) x rest)
+              (sym before.saw) (listed_before xs (e ∷ ys) p is sound.unique) in
       let here = first_there e ys in (
         of.1.0,
         record { visits = before.visits; calls = before.calls; rest = rest; listed = listed; to_come = ap is_some here },
@@ -131,7 +132,8 @@ module _ {F G K V : Type 0} (g : Mut F (K × (MutBor V × Unit {0})) (Bool × (M
       all_of true y rest here more = (here, more)
       all_of false y rest here more = more
 
-  pub retains_by : (c : G) (es left : List (ℕ × (ℕ × V))) (p : Pairs V) → pairs_of es ≡ p → IsDistinct nat_eq (keys_of es) → IsDistinct nat_eq (keys_of left) → Visited c es left → RetainsBy g data_of (state c) (keyed p) (keyed (pairs_of left))
+  pub retains_by : (c : G) (es left : List (ℕ × (ℕ × V))) (p : Pairs V) → pairs_of es ≡ p → IsDistinct nat_eq (keys_of es)
+      → IsDistinct nat_eq (keys_of left) → Visited c es left → RetainsBy g data_of (state c) (keyed p) (keyed (pairs_of left))
   retains_by c es left p is unique still done = record {
     visits = done.visits;
     last = done.last;
@@ -146,5 +148,6 @@ module _ {F K V : Type 0} (g : Mut F (K × (MutBor V × Unit {0})) (Bool × (Mut
       → ((key : K) × (data_of key ≡ key_from j p'.0) × CallsAt g f (record { key = key; before = p'.1; after = q'.1; stays = b }) f') → q'.0 ≡ p'.0
       → (q.0 ≡ p.0) × ((key : K) × (data_of key ≡ key_from i p.0) × CallsAt g f (record { key = key; before = p.1; after = q.1; stays = b }) f')
   shown_at i j p p' q q' b f f' at before after call version =
-      subst (λ (s : ℕ × ((ℕ × V) × (ℕ × V))). (s.1.1.0 ≡ s.1.0.0) × ((key : K) × (data_of key ≡ key_from s.0 s.1.0.0) × CallsAt g f (record { key = key; before = s.1.0.1; after = s.1.1.1; stays = b }) f'))
+      subst (λ (s : ℕ × ((ℕ × V) × (ℕ × V))). (s.1.1.0 ≡ s.1.0.0)
+          × ((key : K) × (data_of key ≡ key_from s.0 s.1.0.0) × CallsAt g f (record { key = key; before = s.1.0.1; after = s.1.1.1; stays = b }) f'))
       (λ l. (at l, (before l, after l))) (version, call)

@@ -41,10 +41,12 @@ module _ {V : Type 0} where
   missed : (k : Key) (es : List (ℕ × (ℕ × V))) → lookup (nat_eq k.index) es ≡ None → find key_cmp k (key_pairs es) ≡ None
   missed k [] h = refl
   missed k (e ∷ es) h =
-      ap (λ b. cond b (Some e.1.1) (find key_cmp k (key_pairs es))) (tie_parts (nat_cmp k.index e.0) (nat_cmp k.version e.1.0) ∙ ap (λ b. b && is_eq (nat_cmp k.version e.1.0)) (unsigned_tied k.index e.0))
+      ap (λ b. cond b (Some e.1.1) (find key_cmp k (key_pairs es))) (tie_parts (nat_cmp k.index e.0) (nat_cmp k.version e.1.0)
+          ∙ ap (λ b. b && is_eq (nat_cmp k.version e.1.0)) (unsigned_tied k.index e.0))
       ∙ by (missed k es) (nat_eq k.index e.0) h
     where
-      by : (lookup (nat_eq k.index) es ≡ None → find key_cmp k (key_pairs es) ≡ None) → (b : Bool) → cond b (Some e.1) (lookup (nat_eq k.index) es) ≡ None → cond (b && is_eq (nat_cmp k.version e.1.0)) (Some e.1.1) (find key_cmp k (key_pairs es)) ≡ None
+      by : (lookup (nat_eq k.index) es ≡ None → find key_cmp k (key_pairs es) ≡ None) → (b : Bool) → cond b (Some e.1) (lookup (nat_eq k.index) es) ≡ None
+          → cond (b && is_eq (nat_cmp k.version e.1.0)) (Some e.1.1) (find key_cmp k (key_pairs es)) ≡ None
       by rest true none = absurd (cc)
       by rest false none = rest none
 
@@ -68,7 +70,9 @@ module _ {V : Type 0} where
   -- the entries list the keys of the map with their values
   pub listing : (es : List (ℕ × (ℕ × V))) (p : Pairs V) → pairs_of es ≡ p → IsDistinct nat_eq (keys_of es) → IsListing (keyed p) (key_pairs es)
   listing es p is unique = record {
-    all = map.same_map keys_total exact_keys _ _ (λ k. map.get-from_entries keys_total (key_pairs es) k ∙ find-pairs k es unique ∙ ap (value_at k.version) (sym (get-pairs es k.index) ∙ ap (λ (x : Pairs V). map.get x k.index) is) ∙ sym (get-keyed p k));
+    all =
+        map.same_map keys_total exact_keys _ _ (λ k. map.get-from_entries keys_total (key_pairs es) k ∙ find-pairs k es unique
+            ∙ ap (value_at k.version) (sym (get-pairs es k.index) ∙ ap (λ (x : Pairs V). map.get x k.index) is) ∙ sym (get-keyed p k));
     once = length-map es keyed_entry ∙ sym (len-pairs es unique) ∙ ap (λ (x : Pairs V). map.len x) is ∙ sym (len-keyed p);
   }
 
@@ -91,13 +95,15 @@ module _ {V : Type 0} where
           by rest false is g = rest g
 
   -- the first key of a listing is in the map
-  pub listed_key : {K : Type 0} (data_of : K → Key) (m : Pairs V) (keys rest : List Key) (r : Option K) → IsKeyListing (keyed m) keys → YieldsFirstBy data_of (λ x. x) keys r rest → IfSome r (λ key. contains_key m (data_of key) ≡ true)
+  pub listed_key : {K : Type 0} (data_of : K → Key) (m : Pairs V) (keys rest : List Key) (r : Option K) → IsKeyListing (keyed m) keys
+      → YieldsFirstBy data_of (λ x. x) keys r rest → IfSome r (λ key. contains_key m (data_of key) ≡ true)
   listed_key data_of m keys rest None listing steps = tt
   listed_key data_of m keys rest (Some key) listing steps =
       sym (contains-keyed m (data_of key)) ∙ sym (listing.all (data_of key)) ∙ ap (λ ks. set.contains (set.from_list {R = key_cmp} ks) (data_of key)) steps
       ∙ item_inserted keys_total exact_keys (set.from_list rest) (data_of key)
 
   -- and if there is none, the map is empty
-  pub listed_none : {K : Type 0} (data_of : K → Key) (m : Pairs V) (keys rest : List Key) (r : Option K) → IsKeyListing (keyed m) keys → YieldsFirstBy data_of (λ x. x) keys r rest → IfNone r (m ≡ map.empty)
+  pub listed_none : {K : Type 0} (data_of : K → Key) (m : Pairs V) (keys rest : List Key) (r : Option K) → IsKeyListing (keyed m) keys
+      → YieldsFirstBy data_of (λ x. x) keys r rest → IfNone r (m ≡ map.empty)
   listed_none data_of m keys rest None listing steps = map.empty_of_len m (sym (len-keyed m) ∙ sym listing.once ∙ ap length steps.0)
   listed_none data_of m keys rest (Some key) listing steps = tt

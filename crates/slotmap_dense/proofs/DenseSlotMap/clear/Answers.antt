@@ -5,4 +5,5 @@ pub loop-pair-init : goal.loop-pair-init
 loop-pair-init g c = Taken-start _ c.note_valid.ensures
 
 pub loop-pair-preserved : goal.loop-pair-preserved
-loop-pair-preserved g c = Taken-next g.K.Key.data_of _ c.loop-pair.self c.take_last.new.self c.in-Some._pair c.loop-pair.invariant c.in-Some.ensures.takes c.in-Some.ensures.valid.capacity c.in-Some.ensures.valid.after
+loop-pair-preserved g c =
+    Taken-next g.K.Key.data_of _ c.loop-pair.self c.take_last.new.self c.in-Some._pair c.loop-pair.invariant c.in-Some.ensures.takes c.in-Some.ensures.valid.capacity c.in-Some.ensures.valid.after

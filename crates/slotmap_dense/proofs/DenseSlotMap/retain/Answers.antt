@@ -27,7 +27,9 @@ loop-position-init g c =
       within = omega arith;
       visits = [];
       calls = refl;
-      visited = subst (λ rest. Visits g.K.Key.data_of c.args.self.now.content.live [] rest c.args.self.now.content.live) (sym (rest-start c.args.self.now well)) (Visits-start g.K.Key.data_of c.args.self.now.content.live);
+      visited =
+          subst (λ rest. Visits g.K.Key.data_of c.args.self.now.content.live [] rest c.args.self.now.content.live)
+              (sym (rest-start c.args.self.now well)) (Visits-start g.K.Key.data_of c.args.self.now.content.live);
       so_far = SoFar-start g.K.Key.data_of c.args.self.now;
     }
 
@@ -65,7 +67,9 @@ loop-position-preserved-then-f g c =
     let visit : Visit g.row.K.Denot g.row.V.Denot = record { key = c.key_at-key.result; before = c.value_at.result.now; after = c.f.new.arg3; stays = c.f.result } in
     let found : map.get rest key ≡ Some visit.before = comes.found ∙ c.value_at.ensures.value in
     let seen = Visits-call g.K.Key.data_of old.live at.invariant.visits rest at.self.content.live visit at.invariant.visited found in
-    let live : cond visit.stays (map.insert at.self.content.live key visit.after) (map.remove at.self.content.live key) ≡ map.insert at.self.content.live key visit.after = ap (λ b. cond b (map.insert at.self.content.live key visit.after) (map.remove at.self.content.live key)) c.if-f.true in
+    let live : cond visit.stays (map.insert at.self.content.live key visit.after)
+            (map.remove at.self.content.live key) ≡ map.insert at.self.content.live key visit.after = ap
+            (λ b. cond b (map.insert at.self.content.live key visit.after) (map.remove at.self.content.live key)) c.if-f.true in
     record {
       well = IsDense-with_value at.self key visit.after at.invariant.well comes.is_live;
       leaves = Leaves-trans old at.self.content (with_value at.self.content key visit.after) at.invariant.leaves (Leaves-with_value at.self.content key visit.after comes.is_live);
@@ -92,7 +96,8 @@ loop-position-preserved g c =
     let well = IsDense-with_value at.self key visit.after at.invariant.well comes.is_live in
     let gone = c.take_at.ensures.leaves key comes.stands in
     let live : cond visit.stays (map.insert at.self.content.live key visit.after) (map.remove at.self.content.live key) ≡ c.take_at.new.self.content.live =
-    ap (λ b. cond b (map.insert at.self.content.live key visit.after) (map.remove at.self.content.live key)) c.if-f.false ∙ sym (remove-insert at.self.content.live key visit.after) ∙ sym gone.removes.live in
+    ap (λ b. cond b (map.insert at.self.content.live key visit.after) (map.remove at.self.content.live key)) c.if-f.false
+        ∙ sym (remove-insert at.self.content.live key visit.after) ∙ sym gone.removes.live in
     record {
       well = c.take_at.ensures.valid.after;
       leaves = Leaves-removed false written.content well.content key (same_live at.self.content key visit.after comes.is_live key ∙ comes.is_live) c.take_at.new.self.content gone.removes old
@@ -103,7 +108,8 @@ loop-position-preserved g c =
       calls = FoldsTo-push (CallsAt g.F.FnMut) c.args.f at.invariant.visits at.f visit c.f.new.self at.invariant.calls (CallsAt-called g.F.FnMut c.f.ensures);
       visited = subst (λ rest. Visits g.K.Key.data_of old.live (at.invariant.visits ++ visit ∷ []) rest c.take_at.new.self.content.live) (sym (gone.rest ∙ comes.written visit.after))
           (subst (Visits g.K.Key.data_of old.live (at.invariant.visits ++ visit ∷ []) (map.remove rest key)) live seen);
-      so_far = SoFar-dropped g.K.Key.data_of c.args.self.now at.self at.invariant.visits at.position at.invariant.so_far visit comes.stands c.take_at.new.self c.if-f.false gone.keys gone.removes.stack;
+      so_far =
+          SoFar-dropped g.K.Key.data_of c.args.self.now at.self at.invariant.visits at.position at.invariant.so_far visit comes.stands c.take_at.new.self c.if-f.false gone.keys gone.removes.stack;
     }
 
 pub returns-clause-retained : goal.returns-clause-retained

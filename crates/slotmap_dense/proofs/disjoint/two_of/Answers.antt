@@ -12,8 +12,12 @@ returns-then-first-second g c =
       ((refl, refl), λ a b. rw (cut.value) (set-cut front back c.args.first c.args.second a b cut.front_len less)),
       record {
         writes_back = tt;
-        first = ap (λ xs. slice_get xs c.args.first) cut.value ∙ slice_get-left front back c.args.first (omega (arith, cut.front_len)) ∙ slice_get_read front _ c.args.first _ refl (omega (arith, cut.front_len)) c.index-front-first.is;
-        second = ap (λ xs. slice_get xs c.args.second) cut.value ∙ slice_get-right front back c.args.second cut.front_len ∙ slice_get_read back _ 0 _ refl (omega (arith, cut.back_len, c.requires.second)) c.index-back-0.is;
+        first =
+            ap (λ xs. slice_get xs c.args.first) cut.value ∙ slice_get-left front back c.args.first (omega (arith, cut.front_len))
+                ∙ slice_get_read front _ c.args.first _ refl (omega (arith, cut.front_len)) c.index-front-first.is;
+        second =
+            ap (λ xs. slice_get xs c.args.second) cut.value ∙ slice_get-right front back c.args.second cut.front_len
+                ∙ slice_get_read back _ 0 _ refl (omega (arith, cut.back_len, c.requires.second)) c.index-back-0.is;
       },
     )
 
@@ -26,7 +30,11 @@ returns-else-first-second g c =
       ((refl, refl), λ a b. rw (cut.value) (set-cut_back front back c.args.second c.args.first a b cut.front_len less)),
       record {
         writes_back = tt;
-        first = ap (λ xs. slice_get xs c.args.first) cut.value ∙ slice_get-right front back c.args.first cut.front_len ∙ slice_get_read back _ 0 _ refl (omega (arith, cut.back_len, c.requires.first)) c.index-back-0-else-first-second.is;
-        second = ap (λ xs. slice_get xs c.args.second) cut.value ∙ slice_get-left front back c.args.second (omega (arith, cut.front_len)) ∙ slice_get_read front _ c.args.second _ refl (omega (arith, cut.front_len)) c.index-front-second.is;
+        first =
+            ap (λ xs. slice_get xs c.args.first) cut.value ∙ slice_get-right front back c.args.first cut.front_len
+                ∙ slice_get_read back _ 0 _ refl (omega (arith, cut.back_len, c.requires.first)) c.index-back-0-else-first-second.is;
+        second =
+            ap (λ xs. slice_get xs c.args.second) cut.value ∙ slice_get-left front back c.args.second (omega (arith, cut.front_len))
+                ∙ slice_get_read front _ c.args.second _ refl (omega (arith, cut.front_len)) c.index-front-second.is;
       },
     )

@@ -18,14 +18,20 @@ loop-first-preserved g c =
     let index : c.idx.result ≡ key.index = c.idx.ensures.value ∙ ap (λ k. k.index) c.data.ensures.value in
     let comes = subst (λ i. IsNextLive g.K.Key.data_of at.self.content (i + 1) c.first_live-first-in-Some.result) index c.first_live-first-in-Some.ensures.comes in
     let removes = c.take_live.ensures.removes in
-    let first = first_entry at.self.content clearing.sweep.valid.valid clearing.index key clearing.sweep.comes.2 c.take_live.result clearing.above c.take_live.ensures.value ∙ ap (λ m. (key, c.take_live.result) ∷ map.entries m) (sym removes.live) in
+    let first = first_entry at.self.content clearing.sweep.valid.valid clearing.index key clearing.sweep.comes.2 c.take_live.result clearing.above
+            c.take_live.ensures.value ∙ ap (λ m. (key, c.take_live.result) ∷ map.entries m) (sym removes.live) in
     record {
-      clearing = clearing_removed g.K.Key.data_of c.args.self.now at.self new c.in-Some.key c.first_live-first-in-Some.result clearing comes removes c.take_live.ensures.valid.capacity c.take_live.ensures.valid.after;
-      blocks = at.invariant.blocks ∙ ap (blocks_without_all at.self) (keys_first at.self.content.live new.content.live key c.take_live.result first) ∙ blocks_taken at.self new key (map.keys new.content.live) removes c.take_live.ensures.blocks;
+      clearing =
+          clearing_removed g.K.Key.data_of c.args.self.now at.self new c.in-Some.key c.first_live-first-in-Some.result clearing comes removes
+              c.take_live.ensures.valid.capacity c.take_live.ensures.valid.after;
+      blocks =
+          at.invariant.blocks ∙ ap (blocks_without_all at.self) (keys_first at.self.content.live new.content.live key c.take_live.result first)
+              ∙ blocks_taken at.self new key (map.keys new.content.live) removes c.take_live.ensures.blocks;
     }
 
 pub returns-clause-empty : goal.returns-clause-empty
-returns-clause-empty g c = clearing_ends g.K.Key.data_of c.args.self.now c.loop-first.self (subst (Clearing g.K.Key.data_of c.args.self.now c.loop-first.self) c.in_default.is c.loop-first.invariant.clearing)
+returns-clause-empty g c =
+    clearing_ends g.K.Key.data_of c.args.self.now c.loop-first.self (subst (Clearing g.K.Key.data_of c.args.self.now c.loop-first.self) c.in_default.is c.loop-first.invariant.clearing)
 
 pub returns-clause-blocks : goal.returns-clause-blocks
 returns-clause-blocks g c = sym (c.loop-first.invariant.blocks ∙ ap (blocks_without_all c.loop-first.self) (keys_none c.loop-first.self.content.live (returns-clause-empty g c)))

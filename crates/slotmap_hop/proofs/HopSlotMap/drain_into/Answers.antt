@@ -35,9 +35,12 @@ loop-next-preserved g c =
     let comes = subst (λ i. IsNextLive g.K.Key.data_of at.self.content (i + 1) c.first_live-next-in-Some.result) index c.first_live-next-in-Some.ensures.comes in
     let value = c.take_live-value.result in
     let removes = c.take_live-value.ensures.removes in
-    let next = first_entry at.self.content clearing.sweep.valid.valid clearing.index key clearing.sweep.comes.2 value clearing.above c.take_live-value.ensures.value ∙ ap (λ m. (key, value) ∷ map.entries m) (sym removes.live) in
+    let next = first_entry at.self.content clearing.sweep.valid.valid clearing.index key clearing.sweep.comes.2 value clearing.above
+            c.take_live-value.ensures.value ∙ ap (λ m. (key, value) ∷ map.entries m) (sym removes.live) in
     record {
-      clearing = clearing_removed g.K.Key.data_of c.args.self.now at.self c.take_live-value.new.self c.in-Some.key c.first_live-next-in-Some.result clearing comes removes c.take_live-value.ensures.valid.capacity c.take_live-value.ensures.valid.after;
+      clearing =
+          clearing_removed g.K.Key.data_of c.args.self.now at.self c.take_live-value.new.self c.in-Some.key c.first_live-next-in-Some.result clearing
+              comes removes c.take_live-value.ensures.valid.capacity c.take_live-value.ensures.valid.after;
       blocks = at.invariant.blocks ∙ ap (blocks_without_all at.self) (keys_first at.self.content.live c.take_live-value.new.self.content.live key value next)
           ∙ blocks_taken at.self c.take_live-value.new.self key (map.keys c.take_live-value.new.self.content.live) removes c.take_live-value.ensures.blocks;
       pairs = at.invariant.pairs ++ (c.in-Some.key, value) ∷ [];
@@ -46,11 +49,14 @@ loop-next-preserved g c =
       listed = at.invariant.listed ∙ ap (λ es. list_map (λ p. (g.K.Key.data_of p.0, p.1)) at.invariant.pairs ++ es) next
           ∙ sym (append_assoc (list_map (λ p. (g.K.Key.data_of p.0, p.1)) at.invariant.pairs) ((key, value) ∷ []) (map.entries c.take_live-value.new.self.content.live))
           ∙ ap (λ es. es ++ map.entries c.take_live-value.new.self.content.live) (sym (map-append (λ p. (g.K.Key.data_of p.0, p.1)) at.invariant.pairs ((c.in-Some.key, value) ∷ [])));
-      room = omega (arith, at.invariant.room, c.push_reserved.ensures.len, c.push_reserved.ensures.capacity, ap map.len removes.live, len_removed keys_total exact_keys at.self.content.live key clearing.sweep.comes.0);
+      room =
+          omega (arith, at.invariant.room, c.push_reserved.ensures.len, c.push_reserved.ensures.capacity, ap map.len removes.live,
+              len_removed keys_total exact_keys at.self.content.live key clearing.sweep.comes.0);
     }
 
 pub returns-clause-empty : goal.returns-clause-empty
-returns-clause-empty g c = clearing_ends g.K.Key.data_of c.args.self.now c.loop-next.self (subst (Clearing g.K.Key.data_of c.args.self.now c.loop-next.self) c.in_default.is c.loop-next.invariant.clearing)
+returns-clause-empty g c =
+    clearing_ends g.K.Key.data_of c.args.self.now c.loop-next.self (subst (Clearing g.K.Key.data_of c.args.self.now c.loop-next.self) c.in_default.is c.loop-next.invariant.clearing)
 
 pub returns-clause-ok : goal.returns-clause-ok
 returns-clause-ok g c =

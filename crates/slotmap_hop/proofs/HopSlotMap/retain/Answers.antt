@@ -36,7 +36,8 @@ f-stays-requires g c =
     let old = c.args.self.now.content.live in
     let visited = at.invariant.visited in
     let comes = (subst (Sweeping g.K.Key.data_of c.args.self.now at.self at.invariant.index) c.in-Some.is at.invariant.sweep).comes in
-    c.requires.at at.f c.in-Some.key _ (Keyed-may_come g.K.Key.data_of old g.F.FnMut c.args.f at.f at.invariant.visits at.invariant.index at.self.content.live at.invariant.calls visited key comes.0 comes.1)
+    c.requires.at at.f c.in-Some.key _ (Keyed-may_come g.K.Key.data_of old g.F.FnMut c.args.f at.f at.invariant.visits at.invariant.index
+        at.self.content.live at.invariant.calls visited key comes.0 comes.1)
     (Keyed-same g.K.Key.data_of old at.invariant.visits at.invariant.index at.self.content.live visited key comes.1 ∙ c.get_unchecked_mut.ensures.value)
 
 pub take_live-requires : goal.take_live-requires
@@ -65,11 +66,16 @@ loop-next-preserved-then-not-stays g c =
     ∙ ap (λ b. cond b (map.insert at.self.content.live key visit.after) (map.remove at.self.content.live key)) (sym c.if-not-stays.true) in
     record {
       index = key.index + 1;
-      sweep = sweep_dropped g.K.Key.data_of old at.self at.invariant.index c.in-Some.key sweep visit.after c.take_live.new.self c.first_live-next-in-Some.result comes c.take_live.ensures.removes c.take_live.ensures.valid.capacity c.take_live.ensures.valid.after;
+      sweep =
+          sweep_dropped g.K.Key.data_of old at.self at.invariant.index c.in-Some.key sweep visit.after c.take_live.new.self
+              c.first_live-next-in-Some.result comes c.take_live.ensures.removes c.take_live.ensures.valid.capacity c.take_live.ensures.valid.after;
       visits = at.invariant.visits ++ visit ∷ [];
       calls = FoldsTo-push (CallsAt g.F.FnMut) c.args.f at.invariant.visits at.f visit c.f-stays.new.self at.invariant.calls (CallsAt-called g.F.FnMut c.f-stays.ensures);
       visited = rw live (Keyed-at g.K.Key.data_of old.content.live alone at.invariant.visits key.index at.self.content.live visit visited refl c.get_unchecked_mut.ensures.value);
-      in_order = InOrder-dropped g.K.Key.data_of old at.self at.invariant.visits at.invariant.index at.invariant.in_order well at.invariant.visited visit sweep.comes c.get_unchecked_mut.ensures.value (hop_with_value at.self key visit.after) c.take_live.new.self c.if-not-stays.true refl refl c.take_live.ensures.removes c.take_live.ensures.blocks;
+      in_order =
+          InOrder-dropped g.K.Key.data_of old at.self at.invariant.visits at.invariant.index at.invariant.in_order well at.invariant.visited visit
+              sweep.comes c.get_unchecked_mut.ensures.value (hop_with_value at.self key visit.after) c.take_live.new.self c.if-not-stays.true refl refl
+              c.take_live.ensures.removes c.take_live.ensures.blocks;
     }
 
 pub loop-next-preserved : goal.loop-next-preserved
@@ -94,7 +100,9 @@ loop-next-preserved g c =
       visits = at.invariant.visits ++ visit ∷ [];
       calls = FoldsTo-push (CallsAt g.F.FnMut) c.args.f at.invariant.visits at.f visit c.f-stays.new.self at.invariant.calls (CallsAt-called g.F.FnMut c.f-stays.ensures);
       visited = rw live (Keyed-at g.K.Key.data_of old.content.live alone at.invariant.visits key.index at.self.content.live visit visited refl c.get_unchecked_mut.ensures.value);
-      in_order = InOrder-kept g.K.Key.data_of old at.self at.invariant.visits at.invariant.index at.invariant.in_order well at.invariant.visited visit sweep.comes c.get_unchecked_mut.ensures.value (hop_with_value at.self key visit.after) c.if-not-stays.false refl refl;
+      in_order =
+          InOrder-kept g.K.Key.data_of old at.self at.invariant.visits at.invariant.index at.invariant.in_order well at.invariant.visited visit
+              sweep.comes c.get_unchecked_mut.ensures.value (hop_with_value at.self key visit.after) c.if-not-stays.false refl refl;
     }
 
 pub returns-clause-retained : goal.returns-clause-retained

@@ -63,4 +63,5 @@ returns-in-Occupied-clause-takes g c =
     )
 
 pub returns-in-Occupied-clause-valid : goal.returns-in-Occupied-clause-valid
-returns-in-Occupied-clause-valid g c = valid _ _ (invariant_of-self-in-Occupied g c) _ (omega (arith, length-set c.self.inside.slots.items c.args.index c.replace.new.dest, c.self.inside.slots.ok.0, c.self.inside.slots.ok.1))
+returns-in-Occupied-clause-valid g c =
+    valid _ _ (invariant_of-self-in-Occupied g c) _ (omega (arith, length-set c.self.inside.slots.items c.args.index c.replace.new.dest, c.self.inside.slots.ok.0, c.self.inside.slots.ok.1))

@@ -19,7 +19,8 @@ returns-in_default g c =
     )
 
 pub invariant_of-self-then-slot-version : goal.invariant_of-self-then-slot-version
-invariant_of-self-then-slot-version g c = IsSound-kept c.self.inside.slots _ c.self.invariant _ c.in-Some.slot.now (sym c.get_mut.ensures.value ∙ ap option_copied_mut c.in-Some.is) (c.get_mut.follows.holds c.in-Some.slot.now)
+invariant_of-self-then-slot-version g c =
+    IsSound-kept c.self.inside.slots _ c.self.invariant _ c.in-Some.slot.now (sym c.get_mut.ensures.value ∙ ap option_copied_mut c.in-Some.is) (c.get_mut.follows.holds c.in-Some.slot.now)
 
 pub returns-then-slot-version : goal.returns-then-slot-version
 returns-then-slot-version g c =
@@ -38,7 +39,8 @@ returns-then-slot-version g c =
 pub invariant_of-self-lent : goal.invariant_of-self-lent
 invariant_of-self-lent g c w =
     let at = c.idx.ensures.value ∙ ap (λ k. k.index) c.data-key.ensures.value in
-    IsSound-through _ _ c.self.invariant (g.K.Key.data_of c.args.key) _ at c.in-Some.slot.now w (sym c.get_mut.ensures.value ∙ ap option_copied_mut c.in-Some.is) (c.get_mut.follows.holds (c.in-Some.slot.now.0, w))
+    IsSound-through _ _ c.self.invariant (g.K.Key.data_of c.args.key) _ at c.in-Some.slot.now w
+        (sym c.get_mut.ensures.value ∙ ap option_copied_mut c.in-Some.is) (c.get_mut.follows.holds (c.in-Some.slot.now.0, w))
 
 pub returns : goal.returns
 returns g c =

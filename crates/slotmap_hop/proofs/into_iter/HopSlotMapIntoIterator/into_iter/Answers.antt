@@ -7,4 +7,6 @@ pub invariant_of-result : goal.invariant_of-result
 invariant_of-result g c = rw (c.links_at-sentinel.ensures, c.as_slice.ensures.value) (walk_starts _ _ _ c.self.invariant)
 
 pub returns : goal.returns
-returns g c = rw (c.links_at-sentinel.ensures, c.as_slice.ensures.value, pairs-start _ _ _ c.self.invariant, ← c.self.view_is) (record { into_iter_gives = record { listing = listing-entries _; in_order = refl } })
+returns g c =
+    rw (c.links_at-sentinel.ensures, c.as_slice.ensures.value, pairs-start _ _ _ c.self.invariant, ← c.self.view_is)
+        (record { into_iter_gives = record { listing = listing-entries _; in_order = refl } })
