@@ -10,12 +10,10 @@ use std::alloc::{AllocError, Global};
 mod columns;
 mod numbers;
 mod rows;
-mod sure;
 
 pub use columns::Columns;
 pub(crate) use columns::{next_odd, version_in};
 pub use rows::Rows;
-pub(crate) use sure::sure;
 
 /// What a slot is used for.
 #[derive(Clone, Copy)]

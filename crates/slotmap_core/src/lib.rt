@@ -13,3 +13,4 @@ pub mod primary;
 pub mod secondary;
 pub mod serial;
 pub mod slots;
+pub mod sure;

@@ -10,6 +10,7 @@ ghost use Rattle.slotmap_hop.specs.HopContent.{IsHopContent, StaysHop, hop_with_
 use crate::HopSlotMap;
 use crate::links::State;
 use slotmap_core::keys::Key;
+use slotmap_core::sure::never;
 use std::mem;
 use std::ops::{Index, IndexMut};
 
@@ -66,7 +67,7 @@ impl<K: Key, V: Drop> HopSlotMap<K, V> {
         let index = self.live_index(key)?;
         match &self.slots[index].state {
             State::Occupied(value) => Some(value),
-            _ => unreachable!(),
+            _ => never(),
         }
     }
 
@@ -86,7 +87,7 @@ impl<K: Key, V: Drop> HopSlotMap<K, V> {
         let index = key.data().idx() as usize;
         match &self.slots[index].state {
             State::Occupied(value) => value,
-            _ => unreachable!(),
+            _ => never(),
         }
     }
 
@@ -131,7 +132,7 @@ impl<K: Key, V: Drop> HopSlotMap<K, V> {
         let index = key.data().idx() as usize;
         match &mut self.slots[index].state {
             State::Occupied(value) => value,
-            _ => unreachable!(),
+            _ => never(),
         }
     }
 

@@ -11,6 +11,7 @@ use crate::HopSlotMap;
 use crate::counted::CountedSlots;
 use crate::links::{Slot, State, links_at};
 use slotmap_core::keys::{Key, KeyData};
+use slotmap_core::sure::never;
 use std::alloc::AllocError;
 use std::iter::FusedIterator;
 use std::marker::{Model, PhantomData};
@@ -68,7 +69,7 @@ pub(crate) fn next_live<'a, V>(
             _ => place += 1,
         }
     }
-    unreachable!()
+    never()
 }
 
 impl<'a, K, V> Iter<'a, K, V> {
@@ -149,7 +150,7 @@ impl<'a, K: Key, V> Iterator for Iter<'a, K, V> {
         let (key, slot) = self.step()?;
         match &slot.state {
             State::Occupied(value) => Some((key, value)),
-            _ => unreachable!(),
+            _ => never(),
         }
     }
 

@@ -5,8 +5,8 @@ ghost use Rattle.slotmap_core.specs.Columns.{AllEven, zip_slots};
 ghost use Rattle.slotmap_core.specs.declared.layout.Link.{Link as LinkOf};
 
 use super::numbers::{link_for, number_for};
-use super::sure::{sure, sure_mut};
 use super::{CopyLayout, Layout, Link};
+use crate::sure::{sure, sure_mut};
 use std::alloc::{AllocError, Global};
 use std::marker::Model;
 

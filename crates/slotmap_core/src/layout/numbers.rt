@@ -6,6 +6,7 @@ ghost use Rattle.slotmap_core.specs.Numbers.{link_of, number_of};
 ghost use Rattle.slotmap_core.specs.declared.layout.Link.TheVariants.{InUse};
 
 use super::Link;
+use crate::sure::never;
 
 // The number of a detached slot. No slot has this index.
 const DETACHED: u32 = 4294967295;
@@ -20,7 +21,7 @@ pub(super) fn number_for(link: Link) -> u32
     ensures { result ≡ number_of link }
 {
     match link {
-        Link::InUse => unreachable!(),
+        Link::InUse => never(),
         Link::Free(next) => next,
         Link::Detached => DETACHED,
         Link::Retired => RETIRED,

@@ -6,7 +6,8 @@ ghost use Rattle.std.specs.FinMap as map;
 
 use super::Slots;
 use crate::keys::KeyData;
-use crate::layout::{Columns, next_odd, sure, version_in};
+use crate::layout::{Columns, next_odd, version_in};
+use crate::sure::sure;
 use std::alloc::AllocError;
 use std::marker::Model;
 

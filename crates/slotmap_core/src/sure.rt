@@ -1,15 +1,17 @@
-//! What an option that is proved to hold a value holds.
+//! Code that is proved never to run, and what an option that is proved to hold a value holds.
+//!
+//! For the crates of the maps: their code takes out what is known to be there.
 
 ghost use Rattle.std.specs.Prelude.{◌≡◌, IsSome, Some};
 ghost use Rattle.std.specs.Borrow.{sem, Lends};
 ghost use Rattle.std.specs.contracts.option.Option.{the_row};
 
-// Stands where control is proved never to come, as `unreachable!` does.
-//
-// The code of `unreachable!` is a trap, so a test leads there. Here a write to a place that no
-// slice has comes before it. LLVM knows that no such write runs, and leaves out the test.
+/// Stands where control is proved never to come, as `unreachable!` does.
+///
+/// The code of `unreachable!` is a trap, so a test leads there. Here a write to a place that no
+/// slice has comes before it. LLVM knows that no such write runs, and leaves out the test.
 #[inline(always)]
-pub(super) fn never() -> !
+pub fn never() -> !
     requires { ⊥ }
 {
     let nowhere: &mut [u8] = &mut [];
@@ -17,9 +19,9 @@ pub(super) fn never() -> !
     unreachable!()
 }
 
-// Returns what an option holds, as `unwrap` does, with no test.
+/// Returns what an option holds, as `unwrap` does, with no test.
 #[inline(always)]
-pub(crate) fn sure<T>(option: Option<T>) -> T
+pub fn sure<T>(option: Option<T>) -> T
     requires { IsSome option }
     ensures { option ≡ Some result }
 {
@@ -29,9 +31,9 @@ pub(crate) fn sure<T>(option: Option<T>) -> T
     }
 }
 
-// Lends what an option holds, with no test.
+/// Lends what an option holds, with no test.
 #[inline(always)]
-pub(super) fn sure_mut<T>(option: &mut Option<T>) -> &mut T
+pub fn sure_mut<T>(option: &mut Option<T>) -> &mut T
     requires { IsSome option.old }
     ensures* writes_back { sem 𝓛 (Lends (the_row T.row) T.row option.entry result Some) }
     ensures value { option.old ≡ Some result.now }
