@@ -1,5 +1,5 @@
 -- What a call that changes one side table alone does to it: the value of one key, or its removal.
-use Rattle.std.proofs.Common.{◌≡◌, ◌≢◌, ℕ, Option, Some, None, is_some, inl, inr, ◌⊎◌, refl, sym, ap, ◌∙◌, arith}
+use Rattle.std.proofs.Common.{◌≡◌, ◌≢◌, ℕ, Some, None, is_some, inl, inr, ◌⊎◌, sym, ap, ◌∙◌, arith}
 use Rattle.std.proofs.lemmas.Bool.Decides.{nat_tests}
 use Rattle.slotmap.specs.Words.{Key, Content, IsBeside, Pairs, get, bind, remove}
 use Rattle.slotmap_core.proofs.KeyLemmas.{same_or_other}

@@ -2,7 +2,7 @@
 use Rattle.std.specs.Prelude.{refl, ℕ, map as list_map}
 use Rattle.std.specs.Coded.{Coded, code_by, coded_ℕ}
 use Rattle.std.specs.FinMap as map
-use Rattle.slotmap_core.specs.Key.{Key, key_cmp}
+use Rattle.slotmap_core.specs.Key.{key_cmp}
 use Rattle.slotmap_core.specs.Content.{Content, content_code}
 
 -- the same keys, with no values
