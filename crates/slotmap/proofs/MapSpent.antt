@@ -1,8 +1,8 @@
 -- Which keys of a `DenseSlotMap` or a `HopSlotMap` are spent after a call, by the clauses of the call.
 use Rattle.std.proofs.Common.{◌≡◌, ◌≢◌, true, false, Option, OnSome, IfNone, Result, IfOk, IsErr, OnErr}
 use Rattle.std.specs.FinMap as map
-use Rattle.slotmap_core.proofs.SpentLemmas.{spent_insert, insert_not_spent, spent_remove, live_remove_spent, remove_spent, spent_detach,
-    spent_leaves, spent_stale, spent_finds_nothing, spent_not_detached}
+use Rattle.slotmap_core.proofs.SpentLemmas.{spent_insert, insert_not_spent, spent_remove, live_remove_spent, remove_spent, spent_detach, spent_leaves}
+use Rattle.slotmap_core.proofs.SpentLemmas.{spent_stale, spent_finds_nothing, spent_not_detached}
 use Rattle.slotmap.specs.Words.{Key, IsLive, IsSpent, KeepsSpent, Inserts, Removes, Detaches, Keeps, Dense, StaysDense, GrowsDense, HopContent, StaysHop, GrowsHop}
 use Rattle.slotmap.proofs.MapContents.{if_none, dense_stays, dense_grows, hop_stays, hop_grows}
 

@@ -20,8 +20,8 @@ pub use Rattle.slotmap_dense.specs.Dense.{Dense, dense_code, IsDense, ListsPairs
 pub use Rattle.slotmap_dense.specs.Call.{StaysValid as StaysDense, MayGrow as GrowsDense, MakesRoom as MakesDenseRoom}
 pub use Rattle.slotmap_dense.specs.Retain.{RetainsPacked}
 -- a map whose iterators hop: its model is a content with the blocks that its vacant places form
-pub use Rattle.slotmap_hop.specs.HopContent.{HopContent, hop_code, IsHopContent, ListsEntries, NoBlocks, IsNextLive, hop_with_value, hop_with_values,
-    blocks_without, blocks_without_all, StaysHop, GrowsHop, MakesHopRoom}
+pub use Rattle.slotmap_hop.specs.HopContent.{HopContent, hop_code, IsHopContent, ListsEntries, NoBlocks, IsNextLive, hop_with_value, hop_with_values}
+pub use Rattle.slotmap_hop.specs.HopContent.{blocks_without, blocks_without_all, StaysHop, GrowsHop, MakesHopRoom}
 pub use Rattle.slotmap_hop.specs.Blocks.{Blocks, HasMaximalBlocks, IsBlock, vacated, offer_place, shorter}
 pub use Rattle.slotmap_hop.specs.Walk.{Walking, StartsIter, CountsReads, CountsReadsSomewhere, ListsRetired, ReadsFew}
 pub use Rattle.slotmap_hop.specs.Retain.{RetainsByIndex}

@@ -24,7 +24,7 @@ module _ {K V : Type 0} (data_of : K → Key) where
       let taken = run.1.0 in
       let rest = Drain-lists run.0 pairs later run.2 in
       IsListingBut-first (drain_map first).live (drain_map later).live (entries pairs) (data_of pair.0) pair.1 taken.0
-          (subst (λ m. IsListingBut m (entries pairs) (drain_map later).live) taken.1.live rest)
+      (subst (λ m. IsListingBut m (entries pairs) (drain_map later).live) taken.1.live rest)
 
   pub Drain-in_order : (first : Drain K V) → DrainInOrder data_of first
   Drain-in_order first [] later run = ap (λ d. map.entries (drain_map d).live) run

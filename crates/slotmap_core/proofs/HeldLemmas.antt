@@ -1,6 +1,6 @@
 -- What calls know of slots, by what the map holds.
-use Rattle.std.proofs.Common.{◌≡◌, ◌≢◌, ℕ, zero, suc, ◌+◌, ◌-◌, ◌<◌, ◌≤◌, ◌^◌, ◌%◌, min, true, List, [], ◌∷◌, ◌++◌, length, set, slice_get, Some,
-    None, option_map, is_some, refl, sym, ap, subst, ◌∙◌, arith}
+use Rattle.std.proofs.Common.{◌≡◌, ◌≢◌, ℕ, zero, suc, ◌+◌, ◌-◌, ◌<◌, ◌≤◌, ◌^◌, ◌%◌, min, true, List, [], ◌∷◌, ◌++◌, length, set, slice_get, Some}
+use Rattle.std.proofs.Common.{None, option_map, is_some, refl, sym, ap, subst, ◌∙◌, arith}
 use Rattle.std.proofs.lemmas.List.{length-set, length_push}
 use Rattle.std.proofs.lemmas.Option.{slice_get_within}
 use Rattle.std.specs.FinMap as map
@@ -40,7 +40,7 @@ module _ {P : Type 0} (slots : List (Slot P)) (fits head kept count : ℕ) (held
       let free = vacancies slots kept count in
       let found = held_kept k aside in
       let after = free_below (set slots k.index (full k.version w)) head free (count + 1)
-              (reattached slots head free count held.sound k.index found.own_version k.version found.there found.before w).sound in
+      (reattached slots head free count held.sound k.index found.own_version k.version found.there found.before w).sound in
       omega (arith, after, length-set slots k.index (full k.version w), held.fewer)
 
   pub held_room : 0 < now.room → (taken (places_of slots) < most) × (length slots < fits + vacancies slots kept count)
@@ -66,8 +66,14 @@ module _ {P : Type 0} (slots : List (Slot P)) (fits head kept count : ℕ) (held
   -- if a place is vacant, or one more slot fits, there is room
   pub held_reuses : head ≢ 0 → 0 < now.room
   held_reuses other =
-      omega (arith, some_free slots head (vacancies slots kept count) count held.sound other, ap (λ c. c.room) (sym view),
-          taken-slots slots head (vacancies slots kept count) count held.sound, held.holds, held_fits)
+      omega (
+        arith,
+        some_free slots head (vacancies slots kept count) count held.sound other,
+        ap (λ c. c.room) (sym view),
+        taken-slots slots head (vacancies slots kept count) count held.sound,
+        held.holds,
+        held_fits,
+      )
 
   pub held_spare : fits < 2 ^ 32 → length slots < fits → 0 < now.room
   held_spare limit spare = omega (arith, ap (λ c. c.room) (sym view), taken-slots slots head (vacancies slots kept count) count held.sound)
@@ -95,7 +101,7 @@ module _ {P : Type 0} (slots : List (Slot P)) (fits head kept count : ℕ) (held
 pub held_stays : {P : Type 0} (slots : List (Slot P)) (fits head kept count : ℕ) → IsHeld slots fits head kept count → {now : Content P}
     → content (map_of slots head (vacancies slots kept count) (fits - 1)) ≡ now
     → (slots2 : List (Slot P)) (fits2 head2 kept2 count2 : ℕ) → IsHeld slots2 fits2 head2 kept2 count2 → fits2 ≡ fits
-        → StaysValid true now (content (map_of slots2 head2 (vacancies slots2 kept2 count2) (fits2 - 1)))
+    → StaysValid true now (content (map_of slots2 head2 (vacancies slots2 kept2 count2) (fits2 - 1)))
 held_stays slots fits head kept count held view slots2 fits2 head2 kept2 count2 after same = record {
   before = held_valid slots fits head kept count held view;
   after = held_valid slots2 fits2 head2 kept2 count2 after refl;
@@ -153,7 +159,7 @@ room_had c n ok is well room = record {
 pub grown : {P : Type 0} (slots : List (Slot P)) (fits head kept count : ℕ) → IsHeld slots fits head kept count → {now : Content P}
     → content (map_of slots head (vacancies slots kept count) (fits - 1)) ≡ now
     → (more : ℕ) → fits ≤ more → (n : ℕ) (ok : Type 0) → now.room < n → (ok → (used now + n ≤ most) × (used now + n + 1 ≤ more))
-        → MakesRoom true now n ok (content (map_of slots head (vacancies slots kept count) (more - 1)))
+    → MakesRoom true now n ok (content (map_of slots head (vacancies slots kept count) (more - 1)))
 grown slots fits head kept count held {now} view more on n ok none enough =
     let after = valid slots head (vacancies slots kept count) count held.sound more (omega (arith, held.holds)) in
     record {

@@ -38,8 +38,16 @@ module _ {V : Type 0} where
   pub from_index-take : (i : ℕ) (m : map.FinMap key_cmp V) (k : Key) → k.index ≡ i → ((q : Key) → map.contains_key m q ≡ true → q.index ≡ i → q ≡ k)
       → from_index (i + 1) m ≡ map.remove (from_index i m) k
   from_index-take i m k at alone = map.same_map keys_total exact_keys _ _ (λ q.
-      grind (arith, nat_tests, get-from_index (i + 1) m q, map.get-remove keys_total (from_index i m) k q, get-from_index i m q,
-          tied keys_total exact_keys q k, itself keys_total exact_keys k, alone q))
+      grind (
+        arith,
+        nat_tests,
+        get-from_index (i + 1) m q,
+        map.get-remove keys_total (from_index i m) k q,
+        get-from_index i m q,
+        tied keys_total exact_keys q k,
+        itself keys_total exact_keys k,
+        alone q,
+      ))
 
   -- a map is empty if no key is live
   pub none_live : (m : map.FinMap key_cmp V) → ((q : Key) → map.contains_key m q ≡ true → ⊥) → m ≡ map.empty

@@ -89,8 +89,14 @@ module _ {V : Type 0} where
       no_more = λ q there. (in_after_remove keys_total exact_keys b.live k q (sym (ap (λ m. map.contains_key m q) removes.live) ∙ there)).1;
       detached = removes.detached;
       retired = λ q.
-          grind (arith, ap (λ s. set.contains s q) removes.retired, set.contains-insert keys_total b.retired k q, get_left b c k removes q,
-              tied keys_total exact_keys q k, itself keys_total exact_keys k);
+          grind (
+            arith,
+            ap (λ s. set.contains s q) removes.retired,
+            set.contains-insert keys_total b.retired k q,
+            get_left b c k removes q,
+            tied keys_total exact_keys q k,
+            itself keys_total exact_keys k,
+          );
       next = λ i v. (
         λ h. ⊎_elim (λ new. inr (k, has_left_if b c k is_live (λ there. absurd (let none = live_no_more b c k removes in cc)), new.2, sym new.0, sym new.1))
             (λ was. inl was) (in_freed k b.next i v (sym (ap (λ m. map.get m i) removes.next) ∙ h)),

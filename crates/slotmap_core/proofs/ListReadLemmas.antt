@@ -20,8 +20,8 @@ use Rattle.slotmap_core.proofs.ContentsLemmas.{slot_vacant}
 use Rattle.slotmap_core.proofs.GatherLemmas.{slice_get_push}
 use Rattle.slotmap_core.proofs.PlacesLemmas.{len-live-push}
 use Rattle.slotmap_core.proofs.StartFits.{starts-fit}
-use Rattle.slotmap_core.proofs.StartLemmas.{odd_of, even_where, vacant_place, start_places-push, live-start_places, retired-start_places,
-    next-start_places, detached-start_places, sentinel-start_places}
+use Rattle.slotmap_core.proofs.StartLemmas.{odd_of, even_where, vacant_place, start_places-push, live-start_places, retired-start_places}
+use Rattle.slotmap_core.proofs.StartLemmas.{next-start_places, detached-start_places, sentinel-start_places}
 use Rattle.slotmap_core.proofs.StartStack.{start_stack-push, IsStacked-start_places}
 use Rattle.slotmap_core.proofs.WrittenLemmas.{writes-places, written-restores, written-again}
 use Rattle.slotmap_core.proofs.SlotLemmas.{slot_at, IsSlot-full, IsSlot-empty, IsFreeList-push, walk-stack}
@@ -32,8 +32,8 @@ pub reads_as : {V : Type 0} (slots : List (SlotRecord V)) (limit : ℕ) → Acce
 reads_as slots limit accepted reuses c starts valid =
     let ps = start_places slots in
     let writes : Writes c (slots_of ps) = writes-places ps c (starts.live ∙ sym (live-start_places slots limit accepted))
-            (starts.detached ∙ sym (detached-start_places slots)) (starts.retired ∙ sym (retired-start_places slots limit accepted))
-            (starts.next ∙ sym (next-start_places slots limit accepted)) (sentinel-start_places slots limit accepted) in
+    (starts.detached ∙ sym (detached-start_places slots)) (starts.retired ∙ sym (retired-start_places slots limit accepted))
+    (starts.next ∙ sym (next-start_places slots limit accepted)) (sentinel-start_places slots limit accepted) in
     record {
       starts = starts;
       valid = valid;

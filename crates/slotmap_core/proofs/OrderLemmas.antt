@@ -89,7 +89,7 @@ module _ {V : Type 0} where
           )) in
           ap (λ n. map.keys n) put_in
           ∙ ap (λ es. list_map (λ (e : Key × V). e.0) es) (map.entries-insert keys_total stayed k value.0
-              ∙ put_last k value.0 (map.entries stayed) (λ q there. greater k q (above q (listed_left a b q (map.contains_key-keys stayed q ∙ there)))))
+          ∙ put_last k value.0 (map.entries stayed) (λ q there. greater k q (above q (listed_left a b q (map.contains_key-keys stayed q ∙ there)))))
           ∙ map-append (λ (e : Key × V). e.0) (map.entries stayed) ((k, value.0) ∷ [])
 
   -- a key of a smaller index than all that are removed later was removed before
@@ -115,4 +115,4 @@ module _ {V : Type 0} where
           ap (λ n. map.keys n) put_in
           ∙ ap (λ es. list_map (λ (e : Key × V). e.0) es)
           (map.entries-insert keys_total stayed k value.0 ∙ put_first k value.0 (map.entries stayed)
-              (λ q there. lesser k q (above q (was_live b c q (listed_left b c q (map.contains_key-keys stayed q ∙ there))))))
+          (λ q there. lesser k q (above q (was_live b c q (listed_left b c q (map.contains_key-keys stayed q ∙ there))))))

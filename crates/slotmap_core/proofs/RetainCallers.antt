@@ -32,7 +32,7 @@ module _ {F K V : Type 0} (g : Mut F (K × (MutBor V × Unit {0})) (Bool × (Mut
   -- each call writes nothing, and returns whether its key isn't this one: so this key is removed, and nothing else changes
   pub retained_but : (gone : K) (Holds : F → Type 0)
       → ((f f' : F) (key : K) (shown after : MutBor V) (stays : Bool) → Holds f → Called g f (key, (shown, tt)) (stays, (after, tt)) f' → Holds f'
-          × (after.now ≡ shown.now) × (stays ≡ not (same key gone)))
+      × (after.now ≡ shown.now) × (stays ≡ not (same key gone)))
       → {f : F} {old new : map.FinMap key_cmp V} → Holds f → RetainsBy g data_of f old new → new ≡ map.remove old (data_of gone)
   retained_but gone Holds each {f} {old} {new} holds ran = map.same_map keys_total exact_keys new (map.remove old (data_of gone)) (λ q.
       retained_as g data_of (λ k v. if eq_by_cmp key_cmp k (data_of gone) then None else Some v) Holds

@@ -48,8 +48,13 @@ module _ {F K V : Type 0} (g : Mut F (K × (MutBor V × Unit {0})) (Bool × (Mut
         let first = fresh_first map.empty (data_of x.key, x.before) (seen data_of xs) once in
         let does = each f calls.0 x holds calls.1 in
         elim (same_or_other k (data_of x.key)) [
-          | inl same ↦ (x, does.1, sym same, same_Some x.before v (sym (at_first x xs k same).0 ∙ found),
-              (at_first x xs k same).1 (unkept data_of (data_of x.key) xs (unlisted_if_absent (seen data_of xs) (data_of x.key) first.0)))
+          | inl same ↦ (
+            x,
+            does.1,
+            sym same,
+            same_Some x.before v (sym (at_first x xs k same).0 ∙ found),
+            (at_first x xs k same).1 (unkept data_of (data_of x.key) xs (unlisted_if_absent (seen data_of xs) (data_of x.key) first.0)),
+          )
           | inr other ↦
               let there = visit_of calls.0 last xs does.0 calls.2 first.1 k v (sym (past_first x xs k other).0 ∙ found) in
               (there.0, there.1, there.2, there.3, (past_first x xs k other).1 ∙ there.4)
@@ -61,7 +66,7 @@ module _ {F K V : Type 0} (g : Mut F (K × (MutBor V × Unit {0})) (Bool × (Mut
     retained_at {f} {old} {new} holds ran k v found =
         let all = IsListingBut-listing old (seen data_of ran.visits) ran.listed in
         let there = visit_of f ran.last ran.visits holds ran.calls (all.once ∙ ap map.len (sym all.all)) k v
-                (sym (map.get-from_entries keys_total (seen data_of ran.visits) k) ∙ ap (λ m. map.get m k) ran.listed.all ∙ found) in
+        (sym (map.get-from_entries keys_total (seen data_of ran.visits) k) ∙ ap (λ m. map.get m k) ran.listed.all ∙ found) in
         (there.0, there.1, there.2, there.3, ap (λ m. map.get m k) ran.stay ∙ map.get-from_entries keys_total (kept data_of ran.visits) k ∙ there.4)
 
   -- what each call does to its entry, the whole iteration does to each entry
@@ -79,7 +84,7 @@ module _ {F K V : Type 0} (g : Mut F (K × (MutBor V × Unit {0})) (Bool × (Mut
   -- if each call leaves `left` of its entry, so does the whole iteration
   pub retained_as : (left : Key → V → Option V) (Holds : F → Type 0)
       → ((f f' : F) (key : K) (shown after : MutBor V) (stays : Bool) → Holds f → Called g f (key, (shown, tt)) (stays, (after, tt)) f' → Holds f'
-          × (cond stays (Some after.now) None ≡ left (data_of key) shown.now))
+      × (cond stays (Some after.now) None ≡ left (data_of key) shown.now))
       → {f : F} {old new : map.FinMap key_cmp V} → Holds f → RetainsBy g data_of f old new → (k : Key) → map.get new k ≡ option_and_then (left k) (map.get old k)
   retained_as left Holds each = retained (λ q o p. p ≡ option_and_then (left q) o) (λ q. refl) Holds (λ f f' x holds call.
       let one = each f f' x.key call.shown call.left x.stays holds call.called in
@@ -102,8 +107,13 @@ module _ {F K V : Type 0} (g : Mut F (K × (MutBor V × Unit {0})) (Bool × (Mut
   stay_once (x ∷ xs) once =
       let first = fresh_first map.empty (data_of x.key, x.before) (seen data_of xs) once in
       let none = unkept data_of (data_of x.key) xs (unlisted_if_absent (seen data_of xs) (data_of x.key) first.0) in
-      grind (arith, stay_once xs first.1, map.get-from_entries keys_total (kept data_of xs) (data_of x.key), none,
-          len_inserted keys_total exact_keys (map.from_entries (kept data_of xs)) (data_of x.key) x.after)
+      grind (
+        arith,
+        stay_once xs first.1,
+        map.get-from_entries keys_total (kept data_of xs) (data_of x.key),
+        none,
+        len_inserted keys_total exact_keys (map.from_entries (kept data_of xs)) (data_of x.key) x.after,
+      )
 
   module _ (Holds : (calls stay : ℕ) → F → Type 0) (each : (calls stay : ℕ) (f f' : F) (key : K) (shown after : MutBor V) (stays : Bool)
       → Holds calls stay f → Called g f (key, (shown, tt)) (stays, (after, tt)) f' → Holds (calls + 1) (stay + cond stays 1 0) f') where
@@ -117,7 +127,7 @@ module _ {F K V : Type 0} (g : Mut F (K × (MutBor V × Unit {0})) (Bool × (Mut
   -- holds at the end
   pub retained_counted : (Holds : (calls stay : ℕ) → F → Type 0)
       → ((calls stay : ℕ) (f f' : F) (key : K) (shown after : MutBor V) (stays : Bool) → Holds calls stay f
-          → Called g f (key, (shown, tt)) (stays, (after, tt)) f' → Holds (calls + 1) (stay + cond stays 1 0) f')
+      → Called g f (key, (shown, tt)) (stays, (after, tt)) f' → Holds (calls + 1) (stay + cond stays 1 0) f')
       → {f : F} {old new : map.FinMap key_cmp V} → Holds 0 0 f → RetainsBy g data_of f old new → (last : F) × Holds (map.len old) (map.len new) last
   retained_counted Holds each {f} {old} {new} holds ran =
       let all = IsListingBut-listing old (seen data_of ran.visits) ran.listed in

@@ -57,15 +57,15 @@ module _ {V : Type 0} (eq : V → V → Bool) where
       rest : e.0 ≡ f.0 → (k : Key) → SameValue eq (find key_cmp k es) (find key_cmp k fs)
       rest key k =
           elim (eq_by_cmp key_cmp k e.0) as (λ b. eq_by_cmp key_cmp k e.0 ≡ b
-              → SameValue eq (cond b (Some e.1) (find key_cmp k es)) (cond b (Some f.1) (find key_cmp k fs))
-              → SameValue eq (find key_cmp k es) (find key_cmp k fs)) [
-        | true ↦ λ t same.
-            let at = tied keys_total exact_keys k e.0 t in
-            let left : find key_cmp k es ≡ None = ap (λ q. find key_cmp q es) at ∙ none_below e.0 es (first _ _ g) in
-            let right : find key_cmp k fs ≡ None = ap (λ q. find key_cmp q fs) (at ∙ key) ∙ none_below f.0 fs (first _ _ h) in
-            rw (left, right) tt
-        | false ↦ λ t same. same
-      ] refl (subst (λ q. SameValue eq (find key_cmp k (e ∷ es)) (cond (eq_by_cmp key_cmp k q) (Some f.1) (find key_cmp k fs))) (sym key) (is k))
+          → SameValue eq (cond b (Some e.1) (find key_cmp k es)) (cond b (Some f.1) (find key_cmp k fs))
+          → SameValue eq (find key_cmp k es) (find key_cmp k fs)) [
+            | true ↦ λ t same.
+                let at = tied keys_total exact_keys k e.0 t in
+                let left : find key_cmp k es ≡ None = ap (λ q. find key_cmp q es) at ∙ none_below e.0 es (first _ _ g) in
+                let right : find key_cmp k fs ≡ None = ap (λ q. find key_cmp q fs) (at ∙ key) ∙ none_below f.0 fs (first _ _ h) in
+                rw (left, right) tt
+            | false ↦ λ t same. same
+          ] refl (subst (λ q. SameValue eq (find key_cmp k (e ∷ es)) (cond (eq_by_cmp key_cmp k q) (Some f.1) (find key_cmp k fs))) (sym key) (is k))
 
       value : e.0 ≡ f.0 → eq e.1 f.1 ≡ true
       value key =
@@ -78,7 +78,7 @@ module _ {V : Type 0} (eq : V → V → Bool) where
       by later Less p = absurd (subst (λ o. SameValue eq (Some e.1) o) (missed e.0 f fs p (first _ _ h)) (subst (λ o. SameValue eq o (find key_cmp e.0 (f ∷ fs))) (found_first e es) (is e.0)))
       by later Greater p =
           absurd (subst (λ o. SameValue eq o (Some f.1)) (missed f.0 e es (keys_total.antisymm f.0 e.0 ∙ ap ordering_reverse p) (first _ _ g))
-              (subst (λ o. SameValue eq (find key_cmp f.0 (e ∷ es)) o) (found_first f fs) (is f.0)))
+          (subst (λ o. SameValue eq (find key_cmp f.0 (e ∷ es)) o) (found_first f fs) (is f.0)))
       by later Equal p =
           let key = exact_keys e.0 f.0 p in
           true_and _ _ (true_and _ _ ((same_keys e.0 f.0).1 key) (value key)) (later (rest key))

@@ -1,6 +1,6 @@
 -- A secondary map holds what a list of slots says, if at each index it holds what the slot there has.
-use Rattle.std.proofs.Common.{◌≡◌, ℕ, ◌%◌, ◌<◌, List, length, slice_get, Option, None, Some, true, false, cond, eq-eqb, is_some, option_map, refl,
-    sym, ap, subst, ◌∙◌, arith, nat_lt, ltb-true, ltb-false}
+use Rattle.std.proofs.Common.{◌≡◌, ℕ, ◌%◌, ◌<◌, List, length, slice_get, Option, None, Some, true, false, cond, eq-eqb, is_some, option_map, refl}
+use Rattle.std.proofs.Common.{sym, ap, subst, ◌∙◌, arith, nat_lt, ltb-true, ltb-false}
 use Rattle.std.proofs.lemmas.Option.{slice_get_past}
 use Rattle.std.specs.FinMap as map
 use Rattle.slotmap_core.specs.Secondary.{Pairs, IsSecondary, value_at, keyed}

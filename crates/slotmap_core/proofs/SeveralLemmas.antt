@@ -1,6 +1,6 @@
 -- Several keys of a map get new values, one after another, in a map of any kind.
-use Rattle.std.proofs.Common.{◌≡◌, ◌≢◌, ◌↔◌, ℕ, suc, ◌+◌, ◌<◌, Bool, true, false, List, [], ◌∷◌, ◌++◌, length, get_or, set, take, drop, Option, Some,
-    is_some, map as map_list, refl, sym, ap, subst, ◌∙◌, arith, All}
+use Rattle.std.proofs.Common.{◌≡◌, ◌≢◌, ◌↔◌, ℕ, suc, ◌+◌, ◌<◌, Bool, true, false, List, [], ◌∷◌, ◌++◌, length, get_or, set, take, drop, Option, Some}
+use Rattle.std.proofs.Common.{is_some, map as map_list, refl, sym, ap, subst, ◌∙◌, arith, All}
 use Rattle.std.proofs.lemmas.List.{length-set, take_more, take_more_set, drop_more, drop-set-lt, map_push, length-take-le, get_or-take, get_or_default, get_or-map, length-map}
 use Rattle.std.proofs.lemmas.List.Elements.{All-push}
 use Rattle.std.specs.List.{list_any}
@@ -53,8 +53,8 @@ module _ {M V : Type 0} (get : M → Key → Option V) (put : M → Key → V �
   next_value : (d : Key) → i < length ks → get now (get_or ks i d) ≡ get old (get_or ks i d)
   next_value d within =
       rw done.wrote (get-with_values get put writes old (take i ks) (take i vs) (get_or ks i d)
-          (λ j e h. let below : j < i = omega (arith, length-take-le i ks (omega arith)) in rw (get_or-take i ks j e below)
-          (done.can.there j e (omega arith))) (λ j e h.
+      (λ j e h. let below : j < i = omega (arith, length-take-le i ks (omega arith)) in rw (get_or-take i ks j e below)
+      (done.can.there j e (omega arith))) (λ j e h.
       let below : j < i = omega (arith, length-take-le i ks (omega arith)) in
       rw get_or-take (λ same. done.can.distinct j i e below within (same ∙ get_or_default ks i d e within))))
 

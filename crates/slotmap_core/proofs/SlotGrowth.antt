@@ -1,6 +1,6 @@
 -- How an insert fills a slot or adds one, and what a look-up of a detached key reads.
-use Rattle.std.proofs.Common.{⊎_elim, true, false, ◌==◌, ◌≡◌, ◌≢◌, ℕ, ◌+◌, ◌-◌, ◌^◌, ◌<◌, List, [], ◌∷◌, ◌++◌, length, set, slice_get, Some, None,
-    option_map, option_and_then, refl, sym, ap, subst, ◌∙◌, inl, ◌↔◌, arith}
+use Rattle.std.proofs.Common.{⊎_elim, true, false, ◌==◌, ◌≡◌, ◌≢◌, ℕ, ◌+◌, ◌-◌, ◌^◌, ◌<◌, List, [], ◌∷◌, ◌++◌, length, set, slice_get, Some, None}
+use Rattle.std.proofs.Common.{option_map, option_and_then, refl, sym, ap, subst, ◌∙◌, inl, ◌↔◌, arith}
 use Rattle.std.proofs.Math.Nat.{eq-zero-or-pos}
 use Rattle.std.proofs.lemmas.List.{length-map, map_push}
 use Rattle.std.proofs.lemmas.Option.{slice_get_within, same_Some}
@@ -33,7 +33,7 @@ module _ {P : Type 0} where
   IsSound-sentinel = record {
     each =
         λ i s at. ⊎_elim (λ same. subst IsSlot same.1 (IsSlot-empty 0 (Free 0) refl (λ e. absurd (cc)) (λ e. absurd (cc))))
-            (λ other. absurd (let none = other.1 in cc)) (at_push [] (empty 0 (Free 0)) i s at);
+        (λ other. absurd (let none = other.1 in cc)) (at_push [] (empty 0 (Free 0)) i s at);
     stack = [];
     linked = refl;
     counted = refl;

@@ -1,6 +1,7 @@
 -- How each change of one slot keeps the slots sound, and what the places become.
-use Rattle.std.proofs.Common.{⊎_elim, true, false, cond, is_some, ◌==◌, eqb-true, eq-eqb, ◌≡◌, ◌≢◌, ℕ, zero, suc, ◌+◌, ◌-◌, ◌^◌, ◌<◌, ◌≤◌, ◌%◌, List,
-    [], ◌∷◌, ◌++◌, length, set, slice_get, Option, Some, None, option_map, option_and_then, refl, sym, ap, subst, ◌∙◌, inl, inr, arith, nat_eq}
+use Rattle.std.proofs.Common.{⊎_elim, true, false, cond, is_some, ◌==◌, eqb-true, eq-eqb, ◌≡◌, ◌≢◌, ℕ, zero, suc, ◌+◌, ◌-◌, ◌^◌, ◌<◌, ◌≤◌, ◌%◌, List}
+use Rattle.std.proofs.Common.{[], ◌∷◌, ◌++◌, length, set, slice_get, Option, Some, None, option_map, option_and_then, refl, sym, ap, subst, ◌∙◌, inl}
+use Rattle.std.proofs.Common.{inr, arith, nat_eq}
 use Rattle.std.proofs.lemmas.Option.{slice_get_within, slice_get-map, same_Some}
 use Rattle.std.proofs.lemmas.List.{length-map, map-set}
 use Rattle.std.specs.FinMap as map
@@ -9,8 +10,8 @@ use Rattle.slotmap_core.specs.Content.{IsContent}
 use Rattle.slotmap_core.specs.Transition.{with_value, Removes, Detaches, Reattaches}
 use Rattle.slotmap_core.specs.Places.{Live, Detached as Kept, Vacant, Retired as UsedUp, live, live_entry}
 use Rattle.slotmap_core.specs.StackMap.{removed, content, taken, kept_out, IsOn, IsVersion, HasVersion, IsStacked}
-use Rattle.slotmap_core.specs.Slot.{Slot, FitsEmpty, full, empty, version_at, link_at, payload_at, with_payload, version_before, place_of, places_of,
-    link_next, walk, IsFreeList, IsSlot, IsSound, map_of}
+use Rattle.slotmap_core.specs.Slot.{Slot, FitsEmpty, full, empty, version_at, link_at, payload_at, with_payload, version_before, place_of, places_of}
+use Rattle.slotmap_core.specs.Slot.{link_next, walk, IsFreeList, IsSlot, IsSound, map_of}
 use Rattle.slotmap_core.specs.declared.layout.Link.{Link}
 use Rattle.slotmap_core.specs.declared.layout.Link.TheVariants.{InUse, Free, Detached, Retired}
 use Rattle.slotmap_core.proofs.ListLemmas.{found_within, mapped, none_from}
@@ -72,9 +73,15 @@ module _ {P : Type 0} where
   -- the free list
   pub IsFreeList-set : (slots : List (Slot P)) (i : ℕ) (s : Slot P) (is : List ℕ) (head : ℕ) → (IsOn is i → ⊥) → IsFreeList slots is head → IsFreeList (set slots i s) is head
   IsFreeList-set slots i s [] head off linked = linked
-  IsFreeList-set slots i s (j ∷ js) head off linked =
-      (linked.0, (linked.1.0, ap (option_map (λ s. s.link)) (slice_get-set_other slots i j s (λ same. off (inl (sym same))))
-          ∙ linked.1.1, IsFreeList-set slots i s js linked.1.0 (λ on. off (inr on)) linked.1.2))
+  IsFreeList-set slots i s (j ∷ js) head off linked = (
+    linked.0,
+    (
+      linked.1.0,
+      ap (option_map (λ s. s.link)) (slice_get-set_other slots i j s (λ same. off (inl (sym same))))
+          ∙ linked.1.1,
+      IsFreeList-set slots i s js linked.1.0 (λ on. off (inr on)) linked.1.2,
+    ),
+  )
 
   pub IsFreeList-push : (slots : List (Slot P)) (s : Slot P) (is : List ℕ) (head : ℕ) → IsFreeList slots is head → IsFreeList (slots ++ s ∷ []) is head
   IsFreeList-push slots s [] head linked = linked
@@ -151,8 +158,13 @@ module _ {P : Type 0} (slots : List (Slot P)) (head free count : ℕ) (sound : I
       let within = slice_get_within (places_of slots) k.index (Live k.version place.0) place.1 in
       let s = found_within slots k.index (omega (arith, length-map slots place_of)) in
       let there = s.1 ∙ ap Some (place-live s.0 k.version place.0 (same_Some _ _ (sym (place_at slots k.index s.0 s.1) ∙ place.1))) in
-      record { value = place.0; there = there; read = ap (option_and_then (λ s. s.payload)) there;
-          odd = (sound.each k.index (full k.version place.0) there).odd.0 refl; gives = get-live_slot k place.0 there }
+      record {
+        value = place.0;
+        there = there;
+        read = ap (option_and_then (λ s. s.payload)) there;
+        odd = (sound.each k.index (full k.version place.0) there).odd.0 refl;
+        gives = get-live_slot k place.0 there;
+      }
 
   pub contains-version : (k : Key) (v : ℕ) → IsKey k → version_at slots k.index ≡ Some v → (v == k.version) ≡ map.contains_key (live (places_of slots)) k
   contains-version k v is found = same_bool _ _
@@ -186,7 +198,7 @@ module _ {P : Type 0} (slots : List (Slot P)) (head free count : ℕ) (sound : I
     -- if neither place is vacant, the stack stays
     kept : (t : Slot P) (count2 : ℕ) → IsSlot t → ((n : ℕ) → place_of t ≢ Vacant n) → HasVersion (place_of t)
         → ((n : ℕ) → n + cond (is_some (live_entry i (place_of s))) 1 0 ≡ count + cond (is_some (live_entry i (place_of t))) 1 0 → n ≡ count2)
-            → Written slots i t (walk slots free head) head free count2
+        → Written slots i t (walk slots free head) head free count2
     kept t count2 slot is good number =
         written i s t at (walk slots free head) head free count2 slot (IsFreeList-set slots i t (walk slots free head) head off_walk linked_walk) length_walk number
         (IsStacked-kept (places_of slots) (walk slots free head) stacked_walk i (place_of s) (place_of t) (place_at slots i s at) was is good)
@@ -208,7 +220,7 @@ module _ {P : Type 0} (slots : List (Slot P)) (head free count : ℕ) (sound : I
         let good = version_is in
         let fits : v ≢ last_version = λ e. (let yes = eq-eqb v last_version e in absurd (cc)) in
         let linked : link_at (set slots i (empty (v + 1) (Free head))) i ≡ Some (Free head) = ap (option_map (λ s. s.link))
-                (slice_get-set_same slots i (empty (v + 1) (Free head)) (slice_get_within slots i (full v x) at)) in
+        (slice_get-set_same slots i (empty (v + 1) (Free head)) (slice_get_within slots i (full v x) at)) in
         written i (full v x) (empty (v + 1) (Free head)) at (i ∷ walk slots free head) i (free + 1) (count - 1)
         (IsSlot-empty (v + 1) (Free head) (omega arith) (λ e. absurd (cc)) (λ e. absurd (cc)))
         (refl, (head, linked, IsFreeList-set slots i (empty (v + 1) (Free head)) (walk slots free head) head (off_walk i (full v x) at (λ n e. absurd (cc))) linked_walk))
@@ -255,7 +267,7 @@ module _ {P : Type 0} (slots : List (Slot P)) (head free count : ℕ) (sound : I
     pub detached : Written slots i (empty ((v + 1) % 2 ^ 32) Detached) (walk slots free head) head free (count - 1)
     detached =
         kept i (full v x) at (λ n e. absurd (cc)) (empty ((v + 1) % 2 ^ 32) Detached) (count - 1)
-            (IsSlot-empty ((v + 1) % 2 ^ 32) Detached (omega (arith, version_is.1)) (λ e. absurd (cc)) (λ e. absurd (cc)))
+        (IsSlot-empty ((v + 1) % 2 ^ 32) Detached (omega (arith, version_is.1)) (λ e. absurd (cc)) (λ e. absurd (cc)))
         (λ n e. absurd (cc)) (subst IsVersion (sym before_after) version_is) (λ n is. omega arith)
 
     pub detaches-slots : (c : ℕ) → Detaches (content (map_of slots head free c)) (key i v) (content (map_of (set slots i (empty ((v + 1) % 2 ^ 32) Detached)) head free c))

@@ -65,7 +65,7 @@ module _ {V : Type 0} where
       within = omega (arith, frees.same_places, well.within k (inl stood));
       vacant =
           λ v is. ⊎_elim (λ there. absurd (well.used_or_vacant k (inl stood) (ap is_some there)))
-              (λ gone. omega (arith, ap (λ q. q.version) (well.apart gone.0 k (inl gone.1) (inl stood) gone.2))) (frees.next k.index v is);
+          (λ gone. omega (arith, ap (λ q. q.version) (well.apart gone.0 k (inl gone.1) (inl stood) gone.2))) (frees.next k.index v is);
       stands = λ u there e. absurd (none u there (well.apart u k (inl (frees.stood u there)) (inl stood) e));
     }
 

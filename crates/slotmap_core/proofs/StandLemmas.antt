@@ -114,7 +114,7 @@ module _ {V : Type 0} where
         | inl same ↦
             let apart : k.version ≢ q.version = λ e. other (search rules) in
             ap (λ i. value_at q.version (map.get n i)) same ∙ here q.version apart ∙ sym (other_version (map.get m k.index) k.version q.version apart has)
-                ∙ ap (λ i. value_at q.version (map.get m i)) (sym same)
+            ∙ ap (λ i. value_at q.version (map.get m i)) (sym same)
         | inr apart ↦ ap (value_at q.version) (elsewhere q.index apart)
       ]
 

@@ -94,10 +94,10 @@ module _ {V : Type 0} where
     next_entry v from found =
         let m = from_index i c.live in
         let rest : map.remove m k ≡ from_index (k.index + 1) c.live = ap (λ n. map.remove n k) (sym (from_index-jump i k.index c.live from next))
-                ∙ sym (from_index-take k.index c.live k refl (alone_at c well k k.index (ap is_some found) refl)) in
+        ∙ sym (from_index-take k.index c.live k refl (alone_at c well k k.index (ap is_some found) refl)) in
         entries_first m k v (get_from i c.live k from ∙ found)
-            (λ q there. let both = in_after_remove keys_total exact_keys m k q there in let here = in_from i c.live q both.1 in before_others
-            (ap is_some found) q both.0 here.1 here.0)
+        (λ q there. let both = in_after_remove keys_total exact_keys m k q there in let here = in_from i c.live q both.1 in before_others
+        (ap is_some found) q both.0 here.1 here.0)
         ∙ ap (λ n. (k, v) ∷ map.entries n) rest
 
     -- once it is removed, no live key is below the index after its own

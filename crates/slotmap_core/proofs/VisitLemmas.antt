@@ -10,8 +10,9 @@ use Rattle.std.specs.FinMap.Entries.{find}
 use Rattle.slotmap_core.specs.Key.{Key, key_cmp}
 use Rattle.slotmap_core.specs.Listing.{IsListing, IsListingBut, with_entries}
 use Rattle.slotmap_core.specs.Retain.{Visit, CallsAt, CallableOnEach, seen, kept}
-use Rattle.slotmap_core.proofs.ListingLemmas.{get-with_entries, with_entries_push, with_entries-empty, insert-remove, insert-with_entries,
-    remove-with_entries, unlisted, unlisted_where_same, IsListingBut-start, IsListingBut-take, IsListingBut-done}
+use Rattle.slotmap_core.proofs.ListingLemmas.{get-with_entries, with_entries_push, with_entries-empty, insert-remove, insert-with_entries}
+use Rattle.slotmap_core.proofs.ListingLemmas.{remove-with_entries, unlisted, unlisted_where_same, IsListingBut-start, IsListingBut-take}
+use Rattle.slotmap_core.proofs.ListingLemmas.{IsListingBut-done}
 
 -- what a call saw and left, as a visit
 pub CallsAt-called : {F K V : Type 0} (g : Mut F (K × (MutBor V × Unit {0})) (Bool × (MutBor V × Unit {0}))) {f f' : F} {key : K}

@@ -28,8 +28,8 @@ content_code {V} code =
     code_by
     (map.FinMap key_cmp V × (set.FinSet key_cmp × (set.FinSet key_cmp × (map.FinMap nat_cmp ℕ × (Key × (Option (List ℕ) × (ℕ × ℕ)))))))
     (coded× (map.code coded_key code) (coded× (set.code coded_key)
-        (coded× (set.code coded_key) (coded× (map.code coded_ℕ coded_ℕ)
-        (coded× coded_key (coded× (coded_option (coded_list coded_ℕ)) (coded× coded_ℕ coded_ℕ)))))))
+    (coded× (set.code coded_key) (coded× (map.code coded_ℕ coded_ℕ)
+    (coded× coded_key (coded× (coded_option (coded_list coded_ℕ)) (coded× coded_ℕ coded_ℕ)))))))
     (λ c. (c.live, (c.detached, (c.retired, (c.next, (c.offer, (c.stack, (c.room, c.capacity))))))))
     (λ p. record { live = p.0; detached = p.1.0; retired = p.1.1.0; next = p.1.1.1.0; offer = p.1.1.1.1.0; stack = p.1.1.1.1.1.0; room = p.1.1.1.1.1.1.0; capacity = p.1.1.1.1.1.1.1 })
     (λ _. refl)

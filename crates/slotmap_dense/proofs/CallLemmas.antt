@@ -53,9 +53,9 @@ module _ {K V : Type 0} (data_of : K → Key) (slots : Content ℕ) (keys : Vec 
       capacity = omega (arith, ap (λ c. c.capacity) slots_same);
       unchanged =
           λ _. keeps-over slots slots' (live_of (list_map data_of keys.items) values.items) (live_of (list_map data_of keys'.items) values'.items)
-              (min slots.room (min (vec_capacity keys) (vec_capacity values) - length (list_map data_of keys.items)))
+          (min slots.room (min (vec_capacity keys) (vec_capacity values) - length (list_map data_of keys.items)))
           (min slots'.room (min (vec_capacity keys') (vec_capacity values') - length (list_map data_of keys'.items)))
-              (min slots.capacity (min (vec_capacity keys) (vec_capacity values))) (min slots'.capacity (min (vec_capacity keys') (vec_capacity values')))
+          (min slots.capacity (min (vec_capacity keys) (vec_capacity values))) (min slots'.capacity (min (vec_capacity keys') (vec_capacity values')))
           (rw slots_same (record { live = refl; detached = refl; retired = refl; next = refl; offer = refl; stack = refl; room = omega arith }))
           (λ j. live_of (list_map data_of (keys_same j)) (values_same j))
           (omega (arith, ap (λ c. c.room) slots_same, ap (λ xs. length (list_map data_of xs)) keys_same));
@@ -84,11 +84,11 @@ module _ {K V : Type 0} (data_of : K → Key) (slots : Content ℕ) (keys : Vec 
         had_room = λ enough. held-same (slots_room.had_room (had enough).0) (same (had enough)).0 (same (had enough)).1;
         keeps =
             keeps-over slots slots' (live_of (list_map data_of keys.items) values.items) (live_of (list_map data_of keys'.items) values'.items)
-                (min slots.room (min (vec_capacity keys) (vec_capacity values) - length (list_map data_of keys.items)))
+            (min slots.room (min (vec_capacity keys) (vec_capacity values) - length (list_map data_of keys.items)))
             (min slots'.room (min (vec_capacity keys') (vec_capacity values') - length (list_map data_of keys'.items)))
-                (min slots.capacity (min (vec_capacity keys) (vec_capacity values)))
-                (min slots'.capacity (min (vec_capacity keys') (vec_capacity values'))) slots_room.keeps (rw (keys_same, values_same) refl)
-                (omega (arith, slots_room.keeps.room, len'));
+            (min slots.capacity (min (vec_capacity keys) (vec_capacity values)))
+            (min slots'.capacity (min (vec_capacity keys') (vec_capacity values'))) slots_room.keeps (rw (keys_same, values_same) refl)
+            (omega (arith, slots_room.keeps.room, len'));
         same_order = record { keys = ap (list_map data_of) keys_same; values = values_same };
         capacity = omega (arith, slots_room.capacity);
       }

@@ -1,6 +1,6 @@
 -- The elements of a list after `swap_remove`, and the entries of two parallel lists.
-use Rattle.std.proofs.Common.{◌≡◌, ◌≢◌, ℕ, zero, suc, ◌+◌, ◌-◌, ◌<◌, ◌≤◌, Bool, true, false, cond, List, [], ◌∷◌, ◌++◌, length, set, take, get_or,
-    slice_get, map as list_map, Some, None, is_some, refl, sym, ap, ◌∙◌, arith}
+use Rattle.std.proofs.Common.{◌≡◌, ◌≢◌, ℕ, zero, suc, ◌+◌, ◌-◌, ◌<◌, ◌≤◌, Bool, true, false, cond, List, [], ◌∷◌, ◌++◌, length, set, take, get_or}
+use Rattle.std.proofs.Common.{slice_get, map as list_map, Some, None, is_some, refl, sym, ap, ◌∙◌, arith}
 use Rattle.std.proofs.lemmas.Bool.{false_from_ne_true}
 use Rattle.std.proofs.lemmas.Option.{slice_get-get_or, get_or_from_slice_get, same_Some}
 use Rattle.std.proofs.lemmas.List.{length-set, set-append_left, set-append_right, map-set, take-map, get_or-map, length-map}
@@ -118,8 +118,11 @@ module _ {V : Type 0} where
   len-zip (k ∷ ks) (v ∷ vs) same once =
       let none = find-absent ks vs k (λ j there. absurd (omega (arith, once 0 (suc j) k refl there))) in
       let fresh : map.contains_key (map.from_entries {R = key_cmp} (zip ks vs)) k ≡ false = ap is_some (map.get-from_entries keys_total (zip ks vs) k ∙ none) in
-      omega (arith, len_inserted keys_total exact_keys (map.from_entries {R = key_cmp} (zip ks vs)) k v fresh,
-          len-zip ks vs (omega arith) (λ i j q at_i at_j. omega (arith, once (suc i) (suc j) q at_i at_j)))
+      omega (
+        arith,
+        len_inserted keys_total exact_keys (map.from_entries {R = key_cmp} (zip ks vs)) k v fresh,
+        len-zip ks vs (omega arith) (λ i j q at_i at_j. omega (arith, once (suc i) (suc j) q at_i at_j)),
+      )
 
   put_beside-absent : (ks : List Key) (vs : List V) (k : Key) (v : V) → ((j : ℕ) → slice_get ks j ≡ Some k → ⊥) → length vs ≡ length ks → put_beside ks vs k v ≡ vs
   put_beside-absent [] vs k v absent same = refl
@@ -154,7 +157,7 @@ module _ {V : Type 0} where
     where
       by : (b : Bool) → eq_by_cmp key_cmp q x ≡ b → find key_cmp q (zip ks (put_beside ks vs k v)) ≡ option_map (λ w. cond (eq_by_cmp key_cmp q k) v w) (find key_cmp q (zip ks vs))
           → cond b (Some (cond (eq_by_cmp key_cmp x k) v w)) (find key_cmp q (zip ks (put_beside ks vs k v))) ≡ option_map
-              (λ w. cond (eq_by_cmp key_cmp q k) v w) (cond b (Some w) (find key_cmp q (zip ks vs)))
+          (λ w. cond (eq_by_cmp key_cmp q k) v w) (cond b (Some w) (find key_cmp q (zip ks vs)))
       by true t rest = ap (λ x. Some (cond (eq_by_cmp key_cmp x k) v w)) (sym (tied keys_total exact_keys q x t))
       by false t rest = rest
 

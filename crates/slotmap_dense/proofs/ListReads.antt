@@ -1,6 +1,6 @@
 -- A list of slots is read into a list of positions and two packed lists.
-use Rattle.std.proofs.Common.{◌≡◌, ◌≢◌, inl, inr, ℕ, zero, suc, ◌+◌, ◌<◌, ◌≤◌, ◌%◌, Bool, true, false, ◌==◌, if◌then◌else◌, List, [], ◌∷◌, ◌++◌,
-    length, slice_get, map as list_map, Option, None, Some, is_some, option_map, refl, sym, ap, subst, ◌∙◌, arith}
+use Rattle.std.proofs.Common.{◌≡◌, ◌≢◌, inl, inr, ℕ, zero, suc, ◌+◌, ◌<◌, ◌≤◌, ◌%◌, Bool, true, false, ◌==◌, if◌then◌else◌, List, [], ◌∷◌, ◌++◌}
+use Rattle.std.proofs.Common.{length, slice_get, map as list_map, Option, None, Some, is_some, option_map, refl, sym, ap, subst, ◌∙◌, arith}
 use Rattle.std.proofs.lemmas.Bool.{cases_eq}
 use Rattle.std.proofs.lemmas.List.{length_push, length-map, map_push}
 use Rattle.std.proofs.lemmas.Option.{slice_get-map, slice_get_within, same_Some}
@@ -143,12 +143,12 @@ module _ {V : Type 0} (records : List (SlotRecord V)) (positions : List (SlotRec
   more_versions : (made : SlotRecord V) (p : SlotRecord ℕ) → p.version ≡ made.version → versions (positions ++ p ∷ []) ≡ versions (records ++ made ∷ [])
   more_versions made p same =
       map_push (λ (s : SlotRecord ℕ). s.version) positions p ∙ ap (λ vs. vs ++ p.version ∷ []) split.same_versions
-          ∙ ap (λ v. versions records ++ v ∷ []) same ∙ sym (map_push (λ (s : SlotRecord V). s.version) records made)
+      ∙ ap (λ v. versions records ++ v ∷ []) same ∙ sym (map_push (λ (s : SlotRecord V). s.version) records made)
 
   more_values : (made : SlotRecord V) (p : SlotRecord ℕ) → is_some p.value ≡ is_some made.value → with_value (positions ++ p ∷ []) ≡ with_value (records ++ made ∷ [])
   more_values made p same =
       map_push (λ (s : SlotRecord ℕ). is_some s.value) positions p ∙ ap (λ bs. bs ++ is_some p.value ∷ []) split.same_values
-          ∙ ap (λ b. with_value records ++ b ∷ []) same ∙ sym (map_push (λ (s : SlotRecord V). is_some s.value) records made)
+      ∙ ap (λ b. with_value records ++ b ∷ []) same ∙ sym (map_push (λ (s : SlotRecord V). is_some s.value) records made)
 
   -- a record with a value
   pub AreSplit-live : (made : SlotRecord V) (v : V) → made.value ≡ Some v → made.version % 2 ≡ 1 → (n : ℕ) → n ≡ length keys → (k : Key) → k ≡ key (length positions) made.version
@@ -157,7 +157,7 @@ module _ {V : Type 0} (records : List (SlotRecord V)) (positions : List (SlotRec
       let p : SlotRecord ℕ = record { value = Some n; version = made.version } in
       let none : map.get (contents positions) k ≡ None = none_past positions p k (ap (λ (x : Key). x.index) k_is) in
       let placed : contents (positions ++ p ∷ []) ≡ map.insert (contents positions) k (length keys) = contents-live positions p n refl odd
-              ∙ ap (λ q. map.insert (contents positions) q n) (sym k_is) ∙ ap (map.insert (contents positions) k) n_is in
+      ∙ ap (λ q. map.insert (contents positions) q n) (sym k_is) ∙ ap (map.insert (contents positions) k) n_is in
       let k_there : k ≡ key (length records) made.version = k_is ∙ ap (λ i. key i made.version) same_places in
       record {
         same_versions = more_versions made p refl;
@@ -165,7 +165,7 @@ module _ {V : Type 0} (records : List (SlotRecord V)) (positions : List (SlotRec
         packed = subst (λ m. IsPacked m (keys ++ k ∷ [])) (sym placed) (IsPacked-push (contents positions) keys split.packed k none);
         lives =
             live-push (contents positions) keys split.packed values split.same_length k v none ∙ ap (λ m. map.insert m k v) split.lives
-                ∙ ap (λ q. map.insert (contents records) q v) k_there ∙ sym (contents-live records made v valued odd);
+            ∙ ap (λ q. map.insert (contents records) q v) k_there ∙ sym (contents-live records made v valued odd);
         same_length = omega (arith, length_push values v, length_push keys k, split.same_length);
         fewer = omega (arith, length_push keys k, length_push records made, split.fewer);
         ascending = ap (λ ks. ks ++ k ∷ []) split.ascending ∙ sym (keys_last (contents records) k v (λ q there. omega (arith, listed_before records q there, ap (λ (x : Key). x.index) k_there)))
@@ -234,9 +234,12 @@ module _ {V : Type 0} (records : List (SlotRecord V)) (positions : List (SlotRec
       let here = found_within positions 0 (omega (arith, places, slice_get_within records 0 first.0 first.1)) in
       record {
         short = omega (arith, places, accepted.short);
-        first_empty =
-            (here.0, here.1, ap (λ v. v % 2) (at_same (λ (s : SlotRecord ℕ). s.version)
-                (λ (s : SlotRecord V). s.version) positions records 0 here.0 first.0 split.same_versions here.1 first.1) ∙ first.2);
+        first_empty = (
+          here.0,
+          here.1,
+          ap (λ v. v % 2) (at_same (λ (s : SlotRecord ℕ). s.version)
+              (λ (s : SlotRecord V). s.version) positions records 0 here.0 first.0 split.same_versions here.1 first.1) ∙ first.2,
+        );
         consistent = λ i p within found.
             let there = found_within records i (omega (arith, places)) in
             let consistent = accepted.consistent i there.0 (omega (arith, places)) there.1 in

@@ -25,8 +25,8 @@ module _ {V : Type 0} (slots : Content ℕ) (keys : List Key) (values : List V) 
           let at = (written-accepted true slots sound.well list writes (length list + 1) (omega arith)).consistent i r (slice_get_within list i r found) found in
           let odd = odd_of r at p (is ∙ some) in
           (present slots keys values sound (key i r.version) p
-              (sym (ap (λ m. map.get m (key i r.version)) (written-contents true slots sound.well list writes))
-              ∙ in_contents list i r p found odd (is ∙ some))).inside
+          (sym (ap (λ m. map.get m (key i r.version)) (written-contents true slots sound.well list writes))
+          ∙ in_contents list i r p found odd (is ∙ some))).inside
 
       by : (o : Option ℕ) → r.value ≡ o → IfSome o (λ p. p < length values)
       by None is = tt

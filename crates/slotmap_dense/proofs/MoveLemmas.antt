@@ -46,7 +46,7 @@ module _ {V : Type 0} (slots : Content ℕ) (keys : List Key) (values : List V) 
   pub not_live : Inserts slots k (length keys) new → map.get slots.live k ≡ None
   not_live ins =
       none_of (map.get slots.live k) (false_of (map.contains_key slots.live k)
-          (λ there. offer_unused slots sound.well ins.below_limit (inl (inl (ap (map.contains_key slots.live) (sym ins.offered) ∙ there)))))
+      (λ there. offer_unused slots sound.well ins.below_limit (inl (inl (ap (map.contains_key slots.live) (sym ins.offered) ∙ there)))))
 
   pub IsSound-inserted : Inserts slots k (length keys) new → IsContent true new → IsSound new (keys ++ k ∷ []) (values ++ v ∷ [])
   IsSound-inserted ins well = IsSound-appended (not_live ins) ins.live well
@@ -55,7 +55,7 @@ module _ {V : Type 0} (slots : Content ℕ) (keys : List Key) (values : List V) 
       → Inserts (dense_of slots keys values spare).content k v (dense_of new (keys ++ k ∷ []) (values ++ v ∷ []) spare).content
   inserts-dense spare holds ins =
       inserts-over slots new (live_of keys values) (live_of (keys ++ k ∷ []) (values ++ v ∷ [])) (min slots.room (spare - length keys))
-          (min new.room (spare - length (keys ++ k ∷ []))) (min slots.capacity spare) (min new.capacity spare)
+      (min new.room (spare - length (keys ++ k ∷ []))) (min slots.capacity spare) (min new.capacity spare)
       k (length keys) v (same_keys slots keys values sound) ins (live-appended (not_live ins)) (omega (arith, ins.room, length_push keys k))
 
   pub IsSound-reattached : map.get slots.live k ≡ None → Reattaches slots k (length keys) new → IsContent true new → IsSound new (keys ++ k ∷ []) (values ++ v ∷ [])
@@ -65,7 +65,7 @@ module _ {V : Type 0} (slots : Content ℕ) (keys : List Key) (values : List V) 
       → Reattaches (dense_of slots keys values before).content k v (dense_of new (keys ++ k ∷ []) (values ++ v ∷ []) after).content
   reattaches-dense before after more none rea =
       reattaches-over slots new (live_of keys values) (live_of (keys ++ k ∷ []) (values ++ v ∷ [])) (min slots.room (before - length keys))
-          (min new.room (after - length (keys ++ k ∷ []))) (min slots.capacity before) (min new.capacity after)
+      (min new.room (after - length (keys ++ k ∷ []))) (min slots.capacity before) (min new.capacity after)
       k (length keys) v rea (live-appended none) (omega (arith, rea.room, length_push keys k))
 
 -- a key is removed, and the last pair moves into the gap
@@ -156,11 +156,11 @@ module _ {V : Type 0} (slots new : Content ℕ) (keys : List Key) (values : List
   pub removes-popped : (spare : ℕ) → Removes slots k new → Removes (dense_of slots (keys ++ k ∷ []) (values ++ v ∷ []) spare).content k (dense_of new keys values spare).content
   removes-popped spare rem =
       let absent : map.get (live_of keys values) k ≡ None = get-packed (map.remove slots.live k) keys
-              (IsPacked-popped slots.live keys k sound.packed) values shorter_values k ∙ ap (at_position values) (get_gone slots.live k) in
+      (IsPacked-popped slots.live keys k sound.packed) values shorter_values k ∙ ap (at_position values) (get_gone slots.live k) in
       removes-over slots new (live_of (keys ++ k ∷ []) (values ++ v ∷ [])) (live_of keys values) (min slots.room (spare - length (keys ++ k ∷ [])))
-          (min new.room (spare - length keys)) (min slots.capacity spare) (min new.capacity spare)
+      (min new.room (spare - length keys)) (min slots.capacity spare) (min new.capacity spare)
       k rem (sym (ap (λ m. map.remove m k) live-popped ∙ remove-insert (live_of keys values) k v
-          ∙ remove_absent keys_total exact_keys (live_of keys values) k absent)) (omega (arith, rem.room, length_push keys k))
+      ∙ remove_absent keys_total exact_keys (live_of keys values) k absent)) (omega (arith, rem.room, length_push keys k))
 
 pub of_some : {A P : Type 0} (o : Option A) (x : A) → o ≡ Some x → OnSome o P → P
 of_some None x is h = absurd (cc)
@@ -170,13 +170,13 @@ of_some (Some y) x is h = h
 pub takes-popped : {V : Type 0} (slots new : Content ℕ) (keys : List Key) (values : List V) (spare : ℕ) (ks : List Key) (vs : List V) (k : Key)
     (v : V) → keys ≡ ks ++ k ∷ [] → values ≡ vs ++ v ∷ [] → IsSound slots keys values → OnSome (map.get slots.live k) (Removes slots k new)
     → (map.get (dense_of slots keys values spare).content.live k ≡ Some v)
-        × Removes (dense_of slots keys values spare).content k (dense_of new ks vs spare).content × (keys ≡ ks ++ k ∷ []) × (values ≡ vs ++ v ∷ [])
+    × Removes (dense_of slots keys values spare).content k (dense_of new ks vs spare).content × (keys ≡ ks ++ k ∷ []) × (values ≡ vs ++ v ∷ [])
 takes-popped {V} slots new keys values spare ks vs k v keys_are values_are sound rem =
     let whole : IsSound slots (ks ++ k ∷ []) (vs ++ v ∷ []) = subst (λ xs. IsSound slots xs (vs ++ v ∷ [])) keys_are (subst (IsSound slots keys) values_are sound) in
     let removes = of_some (map.get slots.live k) (length ks) (last_named slots new ks vs k v whole) rem in
     let both : (map.get (live_of (ks ++ k ∷ []) (vs ++ v ∷ [])) k ≡ Some v)
-            × Removes (dense_of slots (ks ++ k ∷ []) (vs ++ v ∷ []) spare).content k (dense_of new ks vs spare).content =
-            (value-popped slots new ks vs k v whole, removes-popped slots new ks vs k v whole spare removes) in
+    × Removes (dense_of slots (ks ++ k ∷ []) (vs ++ v ∷ []) spare).content k (dense_of new ks vs spare).content =
+    (value-popped slots new ks vs k v whole, removes-popped slots new ks vs k v whole spare removes) in
     let there = subst (λ xs. (map.get (live_of xs values) k ≡ Some v) × Removes (dense_of slots xs values spare).content k (dense_of new ks vs spare).content) (sym keys_are)
     (subst (λ ys. (map.get (live_of (ks ++ k ∷ []) ys) k ≡ Some v) × Removes (dense_of slots (ks ++ k ∷ []) ys spare).content k (dense_of new ks vs spare).content) (sym values_are) both) in
     (there.0, there.1, keys_are, values_are)

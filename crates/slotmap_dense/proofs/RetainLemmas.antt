@@ -16,7 +16,7 @@ module _ {K V : Type 0} (data_of : K → Key) where
     where
       by : (b : Bool) → dropped data_of (xs ++ x ∷ []) ≡ dropped data_of xs ++ cond x.stays [] (data_of x.key ∷ [])
           → cond b (dropped data_of (xs ++ x ∷ [])) (data_of y.key ∷ dropped data_of (xs ++ x ∷ [])) ≡ cond b (dropped data_of xs)
-              (data_of y.key ∷ dropped data_of xs) ++ cond x.stays [] (data_of x.key ∷ [])
+          (data_of y.key ∷ dropped data_of xs) ++ cond x.stays [] (data_of x.key ∷ [])
       by true rest = rest
       by false rest = ap (λ ks. data_of y.key ∷ ks) rest
 
@@ -39,7 +39,7 @@ module _ {K V : Type 0} (data_of : K → Key) where
           (subst (λ ks. PacksBy data_of (position + 1) ks xs end) keys rest));
       stack = λ ks.
           ap (λ ds. option_map (λ stack. pushed_all stack (ds ++ ks)) old.content.stack)
-              (dropped_push visits x ∙ ap (λ b. dropped data_of visits ++ cond b [] (data_of x.key ∷ [])) stays ∙ append-nil (dropped data_of visits))
+          (dropped_push visits x ∙ ap (λ b. dropped data_of visits ++ cond b [] (data_of x.key ∷ [])) stays ∙ append-nil (dropped data_of visits))
           ∙ so_far.stack ks ∙ ap (option_map (λ stack. pushed_all stack ks)) (sym stack);
     }
 

@@ -1,6 +1,6 @@
 -- A dense map is well formed between calls.
-use Rattle.std.proofs.Common.{Bool, false, None, cond, is_some, ◌≡◌, ℕ, ◌+◌, ◌-◌, ◌^◌, ◌<◌, ◌≤◌, min, true, [], Some, Option, List, ◌++◌, take, drop,
-    length, map as list_map, slice_get, set, vec_capacity, refl, sym, ap, subst, ◌∙◌, arith}
+use Rattle.std.proofs.Common.{Bool, false, None, cond, is_some, ◌≡◌, ℕ, ◌+◌, ◌-◌, ◌^◌, ◌<◌, ◌≤◌, min, true, [], Some, Option, List, ◌++◌, take, drop}
+use Rattle.std.proofs.Common.{length, map as list_map, slice_get, set, vec_capacity, refl, sym, ap, subst, ◌∙◌, arith}
 use Rattle.std.specs.Global.{Vec}
 use Rattle.std.specs.Vec.{with_items}
 use Rattle.std.specs.FinMap as map
@@ -39,7 +39,7 @@ module _ {V : Type 0} (slots : Content ℕ) (keys : List Key) (values : List V) 
   dense_well spare holds = record {
     content =
         IsContent-over slots (live_of keys values) same_keys (min slots.room (spare - length keys)) (min slots.capacity spare) sound.well (omega arith)
-            (omega (arith, same_keys.all, sound.well.capacity_fits, sound.packed.counted));
+        (omega (arith, same_keys.all, sound.well.capacity_fits, sound.packed.counted));
     same_length = sound.same_length;
     listed = listed slots.live keys sound.packed values sound.same_length;
   }

@@ -26,8 +26,8 @@ module _ (K V : RattleType) (key : KeyMembers K.Denot) where
   abbrev pub map_row : RattleType
   map_row =
       the_row K V (record { data_of = key.data_of; of_data = key.of_data }) (record { from_gives = key.from_gives })
-          (record { is_default = key.is_default }) (record { eq = key.eq }) (record { cmp = key.cmp }) (record { partial_cmp = key.partial_cmp })
-          (record { hash_input = key.hash_input }) (record { debug_output = key.debug_output })
+      (record { is_default = key.is_default }) (record { eq = key.eq }) (record { cmp = key.cmp }) (record { partial_cmp = key.partial_cmp })
+      (record { hash_input = key.hash_input }) (record { debug_output = key.debug_output })
 
   module _ (m : MutBor (Dense V.Denot)) (k : Key) where
     -- once the borrow r ends, the key has the last value written through r

@@ -40,7 +40,7 @@ module _ {K V : Type 0} (data_of : K → Key) where
     where
       by : (b : Bool) → dropped data_of (xs ++ x ∷ []) ≡ dropped data_of xs ++ cond x.stays [] (data_of x.key ∷ [])
           → cond b (dropped data_of (xs ++ x ∷ [])) (data_of y.key ∷ dropped data_of (xs ++ x ∷ [])) ≡ cond b (dropped data_of xs)
-              (data_of y.key ∷ dropped data_of xs) ++ cond x.stays [] (data_of x.key ∷ [])
+          (data_of y.key ∷ dropped data_of xs) ++ cond x.stays [] (data_of x.key ∷ [])
       by true rest = rest
       by false rest = ap (λ ks. data_of y.key ∷ ks) rest
 

@@ -1,7 +1,8 @@
 -- What sound slots hold, and that each change of them is the step of its call.
 use mathlib.Core.Path.{fun_ext}
-use Rattle.std.proofs.Common.{◌≡◌, ◌≢◌, inl, inr, ℕ, zero, suc, ◌+◌, ◌-◌, ◌^◌, ◌<◌, ◌≤◌, Bool, true, false, cond, eqb, nat_eq, ◌==◌, ◌||◌, List, [],
-    ◌∷◌, ◌++◌, length, set, slice_get, get_or, Option, Some, None, is_some, refl, sym, ap, subst, ◌∙◌, arith, eq-eqb, ne_eqb, min, IfNone}
+use Rattle.std.proofs.Common.{◌≡◌, ◌≢◌, inl, inr, ℕ, zero, suc, ◌+◌, ◌-◌, ◌^◌, ◌<◌, ◌≤◌, Bool, true, false, cond, eqb, nat_eq, ◌==◌, ◌||◌, List, []}
+use Rattle.std.proofs.Common.{◌∷◌, ◌++◌, length, set, slice_get, get_or, Option, Some, None, is_some, refl, sym, ap, subst, ◌∙◌, arith, eq-eqb}
+use Rattle.std.proofs.Common.{ne_eqb, min, IfNone}
 use Rattle.std.proofs.lemmas.Bool.{cases_eq, cases_lt, cases_Bool}
 use Rattle.std.proofs.lemmas.Option.{slice_get_within, slice_get_past, slice_get_read, same_Some, get_or_from_slice_get}
 use Rattle.std.proofs.lemmas.List.{length-set, map-append, set-get_or}
@@ -251,10 +252,16 @@ module _ (V : Type 0) where
 
   only_zero : (front back : ℕ) → IsBlock (vacant_at (layout (sentinel_alone V))) front back → (front ≡ 0) × (back ≡ 0)
   only_zero front back block =
-      let low : front ≡ 0 = elim (cases_lt 0 front) [ inl some ↦ clash (vacant_at (layout (sentinel_alone V))) front
-              (block.inside front (omega arith) block.ordered) (beyond front some) | inr none ↦ omega arith ] in
-      let high : back ≡ 0 = elim (cases_lt 0 back) [ inl some ↦ clash (vacant_at (layout (sentinel_alone V))) back
-              (block.inside back block.ordered (omega arith)) (beyond back some) | inr none ↦ omega arith ] in
+      let low : front ≡ 0 = elim (cases_lt 0 front) [
+        | inl some ↦ clash (vacant_at (layout (sentinel_alone V))) front
+            (block.inside front (omega arith) block.ordered) (beyond front some)
+        | inr none ↦ omega arith
+      ] in
+      let high : back ≡ 0 = elim (cases_lt 0 back) [
+        | inl some ↦ clash (vacant_at (layout (sentinel_alone V))) back
+            (block.inside back block.ordered (omega arith)) (beyond back some)
+        | inr none ↦ omega arith
+      ] in
       (low, high)
 
   linked-new : IsLinked (layout (sentinel_alone V)) []
@@ -308,7 +315,7 @@ module _ {V : Type 0} (slots : List (Slot V)) (vacant elems : ℕ) (sound : IsSo
     none_detached = λ i v found. elim (cases_eq i (length (places_of slots))) [
       | inl same ↦ let wrong =
           same_Some (Live 1 w) (Detached v) (sym (slice_get_push (places_of slots) (Live 1 w))
-              ∙ ap (slice_get (places_of slots ++ Live 1 w ∷ [])) (sym same) ∙ ap (λ ps. slice_get ps i) (sym after) ∙ found) in absurd (cc)
+          ∙ ap (slice_get (places_of slots ++ Live 1 w ∷ [])) (sym same) ∙ ap (λ ps. slice_get ps i) (sym after) ∙ found) in absurd (cc)
       | inr other ↦ sound.none_detached i v (sym (slice_get_push_other (places_of slots) (Live 1 w) i other) ∙ ap (λ ps. slice_get ps i) (sym after) ∙ found)
     ];
     elems_live = ap (λ ps. map.len (live ps)) after ∙ omega (arith, len-live-push (places_of slots) (Live 1 w), sound.elems_live);
@@ -338,7 +345,7 @@ module _ {V : Type 0} (slots : List (Slot V)) (vacant elems : ℕ) (sound : IsSo
         stack = removed sound.stack i;
         stacked =
             subst (λ ps. IsStacked ps (removed sound.stack i)) (sym after)
-                (IsStacked-filled (places_of slots) i (removed sound.stack i) n w (IsStacked-first (places_of slots) sound.stack i sound.stacked on) was);
+            (IsStacked-filled (places_of slots) i (removed sound.stack i) n w (IsStacked-first (places_of slots) sound.stack i sound.stacked on) was);
         counted = omega (arith, length_removed sound.stack i on, sound.counted);
       }
 
@@ -354,8 +361,8 @@ module _ {V : Type 0} (slots : List (Slot V)) (vacant elems : ℕ) (sound : IsSo
         stack = i ∷ sound.stack;
         stacked =
             subst (λ ps. IsStacked ps (i ∷ sound.stack)) (sym after)
-                (IsStacked-freed (places_of slots) sound.stack sound.stacked i v (v + 2) x was
-                (omega (arith, version.0, version.1), omega (arith, version.1)) (omega (arith, version.1)));
+            (IsStacked-freed (places_of slots) sound.stack sound.stacked i v (v + 2) x was
+            (omega (arith, version.0, version.1), omega (arith, version.1)) (omega (arith, version.1)));
         counted = omega (arith, sound.counted);
       }
 
@@ -380,8 +387,8 @@ module _ {V : Type 0} (slots : List (Slot V)) (vacant elems : ℕ) (sound : IsSo
     stack = sound.stack;
     stacked =
         subst (λ ps. IsStacked ps sound.stack) (sym after)
-            (IsStacked-kept (places_of slots) sound.stack sound.stacked i (Live v x) (Live v w) was (λ n e. absurd (cc)) (λ n e. absurd (cc))
-            (sound.stacked.versions i (Live v x) was));
+        (IsStacked-kept (places_of slots) sound.stack sound.stacked i (Live v x) (Live v w) was (λ n e. absurd (cc)) (λ n e. absurd (cc))
+        (sound.stacked.versions i (Live v x) was));
     counted = sound.counted;
   }
 
@@ -485,7 +492,7 @@ module _ {V : Type 0} (slots : List (Slot V)) (vacant elems : ℕ) (sound : IsSo
   inserts-pushed c d w none below more =
       let one : (offer_at (places_of slots) (next_place slots)).version ≡ 1 = ap (λ k. k.version) (offer-end none) in
       inserts-slots slots vacant elems sound (pushed_slots w) c d w below more
-          (places-pushed w ∙ sym ((in_order slots vacant elems sound).fills_end none _ ∙ ap (λ v. places_of slots ++ Live v w ∷ []) one))
+      (places-pushed w ∙ sym ((in_order slots vacant elems sound).fills_end none _ ∙ ap (λ v. places_of slots ++ Live v w ∷ []) one))
 
   -- the offered place is filled
   pub sound-filled : (new : List (Slot V)) (w : V) → 0 < next_place slots → HasBlockList (layout new)
@@ -498,7 +505,7 @@ module _ {V : Type 0} (slots : List (Slot V)) (vacant elems : ℕ) (sound : IsSo
   inserts-filled new c d w some below more after =
       let newer : (offer_at (places_of slots) (next_place slots)).version ≡ back_slot.slot.version + 1 = ap (λ k. k.version) (offer-back some) in
       inserts-slots slots vacant elems sound new c d w below more
-          (after ∙ sym ((in_order slots vacant elems sound).fills_back some _ ∙ ap (λ v. set (places_of slots) (next_place slots) (Live v w)) newer))
+      (after ∙ sym ((in_order slots vacant elems sound).fills_back some _ ∙ ap (λ v. set (places_of slots) (next_place slots) (Live v w)) newer))
 
   pub counted_positive : 0 < next_place slots → 1 ≤ vacant
   counted_positive some = by sound.stack (sound.stacked.complete (next_place slots) (back_slot.slot.version + 1) some back_slot.place) sound.counted
@@ -647,7 +654,7 @@ module _ {V : Type 0} (slots : List (Slot V)) (vacant elems : ℕ) (sound : IsSo
       let two : v + 1 + 1 ≡ v + 2 = omega arith in
       let test : nat_eq v last_version ≡ false = ne_eqb v last_version other in
       removes-slots slots vacant elems sound new c (key i v) x place (after ∙ ap (λ n. set (places_of slots) i (Vacant n)) two
-          ∙ ap (λ b. set (places_of slots) i (cond b Retired (Vacant (v + 2)))) (sym test))
+      ∙ ap (λ b. set (places_of slots) i (cond b Retired (Vacant (v + 2)))) (sym test))
 
   pub blocks-freed : (new : List (Slot V)) (c : ℕ) → v ≢ last_version
       → blocks_of (layout new) ≡ vacated (vacant_at (layout slots)) (blocks_of (layout slots)) i

@@ -1,6 +1,6 @@
 -- An iterator skips a block of vacant places in one step.
-use Rattle.std.proofs.Common.{◌≡◌, ◌≢◌, ℕ, zero, suc, ◌+◌, ◌-◌, ◌*◌, ◌<◌, ◌≤◌, ◌^◌, ◌%◌, true, List, [], ◌∷◌, ◌++◌, length, drop, get_or, set,
-    slice_get, Some, refl, sym, ap, subst, ◌∙◌, inl, inr, arith}
+use Rattle.std.proofs.Common.{◌≡◌, ◌≢◌, ℕ, zero, suc, ◌+◌, ◌-◌, ◌*◌, ◌<◌, ◌≤◌, ◌^◌, ◌%◌, true, List, [], ◌∷◌, ◌++◌, length, drop, get_or, set}
+use Rattle.std.proofs.Common.{slice_get, Some, refl, sym, ap, subst, ◌∙◌, inl, inr, arith}
 use Rattle.std.proofs.lemmas.Bool.{cases_lt}
 use Rattle.std.proofs.lemmas.Option.{slice_get_within, get_or_from_slice_get}
 use Rattle.std.proofs.lemmas.List.{nil_from_length, drop_more, drop_all, drop-set-lt, append_assoc, length-append}
@@ -89,7 +89,7 @@ module _ {V : Type 0} (slots : List (Slot V)) where
   block_here i stands vacant =
       let es = layout slots in
       let found = back_of (vacant_at es) (length es) (length es) i i (bounded_by_length es) (omega arith) (omega arith) (stands.at_front vacant)
-              (λ x low high. let same : x ≡ i = omega arith in rw same vacant) in
+      (λ x low high. let same : x ≡ i = omega arith in rw same vacant) in
       rw (stands.sound.linked.linked.ends i found.0 found.1).0 found.1
 
 module _ {V : Type 0} where
@@ -214,7 +214,7 @@ module _ {V : Type 0} (slots : List (Slot V)) (reads0 start : ℕ) where
             still = way.still ∙ ap (λ ks. way.gone ++ ks) (retired-retired slots place spent) ∙ sym (append_assoc way.gone (key place last_version ∷ []) (retired_left slots (place + 1)));
             below =
                 All-push (λ k. k.index < place + 1) way.gone (key place last_version)
-                    (All-weaker (λ k. k.index < place) (λ k. k.index < place + 1) (λ k low. omega arith) way.gone way.below) (omega arith);
+                (All-weaker (λ k. k.index < place) (λ k. k.index < place + 1) (λ k low. omega arith) way.gone way.below) (omega arith);
             few_vacant = λ vacant. omega (arith, way.few, length-append way.gone (key place last_version ∷ []));
             few = omega (arith, way.few, length-append way.gone (key place last_version ∷ []));
             passed = omega (arith, way.passed);
@@ -254,7 +254,7 @@ module _ {V : Type 0} (slots : List (Slot V)) (reads0 start : ℕ) where
             before = way.below;
             after =
                 All-weaker (λ k. place + 1 ≤ k.index) (λ k. place < k.index) (λ k low. omega arith) (retired_left slots (place + 1))
-                    (above (place + 1) (place + 1) (drop (place + 1) (places_of slots)) (omega arith));
+                (above (place + 1) (place + 1) (drop (place + 1) (places_of slots)) (omega arith));
             some = omega (arith, way.begun);
             few = omega (arith, way.few, ap length still, length-append way.gone (retired_left slots (place + 1)));
             passed = omega (arith, way.passed);

@@ -18,7 +18,7 @@ well_formed m now view sound = subst IsHopContent view (valid _ _ _ sound _ (ome
 pub IsHopContent-with_value : {V : Type 0} (m : HopContent V) (k : Key) (w : V) → IsHopContent m → IsLive m.content k → IsHopContent (hop_with_value m k w)
 IsHopContent-with_value m k w well is_live =
     let same : map.len (map.insert m.content.live k w) ≡ map.len m.content.live = map.len-insert keys_total m.content.live k w
-            ∙ ap (λ b. cond b (map.len m.content.live) (map.len m.content.live + 1)) is_live in
+    ∙ ap (λ b. cond b (map.len m.content.live) (map.len m.content.live + 1)) is_live in
     record {
       valid = IsContent-with_value true m.content well.valid k is_live w;
       none_detached = well.none_detached;

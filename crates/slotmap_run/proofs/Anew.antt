@@ -63,7 +63,7 @@ module _ {V C R : Type 0} {Step Any : State V → C → R → State V → Type 0
           run = λ first earlier told before. goes_on Any old new cs rs free earlier told first before;
           laws =
               λ first earlier told start before. machine.laws (earlier ++ cs) (told ++ rs)
-                  (well_from Any (earlier ++ cs) (told ++ rs) reuses first new start.valid (goes_on Any old new cs rs free earlier told first before));
+              (well_from Any (earlier ++ cs) (told ++ rs) reuses first new start.valid (goes_on Any old new cs rs free earlier told first before));
           anew = λ earlier told before. goes_on_anew Any old new cs rs free earlier told before;
           laws_anew = λ earlier told before. machine.laws (earlier ++ cs) (told ++ rs) (well_anew Any (earlier ++ cs) (told ++ rs) new (goes_on_anew Any old new cs rs free earlier told before));
         };

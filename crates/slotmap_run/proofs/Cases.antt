@@ -95,8 +95,8 @@ module _ {K V R E : Type 0} (given : Given K V R E) where
   quiet_cases old (command.Contains k) (reply.Flag b) new h = inr (stays given.data_of old new (reply.Flag b) refl h.1)
   quiet_cases old (command.Replace k v) (reply.Put (Ok b)) new h =
       inr (changes given.data_of old new (reply.Put (Ok b)) refl _ _ h.1 (omega arith) (λ w. w)
-          (λ q g. ⊎_elim (λ (e : q ≡ given.data_of k). rw e (ap is_some h.0)) (λ p. p.1)
-          (in_after_insert keys_total exact_keys old.live (given.data_of k) v q g)))
+      (λ q g. ⊎_elim (λ (e : q ≡ given.data_of k). rw e (ap is_some h.0)) (λ p. p.1)
+      (in_after_insert keys_total exact_keys old.live (given.data_of k) v q g)))
   quiet_cases old (command.Replace k v) (reply.Put (Err b)) new h = inr (stays given.data_of old new (reply.Put (Err b)) refl h.2)
   quiet_cases old (command.Remove k) (reply.Taken (Some v)) new h =
       inr (changes given.data_of old new (reply.Taken (Some v)) refl _ _ h.1 (omega arith) (λ w. w) (λ q g. (in_after_remove keys_total exact_keys old.live (given.data_of k) q g).1))

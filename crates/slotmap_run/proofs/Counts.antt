@@ -124,7 +124,7 @@ module _ {V : Type 0} where
         → set.len (all_keys m d r) ≡ map.len m + set.len d + set.len r
     len-all_keys apart others =
         let whole = len_with (map.len m) m (set.union d r) (all_keys m d r) refl contains-all_keys
-                (λ q g h. elim (of_or (set.contains d q) (set.contains r q) (sym (set.contains-union keys_total d r q) ∙ h)) [
+        (λ q g h. elim (of_or (set.contains d q) (set.contains r q) (sym (set.contains-union keys_total d r q) ∙ h)) [
           | inl l ↦ apart q g l
           | inr l ↦ others q (inl g) l
         ]) in

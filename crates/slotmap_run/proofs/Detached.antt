@@ -43,13 +43,13 @@ module _ {K V R E : Type 0} (given : Given K V R E) where
       → DetachedReattaches given.data_of given.reuses commands replies
   detached_reattaches commands replies well cs ds es rs ss us key v w answer e f spares is js =
       let run : Run (DetachStep given) well.first (cs ++ detaching.Detach key ∷ (ds ++ detaching.Reattach key w ∷ es))
-              (rs ++ reply.Taken (Some v) ∷ (ss ++ answer ∷ us)) well.last = rw (← is, ← js) well.run in
+      (rs ++ reply.Taken (Some v) ∷ (ss ++ answer ∷ us)) well.last = rw (← is, ← js) well.run in
       let first = run_split (DetachStep given) cs rs (detaching.Detach key) (reply.Taken (Some v)) (ds ++ detaching.Reattach key w ∷ es) (ss ++ answer ∷ us) well.first well.last e run in
       let second = run_split (DetachStep given) ds ss (detaching.Reattach key w) answer es us first.1 well.last f first.4 in
       let aside : set.contains first.1.detached (given.data_of key) ≡ true = ap (λ (s : State V). set.contains s.detached (given.data_of key)) first.3.1
-              ∙ item_inserted keys_total exact_keys first.0.detached (given.data_of key) in
+      ∙ item_inserted keys_total exact_keys first.0.detached (given.data_of key) in
       let still = run_keeps_by (DetachStep given) (λ s. set.contains s.detached (given.data_of key) ≡ true) (Spares given.data_of (given.data_of key))
-              (detached_stays given (given.data_of key)) ds ss first.1 second.0 spares second.2 aside in
+      (detached_stays given (given.data_of key)) ds ss first.1 second.0 spares second.2 aside in
       answered second.0 key w answer second.1 still second.3
 
   replaces : (old : State V) (key : K) (w u : V) (answer : Reply K V R E) (new : State V) → map.get old.live (given.data_of key) ≡ Some w
@@ -61,8 +61,8 @@ module _ {K V R E : Type 0} (given : Given K V R E) where
   pub reattach_binds : (commands : List (DetachCommand K V)) (replies : List (Reply K V R E)) → RunsWell (DetachStep given) commands replies → ReattachBinds commands replies
   reattach_binds commands replies well cs ds rs ss key w u answer e is js =
       let run : Run (DetachStep given) well.first (cs ++ detaching.Reattach key w ∷ detaching.Plain (command.Replace key u) ∷ ds)
-              (rs ++ reply.Done ∷ answer ∷ ss) well.last = rw (← is, ← js) well.run in
+      (rs ++ reply.Done ∷ answer ∷ ss) well.last = rw (← is, ← js) well.run in
       let first = run_split (DetachStep given) cs rs (detaching.Reattach key w) reply.Done (detaching.Plain (command.Replace key u) ∷ ds) (answer ∷ ss) well.first well.last e run in
       let found : map.get first.1.live (given.data_of key) ≡ Some w = ap (λ (s : State V). map.get s.live (given.data_of key)) first.3.1
-              ∙ get_inserted keys_total exact_keys first.0.live (given.data_of key) w in
+      ∙ get_inserted keys_total exact_keys first.0.live (given.data_of key) w in
       replaces first.1 key w u answer first.4.0 found first.4.1

@@ -32,7 +32,7 @@ module _ {K V R E C : Type 0} {given : Given K V R E} {Machine : State V → C �
   removed_for_good commands replies well cs ds es rs ss us key v None e f is js = refl
   removed_for_good commands replies well cs ds es rs ss us key v (Some seen) e f is js =
       let run : Run Machine well.first (cs ++ of (command.Remove key) ∷ (ds ++ of (command.Get key) ∷ es))
-              (rs ++ reply.Taken (Some v) ∷ (ss ++ reply.Looked (Some seen) ∷ us)) well.last = rw (← is, ← js) well.run in
+      (rs ++ reply.Taken (Some v) ∷ (ss ++ reply.Looked (Some seen) ∷ us)) well.last = rw (← is, ← js) well.run in
       let first = run_split Machine cs rs (of (command.Remove key)) (reply.Taken (Some v)) (ds ++ of (command.Get key) ∷ es) (ss ++ reply.Looked (Some seen) ∷ us) well.first well.last e run in
       let second = run_split Machine ds ss (of (command.Get key)) (reply.Looked (Some seen)) es us first.1 well.last f first.4 in
       let good = run_keeps Machine IsGood (good_stays m) cs rs well.first first.0 first.2 well.good in

@@ -1,6 +1,6 @@
 -- What a call of one of two joined maps does is a step of the joined machine.
-use Rattle.std.proofs.Common.{◌≡◌, ◌≢◌, ℕ, zero, suc, ◌+◌, ◌^◌, ◌<◌, ◌≤◌, List, [], ◌∷◌, ◌++◌, length, Option, Some, None, Bool, true, false, cond,
-    nat_eq, ◌⊎◌, inl, inr, refl, sym, ap, ◌∙◌, subst, arith, rules, is_some, ⊎_elim}
+use Rattle.std.proofs.Common.{◌≡◌, ◌≢◌, ℕ, zero, suc, ◌+◌, ◌^◌, ◌<◌, ◌≤◌, List, [], ◌∷◌, ◌++◌, length, Option, Some, None, Bool, true, false, cond}
+use Rattle.std.proofs.Common.{nat_eq, ◌⊎◌, inl, inr, refl, sym, ap, ◌∙◌, subst, arith, rules, is_some, ⊎_elim}
 use Rattle.std.proofs.lemmas.Grind.{common_steps}
 use Rattle.std.specs.List.{slice_get}
 use Rattle.std.specs.Prelude.{OnSome, IfNone}
@@ -150,7 +150,7 @@ module _ {K V W R : Type 0} (given : Given K W R) (old new : Content V) (m : Pai
         ];
         young =
             λ q h. ⊎_elim (λ e. let room = young_offer given.reuses old new n ok known.lasts k v i in rw e (omega arith)) (λ g. known.young q g)
-                (item_after_insert keys_total exact_keys s.issued k q h);
+            (item_after_insert keys_total exact_keys s.issued k q h);
         lasts = young_inserts given.reuses old new n ok known.lasts k v i;
       }
 
@@ -221,8 +221,12 @@ module _ {K V W C A R : Type 0} (given : Given K W R) (old new : Content V) (m :
     s,
     step s ties,
     record { fits = move.keeps_fits given.reuses s.primary old new ok ties.fits keeps; second_is = ties.second_is; keys_are = ties.keys_are },
-    λ d n known. (d, telling s d n ties known, moves given old new m keys ok s.primary ties.fits d n known s.primary refl (kept_stands old new keeps)
-        (young_keeps given.reuses old new n ok known.lasts keeps)),
+    λ d n known. (
+      d,
+      telling s d n ties known,
+      moves given old new m keys ok s.primary ties.fits d n known s.primary refl (kept_stands old new keeps)
+          (young_keeps given.reuses old new n ok known.lasts keeps),
+    ),
   )
 
   -- no key is returned, and no more keys are live or detached
@@ -250,9 +254,17 @@ module _ {K V W R : Type 0} (given : Given K W R) (old new : Content V) (m : Pai
   inserts new_ok key v i s ties =
       let k = given.data_of key in
       let t : Joined K V W = record { primary = after_insert s.primary k v; secondary = s.secondary; keys = s.keys ++ key ∷ [] } in
-      let step : Step given s (command.Insert v) (reply.Key key) t =
-              (((fit.below given.reuses s.primary old new ok ties.fits i.below_limit,
-              fit.inserts_fresh given.reuses s.primary old new ok ties.fits k v i new_ok, refl), refl), refl) in (
+      let step : Step given s (command.Insert v) (reply.Key key) t = (
+        (
+          (
+            fit.below given.reuses s.primary old new ok ties.fits i.below_limit,
+            fit.inserts_fresh given.reuses s.primary old new ok ties.fits k v i new_ok,
+            refl,
+          ),
+          refl,
+        ),
+        refl,
+      ) in (
         t,
         step,
         record { fits = fit.inserts_fits given.reuses s.primary old new ok ties.fits k v i new_ok; second_is = ties.second_is; keys_are = ap (λ ks. ks ++ key ∷ []) ties.keys_are },
@@ -304,7 +316,7 @@ module _ {K V W R : Type 0} (given : Given K W R) (old new : Content V) (m : Pai
         let is_live : IsLive old at = ap is_some (sym is) in
         let step : (s : Joined K V W) → Ties s old m keys → Step given s (command.Remove i) (reply.Taken (Some v)) (record s { primary = after_remove s.primary at }) = λ s ties.
         subst (λ (o : Option K). StepRemove given s o (reply.Taken (Some v)) (record s { primary = after_remove s.primary at })) (sym (names s ties))
-            (((rw ties.fits.live (sym is), refl), refl), refl) in
+        (((rw ties.fits.live (sym is), refl), refl), refl) in
         changes given old new m keys ok (Step given) (TellingStep given) (command.Remove i) (reply.Taken (Some v)) (λ p. after_remove p at) (λ p. refl)
         (λ p fits. move.removes_fits given.reuses p old new ok fits at is_live r) (removed_stands old new at r) (λ n young. young_removes given.reuses old new n ok young at is_live r)
         step (λ s d ties. record { steps = step s ties; tells = tt; notes = refl })
@@ -314,7 +326,7 @@ module _ {K V W R : Type 0} (given : Given K W R) (old new : Content V) (m : Pai
       module _ (m' : Pairs W) (c : JoinedCommand V W) (r : JoinedReply K V W R) where
         turns : (after : Dictionary W → Dictionary W) → ((s : Joined K V W) → Ties s old m keys → Step given s c r (record s { secondary = m' }))
             → ((s : Joined K V W) (d : Dictionary W) (n : ℕ) → Ties s old m keys → Known given.data_of s.primary d old m keys (n + 1) → Tells given s d c r
-                × (after d ≡ noted given s.keys d c r) × Known given.data_of s.primary (after d) new m' keys n) → Plainly c r m' keys
+            × (after d ≡ noted given s.keys d c r) × Known given.data_of s.primary (after d) new m' keys n) → Plainly c r m' keys
         turns after step telling s ties = (
           record s { secondary = m' },
           step s ties,
@@ -335,7 +347,7 @@ module _ {K V W R : Type 0} (given : Given K W R) (old new : Content V) (m : Pai
         pub takes_step : (taken : Option W) → taken ≡ get m at → m' ≡ remove m at → Plainly (command.Take i) (reply.TakenSecond taken) m' keys
         takes_step taken was is = turns m' (command.Take i) (reply.TakenSecond taken) (λ d. map.remove d at)
             (λ s ties. subst (λ (o : Option K). StepTake given s o (reply.TakenSecond taken) (record s { secondary = m' })) (sym (names s ties))
-                ((rw ties.second_is was, rw ties.second_is is), refl, refl))
+            ((rw ties.second_is was, rw ties.second_is is), refl, refl))
             (λ s d n ties known. (
               λ k h held. was ∙ agrees s ties d (n + 1) known k h held,
               ap (λ o. after_take given.data_of d o) (sym (names s ties)),
@@ -350,7 +362,7 @@ module _ {K V W R : Type 0} (given : Given K W R) (old new : Content V) (m : Pai
       looks looked saw =
           let step : (s : Joined K V W) → Ties s old m keys → Step given s (command.Look i) (reply.Looked looked) s = λ s ties.
           subst (λ (o : Option K). StepLook given s o (reply.Looked looked) s) (sym (names s ties))
-              ((subst (λ (x : Pairs W). LooksAt given.looks (get x at) looked) (sym ties.second_is) saw, refl), refl, refl) in
+          ((subst (λ (x : Pairs W). LooksAt given.looks (get x at) looked) (sym ties.second_is) saw, refl), refl, refl) in
           stays given old new m keys ok (Step given) (TellingStep given) (command.Look i) (reply.Looked looked) keeps step (λ s d n ties known. record {
             steps = step s ties;
             tells = λ k h held. subst (λ (x : Option W). LooksAt given.looks x looked) (agrees s ties d (n + 1) known k h held) saw;
@@ -396,17 +408,17 @@ module _ {K V W R : Type 0} (given : Given K W R) (old new : Content V) (m : Pai
         let is_live : IsLive old at_key = ap is_some (sym is) in
         let step : (s : Joined K V W) → Ties s old m keys → DetachStep given s (detaching.Detach i) (reply.Taken (Some v)) (record s { primary = after_detach s.primary at_key }) = λ s ties.
         subst (λ (o : Option K). StepDetach given s o (reply.Taken (Some v)) (record s { primary = after_detach s.primary at_key })) (sym (names_key s ties))
-            (((rw ties.fits.live (sym is), refl), refl), refl) in
+        (((rw ties.fits.live (sym is), refl), refl), refl) in
         changes given old new m keys ok (DetachStep given) (DetachTellingStep given) (detaching.Detach i) (reply.Taken (Some v)) (λ p. after_detach p at_key) (λ p. refl)
         (λ p fits. move.detaches_fits given.reuses p old new ok fits at_key is_live r) (detached_stands old new at_key is_live r)
-            (λ n young. young_detaches given.reuses old new n ok young at_key is_live r)
+        (λ n young. young_detaches given.reuses old new n ok young at_key is_live r)
         step (λ s d ties. (step s ties, refl))
 
     pub reattached : (v : V) → Reattaches old at_key v new → Detaching (detaching.Reattach i v) reply.Done
     reattached v r =
         let step : (s : Joined K V W) → Ties s old m keys → DetachStep given s (detaching.Reattach i v) reply.Done (record s { primary = after_reattach s.primary at_key v }) = λ s ties.
         subst (λ (o : Option K). StepReattach given s o v reply.Done (record s { primary = after_reattach s.primary at_key v })) (sym (names_key s ties))
-            (((rw ties.fits.detached r.was_detached, refl), refl), refl) in
+        (((rw ties.fits.detached r.was_detached, refl), refl), refl) in
         changes given old new m keys ok (DetachStep given) (DetachTellingStep given) (detaching.Reattach i v) reply.Done (λ p. after_reattach p at_key v) (λ p. refl)
         (λ p fits. move.reattaches_fits given.reuses p old new ok fits at_key v r) (reattached_stands old new at_key v r) (λ n young. young_reattaches given.reuses old new n ok young at_key v r)
         step (λ s d ties. (step s ties, refl))

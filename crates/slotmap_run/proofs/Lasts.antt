@@ -9,8 +9,8 @@ use Rattle.slotmap_core.specs.Transition.{IsNew, Inserts, Keeps, Removes, Replac
 use Rattle.slotmap_core.specs.Fit.{Lasts}
 use Rattle.slotmap_core.proofs.KeyLemmas.{keys_total, exact_keys}
 use Rattle.slotmap_core.proofs.Maps.{false_of, of_and, of_or, same_bool, or_left}
-use Rattle.slotmap_core.proofs.Standing.{Vacates, same_vacant, new_stands, inserted_stands, inserted_vacant, kept_stands, replaced_stands,
-    detached_stands, reattached_stands, removed_stands, removed_vacant, left_stands, left_vacant}
+use Rattle.slotmap_core.proofs.Standing.{Vacates, same_vacant, new_stands, inserted_stands, inserted_vacant, kept_stands, replaced_stands}
+use Rattle.slotmap_core.proofs.Standing.{detached_stands, reattached_stands, removed_stands, removed_vacant, left_stands, left_vacant}
 
 last_is : (k : Key) → is_last k ≡ true → k.version ≡ 2 ^ 32 - 1
 last_is k h = eqb-true k.version (2 ^ 32 - 1) h

@@ -168,7 +168,7 @@ module _ {K V R E C : Type 0} {given : Given K V R E} {Step : State V → C → 
       set.same_set keys_total exact_keys (retired run.0) set.empty (λ k. false_of _ (λ h.
           let still = run_keeps Step (λ u. set.contains (retired u) k ≡ true) (retired_stays k) cs rs run.0 t run.2 h in
           let nothing : set.contains (retired t) k ≡ false = ap (λ (d : set.FinSet key_cmp). set.contains d k) none
-                  ∙ set.contains-empty key_cmp k in absurd (cc)) ∙ sym (set.contains-empty key_cmp k)),
+          ∙ set.contains-empty key_cmp k in absurd (cc)) ∙ sym (set.contains-empty key_cmp k)),
     ),
     unretired cs rs run.0 t run.2 none,
   )

@@ -8,8 +8,8 @@ use Rattle.slotmap_core.specs.Transition.{Keeps, Removes, Replaces, Leaves, Deta
 use Rattle.slotmap_core.specs.Machine.{State, IsHeld, after_remove, after_replace, after_reserve, after_detach, after_reattach, retired}
 use Rattle.slotmap_core.specs.Fit.{Fits}
 use Rattle.slotmap_core.proofs.KeyLemmas.{keys_total, exact_keys, same_or_other}
-use Rattle.slotmap_core.proofs.Maps.{of_and, of_or, of_not, not_of, or_left, or_right, in_after_insert, in_after_remove, in_inserted, still_in,
-    left_in, item_after_insert, item_inserted, item_still, item_after_remove, item_left}
+use Rattle.slotmap_core.proofs.Maps.{of_and, of_or, of_not, not_of, or_left, or_right, in_after_insert, in_after_remove, in_inserted, still_in}
+use Rattle.slotmap_core.proofs.Maps.{left_in, item_after_insert, item_inserted, item_still, item_after_remove, item_left}
 use Rattle.slotmap_core.proofs.Standing.{same_vacant, kept_stands, replaced_stands, detached_stands, reattached_stands, removed_stands, removed_vacant, left_stands, left_vacant}
 use Rattle.slotmap_core.proofs.Retired.{retired_is, retired_same, in_spent, spent_itself, spent_still}
 use Rattle.slotmap_core.proofs.PlaceCount.{kept_places, replaced_places, detached_places, reattached_places, removed_places}
@@ -20,13 +20,13 @@ module _ {V : Type 0} (reuses : Bool) (s : State V) (old new : Content V) (ok : 
     pub keeps_fits : Fits s new
     keeps_fits =
         less_fits reuses s old new ok fits s (fits.live ∙ sym k.live) (fits.detached ∙ sym k.detached) (fits.retired ∙ sym k.retired) refl refl
-            (let room = k.room in let promised = fits.promised in omega arith) (kept_stands old new k) (kept_places reuses old new ok k)
-            (same_vacant old new k.next)
+        (let room = k.room in let promised = fits.promised in omega arith) (kept_stands old new k) (kept_places reuses old new ok k)
+        (same_vacant old new k.next)
 
     pub promises_fits : (n : ℕ) → n ≤ new.room → Fits (after_reserve s n) new
     promises_fits n h =
         less_fits reuses s old new ok fits (after_reserve s n) (fits.live ∙ sym k.live) (fits.detached ∙ sym k.detached)
-            (retired_same s (after_reserve s n) refl (λ q h. h) (λ q h. h) ∙ fits.retired ∙ sym k.retired) refl refl
+        (retired_same s (after_reserve s n) refl (λ q h. h) (λ q h. h) ∙ fits.retired ∙ sym k.retired) refl refl
         (let room = k.room in let promised = fits.promised in omega arith) (kept_stands old new k) (kept_places reuses old new ok k) (same_vacant old new k.next)
 
   module _ (k : Key) (v : V) (is_live : IsLive old k) (r : Replaces old k v new) where
@@ -41,8 +41,8 @@ module _ {V : Type 0} (reuses : Bool) (s : State V) (old new : Content V) (ok : 
     pub replaces_fits : Fits (after_replace s k v) new
     replaces_fits = less_fits reuses s old new ok fits (after_replace s k v) (ap (λ (m : map.FinMap key_cmp V). map.insert m k v) fits.live ∙ sym r.live) (fits.detached ∙ sym r.detached)
         (retired_same s (after_replace s k v) refl value_held held_value ∙ fits.retired ∙ sym r.retired) refl refl
-            (let room = r.room in let promised = fits.promised in omega arith) (replaced_stands old new k v is_live r)
-            (replaced_places reuses old new ok k v is_live r) (same_vacant old new r.next)
+        (let room = r.room in let promised = fits.promised in omega arith) (replaced_stands old new k v is_live r)
+        (replaced_places reuses old new ok k v is_live r) (same_vacant old new r.next)
 
   module _ (k : Key) (is_live : IsLive old k) (r : Detaches old k new) where
     aside_held : (q : Key) → IsHeld (after_detach s k) q → IsHeld s q
@@ -56,10 +56,10 @@ module _ {V : Type 0} (reuses : Bool) (s : State V) (old new : Content V) (ok : 
     pub detaches_fits : Fits (after_detach s k) new
     detaches_fits =
         less_fits reuses s old new ok fits (after_detach s k) (ap (λ (m : map.FinMap key_cmp V). map.remove m k) fits.live ∙ sym r.live)
-            (ap (λ (d : set.FinSet key_cmp). set.insert d k) fits.detached ∙ sym r.detached)
+        (ap (λ (d : set.FinSet key_cmp). set.insert d k) fits.detached ∙ sym r.detached)
         (retired_same s (after_detach s k) refl aside_held held_aside ∙ fits.retired ∙ sym r.retired) refl refl
-            (let room = r.room in let promised = fits.promised in omega arith) (detached_stands old new k is_live r)
-            (detached_places reuses old new ok k is_live r) (same_vacant old new r.next)
+        (let room = r.room in let promised = fits.promised in omega arith) (detached_stands old new k is_live r)
+        (detached_places reuses old new ok k is_live r) (same_vacant old new r.next)
 
   module _ (k : Key) (v : V) (r : Reattaches old k v new) where
     back_held : (q : Key) → IsHeld (after_reattach s k v) q → IsHeld s q
@@ -73,10 +73,10 @@ module _ {V : Type 0} (reuses : Bool) (s : State V) (old new : Content V) (ok : 
     pub reattaches_fits : Fits (after_reattach s k v) new
     reattaches_fits =
         less_fits reuses s old new ok fits (after_reattach s k v) (ap (λ (m : map.FinMap key_cmp V). map.insert m k v) fits.live ∙ sym r.live)
-            (ap (λ (d : set.FinSet key_cmp). set.remove d k) fits.detached ∙ sym r.detached)
+        (ap (λ (d : set.FinSet key_cmp). set.remove d k) fits.detached ∙ sym r.detached)
         (retired_same s (after_reattach s k v) refl back_held held_back ∙ fits.retired ∙ sym r.retired) refl refl
-            (let room = r.room in let promised = fits.promised in omega arith) (reattached_stands old new k v r) (reattached_places reuses old new ok k v r)
-            (same_vacant old new r.next)
+        (let room = r.room in let promised = fits.promised in omega arith) (reattached_stands old new k v r) (reattached_places reuses old new ok k v r)
+        (same_vacant old new r.next)
 
   module _ (k : Key) (is_live : IsLive old k) (r : Removes old k new) where
     held_without : (q : Key) → q ≢ k → IsHeld s q → IsHeld (after_remove s k) q
@@ -149,4 +149,4 @@ module _ {V : Type 0} (reuses : Bool) (s : State V) (old new : Content V) (ok : 
     pub leaves_fits : Fits after new
     leaves_fits =
         less_fits reuses s old new ok fits after refl (fits.detached ∙ sym l.detached) left_retired refl refl
-            (let room = l.room in let promised = fits.promised in omega arith) (left_stands old new l) l.same_places (left_vacant old new l)
+        (let room = l.room in let promised = fits.promised in omega arith) (left_stands old new l) l.same_places (left_vacant old new l)

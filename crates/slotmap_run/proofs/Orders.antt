@@ -15,8 +15,8 @@ use Rattle.slotmap_core.specs.Transition.{IsNew, Inserts, Keeps, Removes, Detach
 use Rattle.slotmap_core.specs.Lifo as lifo
 use Rattle.slotmap_core.specs.Lifo.{Lifo, offer_of, top_key, places_after, after_insert}
 use Rattle.slotmap_core.proofs.KeyLemmas.{keys_total, exact_keys}
-use Rattle.slotmap_core.proofs.Maps.{same_bool, some_entry, in_after_insert, in_inserted, still_in, in_after_remove, left_in, item_after_insert,
-    item_inserted, item_still, item_after_remove, item_left}
+use Rattle.slotmap_core.proofs.Maps.{same_bool, some_entry, in_after_insert, in_inserted, still_in, in_after_remove, left_in, item_after_insert}
+use Rattle.slotmap_core.proofs.Maps.{item_inserted, item_still, item_after_remove, item_left}
 use Rattle.slotmap_core.specs.Law.{keys_told, IsRefusal}
 use Rattle.slotmap_core.specs.Run.{Run}
 use Rattle.slotmap_core.specs.declared.commands.DetachCommand.{DetachCommand}

@@ -1,6 +1,6 @@
 -- What the calls of a map ensure is a step of the machine.
-use Rattle.std.proofs.Common.{◌≡◌, ℕ, ◌+◌, ◌<◌, ◌≤◌, List, [], ◌∷◌, ◌++◌, Vec, Global, Result, Ok, Err, IfOk, OnOk, IfErr, OnErr, IsErr, IsOk,
-    Option, Some, None, Bool, false, cond, inl, inr, refl, sym, ap, ◌∙◌, subst, arith, is_some}
+use Rattle.std.proofs.Common.{◌≡◌, ℕ, ◌+◌, ◌<◌, ◌≤◌, List, [], ◌∷◌, ◌++◌, Vec, Global, Result, Ok, Err, IfOk, OnOk, IfErr, OnErr, IsErr, IsOk, Option}
+use Rattle.std.proofs.Common.{Some, None, Bool, false, cond, inl, inr, refl, sym, ap, ◌∙◌, subst, arith, is_some}
 use Rattle.std.specs.Prelude.{map as list_map, MatchOption, IsSomeAnd, OnSome, IfNone, option_copied}
 use Rattle.std.specs.Fn.{Mut}
 use Rattle.std.specs.Borrow.{Bor, MutBor}
@@ -84,9 +84,11 @@ module _ {K V R E : Type 0} (given : Given K V R E) (old new : Content V) (ok : 
   inserts new_ok key v i = record {
     follows = record {
       step =
-          λ s fits. (after_insert s (given.data_of key) v,
-              (below given.reuses s old new ok fits i.below_limit, inserts_fresh given.reuses s old new ok fits (given.data_of key) v i new_ok, refl),
-              inserts_fits given.reuses s old new ok fits (given.data_of key) v i new_ok);
+          λ s fits. (
+            after_insert s (given.data_of key) v,
+            (below given.reuses s old new ok fits i.below_limit, inserts_fresh given.reuses s old new ok fits (given.data_of key) v i new_ok, refl),
+            inserts_fits given.reuses s old new ok fits (given.data_of key) v i new_ok,
+          );
       lasts = λ n lasts. inserts_lasts given.reuses old new n ok lasts (given.data_of key) v i;
     };
     orders = λ l is basic told. let both = lifo_inserts given.reuses old new ok l is (given.data_of key) v i in (ap (λ k. k ∷ []) both.0, both.1);
@@ -95,17 +97,23 @@ module _ {K V R E : Type 0} (given : Given K V R E) (old new : Content V) (ok : 
   inserts_with : IsContent given.reuses new → (key : K) (v : V) → given.makes key (Ok v) → Inserts old (given.data_of key) v new → Answers command.InsertWith (reply.Key key)
   inserts_with new_ok key v made i = other command.InsertWith (reply.Key key) (λ b. b) (record {
     step =
-        λ s fits. (after_insert s (given.data_of key) v,
-            (below given.reuses s old new ok fits i.below_limit, inserts_fresh given.reuses s old new ok fits (given.data_of key) v i new_ok,
-            (v, made, refl)), inserts_fits given.reuses s old new ok fits (given.data_of key) v i new_ok);
+        λ s fits. (
+          after_insert s (given.data_of key) v,
+          (
+            below given.reuses s old new ok fits i.below_limit,
+            inserts_fresh given.reuses s old new ok fits (given.data_of key) v i new_ok,
+            (v, made, refl),
+          ),
+          inserts_fits given.reuses s old new ok fits (given.data_of key) v i new_ok,
+        );
     lasts = λ n lasts. inserts_lasts given.reuses old new n ok lasts (given.data_of key) v i;
   })
 
   full : (v back : V) → Refuses old v (Full back) → Keeps old new → Answers (command.Insert v) (reply.Full (Some back))
   full v back r keeps =
       refused (command.Insert v) (reply.Full (Some back)) tt
-          (stays_by (Step given) (command.Insert v) (reply.Full (Some back)) keeps
-          (λ s fits. (used_same given.reuses s old new ok fits ∙ r.0, ap Some r.1, refl)))
+      (stays_by (Step given) (command.Insert v) (reply.Full (Some back)) keeps
+      (λ s fits. (used_same given.reuses s old new ok fits ∙ r.0, ap Some r.1, refl)))
 
   with_full : used old ≡ most → Keeps old new → Answers command.InsertWith (reply.Full None)
   with_full r keeps =
@@ -140,7 +148,7 @@ module _ {K V R E : Type 0} (given : Given K V R E) (old new : Content V) (ok : 
   -- whatever an insert of what `make` returns does
   pub inserted_with : (r : Result K (TryInsertError E)) → MayGrow given.reuses old (IsErr r) new
       → IfOk r (λ key. (v : V) × given.makes key (Ok v) × Inserts old (given.data_of key) v new) → IfErr r (RefusesWith given.data_of given.makes old)
-          → Answers command.InsertWith (insert_with_reply_of r)
+      → Answers command.InsertWith (insert_with_reply_of r)
   inserted_with (Ok key) valid ok err = inserts_with valid.after key ok.0 ok.1 ok.2
   inserted_with (Err with_key.Full) valid ok err = with_full err (valid.unchanged refl)
   inserted_with (Err with_key.Memory) valid ok err = with_no_memory err (valid.unchanged refl)
@@ -199,14 +207,14 @@ module _ {K V R E : Type 0} (given : Given K V R E) (old new : Content V) (ok : 
   reserves_no_memory : (m : ℕ) → used old + m ≤ most → old.room < m → Keeps old new → Answers (command.Reserve m) (reply.Memory None)
   reserves_no_memory m within lacks keeps =
       other (command.Reserve m) (reply.Memory None) (λ b. b) (stays_by (Step given) (command.Reserve m) (reply.Memory None) keeps (λ s fits. let same = used_same given.reuses s old new ok fits in (
-    record {
-      within_limit = omega arith;
-      beyond_promise = let promised = fits.promised in omega arith;
-      beyond_peak = λ h. let vacant = ok.reused h in let peak = fits.peak in omega arith;
-    },
-    refl,
-    refl,
-  )))
+        record {
+          within_limit = omega arith;
+          beyond_promise = let promised = fits.promised in omega arith;
+          beyond_peak = λ h. let vacant = ok.reused h in let peak = fits.peak in omega arith;
+        },
+        refl,
+        refl,
+      )))
 
   -- whatever a reserve returns
   pub reserved : (m : ℕ) (r : Result (Unit {0}) ReserveError) → MakesRoom given.reuses old m (IsOk r) new → IfErr r (RefusesCapacity (used old + m)) → Answers (command.Reserve m) (reserve_reply_of r)
@@ -228,7 +236,7 @@ module _ {K V R E : Type 0} (given : Given K V R E) (old new : Content V) (ok : 
   -- whatever a drain into a new vector returns
   pub drained : (done : Result (Unit {0}) OutOfMemory) (first out : Vec (K × V) Global) (r : Reply K V R E) → first.items ≡ [] → OnOk done (r ≡ reply.Drained out) → OnErr done (r ≡ reply.Memory None)
       → OnOk done ((pairs : List (K × V)) × (out.items ≡ first.items ++ pairs) × IsListing old.live (list_map (λ p. (given.data_of p.0, p.1)) pairs))
-          → OnOk done (new.live ≡ map.empty) → OnOk done (Leaves old new) → OnErr done ((new ≡ old) × (out.items ≡ first.items))
+      → OnOk done (new.live ≡ map.empty) → OnOk done (Leaves old new) → OnErr done ((new ≡ old) × (out.items ≡ first.items))
       → Answers command.Drain r
   drained (Ok done) first out r none told refusal all empty l unchanged =
       let is : out.items ≡ all.0 = all.1 ∙ ap (λ front. front ++ all.0) none in

@@ -28,7 +28,7 @@ module _ {V : Type 0} where
           more = omega (arith, before.more, places);
           last =
               last_of here places before.last (λ there. ap (λ (m : Pairs V). map.contains_key m (at.places - 1)) bound
-                  ∙ still_in nat_cmp_total exact_unsigned at.pairs k.index (k.version, v) (at.places - 1) there);
+              ∙ still_in nat_cmp_total exact_unsigned at.pairs k.index (k.version, v) (at.places - 1) there);
           capacity = omega (arith, before.capacity, reaches.grows);
           had_room = λ within.
               let same = before.had_room (omega (arith, within, places)) in

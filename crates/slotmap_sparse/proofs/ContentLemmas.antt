@@ -14,7 +14,7 @@ module _ {V : Type 0} where
       let there = pair_of c.pairs k has in
       let key : IsKey k = subst (λ n. IsKey (record { index = k.index; version = n })) (same_version c.pairs k has there.0 there.1) (well.keys k.index there.0 there.1).0 in
       let long : map.len (bind c.pairs k v) ≡ map.len c.pairs = map.len-insert nat_cmp_total c.pairs k.index (k.version, v)
-              ∙ ap (λ b. cond b (map.len c.pairs) (map.len c.pairs + 1)) (index_stands c.pairs k has) in
+      ∙ ap (λ b. cond b (map.len c.pairs) (map.len c.pairs + 1)) (index_stands c.pairs k has) in
       record {
         keys = IsSecondary-bind c.pairs k v well.keys key (not_null_at c.pairs k there.0 there.1 well.keys);
         fits = omega (arith, long, well.fits);

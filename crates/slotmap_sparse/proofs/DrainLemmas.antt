@@ -33,4 +33,4 @@ module _ {K V S Z : Type 0} (data_of : K → Key) where
       let rest = Drain-lists run.0 pairs later run.2 in
       let left : keyed (drain_map run.0).pairs ≡ map.remove (keyed m) k = ap keyed taken.1 ∙ keyed-remove m k (ap is_some taken.0) in
       IsListingBut-first (keyed m) (keyed (drain_map later).pairs) (entries data_of pairs) k pair.1 (get-keyed m k ∙ taken.0)
-          (subst (λ n. IsListingBut n (entries data_of pairs) (keyed (drain_map later).pairs)) left rest)
+      (subst (λ n. IsListingBut n (entries data_of pairs) (keyed (drain_map later).pairs)) left rest)

@@ -1,6 +1,6 @@
 -- The entries of a hash map as a finite map.
-use Rattle.std.proofs.Common.{◌≡◌, ℕ, suc, ◌+◌, true, false, cond, nat_eq, List, [], ◌∷◌, length, Option, Some, None, is_some, refl, sym, ap, subst,
-    ◌∙◌, nat_cmp, arith, ◌<◌, inl, inr, MutBor, Result, Ok, Err, OnOk, IfOk, Bool}
+use Rattle.std.proofs.Common.{◌≡◌, ℕ, suc, ◌+◌, true, false, cond, nat_eq, List, [], ◌∷◌, length, Option, Some, None, is_some, refl, sym, ap, subst}
+use Rattle.std.proofs.Common.{◌∙◌, nat_cmp, arith, ◌<◌, inl, inr, MutBor, Result, Ok, Err, OnOk, IfOk, Bool}
 use Rattle.std.specs.Option.{option_copied_mut}
 use Rattle.std.specs.Ordering.{eq_by_cmp}
 use Rattle.std.specs.Cmp.{nat_cmp_total, unsigned_tied, nat_eq_equiv}
@@ -132,8 +132,8 @@ module _ {V : Type 0} where
     pairs_kept : pairs_of n.entries ≡ pairs_of m.entries
     pairs_kept =
         pairs_put m.entries n.entries i p (written.3 (ap is_some stood)).0
-            ∙ map.same_map nat_cmp_total exact_unsigned _ _ (λ q. map.get-insert nat_cmp_total (pairs_of m.entries) i p q
-            ∙ by q (eq_by_cmp nat_cmp q i) refl)
+        ∙ map.same_map nat_cmp_total exact_unsigned _ _ (λ q. map.get-insert nat_cmp_total (pairs_of m.entries) i p q
+        ∙ by q (eq_by_cmp nat_cmp q i) refl)
       where
         by : (q : ℕ) (b : Bool) → eq_by_cmp nat_cmp q i ≡ b → cond b (Some p) (map.get (pairs_of m.entries) q) ≡ map.get (pairs_of m.entries) q
         by q true t = sym (get-pairs m.entries i ∙ stood) ∙ ap (map.get (pairs_of m.entries)) (sym (tied nat_cmp_total exact_unsigned q i t))

@@ -94,7 +94,7 @@ module _ {F G K V : Type 0} (g : Mut F (K × (MutBor V × Unit {0})) (Bool × (M
       let before = came shows c d xs of.0 run in
       let rest = keyed (pairs_of (e ∷ ys)) in
       let listed : IsListingBut (keyed p) (seen data_of before.visits) rest = subst (λ (x : List (Key × V)). IsListingBut (keyed p) x rest)
-              (sym before.saw) (listed_before xs (e ∷ ys) p is sound.unique) in
+      (sym before.saw) (listed_before xs (e ∷ ys) p is sound.unique) in
       let here = first_there e ys in (
         of.1.0,
         record { visits = before.visits; calls = before.calls; rest = rest; listed = listed; to_come = ap is_some here },
@@ -149,5 +149,5 @@ module _ {F K V : Type 0} (g : Mut F (K × (MutBor V × Unit {0})) (Bool × (Mut
       → (q.0 ≡ p.0) × ((key : K) × (data_of key ≡ key_from i p.0) × CallsAt g f (record { key = key; before = p.1; after = q.1; stays = b }) f')
   shown_at i j p p' q q' b f f' at before after call version =
       subst (λ (s : ℕ × ((ℕ × V) × (ℕ × V))). (s.1.1.0 ≡ s.1.0.0)
-          × ((key : K) × (data_of key ≡ key_from s.0 s.1.0.0) × CallsAt g f (record { key = key; before = s.1.0.1; after = s.1.1.1; stays = b }) f'))
+      × ((key : K) × (data_of key ≡ key_from s.0 s.1.0.0) × CallsAt g f (record { key = key; before = s.1.0.1; after = s.1.1.1; stays = b }) f'))
       (λ l. (at l, (before l, after l))) (version, call)

@@ -42,7 +42,7 @@ module _ {V : Type 0} where
   missed k [] h = refl
   missed k (e ∷ es) h =
       ap (λ b. cond b (Some e.1.1) (find key_cmp k (key_pairs es))) (tie_parts (nat_cmp k.index e.0) (nat_cmp k.version e.1.0)
-          ∙ ap (λ b. b && is_eq (nat_cmp k.version e.1.0)) (unsigned_tied k.index e.0))
+      ∙ ap (λ b. b && is_eq (nat_cmp k.version e.1.0)) (unsigned_tied k.index e.0))
       ∙ by (missed k es) (nat_eq k.index e.0) h
     where
       by : (lookup (nat_eq k.index) es ≡ None → find key_cmp k (key_pairs es) ≡ None) → (b : Bool) → cond b (Some e.1) (lookup (nat_eq k.index) es) ≡ None
@@ -72,7 +72,7 @@ module _ {V : Type 0} where
   listing es p is unique = record {
     all =
         map.same_map keys_total exact_keys _ _ (λ k. map.get-from_entries keys_total (key_pairs es) k ∙ find-pairs k es unique
-            ∙ ap (value_at k.version) (sym (get-pairs es k.index) ∙ ap (λ (x : Pairs V). map.get x k.index) is) ∙ sym (get-keyed p k));
+        ∙ ap (value_at k.version) (sym (get-pairs es k.index) ∙ ap (λ (x : Pairs V). map.get x k.index) is) ∙ sym (get-keyed p k));
     once = length-map es keyed_entry ∙ sym (len-pairs es unique) ∙ ap (λ (x : Pairs V). map.len x) is ∙ sym (len-keyed p);
   }
 

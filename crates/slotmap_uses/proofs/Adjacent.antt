@@ -1,6 +1,6 @@
 -- The lists of the edges of each node: what a change of the edges asks of them.
-use Rattle.std.proofs.Common.{Result, Ok, Err, OnOk, IsOk, is_ok, ◌≡◌, ◌≢◌, ℕ, ◌+◌, ◌<◌, true, false, Some, None, if◌then◌else◌, List, [], ◌∷◌, ◌++◌,
-    refl, sym, ap, ◌∙◌, inl, inr, arith, length, get_or, drop, drop-cons, add-one, ◌≤◌}
+use Rattle.std.proofs.Common.{Result, Ok, Err, OnOk, IsOk, is_ok, ◌≡◌, ◌≢◌, ℕ, ◌+◌, ◌<◌, true, false, Some, None, if◌then◌else◌, List, [], ◌∷◌, ◌++◌}
+use Rattle.std.proofs.Common.{refl, sym, ap, ◌∙◌, inl, inr, arith, length, get_or, drop, drop-cons, add-one, ◌≤◌}
 use Rattle.std.specs.List.{swap_remove}
 use Rattle.std.proofs.Math.ListN.{drop_of_length-le}
 use Rattle.std.proofs.lemmas.List.Sorted.{sum_by-IsPermutation, IsPermutation-swap_remove}

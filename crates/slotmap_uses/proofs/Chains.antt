@@ -1,6 +1,6 @@
 -- What a change of the nodes does to the list.
-use Rattle.std.proofs.Common.{◌≡◌, ◌≢◌, ◌+◌, Bool, true, false, cond, List, [], ◌∷◌, ◌++◌, length, Option, Some, None, is_some, IfSome, ◌⊎◌, inl,
-    inr, refl, sym, ap, subst, ◌∙◌, arith, length-append, append_assoc, append-nil}
+use Rattle.std.proofs.Common.{◌≡◌, ◌≢◌, ◌+◌, Bool, true, false, cond, List, [], ◌∷◌, ◌++◌, length, Option, Some, None, is_some, IfSome, ◌⊎◌, inl, inr}
+use Rattle.std.proofs.Common.{refl, sym, ap, subst, ◌∙◌, arith, length-append, append_assoc, append-nil}
 use Rattle.std.specs.Option.{option_or, option_map}
 use Rattle.std.specs.Ordering.{eq_by_cmp}
 use Rattle.std.specs.FinMap as map
@@ -213,8 +213,8 @@ module _ {T : Type 0} where
           node_at-append p n ys (e ∷ []) e.0 ∙ ap (λ o. option_or o (node_at (last_or ys p) (e ∷ []) n e.0)) (absent_node p (Some e.0) ys e.0 apart)
           ∙ ap (λ b. cond b (Some (record { value = e.1; prev = last_or ys p; next = n })) None) one in
           let goal = by_key (λ t. option_or (node_at p ys (Some e.0) q) (cond t (Some (record { value = e.1; prev = last_or ys p; next = m })) None) ≡ cond t
-                  (Some (record { value = e.1; prev = last_or ys p; next = m }))
-                  (option_or (node_at p ys (Some e.0) q) (cond t (Some (record { value = e.1; prev = last_or ys p; next = n })) None))) q e.0
+          (Some (record { value = e.1; prev = last_or ys p; next = m }))
+          (option_or (node_at p ys (Some e.0) q) (cond t (Some (record { value = e.1; prev = last_or ys p; next = n })) None))) q e.0
           (λ is. ap (λ o. option_or o (Some (record { value = e.1; prev = last_or ys p; next = m }))) (ap (node_at p ys (Some e.0)) is ∙ absent_node p (Some e.0) ys e.0 apart))
           (λ _ _. refl) in
           node_at-append p m ys (e ∷ []) q ∙ goal
@@ -228,8 +228,8 @@ module _ {T : Type 0} where
   node_at-prev p o n (x ∷ xs) q =
       let one = itself keys_total exact_keys x.0 in
       by_key (λ t. cond t (Some (record { value = x.1; prev = o; next = first_or xs n })) (node_at (Some x.0) xs n q) ≡ cond t
-          (Some (record { value = x.1; prev = o; next = first_or xs n }))
-          (cond t (Some (record { value = x.1; prev = p; next = first_or xs n })) (node_at (Some x.0) xs n q))) q x.0 (λ _. refl) (λ _ _. refl)
+      (Some (record { value = x.1; prev = o; next = first_or xs n }))
+      (cond t (Some (record { value = x.1; prev = p; next = first_or xs n })) (node_at (Some x.0) xs n q))) q x.0 (λ _. refl) (λ _ _. refl)
       ∙ ap (λ t. cond (same q x.0) (option_map (to_prev o) (cond t (Some (record { value = x.1; prev = p; next = first_or xs n })) (node_at (Some x.0) xs n x.0))) (node_at p (x ∷ xs) n q)) (sym one)
 
   -- the key at an end stands in the list
@@ -246,9 +246,11 @@ module _ {T : Type 0} where
         where
           by' : (o : Option T) → value_of k ys ≡ o → (v : T) × (value_of k (ys ++ e ∷ []) ≡ Some v)
           by' (Some v) there = (v, value_of-append ys (e ∷ []) k ∙ ap (λ o. option_or o (value_of k (e ∷ []))) there)
-          by' None gone =
-              (e.1, value_of-append ys (e ∷ []) k ∙ ap (λ o. option_or o (value_of k (e ∷ []))) gone
-                  ∙ ap (λ b. cond b (Some e.1) None) (subst (λ (x : Key). same x e.0 ≡ true) name (itself keys_total exact_keys e.0)))
+          by' None gone = (
+            e.1,
+            value_of-append ys (e ∷ []) k ∙ ap (λ o. option_or o (value_of k (e ∷ []))) gone
+                ∙ ap (λ b. cond b (Some e.1) None) (subst (λ (x : Key). same x e.0 ≡ true) name (itself keys_total exact_keys e.0)),
+          )
 
   pub first_stands : (xs : List (Key × T)) (k : Key) → first_or xs None ≡ Some k → (v : T) × (value_of k xs ≡ Some v)
   first_stands [] k is = absurd (cc)
@@ -263,8 +265,8 @@ module _ {T : Type 0} where
       let all = xs ++ after in
       let one = itself keys_total exact_keys x.0 in
       let here : map.get nodes x.0 ≡ Some (record { value = x.1; prev = p; next = first_or all None }) = is x.0 x.1
-              (ap (λ b. cond b (Some x.1) (value_of x.0 all)) one)
-              ∙ ap (λ b. cond b (Some (record { value = x.1; prev = p; next = first_or all None })) (node_at (Some x.0) all None x.0)) one in
+      (ap (λ b. cond b (Some x.1) (value_of x.0 all)) one)
+      ∙ ap (λ b. cond b (Some (record { value = x.1; prev = p; next = first_or all None })) (node_at (Some x.0) all None x.0)) one in
       ap (λ o. follow_node x.0 o (follow nodes (length xs))) here
       ∙ ap (λ l. x ∷ l) (follow_is nodes (Some x.0) xs after once.1 (λ q v there.
       let other : same q x.0 ≡ false = other_key q x.0 (λ e. let none = sym (ap (λ k. value_of k all) e) ∙ there in absurd (let n = once.0 in cc)) in
@@ -288,8 +290,8 @@ module _ {T : Type 0} where
       let none_left : (l : Key) → last_or ys None ≡ Some l → option_or (mid l) (node_at p0 zs None l) ≡ None = λ l e. let there = last_stands ys l e in
       ap (λ o. option_or o (node_at p0 zs None l)) (left l e) ∙ absent_node p0 None zs l (once_right_apart ys zs l there.0 once there.1) in
       let none_right : (b : Key) → first_or zs None ≡ Some b
-              → node_at None ys n1 b ≡ None = λ b e. let there = first_stands zs b e in absent_node None n1 ys b
-              (once_apart ys zs b there.0 once there.1) in
+      → node_at None ys n1 b ≡ None = λ b e. let there = first_stands zs b e in absent_node None n1 ys b
+      (once_apart ys zs b there.0 once there.1) in
       let step : (k : Key) → relinked (to_next n1) (last_or ys None) f k ≡ option_or (node_at None ys n1 k) (option_or (mid k) (node_at p0 zs None k)) = λ k.
       relinked_same (to_next n1) (last_or ys None) f (λ j. option_or (node_at None ys n0 j) (option_or (mid j) (node_at p0 zs None j))) is k
       ∙ relinked_left (to_next n1) (last_or ys None) (node_at None ys n0) (λ j. option_or (mid j) (node_at p0 zs None j)) none_left k
@@ -303,8 +305,8 @@ module _ {T : Type 0} where
       → map.get (with_prev (with_next nodes at next) at' prev) q ≡ relinked (to_prev prev) at' (relinked (to_next next) at (map.get nodes)) q
   get-relinked nodes at next at' prev q =
       get-with_prev (with_next nodes at next) at' prev q
-          ∙ relinked_same (to_prev prev) at' (map.get (with_next nodes at next)) (relinked (to_next next) at (map.get nodes))
-          (get-with_next nodes at next) q
+      ∙ relinked_same (to_prev prev) at' (map.get (with_next nodes at next)) (relinked (to_next next) at (map.get nodes))
+      (get-with_next nodes at next) q
 
   pub len_written : (nodes : Nodes T) (k : Key) (node old : Node T) → map.get nodes k ≡ Some old → map.len (map.insert nodes k node) ≡ map.len nodes
   len_written nodes k node old found = map.len-insert keys_total nodes k node ∙ ap (λ o. cond (is_some o) (map.len nodes) (map.len nodes + 1)) found
@@ -349,8 +351,8 @@ module _ {T : Type 0} where
       → follow nodes (length xs) (first_or (xs ++ after) None) ≡ xs
   follow_part nodes before xs after once is = follow_is nodes (last_or before None) xs after (once_right before (xs ++ after) once) (λ q v there.
       is q ∙ node_at-append None None before (xs ++ after) q
-          ∙ ap (λ o. option_or o (node_at (last_or before None) (xs ++ after) None q))
-          (absent_node None (first_or (xs ++ after) None) before q (once_apart before (xs ++ after) q v once there)))
+      ∙ ap (λ o. option_or o (node_at (last_or before None) (xs ++ after) None q))
+      (absent_node None (first_or (xs ++ after) None) before q (once_apart before (xs ++ after) q v once there)))
 
   -- the node of an element
   pub node_here : (ys : List (Key × T)) (e : Key × T) (zs : List (Key × T)) → IsOnce (ys ++ e ∷ zs)
@@ -409,7 +411,7 @@ module _ {T : Type 0} where
   -- an element is put between two neighbours
   pub chain_put : (nodes : Nodes T) (first last : Option Key) (ys zs : List (Key × T)) (k : Key) (v : T) → IsChain nodes first last (ys ++ zs) → map.get nodes k ≡ None
       → IsChain (with_prev (with_next (map.insert nodes k (record { value = v; prev = last_or ys None; next = first_or zs None })) (last_or ys None)
-          (Some k)) (first_or zs None) (Some k)) (outer (last_or ys None) first (Some k)) (outer (first_or zs None) last (Some k)) (ys ++ (k, v) ∷ zs)
+      (Some k)) (first_or zs None) (Some k)) (outer (last_or ys None) first (Some k)) (outer (first_or zs None) last (Some k)) (ys ++ (k, v) ∷ zs)
   chain_put nodes first last ys zs k v chain new =
       let node : Node T = record { value = v; prev = last_or ys None; next = first_or zs None } in
       let absent : value_of k (ys ++ zs) ≡ None = sym (value_found nodes first last (ys ++ zs) k chain) ∙ ap (option_map (λ n. n.value)) new in
@@ -418,15 +420,15 @@ module _ {T : Type 0} where
       let inserted : (q : Key) → map.get (map.insert nodes k node) q ≡ option_or (node_at None ys (first_or zs None) q) (option_or (mid q) (node_at (last_or ys None) zs None q)) = λ q.
       map.get-insert keys_total nodes k node q ∙ ap (cond (same q k) (Some node)) (chain.nodes_are q ∙ node_at-append None None ys zs q)
       ∙ by_key (λ t. cond t (Some node) (option_or (node_at None ys (first_or zs None) q) (node_at (last_or ys None) zs None q)) ≡ option_or
-          (node_at None ys (first_or zs None) q) (option_or (cond t (Some node) None) (node_at (last_or ys None) zs None q))) q k
+      (node_at None ys (first_or zs None) q) (option_or (cond t (Some node) None) (node_at (last_or ys None) zs None q))) q k
       (λ e. ap (λ o. option_or o (Some node)) (sym (ap (node_at None ys (first_or zs None)) e ∙ absent_node None (first_or zs None) ys k parts.0)))
       (λ _ _. refl) in
       let left : (l : Key) → last_or ys None ≡ Some l → mid l ≡ None = λ l e. let there = last_stands ys l e in
       ap (λ b. cond b (Some node) None) (other_key l k (λ is. let none = parts.0 in let same_value : value_of l ys ≡ value_of k ys = ap
-          (λ j. value_of j ys) is in let some = there.1 in absurd (cc))) in
+      (λ j. value_of j ys) is in let some = there.1 in absurd (cc))) in
       let right : (b : Key) → first_or zs None ≡ Some b → mid b ≡ None = λ b e. let there = first_stands zs b e in
       ap (λ t. cond t (Some node) None) (other_key b k (λ is. let none = parts.1 in let same_value : value_of b zs ≡ value_of k zs = ap
-          (λ j. value_of j zs) is in let some = there.1 in absurd (cc))) in
+      (λ j. value_of j zs) is in let some = there.1 in absurd (cc))) in
       record {
         nodes_are = λ q. get-relinked (map.insert nodes k node) (last_or ys None) (Some k) (first_or zs None) (Some k) q
             ∙ relink ys zs mid (first_or zs None) (Some k) (last_or ys None) (Some k) (map.get (map.insert nodes k node)) chain.once left right inserted q
@@ -435,8 +437,8 @@ module _ {T : Type 0} where
         once = once_put ys (k, v) zs chain.once absent;
         count = length-append ys ((k, v) ∷ zs) ∙ (let e = length-append ys zs in let c = chain.count in omega arith)
             ∙ sym (len-with_prev (with_next (map.insert nodes k node) (last_or ys None) (Some k)) (first_or zs None) (Some k)
-                ∙ len-with_next (map.insert nodes k node) (last_or ys None) (Some k) ∙ map.len-insert keys_total nodes k node
-                ∙ ap (λ o. cond (is_some o) (map.len nodes) (map.len nodes + 1)) new);
+            ∙ len-with_next (map.insert nodes k node) (last_or ys None) (Some k) ∙ map.len-insert keys_total nodes k node
+            ∙ ap (λ o. cond (is_some o) (map.len nodes) (map.len nodes + 1)) new);
         first_is = outer_first ys zs ((k, v) ∷ zs) first chain.first_is;
         last_is = outer_last zs ys last (Some k) chain.last_is ∙ sym (last_or-append ys ((k, v) ∷ zs) None);
       }
@@ -444,7 +446,7 @@ module _ {T : Type 0} where
   -- an element leaves
   pub chain_removed : (nodes : Nodes T) (first last : Option Key) (ys : List (Key × T)) (k : Key) (v : T) (zs : List (Key × T)) → IsChain nodes first last (ys ++ (k, v) ∷ zs) → value_of k ys ≡ None
       → IsChain (with_prev (with_next (map.remove nodes k) (last_or ys None) (first_or zs None)) (first_or zs None) (last_or ys None))
-          (outer (last_or ys None) first (first_or zs None)) (outer (first_or zs None) last (last_or ys None)) (ys ++ zs)
+      (outer (last_or ys None) first (first_or zs None)) (outer (first_or zs None) last (last_or ys None)) (ys ++ zs)
   chain_removed nodes first last ys k v zs chain none =
       let once = once_drop ys (k, v) zs chain.once in
       let found = node_split nodes first last ys k v zs chain none in
@@ -452,10 +454,10 @@ module _ {T : Type 0} where
       let removed : (q : Key) → map.get (map.remove nodes k) q ≡ option_or (node_at None ys (Some k) q) (option_or None (node_at (Some k) zs None q)) = λ q.
       map.get-remove keys_total nodes k q ∙ ap (cond (same q k) None) (chain.nodes_are q ∙ node_at-append None None ys ((k, v) ∷ zs) q)
       ∙ by_key (λ t. cond t None (option_or (node_at None ys (Some k) q)
-          (cond t (Some (record { value = v; prev = last_or ys None; next = first_or zs None })) (node_at (Some k) zs None q))) ≡ option_or
-          (node_at None ys (Some k) q) (node_at (Some k) zs None q)) q k
+      (cond t (Some (record { value = v; prev = last_or ys None; next = first_or zs None })) (node_at (Some k) zs None q))) ≡ option_or
+      (node_at None ys (Some k) q) (node_at (Some k) zs None q)) q k
       (λ e. absent_or (node_at None ys (Some k) q) (node_at (Some k) zs None q) (ap (node_at None ys (Some k)) e ∙ absent_node None (Some k) ys k none)
-          (ap (node_at (Some k) zs None) e ∙ absent_node (Some k) None zs k after))
+      (ap (node_at (Some k) zs None) e ∙ absent_node (Some k) None zs k after))
       (λ _ _. refl) in
       record {
         nodes_are = λ q. get-relinked (map.remove nodes k) (last_or ys None) (first_or zs None) (first_or zs None) (last_or ys None) q
@@ -464,7 +466,7 @@ module _ {T : Type 0} where
         once = once;
         count = length-append ys zs ∙ (let e = length-append ys ((k, v) ∷ zs) in let c = chain.count in let r = len_removed keys_total exact_keys nodes k (ap is_some found) in omega arith)
             ∙ sym (len-with_prev (with_next (map.remove nodes k) (last_or ys None) (first_or zs None)) (first_or zs None) (last_or ys None)
-                ∙ len-with_next (map.remove nodes k) (last_or ys None) (first_or zs None));
+            ∙ len-with_next (map.remove nodes k) (last_or ys None) (first_or zs None));
         first_is = outer_first ys ((k, v) ∷ zs) zs first chain.first_is;
         last_is = outer_last zs (ys ++ (k, v) ∷ []) last (last_or ys None) (chain.last_is ∙ ap (λ l. last_or l None) (sym (append_assoc ys ((k, v) ∷ []) zs))) ∙ sym (last_or-append ys zs None);
       }
@@ -549,22 +551,22 @@ module _ {T : Type 0} where
       let s = split_at nodes first last xs k node chain found in
       let done = chain_removed nodes first last s.before k node.value s.after (subst (IsChain nodes first last) s.list chain) s.absent in
       let by_prev = subst (λ (p : Option Key). IsChain (with_prev (with_next (map.remove nodes k) p (first_or s.after None)) (first_or s.after None) p)
-              (outer p first (first_or s.after None)) (outer (first_or s.after None) last p) (s.before ++ s.after)) (sym s.prev) done in
+      (outer p first (first_or s.after None)) (outer (first_or s.after None) last p) (s.before ++ s.after)) (sym s.prev) done in
       let by_next = subst (λ (n : Option Key). IsChain (with_prev (with_next (map.remove nodes k) node.prev n) n node.prev) (outer node.prev first n)
-              (outer n last node.prev) (s.before ++ s.after)) (sym s.next) by_prev in
+      (outer n last node.prev) (s.before ++ s.after)) (sym s.next) by_prev in
       subst (IsChain (with_prev (with_next (map.remove nodes k) node.prev node.next) node.next node.prev) (outer node.prev first node.next) (outer node.next last node.prev))
       (sym (ap (without k) s.list ∙ without-split s.before k node.value s.after s.absent)) by_next
 
   pub put_in : (nodes : Nodes T) (first last prev next : Option Key) (xs : List (Key × T)) (gap : IsGap xs prev next) (k : Key) (v : T) → IsChain nodes first last xs → map.get nodes k ≡ None
       → IsChain (with_prev (with_next (map.insert nodes k (record { value = v; prev = prev; next = next })) prev (Some k)) next (Some k))
-          (outer prev first (Some k)) (outer next last (Some k)) (gap.0 ++ (k, v) ∷ gap.1.0)
+      (outer prev first (Some k)) (outer next last (Some k)) (gap.0 ++ (k, v) ∷ gap.1.0)
   put_in nodes first last prev next xs gap k v chain new =
       let done = chain_put nodes first last gap.0 gap.1.0 k v (subst (IsChain nodes first last) gap.1.1 chain) new in
       let by_prev = subst (λ (p : Option Key). IsChain (with_prev
-              (with_next (map.insert nodes k (record { value = v; prev = p; next = first_or gap.1.0 None })) p (Some k)) (first_or gap.1.0 None) (Some k))
-              (outer p first (Some k)) (outer (first_or gap.1.0 None) last (Some k)) (gap.0 ++ (k, v) ∷ gap.1.0)) gap.1.2 done in
+      (with_next (map.insert nodes k (record { value = v; prev = p; next = first_or gap.1.0 None })) p (Some k)) (first_or gap.1.0 None) (Some k))
+      (outer p first (Some k)) (outer (first_or gap.1.0 None) last (Some k)) (gap.0 ++ (k, v) ∷ gap.1.0)) gap.1.2 done in
       subst (λ (n : Option Key). IsChain (with_prev (with_next (map.insert nodes k (record { value = v; prev = prev; next = n })) prev (Some k)) n
-          (Some k)) (outer prev first (Some k)) (outer n last (Some k)) (gap.0 ++ (k, v) ∷ gap.1.0)) gap.1.3 by_prev
+      (Some k)) (outer prev first (Some k)) (outer n last (Some k)) (gap.0 ++ (k, v) ∷ gap.1.0)) gap.1.3 by_prev
 
   pub gap_prev : (nodes : Nodes T) (first last prev next : Option Key) (xs : List (Key × T)) → IsGap xs prev next → IsChain nodes first last xs
       → (l : Key) → prev ≡ Some l → map.contains_key nodes l ≡ true

@@ -1,11 +1,11 @@
 -- What a call makes of a graph, as a whole.
-use Rattle.std.proofs.Common.{◌≡◌, ◌≢◌, ◌<◌, ◌+◌, true, false, Option, Some, None, IfSome, IfNone, Result, Ok, Err, IfOk, IsErr, List, [], ◌∷◌, ◌++◌,
-    is_some, ◌||◌, refl, sym, ap, ◌∙◌, inl, inr, arith}
+use Rattle.std.proofs.Common.{◌≡◌, ◌≢◌, ◌<◌, ◌+◌, true, false, Option, Some, None, IfSome, IfNone, Result, Ok, Err, IfOk, IsErr, List, [], ◌∷◌, ◌++◌}
+use Rattle.std.proofs.Common.{is_some, ◌||◌, refl, sym, ap, ◌∙◌, inl, inr, arith}
 use Rattle.std.specs.FinMap as map
 use Rattle.std.specs.declared.vec.Vec.{Vec}
 use Rattle.slotmap.specs.Words.{Key, key_cmp, Content, IsContent, IsLive, Inserts, Keeps, Pairs, IsBeside, get, remove}
-use Rattle.slotmap.proofs.Callers.{keys, get-insert_here, get-insert_other, same_or_other, get-put_live, get-put_other, beside_insert, beside_empty, beside_removed, live-remove_other,
-    live-insert_still, removed_gone, get-remove_other, secondary}
+use Rattle.slotmap.proofs.Callers.{keys, get-insert_here, get-insert_other, same_or_other, get-put_live, get-put_other, beside_insert, beside_empty}
+use Rattle.slotmap.proofs.Callers.{beside_removed, live-remove_other, live-insert_still, removed_gone, get-remove_other, secondary}
 use Rattle.slotmap_uses.specs.declared.graph.Edge.{Edge}
 use Rattle.slotmap_uses.specs.GraphParts.{IsGraph, EndsLive, IsAdjacency, PutsAlone, list_in, listed, times, same, ends_at, is_key, from, to, touches}
 use Rattle.slotmap_uses.proofs.Adjacent.{lists_added, lists_removed, first_listed, none_listed, nothing_listed, is_itself, is_other, one_itself}

@@ -40,7 +40,7 @@ module _ {T : Type 0} where
             let list : w.before ++ (w.ahead ++ w.after) ≡ w.before ++ e ∷ (es ++ w.after) = ap (λ l. w.before ++ (l ++ w.after)) is in
             let here = node_here w.before e (es ++ w.after) (subst IsOnce list w.once) in
             let node_is : node ≡ record { value = e.1; prev = last_or w.before None; next = first_or (es ++ w.after) None } =
-                    (let a = sym found ∙ ap (map.get nodes) (sym name) ∙ w.nodes_are e.0 ∙ ap (λ l. node_at None l None e.0) list ∙ here in cc) in
+            (let a = sym found ∙ ap (map.get nodes) (sym name) ∙ w.nodes_are e.0 ∙ ap (λ l. node_at None l None e.0) list ∙ here in cc) in
             let other : w.before ++ (w.ahead ++ w.after) ≡ (w.before ++ e ∷ []) ++ (es ++ w.after) = list ∙ sym (append_assoc w.before (e ∷ []) (es ++ w.after)) in
             record {
               before = w.before ++ e ∷ [];
@@ -69,13 +69,13 @@ module _ {T : Type 0} where
         by : (es : List (Key × T)) (e : Key × T) → w.ahead ≡ es ++ e ∷ [] → Back k node
         by es e is =
             let end : last_or (w.before ++ w.ahead) None ≡ Some e.0 = ap (λ l. last_or (w.before ++ l) None) is ∙ last_or-append w.before (es ++ e ∷ []) None
-                    ∙ last_or-append es (e ∷ []) (last_or w.before None) in
+            ∙ last_or-append es (e ∷ []) (last_or w.before None) in
             let name : e.0 ≡ k = (let a = sym at ∙ w.last_is ∙ end in cc) in
             let list : w.before ++ (w.ahead ++ w.after) ≡ w.before ++ (es ++ e ∷ w.after) = ap (λ l. w.before ++ l) (ap (λ l. l ++ w.after) is ∙ append_assoc es (e ∷ []) w.after) in
             let whole : w.before ++ (w.ahead ++ w.after) ≡ (w.before ++ es) ++ e ∷ w.after = list ∙ sym (append_assoc w.before es (e ∷ w.after)) in
             let here = node_here (w.before ++ es) e w.after (subst IsOnce whole w.once) in
             let node_is : node ≡ record { value = e.1; prev = last_or (w.before ++ es) None; next = first_or w.after None } =
-                    (let a = sym found ∙ ap (map.get nodes) (sym name) ∙ w.nodes_are e.0 ∙ ap (λ l. node_at None l None e.0) whole ∙ here in cc) in
+            (let a = sym found ∙ ap (map.get nodes) (sym name) ∙ w.nodes_are e.0 ∙ ap (λ l. node_at None l None e.0) whole ∙ here in cc) in
             record {
               ahead = es;
               list = is ∙ ap (λ (p : Key × T). es ++ p ∷ []) (λ i. (name i, sym (ap (λ n. n.value) node_is) i));
@@ -105,7 +105,7 @@ module _ {T : Type 0} where
         by : (es : List (Key × T)) (e : Key × T) → w.ahead ≡ es ++ e ∷ [] → (k : Key) × ((node : Node T) × (last ≡ Some k) × (map.get nodes k ≡ Some node))
         by es e is =
             let end : last_or (w.before ++ w.ahead) None ≡ Some e.0 = ap (λ l. last_or (w.before ++ l) None) is ∙ last_or-append w.before (es ++ e ∷ []) None
-                    ∙ last_or-append es (e ∷ []) (last_or w.before None) in
+            ∙ last_or-append es (e ∷ []) (last_or w.before None) in
             let list : w.before ++ (w.ahead ++ w.after) ≡ w.before ++ (es ++ e ∷ w.after) = ap (λ l. w.before ++ l) (ap (λ l. l ++ w.after) is ∙ append_assoc es (e ∷ []) w.after) in
             let whole : w.before ++ (w.ahead ++ w.after) ≡ (w.before ++ es) ++ e ∷ w.after = list ∙ sym (append_assoc w.before es (e ∷ w.after)) in
             let here = node_here (w.before ++ es) e w.after (subst IsOnce whole w.once) in

@@ -15,8 +15,8 @@ module _ (edges : map.FinMap key_cmp Edge) (node : Key) where
       let whole : Some (record { from = node; to = e.to }) ≡ map.get edges x = sym (there ∙ ap (λ n. Some (record { from = n; to = e.to })) at) in
       let taken : take (i + 1) ks ≡ take i ks ++ x ∷ [] = take_more ks i x below ∙ ap (λ q. take i ks ++ q ∷ []) (sym is) in
       rw (more, taken) (map-append (λ k. Some (record { from = node; to = k })) found (e.to ∷ [])
-          ∙ ap (λ q. q ++ Some (record { from = node; to = e.to }) ∷ []) so_far ∙ ap (λ q. list_map (map.get edges) (take i ks) ++ q ∷ []) whole
-          ∙ sym (map-append (map.get edges) (take i ks) (x ∷ [])))
+      ∙ ap (λ q. q ++ Some (record { from = node; to = e.to }) ∷ []) so_far ∙ ap (λ q. list_map (map.get edges) (take i ks) ++ q ∷ []) whole
+      ∙ sym (map-append (map.get edges) (take i ks) (x ∷ [])))
 
   -- what stands in a list of the edges from a node is such an edge
   pub listed_edge : (ks : List Key) (i : ℕ) (x : Key) → ListsEdges from edges node ks → i < length ks → x ≡ get_or ks i x → (e : Edge) × (map.get edges x ≡ Some e) × (e.from ≡ node)

@@ -6,8 +6,8 @@ use Rattle.std.specs.FinMap as map
 use Rattle.slotmap.specs.Words.{Key, key_cmp, same_keys, Content}
 use Rattle.slotmap.proofs.Callers.{keys_total, exact_keys, keys, tied}
 use Rattle.slotmap_uses.specs.declared.stable_list.Node.{Node}
-use Rattle.slotmap_uses.specs.Sequence.{Sequence, value_of, first_or, put_after, put_before, put_again, without, moved_to_front, moved_to_back,
-    moved_after, moved_before, is_same, are_two, IsGap, PutsBetween}
+use Rattle.slotmap_uses.specs.Sequence.{Sequence, value_of, first_or, put_after, put_before, put_again, without, moved_to_front, moved_to_back}
+use Rattle.slotmap_uses.specs.Sequence.{moved_after, moved_before, is_same, are_two, IsGap, PutsBetween}
 use Rattle.slotmap_uses.specs.Chain.{Nodes, IsChain, HasNeighbours, Unlinks, Links, with_next, with_prev, with_next_of, with_prev_of, outer}
 use Rattle.slotmap_uses.proofs.Chains.{if_some, value_found, stands_is_some, removal, removed_prev, removed_next, chain_put, gap_prev, gap_next, gap_after, gap_before, put_behind, put_ahead}
 
@@ -120,15 +120,15 @@ module _ {T : Type 0} where
   linked nodes new first last prev next new_first new_last rest k chain l gap =
       let done = chain_put (map.remove nodes k) first last gap.0 gap.1.0 k l.node.value (subst (IsChain (map.remove nodes k) first last) gap.1.1 chain) (gone_here nodes k) in
       let by_prev = subst (λ (p : Option Key). IsChain (with_prev
-              (with_next (map.insert (map.remove nodes k) k (record { value = l.node.value; prev = p; next = first_or gap.1.0 None })) p (Some k))
-              (first_or gap.1.0 None) (Some k)) (outer p first (Some k)) (outer (first_or gap.1.0 None) last (Some k))
-              (gap.0 ++ (k, l.node.value) ∷ gap.1.0)) gap.1.2 done in
+      (with_next (map.insert (map.remove nodes k) k (record { value = l.node.value; prev = p; next = first_or gap.1.0 None })) p (Some k))
+      (first_or gap.1.0 None) (Some k)) (outer p first (Some k)) (outer (first_or gap.1.0 None) last (Some k))
+      (gap.0 ++ (k, l.node.value) ∷ gap.1.0)) gap.1.2 done in
       let by_next = subst (λ (n : Option Key). IsChain (with_prev
-              (with_next (map.insert (map.remove nodes k) k (record { value = l.node.value; prev = prev; next = n })) prev (Some k)) n (Some k))
-              (outer prev first (Some k)) (outer n last (Some k)) (gap.0 ++ (k, l.node.value) ∷ gap.1.0)) gap.1.3 by_prev in
+      (with_next (map.insert (map.remove nodes k) k (record { value = l.node.value; prev = prev; next = n })) prev (Some k)) n (Some k))
+      (outer prev first (Some k)) (outer n last (Some k)) (gap.0 ++ (k, l.node.value) ∷ gap.1.0)) gap.1.3 by_prev in
       let over = subst (λ (m : Nodes T). IsChain (with_prev (with_next m prev (Some k)) next (Some k)) (outer prev first (Some k))
-              (outer next last (Some k)) (gap.0 ++ (k, l.node.value) ∷ gap.1.0))
-              (insert_over nodes k (record { value = l.node.value; prev = prev; next = next })) by_next in
+      (outer next last (Some k)) (gap.0 ++ (k, l.node.value) ∷ gap.1.0))
+      (insert_over nodes k (record { value = l.node.value; prev = prev; next = next })) by_next in
       rw (l.nodes, l.first_is, l.last_is) over
 
   -- a node that isn't linked anew
@@ -212,14 +212,14 @@ module _ {T : Type 0} where
     to_after other node apart found l =
         let gap = behind other node apart found in
         moved (Some other) node.next l gap _ (put_behind (without k xs) _ other node.next (k, un.node.value) others.once (puts (Some other) node.next l gap)
-            ∙ again (Some other) node.next l (put_after other))
+        ∙ again (Some other) node.next l (put_after other))
 
     pub to_before : (other : Key) (node : Node T) → other ≢ k → map.get mid other ≡ Some node
         → Links mid mid_first mid_last k node.prev (Some other) new new_first new_last → IsChain new new_first new_last (moved_before k other xs)
     to_before other node apart found l =
         let gap = ahead other node apart found in
         moved node.prev (Some other) l gap _ (put_ahead (without k xs) _ other node.prev (k, un.node.value) others.once (puts node.prev (Some other) l gap)
-            ∙ again node.prev (Some other) l (put_before other))
+        ∙ again node.prev (Some other) l (put_before other))
 
   -- whether a cursor is in the list, by the nodes
   pub stands_here : (nodes : Nodes T) (first last : Option Key) (xs : List (Key × T)) (k : Key) → IsChain nodes first last xs → map.contains_key nodes k ≡ is_some (value_of k xs)

@@ -53,7 +53,7 @@ module _ {T : Type 0} where
           let apart = once_apart ys ((k, e.1) ∷ []) k e.1 (subst IsOnce here once) (ap (λ b. cond b (Some e.1) None) one) in
           let rest : without k xs ≡ ys = ap (without k) here ∙ without-split ys k e.1 [] apart ∙ append-nil ys in
           let there : value_of k xs ≡ Some e.1 = ap (value_of k) here ∙ value_of-append ys ((k, e.1) ∷ []) k
-                  ∙ ap (λ o. option_or o (value_of k ((k, e.1) ∷ []))) apart ∙ ap (λ b. cond b (Some e.1) None) one in
+          ∙ ap (λ o. option_or o (value_of k ((k, e.1) ∷ []))) apart ∙ ap (λ b. cond b (Some e.1) None) one in
           let value : e.1 ≡ v = (let a = sym there ∙ found in cc) in
           here ∙ ap (λ w. ys ++ (k, w) ∷ []) value ∙ ap (λ l. l ++ (k, v) ∷ []) (sym rest)
 

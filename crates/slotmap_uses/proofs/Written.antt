@@ -79,8 +79,8 @@ module _ {T : Type 0} (k : Key) (v : T) where
       by : node_at (Some x.0) (with_value_at k v xs) n q ≡ cond (eq_by_cmp key_cmp q k) (option_map written_node (node_at (Some x.0) xs n q))
           (node_at (Some x.0) xs n q) → (b c d : Bool) → eq_by_cmp key_cmp k x.0 ≡ b → eq_by_cmp key_cmp q x.0 ≡ c → eq_by_cmp key_cmp q k ≡ d
           → node_at p (cond b ((x.0, v) ∷ xs) (x ∷ with_value_at k v xs)) n q ≡ cond d
-              (option_map written_node (cond c (Some (record { value = x.1; prev = p; next = first_or xs n })) (node_at (Some x.0) xs n q)))
-              (cond c (Some (record { value = x.1; prev = p; next = first_or xs n })) (node_at (Some x.0) xs n q))
+          (option_map written_node (cond c (Some (record { value = x.1; prev = p; next = first_or xs n })) (node_at (Some x.0) xs n q)))
+          (cond c (Some (record { value = x.1; prev = p; next = first_or xs n })) (node_at (Some x.0) xs n q))
       by rest true true true b c d = ap (λ t. cond t (Some (record { value = v; prev = p; next = first_or xs n })) (node_at (Some x.0) xs n q)) c
       by rest true false false b c d = ap (λ t. cond t (Some (record { value = v; prev = p; next = first_or xs n })) (node_at (Some x.0) xs n q)) c
       by rest true true false b c d =
@@ -111,9 +111,11 @@ module _ {T : Type 0} (k : Key) (v : T) where
   -- what the model of the list is then
   pub seen_written : (nodes : Content (Node T)) (first last : Option Key) (xs : List (Key × T)) (node : Node T) → IsChain nodes.live first last xs → map.get nodes.live k ≡ Some node
       → ◌≡◌ {A = Sequence T}
-      (record { elements = follow (map.insert nodes.live k (record node { value = v }))
-          (map.len (map.insert nodes.live k (record node { value = v }))) first;
-          cursors = without_values (with_value nodes k (record node { value = v })) })
+      (record {
+        elements = follow (map.insert nodes.live k (record node { value = v }))
+            (map.len (map.insert nodes.live k (record node { value = v }))) first;
+        cursors = without_values (with_value nodes k (record node { value = v }));
+      })
       (record { elements = with_value_at k v xs; cursors = without_values nodes })
   seen_written nodes first last xs node chain found =
       let elements = chain_is (map.insert nodes.live k (record node { value = v })) first last (with_value_at k v xs) (chain_written nodes.live first last xs node chain found) in

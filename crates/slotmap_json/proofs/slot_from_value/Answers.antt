@@ -13,13 +13,13 @@ returns-in_err-g-in-Some g c =
     let version = c.in_ok-version.version in
     let passed_on : c.from_residual-in_err-g-in-Some.result ≡ ok_map (λ v. record { value = Some v; version = version }) c.g.result = rw (c.in_err-g-in-Some.was, refused) refl in
     reads_value (ReadsJson g.G.Fn c.args.g.now) (view c.args.element.now)
-        (view x) version c.g.result c.from_residual-in_err-g-in-Some.result c.u32_member.result c.u32_member.ensures c.in_ok-version.ensures.ok_part
-        (sym c.in-Some.ensures) reading passed_on
+    (view x) version c.g.result c.from_residual-in_err-g-in-Some.result c.u32_member.result c.u32_member.ensures c.in_ok-version.ensures.ok_part
+    (sym c.in-Some.ensures) reading passed_on
 
 pub returns-in_ok-g-in-Some : goal.returns-in_ok-g-in-Some
 returns-in_ok-g-in-Some g c =
     let x = c.in-Some.value.now in
     let reading : ReadsJson g.G.Fn c.args.g.now (view x) (Ok c.in_ok-g-in-Some.field-0) = (x, refl, says_at g.G.Fn c.g.ensures c.in_ok-g-in-Some.was) in
     reads_value (ReadsJson g.G.Fn c.args.g.now) (view c.args.element.now) (view x) c.in_ok-version.version (Ok c.in_ok-g-in-Some.field-0)
-        (Ok (record { value = Some c.in_ok-g-in-Some.field-0; version = c.in_ok-version.version })) c.u32_member.result c.u32_member.ensures
-        c.in_ok-version.ensures.ok_part (sym c.in-Some.ensures) reading refl
+    (Ok (record { value = Some c.in_ok-g-in-Some.field-0; version = c.in_ok-version.version })) c.u32_member.result c.u32_member.ensures
+    c.in_ok-version.ensures.ok_part (sym c.in-Some.ensures) reading refl

@@ -20,7 +20,7 @@ pub push_reserved-requires : goal.push_reserved-requires
 push_reserved-requires g c =
     let at = c.loop-key in
     let next = first_entry at.self at.invariant.swept.well at.index
-            (g.K.Key.data_of c.in-Some.key) c.in-Some.ensures.first c.take_live-value.result at.invariant.above c.take_live-value.ensures.value in
+    (g.K.Key.data_of c.in-Some.key) c.in-Some.ensures.first c.take_live-value.result at.invariant.above c.take_live-value.ensures.value in
     omega (arith, at.invariant.room, ap length next)
 
 pub loop-key-preserved : goal.loop-key-preserved
@@ -33,11 +33,11 @@ loop-key-preserved g c =
     let removes = c.take_live-value.ensures.removes in
     let valid = c.take_live-value.ensures.valid in
     let next = first_entry at.self at.invariant.swept.well at.index key c.in-Some.ensures.first value at.invariant.above c.take_live-value.ensures.value
-            ∙ ap (λ m. (key, value) ∷ map.entries m) (sym removes.live) in
+    ∙ ap (λ m. (key, value) ∷ map.entries m) (sym removes.live) in
     rw (c.idx.ensures.value, c.data.ensures.value) (record {
       swept =
           Swept-removed c.args.self.now at.self c.take_live-value.new.self key.index key
-              (Swept-to c.args.self.now at.self at.index key.index at.invariant.swept found.1) found.0 refl removes valid.capacity valid.after;
+          (Swept-to c.args.self.now at.self at.index key.index at.invariant.swept found.1) found.0 refl removes valid.capacity valid.after;
       above = rw removes.live (above_next at.self at.invariant.swept.well at.index key c.in-Some.ensures.first found.0 at.invariant.above);
       pairs = at.invariant.pairs ++ (c.in-Some.key, value) ∷ [];
       pushed = c.push_reserved.ensures.items ∙ ap (λ xs. xs ++ (c.in-Some.key, value) ∷ []) at.invariant.pushed ∙ append_assoc c.args.out.now.items at.invariant.pairs ((c.in-Some.key, value) ∷ []);

@@ -7,7 +7,10 @@ pub returns : goal.returns
 returns g c =
     let m = c.self.inside in (
       (refl, λ w. rw (← c.self.view_is) (dense_refilled g.K.Key.data_of m.slots m.keys m.values w)),
-      record { writes_back = tt; keys = rw (← c.self.view_is) (ap (list_map g.K.Key.data_of) c.as_slice.ensures.value);
-          values = rw (← c.self.view_is) c.as_mut_slice.ensures.value;
-          valid = subst IsDense c.self.view_is (dense_valid g.K.Key.data_of c.self.inside.slots c.self.inside.keys c.self.inside.values c.self.invariant) },
+      record {
+        writes_back = tt;
+        keys = rw (← c.self.view_is) (ap (list_map g.K.Key.data_of) c.as_slice.ensures.value);
+        values = rw (← c.self.view_is) c.as_mut_slice.ensures.value;
+        valid = subst IsDense c.self.view_is (dense_valid g.K.Key.data_of c.self.inside.slots c.self.inside.keys c.self.inside.values c.self.invariant);
+      },
     )

@@ -15,8 +15,8 @@ returns-in_err-position-clause-value g c =
     let key = c.data.result in
     let none : map.get m.slots.live key ≡ None = sym c.detach.ensures.value ∙ c.in_err-position.was in
     rw (← c.data.ensures.value) (c.from_residual.ensures
-        ∙ sym (ap (λ m. map.get m.content.live key) (sym c.self.view_is) ∙ get-packed _ _ c.self.invariant.packed _ c.self.invariant.same_length key
-        ∙ ap (at_position m.values.items) none))
+    ∙ sym (ap (λ m. map.get m.content.live key) (sym c.self.view_is) ∙ get-packed _ _ c.self.invariant.packed _ c.self.invariant.same_length key
+    ∙ ap (at_position m.values.items) none))
 
 pub returns-in_err-position-clause-valid : goal.returns-in_err-position-clause-valid
 returns-in_err-position-clause-valid g c =
@@ -36,7 +36,7 @@ invariant_of-self-2 g c =
     let keys = c.close_gap.ensures.keys key (c.self.invariant.packed.stands key _ at) in
     rw (keys, c.close_gap.ensures.values)
     (IsSound-closed m.slots _ _ c.self.invariant c.detach.new.self c.close_gap.new.slots key c.close_gap.result _ at
-        (subst (IsPacked c.close_gap.new.slots.live) keys c.close_gap.ensures.packed) c.close_gap.ensures.well)
+    (subst (IsPacked c.close_gap.new.slots.live) keys c.close_gap.ensures.packed) c.close_gap.ensures.well)
 
 pub returns-clause-value : goal.returns-clause-value
 returns-clause-value g c =
@@ -44,8 +44,8 @@ returns-clause-value g c =
     let key = c.data.result in
     let at : map.get m.slots.live key ≡ Some c.in_ok-position.position = sym c.detach.ensures.value ∙ c.in_ok-position.was in
     rw (← c.data.ensures.value) (sym c.close_gap.ensures.value
-        ∙ sym (ap (λ m. map.get m.content.live key) (sym c.self.view_is) ∙ get-packed _ _ c.self.invariant.packed _ c.self.invariant.same_length key
-        ∙ ap (at_position m.values.items) at))
+    ∙ sym (ap (λ m. map.get m.content.live key) (sym c.self.view_is) ∙ get-packed _ _ c.self.invariant.packed _ c.self.invariant.same_length key
+    ∙ ap (at_position m.values.items) at))
 
 pub returns-clause-detaches : goal.returns-clause-detaches
 returns-clause-detaches g c =
@@ -55,8 +55,8 @@ returns-clause-detaches g c =
     let keys = c.close_gap.ensures.keys key (c.self.invariant.packed.stands key _ at) in
     rw (← c.self.view_is, ← c.data.ensures.value, keys, c.close_gap.ensures.values, c.close_gap.ensures.keys_capacity, c.close_gap.ensures.values_capacity)
     (detaches-dense m.slots _ _ c.self.invariant c.detach.new.self c.close_gap.new.slots key c.close_gap.result _ at
-        (subst (IsPacked c.close_gap.new.slots.live) keys c.close_gap.ensures.packed)
-        (min (vec_capacity m.keys) (vec_capacity m.values)) c.in_ok-position.ensures.detaches c.close_gap.ensures.rest)
+    (subst (IsPacked c.close_gap.new.slots.live) keys c.close_gap.ensures.packed)
+    (min (vec_capacity m.keys) (vec_capacity m.values)) c.in_ok-position.ensures.detaches c.close_gap.ensures.rest)
 
 pub returns-clause-order : goal.returns-clause-order
 returns-clause-order g c =
@@ -71,9 +71,9 @@ pub returns-clause-valid : goal.returns-clause-valid
 returns-clause-valid g c =
     let m = c.self.inside in
     rw (← c.self.view_is) (stays-valid g.K.Key.data_of m.slots m.keys m.values c.self.invariant c.close_gap.new.slots c.close_gap.new.keys
-        c.close_gap.new.values (invariant_of-self-2 g c)
-        (ap (λ c. c.capacity) c.close_gap.ensures.rest ∙ c.detach.ensures.valid.capacity) c.close_gap.ensures.keys_capacity
-        c.close_gap.ensures.values_capacity)
+    c.close_gap.new.values (invariant_of-self-2 g c)
+    (ap (λ c. c.capacity) c.close_gap.ensures.rest ∙ c.detach.ensures.valid.capacity) c.close_gap.ensures.keys_capacity
+    c.close_gap.ensures.values_capacity)
 
 pub returns-in_err-position-clause-live : goal.returns-in_err-position-clause-live
 returns-in_err-position-clause-live g c =

@@ -30,19 +30,22 @@ loop-pair-preserved g c =
       pushed = c.push_reserved.ensures.items ∙ ap (λ xs. xs ++ pair ∷ []) at.invariant.pushed ∙ append_assoc c.args.out.now.items at.invariant.pairs (pair ∷ []);
       listed =
           rw (map-append {B = Key × g.row.V.Denot} (λ p. (g.K.Key.data_of p.0, p.1)) at.invariant.pairs (pair ∷ []), takes.1.live)
-              (IsListingBut-take c.args.self.now.content.live before at.self.content.live key pair.1 at.invariant.listed takes.0);
+          (IsListingBut-take c.args.self.now.content.live before at.self.content.live key pair.1 at.invariant.listed takes.0);
       back = at.invariant.back ∙ ap (λ es. before ++ es) (last_first g.K.Key.data_of at.self c.take_last.new.self pair takes c.in-Some.ensures.valid.after)
           ∙ sym (rw (map-append {B = Key × g.row.V.Denot} (λ p. (g.K.Key.data_of p.0, p.1)) at.invariant.pairs (pair ∷ []))
-              (append_assoc before ((key, pair.1) ∷ []) (reverse (zip c.take_last.new.self.keys c.take_last.new.self.values))));
+          (append_assoc before ((key, pair.1) ∷ []) (reverse (zip c.take_last.new.self.keys c.take_last.new.self.values))));
       room = omega (arith, at.invariant.room, ap length takes.2, length_push c.take_last.new.self.keys key, c.push_reserved.ensures.len, c.push_reserved.ensures.capacity);
     }
 
 pub returns-clause-ok : goal.returns-clause-ok
 returns-clause-ok g c =
     let at = c.loop-pair in
-    let none = none_left at.self at.invariant.taken.well c.in_default.ensures.takes.0 in
-    (at.invariant.pairs, at.invariant.pushed, IsListingBut-done c.args.self.now.content.live _
-        (subst (IsListingBut c.args.self.now.content.live (list_map (λ p. (g.K.Key.data_of p.0, p.1)) at.invariant.pairs)) none.0 at.invariant.listed))
+    let none = none_left at.self at.invariant.taken.well c.in_default.ensures.takes.0 in (
+      at.invariant.pairs,
+      at.invariant.pushed,
+      IsListingBut-done c.args.self.now.content.live _
+          (subst (IsListingBut c.args.self.now.content.live (list_map (λ p. (g.K.Key.data_of p.0, p.1)) at.invariant.pairs)) none.0 at.invariant.listed),
+    )
 
 pub returns-clause-in_order : goal.returns-clause-in_order
 returns-clause-in_order g c =

@@ -55,15 +55,23 @@ loop-slot-preserved g c =
         | in-Some-value+in_ok-push-in-Some-value+in_ok-push-in-Some-value-2 w ↦
             let odd = odd_of slot consistent w.in-Some-value.value w.in-Some-value.is in
             let less : w.len-in-Some-value.result < 2 ^ 32 - 1 = omega
-                    (arith, accepted.short, before.counted, steps.1, same_places _ _ _ _ before.split, w.len-in-Some-value.ensures, at.positions.ok.0) in
+            (arith, accepted.short, before.counted, steps.1, same_places _ _ _ _ before.split, w.len-in-Some-value.ensures, at.positions.ok.0) in
             let key_is : g.K.Key.data_of w.from.result ≡ key (length at.positions.items) slot.version =
             ap g.K.Key.data_of (g.met.K.Key.from_gives_key _ _ w.from.ensures) ∙ g.met.K.Key.from_data _ w.new.ensures.valid ∙ w.new.ensures.value
-                ∙ key_from-odd w.len-in-Some-value.result slot.version less odd
-                ∙ ap (λ i. key i slot.version) (w.len-in-Some-value.ensures ∙ at.positions.ok.0) in
-            rw (c.push_reserved.ensures.items, w.keys-is, w.values-is, w.value-is, w.in_ok-push-in-Some-value.ensures.items,
-                w.in_ok-push-in-Some-value-2.ensures.items, w.in-Some-value.value-is, map-append g.K.Key.data_of at.keys.items (w.from.result ∷ []))
+            ∙ key_from-odd w.len-in-Some-value.result slot.version less odd
+            ∙ ap (λ i. key i slot.version) (w.len-in-Some-value.ensures ∙ at.positions.ok.0) in
+            rw (
+              c.push_reserved.ensures.items,
+              w.keys-is,
+              w.values-is,
+              w.value-is,
+              w.in_ok-push-in-Some-value.ensures.items,
+              w.in_ok-push-in-Some-value-2.ensures.items,
+              w.in-Some-value.value-is,
+              map-append g.K.Key.data_of at.keys.items (w.from.result ∷ []),
+            )
             (AreSplit-live at.yielded at.positions.items _ at.values.items before.split slot w.in-Some-value.value w.in-Some-value.is odd w.len-position.result
-                (omega (arith, w.len-position.ensures, at.keys.ok.0, length-map at.keys.items g.K.Key.data_of)) (g.K.Key.data_of w.from.result) key_is)
+            (omega (arith, w.len-position.ensures, at.keys.ok.0, length-map at.keys.items g.K.Key.data_of)) (g.K.Key.data_of w.from.result) key_is)
         | in-None-value w ↦ rw (c.push_reserved.ensures.items, w.keys-is, w.values-is, w.value-is) (AreSplit-none at.yielded at.positions.items _ at.values.items before.split slot w.in-None-value.is)
       ];
       room = omega (arith, before.room, steps.1, c.push_reserved.ensures.len, c.push_reserved.ensures.capacity);
@@ -99,7 +107,7 @@ returns-clause-reads g c =
     let all : at.yielded ≡ c.args.list.items = sym (append-nil at.yielded) ∙ ap (λ xs. at.yielded ++ xs) (sym none) ∙ at.invariant.all in
     let split = rw all at at.invariant.split in
     reads-split c.args.list.items at.positions.items _ at.values.items split 4294967295 accepted c.in_ok-slots.slots c.in_ok-slots.ensures.reads
-        (min (vec_capacity at.keys) (vec_capacity at.values)) (returns-clause-valid g c).content
+    (min (vec_capacity at.keys) (vec_capacity at.values)) (returns-clause-valid g c).content
 
 pub returns-clause-stack : goal.returns-clause-stack
 returns-clause-stack g c =

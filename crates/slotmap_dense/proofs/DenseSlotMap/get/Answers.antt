@@ -13,8 +13,8 @@ returns-in_err-position-clause-value g c =
     let key = c.data.result in
     let none : map.get m.slots.live key ≡ None = sym c.get.ensures.value ∙ ap option_copied c.in_err-position.was in
     rw (← c.data.ensures.value) (ap option_copied c.from_residual.ensures
-        ∙ sym (ap (λ m. map.get m.content.live key) (sym c.self.view_is) ∙ get-packed _ _ c.self.invariant.packed _ c.self.invariant.same_length key
-        ∙ ap (at_position m.values.items) none))
+    ∙ sym (ap (λ m. map.get m.content.live key) (sym c.self.view_is) ∙ get-packed _ _ c.self.invariant.packed _ c.self.invariant.same_length key
+    ∙ ap (at_position m.values.items) none))
 
 pub returns-in_err-position-clause-valid : goal.returns-in_err-position-clause-valid
 returns-in_err-position-clause-valid g c = subst IsDense c.self.view_is (dense_valid g.K.Key.data_of c.self.inside.slots c.self.inside.keys c.self.inside.values c.self.invariant)

@@ -8,7 +8,7 @@ use Rattle.slotmap_dense.proofs.DenseSlotMap.get_unchecked_mut.Goals as goal
 pub get_unchecked-requires : goal.get_unchecked-requires
 get_unchecked-requires g c =
     rw (c.data.ensures.value) (sym ((same_keys _ _ _ c.self.invariant).each (g.K.Key.data_of c.args.key))
-        ∙ ap (λ m. map.contains_key m.content.live (g.K.Key.data_of c.args.key)) c.self.view_is ∙ c.requires)
+    ∙ ap (λ m. map.contains_key m.content.live (g.K.Key.data_of c.args.key)) c.self.view_is ∙ c.requires)
 
 pub index_mut-requires : goal.index_mut-requires
 index_mut-requires g c =
@@ -26,7 +26,7 @@ returns g c =
         writes_back = tt;
         value =
             rw (← c.data.ensures.value) (ap (λ m. map.get m.content.live c.data.result) (sym c.self.view_is) ∙ found.gives
-                ∙ sym (ap Some (same_read c.self.inside.values.items _ _ _ c.index_mut.ensures.value found.there)));
+            ∙ sym (ap Some (same_read c.self.inside.values.items _ _ _ c.index_mut.ensures.value found.there)));
         valid = subst IsDense c.self.view_is (dense_valid g.K.Key.data_of c.self.inside.slots c.self.inside.keys c.self.inside.values c.self.invariant);
       },
     )

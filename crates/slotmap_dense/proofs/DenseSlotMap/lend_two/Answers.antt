@@ -8,12 +8,12 @@ use Rattle.slotmap_dense.proofs.DenseSlotMap.lend_two.Goals as goal
 pub get_unchecked-requires : goal.get_unchecked-requires
 get_unchecked-requires g c =
     rw (c.data.ensures.value) (sym ((same_keys _ _ _ c.self.invariant).each (g.K.Key.data_of c.args.first))
-        ∙ ap (λ m. map.contains_key m.content.live (g.K.Key.data_of c.args.first)) c.self.view_is ∙ c.requires.first)
+    ∙ ap (λ m. map.contains_key m.content.live (g.K.Key.data_of c.args.first)) c.self.view_is ∙ c.requires.first)
 
 pub get_unchecked-requires-2 : goal.get_unchecked-requires-2
 get_unchecked-requires-2 g c =
     rw (c.data-2.ensures.value) (sym ((same_keys _ _ _ c.self.invariant).each (g.K.Key.data_of c.args.second))
-        ∙ ap (λ m. map.contains_key m.content.live (g.K.Key.data_of c.args.second)) c.self.view_is ∙ c.requires.second)
+    ∙ ap (λ m. map.contains_key m.content.live (g.K.Key.data_of c.args.second)) c.self.view_is ∙ c.requires.second)
 
 pub two_of-requires-clause-apart : goal.two_of-requires-clause-apart
 two_of-requires-clause-apart g c same =
@@ -36,15 +36,15 @@ pub returns-clause-first : goal.returns-clause-first
 returns-clause-first g c =
     let found = present _ _ _ c.self.invariant c.data.result _ c.get_unchecked.ensures.value in
     rw (← c.data.ensures.value) (ap (λ d. map.get d.content.live c.data.result) (sym c.self.view_is) ∙ found.gives ∙ sym found.there
-        ∙ ap (λ xs. slice_get xs c.get_unchecked.result.now) (ap (λ d. d.values) c.self.view_is ∙ sym c.values_as_mut_slice.ensures.value)
-        ∙ c.two_of.ensures.first)
+    ∙ ap (λ xs. slice_get xs c.get_unchecked.result.now) (ap (λ d. d.values) c.self.view_is ∙ sym c.values_as_mut_slice.ensures.value)
+    ∙ c.two_of.ensures.first)
 
 pub returns-clause-second : goal.returns-clause-second
 returns-clause-second g c =
     let found = present _ _ _ c.self.invariant c.data-2.result _ c.get_unchecked-2.ensures.value in
     rw (← c.data-2.ensures.value) (ap (λ d. map.get d.content.live c.data-2.result) (sym c.self.view_is) ∙ found.gives ∙ sym found.there
-        ∙ ap (λ xs. slice_get xs c.get_unchecked-2.result.now) (ap (λ d. d.values) c.self.view_is ∙ sym c.values_as_mut_slice.ensures.value)
-        ∙ c.two_of.ensures.second)
+    ∙ ap (λ xs. slice_get xs c.get_unchecked-2.result.now) (ap (λ d. d.values) c.self.view_is ∙ sym c.values_as_mut_slice.ensures.value)
+    ∙ c.two_of.ensures.second)
 
 pub returns-clause-valid : goal.returns-clause-valid
 returns-clause-valid g c = subst IsDense c.self.view_is (dense_valid g.K.Key.data_of c.self.inside.slots c.self.inside.keys c.self.inside.values c.self.invariant)

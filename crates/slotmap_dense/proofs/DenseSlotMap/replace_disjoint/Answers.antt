@@ -14,7 +14,7 @@ swap_value-requires g c =
     let long : length keys ≡ g.row.N = omega arith in
     let here = get_or-map data_of keys at.i key (data_of key) (omega arith) in
     rw here at (next_there value_of with_value_of dense_written c.args.self.now
-        (map_list data_of keys) c.args.values at.self at.values at.i at.invariant.done (data_of key) (omega (arith, length-map keys data_of)))
+    (map_list data_of keys) c.args.values at.self at.values at.i at.invariant.done (data_of key) (omega (arith, length-map keys data_of)))
 
 pub loop-i-preserved : goal.loop-i-preserved
 loop-i-preserved g c =
@@ -29,7 +29,7 @@ loop-i-preserved g c =
     let there : k ≡ get_or (map_list data_of keys) at.i k = sym (get_or-map data_of keys at.i key k (omega arith)) in
     let step : Exchanged value_of with_value_of c.args.self.now (map_list data_of keys) c.args.values (with_value_of at.self k v) (set at.values at.i c.swap_value.new.value) (at.i + 1) =
     Exchanged-step value_of with_value_of dense_written c.args.self.now
-        (map_list data_of keys) c.args.values at.self at.values at.i at.invariant.done k v c.swap_value.new.value
-        (omega (arith, length-map keys data_of)) (omega (arith, length-map keys data_of)) there c.index-values-i.is c.swap_value.ensures.taken in
+    (map_list data_of keys) c.args.values at.self at.values at.i at.invariant.done k v c.swap_value.new.value
+    (omega (arith, length-map keys data_of)) (omega (arith, length-map keys data_of)) there c.index-values-i.is c.swap_value.ensures.taken in
     let well : IsDense (with_value_of at.self k v) = rw (c.index-values-i.is) (subst IsDense c.swap_value.ensures.put c.swap_value.ensures.valid) in
     rw (c.swap_value.ensures.put, ← c.index-values-i.is) (record { well = well; capacity = at.invariant.capacity; done = step })

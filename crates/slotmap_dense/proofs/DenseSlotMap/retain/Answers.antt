@@ -29,7 +29,7 @@ loop-position-init g c =
       calls = refl;
       visited =
           subst (λ rest. Visits g.K.Key.data_of c.args.self.now.content.live [] rest c.args.self.now.content.live)
-              (sym (rest-start c.args.self.now well)) (Visits-start g.K.Key.data_of c.args.self.now.content.live);
+          (sym (rest-start c.args.self.now well)) (Visits-start g.K.Key.data_of c.args.self.now.content.live);
       so_far = SoFar-start g.K.Key.data_of c.args.self.now;
     }
 
@@ -68,8 +68,8 @@ loop-position-preserved-then-f g c =
     let found : map.get rest key ≡ Some visit.before = comes.found ∙ c.value_at.ensures.value in
     let seen = Visits-call g.K.Key.data_of old.live at.invariant.visits rest at.self.content.live visit at.invariant.visited found in
     let live : cond visit.stays (map.insert at.self.content.live key visit.after)
-            (map.remove at.self.content.live key) ≡ map.insert at.self.content.live key visit.after = ap
-            (λ b. cond b (map.insert at.self.content.live key visit.after) (map.remove at.self.content.live key)) c.if-f.true in
+    (map.remove at.self.content.live key) ≡ map.insert at.self.content.live key visit.after = ap
+    (λ b. cond b (map.insert at.self.content.live key visit.after) (map.remove at.self.content.live key)) c.if-f.true in
     record {
       well = IsDense-with_value at.self key visit.after at.invariant.well comes.is_live;
       leaves = Leaves-trans old at.self.content (with_value at.self.content key visit.after) at.invariant.leaves (Leaves-with_value at.self.content key visit.after comes.is_live);
@@ -97,7 +97,7 @@ loop-position-preserved g c =
     let gone = c.take_at.ensures.leaves key comes.stands in
     let live : cond visit.stays (map.insert at.self.content.live key visit.after) (map.remove at.self.content.live key) ≡ c.take_at.new.self.content.live =
     ap (λ b. cond b (map.insert at.self.content.live key visit.after) (map.remove at.self.content.live key)) c.if-f.false
-        ∙ sym (remove-insert at.self.content.live key visit.after) ∙ sym gone.removes.live in
+    ∙ sym (remove-insert at.self.content.live key visit.after) ∙ sym gone.removes.live in
     record {
       well = c.take_at.ensures.valid.after;
       leaves = Leaves-removed false written.content well.content key (same_live at.self.content key visit.after comes.is_live key ∙ comes.is_live) c.take_at.new.self.content gone.removes old

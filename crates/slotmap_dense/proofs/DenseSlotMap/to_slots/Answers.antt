@@ -14,7 +14,7 @@ record_of-requires-clause-within g c =
     let list = c.in_ok-positions.positions in
     let within : c.loop-index.index < length list.items = omega (arith, c.loop-index-test.true, c.len-index-end.ensures, list.ok.0) in
     rw (c.deref.ensures.value) (position_within m.slots _ m.values.items c.self.invariant list.items c.in_ok-positions.ensures.writes c.loop-index.index
-        _ (slice_get_read list.items _ c.loop-index.index _ refl within c.index.ensures))
+    _ (slice_get_read list.items _ c.loop-index.index _ refl within c.index.ensures))
 
 pub returns-clause-writes : goal.returns-clause-writes
 returns-clause-writes g c =
@@ -23,7 +23,7 @@ returns-clause-writes g c =
     let all = take_all c.loop-index.index list.items (omega (arith, c.loop-index-test.false, c.len-index-end.ensures, list.ok.0)) in
     let is : c.loop-index.list.items ≡ list_map (filled m.values.items) list.items = c.loop-index.invariant.written ∙ ap (list_map (filled m.values.items)) all in
     rw (is, ← c.self.view_is) (writes-filled m.slots (list_map g.K.Key.data_of m.keys.items) m.values.items c.self.invariant list.items
-        c.in_ok-positions.ensures.writes (min (vec_capacity m.keys) (vec_capacity m.values)))
+    c.in_ok-positions.ensures.writes (min (vec_capacity m.keys) (vec_capacity m.values)))
 
 pub returns-clause-contents : goal.returns-clause-contents
 returns-clause-contents g c =

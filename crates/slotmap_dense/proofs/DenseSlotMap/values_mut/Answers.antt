@@ -9,7 +9,10 @@ pub returns : goal.returns
 returns g c =
     let m = c.self.inside in (
       (sym c.iter_mut.ensures.iter_mut_name, λ w. rw (← c.self.view_is) (dense_refilled g.K.Key.data_of m.slots m.keys m.values w)),
-      record { writes_back = tt; in_order = rw (← c.self.view_is) (c.iter_mut.ensures.rest ∙ c.deref_mut.ensures.value);
-          runs = from_front values_mut_steps (λ y. y.now) values_mut_rest (λ s t h. h.0) (λ s x t h. h);
-          valid = subst IsDense c.self.view_is (dense_valid g.K.Key.data_of c.self.inside.slots c.self.inside.keys c.self.inside.values c.self.invariant) },
+      record {
+        writes_back = tt;
+        in_order = rw (← c.self.view_is) (c.iter_mut.ensures.rest ∙ c.deref_mut.ensures.value);
+        runs = from_front values_mut_steps (λ y. y.now) values_mut_rest (λ s t h. h.0) (λ s x t h. h);
+        valid = subst IsDense c.self.view_is (dense_valid g.K.Key.data_of c.self.inside.slots c.self.inside.keys c.self.inside.values c.self.invariant);
+      },
     )

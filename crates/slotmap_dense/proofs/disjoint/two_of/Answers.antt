@@ -14,10 +14,10 @@ returns-then-first-second g c =
         writes_back = tt;
         first =
             ap (λ xs. slice_get xs c.args.first) cut.value ∙ slice_get-left front back c.args.first (omega (arith, cut.front_len))
-                ∙ slice_get_read front _ c.args.first _ refl (omega (arith, cut.front_len)) c.index-front-first.is;
+            ∙ slice_get_read front _ c.args.first _ refl (omega (arith, cut.front_len)) c.index-front-first.is;
         second =
             ap (λ xs. slice_get xs c.args.second) cut.value ∙ slice_get-right front back c.args.second cut.front_len
-                ∙ slice_get_read back _ 0 _ refl (omega (arith, cut.back_len, c.requires.second)) c.index-back-0.is;
+            ∙ slice_get_read back _ 0 _ refl (omega (arith, cut.back_len, c.requires.second)) c.index-back-0.is;
       },
     )
 
@@ -32,9 +32,9 @@ returns-else-first-second g c =
         writes_back = tt;
         first =
             ap (λ xs. slice_get xs c.args.first) cut.value ∙ slice_get-right front back c.args.first cut.front_len
-                ∙ slice_get_read back _ 0 _ refl (omega (arith, cut.back_len, c.requires.first)) c.index-back-0-else-first-second.is;
+            ∙ slice_get_read back _ 0 _ refl (omega (arith, cut.back_len, c.requires.first)) c.index-back-0-else-first-second.is;
         second =
             ap (λ xs. slice_get xs c.args.second) cut.value ∙ slice_get-left front back c.args.second (omega (arith, cut.front_len))
-                ∙ slice_get_read front _ c.args.second _ refl (omega (arith, cut.front_len)) c.index-front-second.is;
+            ∙ slice_get_read front _ c.args.second _ refl (omega (arith, cut.front_len)) c.index-front-second.is;
       },
     )

@@ -9,7 +9,7 @@ get_unchecked_mut-requires g c =
     let ys = c.swap_remove.new.self in
     let within : c.args.position < length ys.items = omega (arith, ys.ok.0) in
     rw (c.data.ensures.value) (moved_live g.K.Key.data_of c.args.keys.now.items ys.items c.args.position c.swap_remove.result c.args.slots.now.live
-        c.requires.gapped c.swap_remove.ensures.items c.index.result.now within c.index.ensures)
+    c.requires.gapped c.swap_remove.ensures.items c.index.result.now within c.index.ensures)
 
 pub returns-then-index-len-clause-value : goal.returns-then-index-len-clause-value
 returns-then-index-len-clause-value g c =
@@ -28,14 +28,14 @@ returns-then-index-len-clause-packed g c =
     let ys = c.swap_remove.new.self in
     let within : c.args.position < length ys.items = omega (arith, ys.ok.0) in
     rw (c.data.ensures.value) (packed_moved g.K.Key.data_of c.args.keys.now.items ys.items c.args.position c.swap_remove.result c.args.slots.now.live
-        c.requires.gapped c.swap_remove.ensures.items c.index.result.now within c.index.ensures)
+    c.requires.gapped c.swap_remove.ensures.items c.index.result.now within c.index.ensures)
 
 pub returns-then-index-len-clause-well : goal.returns-then-index-len-clause-well
 returns-then-index-len-clause-well g c =
     let ys = c.swap_remove.new.self in
     let within : c.args.position < length ys.items = omega (arith, ys.ok.0) in
     let is_live = moved_live g.K.Key.data_of c.args.keys.now.items ys.items c.args.position c.swap_remove.result c.args.slots.now.live c.requires.gapped
-            c.swap_remove.ensures.items c.index.result.now within c.index.ensures in
+    c.swap_remove.ensures.items c.index.result.now within c.index.ensures in
     rw (c.data.ensures.value) (IsContent-with_value _ c.args.slots.now c.requires.well (g.K.Key.data_of c.index.result.now) is_live c.args.position)
 
 pub returns-else-index-len-clause-value : goal.returns-else-index-len-clause-value

@@ -19,14 +19,14 @@ loop-first-preserved g c =
     let comes = subst (λ i. IsNextLive g.K.Key.data_of at.self.content (i + 1) c.first_live-first-in-Some.result) index c.first_live-first-in-Some.ensures.comes in
     let removes = c.take_live.ensures.removes in
     let first = first_entry at.self.content clearing.sweep.valid.valid clearing.index key clearing.sweep.comes.2 c.take_live.result clearing.above
-            c.take_live.ensures.value ∙ ap (λ m. (key, c.take_live.result) ∷ map.entries m) (sym removes.live) in
+    c.take_live.ensures.value ∙ ap (λ m. (key, c.take_live.result) ∷ map.entries m) (sym removes.live) in
     record {
       clearing =
           clearing_removed g.K.Key.data_of c.args.self.now at.self new c.in-Some.key c.first_live-first-in-Some.result clearing comes removes
-              c.take_live.ensures.valid.capacity c.take_live.ensures.valid.after;
+          c.take_live.ensures.valid.capacity c.take_live.ensures.valid.after;
       blocks =
           at.invariant.blocks ∙ ap (blocks_without_all at.self) (keys_first at.self.content.live new.content.live key c.take_live.result first)
-              ∙ blocks_taken at.self new key (map.keys new.content.live) removes c.take_live.ensures.blocks;
+          ∙ blocks_taken at.self new key (map.keys new.content.live) removes c.take_live.ensures.blocks;
     }
 
 pub returns-clause-empty : goal.returns-clause-empty

@@ -36,11 +36,11 @@ loop-next-preserved g c =
     let value = c.take_live-value.result in
     let removes = c.take_live-value.ensures.removes in
     let next = first_entry at.self.content clearing.sweep.valid.valid clearing.index key clearing.sweep.comes.2 value clearing.above
-            c.take_live-value.ensures.value ∙ ap (λ m. (key, value) ∷ map.entries m) (sym removes.live) in
+    c.take_live-value.ensures.value ∙ ap (λ m. (key, value) ∷ map.entries m) (sym removes.live) in
     record {
       clearing =
           clearing_removed g.K.Key.data_of c.args.self.now at.self c.take_live-value.new.self c.in-Some.key c.first_live-next-in-Some.result clearing
-              comes removes c.take_live-value.ensures.valid.capacity c.take_live-value.ensures.valid.after;
+          comes removes c.take_live-value.ensures.valid.capacity c.take_live-value.ensures.valid.after;
       blocks = at.invariant.blocks ∙ ap (blocks_without_all at.self) (keys_first at.self.content.live c.take_live-value.new.self.content.live key value next)
           ∙ blocks_taken at.self c.take_live-value.new.self key (map.keys c.take_live-value.new.self.content.live) removes c.take_live-value.ensures.blocks;
       pairs = at.invariant.pairs ++ (c.in-Some.key, value) ∷ [];
@@ -50,8 +50,14 @@ loop-next-preserved g c =
           ∙ sym (append_assoc (list_map (λ p. (g.K.Key.data_of p.0, p.1)) at.invariant.pairs) ((key, value) ∷ []) (map.entries c.take_live-value.new.self.content.live))
           ∙ ap (λ es. es ++ map.entries c.take_live-value.new.self.content.live) (sym (map-append (λ p. (g.K.Key.data_of p.0, p.1)) at.invariant.pairs ((c.in-Some.key, value) ∷ [])));
       room =
-          omega (arith, at.invariant.room, c.push_reserved.ensures.len, c.push_reserved.ensures.capacity, ap map.len removes.live,
-              len_removed keys_total exact_keys at.self.content.live key clearing.sweep.comes.0);
+          omega (
+            arith,
+            at.invariant.room,
+            c.push_reserved.ensures.len,
+            c.push_reserved.ensures.capacity,
+            ap map.len removes.live,
+            len_removed keys_total exact_keys at.self.content.live key clearing.sweep.comes.0,
+          );
     }
 
 pub returns-clause-empty : goal.returns-clause-empty

@@ -7,8 +7,8 @@ use Rattle.slotmap_hop.specs.Blocks.{vacated}
 use Rattle.slotmap_hop.specs.Links.{vacant_at, blocks_of}
 use Rattle.slotmap_hop.specs.Slots.{layout, places_of}
 use Rattle.slotmap_hop.proofs.SlotLemmas.{valid, same_length}
-use Rattle.slotmap_hop.proofs.ReadLemmas.{AreRead, AreRead-first, AreRead-vacant, AreRead-in_use, read_count, with_used_up, can_open,
-    next_consistent, taken_first, some_slots, IsSound-read, starts-read}
+use Rattle.slotmap_hop.proofs.ReadLemmas.{AreRead, AreRead-first, AreRead-vacant, AreRead-in_use, read_count, with_used_up, can_open, next_consistent}
+use Rattle.slotmap_hop.proofs.ReadLemmas.{taken_first, some_slots, IsSound-read, starts-read}
 use Rattle.slotmap_core.proofs.ListReadLemmas.{reads_as}
 use Rattle.slotmap_hop.proofs.HopSlotMap.from_slots.Goals as goal
 
@@ -28,8 +28,16 @@ loop-slot-init g c =
       few_vacant = omega arith;
       few_elems = omega arith;
       room =
-          omega (arith, taken.2, c.into_iter-records.ensures.len, c.push_reserved.ensures.len, c.push_reserved.ensures.capacity,
-              c.in_ok-slots.ensures.len, c.in_ok-slots.ensures.capacity, c.len.ensures);
+          omega (
+            arith,
+            taken.2,
+            c.into_iter-records.ensures.len,
+            c.push_reserved.ensures.len,
+            c.push_reserved.ensures.capacity,
+            c.in_ok-slots.ensures.len,
+            c.in_ok-slots.ensures.capacity,
+            c.len.ensures,
+          );
     })
 
 pub overflow_add-live_count : goal.overflow_add-live_count
@@ -65,9 +73,9 @@ loop-slot-preserved-then-is_vacant g c =
     let seen : c.as_mut_slice.result.now ≡ with_used_up _ _ _ _ before.read = c.as_mut_slice.ensures.value ∙ pushed.items in
     let after : places_of c.open_last.new.slots ≡ set (places_of (with_used_up _ _ _ _ before.read)) (length at.slots.items) (Vacant (slot.version + 1)) =
     c.open_last.ensures.places ∙ ap (λ xs. set (places_of xs) c.len-index.result (Vacant (slot.version + 1))) seen
-        ∙ ap (λ i. set (places_of (with_used_up _ _ _ _ before.read)) i (Vacant (slot.version + 1))) index in
+    ∙ ap (λ i. set (places_of (with_used_up _ _ _ _ before.read)) i (Vacant (slot.version + 1))) index in
     let joined = c.open_last.ensures.blocks ∙ ap (λ xs. vacated (vacant_at (layout xs)) (blocks_of (layout xs)) c.len-index.result) seen
-            ∙ ap (vacated (vacant_at (layout (with_used_up _ _ _ _ before.read))) (blocks_of (layout (with_used_up _ _ _ _ before.read)))) index in
+    ∙ ap (vacated (vacant_at (layout (with_used_up _ _ _ _ before.read))) (blocks_of (layout (with_used_up _ _ _ _ before.read)))) index in
     let size : length c.open_last.new.slots ≡ m.len = same_length _ _ _ _ after ∙ ap length (sym pushed.items) ∙ sym m.ok.0 in
     let items = with_items_is m c.open_last.new.slots size in
     record {
@@ -100,9 +108,9 @@ loop-slot-preserved-then-is_vacant-2 g c =
     let seen : c.as_mut_slice.result.now ≡ with_used_up _ _ _ _ before.read = c.as_mut_slice.ensures.value ∙ pushed.items in
     let after : places_of c.open_last.new.slots ≡ set (places_of (with_used_up _ _ _ _ before.read)) (length at.slots.items) (Vacant (slot.version + 1)) =
     c.open_last.ensures.places ∙ ap (λ xs. set (places_of xs) c.len-index.result (Vacant (slot.version + 1))) seen
-        ∙ ap (λ i. set (places_of (with_used_up _ _ _ _ before.read)) i (Vacant (slot.version + 1))) index in
+    ∙ ap (λ i. set (places_of (with_used_up _ _ _ _ before.read)) i (Vacant (slot.version + 1))) index in
     let joined = c.open_last.ensures.blocks ∙ ap (λ xs. vacated (vacant_at (layout xs)) (blocks_of (layout xs)) c.len-index.result) seen
-            ∙ ap (vacated (vacant_at (layout (with_used_up _ _ _ _ before.read))) (blocks_of (layout (with_used_up _ _ _ _ before.read)))) index in
+    ∙ ap (vacated (vacant_at (layout (with_used_up _ _ _ _ before.read))) (blocks_of (layout (with_used_up _ _ _ _ before.read)))) index in
     let size : length c.open_last.new.slots ≡ m.len = same_length _ _ _ _ after ∙ ap length (sym pushed.items) ∙ sym m.ok.0 in
     let items = with_items_is m c.open_last.new.slots size in
     record {
@@ -137,7 +145,7 @@ loop-slot-preserved g c =
       counted = omega (arith, before.counted, steps.1, length_push at.yielded slot);
       read =
           rw (pushed.items, c.state_from.ensures) (AreRead-in_use _ _ _ _ before.read slot consistent (omega arith)
-              (sym c.is_vacant.ensures ∙ c.if-is_vacant.false) (omega (arith, accepted.short, before.counted, steps.1)));
+          (sym c.is_vacant.ensures ∙ c.if-is_vacant.false) (omega (arith, accepted.short, before.counted, steps.1)));
       few_vacant = omega (arith, before.few_vacant, length_push at.yielded slot);
       few_elems = omega (arith, before.few_elems, length_push at.yielded slot);
       room = omega (arith, before.room, steps.1, pushed.len, pushed.capacity);
@@ -148,7 +156,7 @@ invariant_of-result g c =
     let at = c.loop-slot in
     let none : into_iter_items at.slot-iterator ≡ [] = nil_from_length _ (sym at.invariant.left ∙ c.in-None.ensures.steps.0) in
     let all : at.invariant.first ∷ at.yielded ≡ c.args.list.items = ap (λ xs. at.invariant.first ∷ xs) (sym (append-nil at.yielded))
-            ∙ ap (λ xs. at.invariant.first ∷ at.yielded ++ xs) (sym none) ∙ at.invariant.all in
+    ∙ ap (λ xs. at.invariant.first ∷ at.yielded ++ xs) (sym none) ∙ at.invariant.all in
     let accepted = subst (λ l. Accepts l 4294967295) c.deref.ensures.value (c.in_ok-check_slots.ensures.ok.0 refl) in
     let versions_fit = subst (λ l. AllFitBelow l (length l)) c.deref.ensures.value c.in_ok-check_slots.ensures.versions_fit in
     IsSound-read c.args.list.items _ _ _ (rw all at at.invariant.read) 4294967295 (omega arith) accepted versions_fit
@@ -158,7 +166,7 @@ returns-clause-ascending g c =
     let at = c.loop-slot in
     let none : into_iter_items at.slot-iterator ≡ [] = nil_from_length _ (sym at.invariant.left ∙ c.in-None.ensures.steps.0) in
     let all : at.invariant.first ∷ at.yielded ≡ c.args.list.items = ap (λ xs. at.invariant.first ∷ xs) (sym (append-nil at.yielded))
-            ∙ ap (λ xs. at.invariant.first ∷ at.yielded ++ xs) (sym none) ∙ at.invariant.all in
+    ∙ ap (λ xs. at.invariant.first ∷ at.yielded ++ xs) (sym none) ∙ at.invariant.all in
     let accepted = subst (λ l. Accepts l 4294967295) c.deref.ensures.value (c.in_ok-check_slots.ensures.ok.0 refl) in
     let versions_fit = subst (λ l. AllFitBelow l (length l)) c.deref.ensures.value c.in_ok-check_slots.ensures.versions_fit in
     let read = rw all at at.invariant.read in
@@ -175,7 +183,7 @@ returns-clause-reads g c =
     let at = c.loop-slot in
     let none : into_iter_items at.slot-iterator ≡ [] = nil_from_length _ (sym at.invariant.left ∙ c.in-None.ensures.steps.0) in
     let all : at.invariant.first ∷ at.yielded ≡ c.args.list.items = ap (λ xs. at.invariant.first ∷ xs) (sym (append-nil at.yielded))
-            ∙ ap (λ xs. at.invariant.first ∷ at.yielded ++ xs) (sym none) ∙ at.invariant.all in
+    ∙ ap (λ xs. at.invariant.first ∷ at.yielded ++ xs) (sym none) ∙ at.invariant.all in
     let accepted = subst (λ l. Accepts l 4294967295) c.deref.ensures.value (c.in_ok-check_slots.ensures.ok.0 refl) in
     let versions_fit = subst (λ l. AllFitBelow l (length l)) c.deref.ensures.value c.in_ok-check_slots.ensures.versions_fit in
     reads_as c.args.list.items 4294967295 accepted true _

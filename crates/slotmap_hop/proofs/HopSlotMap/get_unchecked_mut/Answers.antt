@@ -26,6 +26,10 @@ returns g c =
     let version = ap (λ s. s.version) slot ∙ found.version_is in
     rw c.in-Occupied.is ((
       (refl, λ w. rw (← c.self.view_is, found.key_is_at) (content-rewritten _ _ _ c.self.invariant _ _ _ found.place _ version w _)),
-      record { writes_back = tt; valid = well_formed c.self.inside _ c.self.view_is c.self.invariant; value = found.gives
-          ∙ same_Occupied _ _ (sym (ap (λ s. s.state) slot ∙ found.state_is) ∙ c.in-Occupied.is) },
+      record {
+        writes_back = tt;
+        valid = well_formed c.self.inside _ c.self.view_is c.self.invariant;
+        value = found.gives
+            ∙ same_Occupied _ _ (sym (ap (λ s. s.state) slot ∙ found.state_is) ∙ c.in-Occupied.is);
+      },
     ))

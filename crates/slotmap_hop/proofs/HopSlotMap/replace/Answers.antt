@@ -6,4 +6,4 @@ use Rattle.slotmap_hop.proofs.HopSlotMap.replace.Goals as goal
 pub returns-in-Some-clause-valid : goal.returns-in-Some-clause-valid
 returns-in-Some-clause-valid g c =
     StaysHop-with_value _ _ (g.K.Key.data_of c.args.key) c.replace.new.dest (StaysHop-start c.args.self.now c.get_mut.ensures.valid)
-        (ap is_some (sym c.get_mut.ensures.value ∙ ap option_copied_mut c.in-Some.is))
+    (ap is_some (sym c.get_mut.ensures.value ∙ ap option_copied_mut c.in-Some.is))

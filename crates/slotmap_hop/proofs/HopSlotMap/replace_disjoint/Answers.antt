@@ -16,7 +16,7 @@ exchange-requires g c =
     let long : length keys ≡ g.row.N = omega arith in
     let here = get_or-map data_of keys at.i key (data_of key) (omega arith) in
     rw here at (next_there value_of with_value content_written c.args.self.now.content
-        (map_list data_of keys) c.args.values at.self.content at.values at.i at.invariant.0 (data_of key) (omega (arith, length-map keys data_of)))
+    (map_list data_of keys) c.args.values at.self.content at.values at.i at.invariant.0 (data_of key) (omega (arith, length-map keys data_of)))
 
 pub loop-i-preserved : goal.loop-i-preserved
 loop-i-preserved g c =
@@ -31,7 +31,9 @@ loop-i-preserved g c =
     let there : k ≡ get_or (map_list data_of keys) at.i k = sym (get_or-map data_of keys at.i key k (omega arith)) in
     let step : Exchanged value_of with_value c.args.self.now.content (map_list data_of keys) c.args.values (with_value at.self.content k v) (set at.values at.i c.exchange.new.value) (at.i + 1) =
     Exchanged-step value_of with_value content_written c.args.self.now.content
-        (map_list data_of keys) c.args.values at.self.content at.values at.i at.invariant.0 k v c.exchange.new.value
-        (omega (arith, length-map keys data_of)) (omega (arith, length-map keys data_of)) there c.index-values-i.is c.exchange.ensures.value in
-    (rw (c.exchange.ensures.replaces, ← c.index-values-i.is) step, rw c.exchange.ensures.replaces at.invariant.1,
-        rw c.exchange.ensures.replaces (StaysHop-with_value c.args.self.now at.self k _ at.invariant.2 (ap is_some c.exchange.ensures.value)))
+    (map_list data_of keys) c.args.values at.self.content at.values at.i at.invariant.0 k v c.exchange.new.value
+    (omega (arith, length-map keys data_of)) (omega (arith, length-map keys data_of)) there c.index-values-i.is c.exchange.ensures.value in (
+      rw (c.exchange.ensures.replaces, ← c.index-values-i.is) step,
+      rw c.exchange.ensures.replaces at.invariant.1,
+      rw c.exchange.ensures.replaces (StaysHop-with_value c.args.self.now at.self k _ at.invariant.2 (ap is_some c.exchange.ensures.value)),
+    )

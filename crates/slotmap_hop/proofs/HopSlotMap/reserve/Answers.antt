@@ -10,9 +10,15 @@ pub returns-then-additional-capacity-clause-makes_room : goal.returns-then-addit
 returns-then-additional-capacity-clause-makes_room g c =
     let slots = c.self.inside.slots in
     let room = room_is _ _ _ c.self.invariant _ (omega (arith, slots.ok.0, slots.ok.1)) c.self.view_is in
-    hop_room_had _ _ _ c.used-used.ensures.valid refl (omega
-        (arith, c.used-used.ensures.value, c.used-used.ensures.below, c.used-used.ensures.fits, c.capacity.ensures.value, c.if-additional-used.false,
-        c.if-additional-capacity.true))
+    hop_room_had _ _ _ c.used-used.ensures.valid refl (omega (
+      arith,
+      c.used-used.ensures.value,
+      c.used-used.ensures.below,
+      c.used-used.ensures.fits,
+      c.capacity.ensures.value,
+      c.if-additional-used.false,
+      c.if-additional-capacity.true,
+    ))
 
 pub returns-clause-makes_room : goal.returns-clause-makes_room
 returns-clause-makes_room g c =

@@ -37,7 +37,7 @@ f-stays-requires g c =
     let visited = at.invariant.visited in
     let comes = (subst (Sweeping g.K.Key.data_of c.args.self.now at.self at.invariant.index) c.in-Some.is at.invariant.sweep).comes in
     c.requires.at at.f c.in-Some.key _ (Keyed-may_come g.K.Key.data_of old g.F.FnMut c.args.f at.f at.invariant.visits at.invariant.index
-        at.self.content.live at.invariant.calls visited key comes.0 comes.1)
+    at.self.content.live at.invariant.calls visited key comes.0 comes.1)
     (Keyed-same g.K.Key.data_of old at.invariant.visits at.invariant.index at.self.content.live visited key comes.1 ∙ c.get_unchecked_mut.ensures.value)
 
 pub take_live-requires : goal.take_live-requires
@@ -68,14 +68,14 @@ loop-next-preserved-then-not-stays g c =
       index = key.index + 1;
       sweep =
           sweep_dropped g.K.Key.data_of old at.self at.invariant.index c.in-Some.key sweep visit.after c.take_live.new.self
-              c.first_live-next-in-Some.result comes c.take_live.ensures.removes c.take_live.ensures.valid.capacity c.take_live.ensures.valid.after;
+          c.first_live-next-in-Some.result comes c.take_live.ensures.removes c.take_live.ensures.valid.capacity c.take_live.ensures.valid.after;
       visits = at.invariant.visits ++ visit ∷ [];
       calls = FoldsTo-push (CallsAt g.F.FnMut) c.args.f at.invariant.visits at.f visit c.f-stays.new.self at.invariant.calls (CallsAt-called g.F.FnMut c.f-stays.ensures);
       visited = rw live (Keyed-at g.K.Key.data_of old.content.live alone at.invariant.visits key.index at.self.content.live visit visited refl c.get_unchecked_mut.ensures.value);
       in_order =
           InOrder-dropped g.K.Key.data_of old at.self at.invariant.visits at.invariant.index at.invariant.in_order well at.invariant.visited visit
-              sweep.comes c.get_unchecked_mut.ensures.value (hop_with_value at.self key visit.after) c.take_live.new.self c.if-not-stays.true refl refl
-              c.take_live.ensures.removes c.take_live.ensures.blocks;
+          sweep.comes c.get_unchecked_mut.ensures.value (hop_with_value at.self key visit.after) c.take_live.new.self c.if-not-stays.true refl refl
+          c.take_live.ensures.removes c.take_live.ensures.blocks;
     }
 
 pub loop-next-preserved : goal.loop-next-preserved
@@ -102,7 +102,7 @@ loop-next-preserved g c =
       visited = rw live (Keyed-at g.K.Key.data_of old.content.live alone at.invariant.visits key.index at.self.content.live visit visited refl c.get_unchecked_mut.ensures.value);
       in_order =
           InOrder-kept g.K.Key.data_of old at.self at.invariant.visits at.invariant.index at.invariant.in_order well at.invariant.visited visit
-              sweep.comes c.get_unchecked_mut.ensures.value (hop_with_value at.self key visit.after) c.if-not-stays.false refl refl;
+          sweep.comes c.get_unchecked_mut.ensures.value (hop_with_value at.self key visit.after) c.if-not-stays.false refl refl;
     }
 
 pub returns-clause-retained : goal.returns-clause-retained

@@ -11,15 +11,15 @@ invariant_of-self g c =
     let slots = c.self.inside.slots.items in
     let at : c.data.result.index ≡ length slots = ap (λ k. k.index) c.data.ensures.value ∙ c.requires.next ∙ sym (ap (λ m. m.places) c.self.view_is) in
     rw (c.push_reserved.ensures.items, c.version-version.ensures.value)
-        (IsSound-append slots _ c.self.invariant _ c.args.value at c.data.ensures.valid
-        (omega (arith, ap (λ k. k.index) c.data.ensures.value, c.requires.below)))
+    (IsSound-append slots _ c.self.invariant _ c.args.value at c.data.ensures.valid
+    (omega (arith, ap (λ k. k.index) c.data.ensures.value, c.requires.below)))
 
 pub returns-clause-appends : goal.returns-clause-appends
 returns-clause-appends g c =
     let slots = c.self.inside.slots.items in
     let at : c.data.result.index ≡ length slots = ap (λ k. k.index) c.data.ensures.value ∙ c.requires.next ∙ sym (ap (λ m. m.places) c.self.view_is) in
     rw (c.push_reserved.ensures.items, c.push_reserved.ensures.capacity, c.version-version.ensures.value, ← c.self.view_is, ← c.data.ensures.value)
-        (content-append slots _ c.self.invariant _ c.args.value at _)
+    (content-append slots _ c.self.invariant _ c.args.value at _)
 
 pub returns-clause-valid : goal.returns-clause-valid
 returns-clause-valid g c = let v = c.push_reserved.new.self in valid _ _ (invariant_of-self g c) _ (omega (arith, v.ok.0, v.ok.1))

@@ -15,14 +15,14 @@ returns-in-Some-clause-value g c =
     let lookup = c.in-Some.ensures.lookup in
     c.has.ensures
     ∙ sym (ap (λ o. is_some (value_at c.version.result o))
-        (at-read _ _ (ap (λ m. m.pairs) c.self.view_is) _ _ c.data-key.ensures.value _ c.idx.ensures.value _ c.deref.ensures.value _ lookup.1 lookup.3.0))
+    (at-read _ _ (ap (λ m. m.pairs) c.self.view_is) _ _ c.data-key.ensures.value _ c.idx.ensures.value _ c.deref.ensures.value _ lookup.1 lookup.3.0))
     ∙ ap (λ v. is_some (value_at v (map.get c.args.self.now.pairs (g.K.Key.data_of c.args.key).index))) (c.version.ensures.value ∙ ap (λ k. k.version) c.data-key.ensures.value)
 
 pub returns-in-None-clause-value : goal.returns-in-None-clause-value
 returns-in-None-clause-value g c =
     sym (ap (λ o. is_some (value_at (g.K.Key.data_of c.args.key).version o))
-        (at-past _ _ (ap (λ m. m.pairs) c.self.view_is) _ _ c.data-key.ensures.value _ c.idx.ensures.value _ c.deref.ensures.value
-        c.in-None.ensures.lookup.3))
+    (at-past _ _ (ap (λ m. m.pairs) c.self.view_is) _ _ c.data-key.ensures.value _ c.idx.ensures.value _ c.deref.ensures.value
+    c.in-None.ensures.lookup.3))
 
 pub returns-in-Some-clause-valid : goal.returns-in-Some-clause-valid
 returns-in-Some-clause-valid g c = well_formed c.self.inside _ c.self.view_is c.self.invariant

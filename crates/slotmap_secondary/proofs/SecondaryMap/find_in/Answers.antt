@@ -17,7 +17,7 @@ returns-clause-found g c =
     let within : c.idx.result < length slots = omega (arith, c.requires, ap (λ m. m.places) c.self.view_is, c.idx.ensures.value, ap (λ k. k.index) c.data-key.ensures.value) in
     let stands = at-read _ _ all _ _ c.data-key.ensures.value _ c.idx.ensures.value slots refl _ c.index.ensures within in
     subst (is_found c.find.result) (sym (entry-at _ _ all _ _ c.data-key.ensures.value _ c.idx.ensures.value
-        (λ null. omega (arith, c.self.invariant.fits)) _ stands _ c.version.ensures.value _ refl)) c.find.ensures
+    (λ null. omega (arith, c.self.invariant.fits)) _ stands _ c.version.ensures.value _ refl)) c.find.ensures
 
 pub returns-clause-valid : goal.returns-clause-valid
 returns-clause-valid g c = well_formed c.self.inside _ c.self.view_is c.self.invariant

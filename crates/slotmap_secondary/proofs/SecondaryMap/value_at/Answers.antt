@@ -28,7 +28,15 @@ pub returns : goal.returns
 returns g c =
     let slot = here _ _ (ap (λ m. m.pairs) c.self.view_is) _ _ c.data.ensures.value c.requires.there in
     let read = same_read c.self.inside.slots.items _ _ _ _ (sym c.requires.at ∙ ap (λ k. k.index) (sym c.data.ensures.value)) c.index_mut.ensures.value slot.there in (
-      (refl, λ w. rw (← c.self.view_is, ← c.data.ensures.value, sym c.requires.at
-          ∙ ap (λ k. k.index) (sym c.data.ensures.value), c.version-version.ensures.value) (content-write c.self.inside.slots.items _ _ _ w slot.there)),
+      (
+        refl,
+        λ w. rw (
+          ← c.self.view_is,
+          ← c.data.ensures.value,
+          sym c.requires.at
+              ∙ ap (λ k. k.index) (sym c.data.ensures.value),
+          c.version-version.ensures.value,
+        ) (content-write c.self.inside.slots.items _ _ _ w slot.there),
+      ),
       record { writes_back = tt; value = slot.gives ∙ same_value _ _ _ _ (sym (ap pair_in read) ∙ c.value_mut.ensures.value); was_valid = well_formed c.self.inside _ c.self.view_is c.self.invariant },
     )

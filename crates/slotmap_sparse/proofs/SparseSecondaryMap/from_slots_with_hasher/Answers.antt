@@ -28,7 +28,7 @@ read-requires-clause-odd g c some =
     let list = c.args.list.items in
     let accepted = subst (λ l. Accepts l 4294967294) c.deref.ensures.value (c.in_ok-check_slots.ensures.ok.0 refl) in
     let here : slice_get list (length at.yielded) ≡ Some slot = ap (λ l. slice_get l (length at.yielded))
-            (sym (ap (λ xs. at.yielded ++ xs) (sym c.in-Some.ensures.steps.0) ∙ at.invariant.all)) ∙ slice_get_next at.yielded rest slot in
+    (sym (ap (λ xs. at.yielded ++ xs) (sym c.in-Some.ensures.steps.0) ∙ at.invariant.all)) ∙ slice_get_next at.yielded rest slot in
     (accepted.consistent (length at.yielded) slot (slice_get_within list (length at.yielded) slot here) here).0 some
 
 pub read-requires-clause-absent : goal.read-requires-clause-absent

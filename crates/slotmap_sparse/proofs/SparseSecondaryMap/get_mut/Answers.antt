@@ -40,7 +40,7 @@ pub invariant_of-self-lent : goal.invariant_of-self-lent
 invariant_of-self-lent g c w =
     let at = c.idx.ensures.value ∙ ap (λ k. k.index) c.data-key.ensures.value in
     IsSound-through _ _ c.self.invariant (g.K.Key.data_of c.args.key) _ at c.in-Some.slot.now w
-        (sym c.get_mut.ensures.value ∙ ap option_copied_mut c.in-Some.is) (c.get_mut.follows.holds (c.in-Some.slot.now.0, w))
+    (sym c.get_mut.ensures.value ∙ ap option_copied_mut c.in-Some.is) (c.get_mut.follows.holds (c.in-Some.slot.now.0, w))
 
 pub returns : goal.returns
 returns g c =

@@ -15,7 +15,7 @@ pub invariant_of-self-lent : goal.invariant_of-self-lent
 invariant_of-self-lent g c w =
     let at = c.idx-index.ensures.value ∙ ap (λ k. k.index) c.data.ensures.value in
     IsSound-through _ _ c.self.invariant (g.K.Key.data_of c.args.key) _ at c.unwrap.result.now w
-        (sym c.get_mut.ensures.value ∙ ap option_copied_mut c.unwrap.ensures) (c.get_mut.follows.holds (c.unwrap.result.now.0, w))
+    (sym c.get_mut.ensures.value ∙ ap option_copied_mut c.unwrap.ensures) (c.get_mut.follows.holds (c.unwrap.result.now.0, w))
 
 pub returns : goal.returns
 returns g c =

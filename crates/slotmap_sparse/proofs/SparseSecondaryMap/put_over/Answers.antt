@@ -27,8 +27,8 @@ invariant_of-self-2 g c =
     let over = c.replace.ensures.puts ∙ ap (λ x. put_over x c.args.value c.in-Some.slot.now) (c.version.ensures.value ∙ ap (λ k. k.version) key) in
     let written = subst (λ w. WritesThrough nat_eq (nat_eq c.idx.result) c.self.inside.slots w (c.get_mut.follows.lender c.replace.new.slot)) over (c.get_mut.follows.holds c.replace.new.slot) in
     IsSound-over c.self.inside.slots _ c.self.invariant c.args.self.now c.self.view_is (g.K.Key.data_of c.args.key)
-        (subst IsKey key c.data-key.ensures.valid) _ at c.in-Some.slot.now c.args.value
-        (sym c.get_mut.ensures.value ∙ ap option_copied_mut c.in-Some.is) written
+    (subst IsKey key c.data-key.ensures.valid) _ at c.in-Some.slot.now c.args.value
+    (sym c.get_mut.ensures.value ∙ ap option_copied_mut c.in-Some.is) written
 
 pub returns-clause-value : goal.returns-clause-value
 returns-clause-value g c =
@@ -45,8 +45,8 @@ returns-clause-ok g c =
     let over = c.replace.ensures.puts ∙ ap (λ x. put_over x c.args.value c.in-Some.slot.now) (c.version.ensures.value ∙ ap (λ k. k.version) key) in
     let written = subst (λ w. WritesThrough nat_eq (nat_eq c.idx.result) c.self.inside.slots w (c.get_mut.follows.lender c.replace.new.slot)) over (c.get_mut.follows.holds c.replace.new.slot) in
     content_over c.self.inside.slots _ c.self.invariant c.args.self.now c.self.view_is (g.K.Key.data_of c.args.key)
-        (subst IsKey key c.data-key.ensures.valid) _ at c.in-Some.slot.now c.args.value
-        (sym c.get_mut.ensures.value ∙ ap option_copied_mut c.in-Some.is) written
+    (subst IsKey key c.data-key.ensures.valid) _ at c.in-Some.slot.now c.args.value
+    (sym c.get_mut.ensures.value ∙ ap option_copied_mut c.in-Some.is) written
 
 pub returns-clause-valid : goal.returns-clause-valid
 returns-clause-valid g c = well_formed (c.get_mut.follows.lender c.replace.new.slot) _ refl (invariant_of-self-2 g c)

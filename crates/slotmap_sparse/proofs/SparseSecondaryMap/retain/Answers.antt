@@ -14,10 +14,10 @@ pub retain-requires : goal.retain-requires
 retain-requires g c = record {
   at = λ before after d k v is run.
       let comes = comes_to g.F.FnMut g.K.Key.data_of _ (λ x. x.0)
-              (λ x i p b q y t. shown_at g.F.FnMut g.K.Key.data_of i _ p _ q _ b x.0 y.0 t.shows.0 t.shows.1 t.leaves t.called.met.0 t.called.met.1) _ d
-              before after (k, v) c.args.self.now.pairs
+      (λ x i p b q y t. shown_at g.F.FnMut g.K.Key.data_of i _ p _ q _ b x.0 y.0 t.shows.0 t.shows.1 t.leaves t.called.met.0 t.called.met.1) _ d
+      before after (k, v) c.args.self.now.pairs
       (subst (λ (es : List (ℕ × (ℕ × g.row.V.Denot))). pairs_of es ≡ c.args.self.now.pairs) is (ap (λ m. m.pairs) c.self.view_is))
-          (subst (λ (es : List (ℕ × (ℕ × g.row.V.Denot))). IsSound es) is c.self.invariant) run in
+      (subst (λ (es : List (ℕ × (ℕ × g.row.V.Denot))). IsSound es) is c.self.invariant) run in
       λ lent slot at held. λ key shown named shows.
       let of : g.K.Key.data_of key ≡ record { index = k; version = v.0 } = named ∙ (λ j. key_from (at j) (held j).0) ∙ key_from-odd k v.0 comes.0.1 comes.0.0.odd in
       c.requires.at d.0 key shown
@@ -28,15 +28,15 @@ retain-requires g c = record {
 pub invariant_of-self : goal.invariant_of-self
 invariant_of-self g c =
     let done = visited g.F.FnMut g.K.Key.data_of _ (λ x. x.0)
-            (λ x i p b q y t. shown_at g.F.FnMut g.K.Key.data_of i _ p _ q _ b x.0 y.0 t.shows.0 t.shows.1 t.leaves t.called.met.0 t.called.met.1) _ _ _
-            (of_keys _ c.self.invariant) c.retain.ensures.filtered in
+    (λ x i p b q y t. shown_at g.F.FnMut g.K.Key.data_of i _ p _ q _ b x.0 y.0 t.shows.0 t.shows.1 t.leaves t.called.met.0 t.called.met.1) _ _ _
+    (of_keys _ c.self.invariant) c.retain.ensures.filtered in
     record { unique = c.retain.ensures.unique; keys = valid_from _ done.of }
 
 pub returns-clause-retained : goal.returns-clause-retained
 returns-clause-retained g c =
     let done = visited g.F.FnMut g.K.Key.data_of _ (λ x. x.0)
-            (λ x i p b q y t. shown_at g.F.FnMut g.K.Key.data_of i _ p _ q _ b x.0 y.0 t.shows.0 t.shows.1 t.leaves t.called.met.0 t.called.met.1) _ _ _
-            (of_keys _ c.self.invariant) c.retain.ensures.filtered in
+    (λ x i p b q y t. shown_at g.F.FnMut g.K.Key.data_of i _ p _ q _ b x.0 y.0 t.shows.0 t.shows.1 t.leaves t.called.met.0 t.called.met.1) _ _ _
+    (of_keys _ c.self.invariant) c.retain.ensures.filtered in
     retains_by g.F.FnMut g.K.Key.data_of _ (λ x. x.0) _ _ _ _ (ap (λ m. m.pairs) c.self.view_is) c.self.invariant.unique c.retain.ensures.unique done
 
 pub returns-clause-room : goal.returns-clause-room

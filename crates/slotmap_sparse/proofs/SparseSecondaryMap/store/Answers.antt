@@ -29,7 +29,7 @@ pub returns-clause-capacity : goal.returns-clause-capacity
 returns-clause-capacity g c =
     let at = c.idx.ensures.value ∙ ap (λ k. k.index) c.data-key.ensures.value in
     let stood : c.unwrap.result ≡ None = of_if_ok _ _ _ c.unwrap.ensures c.insert-stored.ensures.old
-            ∙ found_pair _ _ (ap (λ m. m.pairs) c.self.view_is) _ ∙ ap (map.get c.args.self.now.pairs) at ∙ c.requires.absent in
+    ∙ found_pair _ _ (ap (λ m. m.pairs) c.self.view_is) _ ∙ ap (map.get c.args.self.now.pairs) at ∙ c.requires.absent in
     let long = of_if_ok _ _ _ c.unwrap.ensures c.insert-stored.ensures.len in
     omega (arith, rw stood at long, c.insert-stored.ensures.spare, ap (λ m. m.capacity) c.self.view_is)
 

@@ -20,7 +20,7 @@ returns g c =
           room = c.take_slot.ensures.room;
           occupied =
               λ there. absurd (let none : get m k ≡ None = vacant_nothing m valid k is in let no : is_some
-                  (get m k) ≡ false = ap is_some none in let both : ◌≡◌ {A = Bool} true false = sym there ∙ no in cc);
+              (get m k) ≡ false = ap is_some none in let both : ◌≡◌ {A = Bool} true false = sym there ∙ no in cc);
           empty = λ none. absurd (let both : ◌≡◌ {A = Option (ℕ × g.row.V.Denot)} None (Some c.in-Outdated.ensures.found.1.0) = sym none ∙ c.in-Outdated.ensures.found.1.1 in cc);
           value = sym (vacant_nothing m valid k is);
           in_place = in_place_outdated m valid k is _ out;

@@ -30,8 +30,11 @@ returns-clause-steps g c =
     let value = c.take_live.ensures.value in
     let above = later g c in (
       (value, removes),
-      (refl, λ end empties. Empties-first now c.take_live.new.self end key well found.0 removes c.take_live.ensures.valid.capacity
-          (λ q there. omega (arith, above q there, c.idx.ensures.value, ap (λ k. k.index) c.data.ensures.value)) empties),
+      (
+        refl,
+        λ end empties. Empties-first now c.take_live.new.self end key well found.0 removes c.take_live.ensures.valid.capacity
+            (λ q there. omega (arith, above q there, c.idx.ensures.value, ap (λ k. k.index) c.data.ensures.value)) empties,
+      ),
       above,
       first_entry now well c.args.self.now.index key c.in_ok-key.ensures.first c.take_live.result c.requires value ∙ ap (λ m. (key, c.take_live.result) ∷ map.entries m) (sym removes.live),
     )

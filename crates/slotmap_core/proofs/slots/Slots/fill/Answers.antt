@@ -95,7 +95,7 @@ returns-clause-inserts g c =
     let m = c.self.inside in
     let slots = g.L.Layout.slots m.layout in
     let free = vacancies-set slots m.first_vacant (full (t.version + 1) c.args.payload) (vacancies slots m.kept_count m.live_count - 1) m.kept_count
-            (m.live_count + 1) (omega (arith, some_free _ _ _ _ c.self.invariant.sound c.if-self-eq0.false)) in
+    (m.live_count + 1) (omega (arith, some_free _ _ _ _ c.self.invariant.sound c.if-self-eq0.false)) in
     rw (← c.self.view_is, c.put.ensures.put, c.put.ensures.same_room, read, next, free) (inserts-filled _ _ _ _ c.self.invariant.sound t c.args.payload _ room.0)
 
 pub returns-clause-valid : goal.returns-clause-valid

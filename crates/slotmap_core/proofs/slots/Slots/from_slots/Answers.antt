@@ -26,7 +26,7 @@ loop-record-init g c =
       few = omega arith;
       room =
           rw (c.push_empty.ensures.pushed, c.push_empty.ensures.same_room, c.in_ok-layout.ensures.none)
-              (omega (arith, taken.2, c.into_iter-records.ensures.len, c.in_ok-layout.ensures.room, c.len.ensures));
+          (omega (arith, taken.2, c.into_iter-records.ensures.len, c.in_ok-layout.ensures.room, c.len.ensures));
     })
 
 pub loop-record-preserved-in-Some-value : goal.loop-record-preserved-in-Some-value
@@ -41,18 +41,18 @@ loop-record-preserved-in-Some-value g c =
     let consistent = next_consistent c.args.list.items (before.first ∷ at.yielded) rest made 4294967295 accepted whole in
     let slots = g.L.Layout.slots at.layout in
     let free = vacancies-push slots (full made.version c.in-Some-value.payload) (vacancies slots at.kept_count at.live_count) at.kept_count
-            (at.live_count + 1) (omega (arith, before.few, before.read.length_is)) in
+    (at.live_count + 1) (omega (arith, before.few, before.read.length_is)) in
     record {
       first = before.first;
       all = ap (λ xs. before.first ∷ xs) (append_assoc at.yielded (made ∷ []) rest) ∙ whole;
       counted = omega (arith, before.counted, steps.1, length_push at.yielded made);
       read =
           rw (c.push.ensures.pushed, c.in-Some-value.payload-is, free)
-              (AreRead-live (before.first ∷ at.yielded) _ _ _ _ before.read made consistent (omega arith) c.in-Some-value.payload c.in-Some-value.is);
+          (AreRead-live (before.first ∷ at.yielded) _ _ _ _ before.read made consistent (omega arith) c.in-Some-value.payload c.in-Some-value.is);
       few = omega (arith, before.few, length_push at.yielded made);
       room =
           rw (c.push.ensures.pushed, c.push.ensures.same_room, c.in-Some-value.payload-is)
-              (omega (arith, before.room, steps.1, length_push (g.L.Layout.slots at.layout) (full made.version c.in-Some-value.payload)));
+          (omega (arith, before.room, steps.1, length_push (g.L.Layout.slots at.layout) (full made.version c.in-Some-value.payload)));
     }
 
 pub loop-record-preserved-then-version-eq0 : goal.loop-record-preserved-then-version-eq0
@@ -73,11 +73,11 @@ loop-record-preserved-then-version-eq0 g c =
       counted = omega (arith, before.counted, steps.1, length_push at.yielded made);
       read =
           rw (c.push_empty-then-version-eq0.ensures.pushed, free)
-              (AreRead-retired (before.first ∷ at.yielded) _ _ _ _ before.read made consistent (omega arith) c.in-None-value.is c.if-version-eq0.true);
+          (AreRead-retired (before.first ∷ at.yielded) _ _ _ _ before.read made consistent (omega arith) c.in-None-value.is c.if-version-eq0.true);
       few = omega (arith, before.few, length_push at.yielded made);
       room =
           rw (c.push_empty-then-version-eq0.ensures.pushed, c.push_empty-then-version-eq0.ensures.same_room)
-              (omega (arith, before.room, steps.1, length_push (g.L.Layout.slots at.layout) (empty 0 Retired)));
+          (omega (arith, before.room, steps.1, length_push (g.L.Layout.slots at.layout) (empty 0 Retired)));
     }
 
 pub loop-record-preserved : goal.loop-record-preserved
@@ -92,18 +92,18 @@ loop-record-preserved g c =
     let consistent = next_consistent c.args.list.items (before.first ∷ at.yielded) rest made 4294967295 accepted whole in
     let slots = g.L.Layout.slots at.layout in
     let free = vacancies-push slots (empty made.version (Free at.first_vacant))
-            (vacancies slots at.kept_count at.live_count + 1) at.kept_count at.live_count (omega (arith, before.few, before.read.length_is)) in
+    (vacancies slots at.kept_count at.live_count + 1) at.kept_count at.live_count (omega (arith, before.few, before.read.length_is)) in
     record {
       first = before.first;
       all = ap (λ xs. before.first ∷ xs) (append_assoc at.yielded (made ∷ []) rest) ∙ whole;
       counted = omega (arith, before.counted, steps.1, length_push at.yielded made);
       read =
           rw (c.push_empty-else-version-eq0.ensures.pushed, c.len-index.ensures, free)
-              (AreRead-vacant (before.first ∷ at.yielded) _ _ _ _ before.read made consistent (omega arith) c.in-None-value.is c.if-version-eq0.false);
+          (AreRead-vacant (before.first ∷ at.yielded) _ _ _ _ before.read made consistent (omega arith) c.in-None-value.is c.if-version-eq0.false);
       few = omega (arith, before.few, length_push at.yielded made);
       room =
           rw (c.push_empty-else-version-eq0.ensures.pushed, c.push_empty-else-version-eq0.ensures.same_room)
-              (omega (arith, before.room, steps.1, length_push (g.L.Layout.slots at.layout) (empty made.version (Free at.first_vacant))));
+          (omega (arith, before.room, steps.1, length_push (g.L.Layout.slots at.layout) (empty made.version (Free at.first_vacant))));
     }
 
 pub push_empty-requires-clause-out : goal.push_empty-requires-clause-out
@@ -142,23 +142,36 @@ pub invariant_of-result : goal.invariant_of-result
 invariant_of-result g c =
     let at = c.loop-record in
     let none : into_iter_items at.record-iterator ≡ [] = nil_from_length _
-            (omega (arith, ap length at.invariant.all, length-append at.yielded (into_iter_items at.record-iterator), at.invariant.counted,
-            c.in-None.ensures.steps.0)) in
+    (omega (
+      arith,
+      ap length at.invariant.all,
+      length-append at.yielded (into_iter_items at.record-iterator),
+      at.invariant.counted,
+      c.in-None.ensures.steps.0,
+    )) in
     let all : at.invariant.first ∷ at.yielded ≡ c.args.list.items = ap (λ xs. at.invariant.first ∷ xs) (sym (append-nil at.yielded))
-            ∙ ap (λ xs. at.invariant.first ∷ at.yielded ++ xs) (sym none) ∙ at.invariant.all in
+    ∙ ap (λ xs. at.invariant.first ∷ at.yielded ++ xs) (sym none) ∙ at.invariant.all in
     let accepted = subst (λ l. Accepts l 4294967295) c.deref.ensures.value (c.in_ok-check_slots.ensures.ok.0 refl) in
     let versions_fit = subst (λ l. AllFitBelow l (length l)) c.deref.ensures.value c.in_ok-check_slots.ensures.versions_fit in
-    record { sound = IsSound-read c.args.list.items _ _ _ _ (rw all at at.invariant.read) 4294967295 (omega arith) accepted versions_fit;
-        fewer = omega (arith, at.invariant.few, at.invariant.read.length_is); holds = omega (arith, at.invariant.room) }
+    record {
+      sound = IsSound-read c.args.list.items _ _ _ _ (rw all at at.invariant.read) 4294967295 (omega arith) accepted versions_fit;
+      fewer = omega (arith, at.invariant.few, at.invariant.read.length_is);
+      holds = omega (arith, at.invariant.room);
+    }
 
 pub returns-clause-reads : goal.returns-clause-reads
 returns-clause-reads g c =
     let at = c.loop-record in
     let none : into_iter_items at.record-iterator ≡ [] = nil_from_length _
-            (omega (arith, ap length at.invariant.all, length-append at.yielded (into_iter_items at.record-iterator), at.invariant.counted,
-            c.in-None.ensures.steps.0)) in
+    (omega (
+      arith,
+      ap length at.invariant.all,
+      length-append at.yielded (into_iter_items at.record-iterator),
+      at.invariant.counted,
+      c.in-None.ensures.steps.0,
+    )) in
     let all : at.invariant.first ∷ at.yielded ≡ c.args.list.items = ap (λ xs. at.invariant.first ∷ xs) (sym (append-nil at.yielded))
-            ∙ ap (λ xs. at.invariant.first ∷ at.yielded ++ xs) (sym none) ∙ at.invariant.all in
+    ∙ ap (λ xs. at.invariant.first ∷ at.yielded ++ xs) (sym none) ∙ at.invariant.all in
     let accepted = subst (λ l. Accepts l 4294967295) c.deref.ensures.value (c.in_ok-check_slots.ensures.ok.0 refl) in
     let versions_fit = subst (λ l. AllFitBelow l (length l)) c.deref.ensures.value c.in_ok-check_slots.ensures.versions_fit in
     let read = rw all at at.invariant.read in

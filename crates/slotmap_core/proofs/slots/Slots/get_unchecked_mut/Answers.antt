@@ -15,9 +15,17 @@ pub returns : goal.returns
 returns g c =
     let m = c.self.inside in
     let found = held_present _ _ _ _ _ c.self.invariant c.self.view_is c.args.key c.requires in (
-      (refl, λ w. rw (← c.self.view_is, g.met.L.Layout.slots_with, g.met.L.Layout.fits_with, c.idx.ensures.value,
-          vacancies-written (g.L.Layout.slots m.layout) c.args.key.index w m.kept_count m.live_count)
-          (content-rewritten _ _ _ _ c.self.invariant.sound _ _ _ found.there w _)),
+      (
+        refl,
+        λ w. rw (
+          ← c.self.view_is,
+          g.met.L.Layout.slots_with,
+          g.met.L.Layout.fits_with,
+          c.idx.ensures.value,
+          vacancies-written (g.L.Layout.slots m.layout) c.args.key.index w m.kept_count m.live_count,
+        )
+            (content-rewritten _ _ _ _ c.self.invariant.sound _ _ _ found.there w _),
+      ),
       record {
         writes_back = tt;
         value = held_value _ _ _ _ _ c.self.invariant c.self.view_is c.args.key c.requires _ c.idx.ensures.value _ c.payload_mut.ensures.value;

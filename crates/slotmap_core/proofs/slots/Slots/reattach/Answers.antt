@@ -30,10 +30,10 @@ returns-clause-reattaches g c =
     let positive = kept_positive _ _ _ _ _ c.self.invariant c.self.view_is c.args.key c.requires c.args.payload in
     let m = c.self.inside in
     let free = vacancies-set (g.L.Layout.slots m.layout) c.args.key.index (full c.args.key.version c.args.payload)
-            (vacancies (g.L.Layout.slots m.layout) m.kept_count m.live_count) (m.kept_count - 1) (m.live_count + 1)
-            (omega (arith, positive, c.self.invariant.fewer)) in
+    (vacancies (g.L.Layout.slots m.layout) m.kept_count m.live_count) (m.kept_count - 1) (m.live_count + 1)
+    (omega (arith, positive, c.self.invariant.fewer)) in
     rw (← c.self.view_is, c.put.ensures.put, c.put.ensures.same_room, c.idx.ensures.value, c.version.ensures.value, free)
-        (reattaches-slots _ _ _ _ c.self.invariant.sound _ _ _ found.there found.before c.args.payload _)
+    (reattaches-slots _ _ _ _ c.self.invariant.sound _ _ _ found.there found.before c.args.payload _)
 
 pub returns-clause-valid : goal.returns-clause-valid
 returns-clause-valid g c = held_stays _ _ _ _ _ c.self.invariant c.self.view_is _ _ _ _ _ (invariant_of-self g c) c.put.ensures.same_room

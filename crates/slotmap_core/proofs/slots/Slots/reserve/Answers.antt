@@ -5,8 +5,15 @@ use Rattle.slotmap_core.proofs.slots.Slots.reserve.Goals as goal
 
 pub reserve-requires : goal.reserve-requires
 reserve-requires g c =
-    omega (arith, held_used _ _ _ _ _ c.self.invariant c.self.view_is, held_fits _ _ _ _ _ c.self.invariant c.self.view_is, c.used-used.ensures.value,
-        c.if-additional-used.false, c.place_count.ensures.value, held_places _ _ _ _ _ c.self.invariant c.self.view_is)
+    omega (
+      arith,
+      held_used _ _ _ _ _ c.self.invariant c.self.view_is,
+      held_fits _ _ _ _ _ c.self.invariant c.self.view_is,
+      c.used-used.ensures.value,
+      c.if-additional-used.false,
+      c.place_count.ensures.value,
+      held_places _ _ _ _ _ c.self.invariant c.self.view_is,
+    )
 
 pub returns-in_err-reserve-clause-makes_room : goal.returns-in_err-reserve-clause-makes_room
 returns-in_err-reserve-clause-makes_room g c =
@@ -15,7 +22,7 @@ returns-in_err-reserve-clause-makes_room g c =
     (omega (arith, c.used-used.ensures.value, c.used-used.ensures.below, c.if-additional-used.false))
     (omega (arith, c.used-used.ensures.value, c.used-used.ensures.fits, c.capacity.ensures.value, c.if-additional-capacity.false)) in
     rw c.in_err-reserve.ensures.same (grown _ _ _ _ _ c.self.invariant c.self.view_is _ c.in_err-reserve.ensures.grows c.args.additional _ none
-        (λ is. absurd (err_not_ok _ c.from_residual.ensures.0 is)))
+    (λ is. absurd (err_not_ok _ c.from_residual.ensures.0 is)))
 
 pub returns-clause-makes_room : goal.returns-clause-makes_room
 returns-clause-makes_room g c =
@@ -25,6 +32,12 @@ returns-clause-makes_room g c =
     (omega (arith, c.used-used.ensures.value, c.used-used.ensures.fits, c.capacity.ensures.value, c.if-additional-capacity.false)) in
     rw c.in_ok-reserve.ensures.same (grown _ _ _ _ _ c.self.invariant c.self.view_is _ c.in_ok-reserve.ensures.grows c.args.additional _ none (λ is. (
       omega (arith, c.used-used.ensures.value, c.used-used.ensures.below, c.if-additional-used.false),
-      omega (arith, held_used _ _ _ _ _ c.self.invariant c.self.view_is, c.used-used.ensures.value, c.in_ok-reserve.ensures.room,
-          c.place_count.ensures.value, held_places _ _ _ _ _ c.self.invariant c.self.view_is),
+      omega (
+        arith,
+        held_used _ _ _ _ _ c.self.invariant c.self.view_is,
+        c.used-used.ensures.value,
+        c.in_ok-reserve.ensures.room,
+        c.place_count.ensures.value,
+        held_places _ _ _ _ _ c.self.invariant c.self.view_is,
+      ),
     )))

@@ -38,8 +38,8 @@ returns-then-version-clause-removes g c =
     let positive = count_positive _ _ _ _ c.self.invariant.sound _ _ _ found.there in
     let m = c.self.inside in
     let free = vacancies-set (g.L.Layout.slots m.layout) c.args.key.index (empty 0 Retired)
-            (vacancies (g.L.Layout.slots m.layout) m.kept_count m.live_count) (m.kept_count + 1) (m.live_count - 1)
-            (omega (arith, positive, c.self.invariant.fewer)) in
+    (vacancies (g.L.Layout.slots m.layout) m.kept_count m.live_count) (m.kept_count + 1) (m.live_count - 1)
+    (omega (arith, positive, c.self.invariant.fewer)) in
     rw (← c.self.view_is, c.take.ensures.left, c.take.ensures.same_room, c.idx-index.ensures.value, free) (removes-retired _ _ _ _ c.self.invariant.sound _ _ _ found.there last _)
 
 pub returns-then-version-clause-valid : goal.returns-then-version-clause-valid
@@ -72,8 +72,8 @@ returns-clause-removes g c =
     let positive = count_positive _ _ _ _ c.self.invariant.sound _ _ _ found.there in
     let m = c.self.inside in
     let free = vacancies-set (g.L.Layout.slots m.layout) c.args.key.index (empty (c.args.key.version + 1) (Free m.first_vacant))
-            (vacancies (g.L.Layout.slots m.layout) m.kept_count m.live_count + 1) m.kept_count (m.live_count - 1)
-            (omega (arith, positive, c.self.invariant.fewer)) in
+    (vacancies (g.L.Layout.slots m.layout) m.kept_count m.live_count + 1) m.kept_count (m.live_count - 1)
+    (omega (arith, positive, c.self.invariant.fewer)) in
     rw (← c.self.view_is, c.take-payload.ensures.left, c.take-payload.ensures.same_room, c.idx-index.ensures.value, c.version-version.ensures.value, c.idx-self-inside.ensures.value, free)
     (removes-freed _ _ _ _ c.self.invariant.sound _ _ _ found.there other _)
 

@@ -36,8 +36,8 @@ returns-clause-detaches g c =
     let positive = count_positive _ _ _ _ c.self.invariant.sound _ _ _ found.there in
     let m = c.self.inside in
     let free = vacancies-set (g.L.Layout.slots m.layout) c.args.key.index (empty ((c.args.key.version + 1) % 2 ^ 32) Detached)
-            (vacancies (g.L.Layout.slots m.layout) m.kept_count m.live_count) (m.kept_count + 1) (m.live_count - 1)
-            (omega (arith, positive, c.self.invariant.fewer)) in
+    (vacancies (g.L.Layout.slots m.layout) m.kept_count m.live_count) (m.kept_count + 1) (m.live_count - 1)
+    (omega (arith, positive, c.self.invariant.fewer)) in
     rw (← c.self.view_is, c.take.ensures.left, c.take.ensures.same_room, c.idx.ensures.value, c.version-after.ensures.value, free) (detaches-slots _ _ _ _ c.self.invariant.sound _ _ _ found.there _)
 
 pub returns-clause-valid : goal.returns-clause-valid

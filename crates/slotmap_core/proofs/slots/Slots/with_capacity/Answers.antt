@@ -10,7 +10,7 @@ push_empty-requires-clause-out g c = FitsEmpty-free 0 0 refl (omega arith) (λ _
 pub invariant_of-result : goal.invariant_of-result
 invariant_of-result g c =
     rw (c.push_empty.ensures.pushed, c.push_empty.ensures.same_room, c.in_ok-layout.ensures.none)
-        (record { sound = IsSound-sentinel; fewer = omega arith; holds = omega (arith, c.in_ok-layout.ensures.room) })
+    (record { sound = IsSound-sentinel; fewer = omega arith; holds = omega (arith, c.in_ok-layout.ensures.room) })
 
 pub returns-clause-starts : goal.returns-clause-starts
 returns-clause-starts g c =

@@ -17,8 +17,15 @@ returns-in-Some-clause-goes g c =
     let takes = c.in-Some.ensures.takes in
     record {
       on =
-          λ finite. (tt, finite, omega (arith, ap map.len takes.1.live,
-              len_removed keys_total exact_keys c.args.self.now.map.now.content.live (g.K.Key.data_of c.in-Some.pair.0) (ap is_some takes.0)));
+          λ finite. (
+            tt,
+            finite,
+            omega (
+              arith,
+              ap map.len takes.1.live,
+              len_removed keys_total exact_keys c.args.self.now.map.now.content.live (g.K.Key.data_of c.in-Some.pair.0) (ap is_some takes.0),
+            ),
+          );
       keeps = tt;
       rests = λ _. tt;
     }

@@ -7,5 +7,12 @@ pub returns : goal.returns
 returns g c =
     let it = c.self.inside in
     let left = drop it.position it.keys.items in
-    rw (← c.self.view_is) (omega (arith, length-zip (list_map g.K.Key.data_of left) it.values.items, length-map left g.K.Key.data_of,
-        length-drop it.position it.keys.items, c.self.invariant, c.len.ensures, it.values.ok.0))
+    rw (← c.self.view_is) (omega (
+      arith,
+      length-zip (list_map g.K.Key.data_of left) it.values.items,
+      length-map left g.K.Key.data_of,
+      length-drop it.position it.keys.items,
+      c.self.invariant,
+      c.len.ensures,
+      it.values.ok.0,
+    ))

@@ -7,5 +7,11 @@ use Rattle.slotmap_dense.proofs.iter_mut.IterMut.len.Goals as goal
 pub returns : goal.returns
 returns g c =
     let it = c.args.self.now in
-    omega (arith, c.min.ensures, c.len.ensures.value, c.len-2.ensures.value, length-map (iter_rest it.keys) g.K.Key.data_of,
-        length-zip (list_map g.K.Key.data_of (iter_rest it.keys)) (iter_mut_rest it.values))
+    omega (
+      arith,
+      c.min.ensures,
+      c.len.ensures.value,
+      c.len-2.ensures.value,
+      length-map (iter_rest it.keys) g.K.Key.data_of,
+      length-zip (list_map g.K.Key.data_of (iter_rest it.keys)) (iter_mut_rest it.values),
+    )

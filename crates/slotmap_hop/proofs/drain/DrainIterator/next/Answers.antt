@@ -24,7 +24,7 @@ returns-clause-steps g c =
     let comes = subst (λ i. IsNextLive g.K.Key.data_of now.content (i + 1) c.first_live-self.result) index c.first_live-self.ensures.comes in
     let removes = c.take_live.ensures.removes in
     let after = clearing_removed g.K.Key.data_of now now new c.in-Some.key c.first_live-self.result
-            (clearing_starts g.K.Key.data_of now _ c.requires.0 least) comes removes c.take_live.ensures.valid.capacity c.take_live.ensures.valid.after in
+    (clearing_starts g.K.Key.data_of now _ c.requires.0 least) comes removes c.take_live.ensures.valid.capacity c.take_live.ensures.valid.after in
     let above = after_above g.K.Key.data_of now new c.in-Some.key c.requires.0 least removes in (
       (c.take_live.ensures.value, removes),
       (refl, λ end empties. Empties-first now.content new.content end key c.requires.0.valid least.0 removes c.take_live.ensures.valid.capacity above empties),
@@ -43,7 +43,7 @@ returns-clause-goes g c =
     let comes = subst (λ i. IsNextLive g.K.Key.data_of now.content (i + 1) c.first_live-self.result) index c.first_live-self.ensures.comes in
     let removes = c.take_live.ensures.removes in
     let after = clearing_removed g.K.Key.data_of now now new c.in-Some.key c.first_live-self.result
-            (clearing_starts g.K.Key.data_of now _ c.requires.0 least) comes removes c.take_live.ensures.valid.capacity c.take_live.ensures.valid.after in
+    (clearing_starts g.K.Key.data_of now _ c.requires.0 least) comes removes c.take_live.ensures.valid.capacity c.take_live.ensures.valid.after in
     let least_next = next_is_least g.K.Key.data_of now new c.first_live-self.result after in
     record {
       on = λ finite. ((c.take_live.ensures.valid.after, least_next), finite, omega (arith, ap map.len removes.live, len_removed keys_total exact_keys now.content.live key least.0));

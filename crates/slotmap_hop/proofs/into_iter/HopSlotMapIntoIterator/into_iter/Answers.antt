@@ -9,4 +9,4 @@ invariant_of-result g c = rw (c.links_at-sentinel.ensures, c.as_slice.ensures.va
 pub returns : goal.returns
 returns g c =
     rw (c.links_at-sentinel.ensures, c.as_slice.ensures.value, pairs-start _ _ _ c.self.invariant, ← c.self.view_is)
-        (record { into_iter_gives = record { listing = listing-entries _; in_order = refl } })
+    (record { into_iter_gives = record { listing = listing-entries _; in_order = refl } })

@@ -53,12 +53,12 @@ returns-clause-steps g c =
     let items = with_items_is m.slots c.use_up-value.new.slots (same_length _ _ _ _ after ∙ sym m.slots.ok.0) in
     let rest = pairs-taken _ _ _ _ c.self.invariant _ _ _ _ finds way c.use_up-value.new.slots same after in
     let value : found ≡ c.use_up-value.result = same_Some _ _
-            (value_is _ _ _ c.self.invariant.stands.sound _ _ _ finds.there _ (ap (λ xs. value_at xs at) (sym c.as_mut_slice.ensures.value)
-            ∙ c.use_up-value.ensures.value)) in
+    (value_is _ _ _ c.self.invariant.stands.sound _ _ _ finds.there _ (ap (λ xs. value_at xs at) (sym c.as_mut_slice.ensures.value)
+    ∙ c.use_up-value.ensures.value)) in
     let is : g.K.Key.data_of c.from-key.result ≡ key at c.next_live-place.result.1.now.version =
     ap g.K.Key.data_of (g.met.K.Key.from_gives_key _ _ c.from-key.ensures) ∙ g.met.K.Key.from_data _ c.new.ensures.valid ∙ c.new.ensures.value
     ∙ key_from-odd _ _ (omega (arith, found_inside _ _ _ _ c.self.invariant _ _ _ _ finds way, slots_fit _ _ _ c.self.invariant.stands.sound))
-        (found_version _ _ _ _ c.self.invariant _ _ _ _ finds way) in
+    (found_version _ _ _ _ c.self.invariant _ _ _ _ finds way) in
     sym c.self.view_is ∙ finds.first
     ∙ ap (λ k. (k, found) ∷ pairs_left slots (at + 1)) (sym is)
     ∙ ap (λ v. (g.K.Key.data_of c.from-key.result, v) ∷ pairs_left slots (at + 1)) value

@@ -18,7 +18,7 @@ returns-in-InsertWith-clause-step g c =
 pub returns-in-Get-clause-step : goal.returns-in-Get-clause-step
 returns-in-Get-clause-step g c =
     rw c.in-Get.is (looked _ _ _ c.requires.ready.1.3 c.in-Get.key c.get.result c.map.result _
-        (λ x r h. record { shown = x; shows = refl; says = record { met = h } }) (keeps_itself _) c.get.ensures.value c.map.ensures.cases)
+    (λ x r h. record { shown = x; shows = refl; says = record { met = h } }) (keeps_itself _) c.get.ensures.value c.map.ensures.cases)
 
 pub returns-in-Contains-clause-step : goal.returns-in-Contains-clause-step
 returns-in-Contains-clause-step g c =
@@ -49,7 +49,7 @@ returns-in-Retain-clause-step g c =
 pub retain-requires : goal.retain-requires
 retain-requires g c =
     callable_on_each _ _ _ _ (mut_by _ (λ (s : Bor g.row.P.Denot). always_fn g.P.Fn s.now) (λ s a i n. i.at _)
-        (λ s a r t i e. subst (λ (y : Bor g.row.P.Denot). always_fn g.P.Fn y.now) (sym e.met.2) i) _ c.requires.ready.1.1)
+    (λ s a r t i e. subst (λ (y : Bor g.row.P.Denot). always_fn g.P.Fn y.now) (sym e.met.2) i) _ c.requires.ready.1.1)
 
 pub returns-in-Clear-clause-step : goal.returns-in-Clear-clause-step
 returns-in-Clear-clause-step g c =
@@ -59,12 +59,12 @@ pub returns-in-Drain-clause-step : goal.returns-in-Drain-clause-step
 returns-in-Drain-clause-step g c =
     let e = c.drain_into-drained.ensures in
     rw c.in-Drain.is (drained _ _ _ c.requires.ready.1.3 c.drain_into-drained.result c.new-pairs.result c.drain_into-drained.new.out c.or_memory.result
-        c.new-pairs.ensures.items c.or_memory.ensures.ok c.or_memory.ensures.err e.ok e.empty e.leaves e.unchanged)
+    c.new-pairs.ensures.items c.or_memory.ensures.ok c.or_memory.ensures.err e.ok e.empty e.leaves e.unchanged)
 
 pub returns-in-Keys-clause-step : goal.returns-in-Keys-clause-step
 returns-in-Keys-clause-step g c =
     rw c.in-Keys.is (listed _ _ _ c.requires.ready.1.3 c.keys_into-listed.result c.new-keys.result c.keys_into-listed.new.out c.or_memory-in-Keys.result
-        c.new-keys.ensures.items c.or_memory-in-Keys.ensures.ok c.or_memory-in-Keys.ensures.err c.keys_into-listed.ensures.ok (keeps_itself _))
+    c.new-keys.ensures.items c.or_memory-in-Keys.ensures.ok c.or_memory-in-Keys.ensures.err c.keys_into-listed.ensures.ok (keeps_itself _))
 
 pub returns-in-Len-clause-step : goal.returns-in-Len-clause-step
 returns-in-Len-clause-step g c =

@@ -11,4 +11,4 @@ returns-clause-which g c =
     let a = c.args.self.now.pairs in
     let b = c.args.other.now.pairs in
     subst (λ r. r ≡ true ↔ AreEqual g.V.PartialEq.eq a b) (sym c.eq.ensures)
-        (equal_maps g.V.PartialEq.eq c.self.inside.slots c.other.inside.slots a b (ap (λ m. m.pairs) c.self.view_is) (ap (λ m. m.pairs) c.other.view_is))
+    (equal_maps g.V.PartialEq.eq c.self.inside.slots c.other.inside.slots a b (ap (λ m. m.pairs) c.self.view_is) (ap (λ m. m.pairs) c.other.view_is))

@@ -4,9 +4,11 @@ use Rattle.slotmap_uses.proofs.entities.World.attach_name.Goals as goal
 use Rattle.slotmap_uses.proofs.entities.World.attach_name.Goals.{in-Ok, in-Err}
 
 pub invariant_of-self : goal.invariant_of-self
-invariant_of-self g c =
-    (c.self.invariant.0, attach_beside _ _ c.contains_key.ensures.valid.content _ c.self.invariant.1 _
-        (sym c.contains_key.ensures.value ∙ c.if-not-contains_key.false) _ _ _ c.insert.ensures.ok c.insert.ensures.unchanged)
+invariant_of-self g c = (
+  c.self.invariant.0,
+  attach_beside _ _ c.contains_key.ensures.valid.content _ c.self.invariant.1 _
+      (sym c.contains_key.ensures.value ∙ c.if-not-contains_key.false) _ _ _ c.insert.ensures.ok c.insert.ensures.unchanged,
+)
 
 pub returns-clause-there : goal.returns-clause-there
 returns-clause-there g c = elim c.match-insert.branch [
@@ -18,4 +20,4 @@ returns-clause-there g c = elim c.match-insert.branch [
 pub returns-clause-others : goal.returns-clause-others
 returns-clause-others g c q other =
     rw (← c.self.view_is) (attach_others _ _ c.contains_key.ensures.valid.content _ c.self.invariant.1 _
-        (sym c.contains_key.ensures.value ∙ c.if-not-contains_key.false) _ _ _ c.insert.ensures.ok c.insert.ensures.unchanged q other)
+    (sym c.contains_key.ensures.value ∙ c.if-not-contains_key.false) _ _ _ c.insert.ensures.ok c.insert.ensures.unchanged q other)

@@ -7,4 +7,4 @@ use Rattle.slotmap_uses.proofs.examples.retains.keep_others.Goals as goal
 pub returns : goal.returns
 returns c =
     retained_but _ (λ k. k) (λ a b. nat_eq a.index b.index && nat_eq a.version b.version) same_keys c.args.key
-        (λ f. (closure.captures f).key ≡ c.args.key) (λ f f' key shown after stays holds call. search rules) refl c.retain.ensures.retained
+    (λ f. (closure.captures f).key ≡ c.args.key) (λ f f' key shown after stays holds call. search rules) refl c.retain.ensures.retained

@@ -9,7 +9,7 @@ make_room-requires g c = puts_alone c.self.inside.nodes _ c.args.from c.self.inv
 pub invariant_of-self : goal.invariant_of-self
 invariant_of-self g c =
     out_roomed c.self.inside.nodes c.self.inside.edges.live _ _ c.self.invariant c.args.from _
-        (sym c.contains_key.ensures.value ∙ c.if-not-contains_key.false) c.make_room.ensures.same c.make_room.ensures.others
+    (sym c.contains_key.ensures.value ∙ c.if-not-contains_key.false) c.make_room.ensures.same c.make_room.ensures.others
 
 pub make_room-requires-2 : goal.make_room-requires-2
 make_room-requires-2 g c =

@@ -18,7 +18,7 @@ loop-edge-preserved g c =
     let there : map.get edges c.edge-item.result ≡ Some c.index.result.now = rw (← c.self.view_is) c.index.ensures in
     let leads = listed_from edges c.args.node items c.loop-edge.edge-index c.edge-item.result c.index.result.now c.edges_from-edge-items.ensures c.loop-edge-test.true c.edge-item.is there in
     lead_step edges c.args.node items c.loop-edge.found.items c.push.new.self.items c.loop-edge.edge-index c.edge-item.result c.index.result.now
-        c.loop-edge.invariant c.loop-edge-test.true c.edge-item.is there leads c.in_ok-push.ensures.items
+    c.loop-edge.invariant c.loop-edge-test.true c.edge-item.is there leads c.in_ok-push.ensures.items
 
 pub returns : goal.returns
 returns g c =

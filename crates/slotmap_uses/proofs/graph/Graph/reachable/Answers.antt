@@ -34,7 +34,7 @@ pub loop-at-preserved : goal.loop-at-preserved
 loop-at-preserved g c =
     searching_step c.args.self.now.nodes c.args.self.now.edges.live c.args.from c.loop-at.seen.pairs c.loop-at.found.items c.loop-at.at c.loop-at.invariant c.index-node.result.now
     (omega (arith, c.loop-at.found.ok.0)) c.index-node.ensures c.mark_neighbours.new.seen.pairs c.mark_neighbours.new.found.items
-        c.in_ok-mark_neighbours.ensures.finds c.in_ok-mark_neighbours.ensures.next
+    c.in_ok-mark_neighbours.ensures.finds c.in_ok-mark_neighbours.ensures.next
 
 pub returns-clause-once : goal.returns-clause-once
 returns-clause-once g c x = listed_once c.loop-at.seen.pairs c.loop-at.found.items c.loop-at.invariant.listed x

@@ -12,15 +12,15 @@ invariant_of-self-in-Ok g c =
     let fresh = inserted_fresh true _ _ _ _ c.add.ensures.valid.before c.in-Ok.ensures.ok in
     let put = at_ok _ (sym c.is_err.ensures.value ∙ c.if-is_err.false) c.insert.ensures.updates in
     let again = queued_again c.self.inside.jobs.live c.self.inside.count c.self.inside.queue c.self.invariant c.insert.new.self c.args.time _ put
-            c.insert-in-Ok.result c.insert-in-Ok.ensures.absent c.insert-in-Ok.ensures.updates in
+    c.insert-in-Ok.result c.insert-in-Ok.ensures.absent c.insert-in-Ok.ensures.updates in
     rw c.in-Ok.ensures.ok.live (queue_scheduled c.self.inside.jobs.live c.self.inside.count c.self.inside.queue c.self.invariant c.insert.new.self
-        c.args.time _ put c.insert-in-Ok.new.self _ _ fresh again)
+    c.args.time _ put c.insert-in-Ok.new.self _ _ fresh again)
 
 pub invariant_of-self-in-Err : goal.invariant_of-self-in-Err
 invariant_of-self-in-Err g c =
     let put = at_ok _ (sym c.is_err.ensures.value ∙ c.if-is_err.false) c.insert.ensures.updates in
     rw (c.in-Err.ensures.valid.unchanged refl).live (queue_undone c.self.inside.jobs.live c.self.inside.count c.self.inside.queue c.self.invariant
-        c.insert.new.self c.args.time _ put c.remove.new.self c.remove.ensures.updates)
+    c.insert.new.self c.args.time _ put c.remove.new.self c.remove.ensures.updates)
 
 pub returns-in-Ok-clause-stale : goal.returns-in-Ok-clause-stale
 returns-in-Ok-clause-stale g c = rw (← c.self.view_is) (spent_inserts _ _ true c.add.ensures.valid.before _ _ c.in-Ok.ensures.ok)

@@ -9,12 +9,12 @@ use Rattle.slotmap_uses.proofs.stable_list.StableList.get.Goals as goal
 pub returns-clause-value : goal.returns-clause-value
 returns-clause-value g c =
     ap (option_map (λ n. n.value)) (rw c.in_ok-node.was at c.get.ensures.value) ∙ value_found _ _ _ _ c.args.cursor c.self.invariant
-        ∙ ap (λ l. map.find key_cmp c.args.cursor l) (elements_are c.self.view_is)
+    ∙ ap (λ l. map.find key_cmp c.args.cursor l) (elements_are c.self.view_is)
 
 pub returns-in_err-node-clause-value : goal.returns-in_err-node-clause-value
 returns-in_err-node-clause-value g c =
     rw c.from_residual.ensures (ap (option_map (λ n. n.value)) (rw c.in_err-node.was at c.get.ensures.value)
-        ∙ value_found _ _ _ _ c.args.cursor c.self.invariant ∙ ap (λ l. map.find key_cmp c.args.cursor l) (elements_are c.self.view_is))
+    ∙ value_found _ _ _ _ c.args.cursor c.self.invariant ∙ ap (λ l. map.find key_cmp c.args.cursor l) (elements_are c.self.view_is))
 
 pub returns-clause-gone : goal.returns-clause-gone
 returns-clause-gone g c = rw (← c.self.view_is) (λ spent. absurd (let h = rw c.in_ok-node.was at c.get.ensures.value ∙ gone_finds_nothing _ c.args.cursor spent in cc))

@@ -32,7 +32,7 @@ link-requires-clause-prev_stands g c =
     let chain = subst (IsChain c.self.inside.nodes.live c.self.inside.first c.self.inside.last) (elements_are c.self.view_is) c.self.invariant in
     let both = two c.args.cursor c.args.other c.args.self.now.elements (sym c.has_two.ensures ∙ c.if-not-has_two.false) in
     prev_stands _ _ c.unlink.new.nodes.live _ _ _ _ None None _ _ chain c.unlink.ensures.unlinks _ _
-        (ahead _ _ c.unlink.new.nodes.live _ _ _ _ None None _ _ chain c.unlink.ensures.unlinks c.args.other c.index.result.now both.0 c.index.ensures)
+    (ahead _ _ c.unlink.new.nodes.live _ _ _ _ None None _ _ chain c.unlink.ensures.unlinks c.args.other c.index.result.now both.0 c.index.ensures)
 
 pub invariant_of-self : goal.invariant_of-self
 invariant_of-self g c =

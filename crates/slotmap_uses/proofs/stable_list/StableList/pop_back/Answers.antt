@@ -19,5 +19,5 @@ pub returns-clause-back : goal.returns-clause-back
 returns-clause-back g c =
     let last : c.self.inside.last ≡ last_or c.args.self.now.elements None = c.self.invariant.last_is ∙ ap (λ l. last_or l None) (elements_are c.self.view_is) in
     back_off c.args.self.now.elements c.in_ok-cursor.cursor c.in_ok-value.value (subst IsOnce (elements_are c.self.view_is) c.self.invariant.once)
-        (sym last ∙ c.in_ok-cursor.was) (sym (rw c.in_ok-value.was at c.remove.ensures.value))
+    (sym last ∙ c.in_ok-cursor.was) (sym (rw c.in_ok-value.was at c.remove.ensures.value))
     ∙ ap (λ l. l ++ (c.in_ok-cursor.cursor, c.in_ok-value.value) ∷ []) (sym c.remove.ensures.removed)

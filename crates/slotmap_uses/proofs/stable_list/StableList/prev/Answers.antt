@@ -9,4 +9,4 @@ returns g c = prev_found _ _ _ _ c.args.cursor _ c.self.invariant (sym (rw c.in_
 pub returns-in_err-get : goal.returns-in_err-get
 returns-in_err-get g c =
     rw c.from_residual.ensures (prev_absent _ _ _ _ c.args.cursor c.self.invariant (sym (rw c.in_err-get.was at c.get.ensures.value))
-        ∙ ap (key_before None c.args.cursor) (elements_are c.self.view_is))
+    ∙ ap (key_before None c.args.cursor) (elements_are c.self.view_is))

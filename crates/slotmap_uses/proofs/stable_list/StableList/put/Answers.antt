@@ -12,32 +12,53 @@ pub set_next-requires : goal.set_next-requires
 set_next-requires g c =
     let chain = subst (IsChain c.self.inside.nodes.live c.self.inside.first c.self.inside.last) (elements_are c.self.view_is) c.self.invariant in
     if_some (λ l. map.contains_key c.add.new.nodes.live l ≡ true) c.args.prev
-        (λ l is. rw c.in_ok-key.ensures.ok.live (stands-insert _ _ _ l
-        (gap_prev _ _ _ c.args.prev c.args.next c.args.self.now.elements c.requires chain l is)))
+    (λ l is. rw c.in_ok-key.ensures.ok.live (stands-insert _ _ _ l
+    (gap_prev _ _ _ c.args.prev c.args.next c.args.self.now.elements c.requires chain l is)))
 
 pub set_prev-requires : goal.set_prev-requires
 set_prev-requires g c =
     let chain = subst (IsChain c.self.inside.nodes.live c.self.inside.first c.self.inside.last) (elements_are c.self.view_is) c.self.invariant in
     if_some (λ b. map.contains_key c.set_next.new.nodes.live b ≡ true) c.args.next
-        (λ b is. rw (c.set_next.ensures.nodes, c.in_ok-key.ensures.ok.live)
-        (stands-with_next _ _ _ b (stands-insert _ _ _ b (gap_next _ _ _ c.args.prev c.args.next c.args.self.now.elements c.requires chain b is))))
+    (λ b is. rw (c.set_next.ensures.nodes, c.in_ok-key.ensures.ok.live)
+    (stands-with_next _ _ _ b (stands-insert _ _ _ b (gap_next _ _ _ c.args.prev c.args.next c.args.self.now.elements c.requires chain b is))))
 
 pub invariant_of-self-2 : goal.invariant_of-self-2
 invariant_of-self-2 g c =
     let chain = subst (IsChain c.self.inside.nodes.live c.self.inside.first c.self.inside.last) (elements_are c.self.view_is) c.self.invariant in
     let here = put_in _ _ _ c.args.prev c.args.next c.args.self.now.elements c.requires c.in_ok-key.key c.args.value chain c.in_ok-key.ensures.fresh in
     self_chain c.set_prev.new.nodes.live c.set_next.new.first c.set_prev.new.last (c.requires.0 ++ (c.in_ok-key.key, c.args.value) ∷ c.requires.1.0)
-        (rw (c.set_prev.ensures.nodes, c.set_next.ensures.nodes, c.in_ok-key.ensures.ok.live, c.set_next.ensures.first, c.set_prev.ensures.last,
-        c.same.ensures, c.same-2.ensures) here)
+    (rw (
+      c.set_prev.ensures.nodes,
+      c.set_next.ensures.nodes,
+      c.in_ok-key.ensures.ok.live,
+      c.set_next.ensures.first,
+      c.set_prev.ensures.last,
+      c.same.ensures,
+      c.same-2.ensures,
+    ) here)
 
 pub returns-clause-ok : goal.returns-clause-ok
 returns-clause-ok g c =
     let chain = subst (IsChain c.self.inside.nodes.live c.self.inside.first c.self.inside.last) (elements_are c.self.view_is) c.self.invariant in
-    let here = put_in _ _ _ c.args.prev c.args.next c.args.self.now.elements c.requires c.in_ok-key.key c.args.value chain c.in_ok-key.ensures.fresh in
-    (c.requires.0, (c.requires.1.0, c.requires.1.1, c.requires.1.2, c.requires.1.3,
+    let here = put_in _ _ _ c.args.prev c.args.next c.args.self.now.elements c.requires c.in_ok-key.key c.args.value chain c.in_ok-key.ensures.fresh in (
+      c.requires.0,
+      (
+        c.requires.1.0,
+        c.requires.1.1,
+        c.requires.1.2,
+        c.requires.1.3,
         chain_is c.set_prev.new.nodes.live c.set_next.new.first c.set_prev.new.last (c.requires.0 ++ (c.in_ok-key.key, c.args.value) ∷ c.requires.1.0)
-        (rw (c.set_prev.ensures.nodes, c.set_next.ensures.nodes, c.in_ok-key.ensures.ok.live, c.set_next.ensures.first, c.set_prev.ensures.last,
-        c.same.ensures, c.same-2.ensures) here)))
+            (rw (
+              c.set_prev.ensures.nodes,
+              c.set_next.ensures.nodes,
+              c.in_ok-key.ensures.ok.live,
+              c.set_next.ensures.first,
+              c.set_prev.ensures.last,
+              c.same.ensures,
+              c.same-2.ensures,
+            ) here),
+      ),
+    )
 
 pub returns-clause-fresh : goal.returns-clause-fresh
 returns-clause-fresh g c =

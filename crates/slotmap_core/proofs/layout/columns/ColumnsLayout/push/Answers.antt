@@ -9,4 +9,4 @@ returns-clause-pushed g c =
     let m = c.self.inside in
     rw (c.push_reserved.ensures.items, c.push_reserved-2.ensures.items, c.push_reserved-3.ensures.items, ← c.self.view_is)
     (laid-push m.versions.items m.numbers.items m.payloads.items c.args.version 0 InUse
-        (Some c.args.payload) c.self.invariant.numbers_length c.self.invariant.payloads_length (link-used c.args.version 0 c.requires.odd))
+    (Some c.args.payload) c.self.invariant.numbers_length c.self.invariant.payloads_length (link-used c.args.version 0 c.requires.odd))

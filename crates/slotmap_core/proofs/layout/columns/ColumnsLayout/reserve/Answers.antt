@@ -18,5 +18,5 @@ returns-clause-grows g c =
     let m = c.self.inside in
     rw (← c.self.view_is) (c.room-self-inside.ensures.greatest m.capacity c.self.invariant.limit
     (omega (arith, c.self.invariant.versions_fit, c.reserve-3.ensures.capacity))
-        (omega (arith, c.self.invariant.numbers_fit, c.reserve-2.ensures.capacity))
-        (omega (arith, c.self.invariant.payloads_fit, c.reserve.ensures.capacity)))
+    (omega (arith, c.self.invariant.numbers_fit, c.reserve-2.ensures.capacity))
+    (omega (arith, c.self.invariant.payloads_fit, c.reserve.ensures.capacity)))

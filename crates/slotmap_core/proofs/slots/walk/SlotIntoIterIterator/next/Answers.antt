@@ -15,7 +15,7 @@ index-version-requires g c =
 pub exact-key-requires : goal.exact-key-requires
 exact-key-requires g c =
     let n = next g (goal.at.exact-key-requires g c).After-next_odd-index in n.is_key _
-        (same_read c.self.inside.versions.items c.next_odd-index.result _ _ c.index-version.ensures n.version_there) c.type_inv.version.fits
+    (same_read c.self.inside.versions.items c.next_odd-index.result _ _ c.index-version.ensures n.version_there) c.type_inv.version.fits
 
 pub index_mut-requires : goal.index_mut-requires
 index_mut-requires g c =
@@ -24,7 +24,7 @@ index_mut-requires g c =
 pub sure-payload-requires : goal.sure-payload-requires
 sure-payload-requires g c =
     ap is_some (c.take.ensures.value ∙ same_read c.self.inside.payloads.items c.next_odd-index.result _ _ c.index_mut.ensures.value
-        (next g (goal.at.sure-payload-requires g c).After-next_odd-index).value_there)
+    (next g (goal.at.sure-payload-requires g c).After-next_odd-index).value_there)
 
 pub invariant_of-self : goal.invariant_of-self
 invariant_of-self g c = IsWalk-taken _ _ _ _ _ (next g (goal.at.invariant_of-self g c).After-next_odd-index).walk_on
@@ -34,7 +34,7 @@ returns-clause-steps g c =
     let n = next g (goal.at.returns-clause-steps g c).After-next_odd-index in
     let version = same_read c.self.inside.versions.items c.next_odd-index.result _ _ c.index-version.ensures n.version_there in
     let shown : c.sure-payload.result ≡ n.value = same_Some _ _ (sym c.sure-payload.ensures ∙ c.take.ensures.value
-            ∙ same_read c.self.inside.payloads.items c.next_odd-index.result _ _ c.index_mut.ensures.value n.value_there) in
+    ∙ same_read c.self.inside.payloads.items c.next_odd-index.result _ _ c.index_mut.ensures.value n.value_there) in
     sym c.self.view_is ∙ n.first ∙ rw (c.exact-key.ensures, version, shown, left-taken) refl
 
 pub returns-clause-goes : goal.returns-clause-goes

@@ -18,8 +18,8 @@ exact-key-requires g c =
 pub sure-payload-requires : goal.sure-payload-requires
 sure-payload-requires g c =
     c.as_ref.ensures.variant ∙ ap is_some (sym c.index-self-index.is
-        ∙ same_read c.self.inside.payloads.now c.next_odd-index.result _ _ c.index-self-index.is
-        (next g (goal.at.sure-payload-requires g c).After-next_odd-index).value_there)
+    ∙ same_read c.self.inside.payloads.now c.next_odd-index.result _ _ c.index-self-index.is
+    (next g (goal.at.sure-payload-requires g c).After-next_odd-index).value_there)
 
 pub invariant_of-self : goal.invariant_of-self
 invariant_of-self g c = (next g (goal.at.invariant_of-self g c).After-next_odd-index).walk_on
@@ -29,7 +29,7 @@ returns-clause-steps g c =
     let n = next g (goal.at.returns-clause-steps g c).After-next_odd-index in
     let version = same_Some _ _ (sym c.version_in-version.ensures ∙ n.version_there) in
     let shown : c.sure-payload.result.now ≡ n.value = same_Some _ _ (sym (ap option_copied c.sure-payload.ensures) ∙ c.as_ref.ensures.value
-            ∙ sym c.index-self-index.is ∙ same_read c.self.inside.payloads.now c.next_odd-index.result _ _ c.index-self-index.is n.value_there) in
+    ∙ sym c.index-self-index.is ∙ same_read c.self.inside.payloads.now c.next_odd-index.result _ _ c.index-self-index.is n.value_there) in
     sym c.self.view_is ∙ n.first ∙ rw (c.exact-key.ensures, version, shown) refl
 
 pub returns-clause-goes : goal.returns-clause-goes
