@@ -2,21 +2,23 @@
 //!
 //! For the crates of the maps: their code takes out what is known to be there.
 
-ghost use Rattle.std.specs.Prelude.{◌≡◌, IsSome, Some};
+ghost use Rattle.std.specs.Prelude.{◌≡◌, IsSome, Some, false};
 ghost use Rattle.std.specs.Borrow.{sem, Lends};
 ghost use Rattle.std.specs.contracts.option.Option.{the_row};
 
-/// Stands where control is proved never to come, as `unreachable!` does.
+/// Rules a case out, which is proved never to come: it stands before `unreachable!`.
 ///
-/// The code of `unreachable!` is a trap, so a test leads there. Here a write to a place that no
-/// slice has comes before it. LLVM knows that no such write runs, and leaves out the test.
+/// The code of `unreachable!` alone is a trap, so a test leads there. Here a write to a place that
+/// no slice has comes before it. LLVM knows that no such write runs, and leaves out the test.
 #[inline(always)]
-pub fn never() -> !
-    requires { ⊥ }
+pub fn rule_out(case: bool)
+    requires { case ≡ false }
+    ensures { case ≡ false }
 {
-    let nowhere: &mut [u8] = &mut [];
-    nowhere[1 << 64] = 0;
-    unreachable!()
+    if case {
+        let nowhere: &mut [u8] = &mut [];
+        nowhere[1 << 64] = 0;
+    }
 }
 
 /// Returns what an option holds, as `unwrap` does, with no test.
@@ -27,7 +29,10 @@ pub fn sure<T>(option: Option<T>) -> T
 {
     match option {
         Some(value) => value,
-        None => never(),
+        None => {
+            rule_out(true);
+            unreachable!()
+        }
     }
 }
 
@@ -40,6 +45,9 @@ pub fn sure_mut<T>(option: &mut Option<T>) -> &mut T
 {
     match option {
         Some(value) => value,
-        None => never(),
+        None => {
+            rule_out(true);
+            unreachable!()
+        }
     }
 }

@@ -10,7 +10,7 @@ ghost use Rattle.slotmap_hop.specs.HopContent.{IsHopContent, StaysHop, hop_with_
 use crate::HopSlotMap;
 use crate::links::State;
 use slotmap_core::keys::Key;
-use slotmap_core::sure::never;
+use slotmap_core::sure::rule_out;
 use std::mem;
 use std::ops::{Index, IndexMut};
 
@@ -67,7 +67,10 @@ impl<K: Key, V: Drop> HopSlotMap<K, V> {
         let index = self.live_index(key)?;
         match &self.slots[index].state {
             State::Occupied(value) => Some(value),
-            _ => never(),
+            _ => {
+                rule_out(true);
+                unreachable!()
+            }
         }
     }
 
@@ -87,7 +90,10 @@ impl<K: Key, V: Drop> HopSlotMap<K, V> {
         let index = key.data().idx() as usize;
         match &self.slots[index].state {
             State::Occupied(value) => value,
-            _ => never(),
+            _ => {
+                rule_out(true);
+                unreachable!()
+            }
         }
     }
 
@@ -132,7 +138,10 @@ impl<K: Key, V: Drop> HopSlotMap<K, V> {
         let index = key.data().idx() as usize;
         match &mut self.slots[index].state {
             State::Occupied(value) => value,
-            _ => never(),
+            _ => {
+                rule_out(true);
+                unreachable!()
+            }
         }
     }
 

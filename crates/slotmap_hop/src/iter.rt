@@ -11,7 +11,7 @@ use crate::HopSlotMap;
 use crate::counted::CountedSlots;
 use crate::links::{Slot, State, links_at};
 use slotmap_core::keys::{Key, KeyData};
-use slotmap_core::sure::never;
+use slotmap_core::sure::rule_out;
 use std::alloc::AllocError;
 use std::iter::FusedIterator;
 use std::marker::{Model, PhantomData};
@@ -69,7 +69,8 @@ pub(crate) fn next_live<'a, V>(
             _ => place += 1,
         }
     }
-    never()
+    rule_out(true);
+    unreachable!()
 }
 
 impl<'a, K, V> Iter<'a, K, V> {
@@ -150,7 +151,10 @@ impl<'a, K: Key, V> Iterator for Iter<'a, K, V> {
         let (key, slot) = self.step()?;
         match &slot.state {
             State::Occupied(value) => Some((key, value)),
-            _ => never(),
+            _ => {
+                rule_out(true);
+                unreachable!()
+            }
         }
     }
 

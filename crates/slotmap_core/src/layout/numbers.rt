@@ -6,7 +6,7 @@ ghost use Rattle.slotmap_core.specs.Numbers.{link_of, number_of};
 ghost use Rattle.slotmap_core.specs.declared.layout.Link.TheVariants.{InUse};
 
 use super::Link;
-use crate::sure::never;
+use crate::sure::rule_out;
 
 // The number of a detached slot. No slot has this index.
 const DETACHED: u32 = 4294967295;
@@ -21,7 +21,10 @@ pub(super) fn number_for(link: Link) -> u32
     ensures { result ≡ number_of link }
 {
     match link {
-        Link::InUse => never(),
+        Link::InUse => {
+            rule_out(true);
+            unreachable!()
+        }
         Link::Free(next) => next,
         Link::Detached => DETACHED,
         Link::Retired => RETIRED,

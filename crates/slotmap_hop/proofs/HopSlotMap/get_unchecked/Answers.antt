@@ -8,10 +8,10 @@ index-requires g c =
     let found = present _ _ _ c.self.invariant _ (ap (λ m. m.content.live) c.self.view_is) _ _ _ (c.idx-index.ensures.value ∙ ap (λ k. k.index) c.data.ensures.value) refl c.requires in
     omega (arith, found.within, c.self.inside.slots.ok.0)
 
-pub never-requires : goal.never-requires
-never-requires g c =
+pub rule_out-requires : goal.rule_out-requires
+rule_out-requires g c =
     let found = present _ _ _ c.self.invariant _ (ap (λ m. m.content.live) c.self.view_is) _ _ _ (c.idx-index.ensures.value ∙ ap (λ k. k.index) c.data.ensures.value) refl c.requires in
-    c.in_default.not-Occupied found.value (ap (λ s. s.state) (same_read c.self.inside.slots.items c.idx-index.result _ _ c.index.ensures found.found) ∙ found.state_is)
+    absurd (c.in_default.not-Occupied found.value (ap (λ s. s.state) (same_read c.self.inside.slots.items c.idx-index.result _ _ c.index.ensures found.found) ∙ found.state_is))
 
 pub returns-clause-value : goal.returns-clause-value
 returns-clause-value g c =
