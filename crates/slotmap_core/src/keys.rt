@@ -72,8 +72,15 @@ impl KeyData {
         }
     }
 
-    // Returns the key data of an index and a version that are those of a key.
-    pub(crate) fn exact(idx: u32, version: u32) -> KeyData
+    /// Returns the key data of an index and a version that are those of a key.
+    ///
+    /// The contract asks for an odd version and, at the greatest index, for version 1. In contrast to
+    /// `new` nothing is tested or changed. Constant time. Rust lacks this call.
+    ///
+    /// ```
+    /// assert_eq!(rt; KeyData::exact(2, 3), KeyData::new(2, 3));
+    /// ```
+    pub fn exact(idx: u32, version: u32) -> KeyData
         requires { IsKey (record { index = idx; version = version }) }
         ensures { result ≡ record { index = idx; version = version } }
     {
