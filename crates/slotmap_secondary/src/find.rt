@@ -64,7 +64,7 @@ impl<K: Key, V: Drop> SecondaryMap<K, V> {
     {
         match self.slots.get(index)? {
             Slot::Vacant(_) => None,
-            Slot::Occupied(version, _) => Some(K::from(KeyData::new(index as u32, *version))),
+            Slot::Occupied(version, _) => Some(K::from(KeyData::exact(index as u32, *version))),
         }
     }
 }

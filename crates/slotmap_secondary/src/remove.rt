@@ -56,7 +56,7 @@ impl<K: Key, V: Drop> SecondaryMap<K, V> {
             Slot::Vacant(_) => None,
             Slot::Occupied(version, value) => {
                 self.len -= 1;
-                Some((K::from(KeyData::new(index as u32, version)), value))
+                Some((K::from(KeyData::exact(index as u32, version)), value))
             }
         }
     }

@@ -2,7 +2,6 @@ use Rattle.std.proofs.Common.{◌≡◌, ◌<◌, length, set, slice_get, Some, 
 use Rattle.std.proofs.lemmas.List.{set-get_or, length-set}
 use Rattle.slotmap_core.specs.Key.{Key}
 use Rattle.slotmap_core.specs.Secondary.{get}
-use Rattle.slotmap_core.proofs.KeyLemmas.{key_from-odd}
 use Rattle.slotmap_secondary.specs.declared.slot.Slot.TheVariants.{Vacant}
 use Rattle.slotmap_secondary.proofs.SlotLemmas.{IsSound-clear, content-clear, some_left, valid}
 use Rattle.slotmap_secondary.proofs.ReadLemmas.{there_read, nothing-here, key-here}
@@ -45,6 +44,13 @@ invariant_of-self-in-Occupied g c =
     let there = there_read slots c.args.index _ _ c.index_mut.ensures.value within (sym c.replace.ensures.value ∙ c.in-Occupied.is) in
     rw (c.replace.ensures.after) (IsSound-clear slots _ c.self.invariant (record { index = c.args.index; version = c.in-Occupied.version }) _ there)
 
+pub exact-requires : goal.exact-requires
+exact-requires g c =
+    let slots = c.self.inside.slots.items in
+    let within : c.args.index < length slots = omega (arith, c.requires, ap (λ m. m.places) c.self.view_is) in
+    let there = there_read slots c.args.index _ _ c.index_mut.ensures.value within (sym c.replace.ensures.value ∙ c.in-Occupied.is) in
+    (key-here slots _ (ap (λ m. m.pairs) c.self.view_is) c.args.index _ c.self.invariant _ _ there).0
+
 pub returns-in-Occupied-clause-takes : goal.returns-in-Occupied-clause-takes
 returns-in-Occupied-clause-takes g c =
     let slots = c.self.inside.slots.items in
@@ -53,8 +59,7 @@ returns-in-Occupied-clause-takes g c =
     let k : Key = record { index = c.args.index; version = c.in-Occupied.version } in
     let key = key-here slots _ (ap (λ m. m.pairs) c.self.view_is) c.args.index _ c.self.invariant _ _ there in
     let is : g.K.Key.data_of c.from.result ≡ k =
-    ap g.K.Key.data_of (g.met.K.Key.from_gives_key _ _ c.from.ensures) ∙ g.met.K.Key.from_data _ c.new.ensures.valid ∙ c.new.ensures.value
-    ∙ key_from-odd c.args.index c.in-Occupied.version key.1.1 key.0.odd in (
+    ap g.K.Key.data_of (g.met.K.Key.from_gives_key _ _ c.from.ensures) ∙ g.met.K.Key.from_data _ (rw c.exact.ensures key.0) ∙ c.exact.ensures in (
       ap (λ q. q.index) is,
       (
         subst (λ q. get c.args.self.now.pairs q ≡ Some c.in-Occupied.value) (sym is) key.1.0,
