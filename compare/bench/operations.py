@@ -31,7 +31,8 @@ PRIMARY = [
     Operation("get-mut", "GetMut", "`get_mut`, and a write", each),
     Operation("index", "Index", "`contains_key`, then `map[key]`", each),
     Operation("churn", "Churn", "a removal and an insert", each),
-    Operation("detach", "Detach", "`detach` and `reattach`", each),
+    Operation("detach", "Detach", "`detach` and at once `reattach`", each),
+    Operation("detach-all", "DetachAll", "`detach` of all keys, then `reattach`", each),
     Operation("iter-full", "IterFull", "a step of `iter`, all slots live", each),
     Operation("iter-half", "IterHalf", "a step of `iter`, every other slot live", half),
     Operation("iter-few", "IterFew", "a step of `iter`, 1 slot in 100 live", few),
@@ -75,7 +76,7 @@ FAMILIES = {"Primary": PRIMARY, "Secondary": SECONDARY}
 MAPS = [
     Map("basic", 0, "SlotMap", "slotmap_basic", "Primary", ["iter-mut"]),
     Map("dense", 1, "DenseSlotMap", "slotmap_dense", "Primary", []),
-    Map("hop", 2, "HopSlotMap", "slotmap_hop", "Primary", ["iter-mut", "detach"]),
+    Map("hop", 2, "HopSlotMap", "slotmap_hop", "Primary", ["iter-mut", "detach", "detach-all"]),
     Map("secondary", 3, "SecondaryMap", "slotmap_secondary", "Secondary", []),
     Map("sparse", 4, "SparseSecondaryMap", "slotmap_sparse", "Secondary", []),
     Map("folded", 5, "SparseSecondaryMap", "slotmap_sparse", "Secondary", []),

@@ -7,9 +7,9 @@ use crate::value::{Sum, Value, number};
 use slotmap::{DefaultKey, DenseSlotMap, HopSlotMap, SlotMap};
 use std::hint::black_box;
 
-/// The operations of one map. Not each map has the calls of the last two.
+/// The operations of one map. Not each map has the calls of the last three.
 macro_rules! primary_map {
-    ($module:ident, $map:ident, $detach:expr, $iter_mut:expr) => {
+    ($module:ident, $map:ident, $detach:expr, $detach_all:expr, $iter_mut:expr) => {
         pub mod $module {
             use super::*;
 
@@ -217,6 +217,7 @@ macro_rules! primary_map {
                     Primary::Index => shuffled::<6>(n, rounds, |map, keys, _| index_all(map, keys)),
                     Primary::Churn => shuffled::<7>(n, rounds, churn),
                     Primary::Detach => shuffled::<8>(n, rounds, $detach?),
+                    Primary::DetachAll => shuffled::<24>(n, rounds, $detach_all?),
                     Primary::IterFull => thinned::<9>(n, rounds, 0, false),
                     Primary::IterHalf => thinned::<10>(n, rounds, n / 2, false),
                     Primary::IterFew => thinned::<11>(n, rounds, n / 100 * 99, false),
@@ -247,7 +248,7 @@ macro_rules! primary_map {
 /// One round on a map, if the map has the call.
 type Round<M> = Option<fn(&mut M, &mut [DefaultKey], u64) -> u64>;
 
-macro_rules! detach_all {
+macro_rules! detach_at_once {
     ($name:ident, $map:ident) => {
         fn $name<const AT: u32>() -> Round<$map<DefaultKey, Value<AT>>> {
             Some(|map, keys, _| {
@@ -264,8 +265,30 @@ macro_rules! detach_all {
         }
     };
 }
-detach_all!(detach_basic, SlotMap);
-detach_all!(detach_dense, DenseSlotMap);
+detach_at_once!(detach_basic, SlotMap);
+detach_at_once!(detach_dense, DenseSlotMap);
+
+macro_rules! detach_all {
+    ($name:ident, $map:ident) => {
+        fn $name<const AT: u32>() -> Round<$map<DefaultKey, Value<AT>>> {
+            Some(|map, keys, round| {
+                let mut sum = Sum::default();
+                for key in keys.iter() {
+                    if let Some(value) = map.detach(*key) {
+                        sum.add(value.0);
+                    }
+                }
+                for key in keys {
+                    map.reattach(*key, Value(number(*key) ^ round));
+                    sum.add(1);
+                }
+                sum.0
+            })
+        }
+    };
+}
+detach_all!(detach_all_basic, SlotMap);
+detach_all!(detach_all_dense, DenseSlotMap);
 
 fn iter_mut_dense<const AT: u32>() -> Round<DenseSlotMap<DefaultKey, Value<AT>>> {
     Some(|map, _, _| {
@@ -280,6 +303,6 @@ fn no_call<M>() -> Round<M> {
     None
 }
 
-primary_map!(basic, SlotMap, detach_basic(), no_call());
-primary_map!(dense, DenseSlotMap, detach_dense(), iter_mut_dense());
-primary_map!(hop, HopSlotMap, no_call(), no_call());
+primary_map!(basic, SlotMap, detach_basic(), detach_all_basic(), no_call());
+primary_map!(dense, DenseSlotMap, detach_dense(), detach_all_dense(), iter_mut_dense());
+primary_map!(hop, HopSlotMap, no_call(), no_call(), no_call());
