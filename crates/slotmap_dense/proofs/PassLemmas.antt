@@ -17,7 +17,7 @@ use Rattle.slotmap_core.proofs.LeaveLemmas.{Leaves-refl, Leaves-trans, Leaves-wi
 use Rattle.slotmap_core.proofs.VisitLemmas.{Visits, Visits-start, Visits-call, Visits-rest, Visits-listed, Visits-stay}
 use Rattle.slotmap_dense.specs.Dense.{Dense, IsDense, with_value_of}
 use Rattle.slotmap_dense.specs.Packed.{IsSound, dense_of, at_position}
-use Rattle.slotmap_dense.specs.Pass.{Stage, stage, Calls, Keeps, Passes, MayPass, beside, in_order}
+use Rattle.slotmap_dense.specs.Pass.{Stage, stage, Calls, Keeps, Passes, MayPass, beside, packed_order}
 use Rattle.slotmap_dense.specs.Retain.{dropped, PacksBy, RetainsPacked}
 use Rattle.slotmap_dense.specs.Rest.{rest_of, LeavesFrom}
 use Rattle.slotmap_dense.proofs.PackedLemmas.{get-packed}
@@ -40,7 +40,7 @@ module _ {F K V : Type 0} (g : Mut F (K × (MutBor V × Unit {0})) (Bool × (Mut
     whole s = stage s.position (dense_of slots keys s.held spare) s.closure
 
     pub shows-whole : (values : List V) → IsSound slots keys values → (p : ℕ) (key : K) (v : V) → (beside {V = V} data_of keys).Shows values p key v
-        → (in_order {V = V} data_of).Shows (dense_of slots keys values spare) p key v
+        → (packed_order {V = V} data_of).Shows (dense_of slots keys values spare) p key v
     shows-whole values sound p key v shows =
         let k = data_of key in (
           Comes-at slots keys values sound spare p k shows.0,
@@ -48,7 +48,7 @@ module _ {F K V : Type 0} (g : Mut F (K × (MutBor V × Unit {0})) (Bool × (Mut
         )
 
     pub calls-whole : (s t : Stage F (List V)) (x : Visit K V) → IsSound slots keys s.held → Calls (beside data_of keys) g s x t
-        → Calls (in_order data_of) g (whole s) x (whole t) × IsSound slots keys t.held
+        → Calls (packed_order data_of) g (whole s) x (whole t) × IsSound slots keys t.held
     calls-whole s t x sound calls =
         let k = data_of x.key in (
           record {
@@ -61,7 +61,7 @@ module _ {F K V : Type 0} (g : Mut F (K × (MutBor V × Unit {0})) (Bool × (Mut
         )
 
     pub kept-whole : (xs : List (Visit K V)) (s t : Stage F (List V)) → IsSound slots keys s.held → FoldsTo (Keeps (beside data_of keys) g) s xs t
-        → FoldsTo (Keeps (in_order data_of) g) (whole s) xs (whole t) × IsSound slots keys t.held
+        → FoldsTo (Keeps (packed_order data_of) g) (whole s) xs (whole t) × IsSound slots keys t.held
     kept-whole [] s t sound run = (ap whole run, subst (λ u. IsSound slots keys u.held) run sound)
     kept-whole (x ∷ xs) s t sound run =
         let one = calls-whole s run.0 x sound run.1.calls in
@@ -69,7 +69,7 @@ module _ {F K V : Type 0} (g : Mut F (K × (MutBor V × Unit {0})) (Bool × (Mut
         ((whole run.0, record { calls = one.0; stays = run.1.stays }, rest.0), rest.1)
 
     pub passes-whole : (s t : Stage F (List V)) → IsSound slots keys s.held → Passes (beside data_of keys) g s t
-        → Passes (in_order data_of) g (whole s) (whole t) × IsSound slots keys t.held
+        → Passes (packed_order data_of) g (whole s) (whole t) × IsSound slots keys t.held
     passes-whole s t sound passes =
         let kept = kept-whole passes.visits s passes.last sound passes.kept in
         elim passes.ends [
@@ -82,7 +82,7 @@ module _ {F K V : Type 0} (g : Mut F (K × (MutBor V × Unit {0})) (Bool × (Mut
               (record { visits = passes.visits; last = whole passes.last; kept = kept.0; ends = inr (one.0, call.0, one.2) }, call.1)
         ]
 
-    pub may-whole : (s : Stage F (List V)) → IsSound slots keys s.held → MayPass (in_order data_of) g (whole s) → MayPass (beside data_of keys) g s
+    pub may-whole : (s : Stage F (List V)) → IsSound slots keys s.held → MayPass (packed_order data_of) g (whole s) → MayPass (beside data_of keys) g s
     may-whole s sound may = record {
       at = λ visits t key shown run shows.
           let kept = kept-whole visits s t sound run in
@@ -112,7 +112,7 @@ module _ {F K V : Type 0} (g : Mut F (K × (MutBor V × Unit {0})) (Bool × (Mut
     }
 
     -- a call writes a value, and the pair isn't to come any more
-    module _ (s t : Stage F (Dense V)) (x : Visit K V) (going : Going s) (calls : Calls (in_order data_of) g s x t) where
+    module _ (s t : Stage F (Dense V)) (x : Visit K V) (going : Going s) (calls : Calls (packed_order data_of) g s x t) where
       abbrev k : Key
       k = data_of x.key
 
@@ -171,12 +171,12 @@ module _ {F K V : Type 0} (g : Mut F (K × (MutBor V × Unit {0})) (Bool × (Mut
           })
 
     -- calls that keep their pairs
-    pub Going-along : (xs : List (Visit K V)) (s t : Stage F (Dense V)) → Going s → FoldsTo (Keeps (in_order data_of) g) s xs t → Going t
+    pub Going-along : (xs : List (Visit K V)) (s t : Stage F (Dense V)) → Going s → FoldsTo (Keeps (packed_order data_of) g) s xs t → Going t
     Going-along [] s t going run = subst Going run going
     Going-along (x ∷ xs) s t going run = Going-along xs run.0 t (Going-kept s run.0 x going run.1.calls run.1.stays) run.2
 
     -- the closure may be called for what is to come
-    pub Going-may : CallableOnEach g data_of first old.content.live → (s : Stage F (Dense V)) → Going s → MayPass (in_order data_of) g s
+    pub Going-may : CallableOnEach g data_of first old.content.live → (s : Stage F (Dense V)) → Going s → MayPass (packed_order data_of) g s
     Going-may callable s going = record {
       at = λ xs t key shown run shows.
           let at = Going-along xs s t going run in
@@ -191,7 +191,7 @@ module _ {F K V : Type 0} (g : Mut F (K × (MutBor V × Unit {0})) (Bool × (Mut
       pub last : Stage F (Dense V)
       pub going : Going last
       pub visit : Visit K V
-      pub calls : Calls (in_order data_of) g last visit t
+      pub calls : Calls (packed_order data_of) g last visit t
       pub stays : visit.stays ≡ false
 
     -- its pair is at the position
@@ -200,7 +200,7 @@ module _ {F K V : Type 0} (g : Mut F (K × (MutBor V × Unit {0})) (Bool × (Mut
         let here = rejects.calls.moves ∙ ap (λ b. cond b (rejects.last.position + 1) rejects.last.position) rejects.stays in
         ap (λ d. slice_get d.keys t.position) rejects.calls.written ∙ ap (slice_get rejects.last.held.keys) here ∙ rejects.calls.shows.0.stands
 
-    module _ (s t : Stage F (Dense V)) (going : Going s) (passes : Passes (in_order data_of) g s t) where
+    module _ (s t : Stage F (Dense V)) (going : Going s) (passes : Passes (packed_order data_of) g s t) where
       -- the position is that of a pair
       pub Going-rejects : t.position < length t.held.keys → Rejects t
       Going-rejects within = elim passes.ends [

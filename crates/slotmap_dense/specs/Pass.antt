@@ -59,8 +59,8 @@ module _ {K V : Type 0} (data_of : K → Key) where
   }
 
   -- a dense map in packed order
-  abbrev pub in_order : Holding (Dense V) K V
-  in_order = record {
+  abbrev pub packed_order : Holding (Dense V) K V
+  packed_order = record {
     Shows = λ d p key v. Comes d p (data_of key) × (map.get d.content.live (data_of key) ≡ Some v);
     put = λ d p key v. with_value_of d (data_of key) v;
     IsEnd = λ d p. length d.keys ≤ p;

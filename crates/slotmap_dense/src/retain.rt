@@ -7,7 +7,7 @@ ghost use Rattle.slotmap_core.specs.Transition.{Leaves, Removes};
 ghost use Rattle.slotmap_core.specs.Listing.{IsListing, IsKeyListing};
 ghost use Rattle.slotmap_core.specs.Retain.{RetainsBy, CallableOnEach};
 ghost use Rattle.slotmap_core.specs.Key.{Key as KeyOf};
-ghost use Rattle.slotmap_dense.specs.Pass.{MayPass, Passes, beside, in_order, stage};
+ghost use Rattle.slotmap_dense.specs.Pass.{MayPass, Passes, beside, packed_order, stage};
 ghost use Rattle.slotmap_dense.specs.Rest.{LeavesFrom};
 ghost use Rattle.slotmap_dense.specs.Dense.{IsDense, IsEmpty, TakesLast, FreesFromBack};
 ghost use Rattle.slotmap_dense.specs.Call.{StaysValid};
@@ -56,8 +56,8 @@ impl<K: Key, V: Drop> DenseSlotMap<K, V> {
     // Returns the position of the pair for which it did, or the number of pairs.
     fn first_rejected<F: FnMut(K, &mut V) -> bool>(&mut self, from: usize, f: &mut F) -> usize
         requires from { from ≤ length self.old.keys }
-        requires callable { MayPass (in_order K.data_of) F.FnMut (stage from self.old f.old) }
-        ensures passes { Passes (in_order K.data_of) F.FnMut (stage from self.old f.old) (stage result self.new f.new) }
+        requires callable { MayPass (packed_order K.data_of) F.FnMut (stage from self.old f.old) }
+        ensures passes { Passes (packed_order K.data_of) F.FnMut (stage from self.old f.old) (stage result self.new f.new) }
         ensures within { result ≤ length self.new.keys }
         ensures keys { self.new.keys ≡ self.old.keys }
         ensures valid { StaysValid self.old self.new }
