@@ -9,6 +9,7 @@ pub mod SweepLemmas
 pub mod RestLemmas
 pub mod DrainLemmas
 pub mod RetainLemmas
+pub mod PassLemmas
 pub mod ListSlots
 pub mod OrderLemmas
 pub mod ListReads

@@ -1,24 +1,13 @@
-use Rattle.std.proofs.Common.{◌≡◌, ◌≤◌, ◌-◌, List, length}
-use Rattle.std.specs.List.{FoldsTo}
-use Rattle.slotmap_core.specs.Retain.{Visit, CallsAt}
-use Rattle.slotmap_core.specs.Transition.{Leaves}
-use Rattle.slotmap_core.proofs.VisitLemmas.{Visits}
-use Rattle.slotmap_dense.specs.Dense.{IsDense}
-use Rattle.slotmap_dense.specs.Rest.{rest_of}
-use Rattle.slotmap_dense.proofs.RetainLemmas.{SoFar}
+use Rattle.std.proofs.Common.{◌≤◌, length}
+use Rattle.slotmap_dense.specs.Pass.{stage}
+use Rattle.slotmap_dense.proofs.PassLemmas.{Going}
 use Rattle.slotmap_dense.proofs.DenseSlotMap.retain.Given as goal
 
 abbrev pub invariant-loop-position : goal.invariant-loop-position
 invariant-loop-position g l = record {
-  well : IsDense l.self;
-  leaves : Leaves l.fn.self.content l.self.content;
-  capacity : l.self.content.capacity ≡ l.fn.self.content.capacity;
+  going : Going g.F.FnMut g.K.Key.data_of l.fn.self l.fn.f (stage l.position l.self l.f);
   within : l.position ≤ length l.self.keys;
-  visits : List (Visit g.row.K.Denot g.row.V.Denot);
-  calls : FoldsTo (CallsAt g.F.FnMut) l.fn.f visits l.f;
-  visited : Visits g.K.Key.data_of l.fn.self.content.live visits (rest_of l.position l.self.keys l.self.values) l.self.content.live;
-  so_far : SoFar g.K.Key.data_of l.fn.self visits l.position l.self;
 }
 
 abbrev pub decreases-loop-position : goal.decreases-loop-position
-decreases-loop-position g l = length l.self.keys - l.position
+decreases-loop-position g l = length l.self.keys

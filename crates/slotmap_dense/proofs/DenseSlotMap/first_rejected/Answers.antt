@@ -1,0 +1,34 @@
+use Rattle.std.proofs.Common.{◌≡◌, length, map as list_map, min, vec_capacity, refl, ap, ◌∙◌}
+use Rattle.std.specs.Vec.{with_items}
+use Rattle.slotmap_dense.specs.Pass.{Passes, beside, stage}
+use Rattle.slotmap_dense.proofs.CallLemmas.{stays-valid}
+use Rattle.slotmap_dense.proofs.PassLemmas.{passes-whole, may-whole}
+use Rattle.slotmap_dense.proofs.WellFormed.{items-whole}
+use Rattle.slotmap_dense.proofs.DenseSlotMap.first_rejected.Goals as goal
+
+pub find_rejected-requires-clause-callable : goal.find_rejected-requires-clause-callable
+find_rejected-requires-clause-callable g c =
+    let m = c.self.inside in
+    rw (c.as_slice.ensures.value, c.as_mut_slice.ensures.value) (may-whole g.F.FnMut g.K.Key.data_of m.slots (list_map g.K.Key.data_of m.keys.items)
+    (min (vec_capacity m.keys) (vec_capacity m.values)) (stage c.args.from m.values.items c.args.f.now) c.self.invariant (rw (← c.self.view_is) at c.requires.callable))
+
+pub returns-clause-passes : goal.returns-clause-passes
+returns-clause-passes g c =
+    let m = c.self.inside in
+    let end = c.find_rejected.new in
+    let same : length end.values ≡ length m.values.items = c.find_rejected.ensures.same_length ∙ ap length c.as_mut_slice.ensures.value in
+    let passes : Passes (beside g.K.Key.data_of (list_map g.K.Key.data_of m.keys.items)) g.F.FnMut (stage c.args.from m.values.items c.args.f.now) (stage c.find_rejected.result end.values end.f) =
+    rw (← c.as_slice.ensures.value, ← c.as_mut_slice.ensures.value) c.find_rejected.ensures.passes in
+    rw (← c.self.view_is, items-whole m.values end.values same) (passes-whole g.F.FnMut g.K.Key.data_of m.slots (list_map g.K.Key.data_of m.keys.items)
+    (min (vec_capacity m.keys) (vec_capacity m.values)) (stage c.args.from m.values.items c.args.f.now) (stage c.find_rejected.result end.values end.f) c.self.invariant passes).0
+
+pub returns-clause-valid : goal.returns-clause-valid
+returns-clause-valid g c =
+    let m = c.self.inside in
+    let end = c.find_rejected.new in
+    let same : length end.values ≡ length m.values.items = c.find_rejected.ensures.same_length ∙ ap length c.as_mut_slice.ensures.value in
+    rw (← c.self.view_is) (stays-valid g.K.Key.data_of m.slots m.keys m.values c.self.invariant m.slots m.keys (with_items m.values end.values)
+    (record { well = c.self.invariant.well; packed = c.self.invariant.packed; same_length = ap length (items-whole m.values end.values same) ∙ same ∙ c.self.invariant.same_length }) refl refl refl)
+
+pub returns-clause-keys : goal.returns-clause-keys
+returns-clause-keys g c = ap (λ d. d.keys) c.self.view_is
