@@ -27,6 +27,7 @@ impl<K: Key, V: Drop> DenseSlotMap<K, V> {
     /// map.reattach(a, 6)?;
     /// assert_eq!(rt; map.get(a), Some(&6));
     /// ```
+    #[inline(always)]
     pub fn detach(&mut self, key: K) -> Option<V>
         ensures value { result ≡ map.get self.old.content.live (K.data_of key) }
         ensures detaches { OnSome result (Detaches self.old.content (K.data_of key) self.new.content) }
@@ -52,6 +53,7 @@ impl<K: Key, V: Drop> DenseSlotMap<K, V> {
     /// assert_eq!(rt; map.get(a), Some(&5));
     /// assert!(rt; matches!(map.reattach(b, 6), Err(ReattachError::NotDetached(6))));
     /// ```
+    #[inline(always)]
     pub fn reattach(&mut self, key: K, value: V) -> Result<(), ReattachError<V>>
         ensures ok { OnOk result (Reattaches self.old.content (K.data_of key) value self.new.content) }
         ensures order { OnOk result (Appends self.old (K.data_of key) value self.new) }
