@@ -6,7 +6,7 @@ pub use Rattle.slotmap_core.specs.Content.{Content, content_code, IsContent, IsL
 pub use Rattle.slotmap_core.specs.Spent.{IsSpent, KeepsSpent}
 pub use Rattle.slotmap_core.specs.Transition.{IsNew, Keeps, Inserts, Replaces, Removes, Detaches, Reattaches, Leaves, FreesByIndex, Empties, EmptiesByIndex, TakesPair, TakesFirst, with_value}
 pub use Rattle.slotmap_core.specs.Refusal.{LacksRoom, Refuses, RefusesInsert, RefusesWith, RefusesReattach, RefusesCapacity}
-pub use Rattle.slotmap_core.specs.Listing.{IsListing, IsKeyListing, IsValueListing, IsListingBut, NoneBelow}
+pub use Rattle.slotmap_core.specs.Listing.{IsListing, IsKeyListing, IsValueListing, IsListingBut, ListsByIndex, NoneBelow}
 pub use Rattle.slotmap_core.specs.Call.{StaysValid, MayGrow, MakesRoom}
 pub use Rattle.slotmap_core.specs.Retain.{RetainsBy, CallableOnEach}
 pub use Rattle.slotmap_core.specs.Copy.{IsCopy}
@@ -20,7 +20,7 @@ pub use Rattle.slotmap_dense.specs.Dense.{Dense, dense_code, IsDense, ListsPairs
 pub use Rattle.slotmap_dense.specs.Call.{StaysValid as StaysDense, MayGrow as GrowsDense, MakesRoom as MakesDenseRoom}
 pub use Rattle.slotmap_dense.specs.Retain.{RetainsPacked}
 -- a map whose iterators hop: its model is a content with the blocks that its vacant places form
-pub use Rattle.slotmap_hop.specs.HopContent.{HopContent, hop_code, IsHopContent, ListsEntries, NoBlocks, IsNextLive, hop_with_value, hop_with_values}
+pub use Rattle.slotmap_hop.specs.HopContent.{HopContent, hop_code, IsHopContent, NoBlocks, IsNextLive, hop_with_value, hop_with_values}
 pub use Rattle.slotmap_hop.specs.HopContent.{blocks_without, blocks_without_all, StaysHop, GrowsHop, MakesHopRoom}
 pub use Rattle.slotmap_hop.specs.Blocks.{Blocks, HasMaximalBlocks, IsBlock, vacated, offer_place, shorter}
 pub use Rattle.slotmap_hop.specs.Walk.{Walking, StartsIter, CountsReads, CountsReadsSomewhere, ListsRetired, ReadsFew}

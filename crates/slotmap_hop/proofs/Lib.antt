@@ -10,9 +10,14 @@ pub mod Taking
 pub mod Maximal
 pub mod StackOrder
 pub mod SlotLemmas
+pub mod Empty
+pub mod Growth
+pub mod LiveSlots
 pub mod WellFormed
+pub mod Held
 pub mod RoomLemmas
 pub mod Walking
+pub mod Iterators
 pub mod Sweeping
 pub mod DrainLemmas
 pub mod ReadLemmas

@@ -14,25 +14,6 @@ module _ {V : Type 0} (m : HopContent V) (n : ℕ) (ok : Type 0) (well : IsHopCo
   pub hop_room_had : ok → n ≤ m.content.room → MakesHopRoom m n ok m
   hop_room_had is room = record { makes_room = room_had m.content n ok is well.valid room; blocks = refl; before = well; after = well }
 
-  -- if there isn't, a failed call may leave everything as it is
-  pub hop_room_refused : (ok → ⊥) → m.content.room < n → MakesHopRoom m n ok m
-  hop_room_refused refused none = record {
-    makes_room = record {
-      before = well.valid;
-      after = well.valid;
-      fits = λ is. absurd (refused is);
-      room = λ is. absurd (refused is);
-      live_and_more = λ is. absurd (refused is);
-      succeeds = λ room. absurd (omega arith);
-      had_room = λ room. absurd (omega arith);
-      keeps = record { live = refl; detached = refl; retired = refl; next = refl; offer = refl; stack = refl; room = omega arith };
-      capacity = omega arith;
-    };
-    blocks = refl;
-    before = well;
-    after = well;
-  }
-
 module _ {V : Type 0} (slots : List (Slot V)) (vacant elems : ℕ) (sound : IsSound slots vacant elems) (fits : ℕ) (holds : length slots ≤ fits)
     {now : HopContent V} (view : hop_content slots (fits - 1) ≡ now) where
   pub hop_valid : IsHopContent now

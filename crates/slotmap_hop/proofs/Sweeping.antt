@@ -1,17 +1,13 @@
 -- A loop over the live keys of a map, which skips vacant places.
-use Rattle.std.proofs.Common.{◌≡◌, ◌≢◌, ℕ, zero, suc, ◌+◌, ◌-◌, ◌<◌, ◌≤◌, Bool, true, false, Option, Some, None, List, length, slice_get, get_or}
-use Rattle.std.proofs.Common.{is_some, eqb, ne_eqb, ◌^◌, refl, sym, ap, subst, ◌∙◌, inl, inr, arith}
-use Rattle.std.proofs.lemmas.Bool.{cases_lt, cases_eq}
-use Rattle.std.proofs.lemmas.Option.{slice_get_within, get_or_from_slice_get, same_Some}
+use Rattle.std.proofs.Common.{◌≡◌, ◌≢◌, ℕ, zero, suc, ◌+◌, ◌-◌, ◌<◌, true, Option, Some, None, List}
+use Rattle.std.proofs.Common.{is_some, ◌^◌, refl, sym, ap, subst, ◌∙◌, inl, inr, arith}
 use Rattle.std.specs.FinMap as map
 use Rattle.slotmap_core.specs.Key.{Key, key_cmp}
 use Rattle.slotmap_core.specs.Content.{Content, IsLive}
 use Rattle.slotmap_core.specs.Listing.{NoneBelow}
 use Rattle.slotmap_core.specs.Retain.{Visit}
 use Rattle.slotmap_core.specs.Transition.{Removes, with_value}
-use Rattle.slotmap_core.specs.Places.{Place, Live, Vacant, live}
-use Rattle.slotmap_core.proofs.ContentLemmas.{live_at}
-use Rattle.slotmap_core.proofs.IndexLemmas.{from_index, from_index-skip, from_index-take, alone_at, NoneBelow-removed, NoneBelow-end, get-remove_other}
+use Rattle.slotmap_core.proofs.IndexLemmas.{from_index, alone_at, NoneBelow-removed, NoneBelow-end, get-remove_other}
 use Rattle.slotmap_core.proofs.Maps.{in_after_remove}
 use Rattle.slotmap_core.proofs.KeyLemmas.{keys_total, exact_keys}
 use Rattle.slotmap_core.proofs.SweepLemmas.{Swept, Swept-start, Swept-on, Swept-written, Swept-removed}
@@ -19,105 +15,23 @@ use Rattle.slotmap_core.proofs.LeaveLemmas.{same_live}
 use Rattle.slotmap_core.proofs.ListingLemmas.{remove-insert}
 use Rattle.slotmap_core.proofs.VisitLemmas.{Visits}
 use Rattle.slotmap_core.proofs.KeyedVisits.{Keyed-jump, Keyed-done}
-use Rattle.slotmap_hop.specs.declared.links.Links.{Links}
 use Rattle.slotmap_hop.specs.declared.links.Slot.{Slot}
-use Rattle.slotmap_hop.specs.declared.links.State.{State}
-use Rattle.slotmap_hop.specs.declared.links.State.TheVariants.{Free, UsedUp}
 use Rattle.slotmap_hop.specs.Blocks.{Begins}
-use Rattle.slotmap_hop.specs.Links.{vacant_at, end_at}
+use Rattle.slotmap_hop.specs.Links.{vacant_at}
 use Rattle.slotmap_hop.specs.HopContent.{HopContent, IsHopContent, IsNextLive, MayStand, hop_with_value}
-use Rattle.slotmap_hop.specs.Slots.{place_in, layout, places_of, hop_content, IsSound}
-use Rattle.slotmap_hop.specs.Walk.{StandsAt, CanGoOn}
-use Rattle.slotmap_hop.proofs.BlockLemmas.{clash}
-use Rattle.slotmap_hop.proofs.SlotReads.{length-places, place_at, free_when, links_read}
-use Rattle.slotmap_hop.proofs.SlotLemmas.{vacant_place, place_not_vacant, same_counts}
+use Rattle.slotmap_hop.specs.Slots.{layout, hop_content, IsSound}
+use Rattle.slotmap_hop.specs.Walk.{CanGoOn}
+use Rattle.slotmap_hop.proofs.SlotLemmas.{same_counts}
 use Rattle.slotmap_hop.proofs.WellFormed.{IsHopContent-with_value}
-use Rattle.slotmap_hop.proofs.Walking.{block_here}
 
--- no live key has an index between these two
-pub record Passed {V : Type 0} (slots : List (Slot V)) (start place : ℕ) : Type 0 where
-  pub from : start ≤ place
-  pub at_front : vacant_at (layout slots) place ≡ true → Begins (vacant_at (layout slots)) place
-  pub none : (q : Key) → map.contains_key (live (places_of slots)) q ≡ true → start ≤ q.index → place ≤ q.index
-
-module _ {V : Type 0} (slots : List (Slot V)) (vacant elems : ℕ) (sound : IsSound slots vacant elems) (start : ℕ) where
-  pub passed-start : (c : ℕ) → MayStand (hop_content slots c).content start → Passed slots start start
-  passed-start c may = record { from = omega arith; at_front = λ here. begins may; none = λ q there from. from }
-    where
-      begins : MayStand (hop_content slots c).content start → Begins (vacant_at (layout slots)) start
-      begins (inl first) = λ left next. absurd (omega arith)
-      begins (inr used) =
-          λ left next. let same : start - 1 ≡ left = omega arith in ap (vacant_at (layout slots)) (sym same) ∙ sym (ap (λ f. f (start - 1)) (same_counts slots vacant elems sound c)) ∙ used
-
-  -- a search may begin there
-  pub look_begins : (c : ℕ) → MayStand (hop_content slots c).content start → CanGoOn slots 0 start
-  look_begins c may = record { stands = record { vacant = vacant; elems = elems; sound = sound; at_front = (passed-start c may).at_front }; passed = omega arith }
-
-  module _ (place : ℕ) (passed : Passed slots start place) (inside : place < length slots) (s : Slot V) (found : slice_get slots place ≡ Some s) where
-    stands : StandsAt slots place
-    stands = record { vacant = vacant; elems = elems; sound = sound; at_front = passed.at_front }
-
-    here : (st : State V) → s.state ≡ st → slice_get (places_of slots) place ≡ Some (place_in s.version st)
-    here st is = place_at slots place s found ∙ ap (λ st. Some (place_in s.version st)) is
-
-    -- a live key is at a live place
-    not_here : (q : Key) (p : Place V) → map.contains_key (live (places_of slots)) q ≡ true → slice_get (places_of slots) q.index ≡ Some p → ((v : ℕ) (x : V) → p ≢ Live v x) → ⊥
-    not_here q p there is other = let at = live_at (places_of slots) q there in other q.version at.0 (same_Some p (Live q.version at.0) (sym is ∙ at.1))
-
-    read : get_or slots place s ≡ s
-    read = get_or_from_slice_get slots place s s found
-
-    free_here : (links : Links) → s.state ≡ Free links → vacant_at (layout slots) place ≡ true
-    free_here links is = sym (free_when slots place s links inside (ap (λ (s : Slot V). s.state) read ∙ is))
-
-    names : (links : Links) → s.state ≡ Free links → links.other_end ≡ end_at (layout slots) place
-    names links is = sym (ap (λ (l : Links). l.other_end) (links_read slots place s links (free_here links is) (ap (λ (s : Slot V). s.state) read ∙ is)))
-
-    pub passed-block : (links : Links) → s.state ≡ Free links → Passed slots start (links.other_end + 1)
-    passed-block links is =
-        let block = block_here slots place stands (free_here links is) in
-        rw (names links is) (record {
-          from = omega (arith, passed.from, block.ordered);
-          at_front = λ again. clash (vacant_at (layout slots)) (end_at (layout slots) place + 1) again block.ends;
-          none = λ q there from.
-              let low = passed.none q there from in
-              elim (cases_lt (end_at (layout slots) place) q.index) [
-                | inl past ↦ omega arith
-                | inr within ↦
-                    let at = vacant_place slots q.index (block.inside q.index low (omega arith)) in
-                    absurd (not_here q (Vacant at.0) there at.1 (λ v x e. absurd (cc)))
-              ];
-        })
-
-    pub passed-used_up : s.state ≡ UsedUp → Passed slots start (place + 1)
-    passed-used_up is = record {
-      from = omega (arith, passed.from);
-      at_front = λ again left next. let same : left ≡ place = omega arith in rw same (place_not_vacant slots place (place_in s.version UsedUp) (here UsedUp is) (λ n e. not_vacant s.version n e));
-      none = λ q there from. elim (cases_eq place q.index) [
-        | inl same ↦ absurd (not_here q (place_in s.version UsedUp) there (ap (slice_get (places_of slots)) (sym same) ∙ here UsedUp is) (λ v x e. not_live s.version v x e))
-        | inr other ↦ omega (arith, passed.none q there from)
-      ];
-    }
-      where
-        not_vacant : (v n : ℕ) → place_in {V = V} v UsedUp ≡ Vacant n → ⊥
-        not_vacant zero n e = absurd (cc)
-        not_vacant (suc v) n e = absurd (cc)
-
-        not_live : (v u : ℕ) (x : V) → place_in v UsedUp ≡ Live u x → ⊥
-        not_live zero u x e = absurd (cc)
-        not_live (suc v) u x e = absurd (cc)
-
-  -- after all places no key is live
-  pub passed-all : (place : ℕ) → Passed slots start place → length slots ≤ place → (q : Key) → map.contains_key (live (places_of slots)) q ≡ true → q.index < start
-  passed-all place passed past q there = elim (cases_lt q.index start) [
-    | inl before ↦ before
-    | inr from ↦ let at =
-        live_at (places_of slots) q there in absurd (omega (arith, passed.none q there (omega arith), slice_get_within (places_of slots) q.index (Live q.version at.0) at.1, length-places slots))
-  ]
-
--- a search has passed nothing at its start
-pub look_starts : {V : Type 0} (slots : List (Slot V)) (reads start : ℕ) → CanGoOn slots reads start → Passed slots start start
-look_starts slots reads start can = record { from = omega arith; at_front = can.stands.at_front; none = λ q there from. from }
+-- a search may begin where an iterator may be
+pub look_begins : {V : Type 0} (slots : List (Slot V)) (vacant elems : ℕ) → IsSound slots vacant elems → (start c : ℕ) → MayStand (hop_content slots c).content start → CanGoOn slots 0 start
+look_begins slots vacant elems sound start c may = record { stands = record { vacant = vacant; elems = elems; sound = sound; at_front = λ _. begins may }; passed = omega arith }
+  where
+    begins : MayStand (hop_content slots c).content start → Begins (vacant_at (layout slots)) start
+    begins (inl first) = λ left next. absurd (omega arith)
+    begins (inr used) =
+        λ left next. let same : start - 1 ≡ left = omega arith in ap (vacant_at (layout slots)) (sym same) ∙ sym (ap (λ f. f (start - 1)) (same_counts slots vacant elems sound c)) ∙ used
 
 -- the measure by which a loop over the live keys ends
 abbrev pub indices_left : {K : Type 0} → (K → Key) → Option K → ℕ
@@ -138,27 +52,6 @@ module _ {K V : Type 0} (data_of : K → Key) where
   Swept-to : (old now : Content V) (k i : ℕ) → Swept true old now i → Swept true old now (i + k)
   Swept-to old now zero i swept = let same : i + 0 ≡ i = omega arith in rw same swept
   Swept-to old now (suc k) i swept = let same : i + 1 + k ≡ i + suc k = omega arith in rw same at (Swept-to old now k (i + 1) (Swept-on old now i swept))
-
-  pub may_stand_after : (m : HopContent V) (k : Key) → IsHopContent m → IsLive m.content k → MayStand m.content (k.index + 1)
-  may_stand_after m k well is_live =
-      let within = well.valid.within k (inl (inl is_live)) in
-      let back : k.index + 1 - 1 ≡ k.index = omega arith in
-      let test : eqb k.index 0 ≡ false = ne_eqb k.index 0 (λ e. omega (arith, within.0)) in
-      let absent : map.contains_key m.content.next k.index ≡ false = none (map.contains_key m.content.next k.index) refl in
-      inr (rw (back, test) absent)
-    where
-      none : (b : Bool) → map.contains_key m.content.next k.index ≡ b → map.contains_key m.content.next k.index ≡ false
-      none true there = absurd (well.valid.used_or_vacant k (inl (inl is_live)) there)
-      none false gone = gone
-
-  -- the index after a live key fits into a link
-  pub live_fits : (m : HopContent V) (k : Key) → IsHopContent m → IsLive m.content k → k.index + 1 < 2 ^ 32
-  live_fits m k well is_live = omega (arith, (well.valid.within k (inl (inl is_live))).1, well.valid.limit)
-
-  pub left_less : (m : HopContent V) (k : K) (next : Option K) → IsHopContent m → IsLive m.content (data_of k)
-      → IsNextLive data_of m.content ((data_of k).index + 1) next → indices_left data_of next < indices_left data_of (Some k)
-  left_less m k None well is_live comes = omega (arith, (well.valid.keys (data_of k) (inl (inl is_live))).index_fits)
-  left_less m k (Some q) well is_live comes = omega (arith, comes.1, (well.valid.keys (data_of k) (inl (inl is_live))).index_fits)
 
   module _ (old now : HopContent V) (i : ℕ) (k : K) (sweep : Sweeping old now i (Some k)) where
     pub swept_here : Swept true old.content now.content (data_of k).index
@@ -272,21 +165,3 @@ module _ {K V : Type 0} (data_of : K → Key) where
       → Visits data_of old.content.live xs (from_index i old.content.live) now.content.live
       → Visits data_of old.content.live xs map.empty now.content.live
   Visits-end old xs i now comes visits = Keyed-done data_of old.content.live xs i now.content.live visits comes
-
-  from_index-to : (m : map.FinMap key_cmp V) (n i : ℕ) → ((q : Key) → map.contains_key m q ≡ true → i ≤ q.index → i + n ≤ q.index) → from_index (i + n) m ≡ from_index i m
-  from_index-to m zero i none = let same : i + 0 ≡ i = omega arith in rw same refl
-  from_index-to m (suc n) i none =
-      let same : i + 1 + n ≡ i + suc n = omega arith in
-      rw same at (from_index-to m n (i + 1) (λ q there from. omega (arith, none q there (omega arith)))) ∙ from_index-skip i m (λ q at. absent q at (map.contains_key m q) refl)
-    where
-      absent : (q : Key) → q.index ≡ i → (b : Bool) → map.contains_key m q ≡ b → map.contains_key m q ≡ false
-      absent q at true there = absurd (omega (arith, none q there (omega arith)))
-      absent q at false gone = gone
-
-  -- the live keys after the next one
-  pub from_index-next : (m : HopContent V) (i : ℕ) (k : K) → IsHopContent m → IsNextLive data_of m.content i (Some k)
-      → from_index ((data_of k).index + 1) m.content.live ≡ map.remove (from_index i m.content.live) (data_of k)
-  from_index-next m i k well comes =
-      let same : i + ((data_of k).index - i) ≡ (data_of k).index = omega (arith, comes.1) in
-      from_index-take (data_of k).index m.content.live (data_of k) refl (alone_at m.content well.valid (data_of k) (data_of k).index comes.0 refl)
-      ∙ ap (λ rest. map.remove rest (data_of k)) (rw same at (from_index-to m.content.live ((data_of k).index - i) i (λ q there from. omega (arith, same, comes.2 q there from))))

@@ -1,18 +1,11 @@
--- A map is well formed between calls.
-use Rattle.std.proofs.Common.{◌≡◌, ◌+◌, ◌-◌, true, cond, vec_capacity, refl, subst, ap, ◌∙◌, arith}
+-- A map stays well formed when values are written.
+use Rattle.std.proofs.Common.{◌≡◌, ◌+◌, true, cond, refl, ap, ◌∙◌}
 use Rattle.std.specs.FinMap as map
 use Rattle.slotmap_core.specs.Key.{Key}
 use Rattle.slotmap_core.specs.Content.{IsLive}
 use Rattle.slotmap_core.proofs.KeyLemmas.{keys_total}
 use Rattle.slotmap_core.proofs.ContentLemmas.{IsContent-with_value}
-use Rattle.slotmap_hop.specs.declared.HopSlotMap.TheInside.{Inside}
 use Rattle.slotmap_hop.specs.HopContent.{HopContent, IsHopContent, StaysHop, hop_with_value}
-use Rattle.slotmap_hop.specs.Slots.{hop_content, IsSound}
-use Rattle.slotmap_hop.proofs.SlotLemmas.{valid}
-
-pub well_formed : {K V : Type 0} (m : Inside K V) (now : HopContent V) → hop_content m.slots.items (vec_capacity m.slots - 1) ≡ now
-    → IsSound m.slots.items m.vacant_count m.live_count → IsHopContent now
-well_formed m now view sound = subst IsHopContent view (valid _ _ _ sound _ (omega (arith, m.slots.ok.0, m.slots.ok.1)))
 
 -- another value under a live key keeps it well formed
 pub IsHopContent-with_value : {V : Type 0} (m : HopContent V) (k : Key) (w : V) → IsHopContent m → IsLive m.content k → IsHopContent (hop_with_value m k w)

@@ -8,7 +8,6 @@ use Rattle.slotmap_core.specs.Key.{Key, is_last}
 use Rattle.slotmap_core.specs.Content.{Content, content_code, IsContent, IsLive, used, places, most}
 use Rattle.slotmap_core.specs.Transition.{freed, with_value}
 use Rattle.slotmap_core.specs.Call.{MakesRoom}
-use Rattle.slotmap_core.specs.Listing.{IsListing}
 use Rattle.slotmap_core.specs.Disjoint.{with_values}
 use Rattle.slotmap_hop.specs.Blocks.{Blocks, coded_blocks, HasMaximalBlocks, vacated, offer_place}
 
@@ -61,11 +60,6 @@ module _ {V : Type 0} where
     pub none_detached : m.content.detached ≡ set.empty
     pub maximal : HasMaximalBlocks (counts_vacant m.content) m.blocks
     pub offers : used m.content < most → m.content.offer.index ≡ offer_place m.blocks (places m.content + 1)
-
-  -- the live keys with their values, by ascending index
-  pub record ListsEntries (m : HopContent V) (entries : List (Key × V)) : Type 0 where
-    pub listing : IsListing m.content.live entries
-    pub in_order : entries ≡ map.entries m.content.live
 
   -- the live key of the smallest index from i on, or none if no live key has such an index
   abbrev pub IsNextLive : {K : Type 0} → (K → Key) → Content V → ℕ → Option K → Type 0

@@ -5,11 +5,12 @@ use Rattle.std.specs.FinMap as map
 use Rattle.std.specs.FinSet as set
 use Rattle.slotmap_core.specs.Key.{Key}
 use Rattle.slotmap_core.specs.Gather.{gather}
+use Rattle.slotmap_core.specs.Listing.{ListsByIndex}
 use Rattle.slotmap_core.specs.Places.{Live, live, live_entry, retired_entry}
 use Rattle.slotmap_hop.specs.declared.links.Slot.{Slot}
 use Rattle.slotmap_hop.specs.declared.links.State.TheVariants.{Occupied}
 use Rattle.slotmap_hop.specs.Blocks.{Begins}
-use Rattle.slotmap_hop.specs.HopContent.{HopContent, ListsEntries}
+use Rattle.slotmap_hop.specs.HopContent.{HopContent}
 use Rattle.slotmap_hop.specs.Links.{vacant_at}
 use Rattle.slotmap_hop.specs.Slots.{layout, places_of, IsSound}
 
@@ -27,7 +28,7 @@ pub record ListsRetired {V : Type 0} (m : HopContent V) (keys : List Key) : Type
 
 -- an iterator over the live keys and their values, before its first step
 pub record StartsIter {V : Type 0} (m : HopContent V) (it : Walking (Key × V)) : Type 0 where
-  pub lists : ListsEntries m it.rest
+  pub lists : ListsByIndex m.content.live it.rest
   pub retired : ListsRetired m it.retired
   pub reads : it.reads ≡ 0
 

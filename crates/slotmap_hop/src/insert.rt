@@ -23,9 +23,9 @@ impl<K: Key, V: Drop> HopSlotMap<K, V> {
         if self.vacant_count > 0 {
             let front = links_at(self.slots.as_slice(), 0).next;
             let back = links_at(self.slots.as_slice(), front).other_end;
-            return KeyData::new(back, self.slots[back as usize].version + 1);
+            return KeyData::exact(back, self.slots[back as usize].version + 1);
         }
-        KeyData::new(self.slots.len() as u32, 1)
+        KeyData::exact(self.slots.len() as u32, 1)
     }
 
     // Whether the next insert allocates nothing.
@@ -62,7 +62,7 @@ impl<K: Key, V: Drop> HopSlotMap<K, V> {
         self.live_count += 1;
         // The count tells that no slot is vacant, so a new slot is added without reading any links.
         if self.vacant_count == 0 {
-            let key = KeyData::new(self.slots.len() as u32, 1);
+            let key = KeyData::exact(self.slots.len() as u32, 1);
             self.slots.push_reserved(Slot {
                 version: 1,
                 state: State::Occupied(value),
@@ -75,7 +75,7 @@ impl<K: Key, V: Drop> HopSlotMap<K, V> {
         let last = block.other_end;
         let version = self.slots[last as usize].version + 1;
         fill_back(self.slots.as_mut_slice(), front, block, version, value);
-        KeyData::new(last, version)
+        KeyData::exact(last, version)
     }
 
     /// Inserts a value and returns its new key.

@@ -2,7 +2,7 @@
 
 ghost use Rattle.std.specs.Prelude.{◌≡◌, ◌≤◌, length, Some, IfSome, IfOk};
 ghost use Rattle.std.specs.Iterator.{YieldsFirstBy, item_count, at_most, UpTo};
-ghost use Rattle.slotmap_hop.specs.HopContent.{ListsEntries};
+ghost use Rattle.slotmap_core.specs.Listing.{ListsByIndex};
 
 use crate::HopSlotMap;
 use crate::clone::clone_slots;
@@ -107,7 +107,7 @@ impl<K: Key, V: Drop> Iterator for IntoIter<K, V> {
         let version = slot.version;
         self.left -= 1;
         self.place = place + 1;
-        let key = K::from(KeyData::new(place as u32, version));
+        let key = K::from(KeyData::exact(place as u32, version));
         let value = use_up(self.slots.as_mut_slice(), place as u32);
         Some((key, value))
     }
@@ -134,7 +134,7 @@ impl<K: Key, V: Drop> IntoIterator for HopSlotMap<K, V> {
 
     type IntoIter = IntoIter<K, V>;
 
-    ghost into_iter_gives = { λ m it. ListsEntries m it };
+    ghost into_iter_gives = { λ m it. ListsByIndex m.content.live it };
 
     fn into_iter(self) -> IntoIter<K, V> {
         let HopSlotMap {

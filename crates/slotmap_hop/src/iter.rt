@@ -135,7 +135,7 @@ impl<'a, K: Key, V> Iter<'a, K, V> {
         let (place, slot) = next_live(&mut self.counted, self.place);
         self.left -= 1;
         self.place = place + 1;
-        let key = K::from(KeyData::new(place as u32, slot.version));
+        let key = K::from(KeyData::exact(place as u32, slot.version));
         Some((key, slot))
     }
 }

@@ -47,7 +47,7 @@ impl<K: Key, V: Drop> HopSlotMap<K, V> {
     {
         let mut counted = CountedSlots::new(self.slots.as_slice());
         let (place, slot) = find_live(&mut counted, start)?;
-        Some(K::from(KeyData::new(place, slot.version)))
+        Some(K::from(KeyData::exact(place, slot.version)))
     }
 
     /// Calls a closure once for each live key, and removes the keys for which it returns `false`.

@@ -138,20 +138,14 @@ impl<K: Key, V: Drop> HopSlotMap<K, V> {
         let mut vacant_count = 0;
         let mut live_count = 0;
         for slot in records {
+            let SlotRecord { value, version } = slot;
             let index = slots.len() as u32;
-            live_count += slot.version % 2;
-            if is_vacant(slot.version) {
+            live_count += version % 2;
+            let state = state_from(value);
+            slots.push_reserved(Slot { version, state });
+            if is_vacant(version) {
                 vacant_count += 1;
-                slots.push_reserved(Slot {
-                    version: 0,
-                    state: State::UsedUp,
-                });
-                open_last(slots.as_mut_slice(), index, slot.version);
-            } else {
-                slots.push_reserved(Slot {
-                    version: slot.version,
-                    state: state_from(slot.value),
-                });
+                open_last(slots.as_mut_slice(), index, version);
             }
         }
         Ok(HopSlotMap {

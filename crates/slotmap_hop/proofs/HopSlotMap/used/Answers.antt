@@ -1,6 +1,6 @@
 use Rattle.std.proofs.Common.{arith}
 use Rattle.slotmap_hop.proofs.SlotLemmas.{taken_slots, slots_fit}
-use Rattle.slotmap_hop.proofs.WellFormed.{well_formed}
+use Rattle.slotmap_hop.proofs.Held.{well_formed}
 use Rattle.slotmap_hop.proofs.HopSlotMap.used.Goals as goal
 
 pub overflow_sub-result-2 : goal.overflow_sub-result-2
@@ -13,4 +13,4 @@ pub returns-clause-below : goal.returns-clause-below
 returns-clause-below g c = omega (arith, slots_fit _ _ _ c.self.invariant, c.self.inside.slots.ok.0)
 
 pub returns-clause-valid : goal.returns-clause-valid
-returns-clause-valid g c = well_formed c.self.inside _ c.self.view_is c.self.invariant
+returns-clause-valid g c = well_formed c.self.inside c.self.view_is c.self.invariant

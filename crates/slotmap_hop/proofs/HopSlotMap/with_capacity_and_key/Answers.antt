@@ -1,6 +1,7 @@
 use Rattle.std.proofs.Common.{arith, refl}
 use Rattle.slotmap_core.proofs.PlacesLemmas.{sentinel_alone}
-use Rattle.slotmap_hop.proofs.SlotLemmas.{IsSound-new, valid, taken-new}
+use Rattle.slotmap_hop.proofs.Empty.{IsSound-new, taken-new}
+use Rattle.slotmap_hop.proofs.SlotLemmas.{valid}
 use Rattle.slotmap_hop.proofs.HopSlotMap.with_capacity_and_key.Goals as goal
 
 pub invariant_of-result : goal.invariant_of-result

@@ -1,5 +1,4 @@
 use Rattle.std.proofs.Common.{◌≡◌, ◌-◌, length}
-use Rattle.slotmap_hop.proofs.Sweeping.{Passed}
 use Rattle.slotmap_hop.proofs.Walking.{OnTheWay}
 use Rattle.slotmap_hop.proofs.retain.find_live.Given as goal
 
@@ -7,7 +6,6 @@ use Rattle.slotmap_hop.proofs.retain.find_live.Given as goal
 abbrev pub invariant-loop-place : goal.invariant-loop-place
 invariant-loop-place g l = record {
   way : OnTheWay l.fn.counted.slots l.fn.counted.reads l.fn.start l.counted.reads l.place;
-  passed : Passed l.fn.counted.slots l.fn.start l.place;
   slots : l.counted.slots ≡ l.fn.counted.slots;
 }
 

@@ -1,6 +1,6 @@
 use Rattle.std.proofs.Common.{refl}
 use Rattle.slotmap_core.proofs.WalkLemmas.{listing-entries}
-use Rattle.slotmap_hop.proofs.Walking.{walk_starts, pairs-start}
+use Rattle.slotmap_hop.proofs.Iterators.{walk_starts, pairs-start}
 use Rattle.slotmap_hop.proofs.into_iter.HopSlotMapIntoIterator.into_iter.Goals as goal
 
 pub invariant_of-result : goal.invariant_of-result

@@ -1,0 +1,181 @@
+-- What an insert makes of sound slots, and what stays when one place changes.
+use Rattle.std.proofs.Common.{⊎_elim, ◌≡◌, ◌≢◌, inl, inr, ℕ, ◌+◌, ◌-◌, ◌^◌, ◌<◌, ◌≤◌, true, false, eqb, List, []}
+use Rattle.std.proofs.Common.{◌∷◌, ◌++◌, length, set, slice_get, get_or, Some, None, sym, ap, subst, ◌∙◌, arith, eq-eqb}
+use Rattle.std.proofs.Common.{ne_eqb, min}
+use Rattle.std.proofs.lemmas.Bool.{cases_lt}
+use Rattle.std.proofs.lemmas.Option.{get_or_from_slice_get}
+use Rattle.std.proofs.lemmas.List.{map-append, nil_from_length}
+use Rattle.std.specs.FinMap as map
+use Rattle.slotmap_core.specs.Key.{Key}
+use Rattle.slotmap_core.specs.Content.{Content, most}
+use Rattle.slotmap_core.specs.Transition.{Removes, Inserts}
+use Rattle.slotmap_core.specs.Places.{Place, Live, Detached, Vacant, live, detached, retired, next, left_by}
+use Rattle.slotmap_core.specs.StackMap.{content, taken, filled, IsOn, IsVersion, IsStacked}
+use Rattle.slotmap_core.proofs.PlacesLemmas.{key, len-live-set, len-live-push}
+use Rattle.slotmap_core.proofs.StackLemmas.{IsStacked-filled, IsStacked-pushed}
+use Rattle.slotmap_core.proofs.StepLemmas.{removes, inserts}
+use Rattle.slotmap_hop.specs.declared.links.Slot.{Slot}
+use Rattle.slotmap_hop.specs.declared.links.State.TheVariants.{Occupied}
+use Rattle.slotmap_hop.specs.Blocks.{shorter}
+use Rattle.slotmap_hop.specs.Links.{removed, blocks_of, HasBlockList}
+use Rattle.slotmap_hop.specs.Slots.{links_in, place_in, layout, places_of, next_place, offer_at, hop_content, IsSound}
+use Rattle.slotmap_hop.proofs.SlotReads.{length-layout, length-places, slot_within, place_at, free_read}
+use Rattle.slotmap_hop.proofs.Taking.{pushed}
+use Rattle.slotmap_hop.proofs.StackOrder.{IsStacked-first, length_removed, untold, Inserts-untold, Inserts-offering, Removes-untold}
+use Rattle.slotmap_core.proofs.GatherLemmas.{at_set, at_push}
+use Rattle.slotmap_hop.proofs.SlotLemmas.{found_within, taken_slots, back_vacant, empty_stack, in_order, ordered_map, content_is}
+
+module _ {V : Type 0} (slots : List (Slot V)) (vacant elems : ℕ) (sound : IsSound slots vacant elems) (new : List (Slot V)) where
+  -- one place changes; the new stack and both counts are given
+  pub IsSound-set : (i : ℕ) (old p : Place V) → slice_get (places_of slots) i ≡ Some old → ((v : ℕ) → p ≢ Detached v) → HasBlockList (layout new)
+      → places_of new ≡ set (places_of slots) i p → (vs : List ℕ) → IsStacked (set (places_of slots) i p) vs → (vacant2 elems2 : ℕ) → length vs ≡ vacant2
+      → map.len (live (set (places_of slots) i p)) ≡ elems2 → IsSound new vacant2 elems2
+  IsSound-set i old p was other list after vs stacked vacant2 elems2 counted lives = record {
+    linked = list;
+    none_detached = λ j v there. ⊎_elim (λ same. absurd (other v same.1)) (λ kept. sound.none_detached j v kept.1)
+        (at_set (places_of slots) i p old was j (Detached v) (ap (λ ps. slice_get ps j) (sym after) ∙ there));
+    elems_live = ap (λ ps. map.len (live ps)) after ∙ lives;
+    stack = vs;
+    stacked = subst (λ ps. IsStacked ps vs) (sym after) stacked;
+    counted = counted;
+  }
+
+-- a content with these places that offers this key
+abbrev pub holding : {V : Type 0} → List (Place V) → Key → ℕ → Content V
+holding ps o c = record {
+  live = live ps;
+  detached = detached ps;
+  retired = retired ps;
+  next = next ps;
+  offer = o;
+  stack = None;
+  room = min c most - taken ps;
+  capacity = c;
+}
+
+-- the steps on contents
+module _ {V : Type 0} (slots : List (Slot V)) (vacant elems : ℕ) (sound : IsSound slots vacant elems) (new : List (Slot V)) where
+  pub inserts-slots : (c d : ℕ) (w : V) → taken (places_of slots) < most → c ≤ d
+      → places_of new ≡ filled (places_of slots) (in_order slots vacant elems sound).order (Live (offer_at (places_of slots) (next_place slots)).version w)
+      → Inserts (hop_content slots c).content (offer_at (places_of slots) (next_place slots)) w (hop_content new d).content
+  inserts-slots c d w below more after =
+      let k = offer_at (places_of slots) (next_place slots) in
+      let o = offer_at (places_of new) (next_place new) in
+      let ordered = in_order slots vacant elems sound in
+      let did = inserts (places_of slots) ordered.order c d k w ordered.ordered below (sym ordered.offers) more in
+      let told = Inserts-offering _ _ k o w (Inserts-untold _ _ k w did) in
+      let moved = subst (λ ps. Inserts (untold (content (ordered_map slots vacant elems sound c))) k w (holding ps o d)) (sym after) told in
+      subst (λ m. Inserts m k w (holding (places_of new) o d)) (content_is slots vacant elems sound c) moved
+
+  pub removes-slots : (c : ℕ) (k : Key) (x : V) → slice_get (places_of slots) k.index ≡ Some (Live k.version x) → places_of new ≡ set (places_of slots) k.index (left_by k)
+      → Removes (hop_content slots c).content k (hop_content new c).content
+  removes-slots c k x was after =
+      let o = offer_at (places_of new) (next_place new) in
+      let ordered = in_order slots vacant elems sound in
+      let did = removes (ordered_map slots vacant elems sound c) ordered.ordered k x was in
+      let told = Removes-untold _ _ k (offer_at (places_of slots) (next_place slots)) o did in
+      subst (λ ps. Removes (hop_content slots c).content k (holding ps o c)) (sym after) told
+
+module _ {V : Type 0} (slots : List (Slot V)) (vacant elems : ℕ) (sound : IsSound slots vacant elems) where
+  -- what room means for the vector
+  pub has_room : (c : ℕ) → 0 < (hop_content slots c).content.room → (taken (places_of slots) < most) × (length slots < c + 1 + vacant)
+  has_room c room = let all = taken_slots slots vacant elems sound in (omega arith, omega arith)
+
+  pub none_left : next_place slots ≡ 0 → vacant ≡ 0
+  none_left none = omega (arith, sound.counted, ap length (empty_stack slots vacant elems sound none))
+
+  pub offer-end : next_place slots ≡ 0 → offer_at (places_of slots) (next_place slots) ≡ key (length slots) 1
+  offer-end none = let test : eqb (next_place slots) 0 ≡ true = eq-eqb (next_place slots) 0 none in rw test (ap (λ n. key n 1) (length-places slots))
+
+  -- the slot that the next insert fills
+  pub record Back : Type 0 where
+    pub slot : Slot V
+    pub there : slice_get slots (next_place slots) ≡ Some slot
+    pub within : next_place slots < length slots
+    pub place : slice_get (places_of slots) (next_place slots) ≡ Some (Vacant (slot.version + 1))
+    pub version : IsVersion (slot.version + 1)
+
+  pub back_slot : Back
+  back_slot =
+      let flag = back_vacant slots vacant elems sound in
+      let inside = slot_within slots (next_place slots) flag in
+      let found = found_within slots (next_place slots) inside in
+      let same : get_or slots (next_place slots) found.0 ≡ found.0 = get_or_from_slice_get slots (next_place slots) found.0 found.0 found.1 in
+      let is = free_read slots (next_place slots) found.0 flag in
+      let place = place_at slots (next_place slots) found.0 found.1 ∙ ap (λ s. Some (place_in found.0.version s)) (ap (λ (s : Slot V). s.state) (sym same) ∙ is.1) in
+      record {
+        slot = found.0;
+        there = found.1;
+        within = inside;
+        place = place;
+        version = sound.stacked.versions (next_place slots) (Vacant (found.0.version + 1)) place;
+      }
+
+  pub offer-back : 0 < next_place slots → offer_at (places_of slots) (next_place slots) ≡ key (next_place slots) (back_slot.slot.version + 1)
+  offer-back some =
+      let test : eqb (next_place slots) 0 ≡ false = ne_eqb (next_place slots) 0 (λ e. omega arith) in
+      rw (test, back_slot.place)
+
+  -- a new place
+  abbrev pub pushed_slots : V → List (Slot V)
+  pushed_slots w = slots ++ record { version = 1; state = Occupied w } ∷ []
+
+  pub places-pushed : (w : V) → places_of (pushed_slots w) ≡ places_of slots ++ Live 1 w ∷ []
+  places-pushed w = map-append (λ (s : Slot V). place_in s.version s.state) slots (record { version = 1; state = Occupied w } ∷ [])
+
+  pub blocks-pushed : (w : V) → length slots + 1 < 2 ^ 32 → next_place slots ≡ 0 → HasBlockList (layout (pushed_slots w)) × (blocks_of (layout (pushed_slots w)) ≡ shorter (blocks_of (layout slots)))
+  blocks-pushed w fits none =
+      let same : layout (pushed_slots w) ≡ layout slots ++ None ∷ [] = map-append (λ (s : Slot V). links_in s.state) slots (record { version = 1; state = Occupied w } ∷ []) in
+      rw same (pushed (layout slots) sound.linked (omega (arith, length-layout slots)) none)
+
+  pub sound-pushed : (w : V) → length slots + 1 < 2 ^ 32 → next_place slots ≡ 0 → IsSound (pushed_slots w) vacant (elems + 1)
+  sound-pushed w fits none =
+      let after = places-pushed w in
+      record {
+        linked = (blocks-pushed w fits none).0;
+        none_detached = λ i v there. ⊎_elim (λ same. absurd (let wrong = same.1 in cc)) (λ kept. sound.none_detached i v kept.1)
+            (at_push (places_of slots) (Live 1 w) i (Detached v) (ap (λ ps. slice_get ps i) (sym after) ∙ there));
+        elems_live = ap (λ ps. map.len (live ps)) after ∙ omega (arith, len-live-push (places_of slots) (Live 1 w), sound.elems_live);
+        stack = sound.stack;
+        stacked = subst (λ ps. IsStacked ps sound.stack) (sym after) (IsStacked-pushed (places_of slots) sound.stack sound.stacked w (omega (arith, length-places slots)));
+        counted = sound.counted;
+      }
+
+  pub inserts-pushed : (c d : ℕ) (w : V) → next_place slots ≡ 0 → taken (places_of slots) < most → c ≤ d
+      → Inserts (hop_content slots c).content (hop_content slots c).content.offer w (hop_content (pushed_slots w) d).content
+  inserts-pushed c d w none below more =
+      let one : (offer_at (places_of slots) (next_place slots)).version ≡ 1 = ap (λ k. k.version) (offer-end none) in
+      inserts-slots slots vacant elems sound (pushed_slots w) c d w below more
+      (places-pushed w ∙ sym ((in_order slots vacant elems sound).fills_end none _ ∙ ap (λ v. places_of slots ++ Live v w ∷ []) one))
+
+  -- the offered place is filled
+  pub sound-filled : (new : List (Slot V)) (w : V) → 0 < next_place slots → HasBlockList (layout new)
+      → places_of new ≡ set (places_of slots) (next_place slots) (Live (back_slot.slot.version + 1) w) → IsSound new (vacant - 1) (elems + 1)
+  sound-filled new w some list after =
+      let i = next_place slots in
+      let n = back_slot.slot.version + 1 in
+      let on = sound.stacked.complete i n some back_slot.place in
+      IsSound-set slots vacant elems sound new i (Vacant n) (Live n w) back_slot.place (λ v e. absurd (cc)) list after (removed sound.stack i)
+      (IsStacked-filled (places_of slots) i (removed sound.stack i) n w (IsStacked-first (places_of slots) sound.stack i sound.stacked on) back_slot.place) _ _
+      (omega (arith, length_removed sound.stack i on, sound.counted))
+      (omega (arith, len-live-set (places_of slots) i (Vacant n) (Live n w) back_slot.place, sound.elems_live))
+
+  pub inserts-filled : (new : List (Slot V)) (c d : ℕ) (w : V) → 0 < next_place slots → taken (places_of slots) < most → c ≤ d
+      → places_of new ≡ set (places_of slots) (next_place slots) (Live (back_slot.slot.version + 1) w)
+      → Inserts (hop_content slots c).content (hop_content slots c).content.offer w (hop_content new d).content
+  inserts-filled new c d w some below more after =
+      let newer : (offer_at (places_of slots) (next_place slots)).version ≡ back_slot.slot.version + 1 = ap (λ k. k.version) (offer-back some) in
+      inserts-slots slots vacant elems sound new c d w below more
+      (after ∙ sym ((in_order slots vacant elems sound).fills_back some _ ∙ ap (λ v. set (places_of slots) (next_place slots) (Live v w)) newer))
+
+  -- an insert adds a place just if none is vacant
+  pub none_offered : vacant ≡ 0 → next_place slots ≡ 0
+  none_offered none = elim (cases_lt 0 (next_place slots)) [
+    | inl some ↦
+        let on = sound.stacked.complete (next_place slots) (back_slot.slot.version + 1) some back_slot.place in
+        absurd (subst (λ vs. IsOn vs (next_place slots)) (nil_from_length sound.stack (sound.counted ∙ none)) on)
+    | inr least ↦ omega arith
+  ]
+
+  pub some_offered : vacant ≢ 0 → 0 < next_place slots
+  some_offered some = elim (cases_lt 0 (next_place slots)) [ inl back ↦ back | inr least ↦ absurd (some (none_left (omega arith))) ]
