@@ -20,8 +20,8 @@ use Rattle.slotmap_hop.specs.Blocks.{shorter}
 use Rattle.slotmap_hop.specs.Links.{removed, blocks_of, HasBlockList}
 use Rattle.slotmap_hop.specs.Slots.{links_in, place_in, layout, places_of, next_place, offer_at, hop_content, IsSound}
 use Rattle.slotmap_hop.proofs.SlotReads.{length-layout, length-places, slot_within, place_at, free_read}
-use Rattle.slotmap_hop.proofs.Taking.{pushed}
-use Rattle.slotmap_hop.proofs.StackOrder.{IsStacked-first, length_removed, untold, Inserts-untold, Inserts-offering, Removes-untold}
+use Rattle.slotmap_hop.proofs.Taking.{HasBlockList-pushed, blocks_pushed, shorter_none}
+use Rattle.slotmap_hop.proofs.StackOrder.{IsStacked-first, length_removed, untold, Inserts-untold, Removes-untold}
 use Rattle.slotmap_core.proofs.GatherLemmas.{at_set, at_push}
 use Rattle.slotmap_hop.proofs.SlotLemmas.{found_within, taken_slots, back_vacant, empty_stack, in_order, ordered_map, content_is}
 
@@ -63,7 +63,7 @@ module _ {V : Type 0} (slots : List (Slot V)) (vacant elems : ℕ) (sound : IsSo
       let o = offer_at (places_of new) (next_place new) in
       let ordered = in_order slots vacant elems sound in
       let did = inserts (places_of slots) ordered.order c d k w ordered.ordered below (sym ordered.offers) more in
-      let told = Inserts-offering _ _ k o w (Inserts-untold _ _ k w did) in
+      let told = Inserts-untold _ _ k o w did in
       let moved = subst (λ ps. Inserts (untold (content (ordered_map slots vacant elems sound c))) k w (holding ps o d)) (sym after) told in
       subst (λ m. Inserts m k w (holding (places_of new) o d)) (content_is slots vacant elems sound c) moved
 
@@ -126,7 +126,7 @@ module _ {V : Type 0} (slots : List (Slot V)) (vacant elems : ℕ) (sound : IsSo
   pub blocks-pushed : (w : V) → length slots + 1 < 2 ^ 32 → next_place slots ≡ 0 → HasBlockList (layout (pushed_slots w)) × (blocks_of (layout (pushed_slots w)) ≡ shorter (blocks_of (layout slots)))
   blocks-pushed w fits none =
       let same : layout (pushed_slots w) ≡ layout slots ++ None ∷ [] = map-append (λ (s : Slot V). links_in s.state) slots (record { version = 1; state = Occupied w } ∷ []) in
-      rw same (pushed (layout slots) sound.linked (omega (arith, length-layout slots)) none)
+      rw same (HasBlockList-pushed (layout slots) sound.linked (omega (arith, length-layout slots)), blocks_pushed (layout slots) sound.linked ∙ shorter_none (layout slots) sound.linked none)
 
   pub sound-pushed : (w : V) → length slots + 1 < 2 ^ 32 → next_place slots ≡ 0 → IsSound (pushed_slots w) vacant (elems + 1)
   sound-pushed w fits none =

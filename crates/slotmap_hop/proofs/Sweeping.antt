@@ -1,5 +1,5 @@
 -- A loop over the live keys of a map, which skips vacant places.
-use Rattle.std.proofs.Common.{◌≡◌, ◌≢◌, ℕ, zero, suc, ◌+◌, ◌-◌, ◌<◌, true, Option, Some, None, List}
+use Rattle.std.proofs.Common.{◌∷◌, ◌≡◌, ◌≢◌, ℕ, zero, suc, ◌+◌, ◌-◌, ◌<◌, true, Option, Some, None, List}
 use Rattle.std.proofs.Common.{is_some, ◌^◌, refl, sym, ap, subst, ◌∙◌, inl, inr, arith}
 use Rattle.std.specs.FinMap as map
 use Rattle.slotmap_core.specs.Key.{Key, key_cmp}
@@ -10,7 +10,7 @@ use Rattle.slotmap_core.specs.Transition.{Removes, with_value}
 use Rattle.slotmap_core.proofs.IndexLemmas.{from_index, alone_at, NoneBelow-removed, NoneBelow-end, get-remove_other}
 use Rattle.slotmap_core.proofs.Maps.{in_after_remove}
 use Rattle.slotmap_core.proofs.KeyLemmas.{keys_total, exact_keys}
-use Rattle.slotmap_core.proofs.SweepLemmas.{Swept, Swept-start, Swept-on, Swept-written, Swept-removed}
+use Rattle.slotmap_core.proofs.SweepLemmas.{first_entry, Swept, Swept-start, Swept-on, Swept-written, Swept-removed}
 use Rattle.slotmap_core.proofs.LeaveLemmas.{same_live}
 use Rattle.slotmap_core.proofs.ListingLemmas.{remove-insert}
 use Rattle.slotmap_core.proofs.VisitLemmas.{Visits}
@@ -18,10 +18,11 @@ use Rattle.slotmap_core.proofs.KeyedVisits.{Keyed-jump, Keyed-done}
 use Rattle.slotmap_hop.specs.declared.links.Slot.{Slot}
 use Rattle.slotmap_hop.specs.Blocks.{Begins}
 use Rattle.slotmap_hop.specs.Links.{vacant_at}
-use Rattle.slotmap_hop.specs.HopContent.{HopContent, IsHopContent, IsNextLive, MayStand, hop_with_value}
+use Rattle.slotmap_hop.specs.HopContent.{HopContent, IsHopContent, IsNextLive, MayStand, StaysHop, hop_with_value, blocks_without, blocks_without_all}
 use Rattle.slotmap_hop.specs.Slots.{layout, hop_content, IsSound}
 use Rattle.slotmap_hop.specs.Walk.{CanGoOn}
 use Rattle.slotmap_hop.proofs.SlotLemmas.{same_counts}
+use Rattle.slotmap_hop.proofs.BlocksLeft.{blocks_taken, keys_first, keys_none}
 use Rattle.slotmap_hop.proofs.WellFormed.{IsHopContent-with_value}
 
 -- a search may begin where an iterator may be
@@ -73,18 +74,29 @@ module _ {K V : Type 0} (data_of : K → Key) where
     comes_written w i' (Some n) comes =
         (sym (same_live now.content (data_of k) w sweep.comes.0 (data_of n)) ∙ comes.0, comes.1, λ q there from. comes.2 q (same_live now.content (data_of k) w sweep.comes.0 q ∙ there) from)
 
-    -- the key is removed
-    pub sweep_removed : (new : HopContent V) (next : Option K) → IsNextLive data_of now.content ((data_of k).index + 1) next
-        → Removes now.content (data_of k) new.content → new.content.capacity ≡ now.content.capacity → IsHopContent new
-        → Sweeping old new ((data_of k).index + 1) next
-    sweep_removed new next comes removes capacity well = record {
-      swept = Swept-removed old.content now.content new.content (data_of k).index (data_of k) swept_here sweep.comes.0 refl removes capacity well.valid;
+    -- the key is removed, perhaps after a write to its value
+    removed_to : (was : Content V) (new : HopContent V) (next : Option K) → Swept true old.content was (data_of k).index → IsLive was (data_of k)
+        → new.content.live ≡ map.remove now.content.live (data_of k) → IsNextLive data_of now.content ((data_of k).index + 1) next
+        → Removes was (data_of k) new.content → new.content.capacity ≡ was.capacity → IsHopContent new → Sweeping old new ((data_of k).index + 1) next
+    removed_to was new next swept is_live gone comes removes capacity well = record {
+      swept = Swept-removed old.content was new.content (data_of k).index (data_of k) swept is_live refl removes capacity well.valid;
       valid = well;
       comes = comes_after new.content next
-          (λ q there. (in_after_remove keys_total exact_keys now.content.live (data_of k) q (sym (ap (λ m. map.contains_key m q) removes.live) ∙ there)).1)
-          (λ q there other. ap (λ m. map.contains_key m q) removes.live ∙ ap is_some (get-remove_other now.content.live (data_of k) q other) ∙ there)
+          (λ q there. (in_after_remove keys_total exact_keys now.content.live (data_of k) q (sym (ap (λ m. map.contains_key m q) gone) ∙ there)).1)
+          (λ q there other. ap (λ m. map.contains_key m q) gone ∙ ap is_some (get-remove_other now.content.live (data_of k) q other) ∙ there)
           comes;
     }
+
+    pub sweep_removed : (new : HopContent V) (next : Option K) → IsNextLive data_of now.content ((data_of k).index + 1) next
+        → Removes now.content (data_of k) new.content → StaysHop now new → Sweeping old new ((data_of k).index + 1) next
+    sweep_removed new next comes removes stays = removed_to now.content new next swept_here sweep.comes.0 removes.live comes removes stays.capacity stays.after
+
+    pub sweep_dropped : (w : V) (new : HopContent V) (next : Option K) → IsNextLive data_of now.content ((data_of k).index + 1) next
+        → Removes (with_value now.content (data_of k) w) (data_of k) new.content → StaysHop (hop_with_value now (data_of k) w) new → Sweeping old new ((data_of k).index + 1) next
+    sweep_dropped w new next comes removes stays =
+        removed_to (with_value now.content (data_of k) w) new next
+        (Swept-written old.content now.content (data_of k).index (data_of k) w swept_here sweep.comes.0) (same_live now.content (data_of k) w sweep.comes.0 (data_of k) ∙ sweep.comes.0)
+        (removes.live ∙ remove-insert now.content.live (data_of k) w) comes removes stays.capacity stays.after
 
     -- the key stays, with another value
     pub sweep_written : (w : V) (next : Option K) → IsNextLive data_of now.content ((data_of k).index + 1) next → Sweeping old (hop_with_value now (data_of k) w) ((data_of k).index + 1) next
@@ -97,46 +109,37 @@ module _ {K V : Type 0} (data_of : K → Key) where
           comes;
     }
 
-    -- the key is removed after a write to its value
-    pub sweep_dropped : (w : V) (new : HopContent V) (next : Option K) → IsNextLive data_of now.content ((data_of k).index + 1) next
-        → Removes (with_value now.content (data_of k) w) (data_of k) new.content → new.content.capacity ≡ now.content.capacity → IsHopContent new
-        → Sweeping old new ((data_of k).index + 1) next
-    sweep_dropped w new next comes removes capacity well =
-        let written = Swept-written old.content now.content (data_of k).index (data_of k) w swept_here sweep.comes.0 in
-        let still = same_live now.content (data_of k) w sweep.comes.0 (data_of k) ∙ sweep.comes.0 in
-        let gone : new.content.live ≡ map.remove now.content.live (data_of k) = removes.live ∙ remove-insert now.content.live (data_of k) w in
-        record {
-          swept = Swept-removed old.content (with_value now.content (data_of k) w) new.content (data_of k).index (data_of k) written still refl removes capacity well.valid;
-          valid = well;
-          comes = comes_after new.content next
-              (λ q there. (in_after_remove keys_total exact_keys now.content.live (data_of k) q (sym (ap (λ m. map.contains_key m q) gone) ∙ there)).1)
-              (λ q there other. ap (λ m. map.contains_key m q) gone ∙ ap is_some (get-remove_other now.content.live (data_of k) q other) ∙ there)
-              comes;
-        }
-
     pub none_between : (m : map.FinMap key_cmp V) → ((q : Key) → map.contains_key m q ≡ true → IsLive now.content q) → NoneBelow m i → NoneBelow m (data_of k).index
     none_between m part above q there = sweep.comes.2 q (part q there) (above q there)
 
-  -- the loop so far, with what it says about the keys below its index
+  -- the loop so far, with what it says about the keys below its index, and which blocks are to come
   pub record Clearing (old now : HopContent V) (next : Option K) : Type 0 where
     pub index : ℕ
     pub sweep : Sweeping old now index next
     pub above : NoneBelow now.content.live index
+    pub blocks : blocks_without_all old (map.keys old.content.live) ≡ blocks_without_all now (map.keys now.content.live)
 
   pub clearing_starts : (m : HopContent V) (next : Option K) → IsHopContent m → IsNextLive data_of m.content 0 next → Clearing m m next
-  clearing_starts m next well comes = record { index = 0; sweep = sweep_starts m next well comes; above = λ q there. omega arith }
+  clearing_starts m next well comes = record { index = 0; sweep = sweep_starts m next well comes; above = λ q there. omega arith; blocks = refl }
 
-  pub clearing_removed : (old now new : HopContent V) (k : K) (next : Option K) → Clearing old now (Some k)
-      → IsNextLive data_of now.content ((data_of k).index + 1) next → Removes now.content (data_of k) new.content
-      → new.content.capacity ≡ now.content.capacity → IsHopContent new → Clearing old new next
-  clearing_removed old now new k next clearing comes removes capacity well =
+  -- the next key is removed, which was the first one
+  pub clearing_removed : (old now new : HopContent V) (k : K) (x : V) (next : Option K) → Clearing old now (Some k)
+      → IsNextLive data_of now.content ((data_of k).index + 1) next → map.get now.content.live (data_of k) ≡ Some x → Removes now.content (data_of k) new.content
+      → new.blocks ≡ blocks_without now (data_of k) → StaysHop now new
+      → Clearing old new next × (map.entries now.content.live ≡ (data_of k, x) ∷ map.entries new.content.live)
+  clearing_removed old now new k x next clearing comes value removes blocks stays =
       let alone = alone_at now.content clearing.sweep.valid.valid (data_of k) (data_of k).index clearing.sweep.comes.0 refl in
       let above = none_between old now clearing.index k clearing.sweep now.content.live (λ q there. there) clearing.above in
-      record {
-        index = (data_of k).index + 1;
-        sweep = sweep_removed old now clearing.index k clearing.sweep new next comes removes capacity well;
-        above = subst (λ m. NoneBelow m ((data_of k).index + 1)) (sym removes.live) (NoneBelow-removed now.content.live (data_of k).index (data_of k) alone above);
-      }
+      let first = first_entry now.content clearing.sweep.valid.valid clearing.index (data_of k) clearing.sweep.comes.2 x clearing.above value ∙ ap (λ m. (data_of k, x) ∷ map.entries m) (sym removes.live) in (
+        record {
+          index = (data_of k).index + 1;
+          sweep = sweep_removed old now clearing.index k clearing.sweep new next comes removes stays;
+          above = subst (λ m. NoneBelow m ((data_of k).index + 1)) (sym removes.live) (NoneBelow-removed now.content.live (data_of k).index (data_of k) alone above);
+          blocks = clearing.blocks ∙ ap (blocks_without_all now) (keys_first now.content.live new.content.live (data_of k) x first)
+              ∙ blocks_taken now new (data_of k) (map.keys new.content.live) removes blocks;
+        },
+        first,
+      )
 
   -- after the smallest key is removed, each live key has a larger index
   pub after_above : (now new : HopContent V) (k : K) → IsHopContent now → IsNextLive data_of now.content 0 (Some k)
@@ -153,6 +156,9 @@ module _ {K V : Type 0} (data_of : K → Key) where
 
   pub clearing_ends : (old now : HopContent V) → Clearing old now None → now.content.live ≡ map.empty
   clearing_ends old now clearing = NoneBelow-end now.content.live clearing.index clearing.sweep.comes clearing.above
+
+  pub clearing_blocks : (old now : HopContent V) → Clearing old now None → now.blocks ≡ blocks_without_all old (map.keys old.content.live)
+  clearing_blocks old now clearing = sym (clearing.blocks ∙ ap (blocks_without_all now) (keys_none now.content.live (clearing_ends old now clearing)))
 
   -- the visits up to the next key
   pub Visits-here : (old : HopContent V) (xs : List (Visit K V)) (i : ℕ) (k : K) (now : HopContent V) → IsNextLive data_of now.content i (Some k)

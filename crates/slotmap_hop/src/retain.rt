@@ -124,10 +124,8 @@ impl<K: Key, V: Drop> HopSlotMap<K, V> {
         ensures valid { IsHopContent self.now }
     {
         out.reserve(self.len())?;
-        let mut next = self.first_live(0);
-        while let Some(key) = next {
+        for key in self.keys() {
             out.push_reserved(key);
-            next = self.first_live(key.data().idx() + 1);
         }
         Ok(())
     }

@@ -4,16 +4,13 @@ use Rattle.std.proofs.lemmas.List.{map-append}
 use Rattle.slotmap_core.proofs.KeyLemmas.{keys_total, exact_keys}
 use Rattle.slotmap_core.proofs.Maps.{some_entry, len_removed}
 use Rattle.slotmap_core.proofs.OrderLemmas.{entries_none}
-use Rattle.slotmap_core.proofs.SweepLemmas.{first_entry}
-use Rattle.slotmap_hop.specs.HopContent.{IsNextLive, blocks_without_all}
-use Rattle.slotmap_hop.proofs.BlocksLeft.{blocks_taken, keys_first, keys_none}
-use Rattle.slotmap_hop.proofs.Sweeping.{Clearing, clearing_starts, clearing_removed, clearing_ends}
+use Rattle.slotmap_hop.specs.HopContent.{IsNextLive}
+use Rattle.slotmap_hop.proofs.Sweeping.{Clearing, clearing_starts, clearing_removed, clearing_ends, clearing_blocks}
 use Rattle.slotmap_hop.proofs.HopSlotMap.drain_into.Goals as goal
 
 pub loop-next-init : goal.loop-next-init
 loop-next-init g c = record {
   clearing = clearing_starts g.K.Key.data_of c.args.self.now _ c.first_live-next.ensures.valid c.first_live-next.ensures.comes;
-  blocks = refl;
   pairs = [];
   pushed = c.reserve.ensures.items ∙ sym (append-nil c.args.out.now.items);
   listed = refl;
@@ -33,29 +30,21 @@ loop-next-preserved g c =
     let clearing = subst (Clearing g.K.Key.data_of c.args.self.now at.self) c.in-Some.is at.invariant.clearing in
     let index : c.idx.result ≡ key.index = c.idx.ensures.value ∙ ap (λ k. k.index) c.data.ensures.value in
     let comes = subst (λ i. IsNextLive g.K.Key.data_of at.self.content (i + 1) c.first_live-next-in-Some.result) index c.first_live-next-in-Some.ensures.comes in
-    let value = c.take_live-value.result in
-    let removes = c.take_live-value.ensures.removes in
-    let next = first_entry at.self.content clearing.sweep.valid.valid clearing.index key clearing.sweep.comes.2 value clearing.above
-    c.take_live-value.ensures.value ∙ ap (λ m. (key, value) ∷ map.entries m) (sym removes.live) in
+    let took = c.take_live-value.ensures in
+    let pair : g.row.K.Denot × g.row.V.Denot = (c.in-Some.key, c.take_live-value.result) in
+    let next = clearing_removed g.K.Key.data_of c.args.self.now at.self c.take_live-value.new.self c.in-Some.key c.take_live-value.result _ clearing comes took.value took.removes took.blocks took.valid in
     record {
-      clearing =
-          clearing_removed g.K.Key.data_of c.args.self.now at.self c.take_live-value.new.self c.in-Some.key c.first_live-next-in-Some.result clearing
-          comes removes c.take_live-value.ensures.valid.capacity c.take_live-value.ensures.valid.after;
-      blocks = at.invariant.blocks ∙ ap (blocks_without_all at.self) (keys_first at.self.content.live c.take_live-value.new.self.content.live key value next)
-          ∙ blocks_taken at.self c.take_live-value.new.self key (map.keys c.take_live-value.new.self.content.live) removes c.take_live-value.ensures.blocks;
-      pairs = at.invariant.pairs ++ (c.in-Some.key, value) ∷ [];
-      pushed = c.push_reserved.ensures.items ∙ ap (λ xs. xs ++ (c.in-Some.key, value) ∷ []) at.invariant.pushed
-          ∙ append_assoc c.args.out.now.items at.invariant.pairs ((c.in-Some.key, value) ∷ []);
-      listed = at.invariant.listed ∙ ap (λ es. list_map (λ p. (g.K.Key.data_of p.0, p.1)) at.invariant.pairs ++ es) next
-          ∙ sym (append_assoc (list_map (λ p. (g.K.Key.data_of p.0, p.1)) at.invariant.pairs) ((key, value) ∷ []) (map.entries c.take_live-value.new.self.content.live))
-          ∙ ap (λ es. es ++ map.entries c.take_live-value.new.self.content.live) (sym (map-append (λ p. (g.K.Key.data_of p.0, p.1)) at.invariant.pairs ((c.in-Some.key, value) ∷ [])));
+      clearing = next.0;
+      pairs = at.invariant.pairs ++ pair ∷ [];
+      pushed = c.push_reserved.ensures.items ∙ ap (λ xs. xs ++ pair ∷ []) at.invariant.pushed ∙ append_assoc c.args.out.now.items at.invariant.pairs (pair ∷ []);
+      listed = simp (map-append, append_assoc) (at.invariant.listed ∙ ap (λ es. list_map (λ p. (g.K.Key.data_of p.0, p.1)) at.invariant.pairs ++ es) next.1);
       room =
           omega (
             arith,
             at.invariant.room,
             c.push_reserved.ensures.len,
             c.push_reserved.ensures.capacity,
-            ap map.len removes.live,
+            ap map.len took.removes.live,
             len_removed keys_total exact_keys at.self.content.live key clearing.sweep.comes.0,
           );
     }
@@ -72,4 +61,4 @@ returns-clause-ok g c =
     (pairs, at.invariant.pushed, sym (at.invariant.listed ∙ ap (λ es. entries ++ es) (ap (λ m. map.entries m) (returns-clause-empty g c) ∙ entries_none) ∙ append-nil entries))
 
 pub returns-clause-blocks : goal.returns-clause-blocks
-returns-clause-blocks g c = sym (c.loop-next.invariant.blocks ∙ ap (blocks_without_all c.loop-next.self) (keys_none c.loop-next.self.content.live (returns-clause-empty g c)))
+returns-clause-blocks g c = clearing_blocks g.K.Key.data_of c.args.self.now c.loop-next.self (subst (Clearing g.K.Key.data_of c.args.self.now c.loop-next.self) c.in_default.is c.loop-next.invariant.clearing)

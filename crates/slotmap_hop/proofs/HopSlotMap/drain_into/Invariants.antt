@@ -1,13 +1,11 @@
 use Rattle.std.proofs.Common.{◌≡◌, ◌+◌, ◌≤◌, ◌++◌, List, map as list_map, vec_len, vec_capacity}
 use Rattle.std.specs.FinMap as map
-use Rattle.slotmap_hop.specs.HopContent.{blocks_without_all}
 use Rattle.slotmap_hop.proofs.Sweeping.{Clearing, indices_left}
 use Rattle.slotmap_hop.proofs.HopSlotMap.drain_into.Given as goal
 
 abbrev pub invariant-loop-next : goal.invariant-loop-next
 invariant-loop-next g l = record {
   clearing : Clearing g.K.Key.data_of l.fn.self l.self l.next;
-  blocks : blocks_without_all l.fn.self (map.keys l.fn.self.content.live) ≡ blocks_without_all l.self (map.keys l.self.content.live);
   pairs : List (g.row.K.Denot × g.row.V.Denot);
   pushed : l.out.items ≡ l.fn.out.items ++ pairs;
   listed : map.entries l.fn.self.content.live ≡ list_map (λ p. (g.K.Key.data_of p.0, p.1)) pairs ++ map.entries l.self.content.live;

@@ -68,7 +68,7 @@ loop-next-preserved-then-not-stays g c =
       index = key.index + 1;
       sweep =
           sweep_dropped g.K.Key.data_of old at.self at.invariant.index c.in-Some.key sweep visit.after c.take_live.new.self
-          c.first_live-next-in-Some.result comes c.take_live.ensures.removes c.take_live.ensures.valid.capacity c.take_live.ensures.valid.after;
+          c.first_live-next-in-Some.result comes c.take_live.ensures.removes c.take_live.ensures.valid;
       visits = at.invariant.visits ++ visit ∷ [];
       calls = FoldsTo-push (CallsAt g.F.FnMut) c.args.f at.invariant.visits at.f visit c.f-stays.new.self at.invariant.calls (CallsAt-called g.F.FnMut c.f-stays.ensures);
       visited = rw live (Keyed-at g.K.Key.data_of old.content.live alone at.invariant.visits key.index at.self.content.live visit visited refl c.get_unchecked_mut.ensures.value);
