@@ -34,12 +34,14 @@ impl<K: Key, V: Drop> SlotMap<K, V> {
         ensures valid { StaysValid true self.old self.new }
     {
         self.slots.note_valid();
-        let mut index: u32 = 0;
-        while let Some(key) = self.live_from(index as usize) {
-            index = key.data().idx() + 1;
-            if !f(key, self.get_unchecked_mut(key)) {
-                self.take_live(key);
-            }
+        let mut index = 0;
+        loop {
+            index = self.slots.first_rejected(index, &mut f);
+            let Some(key) = self.live_from(index) else {
+                break;
+            };
+            self.take_live(key);
+            index += 1;
         }
     }
 

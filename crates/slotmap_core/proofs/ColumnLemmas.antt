@@ -21,7 +21,7 @@ module _ {P : Type 0} where
   zip-at (w ∷ vs) (m ∷ ls) (y ∷ xs) (suc i) v l x at_v at_l at_x = zip-at vs ls xs i v l x at_v at_l at_x
   zip-at vs ls xs i v l x at_v at_l at_x = absurd (cc)
 
-  zip-reads : (vs : List ℕ) (ls : List Link) (xs : List (Option P)) (i : ℕ) → length ls ≡ length vs → length xs ≡ length vs
+  pub zip-reads : (vs : List ℕ) (ls : List Link) (xs : List (Option P)) (i : ℕ) → length ls ≡ length vs → length xs ≡ length vs
       → (version_at (zip_slots vs ls xs) i ≡ slice_get vs i) × (link_at (zip_slots vs ls xs) i ≡ slice_get ls i) × (payload_at (zip_slots vs ls xs) i ≡ option_and_then (λ x. x) (slice_get xs i))
   zip-reads [] [] [] i same_l same_x = (refl, refl, refl)
   zip-reads (v ∷ vs) (l ∷ ls) (x ∷ xs) zero same_l same_x = (refl, refl, refl)

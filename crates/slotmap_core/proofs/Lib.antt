@@ -16,6 +16,7 @@ pub mod StepLemmas
 pub mod SlotLemmas
 pub mod SlotGrowth
 pub mod HeldLemmas
+pub mod PassLemmas
 pub mod DisjointLemmas
 pub mod ListingLemmas
 pub mod LeaveLemmas

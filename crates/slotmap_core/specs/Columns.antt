@@ -8,6 +8,10 @@ abbrev pub AllEven : List ℕ → ℕ → ℕ → Type 0
 AllEven versions start end = (i v : ℕ) → start ≤ i → i < end → slice_get versions i ≡ Some v → v % 2 ≡ 0
 
 module _ {P : Type 0} where
+  -- there is a payload at each odd version
+  abbrev pub HasEachOdd : List ℕ → List (Option P) → Type 0
+  HasEachOdd versions payloads = (i v : ℕ) → slice_get versions i ≡ Some v → v % 2 ≡ 1 → (p : P) × (slice_get payloads i ≡ Some (Some p))
+
   -- slot i has the i-th elements
   abbrev pub zip_slots : List ℕ → List Link → List (Option P) → List (Slot P)
   zip_slots [] links payloads = []

@@ -26,6 +26,7 @@ pub mod Columns
 pub mod Rows
 pub mod SlotsLend
 pub mod Walk
+pub mod Pass
 pub mod Slots
 pub mod Contents
 pub mod Written

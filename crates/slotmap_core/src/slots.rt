@@ -22,6 +22,7 @@ mod copy;
 mod detach;
 mod insert;
 mod list;
+mod pass;
 mod remove;
 mod walk;
 

@@ -1,11 +1,14 @@
 //! Slots in three vectors of one length.
 
-ghost use Rattle.std.specs.Prelude.{◌≡◌, ◌<◌, ◌≤◌, ◌%◌, ◌^◌, ℕ, List, length, slice_get, Some, refl, vec_capacity};
-ghost use Rattle.slotmap_core.specs.Columns.{AllEven, zip_slots};
+ghost use Rattle.std.specs.Prelude.{◌≡◌, ◌<◌, ◌≤◌, ◌%◌, ◌^◌, ℕ, List, length, slice_get, Some, IsSome, refl, vec_capacity};
+ghost use Rattle.slotmap_core.specs.Columns.{AllEven, HasEachOdd, zip_slots};
+ghost use Rattle.slotmap_core.specs.Pass.{MayPass, Passes, in_columns, in_slots, stage};
+ghost use Rattle.slotmap_core.specs.Slot.{version_at, payload_at};
 ghost use Rattle.slotmap_core.specs.declared.layout.Link.{Link as LinkOf};
 
 use super::numbers::{link_for, number_for};
 use super::{CopyLayout, Layout, Link};
+use crate::keys::{Key, KeyData};
 use crate::sure::{sure, sure_mut};
 use std::alloc::{AllocError, Global};
 use std::marker::Model;
@@ -136,6 +139,34 @@ pub(crate) fn version_in(versions: &[u32], index: usize) -> u32
     versions[index]
 }
 
+// Calls a closure for each odd version from an index on, with its key and the payload at its index,
+// until it returns `false`. Returns the index for which it did, or the number of versions.
+fn find_rejected<K: Key, P, F: FnMut(K, &mut P) -> bool>(
+    versions: &[u32],
+    payloads: &mut [Option<P>],
+    from: usize,
+    f: &mut F,
+) -> usize
+    requires from { from ≤ length versions.now }
+    requires few { length versions.now < 2 ^ 32 }
+    requires same_length { length payloads.old ≡ length versions.now }
+    requires placed { HasEachOdd versions.now payloads.old }
+    requires callable { MayPass (in_columns K.data_of versions.now) F.FnMut (stage from payloads.old f.old) }
+    ensures passes { Passes (in_columns K.data_of versions.now) F.FnMut (stage from payloads.old f.old) (stage result payloads.new f.new) }
+    ensures within { result ≤ length versions.now }
+    ensures same_length { length payloads.new ≡ length payloads.old }
+{
+    let mut index = next_odd(versions, from);
+    while index < versions.len() {
+        let key = KeyData::exact(index as u32, versions[index]);
+        if !f(K::from(key), sure_mut(&mut payloads[index])) {
+            return index;
+        }
+        index = next_odd(versions, index + 1);
+    }
+    index
+}
+
 // Returns how many more slots to allocate if `additional` are needed. Each growth moves three
 // vectors, so it pays to have few of them.
 fn growth(len: usize, additional: usize) -> usize
@@ -166,6 +197,29 @@ impl<P> Columns<P> {
         ensures { (links : List LinkOf) × (length links ≡ length result.0.now) × (length result.1.now ≡ length result.0.now) × (zip_slots result.0.now links result.1.now ≡ self.now.slots) }
     {
         (self.versions.as_slice(), self.payloads.as_slice())
+    }
+
+    // Calls a closure for each slot that is in use from an index on, with its key and its payload,
+    // until it returns `false`. Returns the index for which it did, or the number of slots.
+    pub(crate) fn first_rejected<K: Key, F: FnMut(K, &mut P) -> bool>(
+        &mut self,
+        from: usize,
+        f: &mut F,
+    ) -> usize
+        requires from { from ≤ length self.old.slots }
+        requires few { length self.old.slots < 2 ^ 32 }
+        requires placed { (i v : ℕ) → version_at self.old.slots i ≡ Some v → v % 2 ≡ 1 → IsSome (payload_at self.old.slots i) }
+        requires callable { MayPass (in_slots K.data_of) F.FnMut (stage from self.old.slots f.old) }
+        ensures passes { Passes (in_slots K.data_of) F.FnMut (stage from self.old.slots f.old) (stage result self.new.slots f.new) }
+        ensures within { result ≤ length self.new.slots }
+        ensures same_room { self.new.capacity ≡ self.old.capacity }
+    {
+        find_rejected(
+            self.versions.as_slice(),
+            self.payloads.as_mut_slice(),
+            from,
+            f,
+        )
     }
 }
 
