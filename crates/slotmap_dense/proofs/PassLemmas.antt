@@ -10,14 +10,16 @@ use Rattle.std.specs.Option.{option_map}
 use Rattle.std.specs.FinMap as map
 use Rattle.slotmap_core.specs.Content.{Content}
 use Rattle.slotmap_core.specs.Key.{Key}
+use Rattle.slotmap_core.specs.Pass.{Stage, stage, Calls, Keeps, Rejects, Passes, MayPass}
 use Rattle.slotmap_core.specs.Retain.{Visit, CallsAt, CallableOnEach}
 use Rattle.slotmap_core.specs.Transition.{Leaves, pushed_all}
 use Rattle.slotmap_core.proofs.ListingLemmas.{remove-insert}
 use Rattle.slotmap_core.proofs.LeaveLemmas.{Leaves-refl, Leaves-trans, Leaves-with_value, Leaves-removed, same_live}
+use Rattle.slotmap_core.proofs.PassLemmas.{Lifts}
 use Rattle.slotmap_core.proofs.VisitLemmas.{Visits, Visits-start, Visits-call, Visits-rest, Visits-listed, Visits-stay}
 use Rattle.slotmap_dense.specs.Dense.{Dense, IsDense, with_value_of}
 use Rattle.slotmap_dense.specs.Packed.{IsSound, dense_of, at_position}
-use Rattle.slotmap_dense.specs.Pass.{Stage, stage, Calls, Keeps, Passes, MayPass, beside, packed_order}
+use Rattle.slotmap_dense.specs.Pass.{beside, packed_order}
 use Rattle.slotmap_dense.specs.Retain.{dropped, PacksBy, RetainsPacked}
 use Rattle.slotmap_dense.specs.Rest.{rest_of, LeavesFrom}
 use Rattle.slotmap_dense.proofs.PackedLemmas.{get-packed}
@@ -25,7 +27,7 @@ use Rattle.slotmap_dense.proofs.RestLemmas.{Comes-at, rest-start, rest-end}
 use Rattle.slotmap_dense.proofs.RetainLemmas.{SoFar, SoFar-start, SoFar-kept, SoFar-dropped}
 use Rattle.slotmap_dense.proofs.WellFormed.{IsSound-written, dense-written, IsDense-with_value}
 
-module _ {F K V : Type 0} (g : Mut F (K × (MutBor V × Unit {0})) (Bool × (MutBor V × Unit {0}))) (data_of : K → Key) where
+module _ {K V : Type 0} (data_of : K → Key) where
   -- what a loop over two slices reads at a position
   pub shows-read : (keys : List K) (values : List V) (p : ℕ) (key : K) (v : V) → p < length keys → length values ≡ length keys → key ≡ get_or keys p key
       → (beside {V = V} data_of (list_map data_of keys)).Shows values p key (get_or values p v)
@@ -34,61 +36,22 @@ module _ {F K V : Type 0} (g : Mut F (K × (MutBor V × Unit {0})) (Bool × (Mut
     slice_get-get_or values p v (omega (arith, within, same)),
   )
 
-  -- a pass over the vectors is one over the map
-  module _ (slots : Content ℕ) (keys : List Key) (spare : ℕ) where
-    abbrev pub whole : Stage F (List V) → Stage F (Dense V)
-    whole s = stage s.position (dense_of slots keys s.held spare) s.closure
-
-    pub shows-whole : (values : List V) → IsSound slots keys values → (p : ℕ) (key : K) (v : V) → (beside {V = V} data_of keys).Shows values p key v
-        → (packed_order {V = V} data_of).Shows (dense_of slots keys values spare) p key v
-    shows-whole values sound p key v shows =
+  -- the values beside the keys of a map are those of the map
+  pub Lifts-values : (slots : Content ℕ) (keys : List Key) (spare : ℕ)
+      → Lifts (beside {V = V} data_of keys) (packed_order data_of) (λ values. dense_of slots keys values spare) (λ values. IsSound slots keys values)
+  Lifts-values slots keys spare = record {
+    shows = λ values p key v sound shows.
         let k = data_of key in (
           Comes-at slots keys values sound spare p k shows.0,
           get-packed slots.live keys sound.packed values sound.same_length k ∙ ap (at_position values) (sound.packed.names p k shows.0) ∙ shows.1,
-        )
+        );
+    puts = λ values p key v w sound shows. dense-written slots keys values sound spare (data_of key) p w (sound.packed.names p (data_of key) shows.0);
+    still = λ values p key v w sound shows. IsSound-written slots keys values p w sound;
+    moves = λ p key stays. refl;
+    ends = λ values p end sound ended. ended;
+  }
 
-    pub calls-whole : (s t : Stage F (List V)) (x : Visit K V) → IsSound slots keys s.held → Calls (beside data_of keys) g s x t
-        → Calls (packed_order data_of) g (whole s) x (whole t) × IsSound slots keys t.held
-    calls-whole s t x sound calls =
-        let k = data_of x.key in (
-          record {
-            shows = shows-whole s.held sound s.position x.key x.before calls.shows;
-            written = ap (λ vs. dense_of slots keys vs spare) calls.written ∙ dense-written slots keys s.held sound spare k s.position x.after (sound.packed.names s.position k calls.shows.0);
-            moves = calls.moves;
-            called = calls.called;
-          },
-          subst (IsSound slots keys) (sym calls.written) (IsSound-written slots keys s.held s.position x.after sound),
-        )
-
-    pub kept-whole : (xs : List (Visit K V)) (s t : Stage F (List V)) → IsSound slots keys s.held → FoldsTo (Keeps (beside data_of keys) g) s xs t
-        → FoldsTo (Keeps (packed_order data_of) g) (whole s) xs (whole t) × IsSound slots keys t.held
-    kept-whole [] s t sound run = (ap whole run, subst (λ u. IsSound slots keys u.held) run sound)
-    kept-whole (x ∷ xs) s t sound run =
-        let one = calls-whole s run.0 x sound run.1.calls in
-        let rest = kept-whole xs run.0 t one.1 run.2 in
-        ((whole run.0, record { calls = one.0; stays = run.1.stays }, rest.0), rest.1)
-
-    pub passes-whole : (s t : Stage F (List V)) → IsSound slots keys s.held → Passes (beside data_of keys) g s t
-        → Passes (packed_order data_of) g (whole s) (whole t) × IsSound slots keys t.held
-    passes-whole s t sound passes =
-        let kept = kept-whole passes.visits s passes.last sound passes.kept in
-        elim passes.ends [
-          | inl done ↦ (
-            record { visits = passes.visits; last = whole passes.last; kept = kept.0; ends = inl (done.0, ap whole done.1) },
-            subst (λ u. IsSound slots keys u.held) done.1 kept.1,
-          )
-          | inr one ↦
-              let call = calls-whole passes.last t one.0 kept.1 one.1 in
-              (record { visits = passes.visits; last = whole passes.last; kept = kept.0; ends = inr (one.0, call.0, one.2) }, call.1)
-        ]
-
-    pub may-whole : (s : Stage F (List V)) → IsSound slots keys s.held → MayPass (packed_order data_of) g (whole s) → MayPass (beside data_of keys) g s
-    may-whole s sound may = record {
-      at = λ visits t key shown run shows.
-          let kept = kept-whole visits s t sound run in
-          may.at visits (whole t) key shown kept.0 (shows-whole t.held kept.1 t.position key shown.now shows);
-    }
-
+module _ {F K V : Type 0} (g : Mut F (K × (MutBor V × Unit {0})) (Bool × (MutBor V × Unit {0}))) (data_of : K → Key) where
   module _ (old : Dense V) (first : F) where
     -- what the calls so far did to the map
     pub record Going (s : Stage F (Dense V)) : Type 0 where
@@ -187,35 +150,40 @@ module _ {F K V : Type 0} (g : Mut F (K × (MutBor V × Unit {0})) (Bool × (Mut
     }
 
     -- a pass ended at a pair that was rejected
-    pub record Rejects (t : Stage F (Dense V)) : Type 0 where
+    pub record Rejected (t : Stage F (Dense V)) : Type 0 where
       pub last : Stage F (Dense V)
       pub going : Going last
-      pub visit : Visit K V
-      pub calls : Calls (packed_order data_of) g last visit t
-      pub stays : visit.stays ≡ false
+      pub rejects : Rejects (packed_order data_of) g last t
+
+    rejected_at : (s t : Stage F (Dense V)) (one : Rejects (packed_order data_of) g s t) → t.position ≡ s.position
+    rejected_at s t one = one.calls.moves ∙ ap (λ b. cond b (s.position + 1) s.position) one.leaves
 
     -- its pair is at the position
-    pub Rejects-stands : (t : Stage F (Dense V)) (rejects : Rejects t) → slice_get t.held.keys t.position ≡ Some (data_of rejects.visit.key)
-    Rejects-stands t rejects =
-        let here = rejects.calls.moves ∙ ap (λ b. cond b (rejects.last.position + 1) rejects.last.position) rejects.stays in
-        ap (λ d. slice_get d.keys t.position) rejects.calls.written ∙ ap (slice_get rejects.last.held.keys) here ∙ rejects.calls.shows.0.stands
+    pub Rejected-stands : (t : Stage F (Dense V)) (rejected : Rejected t) → slice_get t.held.keys t.position ≡ Some (data_of rejected.rejects.visit.key)
+    Rejected-stands t rejected =
+        let one = rejected.rejects in
+        ap (λ d. slice_get d.keys t.position) one.calls.written ∙ ap (slice_get rejected.last.held.keys) (rejected_at rejected.last t one) ∙ one.calls.shows.0.stands
 
     module _ (s t : Stage F (Dense V)) (going : Going s) (passes : Passes (packed_order data_of) g s t) where
+      last_going : Going passes.last
+      last_going = Going-along passes.visits s passes.last going passes.kept
+
       -- the position is that of a pair
-      pub Going-rejects : t.position < length t.held.keys → Rejects t
-      Going-rejects within = elim passes.ends [
-        | inl done ↦ absurd (omega (arith, done.0, ap (λ u. u.position) done.1, ap (λ u. length u.held.keys) done.1))
-        | inr one ↦ record { last = passes.last; going = Going-along passes.visits s passes.last going passes.kept; visit = one.0; calls = one.1; stays = one.2 }
+      pub Going-rejected : t.position < length t.held.keys → Rejected t
+      Going-rejected within = elim passes.ends [
+        | inl done ↦ absurd (omega (arith, done.ended.0, done.ended.1, ap (λ d. length d.keys) done.held))
+        | inr one ↦ record { last = passes.last; going = last_going; rejects = one }
       ]
 
       -- all pairs were visited
       pub Going-end : length t.held.keys ≤ t.position → Going t
       Going-end past = elim passes.ends [
-        | inl done ↦ subst Going done.1 (Going-along passes.visits s passes.last going passes.kept)
+        | inl done ↦
+            let same : passes.last ≡ t = λ j. stage (sym done.ended.1 j) (sym done.held j) (sym done.closure j) in
+            subst Going same last_going
         | inr one ↦
-            let here = one.1.moves ∙ ap (λ b. cond b (passes.last.position + 1) passes.last.position) one.2 in
-            let within = slice_get_within passes.last.held.keys passes.last.position (data_of one.0.key) one.1.shows.0.stands in
-            absurd (omega (arith, here, ap (λ d. length d.keys) one.1.written))
+            let within = slice_get_within passes.last.held.keys passes.last.position (data_of one.visit.key) one.calls.shows.0.stands in
+            absurd (omega (arith, rejected_at passes.last t one, ap (λ d. length d.keys) one.calls.written))
       ]
 
     -- what was done once all pairs were visited

@@ -4,7 +4,7 @@ use Rattle.std.proofs.Common.{length, map as list_map, slice_get, set, vec_capac
 use Rattle.std.specs.Global.{Vec}
 use Rattle.std.specs.Vec.{with_items}
 use Rattle.std.specs.FinMap as map
-use Rattle.std.proofs.lemmas.List.{length-map, length-set, take_at}
+use Rattle.std.proofs.lemmas.List.{length-map, length-set}
 use Rattle.std.proofs.lemmas.Option.{slice_get_within}
 use Rattle.slotmap_core.specs.Key.{Key, key_cmp}
 use Rattle.slotmap_core.specs.Content.{Content, IsContent, IsLive, used}
@@ -160,7 +160,3 @@ pub dense_refilled : {K V : Type 0} (data_of : K → Key) (slots : Content ℕ) 
 dense_refilled {V = V} data_of slots keys values ws =
     let fill : take values.len (ws ++ drop (length ws) values.items) ≡ refilled values.items ws = ap (λ n. take n (ws ++ drop (length ws) values.items)) values.ok.0 in
     λ j. dense_of slots (list_map data_of keys.items) (fill j) (min (vec_capacity keys) (vec_capacity values))
-
--- as many other values as there were
-pub items-whole : {V : Type 0} (values : Vec V) (ws : List V) → length ws ≡ length values.items → (with_items values ws).items ≡ ws
-items-whole values ws same = take_at ws (drop (length ws) values.items) values.len (omega (arith, same, values.ok.0))

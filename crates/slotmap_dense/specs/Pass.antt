@@ -1,53 +1,10 @@
--- A pass of a closure over the pairs of a map, up to the first one that it rejects. No public clause cites this module.
-use Rattle.std.specs.Prelude.{◌≡◌, ◌≤◌, ◌⊎◌, ℕ, ◌+◌, Bool, true, false, List, length, Some, slice_get, slice_set, if◌then◌else◌}
-use Rattle.std.specs.Fn.{Mut, Takes}
-use Rattle.std.specs.Borrow.{MutBor}
-use Rattle.std.specs.List.{FoldsTo}
+-- How a pass of a closure goes over a dense map. No public clause cites this module.
+use Rattle.std.specs.Prelude.{◌≡◌, ◌≤◌, ◌+◌, List, length, Some, slice_get, slice_set, if◌then◌else◌}
 use Rattle.std.specs.FinMap as map
 use Rattle.slotmap_core.specs.Key.{Key}
-use Rattle.slotmap_core.specs.Retain.{Visit, CallsAt}
+use Rattle.slotmap_core.specs.Pass.{Holding}
 use Rattle.slotmap_dense.specs.Dense.{Dense, with_value_of}
 use Rattle.slotmap_dense.specs.Rest.{Comes}
-
--- how far a pass is: the position that is next, what is held, and the state of the closure
-pub record Stage (F D : Type 0) : Type 0 where
-  pub position : ℕ
-  pub held : D
-  pub closure : F
-
--- how pairs are held
-pub record Holding (D K V : Type 0) : Type 1 where
-  -- the pair at a position
-  pub Shows : D → ℕ → K → V → Type 0
-  -- the same with another value there
-  pub put : D → ℕ → K → V → D
-  -- the position is behind the last pair
-  pub IsEnd : D → ℕ → Type 0
-
-module _ {F D K V : Type 0} (holding : Holding D K V) (g : Mut F (K × (MutBor V × Unit {0})) (Bool × (MutBor V × Unit {0}))) where
-  -- a call for the pair at the position; if the pair stays, the next position follows
-  pub record Calls (s : Stage F D) (x : Visit K V) (t : Stage F D) : Type 0 where
-    pub shows : holding.Shows s.held s.position x.key x.before
-    pub written : t.held ≡ holding.put s.held s.position x.key x.after
-    pub moves : t.position ≡ (if x.stays then s.position + 1 else s.position)
-    pub called : CallsAt g s.closure x t.closure
-
-  -- a call that keeps its pair
-  pub record Keeps (s : Stage F D) (x : Visit K V) (t : Stage F D) : Type 0 where
-    pub calls : Calls s x t
-    pub stays : x.stays ≡ true
-
-  -- the calls from s on keep their pairs, up to the end or to one that rejects its pair
-  pub record Passes (s t : Stage F D) : Type 0 where
-    pub visits : List (Visit K V)
-    pub last : Stage F D
-    pub kept : FoldsTo Keeps s visits last
-    pub ends : (holding.IsEnd last.held last.position × (last ≡ t)) ⊎ ((x : Visit K V) × Calls last x t × (x.stays ≡ false))
-
-  -- the closure may be called for each pair that a pass from s on comes to
-  pub record MayPass (s : Stage F D) : Type 0 where
-    pub at : (visits : List (Visit K V)) (t : Stage F D) (key : K) (shown : MutBor V) → FoldsTo Keeps s visits t
-        → holding.Shows t.held t.position key shown.now → Takes g t.closure (key, (shown, tt))
 
 module _ {K V : Type 0} (data_of : K → Key) where
   -- the values of these keys, at the same positions
@@ -55,7 +12,8 @@ module _ {K V : Type 0} (data_of : K → Key) where
   beside keys = record {
     Shows = λ values p key v. (slice_get keys p ≡ Some (data_of key)) × (slice_get values p ≡ Some v);
     put = λ values p key v. slice_set values p v;
-    IsEnd = λ values p. length keys ≤ p;
+    next = λ p key stays. if stays then p + 1 else p;
+    IsEnd = λ values p end. (length keys ≤ p) × (end ≡ p);
   }
 
   -- a dense map in packed order
@@ -63,9 +21,6 @@ module _ {K V : Type 0} (data_of : K → Key) where
   packed_order = record {
     Shows = λ d p key v. Comes d p (data_of key) × (map.get d.content.live (data_of key) ≡ Some v);
     put = λ d p key v. with_value_of d (data_of key) v;
-    IsEnd = λ d p. length d.keys ≤ p;
+    next = λ p key stays. if stays then p + 1 else p;
+    IsEnd = λ d p end. (length d.keys ≤ p) × (end ≡ p);
   }
-
--- the stage with these parts
-abbrev pub stage : {F D : Type 0} → ℕ → D → F → Stage F D
-stage position held closure = record { position = position; held = held; closure = closure }

@@ -1,6 +1,6 @@
 use Rattle.std.proofs.Common.{◌<◌, ◌≤◌, length, ap, arith}
-use Rattle.slotmap_dense.specs.Pass.{stage}
-use Rattle.slotmap_dense.proofs.PassLemmas.{Going-start, Going-may, Going-rejects, Rejects-stands, Going-dropped, Going-end, Going-retains}
+use Rattle.slotmap_core.specs.Pass.{stage}
+use Rattle.slotmap_dense.proofs.PassLemmas.{Going-start, Going-may, Going-rejected, Rejected-stands, Going-dropped, Going-end, Going-retains}
 use Rattle.slotmap_dense.proofs.SweepLemmas.{len_keys}
 use Rattle.slotmap_dense.proofs.DenseSlotMap.retain.Goals as goal
 
@@ -26,10 +26,10 @@ loop-position-preserved g c =
     let found = c.first_rejected-position in
     let end = stage found.result found.new.self found.new.f in
     let within : found.result < length found.new.self.keys = omega (arith, c.if-position-len.false, found.ensures.within, c.len.ensures.value, len_keys found.new.self c.len.ensures.valid) in
-    let rejects = Going-rejects g.F.FnMut g.K.Key.data_of old c.args.f (stage at.position at.self at.f) end at.invariant.going found.ensures.passes within in
+    let rejected = Going-rejected g.F.FnMut g.K.Key.data_of old c.args.f (stage at.position at.self at.f) end at.invariant.going found.ensures.passes within in
     record {
-      going = Going-dropped g.F.FnMut g.K.Key.data_of old c.args.f rejects.last end rejects.visit rejects.going rejects.calls rejects.stays c.take_at.new.self
-          (c.take_at.ensures.leaves (g.K.Key.data_of rejects.visit.key) (Rejects-stands g.F.FnMut g.K.Key.data_of old c.args.f end rejects)) c.take_at.ensures.valid.after c.take_at.ensures.valid.capacity;
+      going = Going-dropped g.F.FnMut g.K.Key.data_of old c.args.f rejected.last end rejected.rejects.visit rejected.going rejected.rejects.calls rejected.rejects.leaves c.take_at.new.self
+          (c.take_at.ensures.leaves (g.K.Key.data_of rejected.rejects.visit.key) (Rejected-stands g.F.FnMut g.K.Key.data_of old c.args.f end rejected)) c.take_at.ensures.valid.after c.take_at.ensures.valid.capacity;
       within = omega (arith, within, c.take_at.ensures.fewer);
     }
 

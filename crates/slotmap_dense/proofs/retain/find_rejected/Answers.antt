@@ -1,9 +1,10 @@
-use Rattle.std.proofs.Common.{[], ◌∷◌, ◌++◌, inl, inr, ◌≡◌, length, get_or, map as list_map, refl, ap, ◌∙◌, arith}
+use Rattle.std.proofs.Common.{[], ◌∷◌, ◌++◌, inl, inr, ◌≡◌, length, get_or, map as list_map, refl, sym, ◌∙◌, arith}
 use Rattle.std.proofs.lemmas.Fn.{FoldsTo-push}
 use Rattle.std.proofs.lemmas.List.{length-map, length-set}
 use Rattle.slotmap_core.specs.Retain.{Visit}
 use Rattle.slotmap_core.proofs.VisitLemmas.{CallsAt-called}
-use Rattle.slotmap_dense.specs.Pass.{Keeps, beside, stage}
+use Rattle.slotmap_core.specs.Pass.{Keeps, stage}
+use Rattle.slotmap_dense.specs.Pass.{beside}
 use Rattle.slotmap_dense.proofs.PassLemmas.{shows-read}
 use Rattle.slotmap_dense.proofs.retain.find_rejected.Goals as goal
 
@@ -13,27 +14,27 @@ loop-position-init g c = record { visits = []; kept = refl; same_length = c.requ
 pub f-requires : goal.f-requires
 f-requires g c =
     let at = c.loop-position in
-    let shows = shows-read g.F.FnMut g.K.Key.data_of c.args.keys.now at.values at.position c.index-keys-position.result c.index-values-position.result c.loop-position-test.true at.invariant.same_length
+    let shows = shows-read g.K.Key.data_of c.args.keys.now at.values at.position c.index-keys-position.result c.index-values-position.result c.loop-position-test.true at.invariant.same_length
     c.index-keys-position.is in
     c.requires.callable.at at.invariant.visits (stage at.position at.values at.f) c.index-keys-position.result _ at.invariant.kept shows
 
 pub returns-then-not-f-clause-passes : goal.returns-then-not-f-clause-passes
 returns-then-not-f-clause-passes g c =
     let at = c.loop-position in
-    let shows = shows-read g.F.FnMut g.K.Key.data_of c.args.keys.now at.values at.position c.index-keys-position.result c.index-values-position.result c.loop-position-test.true at.invariant.same_length
+    let shows = shows-read g.K.Key.data_of c.args.keys.now at.values at.position c.index-keys-position.result c.index-values-position.result c.loop-position-test.true at.invariant.same_length
     c.index-keys-position.is in
     let visit : Visit g.row.K.Denot g.row.V.Denot = record { key = c.index-keys-position.result; before = get_or at.values at.position c.index-values-position.result; after = c.f.new.arg3; stays = c.f.result } in
     record {
       visits = at.invariant.visits;
       last = stage at.position at.values at.f;
       kept = at.invariant.kept;
-      ends = inr (visit, record { shows = shows; written = refl; moves = rw c.if-not-f.true refl; called = CallsAt-called g.F.FnMut c.f.ensures }, c.if-not-f.true);
+      ends = inr (record { visit = visit; calls = record { shows = shows; written = refl; moves = rw c.if-not-f.true refl; called = CallsAt-called g.F.FnMut c.f.ensures }; leaves = c.if-not-f.true });
     }
 
 pub loop-position-preserved : goal.loop-position-preserved
 loop-position-preserved g c =
     let at = c.loop-position in
-    let shows = shows-read g.F.FnMut g.K.Key.data_of c.args.keys.now at.values at.position c.index-keys-position.result c.index-values-position.result c.loop-position-test.true at.invariant.same_length
+    let shows = shows-read g.K.Key.data_of c.args.keys.now at.values at.position c.index-keys-position.result c.index-values-position.result c.loop-position-test.true at.invariant.same_length
     c.index-keys-position.is in
     let visit : Visit g.row.K.Denot g.row.V.Denot = record { key = c.index-keys-position.result; before = get_or at.values at.position c.index-values-position.result; after = c.f.new.arg3; stays = c.f.result } in
     record {
@@ -51,5 +52,5 @@ returns-clause-passes g c =
       visits = at.invariant.visits;
       last = stage at.position at.values at.f;
       kept = at.invariant.kept;
-      ends = inl (omega (arith, c.loop-position-test.false, length-map c.args.keys.now g.K.Key.data_of), ap (λ p. stage p at.values at.f) past);
+      ends = inl (record { ended = (omega (arith, c.loop-position-test.false, length-map c.args.keys.now g.K.Key.data_of), sym past); held = refl; closure = refl });
     }

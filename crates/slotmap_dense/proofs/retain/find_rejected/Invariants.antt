@@ -1,7 +1,8 @@
 use Rattle.std.proofs.Common.{◌≡◌, List, length, map as list_map}
 use Rattle.std.specs.List.{FoldsTo}
 use Rattle.slotmap_core.specs.Retain.{Visit}
-use Rattle.slotmap_dense.specs.Pass.{Keeps, beside, stage}
+use Rattle.slotmap_core.specs.Pass.{Keeps, stage}
+use Rattle.slotmap_dense.specs.Pass.{beside}
 use Rattle.slotmap_dense.proofs.retain.find_rejected.Given as goal
 
 abbrev pub invariant-loop-position : goal.invariant-loop-position
