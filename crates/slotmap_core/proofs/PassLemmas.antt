@@ -82,13 +82,12 @@ items-whole xs ys same = take_at ys (drop (length ys) xs.items) xs.len (omega (a
 
 -- what a loop over two slices reads at an index
 pub ColumnComes-read : {P : Type 0} (vs : List ℕ) (xs : List (Option P)) (start i : ℕ) (k : Key) (o : Option P) (p : P) → k ≡ record { index = i; version = get_or vs i 0 }
-    → i < length vs → length xs ≡ length vs → start ≤ i → AllEven vs start i → ((v : ℕ) → slice_get vs i ≡ Some v → v % 2 ≡ 1) → get_or xs i o ≡ Some p
+    → i < length vs → length xs ≡ length vs → start ≤ i → AllEven vs start i → get_or vs i 0 % 2 ≡ 1 → get_or xs i o ≡ Some p
     → ColumnComes vs xs start k p
 ColumnComes-read vs xs start i k o p is within same on passed odd value =
-    let version = slice_get-get_or vs i 0 within in
     subst (λ k. ColumnComes vs xs start k p) (sym is) (record {
-      version = version;
-      odd = odd (get_or vs i 0) version;
+      version = slice_get-get_or vs i 0 within;
+      odd = odd;
       payload = slice_get-get_or xs i o (omega (arith, within, same)) ∙ ap Some value;
       from = on;
       passed = passed;

@@ -156,13 +156,18 @@ fn find_rejected<K: Key, P, F: FnMut(K, &mut P) -> bool>(
     ensures within { result ≤ length versions.now }
     ensures same_length { length payloads.new ≡ length payloads.old }
 {
-    let mut index = next_odd(versions, from);
+    let mut index = from;
     while index < versions.len() {
-        let key = KeyData::exact(index as u32, versions[index]);
+        let version = versions[index];
+        if version % 2 == 0 {
+            index = next_odd(versions, index + 1);
+            continue;
+        }
+        let key = KeyData::exact(index as u32, version);
         if !f(K::from(key), sure_mut(&mut payloads[index])) {
             return index;
         }
-        index = next_odd(versions, index + 1);
+        index += 1;
     }
     index
 }

@@ -1,4 +1,4 @@
-use Rattle.std.proofs.Common.{◌≡◌, ℕ, List, ◌+◌, ◌<◌, ◌^◌, ◌%◌, [], ◌∷◌, ◌++◌, inl, inr, Some, is_some, length, set, get_or, slice_get, refl, sym, ap, subst, ◌∙◌, arith}
+use Rattle.std.proofs.Common.{◌≡◌, ℕ, List, ◌+◌, ◌<◌, ◌^◌, ◌%◌, [], ◌∷◌, ◌++◌, inl, inr, Some, is_some, length, set, get_or, refl, sym, ap, subst, ◌∙◌, arith}
 use Rattle.std.proofs.lemmas.Fn.{FoldsTo-push}
 use Rattle.std.proofs.lemmas.List.{length-set}
 use Rattle.std.proofs.lemmas.Option.{slice_get-get_or, get_or_from_slice_get}
@@ -12,42 +12,40 @@ use Rattle.slotmap_core.proofs.layout.columns.find_rejected.Goals as goal
 
 pub loop-index-init : goal.loop-index-init
 loop-index-init g c =
-    let found = c.next_odd-index.ensures in
     record {
       visits = [];
       position = c.args.from;
       kept = refl;
-      on = found.on;
-      within = found.within;
-      passed = found.passed;
-      odd = found.odd;
+      on = omega arith;
+      within = c.requires.from;
+      passed = λ i v on below there. absurd (omega arith);
       same_length = c.requires.same_length;
       placed = c.requires.placed;
     }
 
-key_at : (vs : List ℕ) (i : ℕ) → i < length vs → length vs < 2 ^ 32 → get_or vs i 0 < 2 ^ 32 → ((v : ℕ) → slice_get vs i ≡ Some v → v % 2 ≡ 1) → IsKey (record { index = i; version = get_or vs i 0 })
+key_at : (vs : List ℕ) (i : ℕ) → i < length vs → length vs < 2 ^ 32 → get_or vs i 0 < 2 ^ 32 → get_or vs i 0 % 2 ≡ 1 → IsKey (record { index = i; version = get_or vs i 0 })
 key_at vs i within few fits odd = record {
   index_fits = omega arith;
   version_fits = fits;
-  odd = odd (get_or vs i 0) (slice_get-get_or vs i 0 within);
+  odd = odd;
   one_null = λ last. absurd (omega arith);
 }
 
 pub exact-key-requires : goal.exact-key-requires
 exact-key-requires g c =
-    key_at c.args.versions.now c.loop-index.index c.loop-index-test.true c.requires.few (c.type_inv.versions c.loop-index.index).fits c.loop-index.invariant.odd
+    key_at c.args.versions.now c.loop-index.index c.loop-index-test.true c.requires.few (c.type_inv.versions c.loop-index.index).fits (omega (arith, c.if-version-eq0.false))
 
 -- the key that the closure is shown
 key_is : (g : _) (c : After-from g) → g.K.Key.data_of c.from.result ≡ record { index = c.loop-index.index; version = get_or c.args.versions.now c.loop-index.index 0 }
 key_is g c =
-    let is_key = key_at c.args.versions.now c.loop-index.index c.loop-index-test.true c.requires.few (c.type_inv.versions c.loop-index.index).fits c.loop-index.invariant.odd in
+    let is_key = key_at c.args.versions.now c.loop-index.index c.loop-index-test.true c.requires.few (c.type_inv.versions c.loop-index.index).fits (omega (arith, c.if-version-eq0.false)) in
     ap g.K.Key.data_of (g.met.K.Key.from_gives_key _ _ c.from.ensures) ∙ g.met.K.Key.from_data _ (subst IsKey (sym c.exact-key.ensures) is_key) ∙ c.exact-key.ensures
 
 pub sure_mut-requires : goal.sure_mut-requires
 sure_mut-requires g c =
     let at = c.loop-index in
     let version = slice_get-get_or c.args.versions.now at.index 0 c.loop-index-test.true in
-    let value = at.invariant.placed at.index (get_or c.args.versions.now at.index 0) version (at.invariant.odd _ version) in
+    let value = at.invariant.placed at.index (get_or c.args.versions.now at.index 0) version (omega (arith, c.if-version-eq0.false)) in
     ap is_some (get_or_from_slice_get at.payloads at.index (Some value.0) c.index-payloads-index.result value.1)
 
 -- the pair that the closure is called for
@@ -56,7 +54,7 @@ comes : (g : _) (c : After-sure_mut g) → g.K.Key.data_of c.from.result ≡ rec
 comes g c is =
     let at = c.loop-index in
     ColumnComes-read c.args.versions.now at.payloads at.invariant.position at.index (g.K.Key.data_of c.from.result) c.index-payloads-index.result c.sure_mut.result.now
-    is c.loop-index-test.true at.invariant.same_length at.invariant.on at.invariant.passed at.invariant.odd c.sure_mut.ensures.value
+    is c.loop-index-test.true at.invariant.same_length at.invariant.on at.invariant.passed (omega (arith, c.if-version-eq0.false)) c.sure_mut.ensures.value
 
 pub f-requires : goal.f-requires
 f-requires g c =
@@ -89,7 +87,6 @@ returns-then-not-f-clause-passes g c =
 pub loop-index-preserved : goal.loop-index-preserved
 loop-index-preserved g c =
     let at = c.loop-index in
-    let next = c.next_odd-index-in-loop-index.ensures in
     let steps = goal.at.loop-index-preserved g c in
     let index : (g.K.Key.data_of c.from.result).index ≡ at.index = ap (λ k. k.index) (key_is g steps.After-from) in
     let visit : Visit g.row.K.Denot g.row.P.Denot = record { key = c.from.result; before = c.sure_mut.result.now; after = c.f.new.arg3; stays = c.f.result } in
@@ -105,10 +102,9 @@ loop-index-preserved g c =
         };
         stays = c.if-not-f.false;
       });
-      on = next.on;
-      within = next.within;
-      passed = next.passed;
-      odd = next.odd;
+      on = omega arith;
+      within = omega (arith, c.loop-index-test.true);
+      passed = λ i v on below there. absurd (omega arith);
       same_length = length-set at.payloads at.index (Some c.f.new.arg3) ∙ at.invariant.same_length;
       placed = HasEachOdd-set c.args.versions.now at.payloads at.index c.f.new.arg3 (omega (arith, c.loop-index-test.true, at.invariant.same_length)) at.invariant.placed;
     }

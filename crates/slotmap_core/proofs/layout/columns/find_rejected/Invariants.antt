@@ -1,4 +1,4 @@
-use Rattle.std.proofs.Common.{◌≡◌, ℕ, ◌-◌, ◌%◌, ◌≤◌, List, Some, length, slice_get}
+use Rattle.std.proofs.Common.{◌≡◌, ℕ, ◌-◌, ◌≤◌, List, length}
 use Rattle.std.specs.List.{FoldsTo}
 use Rattle.slotmap_core.specs.Columns.{AllEven, HasEachOdd}
 use Rattle.slotmap_core.specs.Pass.{Keeps, in_columns, stage}
@@ -13,7 +13,6 @@ invariant-loop-index g l = record {
   on : position ≤ l.index;
   within : l.index ≤ length l.versions;
   passed : AllEven l.versions position l.index;
-  odd : (v : ℕ) → slice_get l.versions l.index ≡ Some v → v % 2 ≡ 1;
   same_length : length l.payloads ≡ length l.versions;
   placed : HasEachOdd l.versions l.payloads;
 }
