@@ -101,6 +101,7 @@ impl<K: Key, V: Drop, S: BuildHasher + Drop> SparseSecondaryMap<K, V, S> {
     /// assert_eq!(rt; map.insert(a, 7)?, None); // older: without effect
     /// assert_eq!(rt; map[newer], 6);
     /// ```
+    #[inline(always)]
     pub fn insert(&mut self, key: K, value: V) -> Result<Option<V>, PutError<V>>
         ensures value { IfOk result (λ before. before ≡ get self.old.pairs (K.data_of key)) }
         ensures ok { OnOk result (self.new.pairs ≡ put self.old.pairs (K.data_of key) value) }

@@ -20,6 +20,7 @@ impl<K: Key, V: Drop, S: BuildHasher + Drop> SparseSecondaryMap<K, V, S> {
     /// assert_eq!(rt; map.remove(a), Some(1));
     /// assert_eq!(rt; map.remove(a), None);
     /// ```
+    #[inline(always)]
     pub fn remove(&mut self, key: K) -> Option<V>
         ensures value { result ≡ get self.old.pairs (K.data_of key) }
         ensures removes { self.new.pairs ≡ remove self.old.pairs (K.data_of key) }
