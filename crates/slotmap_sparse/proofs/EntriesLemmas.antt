@@ -1,6 +1,6 @@
 -- The entries of a hash map as a finite map.
-use Rattle.std.proofs.Common.{◌≡◌, ℕ, suc, ◌+◌, true, false, cond, nat_eq, List, [], ◌∷◌, length, Option, Some, None, is_some, refl, sym, ap, subst}
-use Rattle.std.proofs.Common.{◌∙◌, nat_cmp, arith, ◌<◌, inl, inr, MutBor, Result, Ok, Err, OnOk, IfOk, Bool}
+use Rattle.std.proofs.Common.{◌≡◌, ℕ, zero, suc, ◌+◌, true, false, cond, nat_eq, List, [], ◌∷◌, length, Option, Some, None, is_some, refl, sym, ap, subst}
+use Rattle.std.proofs.Common.{◌∙◌, true≢false, nat_cmp, arith, ◌<◌, inl, inr, MutBor, Result, Ok, Err, OnOk, IfOk, Bool}
 use Rattle.std.specs.Option.{option_copied_mut}
 use Rattle.std.specs.Ordering.{eq_by_cmp}
 use Rattle.std.specs.Cmp.{nat_cmp_total, unsigned_tied, nat_eq_equiv}
@@ -26,6 +26,10 @@ turned k q = nat_eq_equiv.symm k q ∙ sym (unsigned_tied q k)
 
 abbrev Entries : Type 0 → Type 0
 Entries V = List (ℕ × (ℕ × V))
+
+pub no_spare : (n : ℕ) → (0 < n → false ≡ true) → n ≡ 0
+no_spare zero none = refl
+no_spare (suc n) none = absurd (true≢false (sym (none (omega arith))))
 
 module _ {V : Type 0} where
   find-lookup : (q : ℕ) (es : Entries V) → find nat_cmp q es ≡ lookup (nat_eq q) es
@@ -92,6 +96,12 @@ module _ {V : Type 0} where
   -- with a key put
   pub IsSound-put : (es fs : Entries V) → IsSound es → IsDistinct nat_eq (keys_of fs) → (k : Key) (v : V) → IsKey k → is_null k ≡ false → pairs_of fs ≡ bind (pairs_of es) k v → IsSound fs
   IsSound-put es fs sound unique k v is key put = record { unique = unique; keys = subst (λ (x : Pairs V). IsSecondary x) (sym put) (IsSecondary-bind (pairs_of es) k v sound.keys is key) }
+
+  -- with an entry under the index and the version of a key, where the hash map had none
+  pub IsSound-added : (es fs : Entries V) → IsSound es → IsDistinct nat_eq (keys_of fs) → (k : Key) (v : V) → IsKey k → is_null k ≡ false → (i version : ℕ) → i ≡ k.index → version ≡ k.version
+      → ((q : ℕ) → lookup (nat_eq q) fs ≡ cond (nat_eq i q) (Some (version, v)) (lookup (nat_eq q) es)) → IsSound fs
+  IsSound-added es fs sound unique k v is key i version at named updates =
+      IsSound-put es fs sound unique k v is key (pairs_put es fs i (version, v) updates ∙ (λ j. map.insert (pairs_of es) (at j) (named j, v)))
 
   -- with an index removed
   pub IsSound-taken : (es fs : Entries V) → IsSound es → IsDistinct nat_eq (keys_of fs) → (i : ℕ) → pairs_of fs ≡ map.remove (pairs_of es) i → IsSound fs

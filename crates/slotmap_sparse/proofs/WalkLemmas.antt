@@ -1,22 +1,19 @@
 -- The entries of a hash map as keys with their values.
-use Rattle.std.proofs.Common.{◌≡◌, ℕ, ◌&&◌, Bool, true, false, cond, nat_eq, List, [], ◌∷◌, length, Option, Some, None, refl, sym, ap, subst, ◌∙◌, is_eq, nat_cmp, IfSome, IfNone, arith}
+use Rattle.std.proofs.Common.{◌≡◌, ℕ, ◌&&◌, Bool, true, false, cond, nat_eq, List, [], ◌∷◌, Option, Some, None, refl, sym, ap, subst, ◌∙◌, is_eq, nat_cmp, arith}
 use Rattle.std.proofs.lemmas.Grind.{common_steps}
 use Rattle.std.specs.List.{IsDistinct, AllByRecursion}
 use Rattle.std.specs.Cmp.{nat_eq_equiv, unsigned_tied}
-use Rattle.std.specs.Iterator.{YieldsFirstBy}
 use Rattle.std.specs.FinMap as map
-use Rattle.std.specs.FinSet as set
 use Rattle.std.specs.FinMap.Entries.{find}
 use Rattle.std.specs.Map.{lookup, keys_of}
 use Rattle.std.proofs.lemmas.List.{length-map}
 use Rattle.std.proofs.lemmas.Map.{lookup-none}
 use Rattle.std.proofs.lemmas.Map.Entries.{none_past_head, lookup_head}
 use Rattle.slotmap_core.specs.Key.{Key, key_cmp}
-use Rattle.slotmap_core.specs.Listing.{IsListing, IsKeyListing}
-use Rattle.slotmap_core.specs.Secondary.{Pairs, IsSecondary, keyed_entry, keyed, contains_key, value_at}
+use Rattle.slotmap_core.specs.Listing.{IsListing}
+use Rattle.slotmap_core.specs.Secondary.{Pairs, IsSecondary, keyed_entry, keyed, value_at}
 use Rattle.slotmap_core.proofs.KeyLemmas.{keys_total, exact_keys}
-use Rattle.slotmap_core.proofs.KeyedLemmas.{tie_parts, get-keyed, contains-keyed, len-keyed}
-use Rattle.slotmap_core.proofs.Maps.{item_inserted}
+use Rattle.slotmap_core.proofs.KeyedLemmas.{tie_parts, get-keyed, len-keyed}
 use Rattle.slotmap_sparse.specs.Entries.{pairs_of, IsSound}
 use Rattle.slotmap_sparse.specs.Walk.{key_pairs, IsOfKey, AreOfKeys}
 use Rattle.slotmap_sparse.proofs.EntriesLemmas.{get-pairs, len-pairs}
@@ -93,17 +90,3 @@ module _ {V : Type 0} where
               same : (x y : ℕ × V) → ◌≡◌ {A = Option (ℕ × V)} (Some x) (Some y) → x ≡ y
               same x y e = cc
           by rest false is g = rest g
-
-  -- the first key of a listing is in the map
-  pub listed_key : {K : Type 0} (data_of : K → Key) (m : Pairs V) (keys rest : List Key) (r : Option K) → IsKeyListing (keyed m) keys
-      → YieldsFirstBy data_of (λ x. x) keys r rest → IfSome r (λ key. contains_key m (data_of key) ≡ true)
-  listed_key data_of m keys rest None listing steps = tt
-  listed_key data_of m keys rest (Some key) listing steps =
-      sym (contains-keyed m (data_of key)) ∙ sym (listing.all (data_of key)) ∙ ap (λ ks. set.contains (set.from_list {R = key_cmp} ks) (data_of key)) steps
-      ∙ item_inserted keys_total exact_keys (set.from_list rest) (data_of key)
-
-  -- and if there is none, the map is empty
-  pub listed_none : {K : Type 0} (data_of : K → Key) (m : Pairs V) (keys rest : List Key) (r : Option K) → IsKeyListing (keyed m) keys
-      → YieldsFirstBy data_of (λ x. x) keys r rest → IfNone r (m ≡ map.empty)
-  listed_none data_of m keys rest None listing steps = map.empty_of_len m (sym (len-keyed m) ∙ sym listing.once ∙ ap length steps.0)
-  listed_none data_of m keys rest (Some key) listing steps = tt

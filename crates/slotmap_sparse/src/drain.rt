@@ -40,10 +40,7 @@ impl<'a, K: Key, V: Drop, S: BuildHasher + Drop> Iterator for Drain<'a, K, V, S>
     ghost remaining = { drain_count };
 
     fn next(&mut self) -> Option<(K, V)> {
-        match self.map.first_key() {
-            Some(key) => Some((key, self.map.take_live(key))),
-            None => None,
-        }
+        self.map.take_last()
     }
 
     fn size_hint(&self) -> (usize, Option<usize>)

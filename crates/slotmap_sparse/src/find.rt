@@ -24,6 +24,7 @@ impl<K: Key, V: Drop, S: BuildHasher + Drop> SparseSecondaryMap<K, V, S> {
     ghost use Rattle.slotmap_sparse.specs.Found.{is_found};
 
     // What is at the index of a key: a version and its value.
+    #[inline(always)]
     pub(crate) fn slot(&self, key: K) -> Option<&(u32, V)>
         ensures value { option_copied result ≡ map.get self.now.pairs (K.data_of key).index }
         ensures valid { IsContent self.now }

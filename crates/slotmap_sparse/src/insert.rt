@@ -44,6 +44,7 @@ impl<K: Key, V: Drop, S: BuildHasher + Drop> SparseSecondaryMap<K, V, S> {
     }
 
     // The same, if there may be no memory for it.
+    #[inline(always)]
     pub(crate) fn add(&mut self, key: K, value: V) -> Result<(), PutError<V>>
         requires not_null { is_null (K.data_of key) ≡ false }
         requires absent { map.get self.old.pairs (K.data_of key).index ≡ None }
@@ -54,15 +55,19 @@ impl<K: Key, V: Drop, S: BuildHasher + Drop> SparseSecondaryMap<K, V, S> {
         ensures room { map.len self.old.pairs < self.old.capacity → IsOk result }
         ensures valid { IsContent self.new }
     {
-        if self.make_room(1).is_err() {
-            return Err(PutError(value));
+        let key = key.data();
+        match self.slots.insert(key.idx(), (key.version(), value)) {
+            Ok(_) => Ok(()),
+            Err(refused) => {
+                let (_, (_, value)) = refused.value;
+                Err(PutError(value))
+            }
         }
-        self.store(key, value);
-        Ok(())
     }
 
     // Puts the value over what is at the key's index, unless that is newer. If nothing is there,
     // returns the value as an error.
+    #[inline(always)]
     pub(crate) fn put_over(&mut self, key: K, value: V) -> Result<Option<V>, V>
         ensures value { IfOk result (λ before. before ≡ get self.old.pairs (K.data_of key)) }
         ensures ok { OnOk result (self.new ≡ record self.old { pairs = put self.old.pairs (K.data_of key) value }) }
@@ -96,6 +101,7 @@ impl<K: Key, V: Drop, S: BuildHasher + Drop> SparseSecondaryMap<K, V, S> {
     /// assert_eq!(rt; map.insert(a, 7)?, None); // older: without effect
     /// assert_eq!(rt; map[newer], 6);
     /// ```
+    #[inline(always)]
     pub fn insert(&mut self, key: K, value: V) -> Result<Option<V>, PutError<V>>
         ensures value { IfOk result (λ before. before ≡ get self.old.pairs (K.data_of key)) }
         ensures ok { OnOk result (self.new.pairs ≡ put self.old.pairs (K.data_of key) value) }
@@ -113,12 +119,15 @@ impl<K: Key, V: Drop, S: BuildHasher + Drop> SparseSecondaryMap<K, V, S> {
         ensures capacity { self.old.capacity ≤ self.new.capacity }
         ensures valid { IsContent self.new }
     {
+        // Reads the map, for the clause `valid`.
+        let _ = self.len();
+        if is_null(key) {
+            return Ok(None);
+        }
         match self.put_over(key, value) {
             Ok(before) => Ok(before),
             Err(value) => {
-                if !is_null(key) {
-                    self.add(key, value)?;
-                }
+                self.add(key, value)?;
                 Ok(None)
             }
         }

@@ -8,9 +8,9 @@ ghost use Rattle.slotmap_core.specs.Listing.{IsListing, IsKeyListing, IsValueLis
 ghost use Rattle.slotmap_sparse.specs.Content.{IsContent};
 
 use crate::SparseSecondaryMap;
+use indexmap::map;
 use slotmap_core::keys::{Key, KeyData};
 use std::alloc::AllocError;
-use std::collections::hash_map;
 use std::hash::BuildHasher;
 use std::iter::FusedIterator;
 use std::marker::{Model, PhantomData};
@@ -22,7 +22,7 @@ use std::marker::{Model, PhantomData};
 /// A clone of it yields the same pairs; cloning allocates nothing.
 #[derive(Drop)]
 pub struct Iter<'a, K, V> {
-    pairs: hash_map::Iter<'a, u32, (u32, V)>,
+    pairs: map::Iter<'a, u32, (u32, V)>,
     keys: PhantomData<K>,
 }
 
@@ -304,17 +304,6 @@ impl<K: Key, V, S: BuildHasher> SparseSecondaryMap<K, V, S> {
         ensures valid { IsContent self.now }
     {
         Values { pairs: self.iter() }
-    }
-}
-
-impl<K: Key, V: Drop, S: BuildHasher + Drop> SparseSecondaryMap<K, V, S> {
-    // Some key of the map.
-    pub(crate) fn first_key(&self) -> Option<K>
-        ensures there { IfSome result (λ key. contains_key self.now.pairs (K.data_of key) ≡ true) }
-        ensures none { IfNone result (self.now.pairs ≡ map.empty) }
-        ensures valid { IsContent self.now }
-    {
-        self.keys().next()
     }
 }
 

@@ -45,10 +45,10 @@ pub use drain::Drain;
 pub use entry::{Entry, OccupiedEntry, VacantEntry};
 pub use into_iter::IntoIter;
 pub use iter::{Iter, Keys, Values};
+use indexmap::IndexMap;
 use slotmap_core::errors::ReserveError;
 use slotmap_core::keys::Key;
 use std::alloc::Global;
-use std::collections::HashMap;
 use std::hash::{BuildHasher, BuildHasherDefault, FoldHasher};
 use std::marker::{Model, PhantomData};
 
@@ -89,7 +89,7 @@ pub type DefaultHasher = BuildHasherDefault<FoldHasher>;
 #[derive(Drop)]
 pub struct SparseSecondaryMap<K, V, S: BuildHasher = DefaultHasher> {
     // For each index the version of its key, and the value.
-    slots: HashMap<u32, (u32, V), S, Global>,
+    slots: IndexMap<u32, (u32, V), S, Global>,
     // For the lists that the map is written as.
     alloc: Global,
     keys: PhantomData<K>,
@@ -174,7 +174,7 @@ impl<K: Key, V: Drop, S: BuildHasher + Drop> SparseSecondaryMap<K, V, S> {
         ensures valid { IsContent result }
     {
         SparseSecondaryMap {
-            slots: HashMap::with_hasher(alloc, hash_builder),
+            slots: IndexMap::with_hasher(alloc, hash_builder),
             alloc,
             keys: PhantomData,
         }
@@ -206,7 +206,7 @@ impl<K: Key, V: Drop, S: BuildHasher + Drop> SparseSecondaryMap<K, V, S> {
             return Err(ReserveError::TooGreat);
         }
         Ok(SparseSecondaryMap {
-            slots: HashMap::with_capacity_and_hasher(alloc, capacity, hash_builder)?,
+            slots: IndexMap::with_capacity_and_hasher(alloc, capacity, hash_builder)?,
             alloc,
             keys: PhantomData,
         })

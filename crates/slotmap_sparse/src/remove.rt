@@ -4,9 +4,10 @@ ghost use Rattle.std.specs.Prelude.{◌≡◌, ◌≤◌, Some, IfNone, true};
 ghost use Rattle.std.specs.FinMap as map;
 ghost use Rattle.slotmap_core.specs.Secondary.{get, contains_key, remove};
 ghost use Rattle.slotmap_sparse.specs.Content.{IsContent, room};
+ghost use Rattle.slotmap_sparse.specs.Drain.{TakesPair};
 
 use crate::SparseSecondaryMap;
-use slotmap_core::keys::Key;
+use slotmap_core::keys::{Key, KeyData};
 use std::hash::BuildHasher;
 
 impl<K: Key, V: Drop, S: BuildHasher + Drop> SparseSecondaryMap<K, V, S> {
@@ -19,6 +20,7 @@ impl<K: Key, V: Drop, S: BuildHasher + Drop> SparseSecondaryMap<K, V, S> {
     /// assert_eq!(rt; map.remove(a), Some(1));
     /// assert_eq!(rt; map.remove(a), None);
     /// ```
+    #[inline(always)]
     pub fn remove(&mut self, key: K) -> Option<V>
         ensures value { result ≡ get self.old.pairs (K.data_of key) }
         ensures removes { self.new.pairs ≡ remove self.old.pairs (K.data_of key) }
@@ -34,6 +36,7 @@ impl<K: Key, V: Drop, S: BuildHasher + Drop> SparseSecondaryMap<K, V, S> {
     }
 
     // Removes a key that is in the map, and returns its value.
+    #[inline(always)]
     pub(crate) fn take_live(&mut self, key: K) -> V
         requires { contains_key self.old.pairs (K.data_of key) ≡ true }
         ensures value { get self.old.pairs (K.data_of key) ≡ Some result }
@@ -46,12 +49,26 @@ impl<K: Key, V: Drop, S: BuildHasher + Drop> SparseSecondaryMap<K, V, S> {
     }
 
     // Removes what is at the index of a key, whatever its version.
+    #[inline(always)]
     pub(crate) fn take_slot(&mut self, key: K) -> Option<(u32, V)>
         ensures value { result ≡ map.get self.old.pairs (K.data_of key).index }
         ensures removes { self.new.pairs ≡ map.remove self.old.pairs (K.data_of key).index }
         ensures room { room self.old ≤ room self.new }
         ensures valid { IsContent self.new }
     {
-        self.slots.remove(&key.data().idx())
+        self.slots.swap_remove(&key.data().idx())
+    }
+
+    // Removes the last key of the hash map, and returns it with its value.
+    pub(crate) fn take_last(&mut self) -> Option<(K, V)>
+        ensures takes { TakesPair K.data_of self.old result self.new }
+        ensures room { room self.old ≤ room self.new }
+        ensures valid { IsContent self.new }
+    {
+        if self.slots.is_empty() {
+            return None;
+        }
+        let (index, (version, value)) = self.slots.pop().unwrap();
+        Some((K::from(KeyData::new(index, version)), value))
     }
 }

@@ -43,7 +43,7 @@ pub returns-clause-room : goal.returns-clause-room
 returns-clause-room g c =
     let before = spare_room c.self.inside.slots c.args.self.now c.self.view_is c.self.invariant in
     let after = spare_room c.retain.new.self (content_of c.retain.new.self) refl (invariant_of-self g c) in
-    omega (arith, before, after, c.retain.ensures.spare)
+    omega (arith, before, after, c.retain.ensures.room.0)
 
 pub returns-clause-valid : goal.returns-clause-valid
 returns-clause-valid g c = well_formed c.retain.new.self _ refl (invariant_of-self g c)

@@ -1,0 +1,6 @@
+use Rattle.std.proofs.Common.{sym, ◌∙◌}
+use Rattle.slotmap_sparse.proofs.ContentLemmas.{null_finds_nothing}
+use Rattle.slotmap_sparse.proofs.SparseSecondaryMap.insert.Goals as goal
+
+pub returns-then-is_null-clause-value : goal.returns-then-is_null-clause-value
+returns-then-is_null-clause-value g c = sym (null_finds_nothing _ _ c.len.ensures.valid.keys (sym c.is_null.ensures.value ∙ c.if-is_null.true))
