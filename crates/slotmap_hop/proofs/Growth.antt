@@ -23,7 +23,8 @@ use Rattle.slotmap_hop.proofs.SlotReads.{length-layout, length-places, slot_with
 use Rattle.slotmap_hop.proofs.Taking.{HasBlockList-pushed, blocks_pushed, shorter_none}
 use Rattle.slotmap_hop.proofs.StackOrder.{IsStacked-first, length_removed, untold, Inserts-untold, Removes-untold}
 use Rattle.slotmap_core.proofs.GatherLemmas.{at_set, at_push}
-use Rattle.slotmap_hop.proofs.SlotLemmas.{found_within, taken_slots, back_vacant, empty_stack, in_order, ordered_map, content_is}
+use Rattle.slotmap_core.proofs.ListLemmas.{found_within}
+use Rattle.slotmap_hop.proofs.SlotLemmas.{taken_slots, back_vacant, empty_stack, in_order, ordered_map, content_is}
 
 module _ {V : Type 0} (slots : List (Slot V)) (vacant elems : ℕ) (sound : IsSound slots vacant elems) (new : List (Slot V)) where
   -- one place changes; the new stack and both counts are given
