@@ -1,8 +1,7 @@
 -- The slot of a live key: what a look-up, a removal or a write knows of it, and makes of it.
-use Rattle.std.proofs.Common.{◌≡◌, ◌≢◌, inl, inr, ℕ, zero, suc, ◌+◌, ◌-◌, ◌^◌, ◌<◌, ◌≤◌, Bool, true, false, cond, eqb, nat_eq, ◌==◌, List}
-use Rattle.std.proofs.Common.{◌∷◌, length, set, slice_get, get_or, Some, None, is_some, refl, sym, ap, subst, ◌∙◌, arith, eq-eqb}
+use Rattle.std.proofs.Common.{◌≡◌, ◌≢◌, ℕ, zero, suc, ◌+◌, ◌-◌, ◌^◌, ◌<◌, ◌≤◌, true, false, cond, nat_eq, ◌==◌, List}
+use Rattle.std.proofs.Common.{◌∷◌, length, set, slice_get, get_or, Some, None, is_some, sym, ap, subst, ◌∙◌, arith, eq-eqb}
 use Rattle.std.proofs.Common.{ne_eqb, min}
-use Rattle.std.proofs.lemmas.Bool.{cases_eq}
 use Rattle.std.proofs.lemmas.Option.{slice_get_within, slice_get_past, same_Some, get_or_from_slice_get}
 use Rattle.std.proofs.lemmas.List.{length-set, set-get_or}
 use Rattle.std.specs.FinMap as map
@@ -30,12 +29,7 @@ use Rattle.slotmap_hop.proofs.SlotLemmas.{key_is, vacant_place, place_not_vacant
 
 module _ {V : Type 0} where
   live_state : (v : ℕ) (s : State V) (u : ℕ) (x : V) → place_in v s ≡ Live u x → (v ≡ u) × (s ≡ Occupied x)
-  live_state v (Occupied value) u x is =
-      let same : ◌≡◌ {A = ℕ × V} (v, value) (u, x) = cc in
-      (ap (λ p. p.0) same, ap (λ p. Occupied p.1) same)
-  live_state v (Free links) u x is = absurd (cc)
-  live_state zero UsedUp u x is = absurd (cc)
-  live_state (suc v) UsedUp u x is = absurd (cc)
+  live_state v s u x is = grind arith
 
 module _ {V : Type 0} (slots : List (Slot V)) (vacant elems : ℕ) (sound : IsSound slots vacant elems) where
   pub contains-version : (k : Key) (s : Slot V) → IsKey k → slice_get slots k.index ≡ Some s → (s.version == k.version) ≡ map.contains_key (live (places_of slots)) k
@@ -45,15 +39,9 @@ module _ {V : Type 0} (slots : List (Slot V)) (vacant elems : ℕ) (sound : IsSo
       place : slice_get (places_of slots) k.index ≡ Some (place_in s.version s.state)
       place = place_at slots k.index s found
 
-      test : (b : Bool) (x : V) → is_some (cond b (Some x) None) ≡ b
-      test true x = refl
-      test false x = refl
-
       by : (v : ℕ) (st : State V) → slice_get (places_of slots) k.index ≡ Some (place_in v st) → is_some (live_value k.version (Some (place_in v st))) ≡ (v == k.version)
-      by v (Occupied value) at = test (v == k.version) value
-      by v (Free links) at =
-          let good = sound.stacked.versions k.index (Vacant (v + 1)) at in
-          sym (ne_eqb v k.version (λ e. omega (arith, good.1, is.odd)))
+      by v (Occupied value) at = grind arith
+      by v (Free links) at = let good = sound.stacked.versions k.index (Vacant (v + 1)) at in sym (ne_eqb v k.version (λ e. omega (arith, good.1, is.odd)))
       by zero UsedUp at = sym (ne_eqb 0 k.version (λ e. omega (arith, is.odd)))
       by (suc v) UsedUp at = absurd (sound.none_detached k.index (suc v) at)
 
@@ -221,16 +209,10 @@ module _ {V : Type 0} (slots : List (Slot V)) (vacant elems : ℕ) (sound : IsSo
   same_offer = ap (offer_at (places_of rewritten)) same_next ∙ ap (λ ps. offer_at ps (next_place slots)) places-rewritten ∙ by
     where
       by : offer_at (set (places_of slots) i (Live v w)) (next_place slots) ≡ offer_at (places_of slots) (next_place slots)
-      by = elim (cases_eq (next_place slots) 0) [
-        | inl none ↦
-            let test : eqb (next_place slots) 0 ≡ true = eq-eqb (next_place slots) 0 none in
-            rw test (ap (λ n. key n 1) (length-set (places_of slots) i (Live v w)))
-        | inr some ↦
-            let test : eqb (next_place slots) 0 ≡ false = ne_eqb (next_place slots) 0 some in
-            let at = vacant_place slots (next_place slots) (back_vacant slots vacant elems sound) in
-            let other : next_place slots ≢ i = λ e. was_live slots vacant elems sound i v x place at.0 (same_Some _ _ (sym place ∙ ap (slice_get (places_of slots)) (sym e) ∙ at.1)) in
-            rw (test, slice_get-set_other (places_of slots) i (next_place slots) (Live v w) other)
-      ]
+      by =
+          let at = vacant_place slots (next_place slots) (back_vacant slots vacant elems sound) in
+          let other : next_place slots ≢ i = λ e. was_live slots vacant elems sound i v x place at.0 (same_Some _ _ (sym place ∙ ap (slice_get (places_of slots)) (sym e) ∙ at.1)) in
+          grind (arith, length-set (places_of slots) i (Live v w), slice_get-set_other (places_of slots) i (next_place slots) (Live v w) other)
 
   pub content-rewritten : (c : ℕ) → hop_content rewritten c ≡ hop_with_value (hop_content slots c) (key i v) w
   content-rewritten c =

@@ -10,7 +10,7 @@ use Rattle.std.specs.FinMap as map
 use Rattle.std.specs.FinSet as set
 use Rattle.slotmap_core.specs.Key.{Key, IsKey, key_cmp}
 use Rattle.slotmap_core.specs.Content.{IsContent, places, most}
-use Rattle.slotmap_core.specs.Places.{Place, Live, Detached, Vacant, Retired, live, detached, retired, next, is_kept}
+use Rattle.slotmap_core.specs.Places.{Place, Detached, Vacant, live, detached, retired, next, is_kept}
 use Rattle.slotmap_core.specs.StackMap.{StackMap, content, offer, taken, filled, IsVersion, IsStacked}
 use Rattle.slotmap_core.proofs.PlacesLemmas.{key, contains-detached, get-next_at, vacant_at as next_found, total}
 use Rattle.slotmap_core.proofs.ContentLemmas.{some_is, IsContent-stacked}
@@ -19,7 +19,6 @@ use Rattle.slotmap_core.proofs.KeyLemmas.{keys_total, exact_keys}
 use Rattle.slotmap_hop.specs.declared.links.Links.{Links}
 use Rattle.slotmap_hop.specs.declared.links.Slot.{Slot}
 use Rattle.slotmap_hop.specs.declared.links.State.{State}
-use Rattle.slotmap_hop.specs.declared.links.State.TheVariants.{Occupied, Free, UsedUp}
 use Rattle.slotmap_hop.specs.Blocks.{IsBlock, IsFront, HasMaximalBlocks, offer_place}
 use Rattle.slotmap_hop.specs.Links.{removed, is_vacant, vacant_at, next_at, end_at, fronts_of, blocks_of, IsLinked}
 use Rattle.slotmap_hop.specs.HopContent.{IsHopContent, counts_vacant}
@@ -63,10 +62,7 @@ none_vacant es [] linked none i here =
 
 module _ {V : Type 0} where
   vacant_state : (v : ℕ) (s : State V) (n : ℕ) → place_in v s ≡ Vacant n → is_vacant (links_in s) ≡ true
-  vacant_state v (Occupied value) n is = absurd (cc)
-  vacant_state v (Free links) n is = refl
-  vacant_state zero UsedUp n is = absurd (cc)
-  vacant_state (suc v) UsedUp n is = absurd (cc)
+  vacant_state v s n is = grind arith
 
 module _ {V : Type 0} (slots : List (Slot V)) (i : ℕ) where
   pub vacant_place : vacant_at (layout slots) i ≡ true → (n : ℕ) × (slice_get (places_of slots) i ≡ Some (Vacant n))
@@ -175,14 +171,10 @@ module _ {V : Type 0} (slots : List (Slot V)) (vacant elems : ℕ) (sound : IsSo
       subst (IsContent true) (content_is c) (IsContent-untold true (content (ordered_map c)) (IsContent-stacked (ordered_map c) in_order.ordered (omega (arith, length-places slots))))
 
   none_kept : (k : Key) → set.contains (detached (places_of slots)) k ≡ false
-  none_kept k = contains-detached (places_of slots) k ∙ by (slice_get (places_of slots) k.index) refl
+  none_kept k = contains-detached (places_of slots) k ∙ by (slice_get (places_of slots) k.index) (sound.none_detached k.index)
     where
-      by : (p : Option (Place V)) → slice_get (places_of slots) k.index ≡ p → is_kept k.version p ≡ false
-      by None found = refl
-      by (Some (Live version value)) found = refl
-      by (Some (Detached version)) found = absurd (sound.none_detached k.index version found)
-      by (Some (Vacant n)) found = refl
-      by (Some Retired) found = refl
+      by : (p : Option (Place V)) → ((v : ℕ) → p ≡ Some (Detached v) → ⊥) → is_kept k.version p ≡ false
+      by p none = grind (arith, none)
 
   pub places_count : (c : ℕ) → places (hop_content slots c).content + 1 ≡ length slots
   places_count c = omega (arith, total (places_of slots) 1 sound.stacked.sentinel, length-places slots)
