@@ -1,5 +1,5 @@
 -- The blocks after several removals, one after the other.
-use Rattle.std.proofs.Common.{◌≡◌, ℕ, ◌+◌, ◌≤◌, Bool, true, false, List, [], ◌∷◌, ◌++◌, cond, map as list_map, Some, append_assoc, append-nil, is_some, refl, sym, ap, ◌∙◌}
+use Rattle.std.proofs.Common.{arith, ◌≡◌, ℕ, ◌+◌, ◌≤◌, true, false, List, [], ◌∷◌, ◌++◌, cond, map as list_map, Some, append_assoc, append-nil, is_some, refl, sym, ap, ◌∙◌}
 use Rattle.std.specs.FinMap as map
 use Rattle.slotmap_core.specs.Key.{Key, key_cmp}
 use Rattle.slotmap_core.specs.Retain.{Visit, seen}
@@ -32,17 +32,8 @@ module _ {K V : Type 0} (data_of : K → Key) where
   seen_push (y ∷ xs) x = ap (λ es. (data_of y.key, y.before) ∷ es) (seen_push xs x)
 
   dropped_push : (xs : List (Visit K V)) (x : Visit K V) → dropped data_of (xs ++ x ∷ []) ≡ dropped data_of xs ++ cond x.stays [] (data_of x.key ∷ [])
-  dropped_push [] x = by x.stays
-    where
-      by : (b : Bool) → cond b [] (data_of x.key ∷ []) ≡ cond b [] (data_of x.key ∷ [])
-      by b = refl
-  dropped_push (y ∷ xs) x = by y.stays (dropped_push xs x)
-    where
-      by : (b : Bool) → dropped data_of (xs ++ x ∷ []) ≡ dropped data_of xs ++ cond x.stays [] (data_of x.key ∷ [])
-          → cond b (dropped data_of (xs ++ x ∷ [])) (data_of y.key ∷ dropped data_of (xs ++ x ∷ [])) ≡ cond b (dropped data_of xs)
-          (data_of y.key ∷ dropped data_of xs) ++ cond x.stays [] (data_of x.key ∷ [])
-      by true rest = rest
-      by false rest = ap (λ ks. data_of y.key ∷ ks) rest
+  dropped_push [] x = grind arith
+  dropped_push (y ∷ xs) x = grind (arith, dropped_push xs x)
 
   -- the calls so far, in order, and the keys that they removed
   pub record InOrder (old : HopContent V) (visits : List (Visit K V)) (index : ℕ) (now : HopContent V) : Type 0 where

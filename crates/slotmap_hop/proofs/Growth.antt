@@ -1,7 +1,7 @@
 -- What an insert makes of sound slots, and what stays when one place changes.
-use Rattle.std.proofs.Common.{⊎_elim, ◌≡◌, ◌≢◌, inl, inr, ℕ, ◌+◌, ◌-◌, ◌^◌, ◌<◌, ◌≤◌, true, false, eqb, List, []}
-use Rattle.std.proofs.Common.{◌∷◌, ◌++◌, length, set, slice_get, get_or, Some, None, sym, ap, subst, ◌∙◌, arith, eq-eqb}
-use Rattle.std.proofs.Common.{ne_eqb, min}
+use Rattle.std.proofs.Common.{⊎_elim, ◌≡◌, ◌≢◌, inl, inr, ℕ, ◌+◌, ◌-◌, ◌^◌, ◌<◌, ◌≤◌, List, []}
+use Rattle.std.proofs.Common.{◌∷◌, ◌++◌, length, set, slice_get, get_or, Some, None, sym, ap, subst, ◌∙◌, arith}
+use Rattle.std.proofs.Common.{min}
 use Rattle.std.proofs.lemmas.Bool.{cases_lt}
 use Rattle.std.proofs.lemmas.Option.{get_or_from_slice_get}
 use Rattle.std.proofs.lemmas.List.{map-append, nil_from_length}
@@ -23,7 +23,8 @@ use Rattle.slotmap_hop.proofs.SlotReads.{length-layout, length-places, slot_with
 use Rattle.slotmap_hop.proofs.Taking.{HasBlockList-pushed, blocks_pushed, shorter_none}
 use Rattle.slotmap_hop.proofs.StackOrder.{IsStacked-first, length_removed, untold, Inserts-untold, Removes-untold}
 use Rattle.slotmap_core.proofs.GatherLemmas.{at_set, at_push}
-use Rattle.slotmap_hop.proofs.SlotLemmas.{found_within, taken_slots, back_vacant, empty_stack, in_order, ordered_map, content_is}
+use Rattle.slotmap_core.proofs.ListLemmas.{found_within}
+use Rattle.slotmap_hop.proofs.SlotLemmas.{taken_slots, back_vacant, empty_stack, in_order, ordered_map, content_is}
 
 module _ {V : Type 0} (slots : List (Slot V)) (vacant elems : ℕ) (sound : IsSound slots vacant elems) (new : List (Slot V)) where
   -- one place changes; the new stack and both counts are given
@@ -85,7 +86,7 @@ module _ {V : Type 0} (slots : List (Slot V)) (vacant elems : ℕ) (sound : IsSo
   none_left none = omega (arith, sound.counted, ap length (empty_stack slots vacant elems sound none))
 
   pub offer-end : next_place slots ≡ 0 → offer_at (places_of slots) (next_place slots) ≡ key (length slots) 1
-  offer-end none = let test : eqb (next_place slots) 0 ≡ true = eq-eqb (next_place slots) 0 none in rw test (ap (λ n. key n 1) (length-places slots))
+  offer-end none = grind (arith, length-places slots)
 
   -- the slot that the next insert fills
   pub record Back : Type 0 where
@@ -112,9 +113,7 @@ module _ {V : Type 0} (slots : List (Slot V)) (vacant elems : ℕ) (sound : IsSo
       }
 
   pub offer-back : 0 < next_place slots → offer_at (places_of slots) (next_place slots) ≡ key (next_place slots) (back_slot.slot.version + 1)
-  offer-back some =
-      let test : eqb (next_place slots) 0 ≡ false = ne_eqb (next_place slots) 0 (λ e. omega arith) in
-      rw (test, back_slot.place)
+  offer-back some = grind (arith, back_slot.place)
 
   -- a new place
   abbrev pub pushed_slots : V → List (Slot V)

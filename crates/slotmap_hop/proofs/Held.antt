@@ -9,6 +9,7 @@ use Rattle.slotmap_core.specs.Transition.{Inserts, Removes}
 use Rattle.slotmap_core.specs.Places.{Place, Live, Vacant, Retired}
 use Rattle.slotmap_core.specs.StackMap.{taken}
 use Rattle.slotmap_core.proofs.PlacesLemmas.{key}
+use Rattle.slotmap_core.proofs.ListLemmas.{same_read}
 use Rattle.slotmap_hop.specs.declared.HopSlotMap.TheInside.{Inside}
 use Rattle.slotmap_hop.specs.declared.links.Links.{Links}
 use Rattle.slotmap_hop.specs.declared.links.Slot.{Slot}
@@ -18,7 +19,7 @@ use Rattle.slotmap_hop.specs.HopContent.{HopContent, IsHopContent, StaysHop, blo
 use Rattle.slotmap_hop.specs.Slots.{layout, places_of, value_at, next_place, hop_content, IsSound}
 use Rattle.slotmap_hop.proofs.SlotLemmas.{valid, same_length, key_is, slots_fit}
 use Rattle.slotmap_hop.proofs.Growth.{back_slot, has_room, none_offered, some_offered, offer-end, offer-back, sound-filled, inserts-filled}
-use Rattle.slotmap_hop.proofs.LiveSlots.{Present, present, same_read, value_is, sound-freed, removes-freed, blocks-freed, sound-used_up, removes-used_up, blocks-used_up}
+use Rattle.slotmap_hop.proofs.LiveSlots.{Present, present, value_is, sound-freed, removes-freed, blocks-freed, sound-used_up, removes-used_up, blocks-used_up}
 use Rattle.slotmap_hop.proofs.Taking.{read_back}
 
 module _ {K V : Type 0} (m : Inside K V) {now : HopContent V} (view : hop_content m.slots.items (vec_capacity m.slots - 1) ≡ now) (sound : IsSound m.slots.items m.vacant_count m.live_count) where

@@ -1,9 +1,8 @@
 -- The slot of a live key: what a look-up, a removal or a write knows of it, and makes of it.
-use Rattle.std.proofs.Common.{◌≡◌, ◌≢◌, inl, inr, ℕ, zero, suc, ◌+◌, ◌-◌, ◌^◌, ◌<◌, ◌≤◌, Bool, true, false, cond, eqb, nat_eq, ◌==◌, List}
-use Rattle.std.proofs.Common.{◌∷◌, length, set, slice_get, get_or, Option, Some, None, is_some, refl, sym, ap, subst, ◌∙◌, arith, eq-eqb}
-use Rattle.std.proofs.Common.{ne_eqb, min, IfNone}
-use Rattle.std.proofs.lemmas.Bool.{cases_eq}
-use Rattle.std.proofs.lemmas.Option.{slice_get_within, slice_get_past, slice_get_read, same_Some, get_or_from_slice_get}
+use Rattle.std.proofs.Common.{◌≡◌, ◌≢◌, ℕ, zero, suc, ◌+◌, ◌-◌, ◌^◌, ◌<◌, ◌≤◌, true, false, cond, nat_eq, ◌==◌, List}
+use Rattle.std.proofs.Common.{◌∷◌, length, set, slice_get, get_or, Some, None, is_some, sym, ap, subst, ◌∙◌, arith, eq-eqb}
+use Rattle.std.proofs.Common.{ne_eqb, min}
+use Rattle.std.proofs.lemmas.Option.{slice_get_within, slice_get_past, same_Some, get_or_from_slice_get}
 use Rattle.std.proofs.lemmas.List.{length-set, set-get_or}
 use Rattle.std.specs.FinMap as map
 use Rattle.slotmap_core.specs.Key.{Key, IsKey, key_cmp, last_version}
@@ -25,20 +24,12 @@ use Rattle.slotmap_hop.specs.HopContent.{counts_vacant, blocks_without, hop_with
 use Rattle.slotmap_hop.specs.Slots.{links_in, place_in, layout, places_of, value_of, value_at, CanFree, next_place, offer_at, hop_content, IsSound}
 use Rattle.slotmap_hop.proofs.SlotReads.{length-layout, length-places, layout_at, place_at, layout_written, places_written}
 use Rattle.slotmap_hop.proofs.Growth.{IsSound-set, removes-slots}
-use Rattle.slotmap_hop.proofs.SlotLemmas.{found_within, key_is, vacant_place, place_not_vacant, slots_fit, same_counts, back_vacant, in_order, ordered_map}
-
--- a read of a vector returns the element that is known to be there
-pub same_read : {X : Type 0} (xs : List X) (i : ℕ) (read known : X) → read ≡ get_or xs i read → slice_get xs i ≡ Some known → read ≡ known
-same_read xs i read known at found = at ∙ get_or_from_slice_get xs i known read found
+use Rattle.slotmap_core.proofs.ListLemmas.{found_within, same_read}
+use Rattle.slotmap_hop.proofs.SlotLemmas.{key_is, vacant_place, place_not_vacant, slots_fit, same_counts, back_vacant, in_order, ordered_map}
 
 module _ {V : Type 0} where
   live_state : (v : ℕ) (s : State V) (u : ℕ) (x : V) → place_in v s ≡ Live u x → (v ≡ u) × (s ≡ Occupied x)
-  live_state v (Occupied value) u x is =
-      let same : ◌≡◌ {A = ℕ × V} (v, value) (u, x) = cc in
-      (ap (λ p. p.0) same, ap (λ p. Occupied p.1) same)
-  live_state v (Free links) u x is = absurd (cc)
-  live_state zero UsedUp u x is = absurd (cc)
-  live_state (suc v) UsedUp u x is = absurd (cc)
+  live_state v s u x is = grind arith
 
 module _ {V : Type 0} (slots : List (Slot V)) (vacant elems : ℕ) (sound : IsSound slots vacant elems) where
   pub contains-version : (k : Key) (s : Slot V) → IsKey k → slice_get slots k.index ≡ Some s → (s.version == k.version) ≡ map.contains_key (live (places_of slots)) k
@@ -48,32 +39,14 @@ module _ {V : Type 0} (slots : List (Slot V)) (vacant elems : ℕ) (sound : IsSo
       place : slice_get (places_of slots) k.index ≡ Some (place_in s.version s.state)
       place = place_at slots k.index s found
 
-      test : (b : Bool) (x : V) → is_some (cond b (Some x) None) ≡ b
-      test true x = refl
-      test false x = refl
-
       by : (v : ℕ) (st : State V) → slice_get (places_of slots) k.index ≡ Some (place_in v st) → is_some (live_value k.version (Some (place_in v st))) ≡ (v == k.version)
-      by v (Occupied value) at = test (v == k.version) value
-      by v (Free links) at =
-          let good = sound.stacked.versions k.index (Vacant (v + 1)) at in
-          sym (ne_eqb v k.version (λ e. omega (arith, good.1, is.odd)))
+      by v (Occupied value) at = grind arith
+      by v (Free links) at = let good = sound.stacked.versions k.index (Vacant (v + 1)) at in sym (ne_eqb v k.version (λ e. omega (arith, good.1, is.odd)))
       by zero UsedUp at = sym (ne_eqb 0 k.version (λ e. omega (arith, is.odd)))
       by (suc v) UsedUp at = absurd (sound.none_detached k.index (suc v) at)
 
-  pub contains-past : (k : Key) → length slots ≤ k.index → false ≡ map.contains_key (live (places_of slots)) k
-  contains-past k past =
-      sym (ap is_some (get-live (places_of slots) k ∙ ap (live_value k.version) (slice_get_past (places_of slots) k.index (omega (arith, length-places slots)))))
-
-  module _ (lives : map.FinMap key_cmp V) (all : live (places_of slots) ≡ lives) (k own : Key) (same : own ≡ k) where
-    pub contains-read : (i version : ℕ) → IsKey own → i ≡ own.index → version ≡ own.version → (seen : List (Slot V)) (s : Slot V) → seen ≡ slots
-        → s ≡ get_or seen i s → i < length seen → (s.version == version) ≡ map.contains_key lives k
-    contains-read i version is at of seen s whole read within =
-        let found : slice_get slots i ≡ Some s = ap (λ xs. slice_get xs i) (sym whole) ∙ slice_get_read seen (length seen) i s refl within read in
-        rw of (contains-version own s is (ap (slice_get slots) (sym at) ∙ found) ∙ ap (λ m. map.contains_key m own) all ∙ ap (map.contains_key lives) same)
-
-    pub contains-past_read : (i : ℕ) → i ≡ own.index → (seen : List (Slot V)) → seen ≡ slots → length seen ≤ i → map.contains_key lives k ≡ false
-    contains-past_read i at seen whole past =
-        ap (map.contains_key lives) (sym same) ∙ ap (λ m. map.contains_key m own) (sym all) ∙ sym (contains-past own (omega (arith, ap length whole)))
+  pub contains-past : (k : Key) → length slots ≤ k.index → map.contains_key (live (places_of slots)) k ≡ false
+  contains-past k past = ap is_some (get-live (places_of slots) k ∙ ap (live_value k.version) (slice_get_past (places_of slots) k.index (omega (arith, length-places slots))))
 
 -- the slot of a key that is live
 pub record Present {V : Type 0} (slots : List (Slot V)) (lives : map.FinMap key_cmp V) (k : Key) (i v : ℕ) : Type 0 where
@@ -120,10 +93,6 @@ module _ {V : Type 0} {slots : List (Slot V)} {lives : map.FinMap key_cmp V} {k 
     where
       same_value : (x y : V) → Occupied x ≡ Occupied y → Some x ≡ Some y
       same_value x y is = let same : x ≡ y = cc in ap Some same
-
-pub if_none : {A P : Type 0} (o : Option A) → P → IfNone o P
-if_none None p = p
-if_none (Some x) p = tt
 
 -- the slot of a live key
 
@@ -240,16 +209,10 @@ module _ {V : Type 0} (slots : List (Slot V)) (vacant elems : ℕ) (sound : IsSo
   same_offer = ap (offer_at (places_of rewritten)) same_next ∙ ap (λ ps. offer_at ps (next_place slots)) places-rewritten ∙ by
     where
       by : offer_at (set (places_of slots) i (Live v w)) (next_place slots) ≡ offer_at (places_of slots) (next_place slots)
-      by = elim (cases_eq (next_place slots) 0) [
-        | inl none ↦
-            let test : eqb (next_place slots) 0 ≡ true = eq-eqb (next_place slots) 0 none in
-            rw test (ap (λ n. key n 1) (length-set (places_of slots) i (Live v w)))
-        | inr some ↦
-            let test : eqb (next_place slots) 0 ≡ false = ne_eqb (next_place slots) 0 some in
-            let at = vacant_place slots (next_place slots) (back_vacant slots vacant elems sound) in
-            let other : next_place slots ≢ i = λ e. was_live slots vacant elems sound i v x place at.0 (same_Some _ _ (sym place ∙ ap (slice_get (places_of slots)) (sym e) ∙ at.1)) in
-            rw (test, slice_get-set_other (places_of slots) i (next_place slots) (Live v w) other)
-      ]
+      by =
+          let at = vacant_place slots (next_place slots) (back_vacant slots vacant elems sound) in
+          let other : next_place slots ≢ i = λ e. was_live slots vacant elems sound i v x place at.0 (same_Some _ _ (sym place ∙ ap (slice_get (places_of slots)) (sym e) ∙ at.1)) in
+          grind (arith, length-set (places_of slots) i (Live v w), slice_get-set_other (places_of slots) i (next_place slots) (Live v w) other)
 
   pub content-rewritten : (c : ℕ) → hop_content rewritten c ≡ hop_with_value (hop_content slots c) (key i v) w
   content-rewritten c =

@@ -3,14 +3,14 @@ use mathlib.Core.Path.{fun_ext}
 use Rattle.std.proofs.Common.{◌≡◌, ◌≢◌, inl, inr, ℕ, zero, suc, ◌+◌, ◌-◌, ◌^◌, ◌<◌, ◌≤◌, Bool, true, false, eqb, ◌==◌, ◌||◌, List, []}
 use Rattle.std.proofs.Common.{◌∷◌, ◌++◌, length, set, slice_get, get_or, Option, Some, None, is_some, refl, sym, ap, subst, ◌∙◌, arith, eq-eqb}
 use Rattle.std.proofs.Common.{ne_eqb, min}
-use Rattle.std.proofs.lemmas.Bool.{cases_eq, cases_lt, cases_Bool}
+use Rattle.std.proofs.lemmas.Bool.{cases_lt, cases_Bool}
 use Rattle.std.proofs.lemmas.Option.{slice_get_within, same_Some}
 use Rattle.std.proofs.lemmas.List.{length-set}
 use Rattle.std.specs.FinMap as map
 use Rattle.std.specs.FinSet as set
 use Rattle.slotmap_core.specs.Key.{Key, IsKey, key_cmp}
 use Rattle.slotmap_core.specs.Content.{IsContent, places, most}
-use Rattle.slotmap_core.specs.Places.{Place, Live, Detached, Vacant, Retired, live, detached, retired, next, is_kept}
+use Rattle.slotmap_core.specs.Places.{Place, Detached, Vacant, live, detached, retired, next, is_kept}
 use Rattle.slotmap_core.specs.StackMap.{StackMap, content, offer, taken, filled, IsVersion, IsStacked}
 use Rattle.slotmap_core.proofs.PlacesLemmas.{key, contains-detached, get-next_at, vacant_at as next_found, total}
 use Rattle.slotmap_core.proofs.ContentLemmas.{some_is, IsContent-stacked}
@@ -19,23 +19,18 @@ use Rattle.slotmap_core.proofs.KeyLemmas.{keys_total, exact_keys}
 use Rattle.slotmap_hop.specs.declared.links.Links.{Links}
 use Rattle.slotmap_hop.specs.declared.links.Slot.{Slot}
 use Rattle.slotmap_hop.specs.declared.links.State.{State}
-use Rattle.slotmap_hop.specs.declared.links.State.TheVariants.{Occupied, Free, UsedUp}
-use Rattle.slotmap_hop.specs.Blocks.{Begins, IsBlock, IsFront, HasMaximalBlocks, offer_place}
+use Rattle.slotmap_hop.specs.Blocks.{IsBlock, IsFront, HasMaximalBlocks, offer_place}
 use Rattle.slotmap_hop.specs.Links.{removed, is_vacant, vacant_at, next_at, end_at, fronts_of, blocks_of, IsLinked}
 use Rattle.slotmap_hop.specs.HopContent.{IsHopContent, counts_vacant}
 use Rattle.slotmap_hop.specs.Slots.{links_in, place_in, layout, places_of, next_place, offer_at, hop_content, IsSound}
 use Rattle.slotmap_hop.proofs.Chain.{occurs-head}
-use Rattle.slotmap_hop.proofs.BlockLemmas.{clash, IsBlock-unique, back_of}
+use Rattle.slotmap_hop.proofs.BlockLemmas.{clash}
 use Rattle.slotmap_hop.proofs.Circle.{bounded_by_length, circle_block}
 use Rattle.slotmap_hop.proofs.SlotReads.{length-layout, length-places, slot_within, flag_at, place_read, free_read}
 use Rattle.slotmap_hop.proofs.Taking.{first_block, offer_is_end, offer_is_back}
 use Rattle.slotmap_hop.proofs.Maximal.{maximal}
 use Rattle.slotmap_hop.proofs.StackOrder.{IsStacked-first, untold, IsContent-untold}
-
-pub found_within : {X : Type 0} (xs : List X) (i : ℕ) → i < length xs → (x : X) × (slice_get xs i ≡ Some x)
-found_within [] i within = absurd (omega arith)
-found_within (x ∷ xs) zero within = (x, refl)
-found_within (x ∷ xs) (suc i) within = found_within xs i (omega arith)
+use Rattle.slotmap_core.proofs.ListLemmas.{found_within}
 
 -- setting a place doesn't change the number of slots
 pub same_length : {V : Type 0} (slots new : List (Slot V)) (i : ℕ) (p : Place V) → places_of new ≡ set (places_of slots) i p → length new ≡ length slots
@@ -46,61 +41,28 @@ key_is within version = record { index_fits = omega arith; version_fits = versio
 
 -- blocks
 
-module _ (v : ℕ → Bool) where
-  run_to : (i : ℕ) → v i ≡ true → (g : ℕ) × (g ≤ i) × Begins v g × ((x : ℕ) → g ≤ x → x ≤ i → v x ≡ true)
-  run_to zero here = (0, omega arith, (λ left e. absurd (omega arith)), λ x low high. let same : x ≡ 0 = omega arith in rw same here)
-  run_to (suc i) here =
-      elim (cases_Bool (v i)) [
-        | inl vacant ↦
-            let rest = run_to i vacant in
-            (rest.0, omega (arith, rest.1), rest.2, λ x low high. elim (cases_eq x (suc i)) [ inl same ↦ rw same here | inr differs ↦ rest.3 x low (omega arith) ])
-        | inr taken ↦ (suc i, omega arith, (λ left e. let same : left ≡ i = omega arith in rw same taken), λ x low high. let same : x ≡ suc i = omega arith in rw same here)
-      ]
-
-  -- the block that a vacant place is in
-  pub block_around : (n i : ℕ) → ((x : ℕ) → v x ≡ true → x < n) → v i ≡ true → (g : ℕ) × (c : ℕ) × IsBlock v g c × (g ≤ i) × (i ≤ c)
-  block_around n i bounded here =
-      let run = run_to i here in
-      let found = back_of v n n run.0 i bounded (omega arith) run.1 run.2 run.3 in
-      let block = found.1 in (
-        run.0,
-        found.0,
-        block,
-        run.1,
-        elim (cases_lt found.0 i) [
-          | inl before ↦ clash v (found.0 + 1) (run.3 (found.0 + 1) (omega (arith, block.ordered)) (omega arith)) block.ends
-          | inr not_before ↦ omega arith
-        ],
-      )
+-- if place 1 isn't vacant and no block begins at a place other than 0, no other place is vacant
+only_zero : (v : ℕ → Bool) → v 1 ≡ false → ((g : ℕ) → IsFront v g → ⊥) → (i : ℕ) → v i ≡ true → i ≡ 0
+only_zero v next none zero here = refl
+only_zero v next none (suc i) here = elim (cases_Bool (v i)) [
+  | inl before ↦ let same : i ≡ 0 = only_zero v next none i before in clash v 1 (subst (λ j. v (suc j) ≡ true) same here) next
+  | inr taken ↦ absurd (none (suc i) (record { positive = omega arith; inside = here; begins = λ left e. let same : left ≡ i = omega arith in rw same taken }))
+]
 
 -- if the block that an insert looks at is place 0 alone, no other place is vacant
 pub none_vacant : (es : List (Option Links)) (fs : List ℕ) → IsLinked es fs → end_at es (next_at es 0) ≡ 0 → (i : ℕ) → vacant_at es i ≡ true → i ≡ 0
 none_vacant es (x ∷ fs) linked none i here =
     absurd (omega (arith, (first_block es (x ∷ fs) linked).ordered, linked.chain.0, (linked.listed.only x (omega (arith, occurs-head x fs))).positive))
 none_vacant es [] linked none i here =
-    let around = block_around (vacant_at es) (length es) i (bounded_by_length es) here in
-    let g = around.0 in
-    let block = around.2 in
-    elim (cases_eq g 0) [
-      | inl first ↦
-          let at_zero : next_at es 0 ≡ 0 = linked.chain.0 in
-          let zero_end : end_at es 0 ≡ 0 = ap (end_at es) (sym at_zero) ∙ none in
-          let zero_block : IsBlock (vacant_at es) 0 (end_at es 0) = circle_block (length es) (bounded_by_length es) 0 linked (omega (arith, occurs-head 0 [])) in
-          let same = IsBlock-unique (vacant_at es) 0 (end_at es 0) g around.1 zero_block block (omega arith) (omega arith) in
-          omega (arith, same.1, around.4)
-      | inr other ↦
-          let front : IsFront (vacant_at es) g = record { positive = omega arith; inside = block.inside g (omega arith) block.ordered; begins = block.begins } in
-          absurd (omega (arith, linked.listed.once g front))
-    ]
+    let zero_end : end_at es 0 ≡ 0 = ap (end_at es) (sym linked.chain.0) ∙ none in
+    let block = circle_block (length es) (bounded_by_length es) 0 linked (omega (arith, occurs-head 0 [])) in
+    only_zero (vacant_at es) (subst (λ b. vacant_at es (b + 1) ≡ false) zero_end block.ends) (λ g front. absurd (omega (arith, linked.listed.once g front))) i here
 
 -- slots as links and as places
 
 module _ {V : Type 0} where
   vacant_state : (v : ℕ) (s : State V) (n : ℕ) → place_in v s ≡ Vacant n → is_vacant (links_in s) ≡ true
-  vacant_state v (Occupied value) n is = absurd (cc)
-  vacant_state v (Free links) n is = refl
-  vacant_state zero UsedUp n is = absurd (cc)
-  vacant_state (suc v) UsedUp n is = absurd (cc)
+  vacant_state v s n is = grind arith
 
 module _ {V : Type 0} (slots : List (Slot V)) (i : ℕ) where
   pub vacant_place : vacant_at (layout slots) i ≡ true → (n : ℕ) × (slice_get (places_of slots) i ≡ Some (Vacant n))
@@ -209,14 +171,10 @@ module _ {V : Type 0} (slots : List (Slot V)) (vacant elems : ℕ) (sound : IsSo
       subst (IsContent true) (content_is c) (IsContent-untold true (content (ordered_map c)) (IsContent-stacked (ordered_map c) in_order.ordered (omega (arith, length-places slots))))
 
   none_kept : (k : Key) → set.contains (detached (places_of slots)) k ≡ false
-  none_kept k = contains-detached (places_of slots) k ∙ by (slice_get (places_of slots) k.index) refl
+  none_kept k = contains-detached (places_of slots) k ∙ by (slice_get (places_of slots) k.index) (sound.none_detached k.index)
     where
-      by : (p : Option (Place V)) → slice_get (places_of slots) k.index ≡ p → is_kept k.version p ≡ false
-      by None found = refl
-      by (Some (Live version value)) found = refl
-      by (Some (Detached version)) found = absurd (sound.none_detached k.index version found)
-      by (Some (Vacant n)) found = refl
-      by (Some Retired) found = refl
+      by : (p : Option (Place V)) → ((v : ℕ) → p ≡ Some (Detached v) → ⊥) → is_kept k.version p ≡ false
+      by p none = grind (arith, none)
 
   pub places_count : (c : ℕ) → places (hop_content slots c).content + 1 ≡ length slots
   places_count c = omega (arith, total (places_of slots) 1 sound.stacked.sentinel, length-places slots)

@@ -52,9 +52,6 @@ returns-then-self-eq0-clause-valid g c =
       capacity = rw (← c.self.view_is) (omega (arith, c.push_reserved.ensures.capacity));
     }
 
-pub overflow_sub-self : goal.overflow_sub-self
-overflow_sub-self g c = omega (arith, c.if-self-eq0.false)
-
 pub links_at-block-requires : goal.links_at-block-requires
 links_at-block-requires g c =
     let es = layout c.self.inside.slots.items in

@@ -3,12 +3,12 @@ use Rattle.std.specs.Vec.Iter.{into_iter_items}
 use Rattle.std.proofs.lemmas.List.{with_items_is}
 use Rattle.slotmap_core.specs.Places.{Vacant}
 use Rattle.slotmap_core.specs.Slots.{Accepts, AllFitBelow}
-use Rattle.slotmap_core.proofs.ListReadLemmas.{reads_as}
+use Rattle.slotmap_core.proofs.ListReadLemmas.{reads_as, taken_first, some_records}
 use Rattle.slotmap_hop.specs.Blocks.{vacated}
 use Rattle.slotmap_hop.specs.Links.{vacant_at, blocks_of}
 use Rattle.slotmap_hop.specs.Slots.{layout, places_of}
 use Rattle.slotmap_hop.proofs.SlotLemmas.{valid, same_length}
-use Rattle.slotmap_hop.proofs.ReadLemmas.{AreRead, AreRead-first, AreRead-vacant, AreRead-in_use, read_count, with_slot, can_open, taken_first, some_slots, IsSound-read, starts-read}
+use Rattle.slotmap_hop.proofs.ReadLemmas.{AreRead, AreRead-first, AreRead-vacant, AreRead-in_use, read_count, with_slot, can_open, IsSound-read, starts-read}
 use Rattle.slotmap_hop.proofs.ReadLemmas.{reading_counted, reading_all, reading_on}
 use Rattle.slotmap_hop.proofs.HopSlotMap.from_slots.Goals.{In_ok-check_slots, In-None, After-push_reserved-in-loop-slot}
 use Rattle.slotmap_hop.proofs.HopSlotMap.from_slots.Goals as goal
@@ -19,7 +19,7 @@ accepted g c = subst (λ l. Accepts l 4294967295) c.deref.ensures.value (c.in_ok
 pub loop-slot-init : goal.loop-slot-init
 loop-slot-init g c =
     let list = c.args.list in
-    let some = some_slots list.items 4294967295 (accepted g (goal.at.loop-slot-init g c).In_ok-check_slots) in
+    let some = some_records list.items 4294967295 (accepted g (goal.at.loop-slot-init g c).In_ok-check_slots) in
     let taken = taken_first _ _ _ _ c.next.result c.next.ensures.cases (omega (arith, some, c.into_iter-records.ensures.len, list.ok.0)) in
     let rest = c.into_iter-slot-iterator.ensures.into_iter_gives in
     let whole : taken.0 ∷ into_iter_items c.next.new.self ≡ list.items = sym taken.1 ∙ c.into_iter-records.ensures.rest in
@@ -47,11 +47,6 @@ loop-slot-init g c =
 
 with_next : (g : _) (c : After-push_reserved-in-loop-slot g) → c.push_reserved-in-loop-slot.new.self.items ≡ with_slot _ _ _ _ c.loop-slot.invariant.reading.read c.in-Some.slot
 with_next g c = c.push_reserved-in-loop-slot.ensures.items ∙ ap (λ s. c.loop-slot.slots.items ++ record { version = c.in-Some.slot.version; state = s } ∷ []) c.state_from-state.ensures
-
-pub overflow_add-live_count : goal.overflow_add-live_count
-overflow_add-live_count g c =
-    let reading = c.loop-slot.invariant.reading in
-    omega (arith, (accepted g (goal.at.overflow_add-live_count g c).In_ok-check_slots).short, reading_counted _ _ _ _ _ _ _ reading, reading.few_elems)
 
 pub open_last-requires-clause-can : goal.open_last-requires-clause-can
 open_last-requires-clause-can g c =

@@ -13,9 +13,6 @@ loop-key-init g c =
       room = omega (arith, ap length all, length-map (map.entries m) (λ e. e.0), map.len-entries m, c.len.ensures.value, c.in_ok-reserve.ensures.ok);
     }
 
-pub push_reserved-requires : goal.push_reserved-requires
-push_reserved-requires g c = omega (arith, c.loop-key.invariant.room, ap length c.in-Some.ensures.steps.0)
-
 pub loop-key-preserved : goal.loop-key-preserved
 loop-key-preserved g c =
     let inv = c.loop-key.invariant in

@@ -25,9 +25,6 @@ here g c =
 pub returns-then-slot-eq1-clause-found : goal.returns-then-slot-eq1-clause-found
 returns-then-slot-eq1-clause-found g c = (way_finds _ _ _ (here g (goal.at.returns-then-slot-eq1-clause-found g c).After-read-slot) c.if-slot-eq1.true).0
 
-pub returns-then-slot-eq1-clause-slots : goal.returns-then-slot-eq1-clause-slots
-returns-then-slot-eq1-clause-slots g c = c.read-slot.ensures.slots ∙ c.loop-slot.invariant.slots
-
 pub returns-then-slot-eq1-clause-reads : goal.returns-then-slot-eq1-clause-reads
 returns-then-slot-eq1-clause-reads g c = rw c.read-slot.ensures.reads (way_finds _ _ _ (here g (goal.at.returns-then-slot-eq1-clause-reads g c).After-read-slot) c.if-slot-eq1.true).1
 

@@ -7,9 +7,6 @@ use Rattle.slotmap_hop.proofs.iter.Iter.step.Goals as goal
 pub next_live-place-requires-clause-can : goal.next_live-place-requires-clause-can
 next_live-place-requires-clause-can g c = can_go_on c.self.invariant
 
-pub next_live-place-requires-clause-some : goal.next_live-place-requires-clause-some
-next_live-place-requires-clause-some g c = omega (arith, c.self.invariant.counted, c.if-self-eq0.false)
-
 pub overflow_cast-place : goal.overflow_cast-place
 overflow_cast-place g c = let is_key = live_key _ _ _ c.self.invariant.stands.sound _ _ _ c.next_live-place.ensures.found.finds.there in omega (arith, is_key.index_fits)
 
