@@ -15,7 +15,7 @@ use slotmap_core::errors::OutOfMemory;
 use slotmap_core::keys::{Key, KeyData};
 
 // The first live slot from this one on, and its index. The loops over a map that changes find their
-// slots here. What is below a length of 32 bits isn't the null index, so no key is tested for that.
+// slots here.
 fn find_live<'a, V>(counted: &mut CountedSlots<'a, V>, start: u32) -> Option<(u32, &'a Slot<V>)>
     requires { CanGoOn counted.old.slots counted.old.reads start }
     ensures found { IfSome result (λ r. FindsSlot counted.old.slots start r.0 r.1.now) }
