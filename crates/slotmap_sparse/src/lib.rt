@@ -43,9 +43,9 @@ mod slots;
 
 pub use drain::Drain;
 pub use entry::{Entry, OccupiedEntry, VacantEntry};
+use indexmap::IndexMap;
 pub use into_iter::IntoIter;
 pub use iter::{Iter, Keys, Values};
-use indexmap::IndexMap;
 use slotmap_core::errors::ReserveError;
 use slotmap_core::keys::Key;
 use std::alloc::Global;
