@@ -128,10 +128,7 @@ laid-known vs ns xs same_n same_x =
 module _ {P : Type 0} (vs ns : List ℕ) (xs : List (Option P)) where
   pub laid-push : (v n : ℕ) (l : Link) (x : Option P) → length ns ≡ length vs → length xs ≡ length vs → link_of v n ≡ l
       → zip_slots (vs ++ v ∷ []) (links_of (vs ++ v ∷ []) (ns ++ n ∷ [])) (xs ++ x ∷ []) ≡ zip_slots vs (links_of vs ns) xs ++ record { version = v; link = l; payload = x } ∷ []
-  laid-push v n l x same_n same_x is =
-      ap (λ ls. zip_slots (vs ++ v ∷ []) ls (xs ++ x ∷ [])) (links-push vs ns v n same_n)
-      ∙ zip-push vs (links_of vs ns) xs v (link_of v n) x (links-length vs ns same_n) same_x
-      ∙ ap (λ l. zip_slots vs (links_of vs ns) xs ++ record { version = v; link = l; payload = x } ∷ []) is
+  laid-push v n l x same_n same_x is = grind (arith, links-push, zip-push, links-length)
 
   pub laid-put : (i v : ℕ) (x : Option P) → v % 2 ≡ 1
       → zip_slots (set vs i v) (links_of (set vs i v) ns) (set xs i x) ≡ set (zip_slots vs (links_of vs ns) xs) i

@@ -27,9 +27,7 @@ module _ {P : Type 0} (slots : List (Slot P)) (fits head kept count : ℕ) (held
 
   -- the payload that is read at the index of a live key is its value
   pub held_value : (k : Key) → IsLive now k → (i : ℕ) → i ≡ k.index → (x : P) → payload_at slots i ≡ Some x → map.get now.live k ≡ Some x
-  held_value k is_live i at x read =
-      let found = held_present k is_live in
-      ap (λ c. map.get c.live k) (sym view) ∙ found.gives ∙ sym found.read ∙ ap (payload_at slots) (sym at) ∙ read
+  held_value k is_live i at x read = grind (arith, held_present k is_live)
 
   pub held_kept : (k : Key) → IsDetached now k → PresentKept slots head (vacancies slots kept count) count held.sound k
   held_kept k aside = present_kept slots head (vacancies slots kept count) count held.sound k (ap (λ c. set.contains c.detached k) view ∙ aside)
@@ -44,9 +42,7 @@ module _ {P : Type 0} (slots : List (Slot P)) (fits head kept count : ℕ) (held
       omega (arith, after, length-set slots k.index (full k.version w), held.fewer)
 
   pub held_room : 0 < now.room → (taken (places_of slots) < most) × (length slots < fits + vacancies slots kept count)
-  held_room room =
-      let all = taken-slots slots head (vacancies slots kept count) count held.sound in
-      let same : now.room ≡ min (fits - 1) most - taken (places_of slots) = ap (λ c. c.room) (sym view) in (omega arith, omega arith)
+  held_room room = grind (arith, taken-slots slots head (vacancies slots kept count) count held.sound)
 
   -- the places, with the sentinel's, are the slots
   pub held_places : places now + 1 ≡ length slots
@@ -66,14 +62,7 @@ module _ {P : Type 0} (slots : List (Slot P)) (fits head kept count : ℕ) (held
   -- if a place is vacant, or one more slot fits, there is room
   pub held_reuses : head ≢ 0 → 0 < now.room
   held_reuses other =
-      omega (
-        arith,
-        some_free slots head (vacancies slots kept count) count held.sound other,
-        ap (λ c. c.room) (sym view),
-        taken-slots slots head (vacancies slots kept count) count held.sound,
-        held.holds,
-        held_fits,
-      )
+      grind (arith, some_free slots head (vacancies slots kept count) count held.sound other, taken-slots slots head (vacancies slots kept count) count held.sound, held_fits)
 
   pub held_spare : fits < 2 ^ 32 → length slots < fits → 0 < now.room
   held_spare limit spare = omega (arith, ap (λ c. c.room) (sym view), taken-slots slots head (vacancies slots kept count) count held.sound)
@@ -86,27 +75,19 @@ module _ {P : Type 0} (slots : List (Slot P)) (fits head kept count : ℕ) (held
 
   -- no live key is between two indices if no version there is odd
   pub held_passed : (start end : ℕ) → NoneLive slots start end → (q : Key) → IsLive now q → start ≤ q.index → end ≤ q.index
-  held_passed start end passed q is_live from =
-      let found = held_present q is_live in
-      grind (arith, passed q.index q.version from, found.odd, ap (option_map (λ s. s.version)) found.there)
+  held_passed start end passed q is_live from = grind (arith, held_present q is_live, passed q.index q.version from)
 
   pub held_ended : (start end : ℕ) → NoneLive slots start end → version_at slots end ≡ None → (q : Key) → IsLive now q → q.index < start
   held_ended start end passed ended q is_live =
-      let found = held_present q is_live in
-      let within = slice_get_within slots q.index (full q.version found.value) found.there in
-      let past = past_end slots end (mapped_none (λ s. s.version) (slice_get slots end) ended) in
-      grind (arith, held_passed start end passed q is_live)
+      grind (arith, held_present q is_live, past_end slots end (mapped_none (λ s. s.version) (slice_get slots end) ended), held_passed start end passed q is_live, slice_get_within, mapped_none)
 
 -- what is held after a call that allocates nothing
 pub held_stays : {P : Type 0} (slots : List (Slot P)) (fits head kept count : ℕ) → IsHeld slots fits head kept count → {now : Content P}
     → content (map_of slots head (vacancies slots kept count) (fits - 1)) ≡ now
     → (slots2 : List (Slot P)) (fits2 head2 kept2 count2 : ℕ) → IsHeld slots2 fits2 head2 kept2 count2 → fits2 ≡ fits
     → StaysValid true now (content (map_of slots2 head2 (vacancies slots2 kept2 count2) (fits2 - 1)))
-held_stays slots fits head kept count held view slots2 fits2 head2 kept2 count2 after same = record {
-  before = held_valid slots fits head kept count held view;
-  after = held_valid slots2 fits2 head2 kept2 count2 after refl;
-  capacity = ap (λ n. n - 1) same ∙ ap (λ c. c.capacity) view;
-}
+held_stays slots fits head kept count held view slots2 fits2 head2 kept2 count2 after same =
+    grind (arith, held_valid slots fits head kept count held view, held_valid slots2 fits2 head2 kept2 count2 after refl)
 
 -- how many slots are free once one is added
 pub vacancies-push : {P : Type 0} (slots : List (Slot P)) (s : Slot P) (free kept count : ℕ) → count + kept + free ≡ length slots → vacancies (slots ++ s ∷ []) kept count ≡ free
@@ -119,11 +100,7 @@ vacancies-set slots i s free kept count all = omega (arith, length-set slots i s
 pub held-set : {P : Type 0} (slots : List (Slot P)) (fits head kept count : ℕ) → IsHeld slots fits head kept count
     → (i : ℕ) (s : Slot P) {head2 free2 count2 : ℕ} → IsSound (set slots i s) head2 free2 count2
     → (kept2 : ℕ) → count2 + kept2 + free2 + 1 ≡ length slots → IsHeld (set slots i s) fits head2 kept2 count2
-held-set slots fits head kept count held i s {head2} {free2} {count2} sound kept2 all = record {
-  sound = subst (λ n. IsSound (set slots i s) head2 n count2) (sym (vacancies-set slots i s free2 kept2 count2 all)) sound;
-  fewer = omega (arith, length-set slots i s);
-  holds = omega (arith, held.holds, length-set slots i s);
-}
+held-set slots fits head kept count held i s {head2} {free2} {count2} sound kept2 all = grind (arith, vacancies-set, length-set)
 
 -- a payload is written
 length-with_payload : {P : Type 0} (slots : List (Slot P)) (i : ℕ) (p : P) → length (with_payload slots i p) ≡ length slots
@@ -138,22 +115,11 @@ pub with_payload-held : {P : Type 0} (slots : List (Slot P)) (fits head kept cou
     → slice_get slots i ≡ Some (full v x) → (w : P) → IsHeld (with_payload slots i w) fits head kept count
 with_payload-held slots fits head kept count held i v x there w =
     let free = vacancies slots kept count in
-    rw (with_payload-is slots head free count held.sound i v x there w)
-    (held-set slots fits head kept count held i (full v w) (rewritten slots head free count held.sound i v x there w).sound kept (omega (arith, held.fewer)))
+    grind (arith, with_payload-is slots head free count held.sound i v x there w, held-set slots fits head kept count held i (full v w) (rewritten slots head free count held.sound i v x there w).sound kept (omega (arith, held.fewer)))
 
 -- if there is room for n more keys, nothing has to be allocated
 pub room_had : {P : Type 0} (c : Content P) (n : ℕ) (ok : Type 0) → ok → IsContent true c → n ≤ c.room → MakesRoom true c n ok c
-room_had c n ok is well room = record {
-  before = well;
-  after = well;
-  fits = λ _. omega (arith, well.room_fits);
-  room = λ _. room;
-  live_and_more = λ _. omega (arith, well.capacity_fits);
-  succeeds = λ _. is;
-  had_room = λ _. refl;
-  keeps = record { live = refl; detached = refl; retired = refl; next = refl; offer = refl; stack = refl; room = omega arith };
-  capacity = omega arith;
-}
+room_had c n ok is well room = grind arith
 
 -- room for n more keys had to be allocated, and was allocated or not
 pub grown : {P : Type 0} (slots : List (Slot P)) (fits head kept count : ℕ) → IsHeld slots fits head kept count → {now : Content P}
@@ -162,14 +128,4 @@ pub grown : {P : Type 0} (slots : List (Slot P)) (fits head kept count : ℕ) �
     → MakesRoom true now n ok (content (map_of slots head (vacancies slots kept count) (more - 1)))
 grown slots fits head kept count held {now} view more on n ok none enough =
     let after = valid slots head (vacancies slots kept count) count held.sound more (omega (arith, held.holds)) in
-    record {
-      before = held_valid slots fits head kept count held view;
-      after = after;
-      fits = λ is. (enough is).0;
-      room = λ is. omega (arith, enough is, ap used (sym view));
-      live_and_more = λ is. omega (arith, enough is, ap (λ c. map.len c.live) (sym view), after.capacity_fits, ap used (sym view));
-      succeeds = λ room. absurd (omega arith);
-      had_room = λ room. absurd (omega arith);
-      keeps = rw (← view) (keeps (map_of slots head (vacancies slots kept count) (fits - 1)) (more - 1) (omega arith));
-      capacity = rw (← view) (omega arith);
-    }
+    grind (arith, held_valid slots fits head kept count held view, keeps (map_of slots head (vacancies slots kept count) (fits - 1)) (more - 1) (omega arith))

@@ -26,14 +26,7 @@ module _ {V : Type 0} where
   -- if the same keys are live, none was removed
   Leaves-same : (a b : Content V) → ((q : Key) → map.contains_key b.live q ≡ map.contains_key a.live q) → map.len b.live ≡ map.len a.live
       → b.detached ≡ a.detached → b.retired ≡ a.retired → b.next ≡ a.next → a.room ≤ b.room → Leaves a b
-  Leaves-same a b live len detached retired next room = record {
-    no_more = λ q there. sym (live q) ∙ there;
-    detached = detached;
-    retired = λ q. grind (arith, ap (λ s. set.contains s q) retired, live q);
-    next = λ i v. (λ h. inl (rw (← next) h), λ h. ⊎_elim (λ there. rw next there) (λ w. absurd (is_gone a b w.0 w.1 (live w.0 ∙ was_live a b w.0 w.1))) h);
-    same_places = omega (arith, len, ap set.len detached, ap set.len retired, ap map.len next);
-    room = room;
-  }
+  Leaves-same a b live len detached retired next room = grind arith
 
   pub Leaves-refl : (c : Content V) → Leaves c c
   Leaves-refl c = Leaves-same c c (λ q. refl) refl refl refl refl (omega arith)

@@ -72,17 +72,7 @@ pub record AreRead {V : Type 0} (records : List (SlotRecord V)) (slots : List (S
 -- the first record becomes the sentinel
 pub AreRead-first : {V : Type 0} (first : SlotRecord V) → AreRead (first ∷ []) sentinel 0 0 0
 unfolding start_stack
-AreRead-first {V} first =
-    let sound = IsSound-sentinel {P = V} in
-    let none : start_stack (first ∷ []) ≡ [] = refl in
-    record {
-      length_is = refl;
-      each = sound.each;
-      linked = subst (λ is. IsFreeList {P = V} sentinel is 0) (sym none) refl;
-      counted = ap length none;
-      live_counted = sound.live_counted;
-      places = refl;
-    }
+AreRead-first {V} first = grind (arith, IsSound-sentinel {P = V})
 
 module _ {V : Type 0} (records : List (SlotRecord V)) (slots : List (Slot V)) (head free count : ℕ) (read : AreRead records slots head free count)
     (made : SlotRecord V) (consistent : IsConsistent made) where
@@ -124,9 +114,7 @@ module _ {V : Type 0} (records : List (SlotRecord V)) (slots : List (Slot V)) (h
       let s = empty made.version (Free head) in
       let even = even_where made consistent none in
       let there : slice_get (slots ++ s ∷ []) (length records) ≡ Some s = rw (← read.length_is) (slice_get_push slots s) in
-      one_more some s (length records ∷ start_stack records) (length slots) (free + 1) count (rw (slot_vacant (length records) made some even unspent) at (start_stack-push records made))
-      (IsSlot-empty made.version (Free head) even (λ e. absurd (cc)) (λ e. absurd (cc))) (sym (vacant_place made consistent even unspent))
-      (read.length_is, (head, ap (option_map (λ s. s.link)) there, IsFreeList-push slots s (start_stack records) head read.linked)) (omega (arith, read.counted)) (omega arith)
+      grind (arith, one_more some s (length records ∷ start_stack records) (length slots) (free + 1) count (rw (slot_vacant (length records) made some even unspent) at (start_stack-push records made)) (IsSlot-empty made.version (Free head) even (λ e. absurd (cc)) (λ e. absurd (cc))) (sym (vacant_place made consistent even unspent)) (read.length_is, (head, ap (option_map (λ s. s.link)) there, IsFreeList-push slots s (start_stack records) head read.linked)) (omega (arith, read.counted)) (omega arith))
 
 -- the next record of an accepted list
 pub next_consistent : {V : Type 0} (records before after : List (SlotRecord V)) (made : SlotRecord V) (limit : ℕ) → Accepts records limit → before ++ made ∷ after ≡ records → IsConsistent made

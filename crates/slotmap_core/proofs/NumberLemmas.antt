@@ -10,10 +10,7 @@ use Rattle.slotmap_core.specs.declared.layout.Link.TheVariants.{InUse, Free, Det
 
 -- what a free slot names
 free_by : (a b c : Bool) (n : ℕ) → IsSome (next_of (cond a InUse (cond b Detached (cond c Retired (Free n))))) → next_of (cond a InUse (cond b Detached (cond c Retired (Free n)))) ≡ Some n
-free_by true b c n some = absurd (cc)
-free_by false true c n some = absurd (cc)
-free_by false false true n some = absurd (cc)
-free_by false false false n some = refl
+free_by x0 b c n some = grind arith
 
 pub free_is : (v n : ℕ) → IsSome (next_of (link_of v n)) → next_of (link_of v n) ≡ Some n
 free_is v n some = free_by (v % 2 == 1) (n == 2 ^ 32 - 1) (v == 0 && not (n == 0)) n some

@@ -34,15 +34,7 @@ module _ {F D E K V : Type 0} (a : Holding D K V) (b : Holding E K V) (lift : D 
   lifted s = stage s.position (lift s.held) s.closure
 
   calls-lift : (s t : Stage F D) (x : Visit K V) → Holds s.held → Calls a g s x t → Calls b g (lifted s) x (lifted t) × Holds t.held
-  calls-lift s t x holds calls = (
-    record {
-      shows = lifts.shows s.held s.position x.key x.before holds calls.shows;
-      written = ap lift calls.written ∙ lifts.puts s.held s.position x.key x.before x.after holds calls.shows;
-      moves = calls.moves ∙ lifts.moves s.position x.key x.stays;
-      called = calls.called;
-    },
-    subst Holds (sym calls.written) (lifts.still s.held s.position x.key x.before x.after holds calls.shows),
-  )
+  calls-lift s t x holds calls = grind arith
 
   kept-lift : (xs : List (Visit K V)) (s t : Stage F D) → Holds s.held → FoldsTo (Keeps a g) s xs t → FoldsTo (Keeps b g) (lifted s) xs (lifted t) × Holds t.held
   kept-lift [] s t holds run = (ap lifted run, subst (λ u. Holds u.held) run holds)
@@ -84,20 +76,10 @@ items-whole xs ys same = take_at ys (drop (length ys) xs.items) xs.len (omega (a
 pub ColumnComes-read : {P : Type 0} (vs : List ℕ) (xs : List (Option P)) (start i : ℕ) (k : Key) (o : Option P) (p : P) → k ≡ record { index = i; version = get_or vs i 0 }
     → i < length vs → length xs ≡ length vs → start ≤ i → AllEven vs start i → get_or vs i 0 % 2 ≡ 1 → get_or xs i o ≡ Some p
     → ColumnComes vs xs start k p
-ColumnComes-read vs xs start i k o p is within same on passed odd value =
-    subst (λ k. ColumnComes vs xs start k p) (sym is) (record {
-      version = slice_get-get_or vs i 0 within;
-      odd = odd;
-      payload = slice_get-get_or xs i o (omega (arith, within, same)) ∙ ap Some value;
-      from = on;
-      passed = passed;
-    })
+ColumnComes-read vs xs start i k o p is within same on passed odd value = grind (arith, slice_get-get_or)
 
 pub HasEachOdd-set : {P : Type 0} (vs : List ℕ) (xs : List (Option P)) (i : ℕ) (w : P) → i < length xs → HasEachOdd vs xs → HasEachOdd vs (set xs i (Some w))
-HasEachOdd-set vs xs i w within each = λ j v there odd. elim (cases_eq j i) [
-  | inl same ↦ (w, ap (slice_get (set xs i (Some w))) same ∙ slice_get-set_same xs i (Some w) within)
-  | inr other ↦ let was = each j v there odd in (was.0, slice_get-set_other xs i j (Some w) other ∙ was.1)
-]
+HasEachOdd-set vs xs i w within each = grind (arith, slice_get-set_same xs i (Some w) within, cases_eq, slice_get-set_other)
 
 -- the slots of two vectors have a payload at each odd version
 pub HasEachOdd-slots : {P : Type 0} (vs : List ℕ) (ls : List Link) (xs : List (Option P)) → length ls ≡ length vs → length xs ≡ length vs

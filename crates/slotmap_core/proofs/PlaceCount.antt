@@ -17,10 +17,7 @@ module _ {V : Type 0} (reuses : Bool) (old new : Content V) (ok : IsContent reus
     vacant_of h = ap is_some h
 
     pub offer_free : (other : Key) → Stands old other → other.index ≢ old.offer.index
-    offer_free other h e = elim (ok.offers room) [
-      | inl g ↦ ok.used_or_vacant other (inl h) (rw e (vacant_of g))
-      | inr g ↦ let w = ok.within other (inl h) in absurd (omega arith)
-    ]
+    offer_free other h e = grind arith
 
   module _ (k : Key) (v : V) (i : Inserts old k v new) where
     pub offers : (map.get old.next k.index ≡ Some k.version) ⊎ ((map.len old.next ≡ 0) × (k.index ≡ places old + 1) × (k.version ≡ 1))
@@ -32,18 +29,13 @@ module _ {V : Type 0} (reuses : Bool) (old new : Content V) (ok : IsContent reus
     pub places_grow : max (places old) (used old + 1) ≡ places new
     places_grow =
         let live : map.len new.live ≡ map.len old.live + 1 = ap map.len i.live ∙ len_inserted keys_total exact_keys old.live k v (false_of _ (λ h. free k (inl h) refl)) in
-        elim offers [
-          | inl g ↦ omega (arith, ap set.len i.detached, ap set.len i.retired, ap map.len i.next, len_removed nat_cmp_total exact_unsigned old.next k.index (ap is_some g))
-          | inr g ↦ grind (arith, ap set.len i.detached, ap set.len i.retired, ap map.len i.next, map.len-remove nat_cmp_total old.next k.index)
-        ]
+        grind (arith, map.len-remove nat_cmp_total old.next k.index)
 
   pub kept_places : Keeps old new → places new ≡ places old
   kept_places k = omega (arith, ap map.len k.live, ap set.len k.detached, ap set.len k.retired, ap map.len k.next)
 
   pub replaced_places : (k : Key) (v : V) → IsLive old k → Replaces old k v new → places new ≡ places old
-  replaced_places k v is_live r =
-      let live : map.len new.live ≡ map.len old.live = ap map.len r.live ∙ map.len-insert keys_total old.live k v ∙ ap (λ b. cond b (map.len old.live) (map.len old.live + 1)) is_live in
-      omega (arith, ap set.len r.detached, ap set.len r.retired, ap map.len r.next)
+  replaced_places k v is_live r = grind (arith, map.len-insert, keys_total)
 
   pub detached_places : (k : Key) → IsLive old k → Detaches old k new → places new ≡ places old
   detached_places k is_live r =
@@ -56,6 +48,4 @@ module _ {V : Type 0} (reuses : Bool) (old new : Content V) (ok : IsContent reus
       omega (arith, ap map.len r.live, ap set.len r.detached, len_item_removed keys_total exact_keys old.detached k r.was_detached, ap set.len r.retired, ap map.len r.next)
 
   pub removed_places : (k : Key) → IsLive old k → Removes old k new → places new ≡ places old
-  removed_places k is_live r =
-      let grows = len_spent_freed k old.retired old.next (false_of _ (λ h. ok.stands_or_retired k (inl is_live) h)) (false_of _ (λ h. ok.used_or_vacant k (inl (inl is_live)) h)) in
-      omega (arith, ap map.len r.live, len_removed keys_total exact_keys old.live k is_live, ap set.len r.detached, ap set.len r.retired, ap map.len r.next)
+  removed_places k is_live r = grind (arith, len_removed keys_total exact_keys old.live k is_live, len_spent_freed, false_of, keys_total, exact_keys)

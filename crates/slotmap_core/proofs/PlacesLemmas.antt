@@ -107,22 +107,17 @@ module _ {V : Type 0} where
   pub len-live-set : (ps : List (Place V)) (i : ℕ) (old new : Place V) → slice_get ps i ≡ Some old
       → map.len (live (set ps i new)) + cond (is_some (live_entry i old)) 1 0 ≡ map.len (live ps) + cond (is_some (live_entry i new)) 1 0
   unfolding live
-  len-live-set ps i old new found =
-      let at : 0 + i ≡ i = omega arith in
-      rw at at (len-set live_laws (λ k. k.index) live_entry live_fits 0 ps i old new found)
+  len-live-set ps i old new found = grind (arith, len-set live_laws (λ k. k.index) live_entry live_fits 0 ps i old new found)
 
   pub len-live-push : (ps : List (Place V)) (new : Place V) → map.len (live (ps ++ new ∷ [])) ≡ map.len (live ps) + cond (is_some (live_entry (length ps) new)) 1 0
   unfolding live
-  len-live-push ps new =
-      let at : 0 + length ps ≡ length ps = omega arith in
-      rw at at (len-push live_laws (λ k. k.index) live_entry live_fits 0 ps new)
+  len-live-push ps new = grind (arith, len-push live_laws (λ k. k.index) live_entry live_fits 0 ps new)
 
   pub len-next-set : (ps : List (Place V)) (i : ℕ) (old new : Place V) → 0 < i → slice_get ps i ≡ Some old
       → map.len (next (set ps i new)) + cond (is_some (vacancy i old)) 1 0 ≡ map.len (next ps) + cond (is_some (vacancy i new)) 1 0
   unfolding next
   len-next-set ps i old new positive found =
-      let at : 0 + i ≡ i = omega arith in
-      rw (at, next-vacancy i old positive, next-vacancy i new positive) at (len-set next_laws (λ k. k) next_entry next_fits 0 ps i old new found)
+      grind (arith, next-vacancy i old positive, next-vacancy i new positive, len-set next_laws (λ k. k) next_entry next_fits 0 ps i old new found)
 
   total_from : (j : ℕ) (ps : List (Place V)) → 0 < j
       → map.len (gather (map.empty {X = V} {R = key_cmp}) (λ m e. map.insert m e.0 e.1) live_entry j ps) + set.len

@@ -25,9 +25,7 @@ unlisted_if_absent es k none = sym (ap (λ m. map.get m k) (with_entries-empty e
 module _ {F K V : Type 0} (g : Mut F (K × (MutBor V × Unit {0})) (Bool × (MutBor V × Unit {0}))) (data_of : K → Key) where
   -- an entry that wasn't there isn't there afterwards
   pub retained_none : {f : F} {old new : map.FinMap key_cmp V} → RetainsBy g data_of f old new → (k : Key) → map.get old k ≡ None → map.get new k ≡ None
-  retained_none ran k none =
-      ap (λ m. map.get m k) ran.stay ∙ map.get-from_entries keys_total (kept data_of ran.visits) k
-      ∙ unkept data_of k ran.visits (sym (map.get-from_entries keys_total (seen data_of ran.visits) k) ∙ ap (λ m. map.get m k) ran.listed.all ∙ none)
+  retained_none ran k none = grind (arith, map.get-from_entries, keys_total, unkept)
 
   -- what a look-up of the first visit's key finds, and of another key
   at_first : (x : Visit K V) (xs : List (Visit K V)) (k : Key) → k ≡ data_of x.key

@@ -20,10 +20,7 @@ module _ {V : Type 0} where
 
   -- the slot in which a version has a value
   slot_with : (version : ℕ) (v : V) (o : Option (SlotRecord V)) → value_at version (slot_pair o) ≡ Some v → (slot : SlotRecord V) × (o ≡ Some slot) × (slot.version ≡ version) × (slot.value ≡ Some v)
-  slot_with version v None h = absurd (cc)
-  slot_with version v (Some slot) h =
-      let found = mapped (λ x. (slot.version, x)) slot.value (version, v) (pair_found version (slot_pair (Some slot)) v h) in
-      (slot, refl, ap (λ (p : ℕ × V). p.0) found.2, found.1 ∙ ap (λ (p : ℕ × V). Some p.1) found.2)
+  slot_with version v slot h = grind arith
 
   module _ (slots : List (SlotRecord V)) (m : Pairs V) (by_place : (i : ℕ) → map.get m i ≡ slot_pair (slice_get slots i))
       (odd : (i : ℕ) (slot : SlotRecord V) → slice_get slots i ≡ Some slot → is_some slot.value ≡ true → slot.version % 2 ≡ 1) where
@@ -43,16 +40,7 @@ module _ {V : Type 0} where
   module _ (slots : List (SlotRecord V)) (m : Pairs V) (valid : IsSecondary m) (within : (i : ℕ) → map.contains_key m i ≡ true → i < length slots)
       (each : (i : ℕ) → i < length slots → slice_get slots i ≡ Some (slot_of (map.get m i))) where
     written_by_place : (i : ℕ) → map.get m i ≡ slot_pair (slice_get slots i)
-    written_by_place i = elim (nat_lt i (length slots)) as (λ b. nat_lt i (length slots) ≡ b → map.get m i ≡ slot_pair (slice_get slots i)) [
-      | true ↦ λ less. read (map.get m i) ∙ ap slot_pair (sym (each i (ltb-true i (length slots) less)))
-      | false ↦ λ less.
-          let past = ltb-false i (length slots) less in
-          none_of (map.get m i) (false_of (map.contains_key m i) (λ there. omega (arith, within i there))) ∙ ap slot_pair (sym (slice_get_past slots i past))
-    ] refl
-      where
-        read : (o : Option (ℕ × V)) → o ≡ slot_pair (Some (slot_of o))
-        read None = refl
-        read (Some p) = refl
+    written_by_place i = grind (arith, none_of, false_of, slice_get_past)
 
     odd_written : (i : ℕ) (slot : SlotRecord V) → slice_get slots i ≡ Some slot → is_some slot.value ≡ true → slot.version % 2 ≡ 1
     odd_written i slot at valued =

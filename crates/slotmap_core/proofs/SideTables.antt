@@ -29,25 +29,16 @@ module _ {E V : Type 0} (c new : Content E) (m : Pairs V) (beside : IsBeside c m
   beside_inserted k v is q there = rw is (live-insert_still c.live k v q (beside q there))
 
   pub beside_removed : (k : Key) → new.live ≡ map.remove c.live k → IsBeside new (remove m k)
-  beside_removed k is q there = elim (same_or_other q k) [
-    | inl e ↦ absurd (let t = rw e at there in let gone = removed_gone m k in cc)
-    | inr other ↦ rw is (live-remove_other c.live k q other (beside q (rw (others_stay m k q other) at there)))
-  ]
+  beside_removed k is q there = grind (arith, same_or_other, removed_gone, live-remove_other, others_stay)
 
   -- by the clauses of an insert, whatever it returns
   module _ {K R : Type 0} (data_of : K → Key) (v : E) (answer : Result K R) (ok : IfOk answer (λ key. Inserts c (data_of key) v new)) where
     pub beside_insert : (IsErr answer → Keeps c new) → IsBeside new m
-    beside_insert unchanged = elim answer as (λ r. IfOk r (λ key. Inserts c (data_of key) v new) → (IsErr r → Keeps c new) → IsBeside new m) [
-      | Ok key ↦ λ inserts same. beside_inserted (data_of key) v inserts.live
-      | Err e ↦ λ none same. beside_kept (same refl).live
-    ] ok unchanged
+    beside_insert unchanged = grind (arith, beside_inserted, beside_kept)
 
     -- a key that comes finds nothing
     pub insert_absent : (reuses : Bool) → IsContent reuses c → IfOk answer (λ key. get m (data_of key) ≡ None)
-    insert_absent reuses well = elim answer as (λ r. IfOk r (λ key. Inserts c (data_of key) v new) → IfOk r (λ key. get m (data_of key) ≡ None)) [
-      | Ok key ↦ λ inserts. beside_absent (data_of key) (inserted_fresh reuses c (data_of key) v new well inserts)
-      | Err e ↦ λ none. tt
-    ] ok
+    insert_absent reuses well = grind arith
 
 pub beside_empty : {E V : Type 0} (c : Content E) (m : Pairs V) → m ≡ map.empty → IsBeside c m
 beside_empty c m is k there = let none : get m k ≡ None = rw is (get_none k) in absurd (cc)
@@ -81,29 +72,17 @@ module _ {E V : Type 0} (reuses : Bool) (c : Content E) (well : IsContent reuses
   ]
 
   pub beside_put : (v : V) → IsBeside c (put m k v)
-  beside_put v q there = elim (same_or_other q k) [
-    | inl e ↦ rw e live
-    | inr other ↦ beside q (rw (get-put_other v q other) at there)
-  ]
+  beside_put v q there = grind (arith, same_or_other, get-put_other)
 
   -- by the clauses of a put, whatever it returns
   module _ (v : V) (n : Pairs V) {P R : Type 0} (answer : Result P R) (ok : OnOk answer (n ≡ put m k v)) (unchanged : OnErr answer (n ≡ m)) where
     pub attach_beside : IsBeside c n
-    attach_beside = elim answer as (λ r. OnOk r (n ≡ put m k v) → OnErr r (n ≡ m) → IsBeside c n) [
-      | Ok x ↦ λ is same. rw is (beside_put v)
-      | Err e ↦ λ none same. rw same beside
-    ] ok unchanged
+    attach_beside = grind (arith, beside_put)
 
     pub attach_finds : OnOk answer (get n k ≡ Some v)
-    attach_finds = elim answer as (λ r. OnOk r (n ≡ put m k v) → OnOk r (get n k ≡ Some v)) [
-      | Ok x ↦ λ is. rw is (get-put_live v)
-      | Err e ↦ λ none. tt
-    ] ok
+    attach_finds = grind (arith, get-put_live)
 
     pub attach_others : (q : Key) → q ≢ k → get n q ≡ get m q
-    attach_others q other = elim answer as (λ r. OnOk r (n ≡ put m k v) → OnErr r (n ≡ m) → get n q ≡ get m q) [
-      | Ok x ↦ λ is same. rw is (get-put_other v q other)
-      | Err e ↦ λ none same. rw same refl
-    ] ok unchanged
+    attach_others q other = grind (arith, get-put_other)
 
 pub ruleset beside = (beside_absent, beside_kept, beside_inserted, beside_removed, beside_insert, beside_empty, live_has_entry, get-put_live, get-put_other, beside_put)

@@ -153,8 +153,7 @@ module _ {P : Type 0} (slots : List (Slot P)) (head free count : ℕ) (sound : I
   inserts-filled w c below =
       let after = (filled_top w).map_is c ∙ sym (ap (λ vs. inserted (record { places = places_of slots; vacant = vs; capacity = c }) (offer (places_of slots) vs) w) walk-top
       ∙ ap (λ p. record { places = set (places_of slots) head (Live (vacant_version p) w); vacant = t.rest; capacity = c }) top_place) in
-      subst (λ n. Inserts (content (map_of slots head free c)) (offer (places_of slots) (walk slots free head)) w (content n)) (sym after)
-      (inserts (places_of slots) (walk slots free head) c c (offer (places_of slots) (walk slots free head)) w (stacked_walk slots head free count sound) below refl (omega arith))
+      grind (arith, inserts (places_of slots) (walk slots free head) c c (offer (places_of slots) (walk slots free head)) w (stacked_walk slots head free count sound) below refl (omega arith))
 
 -- what the code reads of a key that may be detached
 module _ {P : Type 0} (slots : List (Slot P)) (head free count : ℕ) (sound : IsSound slots head free count) (k : Key) where

@@ -24,13 +24,7 @@ use Rattle.slotmap_core.proofs.StepLemmas.{content-written, removes, detaches, r
 
 -- what an empty slot can have
 pub FitsEmpty-free : (v next : ℕ) → v % 2 ≡ 0 → next < 2 ^ 32 - 1 → (v ≡ 0 → next ≡ 0) → FitsEmpty v (Free next)
-FitsEmpty-free v next even named first = record {
-  even = even;
-  unused = λ e. absurd (cc);
-  spent = λ e. absurd (cc);
-  named = λ n e. (let same : next ≡ n = cc in omega arith);
-  first = λ n e none. (let same : next ≡ n = cc in sym same ∙ first none);
-}
+FitsEmpty-free v next even named first = grind arith
 
 pub FitsEmpty-detached : (v : ℕ) → v % 2 ≡ 0 → FitsEmpty v Detached
 FitsEmpty-detached v even = record { even = even; unused = λ e. absurd (cc); spent = λ e. absurd (cc); named = λ n e. absurd (cc); first = λ n e none. absurd (cc) }
@@ -158,13 +152,7 @@ module _ {P : Type 0} (slots : List (Slot P)) (head free count : ℕ) (sound : I
       let within = slice_get_within (places_of slots) k.index (Live k.version place.0) place.1 in
       let s = found_within slots k.index (omega (arith, length-map slots place_of)) in
       let there = s.1 ∙ ap Some (place-live s.0 k.version place.0 (same_Some _ _ (sym (place_at slots k.index s.0 s.1) ∙ place.1))) in
-      record {
-        value = place.0;
-        there = there;
-        read = ap (option_and_then (λ s. s.payload)) there;
-        odd = (sound.each k.index (full k.version place.0) there).odd.0 refl;
-        gives = get-live_slot k place.0 there;
-      }
+      grind (arith, sound.each k.index (full k.version place.0) there, get-live_slot k place.0 there)
 
   pub contains-version : (k : Key) (v : ℕ) → IsKey k → version_at slots k.index ≡ Some v → (v == k.version) ≡ map.contains_key (live (places_of slots)) k
   contains-version k v is found = same_bool _ _
@@ -272,9 +260,7 @@ module _ {P : Type 0} (slots : List (Slot P)) (head free count : ℕ) (sound : I
 
     pub detaches-slots : (c : ℕ) → Detaches (content (map_of slots head free c)) (key i v) (content (map_of (set slots i (empty ((v + 1) % 2 ^ 32) Detached)) head free c))
     detaches-slots c =
-        let after : map_of (set slots i (empty ((v + 1) % 2 ^ 32) Detached)) head free c ≡ kept_out (map_of slots head free c) (key i v) =
-        detached.map_is c ∙ ap (λ u. record (map_of slots head free c) { places = set (places_of slots) i (Kept u) }) before_after in
-        subst (λ n. Detaches (content (map_of slots head free c)) (key i v) (content n)) (sym after) (detaches (map_of slots head free c) stacked_walk (key i v) x found_live)
+        grind (arith, key i v, detached.map_is c, detaches (map_of slots head free c) stacked_walk (key i v) x found_live, before_after, stacked_walk, found_live)
 
   -- a detached key is bound to a payload again
   module _ (i u v : ℕ) (at : slice_get slots i ≡ Some (empty u Detached)) (of : version_before u ≡ v) where

@@ -53,11 +53,7 @@ module _ {V : Type 0} where
     }
 
     spent_frees : Frees old new → KeepsSpent old new
-    spent_frees frees k spent = record {
-      within = omega (arith, frees.same_places, spent.within);
-      vacant = λ v is. ⊎_elim (λ there. spent.vacant v there) (λ gone. omega (arith, spent.stands gone.0 gone.1 gone.2)) (frees.next k.index v is);
-      stands = λ u there e. spent.stands u (frees.stood u there) e;
-    }
+    spent_frees frees k spent = grind arith
 
     -- a key that was live or detached, and is no longer
     gone_spent : (reuses : Bool) → IsContent reuses old → Frees old new → (k : Key) → Stands old k → ((u : Key) → Stands new u → u ≢ k) → IsSpent new k
@@ -80,9 +76,7 @@ module _ {V : Type 0} where
     spent_keeps keeps = spent_leaves (Leaves-keeps old new keeps)
 
     pub spent_copy : IsCopy old new → KeepsSpent old new
-    spent_copy copy =
-        let same : places new ≡ places old = omega (arith, ap map.len copy.live, ap set.len copy.detached, ap set.len copy.retired, ap map.len copy.next) in
-        spent_stands same copy.next (λ q there. elim there [ inl h ↦ inl (rw (← copy.live) h) | inr h ↦ inr (rw (← copy.detached) h) ])
+    spent_copy copy = grind arith
 
     -- a map that is read back from the list that a map was written as
     pub spent_restores : Restores old new → KeepsSpent old new
@@ -90,14 +84,8 @@ module _ {V : Type 0} where
 
     module _ (reuses : Bool) (well : IsContent reuses old) where
       pub spent_inserts : (k : Key) (v : V) → Inserts old k v new → KeepsSpent old new
-      spent_inserts j x inserts k spent = record {
-        within = let grow = places_grow reuses old new well j x inserts in let w = spent.within in omega arith;
-        vacant = λ v is. spent.vacant v (inserted_vacant old new j x inserts k.index v is).1;
-        stands = λ u there e. elim (inserted_stands old new j x inserts u there) [
-          | inl one ↦ grind (arith, one, offers reuses old new well j x inserts, spent.vacant j.version, spent.within)
-          | inr was ↦ spent.stands u was e
-        ];
-      }
+      spent_inserts j x inserts k spent =
+          grind (arith, places_grow reuses old new well j x inserts, offers reuses old new well j x inserts, spent.vacant j.version, inserted_vacant, inserted_stands)
 
       -- an insert returns no key that is spent
       pub inserted_not_spent : (j : Key) (v : V) → Inserts old j v new → (k : Key) → IsSpent old k → j ≢ k
@@ -154,18 +142,12 @@ module _ {V : Type 0} where
     ] ok valid.unchanged
 
     pub insert_not_spent : IfOk answer (λ key. Inserts old (data_of key) v new) → (k : Key) → IsSpent old k → IfOk answer (λ key. data_of key ≢ k)
-    insert_not_spent ok k spent = elim answer as (λ r. IfOk r (λ key. Inserts old (data_of key) v new) → IfOk r (λ key. data_of key ≢ k)) [
-      | Ok key ↦ λ inserts. inserted_not_spent old new reuses valid.before (data_of key) v inserts k spent
-      | Err e ↦ λ none. tt
-    ] ok
+    insert_not_spent ok k spent = grind arith
 
   -- by the clauses of a removal, whatever it returns
   module _ (old new : Content V) (reuses : Bool) (valid : StaysValid reuses old new) (j : Key) (answer : Option V) (is : answer ≡ map.get old.live j) where
     either : {P C : Type 0} → OnSome answer P → IfNone answer (new ≡ old) → (IsLive old j → P → C) → (new ≡ old → C) → C
-    either {P} {C} some none left stays = elim answer as (λ o. o ≡ map.get old.live j → OnSome o P → IfNone o (new ≡ old) → C) [
-      | Some v ↦ λ is some none. left (ap is_some (sym is)) some
-      | None ↦ λ is some none. stays none
-    ] is some none
+    either {P} {C} some none left stays = grind arith
 
     pub spent_remove : OnSome answer (Removes old j new) → IfNone answer (new ≡ old) → KeepsSpent old new
     spent_remove removes unchanged k spent = either removes unchanged (λ live did. spent_removes old new reuses valid.before j live did k spent) (λ same. rw same spent)

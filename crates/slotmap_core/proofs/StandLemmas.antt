@@ -55,10 +55,7 @@ module _ {V : Type 0} where
 
       -- a put there
       pub put_at : (v : V) → is_null k ≡ false → map.insert m k.index (if has_entry (entry_at k.version (Some p)) then (k.version, v) else p) ≡ put m k v
-      put_at v key = elim (has_entry (entry_at k.version (Some p))) as (λ b. has_entry (entry m k) ≡ b → map.insert m k.index (if b then (k.version, v) else p) ≡ put m k v) [
-        | true ↦ λ has. sym (put_bound m k v has)
-        | false ↦ λ has. insert_same nat_cmp_total exact_unsigned m k.index p stands ∙ sym (put_nothing m k v has)
-      ] (ap has_entry (entry_by key))
+      put_at v key = grind (arith, insert_same nat_cmp_total exact_unsigned m k.index p stands, entry_by key)
 
     pub IsSecondary-bind : (v : V) → IsSecondary m → IsKey k → is_null k ≡ false → IsSecondary (bind m k v)
     IsSecondary-bind v valid is key i p h = elim (get_after_insert nat_cmp_total exact_unsigned m k.index (k.version, v) i p h) [
@@ -110,13 +107,7 @@ module _ {V : Type 0} where
 
       -- if only its index changes, and no other version finds anything there, each other key finds the same as before
       others_find : (n : Pairs V) → ((i : ℕ) → i ≢ k.index → map.get n i ≡ map.get m i) → ((v : ℕ) → k.version ≢ v → value_at v (map.get n k.index) ≡ None) → (q : Key) → q ≢ k → get n q ≡ get m q
-      others_find n elsewhere here q other = elim (alike_or_apart nat_cmp_total exact_unsigned q.index k.index) [
-        | inl same ↦
-            let apart : k.version ≢ q.version = λ e. other (search rules) in
-            ap (λ i. value_at q.version (map.get n i)) same ∙ here q.version apart ∙ sym (other_version (map.get m k.index) k.version q.version apart has)
-            ∙ ap (λ i. value_at q.version (map.get m i)) (sym same)
-        | inr apart ↦ ap (value_at q.version) (elsewhere q.index apart)
-      ]
+      others_find n elsewhere here q other = grind arith
 
       pub others_bound : (v : V) (q : Key) → q ≢ k → get (bind m k v) q ≡ get m q
       others_bound v = others_find (bind m k v) (get_other nat_cmp_total exact_unsigned m k.index (k.version, v)) (λ w apart. other_version (map.get (bind m k v) k.index) k.version w apart (in_own v))

@@ -23,13 +23,7 @@ module _ {V : Type 0} where
     pub below : (q : Key) → has_left old now q ≡ true → q.index < i
 
   pub Swept-start : {reuses : Bool} (c : Content V) (i : ℕ) → IsContent reuses c → Swept reuses c c i
-  Swept-start c i well = record {
-    leaves = Leaves-refl c;
-    order = FreesByIndex-start c;
-    capacity = refl;
-    well = well;
-    below = λ q left. absurd (is_gone c c q left (was_live c c q left));
-  }
+  Swept-start c i well = grind (arith, Leaves-refl c, FreesByIndex-start c)
 
   pub Swept-on : {reuses : Bool} (old now : Content V) (i : ℕ) → Swept reuses old now i → Swept reuses old now (i + 1)
   Swept-on old now i swept = record { leaves = swept.leaves; order = swept.order; capacity = swept.capacity; well = swept.well; below = λ q left. omega (arith, swept.below q left) }
@@ -66,14 +60,12 @@ module _ {V : Type 0} where
   -- what the rest ends as once the first key is removed, the whole ends as
   pub Empties-first : {reuses : Bool} (a b end : Content V) (k : Key) → IsContent reuses a → IsLive a k → Removes a k b → b.capacity ≡ a.capacity
       → ((q : Key) → IsLive b q → k.index < q.index) → EmptiesByIndex b end → EmptiesByIndex a end
-  Empties-first {reuses} a b end k well is_live removes capacity above ends = record {
-    empties = record {
-      live = ends.empties.live;
-      leaves = Leaves-trans a b end (Leaves-removes reuses a well k is_live b removes) ends.empties.leaves;
-      capacity = ends.empties.capacity ∙ capacity;
-    };
-    order = FreesByIndex-first a b end k is_live removes above ends.empties.leaves.no_more ends.order;
-  }
+  Empties-first {reuses} a b end k well is_live removes capacity above ends =
+      grind (
+        arith,
+        Leaves-trans a b end (Leaves-removes reuses a well k is_live b removes) ends.empties.leaves,
+        FreesByIndex-first a b end k is_live removes above ends.empties.leaves.no_more ends.order,
+      )
 
   -- the live key of the smallest index from i on
   abbrev pub IsNextLive : Content V → ℕ → Key → Type 0

@@ -45,9 +45,7 @@ module _ {K V : Type 0} (data_of : K → Key) where
   -- an entry that no call saw is as it was
   pub unvisited : (old : map.FinMap key_cmp V) (xs : List (Visit K V)) (rest now : map.FinMap key_cmp V) (k : Key) → Visits old xs rest now
       → map.get rest k ≡ map.get old k → map.get now k ≡ map.get old k
-  unvisited old xs rest now k visits same =
-      ap (λ n. map.get n k) visits.stay ∙ get-with_entries rest (kept data_of xs) k
-      ∙ ap (λ o. option_or o (map.get rest k)) (unkept k xs (unlisted_where_same old (seen data_of xs) rest k visits.listed same)) ∙ same
+  unvisited old xs rest now k visits same = grind (arith, get-with_entries, unkept, unlisted_where_same)
 
   -- one more call, for an entry of the rest
   pub Visits-call : (old : map.FinMap key_cmp V) (xs : List (Visit K V)) (rest now : map.FinMap key_cmp V) (x : Visit K V) → Visits old xs rest now → map.get rest (data_of x.key) ≡ Some x.before
@@ -74,9 +72,7 @@ module _ {K V : Type 0} (data_of : K → Key) where
   -- an entry of the rest is one of the old map
   pub Visits-rest : (old : map.FinMap key_cmp V) (xs : List (Visit K V)) (rest now : map.FinMap key_cmp V) → Visits old xs rest now → (k : Key) (v : V)
       → map.get rest k ≡ Some v → map.get old k ≡ Some v
-  Visits-rest old xs rest now visits k v found =
-      ap (λ n. map.get n k) (sym visits.listed.all) ∙ get-with_entries rest (seen data_of xs) k
-      ∙ ap (λ o. option_or o (map.get rest k)) (unlisted old (seen data_of xs) rest k visits.listed (ap is_some found)) ∙ found
+  Visits-rest old xs rest now visits k v found = grind (arith, get-with_entries, unlisted)
 
   pub Visits-listed : (old : map.FinMap key_cmp V) (xs : List (Visit K V)) (now : map.FinMap key_cmp V) → Visits old xs map.empty now → IsListing old (seen data_of xs)
   Visits-listed old xs now visits = IsListingBut-done old (seen data_of xs) visits.listed

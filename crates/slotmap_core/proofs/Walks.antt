@@ -24,10 +24,7 @@ module _ {V : Type 0} where
 
       -- a step: the fact still holds of what was passed, and holds of this pair
       pub walk_step : (After : Key → V → Type 0) → ((q : Key) (x : V) → Passed q x → After q x) → After k v → Walks m rest After
-      walk_step After still here = record {
-        all = All-tail (λ e. map.get m e.0 ≡ Some e.1) (k, v) rest (rw next at walks.all);
-        each = λ q x found. grind (arith, walks.each q x found, still q x);
-      }
+      walk_step After still here = grind (arith, All-tail (λ e. map.get m e.0 ≡ Some e.1) (k, v) rest (rw next at walks.all))
 
       -- the same if the fact names nothing that the loop changes
       pub walk_next : Passed k v → Walks m rest Passed

@@ -64,35 +64,14 @@ module _ {V : Type 0} (reuses : Bool) (c : Content V) (valid : IsContent reuses 
       ⊎ ((n : ℕ) × (map.get c.next i ≡ Some n) × (slot ≡ empty_slot (n - 1)) × (1 < n) × (n % 2 ≡ 1))
 
   stands_for : (i : ℕ) (slot : SlotRecord V) → slice_get slots i ≡ Some slot → ((i ≡ 0) × (slot ≡ empty_slot 0)) ⊎ ((0 < i) × Stands i slot)
-  stands_for zero slot found = inl (refl, cc (writes.first))
-  stands_for (suc i) slot found = inr (
-    omega arith,
-    elim (writes.each (suc i) (omega arith) (omega (arith, slice_get_within slots (suc i) slot found, writes.all))) [
-      | inl vacant ↦
-          let next = some_is (map.get c.next (suc i)) vacant in
-          inr (inr (inr (next.0, next.1, cc (writes.vacant (suc i) next.0 next.1), valid.had_keys (suc i) next.0 next.1, (valid.vacancies (suc i) next.0 next.1).odd)))
-      | inr (k, here, uses) ↦ rw (← here) (of_key k uses (rw (← here) at found))
-    ],
-  )
-    where
-      of_key : (k : Key) → Uses c k → slice_get slots k.index ≡ Some slot → Stands k.index slot
-      of_key k (inl (inl is)) there = let got = some_is (map.get c.live k) is in inl (k.version, got.0, got.1, cc (writes.live k got.0 got.1), valid.keys k (inl (inl is)))
-      of_key k (inl (inr is)) there = inr (inl (k.version, is, cc (writes.detached k is), valid.keys k (inl (inr is))))
-      of_key k (inr is) there = inr (inr (inl (grind (arith, nat_tests, valid.last k), cc (writes.retired k is))))
+  stands_for i slot found = grind (arith, slice_get_within, some_is, nat_tests)
 
   -- such a list is accepted, if it is short enough
   pub written-accepted : (limit : ℕ) → length slots < limit → Accepts slots limit
-  written-accepted limit short = record {
-    short = short;
-    first_empty = (empty_slot 0, writes.first, refl);
-    consistent = λ i slot within found. (let stands = stands_for i slot found in grind arith);
-  }
+  written-accepted limit short = grind (arith, stands_for)
 
   live_stays : (k : Key) (v : V) → map.get (contents slots) k ≡ Some v → map.get c.live k ≡ Some v
-  live_stays k v got =
-      let at = live_in slots k v got in
-      let stands = stands_for k.index at.0 at.1 in
-      grind arith
+  live_stays k v got = grind (arith, live_in slots k v got, stands_for)
 
   live_returns : (k : Key) (v : V) → map.get c.live k ≡ Some v → map.get (contents slots) k ≡ Some v
   live_returns k v got = in_contents slots k.index (filled_slot k.version v) v (writes.live k v got) (valid.keys k (inl (inl (ap is_some got)))).odd refl
@@ -103,16 +82,10 @@ module _ {V : Type 0} (reuses : Bool) (c : Content V) (valid : IsContent reuses 
 
   module _ (read : Content V) (starts : StartsFrom slots read) where
     retired_where : (k : Key) → IsRetired read k → IsRetired c k ⊎ (IsDetached c k × (is_last k ≡ true))
-    retired_where k is =
-        let at = retired_in slots k (rw starts.retired at is) in
-        let stands = stands_for k.index at.0 at.1 in
-        grind (arith, nat_tests)
+    retired_where k is = grind (arith, retired_in, stands_for, nat_tests)
 
     where_retired : (k : Key) → IsRetired c k ⊎ (IsDetached c k × (is_last k ≡ true)) → IsRetired read k
-    where_retired k (inl is) =
-        rw starts.retired (grind (arith, nat_tests, in_start_retired slots k.index _ (writes.retired k is), (valid.within k (inr is)).0, valid.last k is))
-    where_retired k (inr (is, last)) =
-        rw starts.retired (grind (arith, nat_tests, in_start_retired slots k.index _ (writes.detached k is), (valid.within k (inl (inr is))).0))
+    where_retired k there = grind (arith, nat_tests, in_start_retired)
 
     next_where : (i v : ℕ) → map.get read.next i ≡ Some v → (map.get c.next i ≡ Some v) ⊎ ((k : Key) × IsDetached c k × (is_last k ≡ false) × (k.index ≡ i) × (next_version k ≡ v))
     next_where i v is =
