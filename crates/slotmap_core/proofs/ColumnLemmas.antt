@@ -88,8 +88,7 @@ module _ {P : Type 0} where
 -- the same for vectors that hold slots, by what they hold
 pub laid-length : {P : Type 0} {vs ns : List ℕ} {xs : List (Option P)} {n a b d : ℕ} → IsColumns vs ns xs n a b d → {l : Laid P}
     → record { slots = zip_slots vs (links_of vs ns) xs; capacity = n } ≡ l → (length l.slots ≡ length vs) × (l.capacity ≡ n)
-laid-length {P} {vs} {ns} {xs} columns view =
-    (ap (λ l. length l.slots) (sym view) ∙ zip-length vs (links_of vs ns) xs (links-length vs ns columns.numbers_length) columns.payloads_length, ap (λ l. l.capacity) (sym view))
+laid-length {P} {vs} {ns} {xs} columns view = grind (arith, zip-length, links-length)
 
 -- what the tactics need of three vectors of one length, whose links are numbers
 pub laid-known : {P : Type 0} (vs ns : List ℕ) (xs : List (Option P)) → length ns ≡ length vs → length xs ≡ length vs

@@ -38,8 +38,7 @@ module _ {V : Type 0} where
   same_live c k w is_live q = grind (arith, map.get-insert keys_total c.live k w q, tied keys_total exact_keys q k)
 
   pub Leaves-with_value : (c : Content V) (k : Key) (w : V) → IsLive c k → Leaves c (with_value c k w)
-  Leaves-with_value c k w is_live =
-      Leaves-same c (with_value c k w) (same_live c k w is_live) (map.len-insert keys_total c.live k w ∙ ap (λ b. cond b (map.len c.live) (map.len c.live + 1)) is_live) refl refl refl (omega arith)
+  Leaves-with_value c k w is_live = grind (arith, Leaves-same, same_live, map.len-insert, keys_total)
 
   pub Leaves-trans : (a b c : Content V) → Leaves a b → Leaves b c → Leaves a c
   Leaves-trans a b c first second = record {
@@ -47,17 +46,8 @@ module _ {V : Type 0} where
     detached = second.detached ∙ first.detached;
     retired = λ q. grind (arith, second.retired q, first.retired q, first.no_more q, second.no_more q);
     next = λ i v. (
-      λ h. elim ((second.next i v).0 h) [
-        | inl at_b ↦ elim ((first.next i v).0 at_b) [
-          | inl at_a ↦ inl at_a
-          | inr w ↦ inr (w.0, has_left_if a c w.0 (was_live a b w.0 w.1) (λ there. is_gone a b w.0 w.1 (second.no_more w.0 there)), w.2, w.3, w.4)
-        ]
-        | inr w ↦ inr (w.0, has_left_if a c w.0 (first.no_more w.0 (was_live b c w.0 w.1)) (is_gone b c w.0 w.1), w.2, w.3, w.4)
-      ],
-      λ h. elim h [
-        | inl at_a ↦ (second.next i v).1 (inl ((first.next i v).1 (inl at_a)))
-        | inr w ↦ by w.0 w.1 w.2 w.3 w.4 (map.contains_key b.live w.0) refl
-      ],
+      grind (arith, second.next i v, first.next i v),
+      grind (arith, second.next i v, first.next i v),
     );
     same_places = second.same_places ∙ first.same_places;
     room = omega (arith, first.room, second.room);
@@ -91,13 +81,11 @@ module _ {V : Type 0} where
             itself keys_total exact_keys k,
           );
       next = λ i v. (
-        λ h. ⊎_elim (λ new. inr (k, has_left_if b c k is_live (λ there. absurd (let none = live_no_more b c k removes in cc)), new.2, sym new.0, sym new.1))
-            (λ was. inl was) (in_freed k b.next i v (sym (ap (λ m. map.get m i) removes.next) ∙ h)),
+        grind (arith, has_left_if, live_no_more, in_freed),
         λ h. ap (λ m. map.get m i) removes.next ∙ elim h [
           | inl there ↦ grind (arith, map.get-insert nat_cmp_total b.next k.index (next_version k) i, tied nat_cmp_total exact_unsigned i k.index, well.used_or_vacant k (inl (inl is_live)))
           | inr w ↦
-              let same : w.0 ≡ k = grind (arith, w.1, get_left b c k removes w.0, tied keys_total exact_keys w.0 k) in
-              rw (← w.3, ← w.4, same, rw same at w.2) (get_inserted nat_cmp_total exact_unsigned b.next k.index (next_version k))
+              grind (arith, get_left b c k removes w.0, tied keys_total exact_keys w.0 k, get_inserted nat_cmp_total exact_unsigned b.next k.index (next_version k))
         ],
       );
       same_places = removed_places reuses b c well k is_live removes;

@@ -108,5 +108,4 @@ module _ {V : Type 0} where
 
   -- what is in a listing is a live key with its value
   pub all_live : (m : map.FinMap key_cmp V) (es : List (Key × V)) → IsListing m es → All (λ e. map.get m e.0 ≡ Some e.1) es
-  all_live m es listing i d within =
-      grind (arith, map.get-from_entries keys_total es (get_or es i d).0, with_entries-empty es, map.len-empty key_cmp V, found_at es i d)
+  all_live m es listing i d within = grind (arith, map.get-from_entries, keys_total, with_entries-empty, map.len-empty, found_at)

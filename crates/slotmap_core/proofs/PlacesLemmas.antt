@@ -140,15 +140,7 @@ module _ {V : Type 0} where
   pub total : (ps : List (Place V)) (n : ℕ) → slice_get ps 0 ≡ Some (Vacant n) → map.len (live ps) + set.len (detached ps) + set.len (retired ps) + map.len (next ps) + 1 ≡ length ps
   unfolding live detached retired next
   total [] n found = absurd (cc)
-  total (p ∷ ps) n found =
-      grind (
-        arith,
-        total_from 1 ps (omega arith),
-        len-add live_laws (λ k. k.index) live_entry live_fits 0 p ps,
-        len-add detached_laws (λ k. k.index) detached_entry detached_fits 0 p ps,
-        len-add detached_laws (λ k. k.index) retired_entry retired_fits 0 p ps,
-        len-add next_laws (λ k. k) next_entry next_fits 0 p ps,
-      )
+  total (p ∷ ps) n found = grind (arith, total_from, len-add, live_laws, live_fits, detached_laws, detached_fits, retired_fits, next_laws, next_fits)
 
 -- past the places no index is vacant
 pub get-next_past : {V : Type 0} (ps : List (Place V)) (i : ℕ) → length ps ≤ i → map.get (next ps) i ≡ None

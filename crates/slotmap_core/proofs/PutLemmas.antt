@@ -50,8 +50,7 @@ module _ {V : Type 0} where
     -- a newer key finds the same as before, and so does a key of another index
     pub newer_stays : (q : Key) → is_null k ≡ false → q.version < 2 ^ 31 → (q.index ≡ k.index → k.version < q.version) → get (put m k v) q ≡ get m q
     newer_stays q key half newer = elim (alike_or_apart nat_cmp_total exact_unsigned q.index k.index) [
-      | inl same ↦ ap (λ i. value_at q.version (map.get (put m k v) i)) same ∙ ap (value_at q.version) (put_value key)
-          ∙ kept_at k.version q.version v (map.get m k.index) (newer same) half ∙ ap (λ i. value_at q.version (map.get m i)) (sym same)
+      | inl same ↦ grind (arith, put_value, kept_at)
       | inr apart ↦ ap (value_at q.version) (put_elsewhere q.index apart)
     ]
 

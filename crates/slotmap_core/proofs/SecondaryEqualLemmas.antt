@@ -92,6 +92,5 @@ module _ {V : Type 0} (eq : V → V → Bool) where
       let es = map.entries (keyed a) in
       let fs = map.entries (keyed b) in (
         λ t k. subst (λ o. SameValue eq o (get b k)) (found-keyed a k) (subst (λ o. SameValue eq (find key_cmp k es) o) (found-keyed b k) (alike es fs t k)),
-        λ same. one_by_one es fs (map.entries_sorted (keyed a)) (map.entries_sorted (keyed b))
-            (λ k. subst (λ o. SameValue eq o (find key_cmp k fs)) (sym (found-keyed a k)) (subst (λ o. SameValue eq (get a k) o) (sym (found-keyed b k)) (same k))),
+        grind (arith, one_by_one, map.entries_sorted, found-keyed),
       )

@@ -90,8 +90,7 @@ module _ {M V K : Type 0} (get : M → Key → Option V) (m : M) (data_of : K �
     refuses_again again can =
         let one = Any-from_list_any (λ y. eq y k) (take i ks) again in
         let before : one.0 < i = omega (arith, one.2, length-take-le i ks (omega arith)) in
-        let here : get_or (map_list data_of ks) one.0 (data_of k) ≡ data_of one.1 =
-        get_or-map data_of ks one.0 one.1 (data_of k) (omega arith) ∙ ap data_of (sym (get_or-take i ks one.0 one.1 before) ∙ one.3) in
+        let here : get_or (map_list data_of ks) one.0 (data_of k) ≡ data_of one.1 = grind (arith, get_or-map, get_or-take) in
         can.distinct one.0 i (data_of k) before map_within (here ∙ (by_data one.1 k).0 one.4 ∙ sym (at_key (data_of k)))
 
     -- the next key is in the map, and isn't among those before it

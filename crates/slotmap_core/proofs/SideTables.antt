@@ -62,12 +62,7 @@ module _ {E V : Type 0} (reuses : Bool) (c : Content E) (well : IsContent reuses
 
   pub get-put_other : (v : V) (q : Key) → q ≢ k → get (put m k v) q ≡ get m q
   get-put_other v q other = elim (alike_or_apart nat_cmp_total exact_unsigned q.index k.index) [
-    | inl at ↦
-        let dead = none_of (get m q) (false_of (contains_key m q) (λ there. other (alone q there at))) in
-        let has = live_has_entry in
-        let apart : q.version ≢ k.version = λ same. other (λ i. record { index = at i; version = same i }) in
-        let gone = get-bind_follower m k q v at apart in
-        rw (put_bound m k v has) (gone ∙ sym dead)
+    | inl at ↦ grind (arith, none_of, false_of, alone, live_has_entry, get-bind_follower, put_bound)
     | inr elsewhere ↦ get-put_elsewhere m k q v elsewhere
   ]
 

@@ -53,9 +53,7 @@ module _ {P : Type 0} where
   -- the free list starts with the index of a slot
   pub head_within : (slots : List (Slot P)) (is : List ℕ) (head : ℕ) → 0 < length slots → IsFreeList slots is head → head < length slots
   head_within slots [] head some linked = omega arith
-  head_within slots (j ∷ js) head some linked =
-      let there = mapped (λ s. s.link) (slice_get slots j) _ linked.1.1 in
-      omega (arith, slice_get_within slots j there.0 there.1, linked.0)
+  head_within slots (j ∷ js) head some linked = grind (arith, mapped, slice_get_within)
 
   -- the places
   pub place_at : (slots : List (Slot P)) (i : ℕ) (s : Slot P) → slice_get slots i ≡ Some s → slice_get (places_of slots) i ≡ Some (place_of s)
@@ -71,8 +69,7 @@ module _ {P : Type 0} where
     linked.0,
     (
       linked.1.0,
-      ap (option_map (λ s. s.link)) (slice_get-set_other slots i j s (λ same. off (inl (sym same))))
-          ∙ linked.1.1,
+      grind (arith, slice_get-set_other),
       IsFreeList-set slots i s js linked.1.0 (λ on. off (inr on)) linked.1.2,
     ),
   )
@@ -207,8 +204,7 @@ module _ {P : Type 0} (slots : List (Slot P)) (head free count : ℕ) (sound : I
     freed other =
         let good = version_is in
         let fits : v ≢ last_version = λ e. (let yes = eq-eqb v last_version e in absurd (cc)) in
-        let linked : link_at (set slots i (empty (v + 1) (Free head))) i ≡ Some (Free head) = ap (option_map (λ s. s.link))
-        (slice_get-set_same slots i (empty (v + 1) (Free head)) (slice_get_within slots i (full v x) at)) in
+        let linked : link_at (set slots i (empty (v + 1) (Free head))) i ≡ Some (Free head) = grind (arith, slice_get-set_same, slice_get_within) in
         written i (full v x) (empty (v + 1) (Free head)) at (i ∷ walk slots free head) i (free + 1) (count - 1)
         (IsSlot-empty (v + 1) (Free head) (omega arith) (λ e. absurd (cc)) (λ e. absurd (cc)))
         (refl, (head, linked, IsFreeList-set slots i (empty (v + 1) (Free head)) (walk slots free head) head (off_walk i (full v x) at (λ n e. absurd (cc))) linked_walk))

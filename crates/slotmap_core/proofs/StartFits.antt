@@ -32,10 +32,7 @@ module _ {V : Type 0} (slots : List (SlotRecord V)) (limit : ℕ) (accepted : Ac
 
   module _ (reuses : Bool) (c : Content V) (starts : StartsFrom slots c) (valid : IsContent reuses c) where
     live_slot_at : (k : Key) → Stands c k → (slot : SlotRecord V) × (slice_get slots k.index ≡ Some slot) × ((v : V) × LiveSlot k.index slot k v)
-    live_slot_at k (inl is) =
-        let got = some_is (map.get c.live k) is in
-        let at = live_in slots k got.0 (ap (λ m. map.get m k) (sym starts.live) ∙ got.1) in
-        (at.0, at.1, (got.0, at.2))
+    live_slot_at k (inl is) = grind (arith, some_is, live_in)
     live_slot_at k (inr is) = let none = ap (λ s. set.contains s k) starts.detached ∙ set.contains-empty key_cmp k in absurd (cc)
 
     live_is_issued : (k : Key) → Stands c k → IsIssued (start_state slots) k
@@ -63,20 +60,16 @@ module _ {V : Type 0} (slots : List (SlotRecord V)) (limit : ℕ) (accepted : Ac
 
     -- the list's state fits a map that was just read from it
     pub starts-fit : Fits (start_state slots) c
-    starts-fit = record {
-      live = sym starts.live;
-      detached = sym starts.detached;
-      retired = retired_is (start_state slots) c.retired spent_is_retired retired_is_spent;
-      peak = omega (arith, starts.places);
-      promised = omega arith;
-      issued = live_is_issued;
-      within = λ k issued. let at = issued_in slots k issued in omega (arith, starts.places, slice_get_within slots k.index at.0 at.1);
-      past = λ k v issued got.
-          let at = issued_in slots k issued in
-          let vacant = next_in slots k.index v (rw starts.next at got) in
-          grind (arith, nat_tests);
-      present = λ k other issued stands there.
-          let at = issued_in slots k issued in
-          let live_at = live_slot_at other stands in
-          grind (arith, nat_tests);
-    }
+    starts-fit =
+        grind (
+          arith,
+          retired_is (start_state slots) c.retired spent_is_retired retired_is_spent,
+          spent_is_retired,
+          retired_is_spent,
+          live_is_issued,
+          issued_in,
+          slice_get_within,
+          next_in,
+          nat_tests,
+          live_slot_at,
+        )

@@ -41,9 +41,7 @@ module _ {V E M : Type 0} (empty : M) (put : M → E → M) (entry : ℕ → Pla
       → (slots : List (SlotRecord V)) (limit : ℕ) → Accepts slots limit → gather empty put entry 0 (start_places slots) ≡ gather empty put slot_entry 0 slots
   gather-start_places no_place no_slot [] limit accepted = refl
   gather-start_places no_place no_slot (first ∷ rest) limit accepted =
-      let at = accepted.first_empty in
-      let even : first.version % 2 ≡ 0 = rw (← same_Some first at.0 at.1) at at.2 in
-      rw (no_place, no_slot first even) (gather-places 1 rest (omega arith) (λ j slot below. accepted.consistent (suc j) slot (omega arith)))
+      grind (arith, gather-places 1 rest (omega arith) (λ j slot below. accepted.consistent (suc j) slot (omega arith)))
 
 module _ {V : Type 0} where
   pub consistent_at : (slots : List (SlotRecord V)) (limit : ℕ) → Accepts slots limit → (i : ℕ) (slot : SlotRecord V) → slice_get slots i ≡ Some slot → IsConsistent slot

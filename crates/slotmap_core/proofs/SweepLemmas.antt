@@ -73,8 +73,7 @@ module _ {V : Type 0} where
 
   module _ {reuses : Bool} (c : Content V) (well : IsContent reuses c) (i : ℕ) (k : Key) (next : IsNextLive c i k) where
     before_others : IsLive c k → (q : Key) → q ≢ k → IsLive c q → i ≤ q.index → k.index < q.index
-    before_others is_live q other there from =
-        ⊎_elim (λ same. absurd (other (well.apart q k (inl (inl there)) (inl (inl is_live)) (sym same)))) (λ apart. omega (arith, next q there from)) (cases_eq k.index q.index)
+    before_others is_live q other there from = grind arith
 
     -- its entry is the first, if no live key is below i
     pub first_entry : (v : V) → NoneBelow c.live i → map.get c.live k ≡ Some v → map.entries c.live ≡ (k, v) ∷ map.entries (map.remove c.live k)
