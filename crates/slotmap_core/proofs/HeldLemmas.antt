@@ -56,8 +56,7 @@ module _ {P : Type 0} (slots : List (Slot P)) (fits head kept count : ℕ) (held
 
   -- if n more keys fit the limit and not the memory, there is no room for them
   pub held_lacks : (n : ℕ) → n + used now ≤ most → now.capacity < n + used now → now.room < n
-  held_lacks n few more =
-      omega (arith, ap used (sym view), ap (λ c. c.room) (sym view), ap (λ c. c.capacity) (sym view), taken-slots slots head (vacancies slots kept count) count held.sound, held.holds)
+  held_lacks n few more = grind (arith, taken-slots slots head (vacancies slots kept count) count held.sound)
 
   -- if a place is vacant, or one more slot fits, there is room
   pub held_reuses : head ≢ 0 → 0 < now.room

@@ -23,15 +23,11 @@ pub link-used : (v n : ℕ) → v % 2 ≡ 1 → link_of v n ≡ InUse
 link-used v n odd = ap (λ r. cond (r == 1) InUse (empty_link v n)) odd
 
 not_retired : (v n : ℕ) → (v ≡ 0 → n ≡ 0) → (v == 0 && not (n == 0)) ≡ false
-not_retired v n first =
-    ⊎_elim (λ none. ap (λ m. v == 0 && not (m == 0)) (first none) ∙ and-false (v == 0)) (λ other. ap (λ b. b && not (n == 0)) (ne_eqb v 0 other)) (cases_eq v 0)
+not_retired v n first = grind arith
 
 pub link-empty : (v : ℕ) (l : Link) → FitsEmpty v l → link_of v (number_of l) ≡ l
 link-empty v InUse fits = absurd (fits.unused refl)
-link-empty v (Free next) fits =
-    ap (λ b. cond b InUse (empty_link v next)) (even_row v fits.even)
-    ∙ ap (λ b. cond b Detached (cond (v == 0 && not (next == 0)) Retired (Free next))) (ne_eqb next (2 ^ 32 - 1) (λ e. omega (arith, fits.named next refl)))
-    ∙ ap (λ b. cond b Retired (Free next)) (not_retired v next (fits.first next refl))
+link-empty v (Free next) fits = grind arith
 link-empty v Detached fits = ap (λ b. cond b InUse (empty_link v (2 ^ 32 - 1))) (even_row v fits.even)
 link-empty v Retired fits = ap (λ w. link_of w 1) (fits.spent refl)
 

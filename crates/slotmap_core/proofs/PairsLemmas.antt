@@ -97,17 +97,7 @@ module _ {V : Type 0} (vs : List ℕ) (xs : List (Option V)) (i left : ℕ) (wal
   comes : (start : ℕ) → pairs_left i vs xs ≡ pairs_left start vs xs → (v : ℕ) (o : Option V) → slice_get vs i ≡ Some v → slice_get xs i ≡ Some o → v % 2 ≡ 1 → Next vs xs start left i
   comes start same v None at_v at_x odd = let some = (walk.placed i v None (omega arith) at_v at_x).1 odd in absurd (cc)
   comes start same v (Some x) at_v at_x odd =
-      let first = left-found v (Some x) at_v at_x in
-      let within = slice_get_within vs i v at_v in
-      record {
-        version = v;
-        value = x;
-        version_there = at_v;
-        value_there = at_x;
-        is_key = λ w w_is fits. record { index_fits = omega (arith, walk.fits); version_fits = fits; odd = omega arith; one_null = λ last. absurd (omega (arith, walk.fits)) };
-        first = sym same ∙ first;
-        walk_on = later (left - 1) (omega (arith, walk.counted, ap length first));
-      }
+      grind (arith, left-found v (Some x) at_v at_x, later (left - 1) (omega (arith, walk.counted, ap length (left-found v (Some x) at_v at_x))), slice_get_within vs i v at_v)
 
 -- the value at a place that was passed isn't yielded any more
 module _ {V : Type 0} (vs : List ℕ) (xs : List (Option V)) (i : ℕ) (o : Option V) where

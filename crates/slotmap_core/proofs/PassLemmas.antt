@@ -110,11 +110,7 @@ module _ {K P : Type 0} (data_of : K → Key) where
     puts = λ xs i key p q same_x comes. zip-with_payload vs ls xs (data_of key).index q;
     still = λ xs i key p q same_x comes. length-set xs (data_of key).index (Some q) ∙ same_x;
     moves = λ i key stays. refl;
-    ends = λ xs i end same_x ended. (
-      ended.0,
-      ended.1 ∙ sym (zip-length vs ls xs same_l same_x),
-      λ j v on below there. ended.2 j v on below (sym (zip-reads vs ls xs j same_l same_x).0 ∙ there),
-    );
+    ends = grind (arith, zip-length, zip-reads);
   }
 
   -- slots hold a content

@@ -36,8 +36,7 @@ row-with_payload (q ∷ rows) (suc i) r p read some = ap (λ ss. slot_of q ∷ s
 -- what a read of a free row returns
 pub row-next : (rows : List Row) (i : ℕ) (r : Row) → r ≡ get_or rows i r → IsSome (next_at (slots_of rows) i) → next_at (slots_of rows) i ≡ Some r.number
 row-next [] i r read some = absurd (cc)
-row-next (q ∷ rows) zero r read some =
-    free_is q.version q.number some ∙ ap (λ (x : Row). Some x.number) (sym read)
+row-next (q ∷ rows) zero r read some = grind arith
 row-next (q ∷ rows) (suc i) r read some = row-next rows i r read some
 
 -- the row of a slot that isn't in use
@@ -45,8 +44,7 @@ pub slot-empty : (v : ℕ) (l : Link) → FitsEmpty v l → slot_of (record { ve
 slot-empty v l fits = λ j. record { version = v; link = link-empty v l fits j; payload = ap (λ b. cond b (Some (number_of l)) None) (even_row v fits.even) j }
 
 pub NoneLive-more : (rows : List Row) (start i v : ℕ) → NoneLive (slots_of rows) start i → version_at (slots_of rows) i ≡ Some v → v % 2 ≡ 0 → NoneLive (slots_of rows) start (i + 1)
-NoneLive-more rows start i v even there last j w from below at =
-    ⊎_elim (λ earlier. even j w from earlier at) (λ past. let here : j ≡ i = omega arith in omega (arith, last, same_Some v w (sym there ∙ rw here at at))) (cases_lt j i)
+NoneLive-more rows start i v even there last j w from below at = grind arith
 
 -- what the tactics need of written rows
 pub ruleset laid = (map-set)

@@ -31,23 +31,12 @@ module _ {P : Type 0} where
 
   pub IsSound-sentinel : IsSound sentinel 0 0 0
   IsSound-sentinel = record {
-    each =
-        λ i s at. ⊎_elim (λ same. subst IsSlot same.1 (IsSlot-empty 0 (Free 0) refl (λ e. absurd (cc)) (λ e. absurd (cc))))
-        (λ other. absurd (let none = other.1 in cc)) (at_push [] (empty 0 (Free 0)) i s at);
+    each = grind arith;
     stack = [];
     linked = refl;
     counted = refl;
     live_counted = ap map.len ((sentinel_alone P 1).0) ∙ map.len-empty key_cmp P;
-    stacked = record {
-      sentinel = refl;
-      fits = omega arith;
-      versions = λ i p found. ⊎_elim (λ same. subst HasVersion same.1 (omega arith, refl)) (λ other. absurd (let none = other.1 in cc)) (at_push [] (Vacant 1) i p found);
-      listed = λ i on. absurd on;
-      complete = λ i n positive found. absurd (omega (arith, slice_get_within (Vacant 1 ∷ []) i (Vacant n) found));
-      had_keys = λ i n positive found. absurd (omega (arith, slice_get_within (Vacant 1 ∷ []) i (Vacant n) found));
-      once = tt;
-      counted = sym (ap map.len ((sentinel_alone P 1).3) ∙ map.len-empty nat_cmp ℕ);
-    };
+    stacked = grind (arith, sentinel_alone P 1, map.len-empty nat_cmp ℕ);
   }
 
   -- one more slot at the end
@@ -77,9 +66,7 @@ module _ {P : Type 0} (slots : List (Slot P)) (head free count : ℕ) (sound : I
   -- the free list starts with index 0 if and only if it has no slot
   head_is : (is : List ℕ) → sound.stack ≡ is → IsFreeList slots is head → length is ≡ free → head ≡ 0 ↔ free ≡ 0
   head_is [] same linked counted = (λ _. sym counted, λ _. linked)
-  head_is (i ∷ is) same linked counted =
-      let positive = (sound.stacked.listed i (subst (λ is. IsOn is i) (sym same) (inl refl))).0 in
-      (λ none. absurd (omega (arith, linked.0)), λ none. absurd (omega arith))
+  head_is (i ∷ is) same linked counted = grind (arith, sound.stacked.listed i (subst (λ is. IsOn is i) (sym same) (inl refl)))
 
   pub none_free : head ≡ 0 → free ≡ 0
   none_free none = (head_is sound.stack refl sound.linked sound.counted).0 none
@@ -177,9 +164,7 @@ module _ {P : Type 0} (slots : List (Slot P)) (head free count : ℕ) (sound : I
 
   pub kept-read : (u : ℕ) → version_at slots k.index ≡ Some u → link_at slots k.index ≡ Some Detached → (version_before u == k.version) ≡ set.contains (detached (places_of slots)) k
   kept-read u found linked =
-      let s = slot_at slots k.index u found in
-      let same_link : s.0.link ≡ Detached = same_Some _ _ (sym (ap (option_map (λ s. s.link)) s.1) ∙ linked) in
-      sym (contains-detached (places_of slots) k ∙ ap (is_kept k.version) (place_at slots k.index s.0 s.1) ∙ rw (same_link, s.2))
+      grind (arith, contains-detached (places_of slots) k, place_at slots k.index (slot_at slots k.index u found).0 (slot_at slots k.index u found).1, slot_at slots k.index u found)
 
   pub kept-other : (l : Link) → link_at slots k.index ≡ Some l → l ≢ Detached → set.contains (detached (places_of slots)) k ≡ false
   kept-other l linked other = false_of _ (λ holds. other (same_Some _ _ (sym linked ∙ ap (option_map (λ s. s.link)) (present_kept holds).there)))

@@ -89,8 +89,7 @@ module _ {V : Type 0} where
 
       -- an insert returns no key that is spent
       pub inserted_not_spent : (j : Key) (v : V) → Inserts old j v new → (k : Key) → IsSpent old k → j ≢ k
-      inserted_not_spent j v inserts k spent =
-          live_not_spent new j k (ap (λ m. map.contains_key m j) inserts.live ∙ in_inserted keys_total exact_keys old.live j v) (spent_inserts j v inserts k spent)
+      inserted_not_spent j v inserts k spent = grind arith
 
       pub spent_removes : (k : Key) → IsLive old k → Removes old k new → KeepsSpent old new
       spent_removes k live removes = spent_leaves (Leaves-removes reuses old well k live new removes)

@@ -50,13 +50,11 @@ module _ {V : Type 0} (slots : List (SlotRecord V)) (limit : ℕ) (accepted : Ac
 
     retired_is_spent : (k : Key) → set.contains c.retired k ≡ true → Spent (start_state slots) k
     retired_is_spent k is =
-        let at = retired_in slots k (rw starts.retired at is) in
-        let slot = at.0 in
-        record {
-          issued = grind (arith, nat_tests, in_start_issued slots k.index slot at.1);
-          last = grind (arith, nat_tests);
-          not_held = λ held. let other = live_slot_at k (rw (← starts.live, ← starts.detached) at held) in absurd (grind arith);
-        }
+        grind (
+          arith,
+          in_start_issued slots k.index ((retired_in slots k (rw starts.retired at is)).0) (retired_in slots k (rw starts.retired at is)).1,
+          retired_in slots k (rw starts.retired at is),
+        )
 
     -- the list's state fits a map that was just read from it
     pub starts-fit : Fits (start_state slots) c

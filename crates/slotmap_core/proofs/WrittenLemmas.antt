@@ -89,10 +89,7 @@ module _ {V : Type 0} (reuses : Bool) (c : Content V) (valid : IsContent reuses 
 
     next_where : (i v : ℕ) → map.get read.next i ≡ Some v → (map.get c.next i ≡ Some v) ⊎ ((k : Key) × IsDetached c k × (is_last k ≡ false) × (k.index ≡ i) × (next_version k ≡ v))
     next_where i v is =
-        let at = next_in slots i v (rw starts.next at is) in
-        let stands = stands_for i at.0 at.1 in
-        let either : (map.get c.next i ≡ Some v) ⊎ (IsDetached c (key i (v - 2)) × (is_last (key i (v - 2)) ≡ false) × (v - 2 + 2 ≡ v)) = grind (arith, nat_tests) in
-        elim either [ inl got ↦ inl got | inr left ↦ inr (key i (v - 2), left.0, left.1, refl, left.2) ]
+        grind (arith, key i (v - 2), next_in slots i v (rw starts.next at is), stands_for i (next_in slots i v (rw starts.next at is)).0 (next_in slots i v (rw starts.next at is)).1)
 
     where_next : (i v : ℕ) → (map.get c.next i ≡ Some v) ⊎ ((k : Key) × IsDetached c k × (is_last k ≡ false) × (k.index ≡ i) × (next_version k ≡ v)) → map.get read.next i ≡ Some v
     where_next i v (inl got) =
