@@ -31,10 +31,6 @@ key_at vs i within few fits odd = record {
   one_null = λ last. absurd (omega arith);
 }
 
-pub exact-key-requires : goal.exact-key-requires
-exact-key-requires g c =
-    key_at c.args.versions.now c.loop-index.index c.loop-index-test.true c.requires.few (c.type_inv.versions c.loop-index.index).fits (omega (arith, c.if-version-eq0.false))
-
 -- the key that the closure is shown
 key_is : (g : _) (c : After-from g) → g.K.Key.data_of c.from.result ≡ record { index = c.loop-index.index; version = get_or c.args.versions.now c.loop-index.index 0 }
 key_is g c =

@@ -106,9 +106,6 @@ loop-record-preserved g c =
           (omega (arith, before.room, steps.1, length_push (g.L.Layout.slots at.layout) (empty made.version (Free at.first_vacant))));
     }
 
-pub push_empty-requires-clause-out : goal.push_empty-requires-clause-out
-push_empty-requires-clause-out g c = FitsEmpty-free 0 0 refl (omega arith) (λ _. refl)
-
 pub push-requires-clause-odd : goal.push-requires-clause-odd
 push-requires-clause-odd g c =
     let at = c.loop-record in
@@ -120,9 +117,6 @@ push-requires-clause-odd g c =
     let whole : (before.first ∷ at.yielded) ++ made ∷ rest ≡ c.args.list.items = ap (λ xs. before.first ∷ at.yielded ++ xs) (sym steps.0) ∙ before.all in
     let consistent = next_consistent c.args.list.items (before.first ∷ at.yielded) rest made 4294967295 accepted whole in
     odd_of made consistent c.in-Some-value.payload c.in-Some-value.is
-
-pub push_empty-requires-then-version-eq0-clause-out : goal.push_empty-requires-then-version-eq0-clause-out
-push_empty-requires-then-version-eq0-clause-out g c = FitsEmpty-retired
 
 pub push_empty-requires-else-version-eq0-clause-out : goal.push_empty-requires-else-version-eq0-clause-out
 push_empty-requires-else-version-eq0-clause-out g c =

@@ -5,14 +5,8 @@ use Rattle.slotmap_core.proofs.SlotLemmas.{reattached, reattaches-slots}
 use Rattle.slotmap_core.proofs.HeldLemmas.{held_valid, held_stays, held_kept, held_fits, vacancies-set, held-set, kept_positive}
 use Rattle.slotmap_core.proofs.slots.Slots.reattach.Goals as goal
 
-pub overflow_add-self : goal.overflow_add-self
-overflow_add-self g c = omega (arith, c.self.invariant.fewer, held_fits _ _ _ _ _ c.self.invariant c.self.view_is)
-
 pub overflow_sub-self : goal.overflow_sub-self
 overflow_sub-self g c = kept_positive _ _ _ _ _ c.self.invariant c.self.view_is c.args.key c.requires c.args.payload
-
-pub put-requires-clause-odd : goal.put-requires-clause-odd
-put-requires-clause-odd g c = rw c.version.ensures.value ((held_valid _ _ _ _ _ c.self.invariant c.self.view_is).keys c.args.key (inl (inr c.requires))).odd
 
 pub put-requires-clause-within : goal.put-requires-clause-within
 put-requires-clause-within g c = rw c.idx.ensures.value (slice_get_within _ _ _ (held_kept _ _ _ _ _ c.self.invariant c.self.view_is c.args.key c.requires).there)

@@ -14,12 +14,6 @@ pub take-requires-clause-there : goal.take-requires-clause-there
 take-requires-clause-there g c =
     rw c.idx-index.ensures.value (ap is_some (held_present _ _ _ _ _ c.self.invariant c.self.view_is c.args.key c.requires).read)
 
-pub take-requires-clause-out : goal.take-requires-clause-out
-take-requires-clause-out g c = FitsEmpty-retired
-
-pub overflow_add-self : goal.overflow_add-self
-overflow_add-self g c = omega (arith, c.self.invariant.fewer, held_fits _ _ _ _ _ c.self.invariant c.self.view_is)
-
 pub invariant_of-self : goal.invariant_of-self
 invariant_of-self g c =
     let found = held_present _ _ _ _ _ c.self.invariant c.self.view_is c.args.key c.requires in

@@ -9,16 +9,8 @@ pub overflow_sub-self : goal.overflow_sub-self
 overflow_sub-self g c =
     count_positive _ _ _ _ c.self.invariant.sound _ _ _ (held_present _ _ _ _ _ c.self.invariant c.self.view_is c.args.key c.requires).there
 
-pub overflow_add-self : goal.overflow_add-self
-overflow_add-self g c = omega (arith, c.self.invariant.fewer, held_fits _ _ _ _ _ c.self.invariant c.self.view_is)
-
 pub take-requires-clause-there : goal.take-requires-clause-there
 take-requires-clause-there g c = rw c.idx.ensures.value (ap is_some (held_present _ _ _ _ _ c.self.invariant c.self.view_is c.args.key c.requires).read)
-
-pub take-requires-clause-out : goal.take-requires-clause-out
-take-requires-clause-out g c =
-    let found = held_present _ _ _ _ _ c.self.invariant c.self.view_is c.args.key c.requires in
-    FitsEmpty-detached _ (omega (arith, found.odd, c.version-after.ensures.value))
 
 pub invariant_of-self : goal.invariant_of-self
 invariant_of-self g c =

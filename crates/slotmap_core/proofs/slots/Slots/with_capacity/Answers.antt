@@ -4,9 +4,6 @@ use Rattle.slotmap_core.proofs.SlotLemmas.{valid, FitsEmpty-free}
 use Rattle.slotmap_core.proofs.SlotGrowth.{IsSound-sentinel, taken-sentinel}
 use Rattle.slotmap_core.proofs.slots.Slots.with_capacity.Goals as goal
 
-pub push_empty-requires-clause-out : goal.push_empty-requires-clause-out
-push_empty-requires-clause-out g c = FitsEmpty-free 0 0 refl (omega arith) (λ _. refl)
-
 pub invariant_of-result : goal.invariant_of-result
 invariant_of-result g c =
     rw (c.push_empty.ensures.pushed, c.push_empty.ensures.same_room, c.in_ok-layout.ensures.none)

@@ -11,12 +11,6 @@ use Rattle.slotmap_core.proofs.slots.pass.Slots+P+Columns+P.first_rejected.Goals
 pub first_rejected-requires-clause-from : goal.first_rejected-requires-clause-from
 first_rejected-requires-clause-from g c = omega (arith, c.requires.from, held_places _ _ _ _ _ c.self.invariant c.self.view_is)
 
-pub first_rejected-requires-clause-few : goal.first_rejected-requires-clause-few
-first_rejected-requires-clause-few g c = held_fits _ _ _ _ _ c.self.invariant c.self.view_is
-
-pub first_rejected-requires-clause-placed : goal.first_rejected-requires-clause-placed
-first_rejected-requires-clause-placed g c = λ i v found odd. ap is_some (ap (option_and_then (λ s. s.payload)) (live_slot _ _ _ _ c.self.invariant.sound i v found odd).1)
-
 pub first_rejected-requires-clause-callable : goal.first_rejected-requires-clause-callable
 first_rejected-requires-clause-callable g c =
     let m = c.self.inside in
