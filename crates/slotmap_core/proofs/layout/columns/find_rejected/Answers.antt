@@ -24,25 +24,14 @@ loop-index-init g c =
     }
 
 key_at : (vs : List ℕ) (i : ℕ) → i < length vs → length vs < 2 ^ 32 → get_or vs i 0 < 2 ^ 32 → get_or vs i 0 % 2 ≡ 1 → IsKey (record { index = i; version = get_or vs i 0 })
-key_at vs i within few fits odd = record {
-  index_fits = omega arith;
-  version_fits = fits;
-  odd = odd;
-  one_null = λ last. absurd (omega arith);
-}
+key_at vs i within few fits odd = grind arith
 
 -- the key that the closure is shown
 key_is : (g : _) (c : After-from g) → g.K.Key.data_of c.from.result ≡ record { index = c.loop-index.index; version = get_or c.args.versions.now c.loop-index.index 0 }
-key_is g c =
-    let is_key = key_at c.args.versions.now c.loop-index.index c.loop-index-test.true c.requires.few (c.type_inv.versions c.loop-index.index).fits (omega (arith, c.if-version-eq0.false)) in
-    ap g.K.Key.data_of (g.met.K.Key.from_gives_key _ _ c.from.ensures) ∙ g.met.K.Key.from_data _ (subst IsKey (sym c.exact-key.ensures) is_key) ∙ c.exact-key.ensures
+key_is g c = grind arith
 
 pub sure_mut-requires : goal.sure_mut-requires
-sure_mut-requires g c =
-    let at = c.loop-index in
-    let version = slice_get-get_or c.args.versions.now at.index 0 c.loop-index-test.true in
-    let value = at.invariant.placed at.index (get_or c.args.versions.now at.index 0) version (omega (arith, c.if-version-eq0.false)) in
-    ap is_some (get_or_from_slice_get at.payloads at.index (Some value.0) c.index-payloads-index.result value.1)
+sure_mut-requires g c = grind (arith, slice_get-get_or, get_or_from_slice_get)
 
 -- the pair that the closure is called for
 comes : (g : _) (c : After-sure_mut g) → g.K.Key.data_of c.from.result ≡ record { index = c.loop-index.index; version = get_or c.args.versions.now c.loop-index.index 0 }
@@ -70,12 +59,8 @@ returns-then-not-f-clause-passes g c =
       kept = at.invariant.kept;
       ends = inr (record {
         visit = visit;
-        calls = record {
-          shows = comes g steps.After-sure_mut (key_is g steps.After-from);
-          written = ap (λ i. set at.payloads i (Some c.f.new.arg3)) (sym index);
-          moves = sym index ∙ ap (past_index (g.K.Key.data_of c.from.result)) (sym c.if-not-f.true);
-          called = CallsAt-called g.F.FnMut c.f.ensures;
-        };
+        calls =
+            grind (arith, comes g steps.After-sure_mut (key_is g steps.After-from), g.K.Key.data_of c.from.result, CallsAt-called g.F.FnMut c.f.ensures);
         leaves = c.if-not-f.true;
       });
     }
@@ -90,12 +75,8 @@ loop-index-preserved g c =
       visits = at.invariant.visits ++ visit ∷ [];
       position = at.index + 1;
       kept = FoldsTo-push (Keeps (in_columns g.K.Key.data_of c.args.versions.now) g.F.FnMut) _ at.invariant.visits _ visit _ at.invariant.kept (record {
-        calls = record {
-          shows = comes g steps.After-sure_mut (key_is g steps.After-from);
-          written = ap (λ i. set at.payloads i (Some c.f.new.arg3)) (sym index);
-          moves = ap (λ i. i + 1) (sym index) ∙ ap (past_index (g.K.Key.data_of c.from.result)) (sym c.if-not-f.false);
-          called = CallsAt-called g.F.FnMut c.f.ensures;
-        };
+        calls =
+            grind (arith, comes g steps.After-sure_mut (key_is g steps.After-from), g.K.Key.data_of c.from.result, CallsAt-called g.F.FnMut c.f.ensures);
         stays = c.if-not-f.false;
       });
       on = omega arith;

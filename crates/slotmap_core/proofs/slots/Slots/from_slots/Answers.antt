@@ -24,9 +24,7 @@ loop-record-init g c =
       counted = omega (arith, taken.2, c.into_iter-records.ensures.len, list.ok.0);
       read = rw (c.push_empty.ensures.pushed, c.in_ok-layout.ensures.none) (AreRead-first taken.0);
       few = omega arith;
-      room =
-          rw (c.push_empty.ensures.pushed, c.push_empty.ensures.same_room, c.in_ok-layout.ensures.none)
-          (omega (arith, taken.2, c.into_iter-records.ensures.len, c.in_ok-layout.ensures.room, c.len.ensures));
+      room = grind arith;
     })
 
 pub loop-record-preserved-in-Some-value : goal.loop-record-preserved-in-Some-value
@@ -50,9 +48,7 @@ loop-record-preserved-in-Some-value g c =
           rw (c.push.ensures.pushed, c.in-Some-value.payload-is, free)
           (AreRead-live (before.first ∷ at.yielded) _ _ _ _ before.read made consistent (omega arith) c.in-Some-value.payload c.in-Some-value.is);
       few = omega (arith, before.few, length_push at.yielded made);
-      room =
-          rw (c.push.ensures.pushed, c.push.ensures.same_room, c.in-Some-value.payload-is)
-          (omega (arith, before.room, steps.1, length_push (g.L.Layout.slots at.layout) (full made.version c.in-Some-value.payload)));
+      room = grind arith;
     }
 
 pub loop-record-preserved-then-version-eq0 : goal.loop-record-preserved-then-version-eq0
@@ -75,9 +71,7 @@ loop-record-preserved-then-version-eq0 g c =
           rw (c.push_empty-then-version-eq0.ensures.pushed, free)
           (AreRead-retired (before.first ∷ at.yielded) _ _ _ _ before.read made consistent (omega arith) c.in-None-value.is c.if-version-eq0.true);
       few = omega (arith, before.few, length_push at.yielded made);
-      room =
-          rw (c.push_empty-then-version-eq0.ensures.pushed, c.push_empty-then-version-eq0.ensures.same_room)
-          (omega (arith, before.room, steps.1, length_push (g.L.Layout.slots at.layout) (empty 0 Retired)));
+      room = grind arith;
     }
 
 pub loop-record-preserved : goal.loop-record-preserved
@@ -101,9 +95,7 @@ loop-record-preserved g c =
           rw (c.push_empty-else-version-eq0.ensures.pushed, c.len-index.ensures, free)
           (AreRead-vacant (before.first ∷ at.yielded) _ _ _ _ before.read made consistent (omega arith) c.in-None-value.is c.if-version-eq0.false);
       few = omega (arith, before.few, length_push at.yielded made);
-      room =
-          rw (c.push_empty-else-version-eq0.ensures.pushed, c.push_empty-else-version-eq0.ensures.same_room)
-          (omega (arith, before.room, steps.1, length_push (g.L.Layout.slots at.layout) (empty made.version (Free at.first_vacant))));
+      room = grind arith;
     }
 
 pub push-requires-clause-odd : goal.push-requires-clause-odd
@@ -135,16 +127,8 @@ push_empty-requires-else-version-eq0-clause-out g c =
 pub invariant_of-result : goal.invariant_of-result
 invariant_of-result g c =
     let at = c.loop-record in
-    let none : into_iter_items at.record-iterator ≡ [] = nil_from_length _
-    (omega (
-      arith,
-      ap length at.invariant.all,
-      length-append at.yielded (into_iter_items at.record-iterator),
-      at.invariant.counted,
-      c.in-None.ensures.steps.0,
-    )) in
-    let all : at.invariant.first ∷ at.yielded ≡ c.args.list.items = ap (λ xs. at.invariant.first ∷ xs) (sym (append-nil at.yielded))
-    ∙ ap (λ xs. at.invariant.first ∷ at.yielded ++ xs) (sym none) ∙ at.invariant.all in
+    let none : into_iter_items at.record-iterator ≡ [] = grind (arith, nil_from_length, length-append) in
+    let all : at.invariant.first ∷ at.yielded ≡ c.args.list.items = grind (arith, append-nil) in
     let accepted = subst (λ l. Accepts l 4294967295) c.deref.ensures.value (c.in_ok-check_slots.ensures.ok.0 refl) in
     let versions_fit = subst (λ l. AllFitBelow l (length l)) c.deref.ensures.value c.in_ok-check_slots.ensures.versions_fit in
     record {
@@ -156,16 +140,8 @@ invariant_of-result g c =
 pub returns-clause-reads : goal.returns-clause-reads
 returns-clause-reads g c =
     let at = c.loop-record in
-    let none : into_iter_items at.record-iterator ≡ [] = nil_from_length _
-    (omega (
-      arith,
-      ap length at.invariant.all,
-      length-append at.yielded (into_iter_items at.record-iterator),
-      at.invariant.counted,
-      c.in-None.ensures.steps.0,
-    )) in
-    let all : at.invariant.first ∷ at.yielded ≡ c.args.list.items = ap (λ xs. at.invariant.first ∷ xs) (sym (append-nil at.yielded))
-    ∙ ap (λ xs. at.invariant.first ∷ at.yielded ++ xs) (sym none) ∙ at.invariant.all in
+    let none : into_iter_items at.record-iterator ≡ [] = grind (arith, nil_from_length, length-append) in
+    let all : at.invariant.first ∷ at.yielded ≡ c.args.list.items = grind (arith, append-nil) in
     let accepted = subst (λ l. Accepts l 4294967295) c.deref.ensures.value (c.in_ok-check_slots.ensures.ok.0 refl) in
     let versions_fit = subst (λ l. AllFitBelow l (length l)) c.deref.ensures.value c.in_ok-check_slots.ensures.versions_fit in
     let read = rw all at at.invariant.read in

@@ -17,19 +17,13 @@ reserve-requires g c =
 
 pub returns-in_err-reserve-clause-makes_room : goal.returns-in_err-reserve-clause-makes_room
 returns-in_err-reserve-clause-makes_room g c =
-    let none : c.args.self.now.room < c.args.additional =
-    held_lacks _ _ _ _ _ c.self.invariant c.self.view_is c.args.additional
-    (omega (arith, c.used-used.ensures.value, c.used-used.ensures.below, c.if-additional-used.false))
-    (omega (arith, c.used-used.ensures.value, c.used-used.ensures.fits, c.capacity.ensures.value, c.if-additional-capacity.false)) in
+    let none : c.args.self.now.room < c.args.additional = grind arith in
     rw c.in_err-reserve.ensures.same (grown _ _ _ _ _ c.self.invariant c.self.view_is _ c.in_err-reserve.ensures.grows c.args.additional _ none
     (λ is. absurd (err_not_ok _ c.from_residual.ensures.0 is)))
 
 pub returns-clause-makes_room : goal.returns-clause-makes_room
 returns-clause-makes_room g c =
-    let none : c.args.self.now.room < c.args.additional =
-    held_lacks _ _ _ _ _ c.self.invariant c.self.view_is c.args.additional
-    (omega (arith, c.used-used.ensures.value, c.used-used.ensures.below, c.if-additional-used.false))
-    (omega (arith, c.used-used.ensures.value, c.used-used.ensures.fits, c.capacity.ensures.value, c.if-additional-capacity.false)) in
+    let none : c.args.self.now.room < c.args.additional = grind arith in
     rw c.in_ok-reserve.ensures.same (grown _ _ _ _ _ c.self.invariant c.self.view_is _ c.in_ok-reserve.ensures.grows c.args.additional _ none (λ is. (
       omega (arith, c.used-used.ensures.value, c.used-used.ensures.below, c.if-additional-used.false),
       omega (

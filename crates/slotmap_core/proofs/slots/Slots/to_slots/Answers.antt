@@ -6,14 +6,7 @@ use Rattle.slotmap_core.proofs.WrittenLemmas.{writes-stack, written-contents}
 use Rattle.slotmap_core.proofs.slots.Slots.to_slots.Goals as goal
 
 pub loop-index-preserved : goal.loop-index-preserved
-loop-index-preserved g c =
-    let at = c.loop-index in
-    let made = c.in_ok-record_at.ensures in
-    let next = records-next _ c.self.invariant.sound.each at.index c.in_ok-record_at.field-0 made.version made.value made.fits in
-    record {
-      written = rw (c.push_reserved.ensures.items, at.invariant.written) (rw next);
-      room = omega (arith, at.invariant.room, c.push_reserved.ensures.len, c.push_reserved.ensures.capacity);
-    }
+loop-index-preserved g c = grind (arith, records-next)
 
 pub returns-clause-writes : goal.returns-clause-writes
 returns-clause-writes g c =

@@ -5,9 +5,7 @@ use Rattle.slotmap_core.proofs.SlotGrowth.{IsSound-sentinel, taken-sentinel}
 use Rattle.slotmap_core.proofs.slots.Slots.with_capacity.Goals as goal
 
 pub invariant_of-result : goal.invariant_of-result
-invariant_of-result g c =
-    rw (c.push_empty.ensures.pushed, c.push_empty.ensures.same_room, c.in_ok-layout.ensures.none)
-    (record { sound = IsSound-sentinel; fewer = omega arith; holds = omega (arith, c.in_ok-layout.ensures.room) })
+invariant_of-result g c = grind (arith, IsSound-sentinel)
 
 pub returns-clause-starts : goal.returns-clause-starts
 returns-clause-starts g c =
@@ -15,9 +13,7 @@ returns-clause-starts g c =
     (let none = sentinel_alone _ 1 in record { live = none.0; detached = none.1; retired = none.2; next = none.3 })
 
 pub returns-clause-room : goal.returns-clause-room
-returns-clause-room g c =
-    rw (c.push_empty.ensures.pushed, c.push_empty.ensures.same_room, c.in_ok-layout.ensures.none)
-    (omega (arith, taken-sentinel g.row.P.Denot, c.in_ok-layout.ensures.room, c.if-capacity-gt-MOST_KEYS.false))
+returns-clause-room g c = grind (arith, taken-sentinel)
 
 pub returns-clause-valid : goal.returns-clause-valid
 returns-clause-valid g c =

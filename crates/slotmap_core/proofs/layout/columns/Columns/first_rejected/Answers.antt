@@ -8,11 +8,7 @@ use Rattle.slotmap_core.proofs.PassLemmas.{items-whole, HasEachOdd-slots, Lifts-
 use Rattle.slotmap_core.proofs.layout.columns.Columns.first_rejected.Goals as goal
 
 pub find_rejected-requires-clause-placed : goal.find_rejected-requires-clause-placed
-find_rejected-requires-clause-placed g c =
-    let m = c.self.inside in
-    let links = links_of m.versions.items m.numbers.items in
-    rw (c.as_slice.ensures.value, c.as_mut_slice.ensures.value) (HasEachOdd-slots m.versions.items links m.payloads.items
-    (links-length m.versions.items m.numbers.items c.self.invariant.numbers_length) c.self.invariant.payloads_length (rw (← c.self.view_is) at c.requires.placed))
+find_rejected-requires-clause-placed g c = grind (arith, HasEachOdd-slots, links-length)
 
 pub find_rejected-requires-clause-callable : goal.find_rejected-requires-clause-callable
 find_rejected-requires-clause-callable g c =
@@ -42,14 +38,4 @@ pub find_rejected-requires-clause-few : goal.find_rejected-requires-clause-few
 find_rejected-requires-clause-few g c = omega (arith, c.requires.few, (laid-length c.self.invariant c.self.view_is).0, ap length c.as_slice.ensures.value)
 
 pub returns-clause-within : goal.returns-clause-within
-returns-clause-within g c =
-    let m = c.self.inside in
-    let end = c.find_rejected.new in
-    let links = links_of m.versions.items m.numbers.items in
-    let same : length end.payloads ≡ length m.payloads.items = c.find_rejected.ensures.same_length ∙ ap length c.as_mut_slice.ensures.value in
-    rw (items-whole m.payloads end.payloads same) (omega (
-      arith,
-      c.find_rejected.ensures.within,
-      ap length c.as_slice.ensures.value,
-      zip-length m.versions.items links end.payloads (links-length m.versions.items m.numbers.items c.self.invariant.numbers_length) (same ∙ c.self.invariant.payloads_length),
-    ))
+returns-clause-within g c = grind (arith, items-whole, zip-length, links-length)

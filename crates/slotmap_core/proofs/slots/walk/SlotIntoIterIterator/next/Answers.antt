@@ -9,8 +9,7 @@ next : (g : _) (c : After-next_odd-index g) → Next c.self.inside.versions.item
 next g c = let on = c.next_odd-index.ensures in next_on c.self.invariant (omega arith) c.deref.ensures.value on.on on.within on.passed on.odd
 
 pub index-version-requires : goal.index-version-requires
-index-version-requires g c =
-    omega (arith, slice_get_within c.self.inside.versions.items c.next_odd-index.result _ (next g (goal.at.index-version-requires g c).After-next_odd-index).version_there, c.self.inside.versions.ok.0)
+index-version-requires g c = grind (arith, next g (goal.at.index-version-requires g c).After-next_odd-index, slice_get_within)
 
 pub exact-key-requires : goal.exact-key-requires
 exact-key-requires g c =
@@ -18,26 +17,16 @@ exact-key-requires g c =
     (same_read c.self.inside.versions.items c.next_odd-index.result _ _ c.index-version.ensures n.version_there) c.type_inv.version.fits
 
 pub index_mut-requires : goal.index_mut-requires
-index_mut-requires g c =
-    omega (arith, slice_get_within c.self.inside.payloads.items c.next_odd-index.result _ (next g (goal.at.index_mut-requires g c).After-next_odd-index).value_there, c.self.inside.payloads.ok.0)
+index_mut-requires g c = grind (arith, next g (goal.at.index_mut-requires g c).After-next_odd-index, slice_get_within)
 
 pub sure-payload-requires : goal.sure-payload-requires
-sure-payload-requires g c =
-    ap is_some (c.take.ensures.value ∙ same_read c.self.inside.payloads.items c.next_odd-index.result _ _ c.index_mut.ensures.value
-    (next g (goal.at.sure-payload-requires g c).After-next_odd-index).value_there)
+sure-payload-requires g c = grind (arith, next g (goal.at.sure-payload-requires g c).After-next_odd-index, same_read)
 
 pub invariant_of-self : goal.invariant_of-self
 invariant_of-self g c = IsWalk-taken _ _ _ _ _ (next g (goal.at.invariant_of-self g c).After-next_odd-index).walk_on
 
 pub returns-clause-steps : goal.returns-clause-steps
-returns-clause-steps g c =
-    let n = next g (goal.at.returns-clause-steps g c).After-next_odd-index in
-    let version = same_read c.self.inside.versions.items c.next_odd-index.result _ _ c.index-version.ensures n.version_there in
-    let shown : c.sure-payload.result ≡ n.value = same_Some _ _ (sym c.sure-payload.ensures ∙ c.take.ensures.value
-    ∙ same_read c.self.inside.payloads.items c.next_odd-index.result _ _ c.index_mut.ensures.value n.value_there) in
-    sym c.self.view_is ∙ n.first ∙ rw (c.exact-key.ensures, version, shown, left-taken) refl
+returns-clause-steps g c = grind (arith, next g (goal.at.returns-clause-steps g c).After-next_odd-index, same_read, same_Some, left-taken)
 
 pub returns-clause-goes : goal.returns-clause-goes
-returns-clause-goes g c =
-    let longer = ap length (returns-clause-steps g c) in
-    record { on = λ finite. (tt, finite, omega arith); keeps = tt; rests = λ _. tt }
+returns-clause-goes g c = grind (arith, returns-clause-steps)

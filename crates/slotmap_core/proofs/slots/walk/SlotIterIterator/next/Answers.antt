@@ -16,23 +16,13 @@ exact-key-requires g c =
     let n = next g (goal.at.exact-key-requires g c).After-next_odd-index in n.is_key _ (same_Some _ _ (sym c.version_in-version.ensures ∙ n.version_there)) c.version_in-version.type_inv
 
 pub sure-payload-requires : goal.sure-payload-requires
-sure-payload-requires g c =
-    c.as_ref.ensures.variant ∙ ap is_some (sym c.index-self-index.is
-    ∙ same_read c.self.inside.payloads.now c.next_odd-index.result _ _ c.index-self-index.is
-    (next g (goal.at.sure-payload-requires g c).After-next_odd-index).value_there)
+sure-payload-requires g c = grind (arith, next g (goal.at.sure-payload-requires g c).After-next_odd-index, same_read)
 
 pub invariant_of-self : goal.invariant_of-self
 invariant_of-self g c = (next g (goal.at.invariant_of-self g c).After-next_odd-index).walk_on
 
 pub returns-clause-steps : goal.returns-clause-steps
-returns-clause-steps g c =
-    let n = next g (goal.at.returns-clause-steps g c).After-next_odd-index in
-    let version = same_Some _ _ (sym c.version_in-version.ensures ∙ n.version_there) in
-    let shown : c.sure-payload.result.now ≡ n.value = same_Some _ _ (sym (ap option_copied c.sure-payload.ensures) ∙ c.as_ref.ensures.value
-    ∙ sym c.index-self-index.is ∙ same_read c.self.inside.payloads.now c.next_odd-index.result _ _ c.index-self-index.is n.value_there) in
-    sym c.self.view_is ∙ n.first ∙ rw (c.exact-key.ensures, version, shown) refl
+returns-clause-steps g c = grind (arith, next g (goal.at.returns-clause-steps g c).After-next_odd-index, same_Some, same_read)
 
 pub returns-clause-goes : goal.returns-clause-goes
-returns-clause-goes g c =
-    let longer = ap length (returns-clause-steps g c) in
-    record { on = λ finite. (tt, finite, omega arith); keeps = tt; rests = λ _. tt }
+returns-clause-goes g c = grind (arith, returns-clause-steps)
