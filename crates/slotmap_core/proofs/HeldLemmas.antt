@@ -1,6 +1,6 @@
 -- What calls know of slots, by what the map holds.
-use Rattle.std.proofs.Common.{◌≡◌, ◌≢◌, ℕ, zero, suc, ◌+◌, ◌-◌, ◌<◌, ◌≤◌, ◌^◌, ◌%◌, min, true, List, [], ◌∷◌, ◌++◌, length, set, slice_get, Some}
-use Rattle.std.proofs.Common.{None, option_map, is_some, refl, sym, ap, subst, ◌∙◌, arith}
+use Rattle.std.proofs.Common.{◌≡◌, ◌≢◌, ℕ, zero, suc, ◌+◌, ◌-◌, ◌<◌, ◌≤◌, ◌^◌, ◌%◌, true, List, [], ◌∷◌, ◌++◌, length, set, slice_get, Some}
+use Rattle.std.proofs.Common.{None, is_some, refl, sym, ap, subst, ◌∙◌, arith}
 use Rattle.std.proofs.lemmas.List.{length-set, length_push}
 use Rattle.std.proofs.lemmas.Option.{slice_get_within}
 use Rattle.std.specs.FinMap as map
@@ -53,10 +53,6 @@ module _ {P : Type 0} (slots : List (Slot P)) (fits head kept count : ℕ) (held
 
   pub held_fits : length slots < 2 ^ 32
   held_fits = slots_fit slots head (vacancies slots kept count) count held.sound
-
-  -- if n more keys fit the limit and not the memory, there is no room for them
-  pub held_lacks : (n : ℕ) → n + used now ≤ most → now.capacity < n + used now → now.room < n
-  held_lacks n few more = grind (arith, taken-slots slots head (vacancies slots kept count) count held.sound)
 
   -- if a place is vacant, or one more slot fits, there is room
   pub held_reuses : head ≢ 0 → 0 < now.room

@@ -1,8 +1,6 @@
 -- The number that a slot has beside its version.
-use Rattle.std.proofs.Common.{◌≡◌, ℕ, zero, suc, ◌-◌, ◌^◌, ◌%◌, ◌==◌, ◌&&◌, not, cond, Bool, true, false, List, [], ◌∷◌, ◌++◌, length, set, slice_get}
-use Rattle.std.proofs.Common.{Some, IsSome, ⊎_elim, refl, ap, ◌∙◌, ne_eqb, arith}
-use Rattle.std.proofs.Math.Bool.{and-false}
-use Rattle.std.proofs.lemmas.Bool.{cases_eq}
+use Rattle.std.proofs.Common.{◌≡◌, ℕ, zero, suc, ◌-◌, ◌^◌, ◌%◌, ◌==◌, ◌&&◌, not, cond, Bool, false, List, [], ◌∷◌, ◌++◌, length, set, slice_get}
+use Rattle.std.proofs.Common.{Some, IsSome, refl, ap, arith}
 use Rattle.slotmap_core.specs.Numbers.{empty_link, link_of, links_of, number_of}
 use Rattle.slotmap_core.specs.Slot.{FitsEmpty, next_of}
 use Rattle.slotmap_core.specs.declared.layout.Link.{Link}
@@ -21,9 +19,6 @@ even_row v even = ap (λ r. r == 1) even
 
 pub link-used : (v n : ℕ) → v % 2 ≡ 1 → link_of v n ≡ InUse
 link-used v n odd = ap (λ r. cond (r == 1) InUse (empty_link v n)) odd
-
-not_retired : (v n : ℕ) → (v ≡ 0 → n ≡ 0) → (v == 0 && not (n == 0)) ≡ false
-not_retired v n first = grind arith
 
 pub link-empty : (v : ℕ) (l : Link) → FitsEmpty v l → link_of v (number_of l) ≡ l
 link-empty v InUse fits = absurd (fits.unused refl)

@@ -1,6 +1,6 @@
 -- A secondary map holds what a list of slots says, if at each index it holds what the slot there has.
-use Rattle.std.proofs.Common.{◌≡◌, ℕ, ◌%◌, ◌<◌, List, length, slice_get, Option, None, Some, true, false, cond, eq-eqb, is_some, option_map, refl}
-use Rattle.std.proofs.Common.{sym, ap, subst, ◌∙◌, arith, nat_lt, ltb-true, ltb-false}
+use Rattle.std.proofs.Common.{◌≡◌, ℕ, ◌%◌, ◌<◌, List, length, slice_get, Option, None, Some, true, cond, eq-eqb, is_some, option_map}
+use Rattle.std.proofs.Common.{sym, ap, subst, ◌∙◌, arith}
 use Rattle.std.proofs.lemmas.Option.{slice_get_past}
 use Rattle.std.specs.FinMap as map
 use Rattle.slotmap_core.specs.Secondary.{Pairs, IsSecondary, value_at, keyed}
@@ -8,9 +8,7 @@ use Rattle.slotmap_core.specs.SecondaryWritten.{slot_of, slot_pair}
 use Rattle.slotmap_core.specs.Contents.{contents}
 use Rattle.slotmap_core.specs.declared.serial.SlotRecord.{SlotRecord}
 use Rattle.slotmap_core.proofs.KeyLemmas.{keys_total, exact_keys}
-use Rattle.slotmap_core.proofs.ListLemmas.{mapped}
 use Rattle.slotmap_core.proofs.Maps.{none_of, false_of, some_is}
-use Rattle.slotmap_core.proofs.StandLemmas.{pair_found}
 use Rattle.slotmap_core.proofs.KeyedLemmas.{get-keyed}
 use Rattle.slotmap_core.proofs.ContentsLemmas.{live_in, in_contents}
 

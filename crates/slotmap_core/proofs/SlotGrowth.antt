@@ -10,8 +10,8 @@ use Rattle.std.specs.Ordering.{nat_cmp}
 use Rattle.slotmap_core.specs.Key.{Key, key_cmp}
 use Rattle.slotmap_core.specs.Content.{most}
 use Rattle.slotmap_core.specs.Transition.{Inserts}
-use Rattle.slotmap_core.specs.Places.{Live, Detached as Kept, Vacant, live, detached, is_kept}
-use Rattle.slotmap_core.specs.StackMap.{content, offer, vacant_version, taken, inserted, IsOn, IsVersion, HasVersion, IsStacked}
+use Rattle.slotmap_core.specs.Places.{Live, Detached as Kept, Vacant, live, detached}
+use Rattle.slotmap_core.specs.StackMap.{content, offer, vacant_version, taken, inserted, IsOn, IsVersion, IsStacked}
 use Rattle.slotmap_core.specs.Slot.{Slot, full, empty, version_at, link_at, next_at, next_of, version_before, place_of, places_of, walk, IsFreeList, IsSlot, IsSound, map_of}
 use Rattle.slotmap_core.specs.declared.layout.Link.{Link}
 use Rattle.slotmap_core.specs.declared.layout.Link.TheVariants.{Free, Detached}
@@ -22,7 +22,7 @@ use Rattle.slotmap_core.proofs.PlacesLemmas.{key, contains-detached, len-live-pu
 use Rattle.slotmap_core.proofs.ContentLemmas.{kept_at}
 use Rattle.slotmap_core.proofs.StackLemmas.{IsStacked-filled, IsStacked-pushed}
 use Rattle.slotmap_core.proofs.StepLemmas.{inserts}
-use Rattle.slotmap_core.proofs.SlotLemmas.{Written, slot_at, is_empty, IsSlot-full, IsSlot-empty, place_at, IsFreeList-push, IsFreeList-set, walk-stack, stacked_walk, written}
+use Rattle.slotmap_core.proofs.SlotLemmas.{Written, slot_at, is_empty, IsSlot-full, place_at, IsFreeList-push, IsFreeList-set, walk-stack, stacked_walk, written}
 
 module _ {P : Type 0} where
   -- the sentinel alone

@@ -1,6 +1,6 @@
 -- How each change of one slot keeps the slots sound, and what the places become.
 use Rattle.std.proofs.Common.{⊎_elim, true, false, cond, is_some, ◌==◌, eqb-true, eq-eqb, ◌≡◌, ◌≢◌, ℕ, zero, suc, ◌+◌, ◌-◌, ◌^◌, ◌<◌, ◌≤◌, ◌%◌, List}
-use Rattle.std.proofs.Common.{[], ◌∷◌, ◌++◌, length, set, slice_get, Option, Some, None, option_map, option_and_then, refl, sym, ap, subst, ◌∙◌, inl}
+use Rattle.std.proofs.Common.{[], ◌∷◌, ◌++◌, length, set, slice_get, Option, Some, None, option_map, refl, sym, ap, subst, ◌∙◌}
 use Rattle.std.proofs.Common.{inr, arith, nat_eq}
 use Rattle.std.proofs.lemmas.Option.{slice_get_within, slice_get-map, same_Some}
 use Rattle.std.proofs.lemmas.List.{length-map, map-set}
@@ -9,7 +9,7 @@ use Rattle.slotmap_core.specs.Key.{Key, IsKey, last_version}
 use Rattle.slotmap_core.specs.Content.{IsContent}
 use Rattle.slotmap_core.specs.Transition.{with_value, Removes, Detaches, Reattaches}
 use Rattle.slotmap_core.specs.Places.{Live, Detached as Kept, Vacant, Retired as UsedUp, live, live_entry}
-use Rattle.slotmap_core.specs.StackMap.{removed, content, taken, kept_out, IsOn, IsVersion, HasVersion, IsStacked}
+use Rattle.slotmap_core.specs.StackMap.{removed, content, taken, IsOn, IsVersion, HasVersion, IsStacked}
 use Rattle.slotmap_core.specs.Slot.{Slot, FitsEmpty, full, empty, version_at, link_at, payload_at, with_payload, version_before, place_of, places_of}
 use Rattle.slotmap_core.specs.Slot.{link_next, walk, IsFreeList, IsSlot, IsSound, map_of}
 use Rattle.slotmap_core.specs.declared.layout.Link.{Link}
@@ -25,12 +25,6 @@ use Rattle.slotmap_core.proofs.StepLemmas.{content-written, removes, detaches, r
 -- what an empty slot can have
 pub FitsEmpty-free : (v next : ℕ) → v % 2 ≡ 0 → next < 2 ^ 32 - 1 → (v ≡ 0 → next ≡ 0) → FitsEmpty v (Free next)
 FitsEmpty-free v next even named first = grind arith
-
-pub FitsEmpty-detached : (v : ℕ) → v % 2 ≡ 0 → FitsEmpty v Detached
-FitsEmpty-detached v even = record { even = even; unused = λ e. absurd (cc); spent = λ e. absurd (cc); named = λ n e. absurd (cc); first = λ n e none. absurd (cc) }
-
-pub FitsEmpty-retired : FitsEmpty 0 Retired
-FitsEmpty-retired = record { even = refl; unused = λ e. absurd (cc); spent = λ e. refl; named = λ n e. absurd (cc); first = λ n e none. absurd (cc) }
 
 module _ {P : Type 0} where
   -- the slot at an index, by its version

@@ -11,9 +11,8 @@ use Rattle.slotmap_core.specs.Disjoint.{CanReplace, with_values}
 use Rattle.slotmap_core.specs.Spent.{IsSpent, KeepsSpent}
 use Rattle.slotmap_core.specs.Transition.{Inserts, Removes, Detaches, Reattaches, Keeps, Leaves, with_value}
 use Rattle.slotmap_core.specs.Written.{Restores}
-use Rattle.slotmap_core.proofs.KeyLemmas.{keys_total, exact_keys}
 use Rattle.slotmap_core.proofs.LeaveLemmas.{Leaves-refl, Leaves-keeps, Leaves-with_value, Leaves-trans, Leaves-removes, was_live, same_live, live_no_more}
-use Rattle.slotmap_core.proofs.Maps.{false_of, none_of, in_inserted}
+use Rattle.slotmap_core.proofs.Maps.{false_of, none_of}
 use Rattle.slotmap_core.proofs.PlaceCount.{offers, places_grow, detached_places, reattached_places}
 use Rattle.slotmap_core.proofs.Standing.{inserted_stands, inserted_vacant, detached_stands, reattached_stands, left_stands}
 

@@ -1,5 +1,5 @@
 -- What is at the index of a key in a secondary map, what a change leaves there, and that only keys are in it.
-use Rattle.std.proofs.Common.{◌≡◌, ◌≢◌, ℕ, ◌+◌, ◌-◌, ◌^◌, ◌<◌, true, false, nat_eq, eqb-true, eq-eqb, if◌then◌else◌, Option, Some, None, is_some, refl, sym, ap, ◌∙◌, inl, inr, arith, rules, nat_cmp}
+use Rattle.std.proofs.Common.{◌≡◌, ◌≢◌, ℕ, ◌+◌, ◌-◌, ◌^◌, ◌<◌, true, false, nat_eq, eqb-true, eq-eqb, if◌then◌else◌, Option, Some, None, is_some, refl, sym, ap, ◌∙◌, inl, inr, arith, nat_cmp}
 use Rattle.std.proofs.lemmas.Grind.{common_steps}
 use Rattle.std.specs.Cmp.{nat_cmp_total}
 use Rattle.std.proofs.lemmas.Map.Lookups.{exact_unsigned}
@@ -7,9 +7,8 @@ use Rattle.std.proofs.lemmas.Option.{same_Some}
 use Rattle.std.specs.FinMap as map
 use Rattle.slotmap_core.specs.Key.{Key, IsKey, null_key, is_older}
 use Rattle.slotmap_core.specs.Secondary.{Pairs, is_null, no_entry, occupied, vacant, entry_at, value_at, has_entry, entry, get, contains_key, bind, put, remove, IsSecondary}
-use Rattle.slotmap_core.proofs.KeyLemmas.{alike_or_apart}
 use Rattle.slotmap_core.proofs.Maps.{false_of, none_of, some_is, get_other, get_left, get_removed, get_after_insert, get_after_remove, insert_same, insert_twice, remove_inserted, len_removed}
-use Rattle.slotmap_core.proofs.SecondaryLemmas.{not_null, get_bound, put_bound, put_nothing}
+use Rattle.slotmap_core.proofs.SecondaryLemmas.{not_null, get_bound}
 
 pub IsSecondary-empty : {V : Type 0} → IsSecondary {V = V} map.empty
 IsSecondary-empty {V} i p h = let none = map.get-empty {X = ℕ × V} nat_cmp i in absurd (cc)

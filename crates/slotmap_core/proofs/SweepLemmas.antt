@@ -1,6 +1,5 @@
 -- An iteration by ascending index that removes keys.
-use Rattle.std.proofs.Common.{⊎_elim, ◌≡◌, ◌≢◌, ℕ, ◌+◌, ◌<◌, ◌≤◌, Bool, true, Some, is_some, ◌∷◌, refl, sym, ap, ◌∙◌, inl, arith}
-use Rattle.std.proofs.lemmas.Bool.{cases_eq}
+use Rattle.std.proofs.Common.{◌≡◌, ◌≢◌, ℕ, ◌+◌, ◌<◌, ◌≤◌, Bool, true, Some, is_some, ◌∷◌, refl, sym, ap, ◌∙◌, arith}
 use Rattle.std.specs.FinMap as map
 use Rattle.slotmap_core.specs.Key.{Key}
 use Rattle.slotmap_core.specs.Content.{Content, IsContent, IsLive}
@@ -10,7 +9,7 @@ use Rattle.slotmap_core.proofs.Maps.{in_after_remove}
 use Rattle.slotmap_core.proofs.IndexLemmas.{from_index, get_from, in_from, from_index-jump, from_index-take, alone_at, NoneBelow-removed}
 use Rattle.slotmap_core.specs.Listing.{NoneBelow}
 use Rattle.slotmap_core.proofs.ContentLemmas.{IsContent-with_value}
-use Rattle.slotmap_core.proofs.LeaveLemmas.{was_live, is_gone, get_left, same_live, Leaves-refl, Leaves-trans, Leaves-with_value, Leaves-removes, Leaves-removed}
+use Rattle.slotmap_core.proofs.LeaveLemmas.{get_left, same_live, Leaves-refl, Leaves-trans, Leaves-with_value, Leaves-removes, Leaves-removed}
 use Rattle.slotmap_core.proofs.OrderLemmas.{FreesByIndex-start, FreesByIndex-with_value, FreesByIndex-removed, FreesByIndex-first, entries_first}
 
 module _ {V : Type 0} where

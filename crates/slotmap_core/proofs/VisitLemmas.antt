@@ -4,7 +4,6 @@ use denote.Param.Always.{always_mut, mut_next}
 use Rattle.std.specs.Fn.{Mut, Called, Takes}
 use Rattle.std.specs.List.{FoldsTo}
 use Rattle.std.specs.Borrow.{MutBor}
-use Rattle.std.specs.Option.{option_or}
 use Rattle.std.specs.FinMap as map
 use Rattle.std.specs.FinMap.Entries.{find}
 use Rattle.slotmap_core.specs.Key.{Key, key_cmp}

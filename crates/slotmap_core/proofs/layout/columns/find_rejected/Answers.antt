@@ -1,9 +1,9 @@
-use Rattle.std.proofs.Common.{◌≡◌, ℕ, List, ◌+◌, ◌<◌, ◌^◌, ◌%◌, [], ◌∷◌, ◌++◌, inl, inr, Some, is_some, length, set, get_or, refl, sym, ap, subst, ◌∙◌, arith}
+use Rattle.std.proofs.Common.{◌≡◌, ℕ, List, ◌+◌, ◌<◌, ◌^◌, ◌%◌, [], ◌∷◌, ◌++◌, inl, inr, Some, length, get_or, refl, ap, ◌∙◌, arith}
 use Rattle.std.proofs.lemmas.Fn.{FoldsTo-push}
 use Rattle.std.proofs.lemmas.List.{length-set}
 use Rattle.std.proofs.lemmas.Option.{slice_get-get_or, get_or_from_slice_get}
 use Rattle.slotmap_core.specs.Key.{IsKey}
-use Rattle.slotmap_core.specs.Pass.{ColumnComes, Keeps, in_columns, stage, past_index}
+use Rattle.slotmap_core.specs.Pass.{ColumnComes, Keeps, in_columns, stage}
 use Rattle.slotmap_core.specs.Retain.{Visit}
 use Rattle.slotmap_core.proofs.PassLemmas.{ColumnComes-read, HasEachOdd-set}
 use Rattle.slotmap_core.proofs.VisitLemmas.{CallsAt-called}

@@ -1,8 +1,8 @@
-use Rattle.std.proofs.Common.{◌+◌, ◌-◌, inl, inr, arith}
+use Rattle.std.proofs.Common.{◌+◌, ◌-◌, arith}
 use Rattle.std.proofs.lemmas.Option.{slice_get_within}
 use Rattle.slotmap_core.specs.Slot.{full, vacancies}
 use Rattle.slotmap_core.proofs.SlotLemmas.{reattached, reattaches-slots}
-use Rattle.slotmap_core.proofs.HeldLemmas.{held_valid, held_stays, held_kept, held_fits, vacancies-set, held-set, kept_positive}
+use Rattle.slotmap_core.proofs.HeldLemmas.{held_stays, held_kept, vacancies-set, held-set, kept_positive}
 use Rattle.slotmap_core.proofs.slots.Slots.reattach.Goals as goal
 
 pub overflow_sub-self : goal.overflow_sub-self

@@ -1,6 +1,6 @@
 use Rattle.std.proofs.Common.{◌<◌, arith}
 use Rattle.slotmap_core.proofs.ListLemmas.{err_not_ok}
-use Rattle.slotmap_core.proofs.HeldLemmas.{held_fits, held_used, held_places, held_lacks, grown}
+use Rattle.slotmap_core.proofs.HeldLemmas.{held_fits, held_used, held_places, grown}
 use Rattle.slotmap_core.proofs.slots.Slots.reserve.Goals as goal
 
 pub reserve-requires : goal.reserve-requires

@@ -2,8 +2,8 @@ use Rattle.std.proofs.Common.{◌≡◌, ◌+◌, ◌-◌, true, false, nat_eq, 
 use Rattle.slotmap_core.specs.Key.{last_version}
 use Rattle.slotmap_core.specs.Slot.{empty, vacancies}
 use Rattle.slotmap_core.specs.declared.layout.Link.TheVariants.{Free, Retired}
-use Rattle.slotmap_core.proofs.SlotLemmas.{FitsEmpty-free, FitsEmpty-retired, head_fits, count_positive, freed, removes-freed, retired, removes-retired}
-use Rattle.slotmap_core.proofs.HeldLemmas.{held_stays, held_present, held_fits, vacancies-set, held-set, held_value}
+use Rattle.slotmap_core.proofs.SlotLemmas.{FitsEmpty-free, head_fits, count_positive, freed, removes-freed, retired, removes-retired}
+use Rattle.slotmap_core.proofs.HeldLemmas.{held_stays, held_present, vacancies-set, held-set, held_value}
 use Rattle.slotmap_core.proofs.slots.Slots.take.Goals as goal
 
 pub overflow_sub-self : goal.overflow_sub-self

@@ -1,8 +1,8 @@
 use Rattle.std.proofs.Common.{◌+◌, ◌-◌, ◌%◌, ◌^◌, is_some, ap, arith}
 use Rattle.slotmap_core.specs.Slot.{empty, vacancies}
 use Rattle.slotmap_core.specs.declared.layout.Link.TheVariants.{Detached}
-use Rattle.slotmap_core.proofs.SlotLemmas.{FitsEmpty-detached, count_positive, detached, detaches-slots}
-use Rattle.slotmap_core.proofs.HeldLemmas.{held_stays, held_present, held_fits, vacancies-set, held-set, held_value}
+use Rattle.slotmap_core.proofs.SlotLemmas.{count_positive, detached, detaches-slots}
+use Rattle.slotmap_core.proofs.HeldLemmas.{held_stays, held_present, vacancies-set, held-set, held_value}
 use Rattle.slotmap_core.proofs.slots.Slots.take_aside.Goals as goal
 
 pub overflow_sub-self : goal.overflow_sub-self

@@ -1,6 +1,6 @@
-use Rattle.std.proofs.Common.{refl, arith}
+use Rattle.std.proofs.Common.{arith}
 use Rattle.slotmap_core.proofs.PlacesLemmas.{sentinel_alone}
-use Rattle.slotmap_core.proofs.SlotLemmas.{valid, FitsEmpty-free}
+use Rattle.slotmap_core.proofs.SlotLemmas.{valid}
 use Rattle.slotmap_core.proofs.SlotGrowth.{IsSound-sentinel, taken-sentinel}
 use Rattle.slotmap_core.proofs.slots.Slots.with_capacity.Goals as goal
 

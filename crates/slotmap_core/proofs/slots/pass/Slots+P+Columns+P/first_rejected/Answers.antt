@@ -1,10 +1,9 @@
-use Rattle.std.proofs.Common.{◌-◌, is_some, option_and_then, refl, ap, arith}
+use Rattle.std.proofs.Common.{◌-◌, refl, arith}
 use Rattle.slotmap_core.specs.Pass.{Passes, in_slots, by_index, stage}
 use Rattle.slotmap_core.specs.Slot.{IsHeld, map_of, vacancies}
 use Rattle.slotmap_core.specs.StackMap.{content}
-use Rattle.slotmap_core.proofs.HeldLemmas.{held_places, held_fits, held_stays}
+use Rattle.slotmap_core.proofs.HeldLemmas.{held_places, held_stays}
 use Rattle.slotmap_core.proofs.PassLemmas.{Lifts-slots, passes-lift, may-lift}
-use Rattle.slotmap_core.proofs.SlotLemmas.{live_slot}
 use Rattle.slotmap_core.proofs.slots.pass.Slots+P+Columns+P.first_rejected.Goals.{After-first_rejected}
 use Rattle.slotmap_core.proofs.slots.pass.Slots+P+Columns+P.first_rejected.Goals as goal
 

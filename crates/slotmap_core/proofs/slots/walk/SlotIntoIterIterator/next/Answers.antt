@@ -1,4 +1,4 @@
-use Rattle.std.proofs.Common.{◌≡◌, is_some, length, refl, sym, ap, ◌∙◌, arith}
+use Rattle.std.proofs.Common.{arith}
 use Rattle.std.proofs.lemmas.Option.{same_Some, slice_get_within}
 use Rattle.slotmap_core.proofs.ListLemmas.{same_read}
 use Rattle.slotmap_core.proofs.PairsLemmas.{Next, next_on, IsWalk-taken, left-taken}
