@@ -54,14 +54,11 @@ module _ {V : Type 0} where
     pub unspent : slot.version ≢ 0
     pub is : next ≡ slot.version + 1
 
-  pub vacant_slot_of : (i : ℕ) (slot : SlotRecord V) (e : ℕ × ℕ) → vacant_slot i slot ≡ Some e → (e.0 ≡ i) × VacantSlot i slot e.1
-  vacant_slot_of i slot e gives = grind (arith, nat_tests)
-
   pub slot_vacant : (i : ℕ) (slot : SlotRecord V) → 0 < i → slot.version % 2 ≡ 0 → slot.version ≢ 0 → vacant_slot i slot ≡ Some (i, slot.version + 1)
   slot_vacant i slot positive even other = grind (arith, nat_tests)
 
   pub vacant_fits : (i : ℕ) (slot : SlotRecord V) (e : ℕ × ℕ) → vacant_slot i slot ≡ Some e → e.0 ≡ i
-  vacant_fits i slot e gives = (vacant_slot_of i slot e gives).0
+  vacant_fits i slot e gives = grind (arith, nat_tests)
 
   -- a vacant index's slot
   pub next_in : (slots : List (SlotRecord V)) (i next : ℕ) → map.get (start_next slots) i ≡ Some next → (slot : SlotRecord V) × (slice_get slots i ≡ Some slot) × VacantSlot i slot next

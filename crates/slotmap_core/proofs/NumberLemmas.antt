@@ -6,16 +6,8 @@ use Rattle.slotmap_core.specs.Slot.{FitsEmpty, next_of}
 use Rattle.slotmap_core.specs.declared.layout.Link.{Link}
 use Rattle.slotmap_core.specs.declared.layout.Link.TheVariants.{InUse, Free, Detached, Retired}
 
--- what a free slot names
-free_by : (a b c : Bool) (n : ℕ) → IsSome (next_of (cond a InUse (cond b Detached (cond c Retired (Free n))))) → next_of (cond a InUse (cond b Detached (cond c Retired (Free n)))) ≡ Some n
-free_by x0 b c n some = grind arith
-
 pub free_is : (v n : ℕ) → IsSome (next_of (link_of v n)) → next_of (link_of v n) ≡ Some n
-free_is v n some = free_by (v % 2 == 1) (n == 2 ^ 32 - 1) (v == 0 && not (n == 0)) n some
-
--- what a slot is used for, by its version and its number
-pub even_row : (v : ℕ) → v % 2 ≡ 0 → (v % 2 == 1) ≡ false
-even_row v even = ap (λ r. r == 1) even
+free_is v n some = grind arith
 
 pub link-used : (v n : ℕ) → v % 2 ≡ 1 → link_of v n ≡ InUse
 link-used v n odd = ap (λ r. cond (r == 1) InUse (empty_link v n)) odd
@@ -23,7 +15,7 @@ link-used v n odd = ap (λ r. cond (r == 1) InUse (empty_link v n)) odd
 pub link-empty : (v : ℕ) (l : Link) → FitsEmpty v l → link_of v (number_of l) ≡ l
 link-empty v InUse fits = absurd (fits.unused refl)
 link-empty v (Free next) fits = grind arith
-link-empty v Detached fits = ap (λ b. cond b InUse (empty_link v (2 ^ 32 - 1))) (even_row v fits.even)
+link-empty v Detached fits = grind arith
 link-empty v Retired fits = ap (λ w. link_of w 1) (fits.spent refl)
 
 -- the same for all slots

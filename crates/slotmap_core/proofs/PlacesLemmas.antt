@@ -142,12 +142,8 @@ module _ {V : Type 0} where
   total [] n found = absurd (cc)
   total (p ∷ ps) n found = grind (arith, total_from, len-add, live_laws, live_fits, detached_laws, detached_fits, retired_fits, next_laws, next_fits)
 
--- past the places no index is vacant
-pub get-next_past : {V : Type 0} (ps : List (Place V)) (i : ℕ) → length ps ≤ i → map.get (next ps) i ≡ None
-get-next_past ps i past = grind (arith, get-next ps i, slice_get_past ps i past)
-
 pub next-remove_past : {V : Type 0} (ps : List (Place V)) (i : ℕ) → length ps ≤ i → map.remove (next ps) i ≡ next ps
-next-remove_past ps i past = remove_absent nat_cmp_total exact_unsigned (next ps) i (get-next_past ps i past)
+next-remove_past ps i past = grind (arith, remove_absent, nat_cmp_total, exact_unsigned, get-next, slice_get_past)
 
 pub contains-detached : {V : Type 0} (ps : List (Place V)) (k : Key) → set.contains (detached ps) k ≡ is_kept k.version (slice_get ps k.index)
 unfolding detached

@@ -10,10 +10,6 @@ use Rattle.slotmap_core.proofs.KeyLemmas.{alike_or_apart}
 use Rattle.slotmap_core.proofs.Maps.{get_after_insert, get_after_remove, get_inserted, get_other}
 pub use Rattle.slotmap_core.proofs.StandLemmas.{removed_gone, others_stay}
 
--- versions of the lower half are older if and only if they are smaller
-not_older : (a b : ℕ) → b ≤ a → a < 2 ^ 31 → is_older a b ≡ false
-not_older a b le half = grind (arith, common_steps)
-
 older : (a b : ℕ) → a < b → b < 2 ^ 31 → is_older a b ≡ true
 older a b lt half = grind (arith, common_steps)
 
@@ -25,7 +21,7 @@ module _ {V : Type 0} where
   -- the newest version is bound
   bound_at : (version : ℕ) (v : V) (o : Option (ℕ × V)) → version < 2 ^ 31 → ((p : ℕ × V) → o ≡ Some p → p.0 ≤ version) → value_at version (put_at version v o) ≡ Some v
   bound_at version v None half newest = grind (arith, common_steps)
-  bound_at version v (Some p) half newest = let late = newest p refl in let known = not_older version p.0 late half in grind (arith, common_steps)
+  bound_at version v (Some p) half newest = grind (arith, common_steps)
 
   -- a larger version stays, or is still absent
   kept_at : (version greater : ℕ) (v : V) (o : Option (ℕ × V)) → version < greater → greater < 2 ^ 31 → value_at greater (put_at version v o) ≡ value_at greater o

@@ -37,13 +37,8 @@ module _ {V : Type 0} where
   -- a list in which each index is written, up to the last one of the map
   module _ (slots : List (SlotRecord V)) (m : Pairs V) (valid : IsSecondary m) (within : (i : ℕ) → map.contains_key m i ≡ true → i < length slots)
       (each : (i : ℕ) → i < length slots → slice_get slots i ≡ Some (slot_of (map.get m i))) where
-    written_by_place : (i : ℕ) → map.get m i ≡ slot_pair (slice_get slots i)
-    written_by_place i = grind (arith, none_of, false_of, slice_get_past)
-
     odd_written : (i : ℕ) (slot : SlotRecord V) → slice_get slots i ≡ Some slot → is_some slot.value ≡ true → slot.version % 2 ≡ 1
-    odd_written i slot at valued =
-        let v = some_is slot.value valued in
-        (valid i (slot.version, v.0) (written_by_place i ∙ ap slot_pair at ∙ ap (option_map (λ v. (slot.version, v))) v.1)).0.odd
+    odd_written i slot at valued = grind (arith, some_is, none_of, false_of, slice_get_past)
 
     pub contents_written : contents slots ≡ keyed m
-    contents_written = sym (contents_by_place slots m written_by_place odd_written)
+    contents_written = grind (arith, contents_by_place, odd_written, none_of, false_of, slice_get_past)

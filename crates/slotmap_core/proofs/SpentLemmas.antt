@@ -64,10 +64,6 @@ module _ {V : Type 0} where
       stands = λ u there e. absurd (none u there (well.apart u k (inl (frees.stood u there)) (inl stood) e));
     }
 
-    -- if there are as many places, the same vacant indices, and no new live or detached key, spent keys stay so
-    spent_stands : places new ≡ places old → new.next ≡ old.next → ((q : Key) → Stands new q → Stands old q) → KeepsSpent old new
-    spent_stands same next stood = spent_frees (record { same_places = same; next = λ i v is. inl (rw (← next) is); stood = stood })
-
     pub spent_leaves : Leaves old new → KeepsSpent old new
     spent_leaves leaves = spent_frees (Frees-leaves leaves)
 
@@ -94,10 +90,11 @@ module _ {V : Type 0} where
       spent_removes k live removes = spent_leaves (Leaves-removes reuses old well k live new removes)
 
       pub spent_detaches : (k : Key) → IsLive old k → Detaches old k new → KeepsSpent old new
-      spent_detaches k live detaches = spent_stands (detached_places reuses old new well k live detaches) detaches.next (detached_stands old new k live detaches)
+      spent_detaches k live detaches =
+          grind (arith, detached_places reuses old new well k live detaches, detached_stands old new k live detaches, spent_frees)
 
       pub spent_reattaches : (k : Key) (v : V) → Reattaches old k v new → KeepsSpent old new
-      spent_reattaches k v binds = spent_stands (reattached_places reuses old new well k v binds) binds.next (reattached_stands old new k v binds)
+      spent_reattaches k v binds = grind (arith, reattached_places reuses old new well k v binds, reattached_stands old new k v binds, spent_frees)
 
       -- a live key that was removed
       pub left_spent : (k : Key) → Leaves old new → IsLive old k → map.contains_key new.live k ≡ false → IsSpent new k

@@ -28,11 +28,8 @@ module _ {V : Type 0} where
   other_version (Some p) v w other h = grind (arith, common_steps)
 
   module _ (m : Pairs V) (k : Key) where
-    entry_of_key : is_null k ≡ false → entry m k ≡ entry_at k.version (map.get m k.index)
-    entry_of_key key = ap (λ b. if b then no_entry else entry_at k.version (map.get m k.index)) key
-
     pub entry_absent : is_null k ≡ false → map.get m k.index ≡ None → entry m k ≡ vacant
-    entry_absent key none = entry_of_key key ∙ ap (entry_at k.version) none
+    entry_absent key none = grind arith
 
     -- if p is at the index of k
     module _ (p : ℕ × V) (stands : map.get m k.index ≡ Some p) where
@@ -40,7 +37,7 @@ module _ {V : Type 0} where
       get_here same = ap (value_at k.version) stands ∙ ap (λ b. if b then Some p.1 else None) same
 
       entry_by : is_null k ≡ false → entry m k ≡ (if nat_eq p.0 k.version then occupied p.1 else (if is_older k.version p.0 then no_entry else vacant))
-      entry_by key = entry_of_key key ∙ ap (entry_at k.version) stands
+      entry_by key = grind arith
 
       pub entry_here : is_null k ≡ false → nat_eq p.0 k.version ≡ true → entry m k ≡ occupied p.1
       entry_here key same = entry_by key ∙ ap (λ b. if b then occupied p.1 else (if is_older k.version p.0 then no_entry else vacant)) same
@@ -85,9 +82,6 @@ module _ {V : Type 0} where
     bind_twice v w = insert_twice nat_cmp_total exact_unsigned m k.index (k.version, v) (k.version, w)
 
     module _ (has : contains_key m k ≡ true) where
-      remove_there : remove m k ≡ map.remove m k.index
-      remove_there = ap (λ b. if b then map.remove m k.index else m) has
-
       -- what is at the index of a key of the map
       pub pair_of : (p : ℕ × V) × (map.get m k.index ≡ Some p)
       pair_of = let found = some_is (get m k) has in ((k.version, found.0), pair_found k.version (map.get m k.index) found.0 found.1)
@@ -102,7 +96,7 @@ module _ {V : Type 0} where
       get_stands p at = get_here p at (eq-eqb p.0 k.version (same_version p at))
 
       pub len_taken : map.len (remove m k) + 1 ≡ map.len m
-      len_taken = ap (λ (x : Pairs V). map.len x + 1) remove_there ∙ len_removed nat_cmp_total exact_unsigned m k.index index_stands
+      len_taken = grind (arith, len_removed, nat_cmp_total, exact_unsigned, index_stands)
 
       -- if only its index changes, and no other version finds anything there, each other key finds the same as before
       others_find : (n : Pairs V) → ((i : ℕ) → i ≢ k.index → map.get n i ≡ map.get m i) → ((v : ℕ) → k.version ≢ v → value_at v (map.get n k.index) ≡ None) → (q : Key) → q ≢ k → get n q ≡ get m q
@@ -120,7 +114,7 @@ module _ {V : Type 0} where
 
   -- removing a key also removes the value that was just bound to it
   pub without_own : (m : Pairs V) (k : Key) (v : V) → contains_key m k ≡ true → remove (bind m k v) k ≡ remove m k
-  without_own m k v has = remove_there (bind m k v) k (in_own m k v) ∙ remove_inserted nat_cmp_total exact_unsigned m k.index (k.version, v) ∙ sym (remove_there m k has)
+  without_own m k v has = grind (arith, in_own, remove_inserted, nat_cmp_total, exact_unsigned)
 
   pub IsSecondary-remove : (m : Pairs V) (i : ℕ) → IsSecondary m → IsSecondary (map.remove m i)
   IsSecondary-remove m i valid j p h = valid j p (get_after_remove nat_cmp_total exact_unsigned m i j p h).1
