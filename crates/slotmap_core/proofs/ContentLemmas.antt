@@ -1,7 +1,6 @@
 -- Well-formed places and stack, as the content of a primary map.
 use Rattle.std.proofs.Common.{◌≡◌, ◌⊎◌, ◌↔◌, inl, inr, ℕ, ◌+◌, ◌<◌, ◌≤◌, Bool, true, cond, nat_eq, List, [], ◌∷◌, length, slice_get, Option, None}
 use Rattle.std.proofs.Common.{Some, is_some, refl, sym, ap, subst, ◌∙◌, arith, eq-eqb}
-use Rattle.std.proofs.lemmas.Bool.Decides.{nat_tests}
 use Rattle.std.specs.List.{list_any}
 use Rattle.std.proofs.lemmas.Option.{slice_get_within, same_Some}
 use Rattle.std.specs.FinMap as map
@@ -14,7 +13,7 @@ use Rattle.slotmap_core.specs.StackMap.{StackMap, content, offer, IsOn, IsVersio
 use Rattle.slotmap_core.proofs.PlacesLemmas.{key, get-live, contains-detached, retired_at, get-next_at, vacant_at, total}
 use Rattle.slotmap_core.proofs.Maps.{same_bool}
 pub use Rattle.slotmap_core.proofs.Maps.{some_is}
-use Rattle.slotmap_core.proofs.KeyLemmas.{keys_total}
+use Rattle.slotmap_core.proofs.KeyLemmas.{keys_total, nat_tests}
 use Rattle.slotmap_core.proofs.LeaveLemmas.{same_live}
 
 on_list : (vs : List ℕ) (i : ℕ) → IsOn vs i ↔ (list_any (λ y. nat_eq y i) vs ≡ true)

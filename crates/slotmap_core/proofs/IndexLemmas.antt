@@ -1,11 +1,10 @@
 -- The part of a map from an index on, which an iteration by ascending index hasn't reached yet.
 use Rattle.std.proofs.Common.{◌≡◌, ◌≢◌, ℕ, ◌+◌, ◌<◌, ◌≤◌, Bool, true, false, cond, nat_le, None, sym, ap, ◌∙◌, inl, arith, le-leb}
-use Rattle.std.proofs.lemmas.Bool.Decides.{nat_tests}
 use Rattle.std.specs.FinMap as map
 use Rattle.slotmap_core.specs.Key.{Key, key_cmp}
 use Rattle.slotmap_core.specs.Listing.{NoneBelow}
 use Rattle.slotmap_core.specs.Content.{Content, IsContent, IsLive}
-use Rattle.slotmap_core.proofs.KeyLemmas.{keys_total, exact_keys, tied, itself}
+use Rattle.slotmap_core.proofs.KeyLemmas.{keys_total, exact_keys, tied, itself, nat_tests}
 use Rattle.slotmap_core.proofs.Maps.{false_of, none_of, in_after_remove}
 
 module _ {V : Type 0} where

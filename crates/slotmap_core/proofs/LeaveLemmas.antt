@@ -1,14 +1,12 @@
 -- Keys are removed, one after the other.
 use Rattle.std.proofs.Common.{◌≡◌, ℕ, ◌≤◌, Bool, true, false, cond, not, ◌&&◌, inl, inr, Some, None, is_some, true≢false, refl, sym, ap, ◌∙◌, arith}
 use Rattle.std.specs.Ordering.{eq_by_cmp}
-use Rattle.std.proofs.lemmas.Cmp.{nat_cmp_total}
-use Rattle.std.proofs.lemmas.Map.Lookups.{exact_unsigned}
 use Rattle.std.specs.FinMap as map
 use Rattle.std.specs.FinSet as set
 use Rattle.slotmap_core.specs.Key.{Key, is_last, next_version, key_cmp}
 use Rattle.slotmap_core.specs.Content.{Content, IsContent, IsLive}
 use Rattle.slotmap_core.specs.Transition.{Removes, Leaves, Keeps, has_left, with_value}
-use Rattle.slotmap_core.proofs.KeyLemmas.{keys_total, exact_keys, tied, itself}
+use Rattle.slotmap_core.proofs.KeyLemmas.{keys_total, exact_keys, tied, itself, nat_cmp_total, exact_unsigned}
 use Rattle.slotmap_core.proofs.PlaceCount.{removed_places}
 use Rattle.slotmap_core.proofs.Retired.{in_freed}
 use Rattle.slotmap_core.proofs.Maps.{of_and, of_not, not_of, get_inserted, in_after_remove}

@@ -1,14 +1,10 @@
 -- Finite maps and sets satisfy the laws that gathering relies on.
 use Rattle.std.proofs.Common.{◌≡◌, ℕ, Bool, cond, ◌==◌, Ordering, Option, None, Some, is_some, sym, ap, ◌∙◌, nat_cmp, arith}
-use Rattle.std.proofs.lemmas.Bool.Decides.{nat_tests}
-use Rattle.std.proofs.lemmas.Cmp.{nat_cmp_total}
-use Rattle.std.proofs.lemmas.Map.Lookups.{CmpEqualImpliesEq, exact_unsigned}
 use Rattle.std.specs.Ordering.{eq_by_cmp}
-use Rattle.std.specs.Cmp.{IsTotalOrder}
 use Rattle.std.specs.FinMap as map
 use Rattle.std.specs.FinSet as set
 use Rattle.slotmap_core.specs.Key.{Key, key_cmp}
-use Rattle.slotmap_core.proofs.KeyLemmas.{exact_keys, keys_total, tied, itself}
+use Rattle.slotmap_core.proofs.KeyLemmas.{exact_keys, keys_total, tied, itself, nat_tests, nat_cmp_total, CmpEqualImpliesEq, exact_unsigned, IsTotalOrder}
 use Rattle.slotmap_core.proofs.GatherLemmas.{IsFinite}
 
 pub map_laws : {K X : Type 0} {R : K → K → Ordering} → IsTotalOrder R → CmpEqualImpliesEq R

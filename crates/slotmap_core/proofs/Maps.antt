@@ -1,11 +1,9 @@
 -- Finite maps from numbers or keys: what holds after a change held before, or is the change.
 use Rattle.std.proofs.Common.{◌≡◌, ◌≢◌, ◌+◌, ◌≤◌, Option, Some, None, Bool, true, false, not, ◌⊎◌, inl, inr, sym, ◌∙◌, subst, ap, arith, is_some}
 use Rattle.std.specs.declared.cmp.Ordering.{Ordering}
-use Rattle.std.specs.Cmp.{IsTotalOrder}
-use Rattle.std.proofs.lemmas.Map.Lookups.{CmpEqualImpliesEq}
 use Rattle.std.specs.FinMap as map
 use Rattle.std.specs.FinSet as set
-use Rattle.slotmap_core.proofs.KeyLemmas.{tied, untied, itself, alike_or_apart}
+use Rattle.slotmap_core.proofs.KeyLemmas.{tied, untied, itself, alike_or_apart, IsTotalOrder, CmpEqualImpliesEq}
 pub use Rattle.std.proofs.lemmas.Bool.{and_parts as of_and, or_cases as of_or, or_left, or_right, false_from_ne_true as false_of}
 
 pub same_bool : (a b : Bool) → (a ≡ true → b ≡ true) → (b ≡ true → a ≡ true) → a ≡ b

@@ -1,12 +1,11 @@
 -- How the number of places changes.
 use Rattle.std.proofs.Common.{◌≡◌, ◌≢◌, ◌+◌, ◌<◌, max, Some, Bool, ◌⊎◌, inl, refl, ap, ◌∙◌, arith, is_some}
-use Rattle.std.specs.Cmp.{nat_cmp_total}
 use Rattle.std.specs.FinMap as map
 use Rattle.std.specs.FinSet as set
 use Rattle.slotmap_core.specs.Key.{Key}
 use Rattle.slotmap_core.specs.Content.{Content, IsContent, Stands, IsLive, IsVacant, used, places, most}
 use Rattle.slotmap_core.specs.Transition.{Inserts, Keeps, Removes, Replaces, Detaches, Reattaches}
-use Rattle.slotmap_core.proofs.KeyLemmas.{keys_total, exact_keys}
+use Rattle.slotmap_core.proofs.KeyLemmas.{keys_total, exact_keys, nat_cmp_total}
 use Rattle.slotmap_core.proofs.Maps.{false_of, len_inserted, len_removed, len_item_inserted, len_item_removed}
 use Rattle.slotmap_core.proofs.Retired.{len_spent_freed}
 

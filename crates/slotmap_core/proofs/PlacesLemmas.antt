@@ -1,14 +1,12 @@
 -- The live, detached and next keys of a list of places, and how a change of one place changes them.
 use Rattle.std.proofs.Common.{◌≡◌, ◌≢◌, ℕ, ◌+◌, ◌<◌, ◌≤◌, true, cond, List, [], ◌∷◌, ◌++◌, length, set, slice_get, Option, None, Some, is_some, refl, arith, nat_cmp, eq-eqb}
 use Rattle.std.proofs.lemmas.Option.{slice_get_past}
-use Rattle.std.proofs.lemmas.Cmp.{nat_cmp_total}
 use Rattle.std.specs.FinMap as map
 use Rattle.std.specs.FinSet as set
 use Rattle.slotmap_core.specs.Key.{Key, key_cmp, last_version}
 use Rattle.slotmap_core.specs.Gather.{add, gather}
 use Rattle.slotmap_core.specs.Places.{Place, Live, Detached, Vacant, Retired, live_entry, detached_entry, retired_entry, next_entry, live, detached, retired, next, live_value, is_kept}
-use Rattle.std.proofs.lemmas.Map.Lookups.{exact_unsigned}
-use Rattle.slotmap_core.proofs.KeyLemmas.{itself}
+use Rattle.slotmap_core.proofs.KeyLemmas.{itself, nat_cmp_total, exact_unsigned}
 use Rattle.slotmap_core.proofs.MapLaws.{live_laws, detached_laws, next_laws, remove_absent, key_tie}
 use Rattle.slotmap_core.proofs.GatherLemmas.{look, get-gather, len-add, gather-set, gather-push, len-set, len-push}
 

@@ -1,12 +1,10 @@
 -- What a key finds in a secondary map after another key was put or removed.
 use Rattle.std.proofs.Common.{◌≡◌, ◌≢◌, ℕ, ◌^◌, ◌<◌, ◌≤◌, Option, Some, None, true, false, if◌then◌else◌, ◌⊎◌, inl, inr, refl, ap, ◌∙◌, arith}
-use Rattle.std.specs.Cmp.{nat_cmp_total}
 use Rattle.std.proofs.lemmas.Grind.{common_steps}
-use Rattle.std.proofs.lemmas.Map.Lookups.{exact_unsigned}
 use Rattle.std.specs.FinMap as map
 use Rattle.slotmap_core.specs.Key.{Key, is_older}
 use Rattle.slotmap_core.specs.Secondary.{Pairs, is_null, entry_at, value_at, has_entry, get, put, remove}
-use Rattle.slotmap_core.proofs.KeyLemmas.{alike_or_apart}
+use Rattle.slotmap_core.proofs.KeyLemmas.{alike_or_apart, nat_cmp_total, exact_unsigned}
 use Rattle.slotmap_core.proofs.Maps.{get_after_insert, get_after_remove, get_inserted, get_other}
 pub use Rattle.slotmap_core.proofs.StandLemmas.{removed_gone, others_stay}
 

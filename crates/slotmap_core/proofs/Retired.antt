@@ -1,14 +1,12 @@
 -- Which keys are retired, in a state of the machine and in a map.
 use Rattle.std.proofs.Common.{◌≡◌, ℕ, ◌+◌, Some, true, false, ◌&&◌, ◌⊎◌, sym, ap, arith}
 use Rattle.std.specs.Ordering.{nat_cmp}
-use Rattle.std.specs.Cmp.{nat_cmp_total}
-use Rattle.std.proofs.lemmas.Map.Lookups.{exact_unsigned}
 use Rattle.std.specs.FinMap as map
 use Rattle.std.specs.FinSet as set
 use Rattle.slotmap_core.specs.Key.{Key, is_last, next_version, key_cmp}
 use Rattle.slotmap_core.specs.Transition.{freed, spent}
 use Rattle.slotmap_core.specs.Machine.{State, IsIssued, IsHeld, is_spent, retired}
-use Rattle.slotmap_core.proofs.KeyLemmas.{keys_total, exact_keys}
+use Rattle.slotmap_core.proofs.KeyLemmas.{keys_total, exact_keys, nat_cmp_total, exact_unsigned}
 use Rattle.slotmap_core.proofs.Maps.{same_bool, item_after_insert, item_inserted, item_still, len_item_inserted, len_inserted, get_after_insert}
 
 module _ (k : Key) where

@@ -1,16 +1,13 @@
 -- A side table whose keys are live in a primary map: what a call of either map does to the two.
 use Rattle.std.proofs.Common.{◌≡◌, ◌≢◌, ℕ, Bool, true, false, inl, inr, Some, None, Result, IfOk, IsErr, OnOk, OnErr, refl, ap, arith}
 use Rattle.std.specs.FinMap as map
-use Rattle.std.specs.Cmp.{nat_cmp_total}
-use Rattle.std.proofs.lemmas.Map.Lookups.{exact_unsigned}
-use Rattle.std.proofs.lemmas.Bool.Decides.{nat_tests}
 use Rattle.slotmap_core.specs.Key.{Key}
 use Rattle.slotmap_core.specs.Beside.{IsBeside}
 use Rattle.slotmap_core.specs.Content.{Content, IsContent, IsLive}
 use Rattle.slotmap_core.specs.Secondary.{Pairs, get, contains_key, entry, has_entry, put, remove}
 use Rattle.slotmap_core.specs.Transition.{Inserts, Keeps}
 use Rattle.slotmap_core.proofs.Callers.{live-insert_still, live-remove_other}
-use Rattle.slotmap_core.proofs.KeyLemmas.{same_or_other, alike_or_apart}
+use Rattle.slotmap_core.proofs.KeyLemmas.{same_or_other, alike_or_apart, nat_cmp_total, exact_unsigned, nat_tests}
 use Rattle.slotmap_core.proofs.Maps.{none_of, false_of}
 use Rattle.slotmap_core.proofs.SecondaryCallers.{get_none, get-put_here, get-put_elsewhere, get-bind_follower}
 use Rattle.slotmap_core.proofs.SecondaryLemmas.{put_bound}

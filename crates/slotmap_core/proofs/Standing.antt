@@ -1,13 +1,11 @@
 -- Which keys were live or detached before a call, and which vacant indices it leaves.
 use Rattle.std.proofs.Common.{◌≡◌, ◌≢◌, ℕ, Some, false, ◌⊎◌, inl, inr, sym, ap, ◌∙◌, is_some, ⊎_elim, arith}
-use Rattle.std.specs.Cmp.{nat_cmp_total}
-use Rattle.std.proofs.lemmas.Map.Lookups.{exact_unsigned}
 use Rattle.std.specs.FinMap as map
 use Rattle.std.specs.FinSet as set
 use Rattle.slotmap_core.specs.Key.{Key, next_version, key_cmp}
 use Rattle.slotmap_core.specs.Content.{Content, Stands, IsLive}
 use Rattle.slotmap_core.specs.Transition.{IsNew, Inserts, Keeps, Removes, Replaces, Leaves, Detaches, Reattaches}
-use Rattle.slotmap_core.proofs.KeyLemmas.{keys_total, exact_keys}
+use Rattle.slotmap_core.proofs.KeyLemmas.{keys_total, exact_keys, nat_cmp_total, exact_unsigned}
 use Rattle.slotmap_core.proofs.Maps.{of_and, get_after_remove, in_after_insert, in_after_remove, item_after_insert, item_after_remove}
 use Rattle.slotmap_core.proofs.Retired.{in_freed}
 

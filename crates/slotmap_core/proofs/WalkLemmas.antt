@@ -1,13 +1,12 @@
 -- The live keys of a list of places and their values, by ascending index, are the entries of the map of these places.
 use Rattle.std.proofs.Common.{◌≡◌, ℕ, ◌+◌, ◌<◌, T, List, [], ◌∷◌, refl, sym, ap, ◌∙◌, arith}
-use Rattle.std.proofs.lemmas.Bool.Decides.{nat_tests}
 use Rattle.std.specs.FinMap as map
 use Rattle.std.specs.FinMap.Entries.{below_all, is_sorted}
 use Rattle.slotmap_core.specs.Key.{Key, key_cmp}
 use Rattle.slotmap_core.specs.Gather.{gather}
 use Rattle.slotmap_core.specs.Listing.{IsListing}
 use Rattle.slotmap_core.specs.Places.{Place, live_entry, live}
-use Rattle.slotmap_core.proofs.KeyLemmas.{keys_total, exact_keys}
+use Rattle.slotmap_core.proofs.KeyLemmas.{keys_total, exact_keys, nat_tests}
 
 module _ {V : Type 0} where
   -- the live keys of these places and their values, where the first place has index i

@@ -1,6 +1,5 @@
 -- The list that a map is written as: from its places, that it is accepted, and what is read from it.
 use Rattle.std.proofs.Common.{◌≡◌, ◌≢◌, ◌⊎◌, inl, inr, ℕ, ◌+◌, ◌-◌, ◌%◌, ◌<◌, ◌≤◌, Bool, true, false, List, length, slice_get, Some, is_some, refl, sym, ap, get_or, ◌∙◌, arith, eq-eqb}
-use Rattle.std.proofs.lemmas.Bool.Decides.{nat_tests}
 use Rattle.std.proofs.lemmas.List.{length-map, same_lists}
 use Rattle.std.proofs.lemmas.Option.{slice_get-map, slice_get_within, slice_get-get_or}
 use Rattle.std.specs.FinMap as map
@@ -15,7 +14,7 @@ use Rattle.slotmap_core.specs.Written.{following_version, filled_slot, empty_slo
 use Rattle.slotmap_core.specs.declared.serial.SlotRecord.{SlotRecord}
 use Rattle.slotmap_core.proofs.ContentLemmas.{some_is}
 use Rattle.slotmap_core.proofs.ContentsLemmas.{gathers, live_in, in_contents, next_in, in_start_next, retired_in, in_start_retired}
-use Rattle.slotmap_core.proofs.KeyLemmas.{exact_keys, keys_total}
+use Rattle.slotmap_core.proofs.KeyLemmas.{exact_keys, keys_total, nat_tests}
 use Rattle.slotmap_core.proofs.MapLaws.{detached_laws, is_marked}
 use Rattle.slotmap_core.proofs.StartLemmas.{consistent_at}
 use Rattle.slotmap_core.proofs.PlacesLemmas.{key, get-live, get-live_at, get-next_at, vacant_at, retired_at, contains-detached, total, retired_fits}
