@@ -99,9 +99,7 @@ module _ {V : Type 0} (records : List (SlotRecord V)) (slots : List (Slot V)) (h
 
   -- a record with a value becomes a live place
   pub AreRead-live : 0 < length records → (v : V) → made.value ≡ Some v → AreRead (records ++ made ∷ []) (slots ++ full made.version v ∷ []) head free (count + 1)
-  AreRead-live some v valued =
-      let odd = odd_of made consistent v valued in
-      not_free some (full made.version v) (count + 1) (grind (arith, nat_tests)) (IsSlot-full made.version v odd) (rw valued) refl
+  AreRead-live some v valued = grind (arith, nat_tests, common_steps, odd_of, not_free, IsSlot-full)
 
   -- a record of version 0 without a value becomes a retired place
   pub AreRead-retired : 0 < length records → made.value ≡ None → made.version ≡ 0 → AreRead (records ++ made ∷ []) (slots ++ empty 0 Retired ∷ []) head free count

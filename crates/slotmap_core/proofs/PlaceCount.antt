@@ -2,6 +2,7 @@
 use Rattle.std.proofs.Common.{◌≡◌, ◌≢◌, ◌+◌, ◌<◌, max, Some, Bool, ◌⊎◌, inl, refl, ap, ◌∙◌, arith, is_some}
 use Rattle.std.specs.FinMap as map
 use Rattle.std.specs.FinSet as set
+use Rattle.std.proofs.lemmas.Grind.{common_steps}
 use Rattle.slotmap_core.specs.Key.{Key}
 use Rattle.slotmap_core.specs.Content.{Content, IsContent, Stands, IsLive, IsVacant, used, places, most}
 use Rattle.slotmap_core.specs.Transition.{Inserts, Keeps, Removes, Replaces, Detaches, Reattaches}
@@ -36,14 +37,10 @@ module _ {V : Type 0} (reuses : Bool) (old new : Content V) (ok : IsContent reus
   replaced_places k v is_live r = grind (arith, map.len-insert, keys_total)
 
   pub detached_places : (k : Key) → IsLive old k → Detaches old k new → places new ≡ places old
-  detached_places k is_live r =
-      let detached = len_item_inserted keys_total exact_keys old.detached k (false_of _ (λ h. ok.live_or_detached k is_live h)) in
-      omega (arith, ap map.len r.live, len_removed keys_total exact_keys old.live k is_live, ap set.len r.detached, ap set.len r.retired, ap map.len r.next)
+  detached_places k is_live r = grind (arith, common_steps, len_item_inserted, keys_total, exact_keys, false_of, len_removed)
 
   pub reattached_places : (k : Key) (v : V) → Reattaches old k v new → places new ≡ places old
-  reattached_places k v r =
-      let live = len_inserted keys_total exact_keys old.live k v (false_of _ (λ h. ok.live_or_detached k h r.was_detached)) in
-      omega (arith, ap map.len r.live, ap set.len r.detached, len_item_removed keys_total exact_keys old.detached k r.was_detached, ap set.len r.retired, ap map.len r.next)
+  reattached_places k v r = grind (arith, common_steps, len_inserted, keys_total, exact_keys, false_of, len_item_removed)
 
   pub removed_places : (k : Key) → IsLive old k → Removes old k new → places new ≡ places old
   removed_places k is_live r = grind (arith, len_removed keys_total exact_keys old.live k is_live, len_spent_freed, false_of, keys_total, exact_keys)
