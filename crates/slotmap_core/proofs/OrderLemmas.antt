@@ -79,14 +79,7 @@ module _ {V : Type 0} where
           let value = some_is (map.get a.live k) was_live in
           let stayed = map.retain_keys a.live (λ q. not (map.contains_key b.live q)) in
           let put_in : map.retain_keys a.live (λ q. not (map.contains_key c.live q)) ≡ map.insert stayed k value.0 = map.same_map keys_total exact_keys _ _ (λ q.
-          grind (
-            arith,
-            get-retained a.live (λ q. not (map.contains_key c.live q)) q,
-            map.get-insert keys_total stayed k value.0 q,
-            get-retained a.live (λ q. not (map.contains_key b.live q)) q,
-            get_left b c k removes q,
-            tied keys_total exact_keys q k,
-          )) in
+          grind (arith, get-retained, map.get-insert keys_total stayed k value.0 q, get_left b c k removes q, tied keys_total exact_keys q k)) in
           ap (λ n. map.keys n) put_in
           ∙ ap (λ es. list_map (λ (e : Key × V). e.0) es) (map.entries-insert keys_total stayed k value.0
           ∙ put_last k value.0 (map.entries stayed) (λ q there. greater k q (above q (listed_left a b q (map.contains_key-keys stayed q ∙ there)))))
@@ -102,16 +95,7 @@ module _ {V : Type 0} where
           let value = some_is (map.get a.live k) is_live in
           let stayed = map.retain_keys b.live (λ q. not (map.contains_key c.live q)) in
           let put_in : map.retain_keys a.live (λ q. not (map.contains_key c.live q)) ≡ map.insert stayed k value.0 = map.same_map keys_total exact_keys _ _ (λ q.
-          grind (
-            arith,
-            get-retained a.live (λ q. not (map.contains_key c.live q)) q,
-            map.get-insert keys_total stayed k value.0 q,
-            get-retained b.live (λ q. not (map.contains_key c.live q)) q,
-            get_left a b k removes q,
-            tied keys_total exact_keys q k,
-            live_no_more a b k removes,
-            no_more k,
-          )) in
+          grind (arith, get-retained, map.get-insert keys_total stayed k value.0 q, get_left a b k removes q, tied keys_total exact_keys q k, live_no_more a b k removes, no_more k)) in
           ap (λ n. map.keys n) put_in
           ∙ ap (λ es. list_map (λ (e : Key × V). e.0) es)
           (map.entries-insert keys_total stayed k value.0 ∙ put_first k value.0 (map.entries stayed)

@@ -23,9 +23,6 @@ loop-index-init g c =
       placed = c.requires.placed;
     }
 
-key_at : (vs : List ℕ) (i : ℕ) → i < length vs → length vs < 2 ^ 32 → get_or vs i 0 < 2 ^ 32 → get_or vs i 0 % 2 ≡ 1 → IsKey (record { index = i; version = get_or vs i 0 })
-key_at vs i within few fits odd = grind arith
-
 -- the key that the closure is shown
 key_is : (g : _) (c : After-from g) → g.K.Key.data_of c.from.result ≡ record { index = c.loop-index.index; version = get_or c.args.versions.now c.loop-index.index 0 }
 key_is g c = grind arith
