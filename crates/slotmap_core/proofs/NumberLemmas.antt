@@ -1,5 +1,5 @@
 -- The number that a slot has beside its version.
-use Rattle.std.proofs.Common.{◌≡◌, ℕ, zero, suc, ◌-◌, ◌^◌, ◌%◌, ◌==◌, ◌&&◌, not, cond, Bool, false, List, [], ◌∷◌, ◌++◌, length, set, slice_get}
+use Rattle.std.proofs.Common.{◌≡◌, ℕ, zero, suc, ◌%◌, ◌==◌, cond, List, [], ◌∷◌, ◌++◌, length, set, slice_get}
 use Rattle.std.proofs.Common.{Some, IsSome, refl, ap, arith}
 use Rattle.slotmap_core.specs.Numbers.{empty_link, link_of, links_of, number_of}
 use Rattle.slotmap_core.specs.Slot.{FitsEmpty, next_of}

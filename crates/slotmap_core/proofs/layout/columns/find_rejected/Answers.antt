@@ -1,8 +1,7 @@
-use Rattle.std.proofs.Common.{◌≡◌, ℕ, List, ◌+◌, ◌<◌, ◌^◌, ◌%◌, [], ◌∷◌, ◌++◌, inl, inr, Some, length, get_or, refl, ap, ◌∙◌, arith}
+use Rattle.std.proofs.Common.{◌≡◌, ◌+◌, [], ◌∷◌, ◌++◌, inl, inr, Some, length, get_or, refl, ◌∙◌, arith}
 use Rattle.std.proofs.lemmas.Fn.{FoldsTo-push}
 use Rattle.std.proofs.lemmas.List.{length-set}
 use Rattle.std.proofs.lemmas.Option.{slice_get-get_or, get_or_from_slice_get}
-use Rattle.slotmap_core.specs.Key.{IsKey}
 use Rattle.slotmap_core.specs.Pass.{ColumnComes, Keeps, in_columns, stage}
 use Rattle.slotmap_core.specs.Retain.{Visit}
 use Rattle.slotmap_core.proofs.PassLemmas.{ColumnComes-read, HasEachOdd-set}
@@ -48,7 +47,6 @@ pub returns-then-not-f-clause-passes : goal.returns-then-not-f-clause-passes
 returns-then-not-f-clause-passes g c =
     let at = c.loop-index in
     let steps = goal.at.returns-then-not-f-clause-passes g c in
-    let index : (g.K.Key.data_of c.from.result).index ≡ at.index = ap (λ k. k.index) (key_is g steps.After-from) in
     let visit : Visit g.row.K.Denot g.row.P.Denot = record { key = c.from.result; before = c.sure_mut.result.now; after = c.f.new.arg3; stays = c.f.result } in
     record {
       visits = at.invariant.visits;
@@ -66,7 +64,6 @@ pub loop-index-preserved : goal.loop-index-preserved
 loop-index-preserved g c =
     let at = c.loop-index in
     let steps = goal.at.loop-index-preserved g c in
-    let index : (g.K.Key.data_of c.from.result).index ≡ at.index = ap (λ k. k.index) (key_is g steps.After-from) in
     let visit : Visit g.row.K.Denot g.row.P.Denot = record { key = c.from.result; before = c.sure_mut.result.now; after = c.f.new.arg3; stays = c.f.result } in
     record {
       visits = at.invariant.visits ++ visit ∷ [];
