@@ -110,7 +110,11 @@ pub with_payload-held : {P : Type 0} (slots : List (Slot P)) (fits head kept cou
     → slice_get slots i ≡ Some (full v x) → (w : P) → IsHeld (with_payload slots i w) fits head kept count
 with_payload-held slots fits head kept count held i v x there w =
     let free = vacancies slots kept count in
-    grind (arith, with_payload-is slots head free count held.sound i v x there w, held-set slots fits head kept count held i (full v w) (rewritten slots head free count held.sound i v x there w).sound kept (omega (arith, held.fewer)))
+    grind (
+      arith,
+      with_payload-is slots head free count held.sound i v x there w,
+      held-set slots fits head kept count held i (full v w) (rewritten slots head free count held.sound i v x there w).sound kept (omega (arith, held.fewer)),
+    )
 
 -- if there is room for n more keys, nothing has to be allocated
 pub room_had : {P : Type 0} (c : Content P) (n : ℕ) (ok : Type 0) → ok → IsContent true c → n ≤ c.room → MakesRoom true c n ok c

@@ -112,7 +112,9 @@ module _ {V : Type 0} (records : List (SlotRecord V)) (slots : List (Slot V)) (h
       let s = empty made.version (Free head) in
       let even = even_where made consistent none in
       let there : slice_get (slots ++ s ∷ []) (length records) ≡ Some s = rw (← read.length_is) (slice_get_push slots s) in
-      grind (arith, one_more some s (length records ∷ start_stack records) (length slots) (free + 1) count (rw (slot_vacant (length records) made some even unspent) at (start_stack-push records made)) (IsSlot-empty made.version (Free head) even (λ e. absurd (cc)) (λ e. absurd (cc))) (sym (vacant_place made consistent even unspent)) (read.length_is, (head, ap (option_map (λ s. s.link)) there, IsFreeList-push slots s (start_stack records) head read.linked)) (omega (arith, read.counted)) (omega arith))
+      one_more some s (length records ∷ start_stack records) (length slots) (free + 1) count (rw (slot_vacant (length records) made some even unspent) at (start_stack-push records made))
+      (IsSlot-empty made.version (Free head) even (λ e. absurd (cc)) (λ e. absurd (cc))) (sym (vacant_place made consistent even unspent))
+      (read.length_is, (head, ap (option_map (λ s. s.link)) there, IsFreeList-push slots s (start_stack records) head read.linked)) (omega (arith, read.counted)) (omega arith)
 
 -- the next record of an accepted list
 pub next_consistent : {V : Type 0} (records before after : List (SlotRecord V)) (made : SlotRecord V) (limit : ℕ) → Accepts records limit → before ++ made ∷ after ≡ records → IsConsistent made

@@ -70,7 +70,16 @@ module _ {M V : Type 0} (get : M → Key → Option V) (put : M → Key → V �
       let more_keys : take (i + 1) ks ≡ take i ks ++ k ∷ [] = take_more ks i k within ∙ ap (λ x. take i ks ++ x ∷ []) (sym key) in
       let more_values : take (i + 1) vs ≡ take i vs ++ v ∷ [] = take_more vs i v (omega arith) ∙ ap (λ x. take i vs ++ x ∷ []) given in
       let old_value : get old k ≡ Some w = sym (subst (λ x. get now x ≡ get old x) (sym key) (next_value k within)) ∙ was in
-      grind (arith, length-set ws i w, with_values-push get put old (take i ks) (take i vs) k v (length-take-le i ks (omega arith) ∙ sym (length-take-le i vs (omega arith))), take_more_set ws i w (omega (arith, done.long)), map_push (get old) (take i ks) k, map_push Some (take i ws) w, drop-set-lt (i + 1) ws i w (omega arith), drop_more_same ws vs i done.rest)
+      grind (
+        arith,
+        length-set ws i w,
+        with_values-push get put old (take i ks) (take i vs) k v (length-take-le i ks (omega arith) ∙ sym (length-take-le i vs (omega arith))),
+        take_more_set ws i w (omega (arith, done.long)),
+        map_push (get old) (take i ks) k,
+        map_push Some (take i ws) w,
+        drop-set-lt (i + 1) ws i w (omega arith),
+        drop_more_same ws vs i done.rest,
+      )
 
 -- keys of any type are looked at, one after another
 module _ {M V K : Type 0} (get : M → Key → Option V) (m : M) (data_of : K → Key) (ks : List K) (i : ℕ) (k : K) (within : i < length ks) (at : k ≡ get_or ks i k) where
