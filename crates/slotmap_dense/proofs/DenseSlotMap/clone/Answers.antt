@@ -1,13 +1,14 @@
 use Rattle.std.proofs.Common.{◌≡◌, ◌∙◌, map as list_map, refl, ap}
 use Rattle.std.proofs.lemmas.List.Elements.{same_from_all_zip}
-use Rattle.slotmap_dense.proofs.WellFormed.{dense_valid, IsSound-copied}
+use Rattle.slotmap_dense.proofs.WellFormed.{IsSound-other}
+use Rattle.slotmap_dense.proofs.Held.{dense_valid}
 use Rattle.slotmap_dense.proofs.DenseSlotMap.clone.Goals as goal
 
 pub invariant_of-result : goal.invariant_of-result
 invariant_of-result g c =
     let ks : c.in_ok-from_slice.field-0.items ≡ c.self.inside.keys.items = c.in_ok-from_slice.ensures.items ∙ c.deref.ensures.value in
     let vs : c.in_ok-clone.field-0.items ≡ c.self.inside.values.items = same_from_all_zip _ _ _ c.in_ok-clone.ensures.cases.0 c.requires in
-    rw (ks, vs) (IsSound-copied c.self.inside.slots c.in_ok-copy.field-0 _ _ c.self.invariant c.in_ok-copy.ensures.valid c.in_ok-copy.ensures.copies.live)
+    rw (ks, vs) (IsSound-other _ _ _ _ _ c.self.invariant c.in_ok-copy.ensures.valid c.in_ok-copy.ensures.copies.live refl)
 
 pub returns-clause-copies : goal.returns-clause-copies
 returns-clause-copies g c =

@@ -8,7 +8,7 @@ use Rattle.slotmap_core.proofs.KeyLemmas.{key_from-odd}
 use Rattle.slotmap_core.proofs.PlacesLemmas.{key}
 use Rattle.slotmap_core.proofs.ListReadLemmas.{next_consistent}
 use Rattle.slotmap_dense.proofs.ListReads.{AreSplit-start, AreSplit-live, AreSplit-none, same_places, refuses-positions, IsSound-split, reads-split, stack_alike}
-use Rattle.slotmap_dense.proofs.WellFormed.{dense_valid}
+use Rattle.slotmap_dense.proofs.Held.{dense_valid}
 use Rattle.slotmap_dense.proofs.DenseSlotMap.from_slots.Goals.{in-Some-value+in_ok-push-in-Some-value+in_ok-push-in-Some-value-2, in-None-value}
 use Rattle.slotmap_dense.proofs.DenseSlotMap.from_slots.Goals as goal
 
@@ -116,7 +116,7 @@ returns-clause-stack g c =
     let none : into_iter_items at.slot-iterator ≡ [] = nil_from_length _ (sym at.invariant.left ∙ c.in-None.ensures.steps.0) in
     let all : at.yielded ≡ c.args.list.items = sym (append-nil at.yielded) ∙ ap (λ xs. at.yielded ++ xs) (sym none) ∙ at.invariant.all in
     let split = rw all at at.invariant.split in
-    c.in_ok-slots.ensures.stack ∙ ap Some (stack_alike c.args.list.items at.positions.items split.same_versions)
+    c.in_ok-slots.ensures.stack ∙ ap Some (stack_alike c.args.list.items at.positions.items split.alike)
 
 pub returns-clause-in_order : goal.returns-clause-in_order
 returns-clause-in_order g c =

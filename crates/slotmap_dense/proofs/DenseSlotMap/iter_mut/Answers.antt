@@ -1,7 +1,6 @@
-use Rattle.std.proofs.Common.{refl, sym, subst, ◌∙◌}
+use Rattle.std.proofs.Common.{refl, sym, ◌∙◌}
 use Rattle.std.proofs.lemmas.List.{length-map}
-use Rattle.slotmap_dense.specs.Dense.{IsDense}
-use Rattle.slotmap_dense.proofs.WellFormed.{dense_valid, dense_refilled}
+use Rattle.slotmap_dense.proofs.Held.{dense_refilled, well_formed}
 use Rattle.slotmap_dense.proofs.DenseSlotMap.iter_mut.Goals as goal
 
 pub returns : goal.returns
@@ -19,6 +18,6 @@ returns g c =
         ) refl;
         ready = rw (c.iter.ensures.rest, c.iter_mut.ensures.rest, c.deref.ensures.value, c.deref_mut.ensures.value)
             (c.self.invariant.same_length ∙ length-map m.keys.items g.K.Key.data_of);
-        valid = subst IsDense c.self.view_is (dense_valid g.K.Key.data_of c.self.inside.slots c.self.inside.keys c.self.inside.values c.self.invariant);
+        valid = well_formed _ c.self.inside c.self.view_is c.self.invariant;
       },
     )

@@ -1,6 +1,5 @@
-use Rattle.std.proofs.Common.{refl, subst}
-use Rattle.slotmap_dense.specs.Dense.{IsDense}
-use Rattle.slotmap_dense.proofs.WellFormed.{dense_valid, dense_refilled}
+use Rattle.std.proofs.Common.{refl}
+use Rattle.slotmap_dense.proofs.Held.{dense_refilled, well_formed}
 use Rattle.slotmap_dense.proofs.DenseSlotMap.values_as_mut_slice.Goals as goal
 
 pub returns : goal.returns
@@ -10,6 +9,6 @@ returns g c =
       record {
         writes_back = tt;
         value = rw (← c.self.view_is) c.as_mut_slice.ensures.value;
-        valid = subst IsDense c.self.view_is (dense_valid g.K.Key.data_of c.self.inside.slots c.self.inside.keys c.self.inside.values c.self.invariant);
+        valid = well_formed _ c.self.inside c.self.view_is c.self.invariant;
       },
     )
