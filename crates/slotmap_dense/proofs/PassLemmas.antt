@@ -143,6 +143,11 @@ module _ {F K V : Type 0} (g : Mut F (K × (MutBor V × Unit {0})) (Bool × (Mut
       pub going : Going last
       pub rejects : Rejects (packed_order data_of) g last t
 
+    -- what was done once all pairs were visited
+    pub record Ended (t : Stage F (Dense V)) : Type 0 where
+      pub packed : RetainsPacked g data_of first old t.held
+      pub leaves : Leaves old.content t.held.content
+
     rejected_at : (s t : Stage F (Dense V)) (one : Rejects (packed_order data_of) g s t) → t.position ≡ s.position
     rejected_at s t one = one.calls.moves ∙ ap (λ b. cond b (s.position + 1) s.position) one.leaves
 
@@ -164,8 +169,8 @@ module _ {F K V : Type 0} (g : Mut F (K × (MutBor V × Unit {0})) (Bool × (Mut
       ]
 
       -- all pairs were visited
-      pub Going-end : length t.held.keys ≤ t.position → Going t
-      Going-end past = elim passes.ends [
+      past_end : length t.held.keys ≤ t.position → Going t
+      past_end past = elim passes.ends [
         | inl done ↦
             let same : passes.last ≡ t = λ j. stage (sym done.ended.1 j) (sym done.held j) (sym done.closure j) in
             subst Going same last_going
@@ -174,18 +179,21 @@ module _ {F K V : Type 0} (g : Mut F (K × (MutBor V × Unit {0})) (Bool × (Mut
             absurd (omega (arith, rejected_at passes.last t one, ap (λ d. length d.keys) one.calls.written))
       ]
 
-    -- what was done once all pairs were visited
-    pub Going-retains : (t : Stage F (Dense V)) → Going t → length t.held.keys ≤ t.position → RetainsPacked g data_of first old t.held
-    Going-retains t at past =
-        let visited = subst (λ rest. Visits data_of old.content.live at.visits rest t.held.content.live) (rest-end t.position t.held.keys t.held.values past) at.visited in
-        record {
-          retains = record {
-            visits = at.visits;
-            last = t.closure;
-            calls = at.calls;
-            listed = Visits-listed data_of old.content.live at.visits t.held.content.live visited;
-            stay = Visits-stay data_of old.content.live at.visits t.held.content.live visited;
-          };
-          packs = subst (λ xs. PacksBy data_of 0 old.keys xs t.held.keys) (append-nil at.visits) (at.so_far.packs [] t.held.keys (past, refl));
-          stack = at.so_far.stack;
-        }
+      pub Going-end : length t.held.keys ≤ t.position → Ended t
+      Going-end past =
+          let at = past_end past in
+          let visited = rw (rest-end t.position t.held.keys t.held.values past) at at.visited in
+          record {
+            packed = record {
+              retains = record {
+                visits = at.visits;
+                last = t.closure;
+                calls = at.calls;
+                listed = Visits-listed data_of old.content.live at.visits t.held.content.live visited;
+                stay = Visits-stay data_of old.content.live at.visits t.held.content.live visited;
+              };
+              packs = rw append-nil at (at.so_far.packs [] t.held.keys (past, refl));
+              stack = at.so_far.stack;
+            };
+            leaves = at.leaves;
+          }

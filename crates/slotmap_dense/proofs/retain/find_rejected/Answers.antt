@@ -6,7 +6,13 @@ use Rattle.slotmap_core.proofs.VisitLemmas.{CallsAt-called}
 use Rattle.slotmap_core.specs.Pass.{Keeps, stage}
 use Rattle.slotmap_dense.specs.Pass.{beside}
 use Rattle.slotmap_dense.proofs.PassLemmas.{shows-read}
+use Rattle.slotmap_dense.proofs.retain.find_rejected.Goals.{After-f}
 use Rattle.slotmap_dense.proofs.retain.find_rejected.Goals as goal
+
+abbrev visit : (g : _) (c : After-f g) → Visit g.row.K.Denot g.row.V.Denot
+visit g c =
+    let value = c.index-values-position.result in
+    record { key = c.index-keys-position.result; before = get_or c.loop-position.values c.loop-position.position value; after = c.f.new.arg3; stays = c.f.result }
 
 pub loop-position-init : goal.loop-position-init
 loop-position-init g c = record { visits = []; kept = refl; same_length = c.requires.same_length }
@@ -14,33 +20,32 @@ loop-position-init g c = record { visits = []; kept = refl; same_length = c.requ
 pub f-requires : goal.f-requires
 f-requires g c =
     let at = c.loop-position in
-    let shows = shows-read g.K.Key.data_of c.args.keys.now at.values at.position c.index-keys-position.result c.index-values-position.result c.loop-position-test.true at.invariant.same_length
-    c.index-keys-position.is in
-    c.requires.callable.at at.invariant.visits (stage at.position at.values at.f) c.index-keys-position.result _ at.invariant.kept shows
+    c.requires.callable.at at.invariant.visits (stage at.position at.values at.f) c.index-keys-position.result _ at.invariant.kept (shows-read _ _ _ _ _ _ c.loop-position-test.true at.invariant.same_length c.index-keys-position.is)
 
 pub returns-then-not-f-clause-passes : goal.returns-then-not-f-clause-passes
 returns-then-not-f-clause-passes g c =
     let at = c.loop-position in
-    let shows = shows-read g.K.Key.data_of c.args.keys.now at.values at.position c.index-keys-position.result c.index-values-position.result c.loop-position-test.true at.invariant.same_length
-    c.index-keys-position.is in
-    let visit : Visit g.row.K.Denot g.row.V.Denot = record { key = c.index-keys-position.result; before = get_or at.values at.position c.index-values-position.result; after = c.f.new.arg3; stays = c.f.result } in
     record {
       visits = at.invariant.visits;
       last = stage at.position at.values at.f;
       kept = at.invariant.kept;
-      ends = inr (record { visit = visit; calls = record { shows = shows; written = refl; moves = rw c.if-not-f.true refl; called = CallsAt-called g.F.FnMut c.f.ensures }; leaves = c.if-not-f.true });
+      ends = inr (record {
+        visit = visit g (goal.at.returns-then-not-f-clause-passes g c).After-f;
+        calls = record { shows = shows-read _ _ _ _ _ _ c.loop-position-test.true at.invariant.same_length c.index-keys-position.is; written = refl; moves = rw c.if-not-f.true refl; called = CallsAt-called g.F.FnMut c.f.ensures };
+        leaves = c.if-not-f.true;
+      });
     }
 
 pub loop-position-preserved : goal.loop-position-preserved
 loop-position-preserved g c =
     let at = c.loop-position in
-    let shows = shows-read g.K.Key.data_of c.args.keys.now at.values at.position c.index-keys-position.result c.index-values-position.result c.loop-position-test.true at.invariant.same_length
-    c.index-keys-position.is in
-    let visit : Visit g.row.K.Denot g.row.V.Denot = record { key = c.index-keys-position.result; before = get_or at.values at.position c.index-values-position.result; after = c.f.new.arg3; stays = c.f.result } in
+    let visit = visit g (goal.at.loop-position-preserved g c).After-f in
     record {
       visits = at.invariant.visits ++ visit ∷ [];
-      kept = FoldsTo-push (Keeps (beside g.K.Key.data_of (list_map g.K.Key.data_of c.args.keys.now)) g.F.FnMut) _ at.invariant.visits _ visit _ at.invariant.kept
-          (record { calls = record { shows = shows; written = refl; moves = rw c.if-not-f.false refl; called = CallsAt-called g.F.FnMut c.f.ensures }; stays = c.if-not-f.false });
+      kept = FoldsTo-push (Keeps (beside g.K.Key.data_of (list_map g.K.Key.data_of c.args.keys.now)) g.F.FnMut) _ at.invariant.visits _ visit _ at.invariant.kept (record {
+        calls = record { shows = shows-read _ _ _ _ _ _ c.loop-position-test.true at.invariant.same_length c.index-keys-position.is; written = refl; moves = rw c.if-not-f.false refl; called = CallsAt-called g.F.FnMut c.f.ensures };
+        stays = c.if-not-f.false;
+      });
       same_length = length-set at.values at.position c.f.new.arg3 ∙ at.invariant.same_length;
     }
 
