@@ -30,12 +30,6 @@ module _ {K V : Type 0} (data_of : K → Key) where
   dense_valid slots keys values sound = dense_well slots (list_map data_of keys.items) values.items sound (min (vec_capacity keys) (vec_capacity values))
       (omega (arith, length-map keys.items data_of, keys.ok.0, keys.ok.1, values.ok.0, values.ok.1, sound.same_length))
 
-  -- other values in the same vector
-  pub dense_refilled : (slots : Content ℕ) (keys : Vec K) (values : Vec V) (ws : List V) → held slots keys (with_items values ws) ≡ with_values_in (held slots keys values) ws
-  dense_refilled slots keys values ws =
-      let fill : take values.len (ws ++ drop (length ws) values.items) ≡ refilled values.items ws = ap (λ n. take n (ws ++ drop (length ws) values.items)) values.ok.0 in
-      λ j. dense_of slots (list_map data_of keys.items) (fill j) (min (vec_capacity keys) (vec_capacity values))
-
 module _ {K V : Type 0} (data_of : K → Key) (m : Inside K V) {now : Dense V} (view : held data_of m.slots m.keys m.values ≡ now)
     (sound : IsSound m.slots (list_map data_of m.keys.items) m.values.items) where
   pub well_formed : IsDense now
@@ -74,6 +68,12 @@ module _ {K V : Type 0} (data_of : K → Key) (m : Inside K V) {now : Dense V} (
   present k i named =
       let all = value_there _ _ sound.packed m.values.items sound.same_length k i named in
       record { value = all.0; there = all.1; gives = found k ∙ ap (at_position m.values.items) named ∙ all.1; inside = slice_get_within m.values.items i all.0 all.1 }
+
+  -- other values in the same vector
+  pub lent : (ws : List V) → held data_of m.slots m.keys (with_items m.values ws) ≡ with_values_in now ws
+  lent ws =
+      let fill : take m.values.len (ws ++ drop (length ws) m.values.items) ≡ refilled m.values.items ws = ap (λ n. take n (ws ++ drop (length ws) m.values.items)) m.values.ok.0 in
+      rw (← view) (λ j. dense_of m.slots (list_map data_of m.keys.items) (fill j) (min (vec_capacity m.keys) (vec_capacity m.values)))
 
   -- a call that changes nothing
   pub unchanged : StaysValid now (held data_of m.slots m.keys m.values)

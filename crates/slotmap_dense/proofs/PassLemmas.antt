@@ -4,7 +4,7 @@ use Rattle.std.proofs.Common.{length, set, map as list_map, get_or, ◌<◌, Som
 use Rattle.std.proofs.lemmas.Fn.{FoldsTo-push}
 use Rattle.std.proofs.lemmas.List.{length-set}
 use Rattle.std.proofs.lemmas.Option.{slice_get_read, slice_get-map, slice_get-get_or, slice_get_within}
-use Rattle.std.specs.Fn.{Mut}
+use Rattle.std.specs.Fn.{Mut, Called}
 use Rattle.std.specs.Borrow.{MutBor}
 use Rattle.std.specs.List.{FoldsTo}
 use Rattle.std.specs.Option.{option_map}
@@ -17,11 +17,11 @@ use Rattle.slotmap_core.specs.Transition.{Leaves}
 use Rattle.slotmap_core.proofs.ListingLemmas.{remove-insert}
 use Rattle.slotmap_core.proofs.LeaveLemmas.{Leaves-refl, Leaves-trans, Leaves-with_value, Leaves-removed, same_live}
 use Rattle.slotmap_core.proofs.PassLemmas.{Lifts}
-use Rattle.slotmap_core.proofs.VisitLemmas.{Visits, Visits-start, Visits-call, Visits-rest, Visits-listed, Visits-stay}
+use Rattle.slotmap_core.proofs.VisitLemmas.{CallsAt-called, Visits, Visits-start, Visits-call, Visits-rest, Visits-listed, Visits-stay}
 use Rattle.slotmap_dense.specs.Dense.{Dense, IsDense, with_value_of}
 use Rattle.slotmap_dense.specs.Packed.{IsSound, dense_of, at_position}
 use Rattle.slotmap_dense.specs.Pass.{beside, packed_order}
-use Rattle.slotmap_dense.specs.Retain.{PacksBy, RetainsPacked}
+use Rattle.slotmap_dense.specs.Retain.{RetainsPacked}
 use Rattle.slotmap_dense.specs.Rest.{rest_of, LeavesFrom}
 use Rattle.slotmap_dense.proofs.PackedLemmas.{get-packed}
 use Rattle.slotmap_dense.proofs.RestLemmas.{Comes-at, rest-start, rest-end}
@@ -34,6 +34,15 @@ module _ {K V : Type 0} (data_of : K → Key) where
       → (beside {V = V} data_of (list_map data_of keys)).Shows values p key (get_or values p v)
   shows-read keys values p key v within same key_is =
       (slice_get-map data_of keys p ∙ ap (option_map data_of) (slice_get_read keys (length keys) p key refl within key_is), slice_get-get_or values p v (omega (arith, within, same)))
+
+  -- a call of the closure for what was read
+  pub calls-read : {F : Type 0} (g : Mut F (K × (MutBor V × Unit {0})) (Bool × (MutBor V × Unit {0}))) (keys : List K) (v : V) {values : List V} {p q : ℕ}
+      {key : K} {f f' : F} {shown left : MutBor V} {stays : Bool} → p < length keys → length values ≡ length keys → key ≡ get_or keys p key
+      → shown.now ≡ get_or values p v → q ≡ cond stays (p + 1) p → Called g f (key, (shown, tt)) (stays, (left, tt)) f'
+      → Calls (beside data_of (list_map data_of keys)) g (stage p values f) (record { key = key; before = shown.now; after = left.now; stays = stays }) (stage q (set values p left.now) f')
+  calls-read g keys v {values} {p} {q} {key} within same key_is is moves called =
+      let shows = shows-read keys values p key v within same key_is in
+      record { shows = (shows.0, shows.1 ∙ ap Some (sym is)); written = refl; moves = moves; called = CallsAt-called g called }
 
   -- the values beside the keys of a map are those of the map
   pub Lifts-values : (slots : Content ℕ) (keys : List Key) (spare : ℕ)
