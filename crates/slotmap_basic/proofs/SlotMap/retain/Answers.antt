@@ -43,7 +43,8 @@ loop-key-preserved g c =
 
 ended : (g : _) (c : In_default g) → RetainsBy g.F.FnMut g.K.Key.data_of c.args.f c.args.self.now.live c.first_rejected-index.new.self.live
     × Swept true c.args.self.now c.first_rejected-index.new.self c.first_rejected-index.result
-ended g c = Going-end g.F.FnMut g.K.Key.data_of c.args.self.now c.args.f _ _ c.loop-key.invariant.going (rw c.self-in-loop-key.view_is at c.first_rejected-index.ensures.passes) c.in_default.ensures.none
+ended g c = Going-end g.F.FnMut g.K.Key.data_of c.args.self.now c.args.f _ _ c.loop-key.invariant.going
+    (rw c.self-in-loop-key.view_is at c.first_rejected-index.ensures.passes) c.in_default.ensures.none
 
 pub returns-clause-retained : goal.returns-clause-retained
 returns-clause-retained g c = (ended g (goal.at.returns-clause-retained g c).In_default).0

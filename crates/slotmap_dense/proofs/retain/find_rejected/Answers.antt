@@ -12,7 +12,8 @@ loop-position-init g c = record { visits = []; kept = refl; same_length = c.requ
 pub f-requires : goal.f-requires
 f-requires g c =
     let at = c.loop-position in
-    c.requires.callable.at at.invariant.visits (stage at.position at.values at.f) c.index-keys-position.result _ at.invariant.kept (shows-read _ _ _ _ _ _ c.loop-position-test.true at.invariant.same_length c.index-keys-position.is)
+    c.requires.callable.at at.invariant.visits (stage at.position at.values at.f) c.index-keys-position.result _ at.invariant.kept
+    (shows-read _ _ _ _ _ _ c.loop-position-test.true at.invariant.same_length c.index-keys-position.is)
 
 pub returns-then-not-f-clause-passes : goal.returns-then-not-f-clause-passes
 returns-then-not-f-clause-passes g c =
