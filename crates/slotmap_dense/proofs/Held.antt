@@ -12,6 +12,8 @@ use Rattle.slotmap_core.specs.Content.{Content, IsContent, used}
 use Rattle.slotmap_core.specs.Call.{MakesRoom as SlotsMakeRoom}
 use Rattle.slotmap_core.specs.Transition.{Keeps, Inserts, Removes, Detaches, Reattaches}
 use Rattle.slotmap_core.proofs.GatherLemmas.{slice_get_push}
+use Rattle.slotmap_core.proofs.KeyLemmas.{keys_total, exact_keys}
+use Rattle.slotmap_core.proofs.MapLaws.{remove_absent}
 use Rattle.slotmap_dense.specs.declared.DenseSlotMap.TheInside.{Inside}
 use Rattle.slotmap_dense.specs.Dense.{Dense, IsDense, ClosesGap, refilled, with_values_in}
 use Rattle.slotmap_dense.specs.Call.{StaysValid, MayGrow, MakesRoom}
@@ -40,6 +42,10 @@ module _ {K V : Type 0} (data_of : K → Key) (m : Inside K V) {now : Dense V} (
 
   pub found : (k : Key) → map.get now.content.live k ≡ at_position m.values.items (map.get m.slots.live k)
   found k = rw (← view) (get-packed _ _ sound.packed m.values.items k)
+
+  -- a key that isn't live
+  pub absent : (k : Key) → map.get m.slots.live k ≡ None → (map.get now.content.live k ≡ None) × (map.remove now.content.live k ≡ now.content.live)
+  absent k none = let gone = found k ∙ ap (at_position m.values.items) none in (gone, remove_absent keys_total exact_keys now.content.live k gone)
 
   pub used_is : used now.content ≡ used m.slots
   used_is = rw (← view) (omega (arith, (same_keys _ _ _ sound).all))

@@ -1,15 +1,12 @@
-use Rattle.std.proofs.Common.{◌≡◌, Some, None, option_copied, sym, ap, ◌∙◌, arith}
-use Rattle.std.specs.FinMap as map
+use Rattle.std.proofs.Common.{Some, option_copied, sym, ap, ◌∙◌, arith}
 use Rattle.slotmap_core.proofs.ListLemmas.{same_read}
-use Rattle.slotmap_dense.specs.Packed.{at_position}
-use Rattle.slotmap_dense.proofs.Held.{well_formed, found, present}
+use Rattle.slotmap_dense.proofs.Held.{well_formed, absent, present}
 use Rattle.slotmap_dense.proofs.DenseSlotMap.get.Goals as goal
 
 pub returns-in_err-position-clause-value : goal.returns-in_err-position-clause-value
 returns-in_err-position-clause-value g c =
-    let m = c.self.inside in
-    let none : map.get m.slots.live c.data.result ≡ None = sym c.get.ensures.value ∙ ap option_copied c.in_err-position.was in
-    rw (← c.data.ensures.value) (ap option_copied c.from_residual.ensures ∙ sym (found _ m c.self.view_is c.self.invariant c.data.result ∙ ap (at_position m.values.items) none))
+    let gone = (absent _ c.self.inside c.self.view_is c.self.invariant c.data.result (sym c.get.ensures.value ∙ ap option_copied c.in_err-position.was)).0 in
+    rw (← c.data.ensures.value) (ap option_copied c.from_residual.ensures ∙ sym gone)
 
 pub returns-in_err-position-clause-valid : goal.returns-in_err-position-clause-valid
 returns-in_err-position-clause-valid g c = well_formed _ c.self.inside c.self.view_is c.self.invariant

@@ -1,18 +1,13 @@
-use Rattle.std.proofs.Common.{◌≡◌, Some, None, sym, ap, ◌∙◌}
+use Rattle.std.proofs.Common.{◌≡◌, Some, sym, ap, ◌∙◌}
 use Rattle.std.specs.FinMap as map
-use Rattle.slotmap_core.proofs.KeyLemmas.{keys_total, exact_keys}
-use Rattle.slotmap_core.proofs.MapLaws.{remove_absent}
-use Rattle.slotmap_dense.specs.Packed.{at_position}
 use Rattle.slotmap_dense.proofs.PackedLemmas.{IsGapped-removed}
-use Rattle.slotmap_dense.proofs.Held.{found, unchanged, Closed, closed}
+use Rattle.slotmap_dense.proofs.Held.{absent, unchanged, Closed, closed}
 use Rattle.slotmap_dense.proofs.DenseSlotMap.remove.Goals.{After-close_gap}
 use Rattle.slotmap_dense.proofs.DenseSlotMap.remove.Goals as goal
 
 pub returns-in_err-position-clause-value : goal.returns-in_err-position-clause-value
 returns-in_err-position-clause-value g c =
-    let m = c.self.inside in
-    let none : map.get m.slots.live c.data.result ≡ None = sym c.remove.ensures.value ∙ c.in_err-position.was in
-    rw (← c.data.ensures.value) (c.from_residual.ensures ∙ sym (found _ m c.self.view_is c.self.invariant c.data.result ∙ ap (at_position m.values.items) none))
+    rw (← c.data.ensures.value) (c.from_residual.ensures ∙ sym (absent _ c.self.inside c.self.view_is c.self.invariant c.data.result (sym c.remove.ensures.value ∙ c.in_err-position.was)).0)
 
 pub returns-in_err-position-clause-valid : goal.returns-in_err-position-clause-valid
 returns-in_err-position-clause-valid g c = rw c.in_err-position.ensures.unchanged (unchanged _ c.self.inside c.self.view_is c.self.invariant)
@@ -48,8 +43,8 @@ returns-clause-valid g c = (closes g (goal.at.returns-clause-valid g c).After-cl
 
 pub returns-in_err-position-clause-live : goal.returns-in_err-position-clause-live
 returns-in_err-position-clause-live g c =
-    let none = sym (returns-in_err-position-clause-value g c) ∙ c.from_residual.ensures in
-    ap (λ d. d.content.live) c.self.view_is ∙ sym (remove_absent keys_total exact_keys c.args.self.now.content.live (g.K.Key.data_of c.args.key) none)
+    rw (← c.data.ensures.value) (ap (λ d. d.content.live) c.self.view_is
+    ∙ sym (absent _ c.self.inside c.self.view_is c.self.invariant c.data.result (sym c.remove.ensures.value ∙ c.in_err-position.was)).1)
 
 pub returns-clause-live : goal.returns-clause-live
 returns-clause-live g c = (returns-clause-removes g c).live
