@@ -42,42 +42,36 @@ module _ {F K V : Type 0} (g : Mut F (K × (MutBor V × Unit {0})) (Bool × (Mut
     swept_written : Swept true old written k.index
     swept_written = Swept-next old s.held s.position k x.after going.swept is_live calls.shows.from
 
-    called : FoldsTo (CallsAt g) first (going.visits ++ x ∷ []) t.closure
-    called = FoldsTo-push (CallsAt g) first going.visits s.closure x t.closure going.calls calls.called
-
-    seen : Visits data_of old.live (going.visits ++ x ∷ []) (from_index (k.index + 1) old.live) (cond x.stays (map.insert s.held.live k x.after) (map.remove s.held.live k))
-    seen = Keyed-next data_of old.live (λ p q live_p live_q same. going.well.apart q p (inl (inl live_q)) (inl (inl live_p)) same) going.visits s.position s.held.live x
-        going.visited calls.shows.from calls.shows.first calls.shows.found
+    -- after the call the map is `new`
+    one_more : (new : Content V) → Swept true old new (k.index + 1) → new.live ≡ cond x.stays (map.insert s.held.live k x.after) (map.remove s.held.live k) → Going (stage (k.index + 1) new t.closure)
+    one_more new swept live = record {
+      well = going.well;
+      swept = swept;
+      visits = going.visits ++ x ∷ [];
+      calls = FoldsTo-push (CallsAt g) first going.visits s.closure x t.closure going.calls calls.called;
+      visited = rw live (Keyed-next data_of old.live (λ p q live_p live_q same. going.well.apart q p (inl (inl live_q)) (inl (inl live_p)) same) going.visits s.position s.held.live x
+          going.visited calls.shows.from calls.shows.first calls.shows.found);
+    }
 
     -- the key stays
     pub Going-kept : x.stays ≡ true → Going t
     Going-kept stays =
         let moved : t.position ≡ k.index + 1 = calls.moves ∙ ap (past_index k) stays in
-        let live = ap (λ b. cond b (map.insert s.held.live k x.after) (map.remove s.held.live k)) stays in
         let same : stage (k.index + 1) written t.closure ≡ t = λ j. stage (sym moved j) (sym calls.written j) t.closure in
-        subst Going same (record {
-          well = going.well;
-          swept = Swept-on old written k.index swept_written;
-          visits = going.visits ++ x ∷ [];
-          calls = called;
-          visited = subst (Visits data_of old.live (going.visits ++ x ∷ []) (from_index (k.index + 1) old.live)) live seen;
-        })
+        subst Going same (one_more written (Swept-on old written k.index swept_written) (rw stays refl))
+
+    -- it is live until it is removed
+    pub still_live : (q : Key) → map.contains_key t.held.live q ≡ map.contains_key s.held.live q
+    still_live q = ap (λ c. map.contains_key c.live q) calls.written ∙ same_live s.held k x.after is_live q
 
     -- the key is removed
     pub Going-dropped : x.stays ≡ false → (new : Content V) → Removes t.held k new → new.capacity ≡ t.held.capacity → IsContent true new → Going (stage (t.position + 1) new t.closure)
     Going-dropped stays new removes capacity well =
         let here : t.position ≡ k.index = calls.moves ∙ ap (past_index k) stays in
-        let gone : Removes written k new = subst (λ c. Removes c k new) calls.written removes in
-        let still : IsLive written k = same_live s.held k x.after is_live k ∙ is_live in
-        let live : cond x.stays (map.insert s.held.live k x.after) (map.remove s.held.live k) ≡ new.live =
-        ap (λ b. cond b (map.insert s.held.live k x.after) (map.remove s.held.live k)) stays ∙ sym (remove-insert s.held.live k x.after) ∙ sym gone.live in
-        subst (λ i. Going (stage (i + 1) new t.closure)) (sym here) (record {
-          well = going.well;
-          swept = Swept-removed old written new k.index k swept_written still refl gone (capacity ∙ ap (λ c. c.capacity) calls.written) well;
-          visits = going.visits ++ x ∷ [];
-          calls = called;
-          visited = subst (Visits data_of old.live (going.visits ++ x ∷ []) (from_index (k.index + 1) old.live)) live seen;
-        })
+        let gone : Removes written k new = rw calls.written at removes in
+        let still = same_live s.held k x.after is_live k ∙ is_live in
+        rw here (one_more new (Swept-removed old written new k.index k swept_written still refl gone (capacity ∙ ap (λ c. c.capacity) calls.written) well)
+        (rw stays (gone.live ∙ remove-insert s.held.live k x.after)))
 
   -- calls that keep their keys
   pub Going-along : (xs : List (Visit K V)) (s t : Stage F (Content V)) → Going s → FoldsTo (Keeps (by_index data_of) g) s xs t → Going t
@@ -94,21 +88,32 @@ module _ {F K V : Type 0} (g : Mut F (K × (MutBor V × Unit {0})) (Bool × (Mut
         (Keyed-same data_of old.live at.visits t.position t.held.live at.visited (data_of key) shows.from ∙ shows.found);
   }
 
-  -- a pass ended at a key that was rejected
+  -- a pass ended at a key that was rejected: it is live, and its index is the position
   pub record Rejected (t : Stage F (Content V)) : Type 0 where
     pub last : Stage F (Content V)
     pub going : Going last
     pub rejects : Rejects (by_index data_of) g last t
+    pub here : t.position ≡ (data_of rejects.visit.key).index
+    pub same : (q : Key) → map.contains_key t.held.live q ≡ map.contains_key last.held.live q
 
   module _ (s t : Stage F (Content V)) (going : Going s) (passes : Passes (by_index data_of) g s t) where
     last_going : Going passes.last
     last_going = Going-along passes.visits s passes.last going passes.kept
 
+    abbrev rejected : Rejects (by_index data_of) g passes.last t → Rejected t
+    rejected one = record {
+      last = passes.last;
+      going = last_going;
+      rejects = one;
+      here = one.calls.moves ∙ ap (past_index (data_of one.visit.key)) one.leaves;
+      same = still_live passes.last t one.visit last_going one.calls;
+    }
+
     -- a key is live from the position on
     pub Going-rejected : (q : Key) → IsLive t.held q → t.position ≤ q.index → Rejected t
     Going-rejected q live_q on = elim passes.ends [
       | inl done ↦ absurd (omega (arith, done.ended.0, done.ended.1 q (ap (λ c. map.contains_key c.live q) (sym done.held) ∙ live_q)))
-      | inr one ↦ record { last = passes.last; going = last_going; rejects = one }
+      | inr one ↦ rejected one
     ]
 
     -- none is
@@ -117,45 +122,39 @@ module _ {F K V : Type 0} (g : Mut F (K × (MutBor V × Unit {0})) (Bool × (Mut
     Going-end none = elim passes.ends [
       | inl done ↦
           let at = last_going in
-          let visited = Keyed-done data_of old.live at.visits passes.last.position passes.last.held.live at.visited done.ended.1 in (
-            subst (λ c. RetainsBy g data_of first old.live c.live) (sym done.held) (record {
+          let visited = Keyed-done data_of old.live at.visits passes.last.position passes.last.held.live at.visited done.ended.1 in
+          rw done.held (
+            record {
               visits = at.visits;
               last = passes.last.closure;
               calls = at.calls;
               listed = Visits-listed data_of old.live at.visits passes.last.held.live visited;
               stay = Visits-stay data_of old.live at.visits passes.last.held.live visited;
-            }),
-            Swept-to old t.held passes.last.position t.position (subst (λ c. Swept true old c passes.last.position) (sym done.held) at.swept) done.ended.0,
+            },
+            Swept-to old passes.last.held passes.last.position t.position at.swept done.ended.0,
           )
       | inr one ↦
+          let rejected = rejected one in
           let k = data_of one.visit.key in
-          let here = one.calls.moves ∙ ap (past_index k) one.leaves in
-          let still = same_live passes.last.held k one.visit.after (ap is_some one.calls.shows.found) k ∙ ap is_some one.calls.shows.found in
-          absurd (omega (arith, here, none k (ap (λ c. map.contains_key c.live k) one.calls.written ∙ still)))
+          absurd (omega (arith, rejected.here, none k (rejected.same k ∙ ap is_some one.calls.shows.found)))
     ]
 
-  -- the first live key from the position on is the rejected one
-  pub Rejected-is : (t : Stage F (Content V)) (rejected : Rejected t) (q : Key) → IsLive t.held q → t.position ≤ q.index
-      → ((p : Key) → IsLive t.held p → t.position ≤ p.index → q.index ≤ p.index) → q ≡ data_of rejected.rejects.visit.key
-  Rejected-is t rejected q live_q on least =
-      let last = rejected.last in
-      let one = rejected.rejects in
-      let k = data_of one.visit.key in
-      let here = one.calls.moves ∙ ap (past_index k) one.leaves in
-      let found = ap is_some one.calls.shows.found in
-      let still : IsLive t.held k = ap (λ c. map.contains_key c.live k) one.calls.written ∙ same_live last.held k one.visit.after found k ∙ found in
-      let live_last : IsLive last.held q = sym (same_live last.held k one.visit.after found q) ∙ sym (ap (λ c. map.contains_key c.live q) one.calls.written) ∙ live_q in
-      let index : q.index ≡ k.index = omega (arith, here, on, least k still (omega (arith, here))) in
-      alone_at last.held rejected.going.swept.well k k.index found refl q live_last index
+  module _ (t : Stage F (Content V)) (rejected : Rejected t) where
+    abbrev out : Key
+    out = data_of rejected.rejects.visit.key
 
-  -- and its index is one of the map's
-  pub Rejected-within : (t : Stage F (Content V)) (rejected : Rejected t) → t.position ≤ places old
-  Rejected-within t rejected =
-      let one = rejected.rejects in
-      let k = data_of one.visit.key in
-      let here = one.calls.moves ∙ ap (past_index k) one.leaves in
-      let was = rejected.going.swept.leaves.no_more k (ap is_some one.calls.shows.found) in
-      omega (arith, here, rejected.going.well.within k (inl (inl was)))
+    found : IsLive rejected.last.held out
+    found = ap is_some rejected.rejects.calls.shows.found
+
+    -- the first live key from the position on is the rejected one
+    pub Rejected-is : (q : Key) → IsLive t.held q → t.position ≤ q.index → ((p : Key) → IsLive t.held p → t.position ≤ p.index → q.index ≤ p.index) → q ≡ out
+    Rejected-is q live_q on least =
+        let index : q.index ≡ out.index = omega (arith, rejected.here, on, least out (rejected.same out ∙ found) (omega (arith, rejected.here))) in
+        alone_at rejected.last.held rejected.going.swept.well out out.index found refl q (sym (rejected.same q) ∙ live_q) index
+
+    -- and its index is one of the map's
+    pub Rejected-within : t.position ≤ places old
+    Rejected-within = omega (arith, rejected.here, rejected.going.well.within out (inl (inl (rejected.going.swept.leaves.no_more out found))))
 
   -- a pass goes on
   Keeps-on : (xs : List (Visit K V)) (s t : Stage F (Content V)) → FoldsTo (Keeps (by_index data_of) g) s xs t → s.position ≤ t.position
@@ -164,7 +163,9 @@ module _ {F K V : Type 0} (g : Mut F (K × (MutBor V × Unit {0})) (Bool × (Mut
       omega (arith, run.1.calls.shows.from, run.1.calls.moves ∙ ap (past_index (data_of x.key)) run.1.stays, Keeps-on xs run.0 t run.2)
 
   pub Passes-on : (s t : Stage F (Content V)) → Passes (by_index data_of) g s t → s.position ≤ t.position
-  Passes-on s t passes = elim passes.ends [
-    | inl done ↦ omega (arith, Keeps-on passes.visits s passes.last passes.kept, done.ended.0)
-    | inr one ↦ omega (arith, Keeps-on passes.visits s passes.last passes.kept, one.calls.shows.from, one.calls.moves ∙ ap (past_index (data_of one.visit.key)) one.leaves)
-  ]
+  Passes-on s t passes =
+      let on = Keeps-on passes.visits s passes.last passes.kept in
+      elim passes.ends [
+        | inl done ↦ omega (arith, on, done.ended.0)
+        | inr one ↦ omega (arith, on, one.calls.shows.from, one.calls.moves ∙ ap (past_index (data_of one.visit.key)) one.leaves)
+      ]

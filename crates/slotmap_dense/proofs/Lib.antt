@@ -2,8 +2,8 @@ pub mod ListLemmas
 pub mod PackedLemmas
 pub mod OverLemmas
 pub mod WellFormed
-pub mod CallLemmas
 pub mod MoveLemmas
+pub mod Held
 pub mod GapLemmas
 pub mod SweepLemmas
 pub mod RestLemmas

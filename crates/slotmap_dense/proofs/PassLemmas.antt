@@ -1,9 +1,10 @@
 -- What a pass over the pairs of a map leaves of the map.
-use Rattle.std.proofs.Common.{◌≡◌, ℕ, ◌+◌, ◌≤◌, Bool, true, false, cond, inl, inr, List, [], ◌∷◌, ◌++◌, append-nil, length, map as list_map, get_or, ◌<◌, Some, is_some, slice_get, refl, sym, ap, subst, ◌∙◌, arith}
+use Rattle.std.proofs.Common.{◌≡◌, ℕ, ◌+◌, ◌≤◌, Bool, true, false, cond, inl, inr, List, [], ◌∷◌, ◌++◌, append-nil}
+use Rattle.std.proofs.Common.{length, set, map as list_map, get_or, ◌<◌, Some, is_some, slice_get, refl, sym, ap, subst, ◌∙◌, arith}
 use Rattle.std.proofs.lemmas.Fn.{FoldsTo-push}
-use Rattle.std.proofs.lemmas.Iterator.Adapters.{option_map_id}
+use Rattle.std.proofs.lemmas.List.{length-set}
 use Rattle.std.proofs.lemmas.Option.{slice_get_read, slice_get-map, slice_get-get_or, slice_get_within}
-use Rattle.std.specs.Fn.{Mut}
+use Rattle.std.specs.Fn.{Mut, Called}
 use Rattle.std.specs.Borrow.{MutBor}
 use Rattle.std.specs.List.{FoldsTo}
 use Rattle.std.specs.Option.{option_map}
@@ -12,41 +13,47 @@ use Rattle.slotmap_core.specs.Content.{Content}
 use Rattle.slotmap_core.specs.Key.{Key}
 use Rattle.slotmap_core.specs.Pass.{Stage, stage, Calls, Keeps, Rejects, Passes, MayPass}
 use Rattle.slotmap_core.specs.Retain.{Visit, CallsAt, CallableOnEach}
-use Rattle.slotmap_core.specs.Transition.{Leaves, pushed_all}
+use Rattle.slotmap_core.specs.Transition.{Leaves}
 use Rattle.slotmap_core.proofs.ListingLemmas.{remove-insert}
 use Rattle.slotmap_core.proofs.LeaveLemmas.{Leaves-refl, Leaves-trans, Leaves-with_value, Leaves-removed, same_live}
 use Rattle.slotmap_core.proofs.PassLemmas.{Lifts}
-use Rattle.slotmap_core.proofs.VisitLemmas.{Visits, Visits-start, Visits-call, Visits-rest, Visits-listed, Visits-stay}
+use Rattle.slotmap_core.proofs.VisitLemmas.{CallsAt-called, Visits, Visits-start, Visits-call, Visits-rest, Visits-listed, Visits-stay}
 use Rattle.slotmap_dense.specs.Dense.{Dense, IsDense, with_value_of}
 use Rattle.slotmap_dense.specs.Packed.{IsSound, dense_of, at_position}
 use Rattle.slotmap_dense.specs.Pass.{beside, packed_order}
-use Rattle.slotmap_dense.specs.Retain.{dropped, PacksBy, RetainsPacked}
+use Rattle.slotmap_dense.specs.Retain.{RetainsPacked}
 use Rattle.slotmap_dense.specs.Rest.{rest_of, LeavesFrom}
 use Rattle.slotmap_dense.proofs.PackedLemmas.{get-packed}
 use Rattle.slotmap_dense.proofs.RestLemmas.{Comes-at, rest-start, rest-end}
 use Rattle.slotmap_dense.proofs.RetainLemmas.{SoFar, SoFar-start, SoFar-kept, SoFar-dropped}
-use Rattle.slotmap_dense.proofs.WellFormed.{IsSound-written, dense-written, IsDense-with_value}
+use Rattle.slotmap_dense.proofs.WellFormed.{IsSound-other, dense-written, IsDense-with_value}
 
 module _ {K V : Type 0} (data_of : K → Key) where
   -- what a loop over two slices reads at a position
   pub shows-read : (keys : List K) (values : List V) (p : ℕ) (key : K) (v : V) → p < length keys → length values ≡ length keys → key ≡ get_or keys p key
       → (beside {V = V} data_of (list_map data_of keys)).Shows values p key (get_or values p v)
-  shows-read keys values p key v within same key_is = (
-    slice_get-map data_of keys p ∙ ap (option_map data_of) (slice_get_read keys (length keys) p key refl within key_is),
-    slice_get-get_or values p v (omega (arith, within, same)),
-  )
+  shows-read keys values p key v within same key_is =
+      (slice_get-map data_of keys p ∙ ap (option_map data_of) (slice_get_read keys (length keys) p key refl within key_is), slice_get-get_or values p v (omega (arith, within, same)))
+
+  -- a call of the closure for what was read
+  pub calls-read : {F : Type 0} (g : Mut F (K × (MutBor V × Unit {0})) (Bool × (MutBor V × Unit {0}))) (keys : List K) (v : V) {values : List V} {p q : ℕ}
+      {key : K} {f f' : F} {shown left : MutBor V} {stays : Bool} → p < length keys → length values ≡ length keys → key ≡ get_or keys p key
+      → shown.now ≡ get_or values p v → q ≡ cond stays (p + 1) p → Called g f (key, (shown, tt)) (stays, (left, tt)) f'
+      → Calls (beside data_of (list_map data_of keys)) g (stage p values f) (record { key = key; before = shown.now; after = left.now; stays = stays }) (stage q (set values p left.now) f')
+  calls-read g keys v {values} {p} {q} {key} within same key_is is moves called =
+      let shows = shows-read keys values p key v within same key_is in
+      record { shows = (shows.0, shows.1 ∙ ap Some (sym is)); written = refl; moves = moves; called = CallsAt-called g called }
 
   -- the values beside the keys of a map are those of the map
   pub Lifts-values : (slots : Content ℕ) (keys : List Key) (spare : ℕ)
       → Lifts (beside {V = V} data_of keys) (packed_order data_of) (λ values. dense_of slots keys values spare) (λ values. IsSound slots keys values)
   Lifts-values slots keys spare = record {
-    shows = λ values p key v sound shows.
-        let k = data_of key in (
-          Comes-at slots keys values sound spare p k shows.0,
-          get-packed slots.live keys sound.packed values sound.same_length k ∙ ap (at_position values) (sound.packed.names p k shows.0) ∙ shows.1,
-        );
+    shows = λ values p key v sound shows. (
+      Comes-at slots keys values sound p (data_of key) shows.0 spare,
+      get-packed slots.live keys sound.packed values (data_of key) ∙ ap (at_position values) (sound.packed.names p (data_of key) shows.0) ∙ shows.1,
+    );
     puts = λ values p key v w sound shows. dense-written slots keys values sound spare (data_of key) p w (sound.packed.names p (data_of key) shows.0);
-    still = λ values p key v w sound shows. IsSound-written slots keys values p w sound;
+    still = λ values p key v w sound shows. IsSound-other slots slots keys values (set values p w) sound sound.well refl (length-set values p w);
     moves = λ p key stays. refl;
     ends = λ values p end sound ended. ended;
   }
@@ -82,56 +89,46 @@ module _ {F K V : Type 0} (g : Mut F (K × (MutBor V × Unit {0})) (Bool × (Mut
       abbrev written : Dense V
       written = with_value_of s.held k x.after
 
-      found : map.get (rest_of s.position s.held.keys s.held.values) k ≡ Some x.before
-      found = calls.shows.0.found ∙ calls.shows.1
+      was : IsDense written
+      was = IsDense-with_value s.held k x.after going.well calls.shows.0.is_live
 
       leaves_written : Leaves old.content written.content
       leaves_written = Leaves-trans old.content s.held.content written.content going.leaves (Leaves-with_value s.held.content k x.after calls.shows.0.is_live)
 
-      called : FoldsTo (CallsAt g) first (going.visits ++ x ∷ []) t.closure
-      called = FoldsTo-push (CallsAt g) first going.visits s.closure x t.closure going.calls calls.called
-
-      seen : Visits data_of old.content.live (going.visits ++ x ∷ []) (map.remove (rest_of s.position s.held.keys s.held.values) k)
-          (cond x.stays (map.insert s.held.content.live k x.after) (map.remove s.held.content.live k))
-      seen = Visits-call data_of old.content.live going.visits (rest_of s.position s.held.keys s.held.values) s.held.content.live x going.visited found
+      -- after the call the map is `new`, and the position p
+      one_more : (p : ℕ) (new : Dense V) → IsDense new → Leaves old.content new.content → new.content.capacity ≡ s.held.content.capacity
+          → rest_of p new.keys new.values ≡ map.remove (rest_of s.position s.held.keys s.held.values) k
+          → new.content.live ≡ cond x.stays (map.insert s.held.content.live k x.after) (map.remove s.held.content.live k) → SoFar data_of old (going.visits ++ x ∷ []) p new
+          → Going (stage p new t.closure)
+      one_more p new well leaves capacity rest live so_far = record {
+        well = well;
+        leaves = leaves;
+        capacity = capacity ∙ going.capacity;
+        visits = going.visits ++ x ∷ [];
+        calls = FoldsTo-push (CallsAt g) first going.visits s.closure x t.closure going.calls calls.called;
+        visited = rw (rest, live) (Visits-call data_of old.content.live going.visits _ s.held.content.live x going.visited (calls.shows.0.found ∙ calls.shows.1));
+        so_far = so_far;
+      }
 
       -- the pair stays
       pub Going-kept : x.stays ≡ true → Going t
       Going-kept stays =
           let moved : t.position ≡ s.position + 1 = calls.moves ∙ ap (λ b. cond b (s.position + 1) s.position) stays in
-          let live = ap (λ b. cond b (map.insert s.held.content.live k x.after) (map.remove s.held.content.live k)) stays in
           let same : stage (s.position + 1) written t.closure ≡ t = λ j. stage (sym moved j) (sym calls.written j) t.closure in
-          subst Going same (record {
-            well = IsDense-with_value s.held k x.after going.well calls.shows.0.is_live;
-            leaves = leaves_written;
-            capacity = going.capacity;
-            visits = going.visits ++ x ∷ [];
-            calls = called;
-            visited = subst (λ rest. Visits data_of old.content.live (going.visits ++ x ∷ []) rest written.content.live) (sym (calls.shows.0.next x.after))
-                (subst (Visits data_of old.content.live (going.visits ++ x ∷ []) (map.remove (rest_of s.position s.held.keys s.held.values) k)) live seen);
-            so_far = SoFar-kept data_of old s.held going.visits s.position going.so_far x calls.shows.0.stands written stays refl refl;
-          })
+          subst Going same (one_more (s.position + 1) written was leaves_written refl (calls.shows.0.next x.after) (rw stays refl)
+          (SoFar-kept data_of old s.held going.visits s.position going.so_far x calls.shows.0.stands written stays refl refl))
 
       -- the pair is removed, and the last one moves to its position
       pub Going-dropped : x.stays ≡ false → (new : Dense V) → LeavesFrom t.held t.position k new → IsDense new → new.content.capacity ≡ t.held.content.capacity
           → Going (stage t.position new t.closure)
       Going-dropped stays new leaves_from well capacity =
           let here : t.position ≡ s.position = calls.moves ∙ ap (λ b. cond b (s.position + 1) s.position) stays in
-          let gone : LeavesFrom written s.position k new = subst (λ p. LeavesFrom written p k new) here (subst (λ d. LeavesFrom d t.position k new) calls.written leaves_from) in
-          let live : cond x.stays (map.insert s.held.content.live k x.after) (map.remove s.held.content.live k) ≡ new.content.live =
-          ap (λ b. cond b (map.insert s.held.content.live k x.after) (map.remove s.held.content.live k)) stays ∙ sym (remove-insert s.held.content.live k x.after) ∙ sym gone.removes.live in
-          let was : IsDense written = IsDense-with_value s.held k x.after going.well calls.shows.0.is_live in
-          subst (λ p. Going (stage p new t.closure)) (sym here) (record {
-            well = well;
-            leaves = Leaves-removed false written.content was.content k (same_live s.held.content k x.after calls.shows.0.is_live k ∙ calls.shows.0.is_live)
-                new.content gone.removes old.content leaves_written;
-            capacity = capacity ∙ ap (λ d. d.content.capacity) calls.written ∙ going.capacity;
-            visits = going.visits ++ x ∷ [];
-            calls = called;
-            visited = subst (λ rest. Visits data_of old.content.live (going.visits ++ x ∷ []) rest new.content.live) (sym (gone.rest ∙ calls.shows.0.written x.after))
-                (subst (Visits data_of old.content.live (going.visits ++ x ∷ []) (map.remove (rest_of s.position s.held.keys s.held.values) k)) live seen);
-            so_far = SoFar-dropped data_of old s.held going.visits s.position going.so_far x calls.shows.0.stands new stays gone.keys gone.removes.stack;
-          })
+          let gone : LeavesFrom written s.position k new = rw (calls.written, here) at leaves_from in
+          let leaves = Leaves-removed false written.content was.content k (same_live s.held.content k x.after calls.shows.0.is_live k ∙ calls.shows.0.is_live)
+          new.content gone.removes old.content leaves_written in
+          rw here (one_more s.position new well leaves (capacity ∙ ap (λ d. d.content.capacity) calls.written) (gone.rest ∙ calls.shows.0.written x.after)
+          (rw stays (gone.removes.live ∙ remove-insert s.held.content.live k x.after))
+          (SoFar-dropped data_of old s.held going.visits s.position going.so_far x calls.shows.0.stands new stays gone.keys gone.removes.stack))
 
     -- calls that keep their pairs
     pub Going-along : (xs : List (Visit K V)) (s t : Stage F (Dense V)) → Going s → FoldsTo (Keeps (packed_order data_of) g) s xs t → Going t
@@ -155,6 +152,11 @@ module _ {F K V : Type 0} (g : Mut F (K × (MutBor V × Unit {0})) (Bool × (Mut
       pub going : Going last
       pub rejects : Rejects (packed_order data_of) g last t
 
+    -- what was done once all pairs were visited
+    pub record Ended (t : Stage F (Dense V)) : Type 0 where
+      pub packed : RetainsPacked g data_of first old t.held
+      pub leaves : Leaves old.content t.held.content
+
     rejected_at : (s t : Stage F (Dense V)) (one : Rejects (packed_order data_of) g s t) → t.position ≡ s.position
     rejected_at s t one = one.calls.moves ∙ ap (λ b. cond b (s.position + 1) s.position) one.leaves
 
@@ -176,8 +178,8 @@ module _ {F K V : Type 0} (g : Mut F (K × (MutBor V × Unit {0})) (Bool × (Mut
       ]
 
       -- all pairs were visited
-      pub Going-end : length t.held.keys ≤ t.position → Going t
-      Going-end past = elim passes.ends [
+      past_end : length t.held.keys ≤ t.position → Going t
+      past_end past = elim passes.ends [
         | inl done ↦
             let same : passes.last ≡ t = λ j. stage (sym done.ended.1 j) (sym done.held j) (sym done.closure j) in
             subst Going same last_going
@@ -186,19 +188,21 @@ module _ {F K V : Type 0} (g : Mut F (K × (MutBor V × Unit {0})) (Bool × (Mut
             absurd (omega (arith, rejected_at passes.last t one, ap (λ d. length d.keys) one.calls.written))
       ]
 
-    -- what was done once all pairs were visited
-    pub Going-retains : (t : Stage F (Dense V)) → Going t → length t.held.keys ≤ t.position → RetainsPacked g data_of first old t.held
-    Going-retains t at past =
-        let visited = subst (λ rest. Visits data_of old.content.live at.visits rest t.held.content.live) (rest-end t.position t.held.keys t.held.values past) at.visited in
-        let dropped_all = dropped data_of at.visits in
-        record {
-          retains = record {
-            visits = at.visits;
-            last = t.closure;
-            calls = at.calls;
-            listed = Visits-listed data_of old.content.live at.visits t.held.content.live visited;
-            stay = Visits-stay data_of old.content.live at.visits t.held.content.live visited;
-          };
-          packs = subst (λ xs. PacksBy data_of 0 old.keys xs t.held.keys) (append-nil at.visits) (at.so_far.packs [] t.held.keys (past, refl));
-          stack = sym (ap (λ ks. option_map (λ stack. pushed_all stack ks) old.content.stack) (sym (append-nil dropped_all)) ∙ at.so_far.stack [] ∙ option_map_id t.held.content.stack);
-        }
+      pub Going-end : length t.held.keys ≤ t.position → Ended t
+      Going-end past =
+          let at = past_end past in
+          let visited = rw (rest-end t.position t.held.keys t.held.values past) at at.visited in
+          record {
+            packed = record {
+              retains = record {
+                visits = at.visits;
+                last = t.closure;
+                calls = at.calls;
+                listed = Visits-listed data_of old.content.live at.visits t.held.content.live visited;
+                stay = Visits-stay data_of old.content.live at.visits t.held.content.live visited;
+              };
+              packs = rw append-nil at (at.so_far.packs [] t.held.keys (past, refl));
+              stack = at.so_far.stack;
+            };
+            leaves = at.leaves;
+          }

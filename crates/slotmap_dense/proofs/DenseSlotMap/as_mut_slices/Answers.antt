@@ -1,16 +1,8 @@
-use Rattle.std.proofs.Common.{map as list_map, refl, ap, subst}
-use Rattle.slotmap_dense.specs.Dense.{IsDense}
-use Rattle.slotmap_dense.proofs.WellFormed.{dense_valid, dense_refilled}
+use Rattle.std.proofs.Common.{refl, rules}
+use Rattle.slotmap_dense.proofs.Held.{lent, well_formed}
 use Rattle.slotmap_dense.proofs.DenseSlotMap.as_mut_slices.Goals as goal
 
 pub returns : goal.returns
 returns g c =
-    let m = c.self.inside in (
-      (refl, λ w. rw (← c.self.view_is) (dense_refilled g.K.Key.data_of m.slots m.keys m.values w)),
-      record {
-        writes_back = tt;
-        keys = rw (← c.self.view_is) (ap (list_map g.K.Key.data_of) c.as_slice.ensures.value);
-        values = rw (← c.self.view_is) c.as_mut_slice.ensures.value;
-        valid = subst IsDense c.self.view_is (dense_valid g.K.Key.data_of c.self.inside.slots c.self.inside.keys c.self.inside.values c.self.invariant);
-      },
-    )
+    let valid = well_formed _ c.self.inside c.self.view_is c.self.invariant in
+    ((refl, lent _ c.self.inside c.self.view_is c.self.invariant), search rules)

@@ -1,84 +1,50 @@
-use Rattle.std.proofs.Common.{◌≡◌, Some, None, min, vec_capacity, sym, ap, subst, ◌∙◌}
+use Rattle.std.proofs.Common.{◌≡◌, Some, sym, ap, ◌∙◌}
 use Rattle.std.specs.FinMap as map
-use Rattle.slotmap_core.proofs.KeyLemmas.{keys_total, exact_keys}
-use Rattle.slotmap_core.proofs.MapLaws.{remove_absent}
-use Rattle.slotmap_dense.specs.Packed.{IsPacked, at_position}
-use Rattle.slotmap_dense.proofs.PackedLemmas.{get-packed}
-use Rattle.slotmap_dense.proofs.GapLemmas.{gapped_by}
-use Rattle.slotmap_dense.proofs.MoveLemmas.{IsSound-closed, detaches-dense}
-use Rattle.slotmap_dense.proofs.CallLemmas.{stays-same, stays-valid}
+use Rattle.slotmap_dense.proofs.PackedLemmas.{IsGapped-removed}
+use Rattle.slotmap_dense.proofs.Held.{absent, unchanged, Closed, closed}
+use Rattle.slotmap_dense.proofs.DenseSlotMap.detach.Goals.{After-close_gap}
 use Rattle.slotmap_dense.proofs.DenseSlotMap.detach.Goals as goal
 
 pub returns-in_err-position-clause-value : goal.returns-in_err-position-clause-value
 returns-in_err-position-clause-value g c =
-    let m = c.self.inside in
-    let key = c.data.result in
-    let none : map.get m.slots.live key ≡ None = sym c.detach.ensures.value ∙ c.in_err-position.was in
-    rw (← c.data.ensures.value) (c.from_residual.ensures
-    ∙ sym (ap (λ m. map.get m.content.live key) (sym c.self.view_is) ∙ get-packed _ _ c.self.invariant.packed _ c.self.invariant.same_length key
-    ∙ ap (at_position m.values.items) none))
+    rw (← c.data.ensures.value) (c.from_residual.ensures ∙ sym (absent _ c.self.inside c.self.view_is c.self.invariant c.data.result (sym c.detach.ensures.value ∙ c.in_err-position.was)).0)
 
 pub returns-in_err-position-clause-valid : goal.returns-in_err-position-clause-valid
-returns-in_err-position-clause-valid g c =
-    let m = c.self.inside in
-    rw (← c.self.view_is, c.in_err-position.ensures.unchanged) (stays-same g.K.Key.data_of m.slots m.keys m.values c.self.invariant)
+returns-in_err-position-clause-valid g c = rw c.in_err-position.ensures.unchanged (unchanged _ c.self.inside c.self.view_is c.self.invariant)
 
 pub close_gap-requires-clause-gapped : goal.close_gap-requires-clause-gapped
 close_gap-requires-clause-gapped g c =
-    let m = c.self.inside in
-    gapped_by m.slots.live c.detach.new.self.live _ c.data.result _ c.self.invariant.packed (sym c.detach.ensures.value ∙ c.in_ok-position.was) c.in_ok-position.ensures.detaches.live
+    rw c.in_ok-position.ensures.detaches.live (IsGapped-removed _ _ c.self.invariant.packed c.data.result _ (sym c.detach.ensures.value ∙ c.in_ok-position.was))
+
+closes : (g : _) (c : After-close_gap g) → Closed g.K.Key.data_of c.self.inside c.self.view_is c.self.invariant c.close_gap.new.slots c.close_gap.new.keys
+    c.close_gap.new.values (g.K.Key.data_of c.args.key) c.in_ok-position.position c.close_gap.result c.detach.new.self
+closes g c =
+    let key = c.data.result in
+    let at : map.get c.self.inside.slots.live key ≡ Some c.in_ok-position.position = sym c.detach.ensures.value ∙ c.in_ok-position.was in
+    let did = c.close_gap.ensures in
+    rw (← c.data.ensures.value) (closed _ c.self.inside c.self.view_is c.self.invariant c.close_gap.new.slots c.close_gap.new.keys c.close_gap.new.values
+    key _ c.close_gap.result c.detach.new.self at did.value (did.keys key (c.self.invariant.packed.stands key _ at)) did.values did.packed did.well
+    did.rest did.keys_capacity did.values_capacity)
 
 pub invariant_of-self-2 : goal.invariant_of-self-2
-invariant_of-self-2 g c =
-    let m = c.self.inside in
-    let key = c.data.result in
-    let at : map.get m.slots.live key ≡ Some c.in_ok-position.position = sym c.detach.ensures.value ∙ c.in_ok-position.was in
-    let keys = c.close_gap.ensures.keys key (c.self.invariant.packed.stands key _ at) in
-    rw (keys, c.close_gap.ensures.values)
-    (IsSound-closed m.slots _ _ c.self.invariant c.detach.new.self c.close_gap.new.slots key c.close_gap.result _ at
-    (subst (IsPacked c.close_gap.new.slots.live) keys c.close_gap.ensures.packed) c.close_gap.ensures.well)
+invariant_of-self-2 g c = (closes g (goal.at.invariant_of-self-2 g c).After-close_gap).sound_after
 
 pub returns-clause-value : goal.returns-clause-value
-returns-clause-value g c =
-    let m = c.self.inside in
-    let key = c.data.result in
-    let at : map.get m.slots.live key ≡ Some c.in_ok-position.position = sym c.detach.ensures.value ∙ c.in_ok-position.was in
-    rw (← c.data.ensures.value) (sym c.close_gap.ensures.value
-    ∙ sym (ap (λ m. map.get m.content.live key) (sym c.self.view_is) ∙ get-packed _ _ c.self.invariant.packed _ c.self.invariant.same_length key
-    ∙ ap (at_position m.values.items) at))
+returns-clause-value g c = sym (closes g (goal.at.returns-clause-value g c).After-close_gap).value
 
 pub returns-clause-detaches : goal.returns-clause-detaches
-returns-clause-detaches g c =
-    let m = c.self.inside in
-    let key = c.data.result in
-    let at : map.get m.slots.live key ≡ Some c.in_ok-position.position = sym c.detach.ensures.value ∙ c.in_ok-position.was in
-    let keys = c.close_gap.ensures.keys key (c.self.invariant.packed.stands key _ at) in
-    rw (← c.self.view_is, ← c.data.ensures.value, keys, c.close_gap.ensures.values, c.close_gap.ensures.keys_capacity, c.close_gap.ensures.values_capacity)
-    (detaches-dense m.slots _ _ c.self.invariant c.detach.new.self c.close_gap.new.slots key c.close_gap.result _ at
-    (subst (IsPacked c.close_gap.new.slots.live) keys c.close_gap.ensures.packed)
-    (min (vec_capacity m.keys) (vec_capacity m.values)) c.in_ok-position.ensures.detaches c.close_gap.ensures.rest)
+returns-clause-detaches g c = (closes g (goal.at.returns-clause-detaches g c).After-close_gap).detaches (rw c.data.ensures.value at c.in_ok-position.ensures.detaches)
 
 pub returns-clause-order : goal.returns-clause-order
-returns-clause-order g c =
-    let m = c.self.inside in
-    let key = c.data.result in
-    let at : map.get m.slots.live key ≡ Some c.in_ok-position.position = sym c.detach.ensures.value ∙ c.in_ok-position.was in
-    let stood = c.self.invariant.packed.stands key _ at in
-    let keys = c.close_gap.ensures.keys key stood in
-    rw (← c.self.view_is, ← c.data.ensures.value) (record { position = c.in_ok-position.position; stood = stood; value = c.close_gap.ensures.value; keys = keys; values = c.close_gap.ensures.values })
+returns-clause-order g c = (closes g (goal.at.returns-clause-order g c).After-close_gap).order
 
 pub returns-clause-valid : goal.returns-clause-valid
-returns-clause-valid g c =
-    let m = c.self.inside in
-    rw (← c.self.view_is) (stays-valid g.K.Key.data_of m.slots m.keys m.values c.self.invariant c.close_gap.new.slots c.close_gap.new.keys
-    c.close_gap.new.values (invariant_of-self-2 g c)
-    (ap (λ c. c.capacity) c.close_gap.ensures.rest ∙ c.detach.ensures.valid.capacity) c.close_gap.ensures.keys_capacity
-    c.close_gap.ensures.values_capacity)
+returns-clause-valid g c = (closes g (goal.at.returns-clause-valid g c).After-close_gap).valid c.detach.ensures.valid.capacity
 
 pub returns-in_err-position-clause-live : goal.returns-in_err-position-clause-live
 returns-in_err-position-clause-live g c =
-    let none = sym (returns-in_err-position-clause-value g c) ∙ c.from_residual.ensures in
-    ap (λ d. d.content.live) c.self.view_is ∙ sym (remove_absent keys_total exact_keys c.args.self.now.content.live (g.K.Key.data_of c.args.key) none)
+    rw (← c.data.ensures.value) (ap (λ d. d.content.live) c.self.view_is
+    ∙ sym (absent _ c.self.inside c.self.view_is c.self.invariant c.data.result (sym c.detach.ensures.value ∙ c.in_err-position.was)).1)
 
 pub returns-clause-live : goal.returns-clause-live
 returns-clause-live g c = (returns-clause-detaches g c).live

@@ -4,7 +4,8 @@ use Rattle.slotmap_core.specs.Pass.{Passes, stage}
 use Rattle.slotmap_core.proofs.PassLemmas.{items-whole, passes-lift, may-lift}
 use Rattle.slotmap_dense.specs.Packed.{dense_of, IsSound}
 use Rattle.slotmap_dense.specs.Pass.{beside, packed_order}
-use Rattle.slotmap_dense.proofs.CallLemmas.{stays-valid}
+use Rattle.slotmap_dense.proofs.WellFormed.{IsSound-other}
+use Rattle.slotmap_dense.proofs.Held.{stays-valid}
 use Rattle.slotmap_dense.proofs.PassLemmas.{Lifts-values}
 use Rattle.slotmap_dense.proofs.DenseSlotMap.first_rejected.Goals as goal
 
@@ -35,8 +36,8 @@ returns-clause-valid g c =
     let m = c.self.inside in
     let end = c.find_rejected.new in
     let same : length end.values ≡ length m.values.items = c.find_rejected.ensures.same_length ∙ ap length c.as_mut_slice.ensures.value in
-    rw (← c.self.view_is) (stays-valid g.K.Key.data_of m.slots m.keys m.values c.self.invariant m.slots m.keys (with_items m.values end.values)
-    (record { well = c.self.invariant.well; packed = c.self.invariant.packed; same_length = ap length (items-whole m.values end.values same) ∙ same ∙ c.self.invariant.same_length }) refl refl refl)
+    stays-valid _ m c.self.view_is c.self.invariant m.slots m.keys (with_items m.values end.values)
+    (IsSound-other _ _ _ _ _ c.self.invariant c.self.invariant.well refl (ap length (items-whole m.values end.values same) ∙ same)) refl refl refl
 
 pub returns-clause-keys : goal.returns-clause-keys
 returns-clause-keys g c = ap (λ d. d.keys) c.self.view_is

@@ -1,4 +1,4 @@
-use Rattle.std.proofs.Common.{◌≡◌, ◌+◌, ◌-◌, ◌^◌, ◌<◌, ◌∷◌, [], ◌++◌, length, Some, min, vec_capacity, refl, sym, ap, subst, ◌∙◌, append_assoc, append-nil, arith, rules, add-one}
+use Rattle.std.proofs.Common.{◌≡◌, ◌+◌, ◌-◌, ◌^◌, ◌<◌, ◌∷◌, [], ◌++◌, length, map as list_map, Some, min, vec_capacity, refl, sym, ap, ◌∙◌, append_assoc, append-nil, arith, rules, add-one}
 use Rattle.std.specs.FinMap as map
 use Rattle.std.specs.Vec.Iter.{into_iter_items}
 use Rattle.std.proofs.lemmas.List.{length_push, length-map, nil_from_length, map-append}
@@ -7,10 +7,22 @@ use Rattle.slotmap_core.proofs.StartLemmas.{odd_of}
 use Rattle.slotmap_core.proofs.KeyLemmas.{key_from-odd}
 use Rattle.slotmap_core.proofs.PlacesLemmas.{key}
 use Rattle.slotmap_core.proofs.ListReadLemmas.{next_consistent}
-use Rattle.slotmap_dense.proofs.ListReads.{AreSplit-start, AreSplit-live, AreSplit-none, same_places, refuses-positions, IsSound-split, reads-split, stack_alike}
-use Rattle.slotmap_dense.proofs.WellFormed.{dense_valid}
+use Rattle.slotmap_dense.proofs.ListReads.{AreSplit, AreSplit-start, AreSplit-live, AreSplit-none, same_places, refuses-positions, IsSound-split, reads-split, stack_alike}
+use Rattle.slotmap_dense.proofs.Held.{dense_valid}
+use Rattle.slotmap_dense.proofs.DenseSlotMap.from_slots.Goals.{In_ok-check_slots, In-None}
 use Rattle.slotmap_dense.proofs.DenseSlotMap.from_slots.Goals.{in-Some-value+in_ok-push-in-Some-value+in_ok-push-in-Some-value-2, in-None-value}
 use Rattle.slotmap_dense.proofs.DenseSlotMap.from_slots.Goals as goal
+
+accepted : (g : _) (c : In_ok-check_slots g) → Accepts c.args.list.items 4294967295
+accepted g c = rw c.deref.ensures.value at (c.in_ok-check_slots.ensures.ok.0 refl)
+
+-- all records were read
+split_all : (g : _) (c : In-None g) → AreSplit c.args.list.items c.loop-slot.positions.items (list_map g.K.Key.data_of c.loop-slot.keys.items) c.loop-slot.values.items
+split_all g c =
+    let at = c.loop-slot in
+    let none : into_iter_items at.slot-iterator ≡ [] = nil_from_length _ (sym at.invariant.left ∙ c.in-None.ensures.steps.0) in
+    let all : at.yielded ≡ c.args.list.items = sym (append-nil at.yielded) ∙ ap (λ xs. at.yielded ++ xs) (sym none) ∙ at.invariant.all in
+    rw all at at.invariant.split
 
 pub loop-slot-init : goal.loop-slot-init
 loop-slot-init g c =
@@ -27,14 +39,27 @@ loop-slot-init g c =
 pub overflow_cast-position : goal.overflow_cast-position
 overflow_cast-position g c =
     let at = c.loop-slot in
-    let accepted = subst (λ l. Accepts l 4294967295) c.deref.ensures.value (c.in_ok-check_slots.ensures.ok.0 refl) in
-    omega (arith, accepted.short, at.invariant.counted, at.invariant.split.fewer, length-map at.keys.items g.K.Key.data_of, c.len-position.ensures, at.keys.ok.0)
+    omega (
+      arith,
+      (accepted g (goal.at.overflow_cast-position g c).In_ok-check_slots).short,
+      at.invariant.counted,
+      at.invariant.split.fewer,
+      length-map at.keys.items g.K.Key.data_of,
+      c.len-position.ensures,
+      at.keys.ok.0,
+    )
 
 pub overflow_cast-len : goal.overflow_cast-len
 overflow_cast-len g c =
     let at = c.loop-slot in
-    let accepted = subst (λ l. Accepts l 4294967295) c.deref.ensures.value (c.in_ok-check_slots.ensures.ok.0 refl) in
-    omega (arith, accepted.short, at.invariant.counted, same_places _ _ _ _ at.invariant.split, c.len-in-Some-value.ensures, at.positions.ok.0)
+    omega (
+      arith,
+      (accepted g (goal.at.overflow_cast-len g c).In_ok-check_slots).short,
+      at.invariant.counted,
+      same_places _ _ _ _ at.invariant.split,
+      c.len-in-Some-value.ensures,
+      at.positions.ok.0,
+    )
 
 pub loop-slot-preserved : goal.loop-slot-preserved
 loop-slot-preserved g c =
@@ -43,7 +68,7 @@ loop-slot-preserved g c =
     let slot = c.in-Some.slot in
     let steps = c.in-Some.ensures.steps in
     let rest = into_iter_items c.next.new.self in
-    let accepted = subst (λ l. Accepts l 4294967295) c.deref.ensures.value (c.in_ok-check_slots.ensures.ok.0 refl) in
+    let accepted = accepted g (goal.at.loop-slot-preserved g c).In_ok-check_slots in
     let whole : at.yielded ++ slot ∷ rest ≡ c.args.list.items = ap (λ xs. at.yielded ++ xs) (sym steps.0) ∙ before.all in
     let consistent = next_consistent c.args.list.items at.yielded rest slot 4294967295 accepted whole in
     let shrinks : length (into_iter_items at.slot-iterator) ≡ length rest + 1 = ap length steps.0 ∙ sym (add-one _) in
@@ -79,49 +104,26 @@ loop-slot-preserved g c =
 
 pub returns-in_err-slots-clause-err : goal.returns-in_err-slots-clause-err
 returns-in_err-slots-clause-err g c =
-    let at = c.loop-slot in
-    let accepted = subst (λ l. Accepts l 4294967295) c.deref.ensures.value (c.in_ok-check_slots.ensures.ok.0 refl) in
-    let none : into_iter_items at.slot-iterator ≡ [] = nil_from_length _ (sym at.invariant.left ∙ c.in-None.ensures.steps.0) in
-    let all : at.yielded ≡ c.args.list.items = sym (append-nil at.yielded) ∙ ap (λ xs. at.yielded ++ xs) (sym none) ∙ at.invariant.all in
-    let split = rw all at at.invariant.split in
-    let refused = refuses-positions c.args.list.items at.positions.items _ at.values.items split 4294967295 accepted c.in_err-slots.field-0.0 c.in_err-slots.ensures.err in
+    let at = goal.at.returns-in_err-slots-clause-err g c in
+    let refused = refuses-positions _ _ _ _ (split_all g at.In-None) 4294967295 (accepted g at.In_ok-check_slots) c.in_err-slots.field-0.0 c.in_err-slots.ensures.err in
     search (rules, refused)
 
 pub invariant_of-result : goal.invariant_of-result
 invariant_of-result g c =
-    let at = c.loop-slot in
-    let accepted = subst (λ l. Accepts l 4294967295) c.deref.ensures.value (c.in_ok-check_slots.ensures.ok.0 refl) in
-    let none : into_iter_items at.slot-iterator ≡ [] = nil_from_length _ (sym at.invariant.left ∙ c.in-None.ensures.steps.0) in
-    let all : at.yielded ≡ c.args.list.items = sym (append-nil at.yielded) ∙ ap (λ xs. at.yielded ++ xs) (sym none) ∙ at.invariant.all in
-    let split = rw all at at.invariant.split in
-    IsSound-split c.args.list.items at.positions.items _ at.values.items split 4294967295 accepted c.in_ok-slots.slots c.in_ok-slots.ensures.reads
+    let at = goal.at.invariant_of-result g c in
+    IsSound-split _ _ _ _ (split_all g at.In-None) 4294967295 (accepted g at.In_ok-check_slots) c.in_ok-slots.slots c.in_ok-slots.ensures.reads
 
 pub returns-clause-valid : goal.returns-clause-valid
 returns-clause-valid g c = dense_valid g.K.Key.data_of c.in_ok-slots.slots c.loop-slot.keys c.loop-slot.values (invariant_of-result g c)
 
 pub returns-clause-reads : goal.returns-clause-reads
 returns-clause-reads g c =
-    let at = c.loop-slot in
-    let accepted = subst (λ l. Accepts l 4294967295) c.deref.ensures.value (c.in_ok-check_slots.ensures.ok.0 refl) in
-    let none : into_iter_items at.slot-iterator ≡ [] = nil_from_length _ (sym at.invariant.left ∙ c.in-None.ensures.steps.0) in
-    let all : at.yielded ≡ c.args.list.items = sym (append-nil at.yielded) ∙ ap (λ xs. at.yielded ++ xs) (sym none) ∙ at.invariant.all in
-    let split = rw all at at.invariant.split in
-    reads-split c.args.list.items at.positions.items _ at.values.items split 4294967295 accepted c.in_ok-slots.slots c.in_ok-slots.ensures.reads
-    (min (vec_capacity at.keys) (vec_capacity at.values)) (returns-clause-valid g c).content
+    let at = goal.at.returns-clause-reads g c in
+    reads-split _ _ _ _ (split_all g at.In-None) 4294967295 (accepted g at.In_ok-check_slots) c.in_ok-slots.slots c.in_ok-slots.ensures.reads
+    (min (vec_capacity c.loop-slot.keys) (vec_capacity c.loop-slot.values)) (returns-clause-valid g c).content
 
 pub returns-clause-stack : goal.returns-clause-stack
-returns-clause-stack g c =
-    let at = c.loop-slot in
-    let accepted = subst (λ l. Accepts l 4294967295) c.deref.ensures.value (c.in_ok-check_slots.ensures.ok.0 refl) in
-    let none : into_iter_items at.slot-iterator ≡ [] = nil_from_length _ (sym at.invariant.left ∙ c.in-None.ensures.steps.0) in
-    let all : at.yielded ≡ c.args.list.items = sym (append-nil at.yielded) ∙ ap (λ xs. at.yielded ++ xs) (sym none) ∙ at.invariant.all in
-    let split = rw all at at.invariant.split in
-    c.in_ok-slots.ensures.stack ∙ ap Some (stack_alike c.args.list.items at.positions.items split.same_versions)
+returns-clause-stack g c = c.in_ok-slots.ensures.stack ∙ ap Some (stack_alike _ _ (split_all g (goal.at.returns-clause-stack g c).In-None).alike)
 
 pub returns-clause-in_order : goal.returns-clause-in_order
-returns-clause-in_order g c =
-    let at = c.loop-slot in
-    let none : into_iter_items at.slot-iterator ≡ [] = nil_from_length _ (sym at.invariant.left ∙ c.in-None.ensures.steps.0) in
-    let all : at.yielded ≡ c.args.list.items = sym (append-nil at.yielded) ∙ ap (λ xs. at.yielded ++ xs) (sym none) ∙ at.invariant.all in
-    let split = rw all at at.invariant.split in
-    split.ascending ∙ ap (λ m. map.keys m) (sym split.lives)
+returns-clause-in_order g c = let split = split_all g (goal.at.returns-clause-in_order g c).In-None in split.ascending ∙ ap (λ m. map.keys m) (sym split.lives)

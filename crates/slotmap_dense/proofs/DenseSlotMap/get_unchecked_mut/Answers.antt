@@ -1,32 +1,27 @@
-use Rattle.std.proofs.Common.{Some, refl, sym, ap, ◌∙◌, subst, arith}
-use Rattle.std.specs.FinMap as map
-use Rattle.slotmap_dense.proofs.ListLemmas.{same_read}
-use Rattle.slotmap_dense.specs.Dense.{IsDense}
-use Rattle.slotmap_dense.proofs.WellFormed.{dense_valid, present, same_keys, IsSound-written, dense-written}
+use Rattle.std.proofs.Common.{Some, refl, sym, ap, ◌∙◌, arith}
+use Rattle.std.proofs.lemmas.List.{length-set}
+use Rattle.slotmap_core.proofs.ListLemmas.{same_read}
+use Rattle.slotmap_dense.proofs.Held.{well_formed, contains, present}
+use Rattle.slotmap_dense.proofs.WellFormed.{IsSound-other, dense-written}
 use Rattle.slotmap_dense.proofs.DenseSlotMap.get_unchecked_mut.Goals as goal
 
 pub get_unchecked-requires : goal.get_unchecked-requires
-get_unchecked-requires g c =
-    rw (c.data.ensures.value) (sym ((same_keys _ _ _ c.self.invariant).each (g.K.Key.data_of c.args.key))
-    ∙ ap (λ m. map.contains_key m.content.live (g.K.Key.data_of c.args.key)) c.self.view_is ∙ c.requires)
+get_unchecked-requires g c = rw (c.data.ensures.value, ← contains _ c.self.inside c.self.view_is c.self.invariant (g.K.Key.data_of c.args.key)) c.requires
 
 pub index_mut-requires : goal.index_mut-requires
 index_mut-requires g c =
-    let found = present _ _ _ c.self.invariant c.data.result c.get_unchecked.result.now c.get_unchecked.ensures.value in
-    omega (arith, found.inside, c.self.inside.values.ok.0)
+    let found = present _ c.self.inside c.self.view_is c.self.invariant c.data.result _ c.get_unchecked.ensures.value in omega (arith, found.inside, c.self.inside.values.ok.0)
 
 pub invariant_of-self-lent : goal.invariant_of-self-lent
-invariant_of-self-lent g c w = IsSound-written _ _ _ _ w c.self.invariant
+invariant_of-self-lent g c w = IsSound-other _ _ _ _ _ c.self.invariant c.self.invariant.well refl (length-set c.self.inside.values.items c.get_unchecked.result.now w)
 
 pub returns : goal.returns
 returns g c =
-    let found = present _ _ _ c.self.invariant c.data.result c.get_unchecked.result.now c.get_unchecked.ensures.value in (
+    let found = present _ c.self.inside c.self.view_is c.self.invariant c.data.result _ c.get_unchecked.ensures.value in (
       (refl, λ w. rw (← c.self.view_is, ← c.data.ensures.value) (dense-written _ _ _ c.self.invariant _ _ _ w c.get_unchecked.ensures.value)),
       record {
         writes_back = tt;
-        value =
-            rw (← c.data.ensures.value) (ap (λ m. map.get m.content.live c.data.result) (sym c.self.view_is) ∙ found.gives
-            ∙ sym (ap Some (same_read c.self.inside.values.items _ _ _ c.index_mut.ensures.value found.there)));
-        valid = subst IsDense c.self.view_is (dense_valid g.K.Key.data_of c.self.inside.slots c.self.inside.keys c.self.inside.values c.self.invariant);
+        value = rw (← c.data.ensures.value) (found.gives ∙ sym (ap Some (same_read c.self.inside.values.items _ _ _ c.index_mut.ensures.value found.there)));
+        valid = well_formed _ c.self.inside c.self.view_is c.self.invariant;
       },
     )

@@ -1,7 +1,6 @@
-use Rattle.std.proofs.Common.{map as list_map, subst}
-use Rattle.slotmap_dense.specs.Dense.{IsDense}
+use Rattle.std.proofs.Common.{map as list_map}
 use Rattle.slotmap_dense.proofs.PackedLemmas.{listed}
-use Rattle.slotmap_dense.proofs.WellFormed.{dense_valid}
+use Rattle.slotmap_dense.proofs.Held.{well_formed}
 use Rattle.slotmap_dense.proofs.DenseSlotMap.iter.Goals as goal
 
 pub returns-clause-listing : goal.returns-clause-listing
@@ -11,4 +10,4 @@ returns-clause-listing g c =
     rw (c.as_slice.ensures.value, c.as_slice-2.ensures.value, ← c.self.view_is) (listed m.slots.live (list_map g.K.Key.data_of m.keys.items) sound.packed m.values.items sound.same_length)
 
 pub returns-clause-valid : goal.returns-clause-valid
-returns-clause-valid g c = subst IsDense c.self.view_is (dense_valid g.K.Key.data_of c.self.inside.slots c.self.inside.keys c.self.inside.values c.self.invariant)
+returns-clause-valid g c = well_formed _ c.self.inside c.self.view_is c.self.invariant

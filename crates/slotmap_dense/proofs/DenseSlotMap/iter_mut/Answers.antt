@@ -1,24 +1,9 @@
-use Rattle.std.proofs.Common.{refl, sym, subst, ◌∙◌}
+use Rattle.std.proofs.Common.{sym, rules}
 use Rattle.std.proofs.lemmas.List.{length-map}
-use Rattle.slotmap_dense.specs.Dense.{IsDense}
-use Rattle.slotmap_dense.proofs.WellFormed.{dense_valid, dense_refilled}
+use Rattle.slotmap_dense.proofs.Held.{lent, well_formed}
 use Rattle.slotmap_dense.proofs.DenseSlotMap.iter_mut.Goals as goal
 
 pub returns : goal.returns
 returns g c =
-    let m = c.self.inside in (
-      (sym c.iter_mut.ensures.iter_mut_name, λ w. rw (← c.self.view_is) (dense_refilled g.K.Key.data_of m.slots m.keys m.values w)),
-      record {
-        writes_back = tt;
-        in_order = rw (
-          ← c.self.view_is,
-          c.iter.ensures.rest,
-          c.iter_mut.ensures.rest,
-          c.deref.ensures.value,
-          c.deref_mut.ensures.value,
-        ) refl;
-        ready = rw (c.iter.ensures.rest, c.iter_mut.ensures.rest, c.deref.ensures.value, c.deref_mut.ensures.value)
-            (c.self.invariant.same_length ∙ length-map m.keys.items g.K.Key.data_of);
-        valid = subst IsDense c.self.view_is (dense_valid g.K.Key.data_of c.self.inside.slots c.self.inside.keys c.self.inside.values c.self.invariant);
-      },
-    )
+    let valid = well_formed _ c.self.inside c.self.view_is c.self.invariant in
+    ((sym c.iter_mut.ensures.iter_mut_name, lent _ c.self.inside c.self.view_is c.self.invariant), search (rules, length-map c.self.inside.keys.items g.K.Key.data_of))

@@ -1,19 +1,13 @@
-use Rattle.std.proofs.Common.{length, slice_get, map as list_map, sym, ap, subst, ◌∙◌, arith}
+use Rattle.std.proofs.Common.{length, slice_get, map as list_map, sym, ap, ◌∙◌, arith}
 use Rattle.std.proofs.lemmas.Option.{same_Some}
-use Rattle.std.specs.FinMap as map
-use Rattle.slotmap_dense.specs.Dense.{IsDense}
-use Rattle.slotmap_dense.proofs.WellFormed.{dense_valid, present, same_keys}
+use Rattle.slotmap_dense.proofs.Held.{well_formed, contains, present}
 use Rattle.slotmap_dense.proofs.DenseSlotMap.lend_two.Goals as goal
 
 pub get_unchecked-requires : goal.get_unchecked-requires
-get_unchecked-requires g c =
-    rw (c.data.ensures.value) (sym ((same_keys _ _ _ c.self.invariant).each (g.K.Key.data_of c.args.first))
-    ∙ ap (λ m. map.contains_key m.content.live (g.K.Key.data_of c.args.first)) c.self.view_is ∙ c.requires.first)
+get_unchecked-requires g c = rw (c.data.ensures.value, ← contains _ c.self.inside c.self.view_is c.self.invariant (g.K.Key.data_of c.args.first)) c.requires.first
 
 pub get_unchecked-requires-2 : goal.get_unchecked-requires-2
-get_unchecked-requires-2 g c =
-    rw (c.data-2.ensures.value) (sym ((same_keys _ _ _ c.self.invariant).each (g.K.Key.data_of c.args.second))
-    ∙ ap (λ m. map.contains_key m.content.live (g.K.Key.data_of c.args.second)) c.self.view_is ∙ c.requires.second)
+get_unchecked-requires-2 g c = rw (c.data-2.ensures.value, ← contains _ c.self.inside c.self.view_is c.self.invariant (g.K.Key.data_of c.args.second)) c.requires.second
 
 pub two_of-requires-clause-apart : goal.two_of-requires-clause-apart
 two_of-requires-clause-apart g c same =
@@ -24,27 +18,25 @@ two_of-requires-clause-apart g c same =
 
 pub two_of-requires-clause-first : goal.two_of-requires-clause-first
 two_of-requires-clause-first g c =
-    let found = present _ _ _ c.self.invariant c.data.result _ c.get_unchecked.ensures.value in
+    let found = present _ c.self.inside c.self.view_is c.self.invariant c.data.result _ c.get_unchecked.ensures.value in
     omega (arith, found.inside, ap length c.values_as_mut_slice.ensures.value, ap (λ d. length d.values) c.self.view_is)
 
 pub two_of-requires-clause-second : goal.two_of-requires-clause-second
 two_of-requires-clause-second g c =
-    let found = present _ _ _ c.self.invariant c.data-2.result _ c.get_unchecked-2.ensures.value in
+    let found = present _ c.self.inside c.self.view_is c.self.invariant c.data-2.result _ c.get_unchecked-2.ensures.value in
     omega (arith, found.inside, ap length c.values_as_mut_slice.ensures.value, ap (λ d. length d.values) c.self.view_is)
 
 pub returns-clause-first : goal.returns-clause-first
 returns-clause-first g c =
-    let found = present _ _ _ c.self.invariant c.data.result _ c.get_unchecked.ensures.value in
-    rw (← c.data.ensures.value) (ap (λ d. map.get d.content.live c.data.result) (sym c.self.view_is) ∙ found.gives ∙ sym found.there
-    ∙ ap (λ xs. slice_get xs c.get_unchecked.result.now) (ap (λ d. d.values) c.self.view_is ∙ sym c.values_as_mut_slice.ensures.value)
-    ∙ c.two_of.ensures.first)
+    let found = present _ c.self.inside c.self.view_is c.self.invariant c.data.result _ c.get_unchecked.ensures.value in
+    let values = ap (λ d. d.values) c.self.view_is ∙ sym c.values_as_mut_slice.ensures.value in
+    rw (← c.data.ensures.value) (found.gives ∙ sym found.there ∙ ap (λ xs. slice_get xs c.get_unchecked.result.now) values ∙ c.two_of.ensures.first)
 
 pub returns-clause-second : goal.returns-clause-second
 returns-clause-second g c =
-    let found = present _ _ _ c.self.invariant c.data-2.result _ c.get_unchecked-2.ensures.value in
-    rw (← c.data-2.ensures.value) (ap (λ d. map.get d.content.live c.data-2.result) (sym c.self.view_is) ∙ found.gives ∙ sym found.there
-    ∙ ap (λ xs. slice_get xs c.get_unchecked-2.result.now) (ap (λ d. d.values) c.self.view_is ∙ sym c.values_as_mut_slice.ensures.value)
-    ∙ c.two_of.ensures.second)
+    let found = present _ c.self.inside c.self.view_is c.self.invariant c.data-2.result _ c.get_unchecked-2.ensures.value in
+    let values = ap (λ d. d.values) c.self.view_is ∙ sym c.values_as_mut_slice.ensures.value in
+    rw (← c.data-2.ensures.value) (found.gives ∙ sym found.there ∙ ap (λ xs. slice_get xs c.get_unchecked-2.result.now) values ∙ c.two_of.ensures.second)
 
 pub returns-clause-valid : goal.returns-clause-valid
-returns-clause-valid g c = subst IsDense c.self.view_is (dense_valid g.K.Key.data_of c.self.inside.slots c.self.inside.keys c.self.inside.values c.self.invariant)
+returns-clause-valid g c = well_formed _ c.self.inside c.self.view_is c.self.invariant

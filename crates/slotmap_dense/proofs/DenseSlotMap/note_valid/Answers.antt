@@ -1,7 +1,5 @@
-use Rattle.std.proofs.Common.{subst}
-use Rattle.slotmap_dense.specs.Dense.{IsDense}
-use Rattle.slotmap_dense.proofs.WellFormed.{dense_valid}
+use Rattle.slotmap_dense.proofs.Held.{well_formed}
 use Rattle.slotmap_dense.proofs.DenseSlotMap.note_valid.Goals as goal
 
 pub returns : goal.returns
-returns g c = subst IsDense c.self.view_is (dense_valid g.K.Key.data_of c.self.inside.slots c.self.inside.keys c.self.inside.values c.self.invariant)
+returns g c = well_formed _ c.self.inside c.self.view_is c.self.invariant

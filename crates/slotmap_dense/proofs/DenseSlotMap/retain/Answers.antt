@@ -1,7 +1,8 @@
-use Rattle.std.proofs.Common.{◌<◌, ◌≤◌, length, ap, arith}
+use Rattle.std.proofs.Common.{◌≡◌, ◌<◌, ◌≤◌, length, ap, arith}
 use Rattle.slotmap_core.specs.Pass.{stage}
-use Rattle.slotmap_dense.proofs.PassLemmas.{Going-start, Going-may, Going-rejected, Rejected-stands, Going-dropped, Going-end, Going-retains}
+use Rattle.slotmap_dense.proofs.PassLemmas.{Going-start, Going-may, Going-rejected, Rejected-stands, Going-dropped, Ended, Going-end}
 use Rattle.slotmap_dense.proofs.SweepLemmas.{len_keys}
+use Rattle.slotmap_dense.proofs.DenseSlotMap.retain.Goals.{After-len}
 use Rattle.slotmap_dense.proofs.DenseSlotMap.retain.Goals as goal
 
 pub loop-position-init : goal.loop-position-init
@@ -22,34 +23,28 @@ loop-position-smaller g c = omega (arith, c.take_at.ensures.fewer, ap length c.f
 pub loop-position-preserved : goal.loop-position-preserved
 loop-position-preserved g c =
     let at = c.loop-position in
-    let old = c.args.self.now in
     let found = c.first_rejected-position in
-    let end = stage found.result found.new.self found.new.f in
     let within : found.result < length found.new.self.keys = omega (arith, c.if-position-len.false, found.ensures.within, c.len.ensures.value, len_keys found.new.self c.len.ensures.valid) in
-    let rejected = Going-rejected g.F.FnMut g.K.Key.data_of old c.args.f (stage at.position at.self at.f) end at.invariant.going found.ensures.passes within in
+    let rejected = Going-rejected g.F.FnMut g.K.Key.data_of c.args.self.now c.args.f _ _ at.invariant.going found.ensures.passes within in
+    let leaves = c.take_at.ensures.leaves _ (Rejected-stands g.F.FnMut g.K.Key.data_of c.args.self.now c.args.f _ rejected) in
     record {
-      going = Going-dropped g.F.FnMut g.K.Key.data_of old c.args.f rejected.last end rejected.rejects.visit rejected.going rejected.rejects.calls rejected.rejects.leaves c.take_at.new.self
-          (c.take_at.ensures.leaves (g.K.Key.data_of rejected.rejects.visit.key) (Rejected-stands g.F.FnMut g.K.Key.data_of old c.args.f end rejected)) c.take_at.ensures.valid.after c.take_at.ensures.valid.capacity;
+      going = Going-dropped g.F.FnMut g.K.Key.data_of c.args.self.now c.args.f rejected.last _ rejected.rejects.visit rejected.going rejected.rejects.calls
+          rejected.rejects.leaves c.take_at.new.self leaves c.take_at.ensures.valid.after c.take_at.ensures.valid.capacity;
       within = omega (arith, within, c.take_at.ensures.fewer);
     }
 
-pub returns-clause-packed : goal.returns-clause-packed
-returns-clause-packed g c =
-    let at = c.loop-position in
-    let old = c.args.self.now in
+ended : (g : _) (c : After-len g) → c.first_rejected-position.result ≡ c.len.result
+    → Ended g.F.FnMut g.K.Key.data_of c.args.self.now c.args.f (stage c.first_rejected-position.result c.first_rejected-position.new.self c.first_rejected-position.new.f)
+ended g c is =
     let found = c.first_rejected-position in
-    let end = stage found.result found.new.self found.new.f in
-    let past : length found.new.self.keys ≤ found.result = omega (arith, c.if-position-len.true, c.len.ensures.value, len_keys found.new.self c.len.ensures.valid) in
-    Going-retains g.F.FnMut g.K.Key.data_of old c.args.f end (Going-end g.F.FnMut g.K.Key.data_of old c.args.f (stage at.position at.self at.f) end at.invariant.going found.ensures.passes past) past
+    let past : length found.new.self.keys ≤ found.result = omega (arith, is, c.len.ensures.value, len_keys found.new.self c.len.ensures.valid) in
+    Going-end g.F.FnMut g.K.Key.data_of c.args.self.now c.args.f _ _ c.loop-position.invariant.going found.ensures.passes past
+
+pub returns-clause-packed : goal.returns-clause-packed
+returns-clause-packed g c = (ended g (goal.at.returns-clause-packed g c).After-len c.if-position-len.true).packed
 
 pub returns-clause-retained : goal.returns-clause-retained
 returns-clause-retained g c = (returns-clause-packed g c).retains
 
 pub returns-clause-leaves : goal.returns-clause-leaves
-returns-clause-leaves g c =
-    let at = c.loop-position in
-    let old = c.args.self.now in
-    let found = c.first_rejected-position in
-    let end = stage found.result found.new.self found.new.f in
-    let past : length found.new.self.keys ≤ found.result = omega (arith, c.if-position-len.true, c.len.ensures.value, len_keys found.new.self c.len.ensures.valid) in
-    (Going-end g.F.FnMut g.K.Key.data_of old c.args.f (stage at.position at.self at.f) end at.invariant.going found.ensures.passes past).leaves
+returns-clause-leaves g c = (ended g (goal.at.returns-clause-leaves g c).After-len c.if-position-len.true).leaves

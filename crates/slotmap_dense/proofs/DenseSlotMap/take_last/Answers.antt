@@ -1,56 +1,33 @@
-use Rattle.std.proofs.Common.{◌≡◌, ◌∷◌, [], ◌++◌, append-nil, min, map as list_map, vec_capacity, length, slice_get, is_some, refl, ap, subst, ◌∙◌}
-use Rattle.std.proofs.lemmas.List.{map-append}
-use Rattle.slotmap_core.specs.Transition.{Removes}
+use Rattle.std.proofs.Common.{append-nil, map as list_map, length, is_some, refl, ap, subst, ◌∙◌}
 use Rattle.slotmap_dense.specs.Packed.{IsSound}
-use Rattle.slotmap_dense.proofs.MoveLemmas.{IsSound-popped, takes-popped}
-use Rattle.slotmap_core.proofs.ListLemmas.{on_some}
-use Rattle.slotmap_core.proofs.GatherLemmas.{slice_get_push}
-use Rattle.slotmap_dense.proofs.CallLemmas.{stays-valid}
+use Rattle.slotmap_dense.proofs.Held.{stays-valid, last_key, Closed, popped}
+use Rattle.slotmap_dense.proofs.DenseSlotMap.take_last.Goals.{After-take_last}
 use Rattle.slotmap_dense.proofs.DenseSlotMap.take_last.Goals as goal
 
 pub returns-in_err-key-clause-valid : goal.returns-in_err-key-clause-valid
 returns-in_err-key-clause-valid g c =
     let m = c.self.inside in
-    rw (← c.self.view_is) (stays-valid g.K.Key.data_of m.slots m.keys m.values c.self.invariant m.slots c.pop.new.self m.values
+    stays-valid _ m c.self.view_is c.self.invariant m.slots c.pop.new.self m.values
     (subst (λ xs. IsSound m.slots (list_map g.K.Key.data_of xs) m.values.items)
-    (c.in_err-key.ensures.items ∙ append-nil c.pop.new.self.items) c.self.invariant) refl c.pop.ensures.capacity refl)
+    (c.in_err-key.ensures.items ∙ append-nil c.pop.new.self.items) c.self.invariant) refl c.pop.ensures.capacity refl
 
 pub take-requires : goal.take-requires
-take-requires g c =
-    let m = c.self.inside in
-    let k = g.K.Key.data_of c.in_ok-key.key in
-    let ks = list_map g.K.Key.data_of c.pop.new.self.items in
-    let keys_are : list_map g.K.Key.data_of m.keys.items ≡ ks ++ k ∷ [] = ap (list_map g.K.Key.data_of) c.in_ok-key.ensures.items
-    ∙ map-append g.K.Key.data_of c.pop.new.self.items (c.in_ok-key.key ∷ []) in
-    rw (c.data.ensures.value) (ap is_some (c.self.invariant.packed.names (length ks) k (ap (λ xs. slice_get xs (length ks)) keys_are ∙ slice_get_push ks k)))
+take-requires g c = rw c.data.ensures.value (ap is_some (last_key _ c.self.inside c.self.view_is c.self.invariant _ _ c.in_ok-key.ensures.items).1)
+
+closes : (g : _) (c : After-take_last g) → Closed g.K.Key.data_of c.self.inside c.self.view_is c.self.invariant c.take.new.self c.pop.new.self
+    c.take_last.new.self (g.K.Key.data_of c.in_ok-key.key) (length c.pop.new.self.items) c.take_last.result c.take.new.self
+closes g c =
+    popped _ c.self.inside c.self.view_is c.self.invariant c.take.new.self c.pop.new.self c.take_last.new.self _ _ c.in_ok-key.ensures.items
+    c.take_last.ensures.items (rw c.data.ensures.value at c.take.ensures.removes.live) c.take.ensures.valid.after c.pop.ensures.capacity c.take_last.ensures.capacity
 
 pub invariant_of-self-2 : goal.invariant_of-self-2
-invariant_of-self-2 g c =
-    let m = c.self.inside in
-    let k = g.K.Key.data_of c.in_ok-key.key in
-    let ks = list_map g.K.Key.data_of c.pop.new.self.items in
-    let vs = c.take_last.new.self.items in
-    let keys_are : list_map g.K.Key.data_of m.keys.items ≡ ks ++ k ∷ [] = ap (list_map g.K.Key.data_of) c.in_ok-key.ensures.items
-    ∙ map-append g.K.Key.data_of c.pop.new.self.items (c.in_ok-key.key ∷ []) in
-    let sound : IsSound m.slots (ks ++ k ∷ []) (vs ++ c.take_last.result ∷ []) = subst
-    (λ xs. IsSound m.slots xs (vs ++ c.take_last.result ∷ [])) keys_are
-    (subst (IsSound m.slots (list_map g.K.Key.data_of m.keys.items)) c.take_last.ensures.items c.self.invariant) in
-    IsSound-popped m.slots c.take.new.self ks vs k c.take_last.result sound (subst (λ k. Removes m.slots k c.take.new.self) c.data.ensures.value c.take.ensures.removes) c.take.ensures.valid.after
+invariant_of-self-2 g c = (closes g (goal.at.invariant_of-self-2 g c).After-take_last).sound_after
 
 pub returns-clause-takes : goal.returns-clause-takes
 returns-clause-takes g c =
-    let m = c.self.inside in
-    let k = g.K.Key.data_of c.in_ok-key.key in
-    let ks = list_map g.K.Key.data_of c.pop.new.self.items in
-    let vs = c.take_last.new.self.items in
-    let keys_are : list_map g.K.Key.data_of m.keys.items ≡ ks ++ k ∷ [] = ap (list_map g.K.Key.data_of) c.in_ok-key.ensures.items
-    ∙ map-append g.K.Key.data_of c.pop.new.self.items (c.in_ok-key.key ∷ []) in
-    let rem = on_some _ (subst (λ k. Removes m.slots k c.take.new.self) c.data.ensures.value c.take.ensures.removes) in
-    rw (← c.self.view_is, c.pop.ensures.capacity, c.take_last.ensures.capacity)
-    (takes-popped m.slots c.take.new.self _ _ (min (vec_capacity m.keys) (vec_capacity m.values)) ks vs k c.take_last.result keys_are c.take_last.ensures.items c.self.invariant rem)
+    let did = closes g (goal.at.returns-clause-takes g c).After-take_last in
+    let keys = (last_key _ c.self.inside c.self.view_is c.self.invariant _ _ c.in_ok-key.ensures.items).0 in
+    (did.value, did.removes (rw c.data.ensures.value at c.take.ensures.removes), rw (← c.self.view_is) keys, rw (← c.self.view_is) c.take_last.ensures.items)
 
 pub returns-clause-valid : goal.returns-clause-valid
-returns-clause-valid g c =
-    let m = c.self.inside in
-    rw (← c.self.view_is) (stays-valid g.K.Key.data_of m.slots m.keys m.values c.self.invariant c.take.new.self c.pop.new.self c.take_last.new.self
-    (invariant_of-self-2 g c) c.take.ensures.valid.capacity c.pop.ensures.capacity c.take_last.ensures.capacity)
+returns-clause-valid g c = (closes g (goal.at.returns-clause-valid g c).After-take_last).valid c.take.ensures.valid.capacity

@@ -1,11 +1,10 @@
-use Rattle.std.proofs.Common.{◌≡◌, ◌<◌, false, length, map as list_map, min, vec_capacity, refl, ap, subst, ◌∙◌, arith}
+use Rattle.std.proofs.Common.{◌≡◌, ◌<◌, false, length, map as list_map, min, vec_capacity, refl, ap, ◌∙◌, arith}
 use Rattle.std.proofs.lemmas.List.{take_all}
 use Rattle.std.proofs.lemmas.Option.{slice_get_read}
 use Rattle.slotmap_core.proofs.WrittenLemmas.{written-contents}
 use Rattle.slotmap_dense.specs.Packed.{filled}
-use Rattle.slotmap_dense.specs.Dense.{IsDense}
 use Rattle.slotmap_dense.proofs.ListSlots.{position_within, writes-filled}
-use Rattle.slotmap_dense.proofs.WellFormed.{dense_valid}
+use Rattle.slotmap_dense.proofs.Held.{well_formed}
 use Rattle.slotmap_dense.proofs.DenseSlotMap.to_slots.Goals as goal
 
 pub record_of-requires-clause-within : goal.record_of-requires-clause-within
@@ -27,6 +26,4 @@ returns-clause-writes g c =
 
 pub returns-clause-contents : goal.returns-clause-contents
 returns-clause-contents g c =
-    let m = c.self.inside in
-    let valid = subst IsDense c.self.view_is (dense_valid g.K.Key.data_of m.slots m.keys m.values c.self.invariant) in
-    written-contents false _ valid.content _ (returns-clause-writes g c)
+    let valid = well_formed _ c.self.inside c.self.view_is c.self.invariant in written-contents false _ valid.content _ (returns-clause-writes g c)

@@ -1,18 +1,16 @@
-use Rattle.std.proofs.Common.{sym, subst, ◌∙◌}
+use Rattle.std.proofs.Common.{sym, ◌∙◌}
 use Rattle.std.proofs.iter.runs.Sources.{from_front}
-use Rattle.slotmap_dense.specs.Dense.{IsDense}
 use Rattle.slotmap_dense.specs.WalkMut.{values_mut_rest, values_mut_steps}
-use Rattle.slotmap_dense.proofs.WellFormed.{dense_valid, dense_refilled}
+use Rattle.slotmap_dense.proofs.Held.{lent, well_formed}
 use Rattle.slotmap_dense.proofs.DenseSlotMap.values_mut.Goals as goal
 
 pub returns : goal.returns
-returns g c =
-    let m = c.self.inside in (
-      (sym c.iter_mut.ensures.iter_mut_name, λ w. rw (← c.self.view_is) (dense_refilled g.K.Key.data_of m.slots m.keys m.values w)),
-      record {
-        writes_back = tt;
-        in_order = rw (← c.self.view_is) (c.iter_mut.ensures.rest ∙ c.deref_mut.ensures.value);
-        runs = from_front values_mut_steps (λ y. y.now) values_mut_rest (λ s t h. h.0) (λ s x t h. h);
-        valid = subst IsDense c.self.view_is (dense_valid g.K.Key.data_of c.self.inside.slots c.self.inside.keys c.self.inside.values c.self.invariant);
-      },
-    )
+returns g c = (
+  (sym c.iter_mut.ensures.iter_mut_name, lent _ c.self.inside c.self.view_is c.self.invariant),
+  record {
+    writes_back = tt;
+    in_order = rw (← c.self.view_is) (c.iter_mut.ensures.rest ∙ c.deref_mut.ensures.value);
+    runs = from_front values_mut_steps (λ y. y.now) values_mut_rest (λ s t h. h.0) (λ s x t h. h);
+    valid = well_formed _ c.self.inside c.self.view_is c.self.invariant;
+  },
+)

@@ -1,11 +1,9 @@
-use Rattle.std.proofs.Common.{[], ◌∷◌, ◌++◌, inl, inr, ◌≡◌, length, get_or, map as list_map, refl, sym, ◌∙◌, arith}
+use Rattle.std.proofs.Common.{[], ◌∷◌, ◌++◌, inl, inr, ◌≡◌, length, map as list_map, refl, sym, ◌∙◌, arith}
 use Rattle.std.proofs.lemmas.Fn.{FoldsTo-push}
 use Rattle.std.proofs.lemmas.List.{length-map, length-set}
-use Rattle.slotmap_core.specs.Retain.{Visit}
-use Rattle.slotmap_core.proofs.VisitLemmas.{CallsAt-called}
 use Rattle.slotmap_core.specs.Pass.{Keeps, stage}
 use Rattle.slotmap_dense.specs.Pass.{beside}
-use Rattle.slotmap_dense.proofs.PassLemmas.{shows-read}
+use Rattle.slotmap_dense.proofs.PassLemmas.{shows-read, calls-read}
 use Rattle.slotmap_dense.proofs.retain.find_rejected.Goals as goal
 
 pub loop-position-init : goal.loop-position-init
@@ -14,33 +12,32 @@ loop-position-init g c = record { visits = []; kept = refl; same_length = c.requ
 pub f-requires : goal.f-requires
 f-requires g c =
     let at = c.loop-position in
-    let shows = shows-read g.K.Key.data_of c.args.keys.now at.values at.position c.index-keys-position.result c.index-values-position.result c.loop-position-test.true at.invariant.same_length
-    c.index-keys-position.is in
-    c.requires.callable.at at.invariant.visits (stage at.position at.values at.f) c.index-keys-position.result _ at.invariant.kept shows
+    c.requires.callable.at at.invariant.visits (stage at.position at.values at.f) c.index-keys-position.result _ at.invariant.kept
+    (shows-read _ _ _ _ _ _ c.loop-position-test.true at.invariant.same_length c.index-keys-position.is)
 
 pub returns-then-not-f-clause-passes : goal.returns-then-not-f-clause-passes
 returns-then-not-f-clause-passes g c =
     let at = c.loop-position in
-    let shows = shows-read g.K.Key.data_of c.args.keys.now at.values at.position c.index-keys-position.result c.index-values-position.result c.loop-position-test.true at.invariant.same_length
-    c.index-keys-position.is in
-    let visit : Visit g.row.K.Denot g.row.V.Denot = record { key = c.index-keys-position.result; before = get_or at.values at.position c.index-values-position.result; after = c.f.new.arg3; stays = c.f.result } in
     record {
       visits = at.invariant.visits;
       last = stage at.position at.values at.f;
       kept = at.invariant.kept;
-      ends = inr (record { visit = visit; calls = record { shows = shows; written = refl; moves = rw c.if-not-f.true refl; called = CallsAt-called g.F.FnMut c.f.ensures }; leaves = c.if-not-f.true });
+      ends = inr (record {
+        visit = _;
+        calls = calls-read g.K.Key.data_of g.F.FnMut c.args.keys.now _ c.loop-position-test.true at.invariant.same_length c.index-keys-position.is refl (rw c.if-not-f.true refl) c.f.ensures;
+        leaves = c.if-not-f.true;
+      });
     }
 
 pub loop-position-preserved : goal.loop-position-preserved
 loop-position-preserved g c =
     let at = c.loop-position in
-    let shows = shows-read g.K.Key.data_of c.args.keys.now at.values at.position c.index-keys-position.result c.index-values-position.result c.loop-position-test.true at.invariant.same_length
-    c.index-keys-position.is in
-    let visit : Visit g.row.K.Denot g.row.V.Denot = record { key = c.index-keys-position.result; before = get_or at.values at.position c.index-values-position.result; after = c.f.new.arg3; stays = c.f.result } in
     record {
-      visits = at.invariant.visits ++ visit ∷ [];
-      kept = FoldsTo-push (Keeps (beside g.K.Key.data_of (list_map g.K.Key.data_of c.args.keys.now)) g.F.FnMut) _ at.invariant.visits _ visit _ at.invariant.kept
-          (record { calls = record { shows = shows; written = refl; moves = rw c.if-not-f.false refl; called = CallsAt-called g.F.FnMut c.f.ensures }; stays = c.if-not-f.false });
+      visits = at.invariant.visits ++ _ ∷ [];
+      kept = FoldsTo-push (Keeps (beside g.K.Key.data_of (list_map g.K.Key.data_of c.args.keys.now)) g.F.FnMut) _ at.invariant.visits _ _ _ at.invariant.kept (record {
+        calls = calls-read g.K.Key.data_of g.F.FnMut c.args.keys.now _ c.loop-position-test.true at.invariant.same_length c.index-keys-position.is refl (rw c.if-not-f.false refl) c.f.ensures;
+        stays = c.if-not-f.false;
+      });
       same_length = length-set at.values at.position c.f.new.arg3 ∙ at.invariant.same_length;
     }
 
