@@ -132,7 +132,7 @@ module _ {K V R E : Type 0} (given : Given K V R E) where
   detached_stays k old (detaching.Reattach q v) (reply.Memory b) new spares h was = rw h.4 was
   detached_stays k old _ _ new spares h was = absurd h
 
-  detach_cases : (old : State V) (c : DetachCommand K V) (r : Reply K V R E) (new : State V) → DetachStep given old c r new → Binds given.data_of old r new ⊎ Shrinks given.data_of old r new
+  pub detach_cases : (old : State V) (c : DetachCommand K V) (r : Reply K V R E) (new : State V) → DetachStep given old c r new → Binds given.data_of old r new ⊎ Shrinks given.data_of old r new
   detach_cases old (detaching.Plain c) r new h = step_cases old c r new h
   detach_cases old (detaching.Detach k) (reply.Taken (Some v)) new h = inr (sets_aside given.data_of old new (reply.Taken (Some v)) refl (given.data_of k) (ap is_some h.0) h.1)
   detach_cases old (detaching.Detach k) (reply.Taken None) new h = inr (stays given.data_of old new (reply.Taken None) refl h.1).shrinks

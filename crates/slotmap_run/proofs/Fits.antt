@@ -15,6 +15,13 @@ use Rattle.slotmap_core.proofs.PlaceCount.{vacant_of, offer_free, free, places_g
 use Rattle.slotmap_core.proofs.Standing.{Vacates, new_stands, inserted_stands, inserted_vacant}
 use Rattle.slotmap_core.proofs.Retired.{Spent, spent_of_retired, retired_of_spent, retired_is}
 
+module _ {V : Type 0} (s : State V) (c : Content V) (fits : Fits s c) where
+  pub stands_of : (k : Key) → IsHeld s k → Stands c k
+  stands_of k h = grind (arith, fits.live, fits.detached)
+
+  pub held_of : (k : Key) → Stands c k → IsHeld s k
+  held_of k h = grind (arith, fits.live, fits.detached)
+
 module _ {V : Type 0} (reuses : Bool) (s : State V) (old new : Content V) (ok : IsContent reuses old) (fits : Fits s old) where
   pub used_same : machine.used s ≡ used old
   used_same =
@@ -24,14 +31,6 @@ module _ {V : Type 0} (reuses : Bool) (s : State V) (old new : Content V) (ok : 
 
   pub below : used old < most → machine.used s ≢ most
   below h e = let same = used_same in omega arith
-
-  stands_of : (k : Key) → IsHeld s k → Stands old k
-  stands_of k (inl h) = inl (rw (← fits.live) h)
-  stands_of k (inr h) = inr (rw (← fits.detached) h)
-
-  held_of : (k : Key) → Stands old k → IsHeld s k
-  held_of k (inl h) = inl (rw fits.live h)
-  held_of k (inr h) = inr (rw fits.detached h)
 
   pub was_spent : (k : Key) → IsRetired old k → Spent s k
   was_spent k h = spent_of_retired s k (rw fits.retired h)
@@ -59,7 +58,7 @@ module _ {V : Type 0} (reuses : Bool) (s : State V) (old new : Content V) (ok : 
         | inl g ↦ let w = ok.vacant old.offer.index (vacant_of reuses old new ok room g) in omega arith
         | inr g ↦ omega arith
       ];
-      apart = λ other h. offer_free reuses old new ok room other (stands_of other h);
+      apart = λ other h. offer_free reuses old new ok room other (stands_of s old fits other h);
       newer = offer_newer;
     }
 

@@ -56,7 +56,7 @@ module _ {V : Type 0} where
     within = let none = none_used V in omega arith;
   }
 
-  bound_held : (s : State V) (k : Key) (v : V) (q : Key) → IsHeld (after_insert s k v) q → (q ≡ k) ⊎ IsHeld s q
+  pub bound_held : (s : State V) (k : Key) (v : V) (q : Key) → IsHeld (after_insert s k v) q → (q ≡ k) ⊎ IsHeld s q
   bound_held s k v q (inl h) = ⊎_elim (λ e. inl e) (λ p. inr (inl p.1)) (in_after_insert keys_total exact_keys s.live k v q h)
   bound_held s k v q (inr h) = inr (inr h)
 

@@ -80,7 +80,7 @@ module _ {K V R E : Type 0} (given : Given K V R E) (old new : Content V) (ok : 
   stays : (c : Command K V) (r : Reply K V R E) → (IsBasic (detaching.Plain c) → ⊥) → Keeps old new → ((s : State V) → s.live ≡ old.live → machine.used s ≡ used old → Step given s c r s) → Answers c r
   stays c r not_basic keeps step = other c r not_basic (stays_by (Step given) c r keeps (λ s fits. step s fits.live (used_same given.reuses s old new ok fits)))
 
-  inserts : IsContent given.reuses new → (key : K) (v : V) → Inserts old (given.data_of key) v new → Answers (command.Insert v) (reply.Key key)
+  pub inserts : IsContent given.reuses new → (key : K) (v : V) → Inserts old (given.data_of key) v new → Answers (command.Insert v) (reply.Key key)
   inserts new_ok key v i = record {
     follows = record {
       step =
@@ -109,7 +109,7 @@ module _ {K V R E : Type 0} (given : Given K V R E) (old new : Content V) (ok : 
     lasts = λ n lasts. inserts_lasts given.reuses old new n ok lasts (given.data_of key) v i;
   })
 
-  full : (v back : V) → Refuses old v (Full back) → Keeps old new → Answers (command.Insert v) (reply.Full (Some back))
+  pub full : (v back : V) → Refuses old v (Full back) → Keeps old new → Answers (command.Insert v) (reply.Full (Some back))
   full v back r keeps =
       refused (command.Insert v) (reply.Full (Some back)) tt
       (stays_by (Step given) (command.Insert v) (reply.Full (Some back)) keeps
@@ -127,7 +127,7 @@ module _ {K V R E : Type 0} (given : Given K V R E) (old new : Content V) (ok : 
     at_peak = λ h. let none = ok.reused h in let room = r.no_room in let peak = fits.peak in omega arith;
   }
 
-  no_memory : (v back : V) → Refuses old v (Memory back) → Keeps old new → Answers (command.Insert v) (reply.Memory (Some back))
+  pub no_memory : (v back : V) → Refuses old v (Memory back) → Keeps old new → Answers (command.Insert v) (reply.Memory (Some back))
   no_memory v back r keeps =
       refused (command.Insert v) (reply.Memory (Some back)) tt (stays_by (Step given) (command.Insert v) (reply.Memory (Some back)) keeps (λ s fits. (may_lack r.0 s fits, ap Some r.1, refl)))
 
@@ -285,7 +285,7 @@ module _ {K V R E : Type 0} (given : Given K V R E) (old new : Content V) (ok : 
     orders = λ l lifo basic told. (refl, rw (lifo.live (given.data_of key) ∙ ap is_some (sym is)) (lifo_keeps given.reuses old new ok l lifo (keeps_same old new none)));
   }
 
-  reattaches : (key : K) (v : V) → Reattaches old (given.data_of key) v new → DetachAnswers (detaching.Reattach key v) reply.Done
+  pub reattaches : (key : K) (v : V) → Reattaches old (given.data_of key) v new → DetachAnswers (detaching.Reattach key v) reply.Done
   reattaches key v r = record {
     follows = record {
       step = λ s fits. (after_reattach s (given.data_of key) v, (rw fits.detached r.was_detached, refl), reattaches_fits given.reuses s old new ok fits (given.data_of key) v r);
@@ -294,14 +294,14 @@ module _ {K V R E : Type 0} (given : Given K V R E) (old new : Content V) (ok : 
     orders = λ l lifo basic told. (refl, lifo_reattaches given.reuses old new ok l lifo (given.data_of key) v r);
   }
 
-  not_detached : (key : K) (v back : V) → RefusesReattach given.reuses old (given.data_of key) v (again.NotDetached back) → Keeps old new
+  pub not_detached : (key : K) (v back : V) → RefusesReattach given.reuses old (given.data_of key) v (again.NotDetached back) → Keeps old new
       → DetachAnswers (detaching.Reattach key v) (reply.NotDetached back)
   not_detached key v back r keeps = record {
     follows = stays_by (DetachStep given) (detaching.Reattach key v) (reply.NotDetached back) keeps (λ s fits. (rw fits.detached (false_of _ r.0), r.1, refl));
     orders = λ l lifo basic told. (refl, rw (ap (λ (d : set.FinSet key_cmp). set.contains d (given.data_of key)) lifo.detached ∙ false_of _ r.0) (lifo_keeps given.reuses old new ok l lifo keeps));
   }
 
-  reattaches_no_memory : (key : K) (v back : V) → RefusesReattach given.reuses old (given.data_of key) v (again.Memory back) → Keeps old new
+  pub reattaches_no_memory : (key : K) (v back : V) → RefusesReattach given.reuses old (given.data_of key) v (again.Memory back) → Keeps old new
       → DetachAnswers (detaching.Reattach key v) (reply.Memory (Some back))
   reattaches_no_memory key v back r keeps = record {
     follows = stays_by (DetachStep given) (detaching.Reattach key v) (reply.Memory (Some back)) keeps
