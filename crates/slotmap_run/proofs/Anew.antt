@@ -7,8 +7,7 @@ use Rattle.slotmap_core.specs.Machine.{State, empty_state, retired}
 use Rattle.slotmap_core.specs.Run.{Run, Unretiring}
 use Rattle.slotmap_core.specs.Fit.{Follows, Starts, RunFollows, RunsAnew, Continues}
 use Rattle.slotmap_run.proofs.Some.{first_state, first_fits, first_good}
-use Rattle.slotmap_run.proofs.Fits.{new_fits}
-use Rattle.slotmap_run.proofs.Lasts.{new_lasts}
+use Rattle.slotmap_run.proofs.Fits.{new_fits, new_lasts}
 use Rattle.slotmap_run.proofs.Runs.{run_seen, runs_follow, goes_on, goes_on_anew}
 use Rattle.slotmap_run.proofs.Laws.{IsGood, empty_good}
 

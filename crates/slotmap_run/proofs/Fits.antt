@@ -1,5 +1,5 @@
 -- After an insert into a content that a state fits, the machine's next state fits the new content.
-use Rattle.std.proofs.Common.{◌≡◌, ◌≢◌, ℕ, ◌+◌, ◌<◌, ◌≤◌, Bool, true, false, ◌⊎◌, inl, inr, sym, ap, ◌∙◌, arith, ⊎_elim}
+use Rattle.std.proofs.Common.{◌≡◌, ◌≢◌, ℕ, ◌+◌, ◌^◌, ◌<◌, None, Bool, true, false, ◌⊎◌, inl, inr, sym, ap, ◌∙◌, arith}
 use Rattle.std.specs.Ordering.{nat_cmp}
 use Rattle.std.specs.FinMap as map
 use Rattle.std.specs.FinSet as set
@@ -8,12 +8,13 @@ use Rattle.slotmap_core.specs.Content.{Content, IsContent, Stands, IsRetired, us
 use Rattle.slotmap_core.specs.Transition.{IsNew, Inserts}
 use Rattle.slotmap_core.specs.Machine as machine
 use Rattle.slotmap_core.specs.Machine.{State, IsIssued, IsHeld, Fresh, after_insert, after_remove, after_replace, after_reserve, after_detach, after_reattach, retired}
-use Rattle.slotmap_core.specs.Fit.{Fits}
-use Rattle.slotmap_core.proofs.KeyLemmas.{keys_total, exact_keys}
-use Rattle.slotmap_core.proofs.Maps.{in_after_insert, in_inserted, still_in, item_after_insert, item_inserted, item_still}
+use Rattle.slotmap_core.specs.Fit.{Fits, Lasts}
+use Rattle.slotmap_core.proofs.KeyLemmas.{keys_total, exact_keys, tied}
+use Rattle.slotmap_core.proofs.Maps.{in_inserted, item_after_insert, item_inserted, item_still}
 use Rattle.slotmap_core.proofs.PlaceCount.{vacant_of, offer_free, free, places_grow}
-use Rattle.slotmap_core.proofs.Standing.{Vacates, new_stands, inserted_stands, inserted_vacant}
-use Rattle.slotmap_core.proofs.Retired.{Spent, spent_of_retired, retired_of_spent, retired_is}
+use Rattle.slotmap_core.proofs.Standing.{new_stands, inserted_stands, inserted_vacant}
+use Rattle.slotmap_core.proofs.Retired.{in_retired, retired_is}
+use Rattle.slotmap_run.proofs.Moves.{Moves}
 
 module _ {V : Type 0} (s : State V) (c : Content V) (fits : Fits s c) where
   pub stands_of : (k : Key) → IsHeld s k → Stands c k
@@ -22,22 +23,13 @@ module _ {V : Type 0} (s : State V) (c : Content V) (fits : Fits s c) where
   pub held_of : (k : Key) → Stands c k → IsHeld s k
   held_of k h = grind (arith, fits.live, fits.detached)
 
-module _ {V : Type 0} (reuses : Bool) (s : State V) (old new : Content V) (ok : IsContent reuses old) (fits : Fits s old) where
-  pub used_same : machine.used s ≡ used old
-  used_same =
-      ap (λ (m : map.FinMap key_cmp V). map.len m + set.len s.detached + set.len (retired s)) fits.live
-      ∙ ap (λ (d : set.FinSet key_cmp). map.len old.live + set.len d + set.len (retired s)) fits.detached
-      ∙ ap (λ (d : set.FinSet key_cmp). map.len old.live + set.len old.detached + set.len d) fits.retired
+  pub used_same : machine.used s ≡ used c
+  used_same = omega (arith, ap map.len fits.live, ap set.len fits.detached, ap set.len fits.retired)
 
-  pub below : used old < most → machine.used s ≢ most
-  below h e = let same = used_same in omega arith
+  pub below : used c < most → machine.used s ≢ most
+  below h e = omega (arith, used_same)
 
-  pub was_spent : (k : Key) → IsRetired old k → Spent s k
-  was_spent k h = spent_of_retired s k (rw fits.retired h)
-
-  pub was_retired : (k : Key) → Spent s k → IsRetired old k
-  was_retired k h = rw (← fits.retired) (retired_of_spent s k h)
-
+module _ {V : Type 0} (reuses : Bool) (s : State V) (old : Content V) (ok : IsContent reuses old) (fits : Fits s old) where
   module _ (room : used old < most) where
     offer_newer : (other : Key) → IsIssued s other → other.index ≡ old.offer.index → other.version < old.offer.version
     offer_newer other h e = elim (ok.offers room) [
@@ -53,16 +45,16 @@ module _ {V : Type 0} (reuses : Bool) (s : State V) (old new : Content V) (ok : 
         | inr g ↦ let limit = room in let index = g.1 in let version = g.2 in let none = g.0 in
             record { index_fits = omega arith; version_fits = omega arith; odd = omega arith; one_null = λ e. version }
       ];
-      positive = elim (ok.offers room) [ inl g ↦ (ok.vacant old.offer.index (vacant_of reuses old new ok room g)).0 | inr g ↦ omega arith ];
-      reuses = let same : machine.used s ≡ used old = used_same in let peak = fits.peak in elim (ok.offers room) [
-        | inl g ↦ let w = ok.vacant old.offer.index (vacant_of reuses old new ok room g) in omega arith
+      positive = elim (ok.offers room) [ inl g ↦ (ok.vacant old.offer.index (vacant_of reuses old old ok room g)).0 | inr g ↦ omega arith ];
+      reuses = let same = used_same s old fits in let peak = fits.peak in elim (ok.offers room) [
+        | inl g ↦ let w = ok.vacant old.offer.index (vacant_of reuses old old ok room g) in omega arith
         | inr g ↦ omega arith
       ];
-      apart = λ other h. offer_free reuses old new ok room other (stands_of s old fits other h);
+      apart = λ other h. offer_free reuses old old ok room other (stands_of s old fits other h);
       newer = offer_newer;
     }
 
-  module _ (k : Key) (v : V) (i : Inserts old k v new) (new_ok : IsContent reuses new) where
+  module _ (new : Content V) (k : Key) (v : V) (i : Inserts old k v new) (new_ok : IsContent reuses new) where
     newer : (other : Key) → IsIssued s other → other.index ≡ k.index → other.version < k.version
     newer = rw i.offered (offer_newer i.below_limit)
 
@@ -75,35 +67,24 @@ module _ {V : Type 0} (reuses : Bool) (s : State V) (old new : Content V) (ok : 
     issued_after : (q : Key) → set.contains (set.insert s.issued k) q ≡ true → (q ≡ k) ⊎ IsIssued s q
     issued_after q h = item_after_insert keys_total exact_keys s.issued k q h
 
-    held_before : (q : Key) → IsHeld (after_insert s k v) q → (q ≡ k) ⊎ IsHeld s q
-    held_before q (inl h) = ⊎_elim (λ e. inl e) (λ p. inr (inl p.1)) (in_after_insert keys_total exact_keys s.live k v q h)
-    held_before q (inr h) = inr (inr h)
-
-    held_still : (q : Key) → IsHeld s q → IsHeld (after_insert s k v) q
-    held_still q (inl h) = inl (still_in keys_total exact_keys s.live k v q h)
-    held_still q (inr h) = inr h
-
     same_retired : retired (after_insert s k v) ≡ old.retired
-    same_retired = retired_is (after_insert s k v) old.retired
-        (λ q h. elim (issued_after q h.issued) [
-          | inl e ↦ absurd (h.not_held (inl (rw e (in_inserted keys_total exact_keys s.live k v))))
-          | inr g ↦ was_retired q (record { issued = g; last = h.last; not_held = λ held. h.not_held (held_still q held) })
-        ])
-        (λ q h. let was = was_spent q h in record {
-          issued = item_still keys_total exact_keys s.issued k q was.issued;
-          last = was.last;
-          not_held = λ held. elim (held_before q held) [
-            | inl e ↦ let less = newer q was.issued (ap (λ (x : Key). x.index) e) in let same = ap (λ (x : Key). x.version) e in absurd (omega arith)
-            | inr g ↦ was.not_held g
-          ];
-        })
+    same_retired = set.same_set keys_total exact_keys (retired (after_insert s k v)) old.retired (λ q. grind (
+      arith,
+      in_retired (after_insert s k v) q,
+      in_retired s q,
+      fits.retired,
+      set.contains-insert keys_total s.issued k q,
+      map.get-insert keys_total s.live k v q,
+      tied keys_total exact_keys q k,
+      newer k,
+    ))
 
     pub inserts_fits : Fits (after_insert s k v) new
     inserts_fits = record {
       live = ap (λ (m : map.FinMap key_cmp V). map.insert m k v) fits.live ∙ sym i.live;
       detached = fits.detached ∙ sym i.detached;
       retired = same_retired ∙ sym i.retired;
-      peak = rw (fits.peak, used_same) (places_grow reuses old new ok k v i);
+      peak = rw (fits.peak, used_same s old fits) (places_grow reuses old new ok k v i);
       promised = let room = i.room in let promised = fits.promised in omega arith;
       issued = λ q st. elim (inserted_stands old new k v i q st) [
         | inl e ↦ rw e (item_inserted keys_total exact_keys s.issued k)
@@ -129,26 +110,23 @@ module _ {V : Type 0} (reuses : Bool) (s : State V) (old new : Content V) (ok : 
       ];
     }
 
-  -- a state with the parts of new and no more keys issued fits, if no more keys are live or detached
-  module _ (t : State V) (live : t.live ≡ new.live) (detached : t.detached ≡ new.detached) (ended : retired t ≡ new.retired)
-      (issued : t.issued ≡ s.issued) (peak : t.peak ≡ s.peak) (promised : t.promised ≤ new.room)
-      (stood : (q : Key) → Stands new q → Stands old q) (same : places new ≡ places old)
-      (vacant : Vacates old new) where
-    pub less_fits : Fits t new
-    less_fits = record {
-      live = live;
-      detached = detached;
-      retired = ended;
-      peak = peak ∙ fits.peak ∙ sym same;
-      promised = promised;
-      issued = λ q st. rw issued (fits.issued q (stood q st));
-      within = λ q h. let w = fits.within q (rw (← issued) h) in omega arith;
-      past = λ q w h g. elim (vacant q.index w g) [
-        | inl e ↦ let before = fits.present q e.0 (rw (← issued) h) (inl e.1) e.2 in let is = e.3 in omega arith
-        | inr g ↦ fits.past q w (rw (← issued) h) g
-      ];
-      present = λ q other h st e. fits.present q other (rw (← issued) h) (stood other st) e;
-    }
+module _ {V : Type 0} (reuses : Bool) (old new : Content V) (ok : IsContent reuses old) (k : Key) (v : V) (i : Inserts old k v new) where
+  inserts_lasts : (n : ℕ) → Lasts (n + 1) old → Lasts n new
+  inserts_lasts n lasts = record {
+    few = let few = lasts.few in omega arith;
+    unretired = i.retired ∙ lasts.unretired;
+    standing = λ q st. elim (inserted_stands old new k v i q st) [
+      | inl e ↦ rw (e, i.offered) (elim (ok.offers i.below_limit) [
+        | inl g ↦ let room = lasts.vacant old.offer.index old.offer.version g in let odd = (ok.vacancies old.offer.index old.offer.version g).odd in omega arith
+        | inr g ↦ let few = lasts.few in omega arith
+      ])
+      | inr st ↦ let room = lasts.standing q st in omega arith
+    ];
+    vacant = λ j w g. let room = lasts.vacant j w (inserted_vacant old new k v i j w g).1 in omega arith;
+  }
+
+  pub inserts : IsContent reuses new → Moves (λ s. after_insert s k v) old new
+  inserts new_ok = record { fits = λ s fits. inserts_fits reuses s old ok fits new k v i new_ok; lasts = inserts_lasts }
 
 module _ {V : Type 0} (c : Content V) (new : IsNew c) where
   none_issued : (k : Key) → IsIssued (machine.empty_state {V = V}) k → ⊥
@@ -177,3 +155,12 @@ module _ {V : Type 0} (c : Content V) (new : IsNew c) where
     past = λ k v h g. absurd (none_issued k h);
     present = λ k other h st e. absurd (none_issued k h);
   }
+
+-- a new map lasts for each number of calls below 2^32
+pub new_lasts : {V : Type 0} (c : Content V) (n : ℕ) → IsNew c → n < 2 ^ 32 → Lasts n c
+new_lasts c n new few = record {
+  few = few;
+  unretired = new.retired;
+  standing = λ k h. absurd (new_stands c new k h);
+  vacant = λ i v g. let none : map.get c.next i ≡ None = ap (λ (m : map.FinMap nat_cmp ℕ). map.get m i) new.next ∙ map.get-empty nat_cmp i in absurd (cc);
+}

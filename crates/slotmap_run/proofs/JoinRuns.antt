@@ -13,8 +13,7 @@ use Rattle.slotmap_core.specs.Joined.{Joined, RunsBeside}
 use Rattle.slotmap_core.specs.Dictionary.{Dictionary, WithDictionary, RunsTold, unused}
 use Rattle.slotmap_core.specs.Run.{Run}
 use Rattle.slotmap_core.proofs.Standing.{new_stands}
-use Rattle.slotmap_run.proofs.Fits.{new_fits}
-use Rattle.slotmap_run.proofs.Lasts.{new_lasts}
+use Rattle.slotmap_run.proofs.Fits.{new_fits, new_lasts}
 use Rattle.slotmap_run.proofs.Runs.{run_keeps}
 use Rattle.slotmap_run.specs.Ties.{joined, told_by, Known, Follows, JoinServed}
 use Rattle.slotmap_run.specs.declared.joined.Beside.{Beside}

@@ -35,7 +35,7 @@ use Rattle.slotmap_core.specs.declared.joined.JoinedReply.TheVariants as reply
 use Rattle.slotmap_run.proofs.Cases.{detach_cases}
 use Rattle.slotmap_run.proofs.Laws.{Shrinks}
 use Rattle.slotmap_run.proofs.Known.{fewer, one_more, puts, takes}
-use Rattle.slotmap_run.proofs.Lasts.{keeps_lasts}
+use Rattle.slotmap_run.proofs.Moves.{keeps}
 use Rattle.slotmap_run.proofs.Fits.{stands_of}
 use Rattle.slotmap_run.proofs.Steps as first
 use Rattle.slotmap_run.specs.Order.{Served}
@@ -126,7 +126,7 @@ module _ {K V W R : Type 0} (given : Given K W R) (old new : Content V) (m : Pai
     module _ (v : V) where
       pub reattached : Reattaches old (given.data_of key) v new → Detaching (detaching.Reattach i v) reply.Done
       reattached r =
-          by_detaching _ _ (Reattach key v) first_reply.Done refl (first.reattaches (closed given) old new ok key v r) (λ s t step. rw (← told) ((step, refl), refl)) (λ s t d step. (step, refl))
+          by_detaching _ _ (Reattach key v) first_reply.Done refl (first.reattached (closed given) old new ok key v r) (λ s t step. rw (← told) ((step, refl), refl)) (λ s t d step. (step, refl))
 
       module _ (back : V) (keeps : Keeps old new) where
         pub not_detached : RefusesReattach given.reuses old (given.data_of key) v (again.NotDetached back) → Detaching (detaching.Reattach i v) (reply.NotDetached back)
@@ -146,7 +146,7 @@ named_one keys (suc i) k h = (i, h)
 
 module _ {K V W R : Type 0} (given : Given K W R) (old : Content V) (m : Pairs W) (keys : List K) (ok : IsContent given.reuses old) where
   stays_lasts : (n : ℕ) → Lasts (n + 1) old → Lasts n old
-  stays_lasts n lasts = keeps_lasts given.reuses old old n ok lasts (first.keeps_itself old)
+  stays_lasts = (keeps given.reuses old old ok (first.keeps_itself old)).lasts
 
   module _ {C : Type 0} (Machine : Joined K V W → C → JoinedReply K V W R → Joined K V W → Type 0) (Telling : WithDictionary K V W → C → JoinedReply K V W R → WithDictionary K V W → Type 0)
       (c : C) (r : JoinedReply K V W R) where

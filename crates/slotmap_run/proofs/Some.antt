@@ -39,5 +39,5 @@ module _ {V : Type 0} (reuses : Bool) (c : Content V) (ok : IsContent reuses c) 
   first_good = record {
     held_issued = λ k h. used_issued k (inl h);
     apart = λ k h g. ok.live_or_detached k h g;
-    within = let same = used_same reuses first_state c c ok first_fits in let limit = ok.limit in omega arith;
+    within = let same = used_same first_state c first_fits in let limit = ok.limit in omega arith;
   }
