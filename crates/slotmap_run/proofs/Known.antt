@@ -14,7 +14,8 @@ use Rattle.slotmap_core.proofs.KeyLemmas.{keys_total, exact_keys, same_or_other}
 use Rattle.slotmap_core.proofs.Maps.{get_after_insert, get_after_remove, get_inserted, get_other, get_removed, get_left, item_after_insert, item_inserted, item_still, in_inserted}
 use Rattle.slotmap_core.proofs.PutLemmas.{stands_after_put, newest_put, newer_stays, stands_after_remove, removed_gone, others_stay}
 use Rattle.slotmap_run.proofs.Fits.{stands_of, held_of}
-use Rattle.slotmap_run.proofs.Laws.{Shrinks, bound_held}
+use Rattle.slotmap_run.proofs.Laws.{Shrinks}
+use Rattle.slotmap_run.proofs.Used.{bound_held}
 use Rattle.slotmap_run.specs.Ties.{Known}
 
 -- one more key in a list

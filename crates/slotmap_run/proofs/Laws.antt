@@ -13,10 +13,10 @@ use Rattle.slotmap_core.specs.declared.commands.Command.{Command}
 use Rattle.slotmap_core.specs.declared.commands.Reply.{Reply}
 use Rattle.slotmap_core.specs.Law.{reply_keys, keys_told, NoKeyTwice}
 use Rattle.slotmap_core.proofs.KeyLemmas.{keys_total, exact_keys, tied}
-use Rattle.slotmap_core.proofs.Maps.{false_of, in_after_insert, item_inserted, item_still}
+use Rattle.slotmap_core.proofs.Maps.{false_of, item_inserted, item_still}
 use Rattle.slotmap_core.proofs.Retired.{spent_of_retired, retired_of_spent, retired_is}
 use Rattle.slotmap_run.proofs.Runs.{run_keeps}
-use Rattle.slotmap_run.proofs.Used.{IsApart, no_more_used, one_more_used, apart_after}
+use Rattle.slotmap_run.proofs.Used.{IsApart, bound_held, no_more_used, one_more_used, apart_after}
 
 pub weaker : {A : Type 0} {P Q : A → Type 0} → ((x : A) → P x → Q x) → (xs : List A) → AllByRecursion P xs → AllByRecursion Q xs
 weaker f [] h = tt
@@ -55,10 +55,6 @@ module _ {V : Type 0} where
     apart = λ k h g. no_key k g;
     within = let none = none_used V in omega arith;
   }
-
-  pub bound_held : (s : State V) (k : Key) (v : V) (q : Key) → IsHeld (after_insert s k v) q → (q ≡ k) ⊎ IsHeld s q
-  bound_held s k v q (inl h) = ⊎_elim (λ e. inl e) (λ p. inr (inl p.1)) (in_after_insert keys_total exact_keys s.live k v q h)
-  bound_held s k v q (inr h) = inr (inr h)
 
   not_issued : (s : State V) (k : Key) → Fresh s k → IsIssued s k → ⊥
   not_issued s k f h = let less = f.newer k h refl in absurd (omega arith)
