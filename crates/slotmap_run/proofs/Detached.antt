@@ -1,6 +1,5 @@
 -- No later insert returns a detached key, and it can be reattached.
-use Rattle.std.proofs.Common.{Ok, Err, sym, ◌≡◌, List, ◌∷◌, ◌++◌, Some, true, false, ◌⊎◌, inl, inr, refl, ap, ◌∙◌, is_some}
-use Rattle.std.specs.Option.{unwrap_or}
+use Rattle.std.proofs.Common.{Ok, ◌≡◌, List, ◌∷◌, ◌++◌, Some, true, false, ◌⊎◌, inl, ap, ◌∙◌, is_some, arith}
 use Rattle.std.specs.FinMap as map
 use Rattle.std.specs.FinSet as set
 use Rattle.slotmap_core.specs.Machine.{State, IsIssued}
@@ -34,10 +33,7 @@ module _ {K V R E : Type 0} (given : Given K V R E) where
 
   answered : (old : State V) (key : K) (w : V) (answer : Reply K V R E) (new : State V) → set.contains old.detached (given.data_of key) ≡ true
       → DetachStep given old (detaching.Reattach key w) answer new → (answer ≡ reply.Done) ⊎ ((given.reuses ≡ false) × (answer ≡ reply.Memory (Some w)))
-  answered old key w reply.Done new h step = inl refl
-  answered old key w (reply.Memory back) new h step = inr (step.0, ap reply.Memory step.3)
-  answered old key w (reply.NotDetached back) new h step = let none = step.0 in absurd (cc)
-  answered old key w _ new h step = absurd step
+  answered old key w answer new h step = grind arith
 
   pub detached_reattaches : (commands : List (DetachCommand K V)) (replies : List (Reply K V R E)) → RunsWell (DetachStep given) commands replies
       → DetachedReattaches given.data_of given.reuses commands replies
@@ -49,14 +45,12 @@ module _ {K V R E : Type 0} (given : Given K V R E) where
       let aside : set.contains first.1.detached (given.data_of key) ≡ true = ap (λ (s : State V). set.contains s.detached (given.data_of key)) first.3.1
       ∙ item_inserted keys_total exact_keys first.0.detached (given.data_of key) in
       let still = run_keeps_by (DetachStep given) (λ s. set.contains s.detached (given.data_of key) ≡ true) (Spares given.data_of (given.data_of key))
-      (detached_stays given (given.data_of key)) ds ss first.1 second.0 spares second.2 aside in
+      (λ old c r new spares step. detached_stays given old c r new step (given.data_of key) spares) ds ss first.1 second.0 spares second.2 aside in
       answered second.0 key w answer second.1 still second.3
 
   replaces : (old : State V) (key : K) (w u : V) (answer : Reply K V R E) (new : State V) → map.get old.live (given.data_of key) ≡ Some w
       → DetachStep given old (detaching.Plain (command.Replace key u)) answer new → answer ≡ reply.Put (Ok w)
-  replaces old key w u (reply.Put (Ok before)) new found step = let same : before ≡ w = ap (λ o. unwrap_or o w) (sym step.0 ∙ found) in ap (λ x. reply.Put (Ok x)) same
-  replaces old key w u (reply.Put (Err back)) new found step = let none = step.0 in absurd (cc)
-  replaces old key w u _ new found step = absurd step
+  replaces old key w u answer new found step = grind arith
 
   pub reattach_binds : (commands : List (DetachCommand K V)) (replies : List (Reply K V R E)) → RunsWell (DetachStep given) commands replies → ReattachBinds commands replies
   reattach_binds commands replies well cs ds rs ss key w u answer e is js =

@@ -17,23 +17,13 @@ use Rattle.slotmap_run.proofs.Runs.{run_split, run_keeps}
 use Rattle.slotmap_run.proofs.Anew.{RunsWell}
 
 module _ {K V R E : Type 0} (given : Given K V R E) where
-  -- if what is owed is within the limit, an insert fails only if nothing is owed
-  pub plain_refused : (old : State V) (c : Command K V) (r : Reply K V R E) (new : State V) → Grows c → Step given old c r new → IsRefusal r → used old + old.promised ≤ most → old.promised ≡ 0
-  plain_refused old (command.Insert v) (reply.Full back) new g step is within = let full = step.0 in omega arith
-  plain_refused old (command.Insert v) (reply.Memory back) new g step is within = step.0.not_promised
-  plain_refused old command.InsertWith (reply.Full back) new g step is within = let full = step.0 in omega arith
-  plain_refused old command.InsertWith (reply.Memory back) new g step is within = step.0.not_promised
-  plain_refused old (command.Insert v) _ new g step is within = absurd is
-  plain_refused old command.InsertWith _ new g step is within = absurd is
-  plain_refused old _ _ new g step is within = absurd g
-
+  -- if what is owed is within the limit, an insert or a reattach fails only if nothing is owed
   pub detach_refused : (old : State V) (c : DetachCommand K V) (r : Reply K V R E) (new : State V) → DetachGrows c → DetachStep given old c r new
       → IsRefusal r → used old + old.promised ≤ most → old.promised ≡ 0
-  detach_refused old (detaching.Plain c) r new g step is within = plain_refused old c r new g step is within
-  detach_refused old (detaching.Reattach k v) (reply.Memory back) new g step is within = step.2
-  detach_refused old (detaching.Reattach k v) (reply.Full back) new g step is within = absurd step
-  detach_refused old (detaching.Reattach k v) _ new g step is within = absurd is
-  detach_refused old (detaching.Detach k) r new g step is within = absurd g
+  detach_refused old c r new grows step is within = grind arith
+
+  pub plain_refused : (old : State V) (c : Command K V) (r : Reply K V R E) (new : State V) → Grows c → Step given old c r new → IsRefusal r → used old + old.promised ≤ most → old.promised ≡ 0
+  plain_refused old c = detach_refused old (detaching.Plain c)
 
 module _ {K V R E C : Type 0} {given : Given K V R E} {Machine : State V → C → Reply K V R E → State V → Type 0} {of : Command K V → C} (m : IsMachine given Machine of)
     (Such : C → Type 0) (refused : (old : State V) (c : C) (r : Reply K V R E) (new : State V) → Such c → Machine old c r new → IsRefusal r → used old + old.promised ≤ most → old.promised ≡ 0) where
