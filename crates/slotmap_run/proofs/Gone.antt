@@ -1,5 +1,5 @@
 -- A key that was removed is gone.
-use Rattle.std.proofs.Common.{◌≡◌, List, ◌∷◌, ◌++◌, Some, None, true, inl, inr, refl, ap, is_some}
+use Rattle.std.proofs.Common.{◌≡◌, List, ◌∷◌, ◌++◌, Some, None, true, inl, refl, ap, is_some, arith}
 use Rattle.std.specs.FinMap as map
 use Rattle.slotmap_core.specs.Key.{Key}
 use Rattle.slotmap_core.specs.Machine.{State, after_remove}
@@ -20,10 +20,7 @@ module _ {K V R E C : Type 0} {given : Given K V R E} {Machine : State V → C �
   -- in a good state, a removed key is gone
   goes : (old new : State V) (k : Key) (v : V) → IsGood old → map.get old.live k ≡ Some v → new ≡ after_remove old k → Gone new k
   goes old new k v good found is = rw is (record {
-    not_held = λ h. elim h [
-      | inl g ↦ (in_after_remove keys_total exact_keys old.live k k g).0 refl
-      | inr g ↦ good.apart k (ap is_some found) g
-    ];
+    not_held = λ h. grind (arith, in_after_remove keys_total exact_keys old.live k k, good.apart k, found);
     issued = good.held_issued k (inl (ap is_some found));
   })
 
