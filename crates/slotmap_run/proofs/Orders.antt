@@ -1,7 +1,5 @@
 -- The calls of a map with a stack are the steps of the machine that reuses the slot freed last.
-use Rattle.std.proofs.Common.{◌≡◌, ℕ, ◌+◌, ◌<◌, max, List, [], ◌∷◌, ◌++◌, Some, Bool, true, if◌then◌else◌, inl, inr, refl, sym, ap, ◌∙◌, arith, is_some}
-use Rattle.std.specs.Prelude.{drop}
-use Rattle.std.specs.Option.{option_map, unwrap_or}
+use Rattle.std.proofs.Common.{◌≡◌, ℕ, ◌+◌, ◌<◌, max, List, [], ◌∷◌, ◌++◌, Some, Bool, true, if◌then◌else◌, refl, ap, ◌∙◌, arith, is_some}
 use Rattle.std.specs.List.{AllByRecursion}
 use Rattle.std.specs.Ordering.{nat_cmp}
 use Rattle.std.specs.Cmp.{nat_cmp_total}
@@ -11,7 +9,7 @@ use Rattle.std.specs.FinMap as map
 use Rattle.std.specs.FinSet as set
 use Rattle.slotmap_core.specs.Key.{Key, key_cmp}
 use Rattle.slotmap_core.specs.Content.{Content, IsContent, IsLive, used, places, most}
-use Rattle.slotmap_core.specs.Transition.{IsNew, Inserts, Keeps, Removes, Detaches, Reattaches, pushed}
+use Rattle.slotmap_core.specs.Transition.{IsNew, Inserts, Keeps, Removes, Detaches, Reattaches}
 use Rattle.slotmap_core.specs.Lifo as lifo
 use Rattle.slotmap_core.specs.Lifo.{Lifo, offer_of, top_key, places_after, after_insert}
 use Rattle.slotmap_core.proofs.KeyLemmas.{keys_total}
@@ -24,70 +22,25 @@ use Rattle.slotmap_run.specs.Order.{IsLifo, Orders}
 use Rattle.slotmap_run.proofs.Fits.{new_fits}
 use Rattle.slotmap_core.proofs.PlaceCount.{places_grow, kept_places, removed_places, detached_places, reattached_places}
 
-key_is : (k : Key) (i v : ℕ) → k.index ≡ i → k.version ≡ v → k ≡ record { index = i; version = v }
-key_is k i v e f = λ j. record { index = e j; version = f j }
-
 module _ {V : Type 0} (reuses : Bool) (old new : Content V) (ok : IsContent reuses old) (l : Lifo) (is : IsLifo l old) where
   -- if the map isn't full, the machine's offer is the map's
   offer_by : used old < most → (stack : List ℕ) → old.stack ≡ Some stack → (old.offer ≡ top_key old.next (places old) stack) × (places_after (places old) stack ≡ max (places old) (used old + 1))
-  offer_by room [] e =
-      let none = (ok.stacked [] e).once in
-      elim (ok.offers room) [
-        | inl g ↦ let some = some_entry nat_cmp_total exact_unsigned old.next old.offer.index (ap is_some g) in absurd (omega arith)
-        | inr g ↦ (key_is old.offer (places old + 1) 1 g.1 g.2, omega arith)
-      ]
-  offer_by room (i ∷ rest) e =
-      let is = ok.stacked (i ∷ rest) e in
-      let top : old.offer.index ≡ i = is.top room i rest refl in
-      let some = is.once in
-      elim (ok.offers room) [
-        | inl g ↦ (key_is old.offer i (unwrap_or (map.get old.next i) 1) top (sym (ap (λ o. unwrap_or o 1) (ap (λ j. map.get old.next j) (sym top) ∙ g))), omega arith)
-        | inr g ↦ let none = g.0 in absurd (omega arith)
-      ]
+  offer_by room stack e = grind (arith, ok.offers room, ok.stacked stack e, some_entry nat_cmp_total exact_unsigned old.next old.offer.index)
 
   pub lifo_inserts : (k : Key) (v : V) → Inserts old k v new → (k ≡ offer_of l) × IsLifo (after_insert l) new
-  lifo_inserts k v i =
-      let both = offer_by i.below_limit l.stack is.stack in
-      let same : k ≡ offer_of l = i.offered ∙ both.0 ∙ rw (is.next, is.places) refl in (
-        same,
-        rw (← same) (record {
-          live = λ q. grind (arith, is.live q, i.live, set.contains-insert keys_total l.live k q, map.get-insert keys_total old.live k v q);
-          detached = cc;
-          next = cc;
-          stack = i.stack ∙ ap (option_map (drop 1)) is.stack;
-          places = grind (arith, is.places, both.1, places_grow reuses old new ok k v i);
-        }),
-      )
+  lifo_inserts k v i = grind (arith, offer_by i.below_limit l.stack is.stack, is.live, i.live, set.contains-insert keys_total l.live k, map.get-insert keys_total old.live k v, places_grow reuses old new ok k v i)
 
   pub lifo_keeps : Keeps old new → IsLifo l new
-  lifo_keeps k = record { live = rw k.live is.live; detached = cc; next = cc; stack = cc; places = cc (kept_places reuses old new ok k) }
+  lifo_keeps k = grind (arith, is.live, k.live, kept_places reuses old new ok k)
 
   pub lifo_removes : (k : Key) → IsLive old k → Removes old k new → IsLifo (if set.contains l.live k then lifo.after_remove l k else l) new
-  lifo_removes k is_live r = rw (is.live k ∙ is_live) (record {
-    live = λ q. grind (arith, is.live q, r.live, set.contains-remove keys_total l.live k q, map.get-remove keys_total old.live k q);
-    detached = cc;
-    next = rw is.next (sym r.next);
-    stack = r.stack ∙ ap (option_map (λ stack. pushed stack k)) is.stack;
-    places = cc (removed_places reuses old new ok k is_live r);
-  })
+  lifo_removes k is_live r = grind (arith, is.live, r.live, set.contains-remove keys_total l.live k, map.get-remove keys_total old.live k, removed_places reuses old new ok k is_live r)
 
   pub lifo_detaches : (k : Key) → IsLive old k → Detaches old k new → IsLifo (if set.contains l.live k then lifo.after_detach l k else l) new
-  lifo_detaches k is_live r = rw (is.live k ∙ is_live) (record {
-    live = λ q. grind (arith, is.live q, r.live, set.contains-remove keys_total l.live k q, map.get-remove keys_total old.live k q);
-    detached = cc;
-    next = cc;
-    stack = cc;
-    places = cc (detached_places reuses old new ok k is_live r);
-  })
+  lifo_detaches k is_live r = grind (arith, is.live, r.live, set.contains-remove keys_total l.live k, map.get-remove keys_total old.live k, detached_places reuses old new ok k is_live r)
 
   pub lifo_reattaches : (k : Key) (v : V) → Reattaches old k v new → IsLifo (if set.contains l.detached k then lifo.after_reattach l k else l) new
-  lifo_reattaches k v r = rw (ap (λ (d : set.FinSet key_cmp). set.contains d k) is.detached ∙ r.was_detached) (record {
-    live = λ q. grind (arith, is.live q, r.live, set.contains-insert keys_total l.live k q, map.get-insert keys_total old.live k v q);
-    detached = cc;
-    next = cc;
-    stack = cc;
-    places = cc (reattached_places reuses old new ok k v r);
-  })
+  lifo_reattaches k v r = grind (arith, is.live, r.live, r.was_detached, set.contains-insert keys_total l.live k, map.get-insert keys_total old.live k v, reattached_places reuses old new ok k v r)
 
 module _ {V : Type 0} (reuses : Bool) (c : Content V) (ok : IsContent reuses c) (new : IsNew c) where
   -- a new map with a stack is at the machine's start
