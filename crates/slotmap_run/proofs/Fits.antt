@@ -1,19 +1,19 @@
 -- After an insert into a content that a state fits, the machine's next state fits the new content.
-use Rattle.std.proofs.Common.{◌≡◌, ◌≢◌, ℕ, ◌+◌, ◌^◌, ◌<◌, None, Bool, true, false, ◌⊎◌, inl, inr, sym, ap, ◌∙◌, arith}
+use Rattle.std.proofs.Common.{◌≡◌, ◌≢◌, ℕ, ◌+◌, ◌^◌, ◌<◌, Bool, true, ◌⊎◌, inl, sym, ap, ◌∙◌, arith}
 use Rattle.std.specs.Ordering.{nat_cmp}
 use Rattle.std.specs.FinMap as map
 use Rattle.std.specs.FinSet as set
 use Rattle.slotmap_core.specs.Key.{Key, key_cmp}
-use Rattle.slotmap_core.specs.Content.{Content, IsContent, Stands, IsRetired, used, places, most}
+use Rattle.slotmap_core.specs.Content.{Content, IsContent, Stands, used, most}
 use Rattle.slotmap_core.specs.Transition.{IsNew, Inserts}
 use Rattle.slotmap_core.specs.Machine as machine
 use Rattle.slotmap_core.specs.Machine.{State, IsIssued, IsHeld, Fresh, after_insert, after_remove, after_replace, after_reserve, after_detach, after_reattach, retired}
 use Rattle.slotmap_core.specs.Fit.{Fits, Lasts}
 use Rattle.slotmap_core.proofs.KeyLemmas.{keys_total, exact_keys, tied}
 use Rattle.slotmap_core.proofs.Maps.{in_inserted, item_after_insert, item_inserted, item_still}
-use Rattle.slotmap_core.proofs.PlaceCount.{vacant_of, offer_free, free, places_grow}
+use Rattle.slotmap_core.proofs.PlaceCount.{offer_free, free, places_grow}
 use Rattle.slotmap_core.proofs.Standing.{new_stands, inserted_stands, inserted_vacant}
-use Rattle.slotmap_core.proofs.Retired.{in_retired, retired_is}
+use Rattle.slotmap_core.proofs.Retired.{in_retired}
 use Rattle.slotmap_run.proofs.Moves.{Moves}
 
 module _ {V : Type 0} (s : State V) (c : Content V) (fits : Fits s c) where
@@ -32,24 +32,14 @@ module _ {V : Type 0} (s : State V) (c : Content V) (fits : Fits s c) where
 module _ {V : Type 0} (reuses : Bool) (s : State V) (old : Content V) (ok : IsContent reuses old) (fits : Fits s old) where
   module _ (room : used old < most) where
     offer_newer : (other : Key) → IsIssued s other → other.index ≡ old.offer.index → other.version < old.offer.version
-    offer_newer other h e = elim (ok.offers room) [
-      | inl g ↦ fits.past other old.offer.version h (rw e g)
-      | inr g ↦ let w = fits.within other h in absurd (omega arith)
-    ]
+    offer_newer other h e = grind (arith, ok.offers room, fits.past other old.offer.version, fits.within other)
 
     -- the machine may return the key that the map offers
     pub offer_fresh : Fresh s old.offer
     offer_fresh = record {
-      is_key = elim (ok.offers room) [
-        | inl g ↦ ok.vacancies old.offer.index old.offer.version g
-        | inr g ↦ let limit = room in let index = g.1 in let version = g.2 in let none = g.0 in
-            record { index_fits = omega arith; version_fits = omega arith; odd = omega arith; one_null = λ e. version }
-      ];
-      positive = elim (ok.offers room) [ inl g ↦ (ok.vacant old.offer.index (vacant_of reuses old old ok room g)).0 | inr g ↦ omega arith ];
-      reuses = let same = used_same s old fits in let peak = fits.peak in elim (ok.offers room) [
-        | inl g ↦ let w = ok.vacant old.offer.index (vacant_of reuses old old ok room g) in omega arith
-        | inr g ↦ omega arith
-      ];
+      is_key = grind (arith, ok.offers room, ok.vacancies old.offer.index old.offer.version);
+      positive = grind (arith, ok.offers room, ok.vacant old.offer.index);
+      reuses = grind (arith, ok.offers room, ok.vacant old.offer.index, used_same s old fits, fits.peak);
       apart = λ other h. offer_free reuses old old ok room other (stands_of s old fits other h);
       newer = offer_newer;
     }
@@ -86,28 +76,10 @@ module _ {V : Type 0} (reuses : Bool) (s : State V) (old : Content V) (ok : IsCo
       retired = same_retired ∙ sym i.retired;
       peak = rw (fits.peak, used_same s old fits) (places_grow reuses old new ok k v i);
       promised = let room = i.room in let promised = fits.promised in omega arith;
-      issued = λ q st. elim (inserted_stands old new k v i q st) [
-        | inl e ↦ rw e (item_inserted keys_total exact_keys s.issued k)
-        | inr old_st ↦ item_still keys_total exact_keys s.issued k q (fits.issued q old_st)
-      ];
-      within = λ q h. elim (issued_after q h) [
-        | inl e ↦ let w = new_ok.within k (inl k_stands) in rw e (w.1)
-        | inr h ↦ let w = fits.within q h in let grow = (places_grow reuses old new ok k v i) in omega arith
-      ];
-      past = λ q w h g. let a = inserted_vacant old new k v i q.index w g in elim (issued_after q h) [
-        | inl e ↦ absurd (a.0 (ap (λ (x : Key). x.index) e))
-        | inr h ↦ fits.past q w h a.1
-      ];
-      present = λ q other h st e. elim (issued_after q h) [
-        | inl here ↦ elim (inserted_stands old new k v i other st) [
-          | inl there ↦ rw (here, there) (omega arith)
-          | inr old_st ↦ absurd (free reuses old new ok k v i other old_st (e ∙ ap (λ (x : Key). x.index) here))
-        ]
-        | inr h ↦ elim (inserted_stands old new k v i other st) [
-          | inl there ↦ let same : q.index ≡ k.index = sym e ∙ ap (λ (x : Key). x.index) there in let less = newer q h same in rw there (omega arith)
-          | inr old_st ↦ fits.present q other h old_st e
-        ]
-      ];
+      issued = λ q st. grind (arith, inserted_stands old new k v i q st, item_inserted keys_total exact_keys s.issued, item_still keys_total exact_keys s.issued, fits.issued q);
+      within = λ q h. grind (arith, issued_after q h, new_ok.within k (inl k_stands), fits.within q, places_grow reuses old new ok k v i);
+      past = λ q w h g. grind (arith, issued_after q h, inserted_vacant old new k v i q.index w g, fits.past q w);
+      present = λ q other h st e. grind (arith, issued_after q h, inserted_stands old new k v i other st, newer q, free reuses old new ok k v i other, fits.present q other);
     }
 
 module _ {V : Type 0} (reuses : Bool) (old new : Content V) (ok : IsContent reuses old) (k : Key) (v : V) (i : Inserts old k v new) where
@@ -115,13 +87,7 @@ module _ {V : Type 0} (reuses : Bool) (old new : Content V) (ok : IsContent reus
   inserts_lasts n lasts = record {
     few = let few = lasts.few in omega arith;
     unretired = i.retired ∙ lasts.unretired;
-    standing = λ q st. elim (inserted_stands old new k v i q st) [
-      | inl e ↦ rw (e, i.offered) (elim (ok.offers i.below_limit) [
-        | inl g ↦ let room = lasts.vacant old.offer.index old.offer.version g in let odd = (ok.vacancies old.offer.index old.offer.version g).odd in omega arith
-        | inr g ↦ let few = lasts.few in omega arith
-      ])
-      | inr st ↦ let room = lasts.standing q st in omega arith
-    ];
+    standing = λ q st. grind (arith, inserted_stands old new k v i q st, ok.offers i.below_limit, ok.had_keys old.offer.index old.offer.version, lasts.vacant old.offer.index old.offer.version, lasts.standing q);
     vacant = λ j w g. let room = lasts.vacant j w (inserted_vacant old new k v i j w g).1 in omega arith;
   }
 
@@ -129,31 +95,17 @@ module _ {V : Type 0} (reuses : Bool) (old new : Content V) (ok : IsContent reus
   inserts new_ok = record { fits = λ s fits. inserts_fits reuses s old ok fits new k v i new_ok; lasts = inserts_lasts }
 
 module _ {V : Type 0} (c : Content V) (new : IsNew c) where
-  none_issued : (k : Key) → IsIssued (machine.empty_state {V = V}) k → ⊥
-  none_issued k h = let none = set.contains-empty key_cmp k in absurd (cc)
-
-  none_retired : (k : Key) → IsRetired c k → ⊥
-  none_retired k h = let none : set.contains c.retired k ≡ false = ap (λ (d : set.FinSet key_cmp). set.contains d k) new.retired ∙ set.contains-empty key_cmp k in absurd (cc)
-
-  no_places : places c ≡ 0
-  no_places =
-      let live : map.len c.live ≡ 0 = ap (λ (m : map.FinMap key_cmp V). map.len m) new.live ∙ map.len-empty key_cmp V in
-      let detached : set.len c.detached ≡ 0 = ap (λ (d : set.FinSet key_cmp). set.len d) new.detached ∙ set.len-empty key_cmp in
-      let retired : set.len c.retired ≡ 0 = ap (λ (d : set.FinSet key_cmp). set.len d) new.retired ∙ set.len-empty key_cmp in
-      let next : map.len c.next ≡ 0 = ap (λ (m : map.FinMap nat_cmp ℕ). map.len m) new.next ∙ map.len-empty nat_cmp ℕ in
-      omega arith
-
   pub new_fits : Fits machine.empty_state c
   new_fits = record {
-    live = sym new.live;
-    detached = sym new.detached;
-    retired = retired_is machine.empty_state c.retired (λ k h. absurd (none_issued k h.issued)) (λ k h. absurd (none_retired k h));
-    peak = sym no_places;
+    live = cc;
+    detached = cc;
+    retired = set.same_set keys_total exact_keys _ _ (λ k. grind (arith, in_retired (machine.empty_state {V = V}) k, new.retired, set.contains-empty key_cmp k));
+    peak = omega (arith, ap map.len new.live, ap set.len new.detached, ap set.len new.retired, ap map.len new.next, map.len-empty key_cmp V, map.len-empty nat_cmp ℕ, set.len-empty key_cmp);
     promised = omega arith;
     issued = λ k h. absurd (new_stands c new k h);
-    within = λ k h. absurd (none_issued k h);
-    past = λ k v h g. absurd (none_issued k h);
-    present = λ k other h st e. absurd (none_issued k h);
+    within = λ k h. grind (arith, set.contains-empty key_cmp k);
+    past = λ k v h g. grind (arith, set.contains-empty key_cmp k);
+    present = λ k other h st e. grind (arith, set.contains-empty key_cmp k);
   }
 
 -- a new map lasts for each number of calls below 2^32
@@ -162,5 +114,5 @@ new_lasts c n new few = record {
   few = few;
   unretired = new.retired;
   standing = λ k h. absurd (new_stands c new k h);
-  vacant = λ i v g. let none : map.get c.next i ≡ None = ap (λ (m : map.FinMap nat_cmp ℕ). map.get m i) new.next ∙ map.get-empty nat_cmp i in absurd (cc);
+  vacant = λ i v g. absurd (cc (new.next, map.get-empty {X = ℕ} nat_cmp i));
 }

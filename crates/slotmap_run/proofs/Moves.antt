@@ -1,5 +1,5 @@
 -- After any other call than an insert on a content that a state fits, the machine's next state fits the new content.
-use Rattle.std.proofs.Common.{◌≡◌, ℕ, ◌+◌, ◌≤◌, Bool, inl, inr, sym, ◌∙◌, arith}
+use Rattle.std.proofs.Common.{◌≡◌, ℕ, ◌+◌, ◌≤◌, Bool, inl, arith}
 use Rattle.std.proofs.lemmas.Grind.{common_steps}
 use Rattle.std.specs.FinMap as map
 use Rattle.std.specs.FinSet as set
@@ -32,29 +32,8 @@ module _ {V : Type 0} (reuses : Bool) (old new : Content V) (ok : IsContent reus
   module _ (stood : (q : Key) → Stands new q → Stands old q) (vacant : Vacates old new) (same : places new ≡ places old) where
     less : (after : State V → State V) → ((n : ℕ) → Lasts (n + 1) old → new.retired ≡ old.retired) → ((s : State V) → Fits s old → Has s (after s) new) → Moves after old new
     less after unretired has = record {
-      fits = λ s fits. let h = has s fits in record {
-        live = h.live;
-        detached = h.detached;
-        retired = h.retired;
-        peak = h.peak ∙ fits.peak ∙ sym same;
-        promised = h.promised;
-        issued = λ q st. rw h.issued (fits.issued q (stood q st));
-        within = λ q g. let w = fits.within q (rw (← h.issued) g) in omega arith;
-        past = λ q w i g. elim (vacant q.index w g) [
-          | inl e ↦ let before = fits.present q e.0 (rw (← h.issued) i) (inl e.1) e.2 in let is = e.3 in omega arith
-          | inr g ↦ fits.past q w (rw (← h.issued) i) g
-        ];
-        present = λ q other i st e. fits.present q other (rw (← h.issued) i) (stood other st) e;
-      };
-      lasts = λ n lasts. record {
-        few = let few = lasts.few in omega arith;
-        unretired = unretired n lasts ∙ lasts.unretired;
-        standing = λ q st. let room = lasts.standing q (stood q st) in omega arith;
-        vacant = λ j w g. elim (vacant j w g) [
-          | inl e ↦ let room = lasts.standing e.0 (inl e.1) in let is = e.3 in omega arith
-          | inr g ↦ let room = lasts.vacant j w g in omega arith
-        ];
-      };
+      fits = λ s fits. grind (arith, has s fits, stood, vacant, same, fits.peak, fits.issued, fits.within, fits.past, fits.present);
+      lasts = λ n lasts. grind (arith, unretired n lasts, stood, vacant, lasts.unretired, lasts.standing, lasts.vacant);
     }
 
   module _ (k : Keeps old new) where

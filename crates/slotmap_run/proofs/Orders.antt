@@ -28,7 +28,15 @@ module _ {V : Type 0} (reuses : Bool) (old new : Content V) (ok : IsContent reus
   offer_by room stack e = grind (arith, ok.offers room, ok.stacked stack e, some_entry nat_cmp_total exact_unsigned old.next old.offer.index)
 
   pub lifo_inserts : (k : Key) (v : V) → Inserts old k v new → (k ≡ offer_of l) × IsLifo (after_insert l) new
-  lifo_inserts k v i = grind (arith, offer_by i.below_limit l.stack is.stack, is.live, i.live, set.contains-insert keys_total l.live k, map.get-insert keys_total old.live k v, places_grow reuses old new ok k v i)
+  lifo_inserts k v i = grind (
+    arith,
+    offer_by i.below_limit l.stack is.stack,
+    is.live,
+    i.live,
+    set.contains-insert keys_total l.live k,
+    map.get-insert keys_total old.live k v,
+    places_grow reuses old new ok k v i,
+  )
 
   pub lifo_keeps : Keeps old new → IsLifo l new
   lifo_keeps k = grind (arith, is.live, k.live, kept_places reuses old new ok k)
