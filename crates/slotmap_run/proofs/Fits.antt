@@ -87,7 +87,14 @@ module _ {V : Type 0} (reuses : Bool) (old new : Content V) (ok : IsContent reus
   inserts_lasts n lasts = record {
     few = let few = lasts.few in omega arith;
     unretired = i.retired ∙ lasts.unretired;
-    standing = λ q st. grind (arith, inserted_stands old new k v i q st, ok.offers i.below_limit, ok.had_keys old.offer.index old.offer.version, lasts.vacant old.offer.index old.offer.version, lasts.standing q);
+    standing = λ q st. grind (
+      arith,
+      inserted_stands old new k v i q st,
+      ok.offers i.below_limit,
+      ok.had_keys old.offer.index old.offer.version,
+      lasts.vacant old.offer.index old.offer.version,
+      lasts.standing q,
+    );
     vacant = λ j w g. let room = lasts.vacant j w (inserted_vacant old new k v i j w g).1 in omega arith;
   }
 

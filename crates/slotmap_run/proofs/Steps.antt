@@ -1,12 +1,11 @@
 -- What the calls of a map ensure is a step of the machine.
-use Rattle.std.proofs.Common.{◌≡◌, ℕ, ◌+◌, ◌<◌, ◌≤◌, List, [], ◌∷◌, ◌++◌, Vec, Global, Result, Ok, Err, IfOk, OnOk, IfErr, OnErr, IsErr, IsOk, Option}
-use Rattle.std.proofs.Common.{Some, None, Bool, false, cond, inl, inr, refl, sym, ap, ◌∙◌, subst, arith, is_some}
+use Rattle.std.proofs.Common.{◌≡◌, ◌≢◌, ℕ, ◌+◌, ◌≤◌, List, [], ◌∷◌, ◌++◌, Vec, Global, Result, Ok, Err, IfOk, OnOk, IfErr, OnErr, IsErr, IsOk, Option}
+use Rattle.std.proofs.Common.{Some, None, Bool, false, cond, refl, sym, ap, ◌∙◌, subst, arith, is_some}
 use Rattle.std.specs.Prelude.{map as list_map, MatchOption, IsSomeAnd, OnSome, IfNone, option_copied}
 use Rattle.std.specs.Fn.{Mut}
 use Rattle.std.specs.Borrow.{Bor, MutBor}
 use Rattle.std.specs.FinMap as map
 use Rattle.std.specs.FinSet as set
-use Rattle.std.proofs.lemmas.Bool.{cases_lt}
 use Rattle.slotmap_core.specs.Key.{Key, key_cmp}
 use Rattle.slotmap_core.specs.Content.{Content, IsContent, used, most}
 use Rattle.slotmap_core.specs.Listing.{IsListing, IsKeyListing}
@@ -15,8 +14,9 @@ use Rattle.slotmap_core.specs.Call.{MayGrow, MakesRoom}
 use Rattle.slotmap_core.specs.Refusal.{LacksRoom, Refuses, RefusesWith, RefusesCapacity, RefusesReattach}
 use Rattle.slotmap_core.specs.Retain.{Visit, CallsAt, RetainsBy}
 use Rattle.slotmap_core.specs.Given.{Given}
-use Rattle.slotmap_core.specs.Machine.{State}
-use Rattle.slotmap_core.specs.Step.{MayLackMemory, Step, DetachStep}
+use Rattle.slotmap_core.specs.Machine as machine
+use Rattle.slotmap_core.specs.Machine.{State, Fresh, after_insert}
+use Rattle.slotmap_core.specs.Step.{MayLackMemory, MayLackRoom, Step, DetachStep}
 use Rattle.slotmap_core.specs.Fit.{Fits, Follows}
 use Rattle.slotmap_core.specs.declared.commands.Command.{Command}
 use Rattle.slotmap_core.specs.declared.commands.Command.TheVariants as command
@@ -37,9 +37,9 @@ use Rattle.slotmap_core.proofs.Maps.{none_of, false_of}
 use Rattle.slotmap_core.proofs.RetainLemmas.{retained_none, retained_at}
 use Rattle.slotmap_run.proofs.Fits.{used_same, below, offer_fresh, inserts_fresh, inserts as inserts_moves}
 use Rattle.slotmap_run.proofs.Moves.{Moves, keeps, promises, replaces, detaches, reattaches, removes, leaves}
-use Rattle.slotmap_core.specs.Lifo.{IsBasic}
-use Rattle.slotmap_core.specs.Law.{IsRefusal}
-use Rattle.slotmap_run.specs.Order.{Served}
+use Rattle.slotmap_core.specs.Lifo.{Lifo, IsBasic, answer, after_command}
+use Rattle.slotmap_core.specs.Law.{IsRefusal, reply_keys}
+use Rattle.slotmap_run.specs.Order.{Served, IsLifo}
 use Rattle.slotmap_run.specs.Replies.{insert_reply_of, insert_with_reply_of, reserve_reply_of, reattach_reply_of}
 use Rattle.slotmap_run.proofs.Orders.{lifo_inserts, lifo_keeps, lifo_removes, lifo_detaches, lifo_reattaches}
 
@@ -75,37 +75,28 @@ module _ {K V R E : Type 0} (given : Given K V R E) (old new : Content V) (ok : 
   refused : {c : Command K V} {r : Reply K V R E} → IsRefusal r → Keeps old new → ((s : State V) → Fits s old → Step given s c r s) → Answers c r
   refused is kept step = record { follows = by (keeps given.reuses old new ok kept) step; orders = λ l lifo basic told. absurd (told is) }
 
-  module _ (new_ok : IsContent given.reuses new) (key : K) (v : V) where
-    pub inserts : Inserts old (given.data_of key) v new → Answers (command.Insert v) (reply.Key key)
-    inserts i = record {
-      follows = by (inserts_moves given.reuses old new ok (given.data_of key) v i new_ok)
-          (λ s fits. (below s old fits i.below_limit, inserts_fresh given.reuses s old ok fits new (given.data_of key) v i new_ok, refl));
-      orders = λ l is basic told. let both = lifo_inserts given.reuses old new ok l is (given.data_of key) v i in (ap (λ k. k ∷ []) both.0, both.1);
-    }
+  -- an insert binds a fresh key
+  binds : {c : Command K V} {r : Reply K V R E} (key : K) (v : V) → IsContent given.reuses new → Inserts old (given.data_of key) v new
+      → ((s : State V) → machine.used s ≢ most → Fresh s (given.data_of key) → Step given s c r (after_insert s (given.data_of key) v)) → Follows (Step given) old c r new
+  binds key v new_ok i step =
+      by (inserts_moves given.reuses old new ok (given.data_of key) v i new_ok)
+      (λ s fits. step s (below s old fits i.below_limit) (inserts_fresh given.reuses s old ok fits new (given.data_of key) v i new_ok))
 
-    inserts_with : given.makes key (Ok v) → Inserts old (given.data_of key) v new → Answers command.InsertWith (reply.Key key)
-    inserts_with made i = other (λ b. b) (by (inserts_moves given.reuses old new ok (given.data_of key) v i new_ok)
-        (λ s fits. (below s old fits i.below_limit, inserts_fresh given.reuses s old ok fits new (given.data_of key) v i new_ok, (v, made, refl))))
+  pub inserts : IsContent given.reuses new → (key : K) (v : V) → Inserts old (given.data_of key) v new → Answers (command.Insert v) (reply.Key key)
+  inserts new_ok key v i = record {
+    follows = binds key v new_ok i (λ s below fresh. (below, fresh, refl));
+    orders = λ l is basic told. let both = lifo_inserts given.reuses old new ok l is (given.data_of key) v i in (ap (λ k. k ∷ []) both.0, both.1);
+  }
 
   pub full : (v back : V) → Refuses old v (Full back) → Keeps old new → Answers (command.Insert v) (reply.Full (Some back))
   full v back r kept = refused tt kept (λ s fits. (used_same s old fits ∙ r.0, ap Some r.1, refl))
 
-  with_full : used old ≡ most → Keeps old new → Answers command.InsertWith (reply.Full None)
-  with_full r kept = stays (λ b. b) kept (λ s fits. (used_same s old fits ∙ r, refl, refl))
-
   -- if memory may run out for an insert, it may in the machine
   may_lack : LacksRoom old → (s : State V) → Fits s old → MayLackMemory given.reuses s
-  may_lack r s fits = let same = used_same s old fits in record {
-    below_limit = λ e. let less = r.below_limit in omega arith;
-    not_promised = let promised = fits.promised in let room = r.no_room in omega arith;
-    at_peak = λ h. let none = ok.reused h in let room = r.no_room in let peak = fits.peak in omega arith;
-  }
+  may_lack r s fits = grind (arith, used_same s old fits, ok.reused)
 
   pub no_memory : (v back : V) → Refuses old v (Memory back) → Keeps old new → Answers (command.Insert v) (reply.Memory (Some back))
   no_memory v back r kept = refused tt kept (λ s fits. (may_lack r.0 s fits, ap Some r.1, refl))
-
-  with_no_memory : LacksRoom old → Keeps old new → Answers command.InsertWith (reply.Memory None)
-  with_no_memory r kept = stays (λ b. b) kept (λ s fits. (may_lack r s fits, refl, refl))
 
   -- whatever an insert returns
   pub inserted : (v : V) (r : Result K (InsertError V)) → MayGrow given.reuses old (IsErr r) new
@@ -114,17 +105,15 @@ module _ {K V R E : Type 0} (given : Given K V R E) (old new : Content V) (ok : 
   inserted v (Err (Full back)) valid ok err = full v back err (valid.unchanged refl)
   inserted v (Err (Memory back)) valid ok err = no_memory v back err (valid.unchanged refl)
 
-  with_failed : (e : E) → (used old < most) × ((k : K) × (given.data_of k ≡ old.offer) × given.makes k (Err e)) → Keeps old new → Answers command.InsertWith (reply.Failed e)
-  with_failed e r kept = stays (λ b. b) kept (λ s fits. (below s old fits r.0, (r.1.0, rw r.1.1 (offer_fresh given.reuses s old ok fits r.0), r.1.2), refl))
-
   -- whatever an insert of what `make` returns does
   pub inserted_with : (r : Result K (TryInsertError E)) → MayGrow given.reuses old (IsErr r) new
       → IfOk r (λ key. (v : V) × given.makes key (Ok v) × Inserts old (given.data_of key) v new) → IfErr r (RefusesWith given.data_of given.makes old)
       → Answers command.InsertWith (insert_with_reply_of r)
-  inserted_with (Ok key) valid ok err = inserts_with valid.after key ok.0 ok.1 ok.2
-  inserted_with (Err with_key.Full) valid ok err = with_full err (valid.unchanged refl)
-  inserted_with (Err with_key.Memory) valid ok err = with_no_memory err (valid.unchanged refl)
-  inserted_with (Err (with_key.Closure e)) valid ok err = with_failed e err (valid.unchanged refl)
+  inserted_with (Ok key) valid ok err = other (λ b. b) (binds key ok.0 valid.after ok.2 (λ s below fresh. (below, fresh, (ok.0, ok.1, refl))))
+  inserted_with (Err with_key.Full) valid ok err = stays (λ b. b) (valid.unchanged refl) (λ s fits. (used_same s old fits ∙ err, refl, refl))
+  inserted_with (Err with_key.Memory) valid ok err = stays (λ b. b) (valid.unchanged refl) (λ s fits. (may_lack err s fits, refl, refl))
+  inserted_with (Err (with_key.Closure e)) valid none err =
+      stays (λ b. b) (valid.unchanged refl) (λ s fits. (below s old fits err.0, (err.1.0, rw err.1.1 (offer_fresh given.reuses s old ok fits err.0), err.1.2), refl))
 
   -- whatever a look-up finds, if the reply may be told of it
   pub looked : (key : K) (found : Option (Bor V)) (told : Option R) (P : Bor V → R → Type 0) → ((x : Bor V) (r : R) → P x r → given.looks x.now r) → Keeps old new
@@ -145,39 +134,32 @@ module _ {K V R E : Type 0} (given : Given K V R E) (old new : Content V) (ok : 
       other (λ b. b) (by (replaces given.reuses old new ok (given.data_of key) v (ap is_some found) (replaces_with old new (given.data_of key) v put)) (λ s fits. (rw fits.live found, refl)))
   replaced key v (Err back) found put none same = stays (λ b. b) (keeps_same old new same) (λ s fits. (rw fits.live (none_of _ none.0), none.1, refl))
 
+  -- a command that leaves the machine that reuses the slot freed last as it is
+  unmoved : {C : Type 0} {Machine : Given K V R E → State V → C → Reply K V R E → State V → Type 0} {of : C → DetachCommand K V} {c : C} {r : Reply K V R E}
+      → Keeps old new → ((s : State V) → Fits s old → Machine given s c r s) → ((l : Lifo) → reply_keys given.data_of r ≡ answer given.data_of l (of c))
+      → ((l : Lifo) → IsLifo l old → after_command given.data_of l (of c) ≡ l) → Served Machine of given old c r new
+  unmoved kept step told same = record {
+    follows = by (keeps given.reuses old new ok kept) step;
+    orders = λ l lifo basic _. (told l, rw (same l lifo) (lifo_keeps given.reuses old new ok l lifo kept));
+  }
+
   pub removed : (key : K) (taken : Option V) → taken ≡ map.get old.live (given.data_of key) → OnSome taken (Removes old (given.data_of key) new)
       → IfNone taken (new ≡ old) → Answers (command.Remove key) (reply.Taken taken)
   removed key (Some v) is some none = record {
     follows = by (removes given.reuses old new ok (given.data_of key) (ap is_some (sym is)) some) (λ s fits. (rw fits.live (sym is), refl));
     orders = λ l lifo basic told. (refl, lifo_removes given.reuses old new ok l lifo (given.data_of key) (ap is_some (sym is)) some);
   }
-  removed key None is some none = record {
-    follows = by (keeps given.reuses old new ok (keeps_same old new none)) (λ s fits. (rw fits.live (sym is), refl));
-    orders = λ l lifo basic told. (refl, rw (lifo.live (given.data_of key) ∙ ap is_some (sym is)) (lifo_keeps given.reuses old new ok l lifo (keeps_same old new none)));
-  }
+  removed key None is some none =
+      unmoved (keeps_same old new none) (λ s fits. (rw fits.live (sym is), refl)) (λ l. refl) (λ l lifo. rw (lifo.live (given.data_of key) ∙ ap is_some (sym is)) refl)
 
-  reserves : (m : ℕ) → used old + m ≤ most → m ≤ new.room → Keeps old new → Answers (command.Reserve m) reply.Done
-  reserves m within room kept = other (λ b. b) (by (promises given.reuses old new ok kept m room) (λ s fits. (rw (used_same s old fits) within, refl)))
-
-  too_great : (m : ℕ) → most < used old + m → Keeps old new → Answers (command.Reserve m) reply.TooGreat
-  too_great m great kept = stays (λ b. b) kept (λ s fits. (rw (used_same s old fits) great, refl))
-
-  reserves_no_memory : (m : ℕ) → used old + m ≤ most → old.room < m → Keeps old new → Answers (command.Reserve m) (reply.Memory None)
-  reserves_no_memory m within lacks kept = stays (λ b. b) kept (λ s fits. let same = used_same s old fits in (
-    record {
-      within_limit = omega arith;
-      beyond_promise = let promised = fits.promised in omega arith;
-      beyond_peak = λ h. let vacant = ok.reused h in let peak = fits.peak in omega arith;
-    },
-    refl,
-    refl,
-  ))
+  may_lack_room : (m : ℕ) → used old + m ≤ most → (m ≤ old.room → ⊥) → (s : State V) → Fits s old → MayLackRoom given.reuses s m
+  may_lack_room m within lacks s fits = grind (arith, used_same s old fits, ok.reused)
 
   -- whatever a reserve returns
   pub reserved : (m : ℕ) (r : Result (Unit {0}) ReserveError) → MakesRoom given.reuses old m (IsOk r) new → IfErr r (RefusesCapacity (used old + m)) → Answers (command.Reserve m) (reserve_reply_of r)
-  reserved m (Ok done) made err = reserves m (made.fits refl) (made.room refl) made.keeps
-  reserved m (Err capacity.TooGreat) made err = too_great m err made.keeps
-  reserved m (Err capacity.Memory) made err = elim (cases_lt old.room m) [ inl lacks ↦ reserves_no_memory m err lacks made.keeps | inr room ↦ let done = made.succeeds room in absurd (cc) ]
+  reserved m (Ok done) made err = other (λ b. b) (by (promises given.reuses old new ok made.keeps m (made.room refl)) (λ s fits. (rw (used_same s old fits) (made.fits refl), refl)))
+  reserved m (Err capacity.TooGreat) made err = stays (λ b. b) made.keeps (λ s fits. (rw (used_same s old fits) err, refl))
+  reserved m (Err capacity.Memory) made err = stays (λ b. b) made.keeps (λ s fits. (may_lack_room m err (λ room. let done = made.succeeds room in absurd (cc)) s fits, refl, refl))
 
   -- some keys are removed, and nothing else of the state changes
   left : {c : Command K V} {r : Reply K V R E} → (IsBasic (detaching.Plain c) → ⊥) → Leaves old new
@@ -231,10 +213,8 @@ module _ {K V R E : Type 0} (given : Given K V R E) (old new : Content V) (ok : 
     follows = by (detaches given.reuses old new ok (given.data_of key) (ap is_some (sym is)) some) (λ s fits. (rw fits.live (sym is), refl));
     orders = λ l lifo basic told. (refl, lifo_detaches given.reuses old new ok l lifo (given.data_of key) (ap is_some (sym is)) some);
   }
-  detached key None is some none = record {
-    follows = by (keeps given.reuses old new ok (keeps_same old new none)) (λ s fits. (rw fits.live (sym is), refl));
-    orders = λ l lifo basic told. (refl, rw (lifo.live (given.data_of key) ∙ ap is_some (sym is)) (lifo_keeps given.reuses old new ok l lifo (keeps_same old new none)));
-  }
+  detached key None is some none =
+      unmoved (keeps_same old new none) (λ s fits. (rw fits.live (sym is), refl)) (λ l. refl) (λ l lifo. rw (lifo.live (given.data_of key) ∙ ap is_some (sym is)) refl)
 
   pub reattached : (key : K) (v : V) → Reattaches old (given.data_of key) v new → DetachAnswers (detaching.Reattach key v) reply.Done
   reattached key v r = record {
@@ -244,10 +224,8 @@ module _ {K V R E : Type 0} (given : Given K V R E) (old new : Content V) (ok : 
 
   pub not_detached : (key : K) (v back : V) → RefusesReattach given.reuses old (given.data_of key) v (again.NotDetached back) → Keeps old new
       → DetachAnswers (detaching.Reattach key v) (reply.NotDetached back)
-  not_detached key v back r kept = record {
-    follows = by (keeps given.reuses old new ok kept) (λ s fits. (rw fits.detached (false_of _ r.0), r.1, refl));
-    orders = λ l lifo basic told. (refl, rw (ap (λ (d : set.FinSet key_cmp). set.contains d (given.data_of key)) lifo.detached ∙ false_of _ r.0) (lifo_keeps given.reuses old new ok l lifo kept));
-  }
+  not_detached key v back r kept = unmoved kept (λ s fits. (rw fits.detached (false_of _ r.0), r.1, refl)) (λ l. refl)
+      (λ l lifo. rw (ap (λ (d : set.FinSet key_cmp). set.contains d (given.data_of key)) lifo.detached ∙ false_of _ r.0) refl)
 
   pub reattaches_no_memory : (key : K) (v back : V) → RefusesReattach given.reuses old (given.data_of key) v (again.Memory back) → Keeps old new
       → DetachAnswers (detaching.Reattach key v) (reply.Memory (Some back))
