@@ -12,32 +12,17 @@ use Rattle.slotmap_core.specs.declared.commands.DetachCommand.TheVariants as det
 use Rattle.slotmap_core.specs.declared.commands.Reply.{Reply}
 use Rattle.slotmap_core.specs.declared.commands.Reply.TheVariants as reply
 use Rattle.slotmap_core.specs.Law.{reply_keys, Spares}
-use Rattle.slotmap_core.proofs.KeyLemmas.{keys_total, exact_keys}
-use Rattle.slotmap_core.proofs.Maps.{in_after_insert, in_after_remove, item_after_insert, item_after_remove, item_still, item_left}
+use Rattle.slotmap_run.proofs.Changes.{changes}
 use Rattle.slotmap_run.proofs.Laws.{Binds, Shrinks, IsMachine}
 
 module _ {K V R E : Type 0} (given : Given K V R E) where
   module _ (old : State V) (c : DetachCommand K V) (r : Reply K V R E) (new : State V) (step : DetachStep given old c r new) where
     held_before : reply_keys given.data_of r ≡ [] → (q : Key) → IsHeld new q → IsHeld old q
-    held_before quiet q h = grind (
-      arith,
-      in_after_insert keys_total exact_keys old.live,
-      in_after_remove keys_total exact_keys old.live,
-      map.get-empty {X = V} key_cmp q,
-      item_after_insert keys_total exact_keys old.detached,
-      item_after_remove keys_total exact_keys old.detached,
-    )
+    held_before quiet q h = grind (arith, changes, map.get-empty {X = V} key_cmp q)
 
     apart_still : reply_keys given.data_of r ≡ [] → (q : Key) → map.contains_key new.live q ≡ true → set.contains new.detached q ≡ true
         → (map.contains_key old.live q ≡ true) × (set.contains old.detached q ≡ true)
-    apart_still quiet q h g = grind (
-      arith,
-      in_after_insert keys_total exact_keys old.live,
-      in_after_remove keys_total exact_keys old.live,
-      map.get-empty {X = V} key_cmp q,
-      item_after_insert keys_total exact_keys old.detached,
-      item_after_remove keys_total exact_keys old.detached,
-    )
+    apart_still quiet q h g = grind (arith, changes, map.get-empty {X = V} key_cmp q)
 
     shrinks : reply_keys given.data_of r ≡ [] → Shrinks given.data_of old r new
     shrinks quiet = record {
@@ -51,7 +36,7 @@ module _ {K V R E : Type 0} (given : Given K V R E) where
 
     -- a detached key stays detached until it is reattached
     pub detached_stays : (k : Key) → Spares given.data_of k c r → set.contains old.detached k ≡ true → set.contains new.detached k ≡ true
-    detached_stays k spares was = grind (arith, item_still keys_total exact_keys old.detached, item_left keys_total exact_keys old.detached)
+    detached_stays k spares was = grind (arith, changes)
 
   binds : (old : State V) (c : DetachCommand K V) (k : K) (new : State V) → DetachStep given old c (reply.Key k) new → Binds {R = R} {E = E} given.data_of old (reply.Key k) new
   binds old (detaching.Plain (command.Insert v)) k new h = record { key = given.data_of k; value = v; tells = refl; below_limit = h.0; fresh = h.1; is = h.2 }

@@ -1,5 +1,5 @@
 -- After an insert into a content that a state fits, the machine's next state fits the new content.
-use Rattle.std.proofs.Common.{◌≡◌, ◌≢◌, ℕ, ◌+◌, ◌^◌, ◌<◌, Bool, true, ◌⊎◌, inl, sym, ap, ◌∙◌, arith}
+use Rattle.std.proofs.Common.{◌≡◌, ◌≢◌, ℕ, ◌+◌, ◌^◌, ◌<◌, Bool, inl, sym, ap, ◌∙◌, arith}
 use Rattle.std.specs.Ordering.{nat_cmp}
 use Rattle.std.specs.FinMap as map
 use Rattle.std.specs.FinSet as set
@@ -9,8 +9,9 @@ use Rattle.slotmap_core.specs.Transition.{IsNew, Inserts}
 use Rattle.slotmap_core.specs.Machine as machine
 use Rattle.slotmap_core.specs.Machine.{State, IsIssued, IsHeld, Fresh, after_insert, after_remove, after_replace, after_reserve, after_detach, after_reattach, retired}
 use Rattle.slotmap_core.specs.Fit.{Fits, Lasts}
-use Rattle.slotmap_core.proofs.KeyLemmas.{keys_total, exact_keys, tied}
-use Rattle.slotmap_core.proofs.Maps.{in_inserted, item_after_insert, item_inserted, item_still}
+use Rattle.slotmap_core.proofs.KeyLemmas.{keys_total, exact_keys, itself}
+use Rattle.slotmap_run.proofs.Changes.{changes}
+use Rattle.slotmap_core.proofs.Maps.{in_inserted}
 use Rattle.slotmap_core.proofs.PlaceCount.{offer_free, free, places_grow}
 use Rattle.slotmap_core.proofs.Standing.{new_stands, inserted_stands, inserted_vacant}
 use Rattle.slotmap_core.proofs.Retired.{in_retired}
@@ -54,20 +55,9 @@ module _ {V : Type 0} (reuses : Bool) (s : State V) (old : Content V) (ok : IsCo
     k_stands : Stands new k
     k_stands = inl (rw i.live (in_inserted keys_total exact_keys old.live k v))
 
-    issued_after : (q : Key) → set.contains (set.insert s.issued k) q ≡ true → (q ≡ k) ⊎ IsIssued s q
-    issued_after q h = item_after_insert keys_total exact_keys s.issued k q h
-
     same_retired : retired (after_insert s k v) ≡ old.retired
-    same_retired = set.same_set keys_total exact_keys (retired (after_insert s k v)) old.retired (λ q. grind (
-      arith,
-      in_retired (after_insert s k v) q,
-      in_retired s q,
-      fits.retired,
-      set.contains-insert keys_total s.issued k q,
-      map.get-insert keys_total s.live k v q,
-      tied keys_total exact_keys q k,
-      newer k,
-    ))
+    same_retired = set.same_set keys_total exact_keys (retired (after_insert s k v)) old.retired
+        (λ q. grind (arith, changes, in_retired (after_insert s k v) q, in_retired s q, fits.retired, newer k))
 
     pub inserts_fits : Fits (after_insert s k v) new
     inserts_fits = record {
@@ -76,10 +66,10 @@ module _ {V : Type 0} (reuses : Bool) (s : State V) (old : Content V) (ok : IsCo
       retired = same_retired ∙ sym i.retired;
       peak = rw (fits.peak, used_same s old fits) (places_grow reuses old new ok k v i);
       promised = let room = i.room in let promised = fits.promised in omega arith;
-      issued = λ q st. grind (arith, inserted_stands old new k v i q st, item_inserted keys_total exact_keys s.issued, item_still keys_total exact_keys s.issued, fits.issued q);
-      within = λ q h. grind (arith, issued_after q h, new_ok.within k (inl k_stands), fits.within q, places_grow reuses old new ok k v i);
-      past = λ q w h g. grind (arith, issued_after q h, inserted_vacant old new k v i q.index w g, fits.past q w);
-      present = λ q other h st e. grind (arith, issued_after q h, inserted_stands old new k v i other st, newer q, free reuses old new ok k v i other, fits.present q other);
+      issued = λ q st. grind (arith, inserted_stands old new k v i q st, changes, itself keys_total exact_keys k, fits.issued q);
+      within = λ q h. grind (arith, changes, new_ok.within k (inl k_stands), fits.within q, places_grow reuses old new ok k v i);
+      past = λ q w h g. grind (arith, changes, inserted_vacant old new k v i q.index w g, fits.past q w);
+      present = λ q other h st e. grind (arith, changes, inserted_stands old new k v i other st, newer q, free reuses old new ok k v i other, fits.present q other);
     }
 
 module _ {V : Type 0} (reuses : Bool) (old new : Content V) (ok : IsContent reuses old) (k : Key) (v : V) (i : Inserts old k v new) where

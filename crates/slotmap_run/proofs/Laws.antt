@@ -12,10 +12,11 @@ use Rattle.slotmap_core.specs.Step as plain
 use Rattle.slotmap_core.specs.declared.commands.Command.{Command}
 use Rattle.slotmap_core.specs.declared.commands.Reply.{Reply}
 use Rattle.slotmap_core.specs.Law.{reply_keys, keys_told, NoKeyTwice}
-use Rattle.slotmap_core.proofs.KeyLemmas.{keys_total, exact_keys, tied}
-use Rattle.slotmap_core.proofs.Maps.{false_of, item_inserted, item_still}
+use Rattle.slotmap_core.proofs.KeyLemmas.{keys_total, exact_keys, tied, itself}
+use Rattle.slotmap_core.proofs.Maps.{false_of, item_inserted}
 use Rattle.slotmap_core.proofs.Retired.{in_retired}
 use Rattle.slotmap_run.proofs.Runs.{run_keeps}
+use Rattle.slotmap_run.proofs.Changes.{changes}
 use Rattle.slotmap_run.proofs.Used.{IsApart, bound_held, no_more_used, one_more_used, apart_after}
 
 pub weaker : {A : Type 0} {P Q : A → Type 0} → ((x : A) → P x → Q x) → (xs : List A) → AllByRecursion P xs → AllByRecursion Q xs
@@ -78,12 +79,12 @@ pub record IsMachine {K V R E C : Type 0} (given : Given K V R E) (Step : State 
 
 module _ {K V R E C : Type 0} {given : Given K V R E} {Step : State V → C → Reply K V R E → State V → Type 0} {of : Command K V → C} (m : IsMachine given Step of) where
   issued_stays : (old : State V) (c : C) (r : Reply K V R E) (new : State V) → Step old c r new → (k : Key) → IsIssued old k → IsIssued new k
-  issued_stays old c r new step k h = grind (arith, m.cases old c r new step, item_still keys_total exact_keys old.issued)
+  issued_stays old c r new step k h = grind (arith, m.cases old c r new step, changes)
 
   pub good_stays : (old : State V) (c : C) (r : Reply K V R E) (new : State V) → Step old c r new → IsGood old → IsGood new
   good_stays old c r new step good = elim (m.cases old c r new step) [
     | inl b ↦ rw b.is (record {
-      held_issued = λ k h. grind (arith, bound_held old b.key b.value k h, item_inserted keys_total exact_keys old.issued, item_still keys_total exact_keys old.issued, good.held_issued k);
+      held_issued = λ k h. grind (arith, bound_held old b.key b.value k h, changes, itself keys_total exact_keys b.key, good.held_issued k);
       apart = apart_after old b.key b.value good.apart b.fresh;
       within = grind (arith, one_more_used old b.key b.value good.apart b.fresh, good.within, b.below_limit);
     })

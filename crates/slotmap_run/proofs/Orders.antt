@@ -19,6 +19,7 @@ use Rattle.slotmap_core.specs.Run.{Run}
 use Rattle.slotmap_core.specs.declared.commands.DetachCommand.{DetachCommand}
 use Rattle.slotmap_core.specs.declared.commands.Reply.{Reply}
 use Rattle.slotmap_run.specs.Order.{IsLifo, Orders}
+use Rattle.slotmap_run.proofs.Changes.{changes}
 use Rattle.slotmap_run.proofs.Fits.{new_fits}
 use Rattle.slotmap_core.proofs.PlaceCount.{places_grow, kept_places, removed_places, detached_places, reattached_places}
 
@@ -42,13 +43,13 @@ module _ {V : Type 0} (reuses : Bool) (old new : Content V) (ok : IsContent reus
   lifo_keeps k = grind (arith, is.live, k.live, kept_places reuses old new ok k)
 
   pub lifo_removes : (k : Key) → IsLive old k → Removes old k new → IsLifo (if set.contains l.live k then lifo.after_remove l k else l) new
-  lifo_removes k is_live r = grind (arith, is.live, r.live, set.contains-remove keys_total l.live k, map.get-remove keys_total old.live k, removed_places reuses old new ok k is_live r)
+  lifo_removes k is_live r = grind (arith, is.live, r.live, changes, removed_places reuses old new ok k is_live r)
 
   pub lifo_detaches : (k : Key) → IsLive old k → Detaches old k new → IsLifo (if set.contains l.live k then lifo.after_detach l k else l) new
-  lifo_detaches k is_live r = grind (arith, is.live, r.live, set.contains-remove keys_total l.live k, map.get-remove keys_total old.live k, detached_places reuses old new ok k is_live r)
+  lifo_detaches k is_live r = grind (arith, is.live, r.live, changes, detached_places reuses old new ok k is_live r)
 
   pub lifo_reattaches : (k : Key) (v : V) → Reattaches old k v new → IsLifo (if set.contains l.detached k then lifo.after_reattach l k else l) new
-  lifo_reattaches k v r = grind (arith, is.live, r.live, r.was_detached, set.contains-insert keys_total l.live k, map.get-insert keys_total old.live k v, reattached_places reuses old new ok k v r)
+  lifo_reattaches k v r = grind (arith, is.live, r.live, r.was_detached, changes, reattached_places reuses old new ok k v r)
 
 module _ {V : Type 0} (reuses : Bool) (c : Content V) (ok : IsContent reuses c) (new : IsNew c) where
   -- a new map with a stack is at the machine's start

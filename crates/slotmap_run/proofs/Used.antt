@@ -4,9 +4,9 @@ use Rattle.std.specs.FinMap as map
 use Rattle.std.specs.FinSet as set
 use Rattle.slotmap_core.specs.Key.{Key, key_cmp, is_last}
 use Rattle.slotmap_core.specs.Machine.{State, IsHeld, Fresh, after_insert, retired, used}
-use Rattle.slotmap_core.proofs.KeyLemmas.{exact_keys, keys_total}
-use Rattle.slotmap_core.proofs.Maps.{in_after_insert}
+use Rattle.slotmap_core.proofs.KeyLemmas.{keys_total}
 use Rattle.slotmap_core.proofs.Retired.{in_retired}
+use Rattle.slotmap_run.proofs.Changes.{changes}
 use Rattle.slotmap_run.proofs.Counts.{all_keys, contains-all_keys, len-all_keys, len-subset}
 
 -- no key is both live and detached
@@ -26,33 +26,19 @@ module _ {V : Type 0} where
 
   -- if no key is returned, and none is held that wasn't, no more indices are taken
   pub no_more_used : (s t : State V) → IsApart s → IsApart t → t.issued ≡ s.issued → ((q : Key) → IsHeld t q → IsHeld s q) → used t ≤ used s
-  no_more_used s t apart after issued held = omega (
-    arith,
-    len-used_keys s apart,
-    len-used_keys t after,
-    len-subset (used_keys t) (used_keys s) (λ q h. grind (arith, in_used t q, in_used s q, held q)),
-  )
+  no_more_used s t apart after issued held =
+      let fewer = len-subset (used_keys t) (used_keys s) (λ q h. grind (arith, in_used t q, in_used s q, held q)) in
+      omega (arith, len-used_keys s apart, len-used_keys t after)
 
   pub bound_held : (s : State V) (k : Key) (v : V) (q : Key) → IsHeld (after_insert s k v) q → (q ≡ k) ⊎ IsHeld s q
-  bound_held s k v q h = grind (arith, in_after_insert keys_total exact_keys s.live k v q)
+  bound_held s k v q h = grind (arith, changes)
 
   module _ (s : State V) (k : Key) (v : V) (apart : IsApart s) (fresh : Fresh s k) where
     pub apart_after : IsApart (after_insert s k v)
-    apart_after q h g = grind (arith, in_after_insert keys_total exact_keys s.live k v q, fresh.apart q, apart q)
+    apart_after q h g = grind (arith, changes, fresh.apart q, apart q)
 
     -- the key that an insert returns is one more
     pub one_more_used : used (after_insert s k v) ≤ used s + 1
-    one_more_used = grind (
-      arith,
-      len-used_keys s apart,
-      len-used_keys (after_insert s k v) apart_after,
-      set.len-insert keys_total (used_keys s) k,
-      len-subset (used_keys (after_insert s k v)) (set.insert (used_keys s) k) (λ q h. grind (
-        arith,
-        in_used (after_insert s k v) q,
-        in_used s q,
-        set.contains-insert keys_total (used_keys s) k q,
-        set.contains-insert keys_total s.issued k q,
-        in_after_insert keys_total exact_keys s.live k v q,
-      )),
-    )
+    one_more_used =
+        let more = len-subset (used_keys (after_insert s k v)) (set.insert (used_keys s) k) (λ q h. grind (arith, changes, in_used (after_insert s k v) q, in_used s q)) in
+        grind (arith, len-used_keys s apart, len-used_keys (after_insert s k v) apart_after, set.len-insert keys_total (used_keys s) k)
