@@ -37,13 +37,17 @@ module _ {V : Type 0} (reuses : Bool) (s : State V) (old : Content V) (ok : IsCo
 
     -- the machine may return the key that the map offers
     pub offer_fresh : Fresh s old.offer
-    offer_fresh = record {
-      is_key = grind (arith, ok.offers room, ok.vacancies old.offer.index old.offer.version);
-      positive = grind (arith, ok.offers room, ok.vacant old.offer.index);
-      reuses = grind (arith, ok.offers room, ok.vacant old.offer.index, used_same s old fits, fits.peak);
-      apart = λ other h. offer_free reuses old old ok room other (stands_of s old fits other h);
-      newer = offer_newer;
-    }
+    offer_fresh = grind (
+      arith,
+      ok.offers room,
+      ok.vacancies old.offer.index old.offer.version,
+      ok.vacant old.offer.index,
+      used_same s old fits,
+      fits.peak,
+      offer_newer,
+      stands_of s old fits,
+      offer_free reuses old old ok room,
+    )
 
   module _ (new : Content V) (k : Key) (v : V) (i : Inserts old k v new) (new_ok : IsContent reuses new) where
     newer : (other : Key) → IsIssued s other → other.index ≡ k.index → other.version < k.version
@@ -74,19 +78,16 @@ module _ {V : Type 0} (reuses : Bool) (s : State V) (old : Content V) (ok : IsCo
 
 module _ {V : Type 0} (reuses : Bool) (old new : Content V) (ok : IsContent reuses old) (k : Key) (v : V) (i : Inserts old k v new) where
   inserts_lasts : (n : ℕ) → Lasts (n + 1) old → Lasts n new
-  inserts_lasts n lasts = record {
-    few = let few = lasts.few in omega arith;
-    unretired = i.retired ∙ lasts.unretired;
-    standing = λ q st. grind (
-      arith,
-      inserted_stands old new k v i q st,
-      ok.offers i.below_limit,
-      ok.had_keys old.offer.index old.offer.version,
-      lasts.vacant old.offer.index old.offer.version,
-      lasts.standing q,
-    );
-    vacant = λ j w g. let room = lasts.vacant j w (inserted_vacant old new k v i j w g).1 in omega arith;
-  }
+  inserts_lasts n lasts = grind (
+    arith,
+    inserted_stands old new k v i,
+    inserted_vacant old new k v i,
+    ok.offers i.below_limit,
+    ok.had_keys old.offer.index old.offer.version,
+    lasts.vacant old.offer.index old.offer.version,
+    lasts.vacant,
+    lasts.standing,
+  )
 
   pub inserts : IsContent reuses new → Moves (λ s. after_insert s k v) old new
   inserts new_ok = record { fits = λ s fits. inserts_fits reuses s old ok fits new k v i new_ok; lasts = inserts_lasts }

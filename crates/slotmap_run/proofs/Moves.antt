@@ -50,18 +50,24 @@ module _ {V : Type 0} (reuses : Bool) (old new : Content V) (ok : IsContent reus
 
   pub detaches : (k : Key) → IsLive old k → Detaches old k new → Moves (λ s. after_detach s k) old new
   detaches k is_live r = less (detached_stands old new k is_live r) (same_vacant old new r.next) (detached_places reuses old new ok k is_live r) (λ s. after_detach s k) (λ n lasts. r.retired)
-      (λ s fits. let same = set.same_set keys_total exact_keys (retired (after_detach s k)) (retired s) (λ q. grind (arith, in_retired (after_detach s k) q, in_retired s q, changes, fits.live)) in grind arith)
+      (λ s fits. let same = set.same_set keys_total exact_keys (retired (after_detach s k)) (retired s)
+      (λ q. grind (arith, in_retired (after_detach s k) q, in_retired s q, changes, fits.live)) in grind arith)
 
   pub reattaches : (k : Key) (v : V) → Reattaches old k v new → Moves (λ s. after_reattach s k v) old new
   reattaches k v r = less (reattached_stands old new k v r) (same_vacant old new r.next) (reattached_places reuses old new ok k v r) (λ s. after_reattach s k v) (λ n lasts. r.retired)
-      (λ s fits. let same = set.same_set keys_total exact_keys (retired (after_reattach s k v)) (retired s) (λ q. grind (arith, in_retired (after_reattach s k v) q, in_retired s q, changes, fits.detached, r.was_detached)) in grind arith)
+      (λ s fits. let same = set.same_set keys_total exact_keys (retired (after_reattach s k v)) (retired s)
+      (λ q. grind (arith, in_retired (after_reattach s k v) q, in_retired s q, changes, fits.detached, r.was_detached)) in grind arith)
 
   pub removes : (k : Key) → IsLive old k → Removes old k new → Moves (λ s. after_remove s k) old new
   removes k is_live r = less (removed_stands old new k r) (removed_vacant old new k is_live r) (removed_places reuses old new ok k is_live r) (λ s. after_remove s k)
       (λ n lasts. grind (arith, common_steps, r.retired, lasts.standing k (inl is_live)))
-      (λ s fits. let same = set.same_set keys_total exact_keys (retired (after_remove s k)) new.retired (λ q. grind (arith, in_retired (after_remove s k) q, in_retired s q, fits.retired, r.retired, changes, fits.issued k (inl is_live), ok.live_or_detached k is_live, fits.live, fits.detached)) in grind arith)
+      (λ s fits. let same = set.same_set keys_total exact_keys (retired (after_remove s k)) new.retired
+      (λ q. grind (arith, in_retired (after_remove s k) q, in_retired s q, fits.retired, r.retired, changes, fits.issued k (inl is_live), ok.live_or_detached k is_live, fits.live, fits.detached)) in
+      grind arith)
 
   pub leaves : Leaves old new → Moves (λ s. record s { live = new.live }) old new
   leaves l = less (left_stands old new l) (left_vacant old new l) l.same_places (λ s. record s { live = new.live })
       (λ n lasts. set.same_set keys_total exact_keys new.retired old.retired (λ q. grind (arith, common_steps, l.retired q, lasts.standing q)))
-      (λ s fits. let same = set.same_set keys_total exact_keys (retired (record s { live = new.live })) new.retired (λ q. grind (arith, in_retired (record s { live = new.live }) q, in_retired s q, fits.retired, fits.live, fits.detached, l.retired q, l.no_more q, fits.issued q, ok.live_or_detached q)) in grind arith)
+      (λ s fits. let same = set.same_set keys_total exact_keys (retired (record s { live = new.live })) new.retired
+      (λ q. grind (arith, in_retired (record s { live = new.live }) q, in_retired s q, fits.retired, fits.live, fits.detached, l.retired q, l.no_more q, fits.issued q, ok.live_or_detached q)) in
+      grind arith)
