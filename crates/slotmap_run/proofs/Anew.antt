@@ -85,7 +85,7 @@ module _ {V C R : Type 0} {Step Any : State V → C → R → State V → Type 0
         run = run;
         none_retired = λ few.
             let same : length cs + 0 ≡ length cs = omega arith in
-            let lasts = follows.lasts 0 (rw same (new_lasts old (length cs) start few)) in
+            let lasts = follows.lasts 0 (rw same (new_lasts old start (length cs) few)) in
             (run.0, machine.unretired cs rs empty_state run.0 run.1 (run.2.retired ∙ lasts.unretired), run.2);
         goes_on = free;
         laws = machine.laws cs rs (well_anew Any cs rs new free);

@@ -1,5 +1,5 @@
 -- No later insert returns a detached key, and it can be reattached.
-use Rattle.std.proofs.Common.{Ok, ◌≡◌, List, ◌∷◌, ◌++◌, Some, true, false, ◌⊎◌, inl, ap, ◌∙◌, is_some, arith}
+use Rattle.std.proofs.Common.{Ok, ◌≡◌, List, ◌∷◌, ◌++◌, Some, true, false, ◌⊎◌, inl, ap, is_some, arith}
 use Rattle.std.specs.FinMap as map
 use Rattle.std.specs.FinSet as set
 use Rattle.slotmap_core.specs.Machine.{State, IsIssued}
@@ -12,23 +12,20 @@ use Rattle.slotmap_core.specs.declared.commands.DetachCommand.TheVariants as det
 use Rattle.slotmap_core.specs.declared.commands.Reply.{Reply}
 use Rattle.slotmap_core.specs.declared.commands.Reply.TheVariants as reply
 use Rattle.slotmap_core.specs.Law.{keys_told, DetachedNotReissued, DetachedReattaches, ReattachBinds, Spares}
-use Rattle.slotmap_core.proofs.KeyLemmas.{keys_total, exact_keys}
-use Rattle.slotmap_core.proofs.Maps.{item_inserted, get_inserted}
+use Rattle.slotmap_core.proofs.KeyLemmas.{keys_total, exact_keys, itself}
+use Rattle.slotmap_run.proofs.Changes.{changes}
 use Rattle.slotmap_run.proofs.Laws.{IsGood, good_stays, told_new, weaker}
 use Rattle.slotmap_run.proofs.Cases.{detach_machine, detached_stays}
 use Rattle.slotmap_run.proofs.Runs.{run_split, run_keeps, run_keeps_by}
 use Rattle.slotmap_run.proofs.Anew.{RunsWell}
 
 module _ {K V R E : Type 0} (given : Given K V R E) where
-  good_at : (cs : List (DetachCommand K V)) (rs : List (Reply K V R E)) (s t : State V) → IsGood s → Run (DetachStep given) s cs rs t → IsGood t
-  good_at cs rs s t good run = run_keeps (DetachStep given) IsGood (good_stays (detach_machine given)) cs rs s t run good
-
   pub detached_not_reissued : (commands : List (DetachCommand K V)) (replies : List (Reply K V R E)) → RunsWell (DetachStep given) commands replies → DetachedNotReissued given.data_of commands replies
   detached_not_reissued commands replies well cs ds rs ss key v e is js =
       let run : Run (DetachStep given) well.first (cs ++ detaching.Detach key ∷ ds) (rs ++ reply.Taken (Some v) ∷ ss) well.last = rw (← is, ← js) well.run in
       let first = run_split (DetachStep given) cs rs (detaching.Detach key) (reply.Taken (Some v)) ds ss well.first well.last e run in
-      let issued : IsIssued first.0 (given.data_of key) = (good_at cs rs well.first first.0 well.good first.2).held_issued (given.data_of key) (inl (ap is_some first.3.0)) in
-      let still : IsIssued first.1 (given.data_of key) = rw first.3.1 issued in
+      let good = run_keeps (DetachStep given) IsGood (good_stays (detach_machine given)) cs rs well.first first.0 first.2 well.good in
+      let still : IsIssued first.1 (given.data_of key) = rw first.3.1 (good.held_issued (given.data_of key) (inl (ap is_some first.3.0))) in
       weaker (λ q h e. h (rw e still)) (keys_told given.data_of ss) (told_new (detach_machine given) ds ss first.1 well.last first.4).0
 
   answered : (old : State V) (key : K) (w : V) (answer : Reply K V R E) (new : State V) → set.contains old.detached (given.data_of key) ≡ true
@@ -42,8 +39,7 @@ module _ {K V R E : Type 0} (given : Given K V R E) where
       (rs ++ reply.Taken (Some v) ∷ (ss ++ answer ∷ us)) well.last = rw (← is, ← js) well.run in
       let first = run_split (DetachStep given) cs rs (detaching.Detach key) (reply.Taken (Some v)) (ds ++ detaching.Reattach key w ∷ es) (ss ++ answer ∷ us) well.first well.last e run in
       let second = run_split (DetachStep given) ds ss (detaching.Reattach key w) answer es us first.1 well.last f first.4 in
-      let aside : set.contains first.1.detached (given.data_of key) ≡ true = ap (λ (s : State V). set.contains s.detached (given.data_of key)) first.3.1
-      ∙ item_inserted keys_total exact_keys first.0.detached (given.data_of key) in
+      let aside : set.contains first.1.detached (given.data_of key) ≡ true = grind (arith, changes, itself keys_total exact_keys (given.data_of key), first.3.1) in
       let still = run_keeps_by (DetachStep given) (λ s. set.contains s.detached (given.data_of key) ≡ true) (Spares given.data_of (given.data_of key))
       (λ old c r new spares step. detached_stays given old c r new step (given.data_of key) spares) ds ss first.1 second.0 spares second.2 aside in
       answered second.0 key w answer second.1 still second.3
@@ -57,6 +53,4 @@ module _ {K V R E : Type 0} (given : Given K V R E) where
       let run : Run (DetachStep given) well.first (cs ++ detaching.Reattach key w ∷ detaching.Plain (command.Replace key u) ∷ ds)
       (rs ++ reply.Done ∷ answer ∷ ss) well.last = rw (← is, ← js) well.run in
       let first = run_split (DetachStep given) cs rs (detaching.Reattach key w) reply.Done (detaching.Plain (command.Replace key u) ∷ ds) (answer ∷ ss) well.first well.last e run in
-      let found : map.get first.1.live (given.data_of key) ≡ Some w = ap (λ (s : State V). map.get s.live (given.data_of key)) first.3.1
-      ∙ get_inserted keys_total exact_keys first.0.live (given.data_of key) w in
-      replaces first.1 key w u answer first.4.0 found first.4.1
+      replaces first.1 key w u answer first.4.0 (grind (arith, changes, itself keys_total exact_keys (given.data_of key), first.3.1)) first.4.1

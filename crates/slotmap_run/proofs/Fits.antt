@@ -4,7 +4,7 @@ use Rattle.std.specs.Ordering.{nat_cmp}
 use Rattle.std.specs.FinMap as map
 use Rattle.std.specs.FinSet as set
 use Rattle.slotmap_core.specs.Key.{Key, key_cmp}
-use Rattle.slotmap_core.specs.Content.{Content, IsContent, Stands, used, most}
+use Rattle.slotmap_core.specs.Content.{Content, IsContent, Stands, used, places, most}
 use Rattle.slotmap_core.specs.Transition.{IsNew, Inserts}
 use Rattle.slotmap_core.specs.Machine as machine
 use Rattle.slotmap_core.specs.Machine.{State, IsIssued, IsHeld, Fresh, after_insert, after_remove, after_replace, after_reserve, after_detach, after_reattach, retired}
@@ -78,39 +78,21 @@ module _ {V : Type 0} (reuses : Bool) (s : State V) (old : Content V) (ok : IsCo
 
 module _ {V : Type 0} (reuses : Bool) (old new : Content V) (ok : IsContent reuses old) (k : Key) (v : V) (i : Inserts old k v new) where
   inserts_lasts : (n : ℕ) → Lasts (n + 1) old → Lasts n new
-  inserts_lasts n lasts = grind (
-    arith,
-    inserted_stands old new k v i,
-    inserted_vacant old new k v i,
-    ok.offers i.below_limit,
-    ok.had_keys old.offer.index old.offer.version,
-    lasts.vacant old.offer.index old.offer.version,
-    lasts.vacant,
-    lasts.standing,
-  )
+  inserts_lasts n lasts =
+      let offered = lasts.vacant old.offer.index old.offer.version in
+      grind (arith, inserted_stands old new k v i, inserted_vacant old new k v i, ok.offers i.below_limit, ok.had_keys old.offer.index old.offer.version, lasts.vacant, lasts.standing)
 
   pub inserts : IsContent reuses new → Moves (λ s. after_insert s k v) old new
   inserts new_ok = record { fits = λ s fits. inserts_fits reuses s old ok fits new k v i new_ok; lasts = inserts_lasts }
 
 module _ {V : Type 0} (c : Content V) (new : IsNew c) where
   pub new_fits : Fits machine.empty_state c
-  new_fits = record {
-    live = cc;
-    detached = cc;
-    retired = set.same_set keys_total exact_keys _ _ (λ k. grind (arith, in_retired (machine.empty_state {V = V}) k, new.retired, set.contains-empty key_cmp k));
-    peak = omega (arith, ap map.len new.live, ap set.len new.detached, ap set.len new.retired, ap map.len new.next, map.len-empty key_cmp V, map.len-empty nat_cmp ℕ, set.len-empty key_cmp);
-    promised = omega arith;
-    issued = λ k h. absurd (new_stands c new k h);
-    within = λ k h. grind (arith, set.contains-empty key_cmp k);
-    past = λ k v h g. grind (arith, set.contains-empty key_cmp k);
-    present = λ k other h st e. grind (arith, set.contains-empty key_cmp k);
-  }
+  new_fits =
+      let none : retired (machine.empty_state {V = V}) ≡ c.retired = set.same_set keys_total exact_keys _ _
+      (λ k. grind (arith, in_retired (machine.empty_state {V = V}) k, new.retired, set.contains-empty key_cmp k)) in
+      let no_places : places c ≡ 0 = omega (arith, ap map.len new.live, ap set.len new.detached, ap set.len new.retired, ap map.len new.next, map.len-empty key_cmp V, map.len-empty nat_cmp ℕ, set.len-empty key_cmp) in
+      grind (arith, none, set.contains-empty key_cmp, new_stands c new)
 
--- a new map lasts for each number of calls below 2^32
-pub new_lasts : {V : Type 0} (c : Content V) (n : ℕ) → IsNew c → n < 2 ^ 32 → Lasts n c
-new_lasts c n new few = record {
-  few = few;
-  unretired = new.retired;
-  standing = λ k h. absurd (new_stands c new k h);
-  vacant = λ i v g. absurd (cc (new.next, map.get-empty {X = ℕ} nat_cmp i));
-}
+  -- it lasts for each number of calls below 2^32
+  pub new_lasts : (n : ℕ) → n < 2 ^ 32 → Lasts n c
+  new_lasts n few = grind (arith, new.retired, new.next, new_stands c new, map.get-empty {X = ℕ} nat_cmp)

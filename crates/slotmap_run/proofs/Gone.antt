@@ -10,8 +10,8 @@ use Rattle.slotmap_core.specs.declared.commands.Command.TheVariants as command
 use Rattle.slotmap_core.specs.declared.commands.Reply.{Reply}
 use Rattle.slotmap_core.specs.declared.commands.Reply.TheVariants as reply
 use Rattle.slotmap_core.specs.Law.{RemovedForGood}
-use Rattle.slotmap_core.proofs.KeyLemmas.{keys_total, exact_keys}
-use Rattle.slotmap_core.proofs.Maps.{in_after_remove}
+use Rattle.slotmap_core.proofs.KeyLemmas.{keys_total, exact_keys, itself}
+use Rattle.slotmap_run.proofs.Changes.{changes}
 use Rattle.slotmap_run.proofs.Laws.{IsMachine, Gone, IsGood, good_stays, gone_stays}
 use Rattle.slotmap_run.proofs.Runs.{run_split, run_keeps}
 use Rattle.slotmap_run.proofs.Anew.{RunsWell}
@@ -19,10 +19,7 @@ use Rattle.slotmap_run.proofs.Anew.{RunsWell}
 module _ {K V R E C : Type 0} {given : Given K V R E} {Machine : State V → C → Reply K V R E → State V → Type 0} {of : Command K V → C} (m : IsMachine given Machine of) where
   -- in a good state, a removed key is gone
   goes : (old new : State V) (k : Key) (v : V) → IsGood old → map.get old.live k ≡ Some v → new ≡ after_remove old k → Gone new k
-  goes old new k v good found is = rw is (record {
-    not_held = λ h. grind (arith, in_after_remove keys_total exact_keys old.live k k, good.apart k, found);
-    issued = good.held_issued k (inl (ap is_some found));
-  })
+  goes old new k v good found is = rw is (grind (arith, changes, itself keys_total exact_keys k, good.apart k, found, good.held_issued k))
 
   -- once a key was removed, no look-up finds it
   pub removed_for_good : (commands : List C) (replies : List (Reply K V R E)) → RunsWell Machine commands replies → RemovedForGood of commands replies

@@ -19,31 +19,16 @@ use Rattle.slotmap_run.specs.Ties.{joined, told_by, Known, Follows, JoinServed}
 use Rattle.slotmap_run.specs.declared.joined.Beside.{Beside}
 
 is_new : {V : Type 0} (old : Content V) → places old ≡ 0 → IsNew old
-is_new old no_places = record {
-  live = map.empty_of_len old.live (omega arith);
-  detached = set.empty_of_len old.detached (omega arith);
-  retired = set.empty_of_len old.retired (omega arith);
-  next = map.empty_of_len old.next (omega arith);
-}
+is_new old no_places = grind (arith, map.empty_of_len old.live, set.empty_of_len old.detached, set.empty_of_len old.retired, map.empty_of_len old.next)
 
 -- nothing is known of two maps that were never used
 nothing_known : {K V W : Type 0} (data_of : K → Key) (old : Content V) (second : Pairs W) → IsNew old → second ≡ map.empty → Known data_of empty_state map.empty old second []
-nothing_known {K} {V} {W} data_of old second new empty = record {
-  answered = λ i k h. absurd (cc);
-  stored = λ i p h. absurd (cc (empty, map.get-empty {X = ℕ × W} nat_cmp i));
-  written = λ k w h. absurd (cc (map.get-empty {X = W} key_cmp k));
-  agree = λ k h. absurd (new_stands old new k h);
-  young = λ k h. absurd (cc (set.contains-empty key_cmp k));
-}
+nothing_known {K} {V} {W} data_of old second new empty =
+    grind (arith, empty, new_stands old new, map.get-empty {X = ℕ × W} nat_cmp, map.get-empty {X = W} key_cmp, set.contains-empty key_cmp)
 
 -- fewer calls
 fewer_calls : {V : Type 0} (n : ℕ) (c : Content V) → Lasts (n + 2 ^ 31) c → Lasts (2 ^ 31) c
-fewer_calls n c lasts = record {
-  few = omega arith;
-  unretired = lasts.unretired;
-  standing = λ k h. let room = lasts.standing k h in omega arith;
-  vacant = λ i v h. let room = lasts.vacant i v h in omega arith;
-}
+fewer_calls n c lasts = grind (arith, lasts.standing, lasts.vacant)
 
 -- one call
 module _ {M S K V W C R : Type 0} {data_of : K → Key} {content : M → Content V} {pairs : S → Pairs W}
@@ -104,7 +89,7 @@ module _ {M S K V W C R : Type 0} (data_of : K → Key) (content : M → Content
     told_run no_places empty few =
         let new_first = is_new (content old.primary.now) no_places in
         let known = nothing_known data_of (content old.primary.now) (pairs old.secondary.now) new_first empty in
-        let lasts = new_lasts (content old.primary.now) (length cs + 2 ^ 31) new_first (omega arith) in
+        let lasts = new_lasts (content old.primary.now) new_first (length cs + 2 ^ 31) (omega arith) in
         let ran = runs_told cs rs old new run empty_state map.empty (new_fits (content old.primary.now) new_first) (rw none known) lasts in
         let start : with empty_state old map.empty ≡ unused = rw (none, empty) refl in
         (with ran.0 new ran.1, subst (λ (x : WithDictionary K V W). Run Telling x cs rs (with ran.0 new ran.1)) start ran.2, rw same_p ran.3, rw same_q refl)

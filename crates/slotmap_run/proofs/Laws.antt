@@ -42,11 +42,7 @@ module _ {V : Type 0} where
     pub within : used s + s.promised ≤ most
 
   pub empty_good : IsGood empty_state
-  empty_good = record {
-    held_issued = λ k h. grind (arith, map.get-empty {X = V} key_cmp k, set.contains-empty key_cmp k);
-    apart = λ k h g. grind (arith, set.contains-empty key_cmp k);
-    within = omega (arith, none_used V);
-  }
+  empty_good = grind (arith, map.get-empty {X = V} key_cmp, set.contains-empty key_cmp, none_used V)
 
   not_issued : (s : State V) (k : Key) → Fresh s k → IsIssued s k → ⊥
   not_issued s k f h = let less = f.newer k h refl in absurd (omega arith)
@@ -83,26 +79,21 @@ module _ {K V R E C : Type 0} {given : Given K V R E} {Step : State V → C → 
 
   pub good_stays : (old : State V) (c : C) (r : Reply K V R E) (new : State V) → Step old c r new → IsGood old → IsGood new
   good_stays old c r new step good = elim (m.cases old c r new step) [
-    | inl b ↦ rw b.is (record {
-      held_issued = λ k h. grind (arith, bound_held old b.key b.value k h, changes, itself keys_total exact_keys b.key, good.held_issued k);
-      apart = apart_after old b.key b.value good.apart b.fresh;
-      within = grind (arith, one_more_used old b.key b.value good.apart b.fresh, good.within, b.below_limit);
-    })
-    | inr s ↦ record {
-      held_issued = λ k h. rw s.issued (good.held_issued k (s.held k h));
-      apart = s.apart good.apart;
-      within = omega (arith, no_more_used old new good.apart (s.apart good.apart) s.issued s.held, s.within good.within);
-    }
+    | inl b ↦
+        let apart = apart_after old b.key b.value good.apart b.fresh in
+        let grows = one_more_used old b.key b.value good.apart b.fresh in
+        rw b.is (grind (arith, changes, itself keys_total exact_keys b.key, bound_held old b.key b.value, good.held_issued, good.within, b.below_limit))
+    | inr s ↦
+        let apart = s.apart good.apart in
+        let fewer = no_more_used old new good.apart apart s.issued s.held in
+        grind (arith, s.issued, s.held, good.held_issued, s.within good.within)
   ]
 
   pub gone_stays : (k : Key) (old : State V) (c : C) (r : Reply K V R E) (new : State V) → Step old c r new → Gone old k → Gone new k
-  gone_stays k old c r new step gone = record {
-    not_held = elim (m.cases old c r new step) [
-      | inl b ↦ λ h. grind (arith, bound_held old b.key b.value k (rw b.is at h), b.fresh.newer k, gone.issued, gone.not_held)
-      | inr s ↦ λ h. gone.not_held (s.held k h)
-    ];
-    issued = issued_stays old c r new step k gone.issued;
-  }
+  gone_stays k old c r new step gone = elim (m.cases old c r new step) [
+    | inl b ↦ rw b.is (grind (arith, changes, bound_held old b.key b.value k, b.fresh.newer k, gone.issued, gone.not_held))
+    | inr s ↦ grind (arith, s.issued, s.held k, gone.issued, gone.not_held)
+  ]
 
   -- a step lowers what is promised by at most 1, a run of n by at most n
   pub still_promised : (cs : List C) (rs : List (Reply K V R E)) (s t : State V) → Run Step s cs rs t → s.promised ≤ t.promised + length cs

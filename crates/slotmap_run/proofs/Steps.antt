@@ -44,13 +44,13 @@ use Rattle.slotmap_run.specs.Replies.{insert_reply_of, insert_with_reply_of, res
 use Rattle.slotmap_run.proofs.Orders.{lifo_inserts, lifo_keeps, lifo_removes, lifo_detaches, lifo_reattaches}
 
 pub keeps_itself : {V : Type 0} (c : Content V) → Keeps c c
-keeps_itself c = record { live = refl; detached = refl; retired = refl; next = refl; offer = refl; stack = refl; room = omega arith }
+keeps_itself c = grind arith
 
 pub keeps_same : {V : Type 0} (old new : Content V) → new ≡ old → Keeps old new
-keeps_same old new same = subst (Keeps old) (sym same) (keeps_itself old)
+keeps_same old new same = grind arith
 
 replaces_with : {V : Type 0} (old new : Content V) (k : Key) (v : V) → new ≡ with_value old k v → Replaces old k v new
-replaces_with old new k v put = subst (Replaces old k v) (sym put) (record { live = refl; detached = refl; retired = refl; next = refl; offer = refl; stack = refl; room = omega arith })
+replaces_with old new k v put = grind arith
 
 module _ {K V R E : Type 0} (given : Given K V R E) (old new : Content V) (ok : IsContent given.reuses old) where
   abbrev Answers : Command K V → Reply K V R E → Type 0

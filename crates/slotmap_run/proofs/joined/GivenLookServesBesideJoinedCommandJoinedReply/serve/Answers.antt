@@ -1,4 +1,4 @@
-use Rattle.std.proofs.Common.{Some, None, refl, ap, ◌∙◌, if◌then◌else◌, ◌≡◌, ◌++◌, [], ◌∷◌, true, not, is_ok}
+use Rattle.std.proofs.Common.{Some, None, refl, ap, ◌∙◌, ◌≡◌, true, not, is_ok}
 use Rattle.slotmap_run.proofs.Joins.{inserts, full, no_memory, removed, puts_step, takes_step, no_room, looks, removes_no_key, puts_no_key, looks_no_key, takes_no_key}
 use Rattle.slotmap_run.proofs.JoinRuns.{served}
 use Rattle.slotmap_run.proofs.joined.GivenLookServesBesideJoinedCommandJoinedReply.serve.Goals as goal
@@ -6,8 +6,7 @@ use Rattle.slotmap_run.proofs.joined.GivenLookServesBesideJoinedCommandJoinedRep
 pub returns-else-is_err-clause-step : goal.returns-else-is_err-clause-step
 returns-else-is_err-clause-step g c =
     let pushed : is_ok c.push.result ≡ true = c.is_err.ensures.negation ∙ ap not c.if-is_err.false in
-    let told : c.push.new.self.items ≡ c.args.maps.now.keys.now.items ++ c.in-Ok.key ∷ [] = c.push.ensures.items
-    ∙ ap (λ b. if b then c.args.maps.now.keys.now.items ++ c.in-Ok.key ∷ [] else c.args.maps.now.keys.now.items) pushed in
+    let told = rw pushed at c.push.ensures.items in
     rw c.in-Insert.is (served (rw told (inserts _ _ _ _ _ c.requires.ready.1.1 c.in-Ok.ensures.valid.after c.in-Ok.key c.in-Insert.value c.in-Ok.ensures.ok)) refl refl)
 
 pub returns-in-Err-Full-clause-step : goal.returns-in-Err-Full-clause-step
