@@ -1,13 +1,13 @@
 -- How many keys a finite map and two sets have together.
-use Rattle.std.proofs.Common.{◌≡◌, ℕ, zero, suc, ◌+◌, ◌≤◌, List, [], ◌∷◌, length, true, ◌||◌, refl, sym, ap, ◌∙◌, arith}
-use Rattle.std.specs.Prelude.{map as list_map}
+use Rattle.std.proofs.Common.{◌≡◌, ℕ, zero, suc, ◌+◌, ◌≤◌, List, [], ◌∷◌, true, ◌||◌, refl, sym, ap, ◌∙◌, arith}
 use Rattle.std.specs.List.{list_any}
 use Rattle.std.specs.Ordering.{eq_by_cmp}
 use Rattle.std.specs.FinMap as map
 use Rattle.std.specs.FinSet as set
 use Rattle.slotmap_core.specs.Key.{Key, key_cmp}
-use Rattle.slotmap_core.proofs.KeyLemmas.{exact_keys, keys_total, itself, tied}
+use Rattle.slotmap_core.proofs.KeyLemmas.{exact_keys, keys_total, itself}
 use Rattle.slotmap_core.proofs.Maps.{or_left, len_removed, len_item_removed}
+use Rattle.slotmap_run.proofs.Changes.{changes}
 
 -- a set of some length has an item
 some_item_of : (s : set.FinSet key_cmp) (n : ℕ) → set.len s ≡ suc n → (k : Key) × (set.contains s k ≡ true)
@@ -32,27 +32,17 @@ len_two (suc n) s t u h is apart =
     let fewer = len_item_removed keys_total exact_keys s k some.1 in
     let also = len_item_removed keys_total exact_keys u k (grind (arith, is k)) in
     let rest = len_two n (set.remove s k) t (set.remove u k) (omega arith)
-    (λ q. grind (arith, is q, apart q, some.1, set.contains-remove keys_total u k q, set.contains-remove keys_total s k q, tied keys_total exact_keys q k))
-    (λ q g. grind (arith, apart q, set.contains-remove keys_total s k q)) in
+    (λ q. grind (arith, changes, is q, apart q, some.1)) (λ q g. grind (arith, changes, apart q)) in
     omega arith
 
 -- a subset has no more items
 pub len-subset : (s t : set.FinSet key_cmp) → ((q : Key) → set.contains s q ≡ true → set.contains t q ≡ true) → set.len s ≤ set.len t
-len-subset s t within = omega (
-  arith,
-  len_two (set.len s) s (set.difference t s) t refl
-      (λ q. grind (arith, within q, set.contains-difference keys_total t s q)) (λ q g h. grind (arith, set.contains-difference keys_total t s q)),
-)
+len-subset s t within =
+    let parts = len_two (set.len s) s (set.difference t s) t refl
+    (λ q. grind (arith, within q, set.contains-difference keys_total t s q)) (λ q g h. grind (arith, set.contains-difference keys_total t s q)) in
+    omega arith
 
 module _ {V : Type 0} where
-  -- a map of some length has a key
-  some_key_of : (m : map.FinMap key_cmp V) (n : ℕ) → map.len m ≡ suc n → (k : Key) × (map.contains_key m k ≡ true)
-  some_key_of m n h = by (map.entries m) refl
-    where
-      by : (es : List (Key × V)) → map.entries m ≡ es → (k : Key) × (map.contains_key m k ≡ true)
-      by [] e = absurd (omega (arith, map.len-entries m ∙ ap length e))
-      by (x ∷ es) e = (x.0, map.contains_key-keys m x.0 ∙ ap (λ es. list_any (eq_by_cmp key_cmp x.0) (list_map (λ e. e.0) es)) e ∙ or_left _ _ (itself keys_total exact_keys x.0))
-
   keys_of : map.FinMap key_cmp V → set.FinSet key_cmp
   keys_of m = set.from_list (map.keys m)
 
@@ -60,19 +50,19 @@ module _ {V : Type 0} where
   unfolding keys_of
   contains-keys_of m q = set.contains-from_list keys_total (map.keys m) q ∙ sym (map.contains_key-keys m q)
 
-  len-keys_of : (n : ℕ) (m : map.FinMap key_cmp V) → map.len m ≡ n → set.len (keys_of m) ≡ n
+  len-keys_of : (n : ℕ) (m : map.FinMap key_cmp V) → set.len (keys_of m) ≡ n → map.len m ≡ n
   len-keys_of zero m h =
-      let none : keys_of m ≡ set.empty = set.same_set keys_total exact_keys (keys_of m) set.empty
-      (λ q. grind (arith, contains-keys_of m q, map.empty_of_len m h, map.get-empty {X = V} key_cmp q, set.contains-empty key_cmp q)) in
-      ap set.len none ∙ set.len-empty key_cmp
+      let none : m ≡ map.empty = map.same_map keys_total exact_keys m map.empty
+      (λ q. grind (arith, contains-keys_of m q, set.empty_of_len (keys_of m) h, map.get-empty {X = V} key_cmp q, set.contains-empty key_cmp q)) in
+      ap map.len none ∙ map.len-empty key_cmp V
   len-keys_of (suc n) m h =
-      let some = some_key_of m n h in
+      let some = some_item_of (keys_of m) n h in
       let k = some.0 in
       let same : keys_of (map.remove m k) ≡ set.remove (keys_of m) k = set.same_set keys_total exact_keys (keys_of (map.remove m k)) (set.remove (keys_of m) k)
-      (λ q. grind (arith, contains-keys_of (map.remove m k) q, contains-keys_of m q, set.contains-remove keys_total (keys_of m) k q, map.get-remove keys_total m k q)) in
-      let fewer = len_removed keys_total exact_keys m k some.1 in
-      let rest = len-keys_of n (map.remove m k) (omega arith) in
-      omega (arith, ap set.len same, len_item_removed keys_total exact_keys (keys_of m) k (contains-keys_of m k ∙ some.1))
+      (λ q. grind (arith, changes, contains-keys_of (map.remove m k) q, contains-keys_of m q)) in
+      let fewer = len_removed keys_total exact_keys m k (sym (contains-keys_of m k) ∙ some.1) in
+      let rest = len-keys_of n (map.remove m k) (omega (arith, ap set.len same, len_item_removed keys_total exact_keys (keys_of m) k some.1)) in
+      omega arith
 
   -- the keys of a map and two sets
   pub all_keys : map.FinMap key_cmp V → set.FinSet key_cmp → set.FinSet key_cmp → set.FinSet key_cmp
@@ -87,7 +77,7 @@ module _ {V : Type 0} where
     pub len-all_keys : ((q : Key) → map.contains_key m q ≡ true → set.contains d q ≡ true → ⊥) → ((q : Key) → (map.contains_key m q || set.contains d q) ≡ true → set.contains r q ≡ true → ⊥)
         → set.len (all_keys m d r) ≡ map.len m + set.len d + set.len r
     len-all_keys apart others =
-        let keys = len-keys_of (map.len m) m refl in
+        let keys = len-keys_of (set.len (keys_of m)) m refl in
         let whole = len_two (set.len (keys_of m)) (keys_of m) (set.union d r) (all_keys m d r) refl
         (λ q. grind (arith, contains-all_keys q, contains-keys_of m q, set.contains-union keys_total d r q))
         (λ q g h. grind (arith, apart q, others q, contains-keys_of m q, set.contains-union keys_total d r q)) in

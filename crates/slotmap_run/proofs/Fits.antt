@@ -4,7 +4,7 @@ use Rattle.std.specs.Ordering.{nat_cmp}
 use Rattle.std.specs.FinMap as map
 use Rattle.std.specs.FinSet as set
 use Rattle.slotmap_core.specs.Key.{Key, key_cmp}
-use Rattle.slotmap_core.specs.Content.{Content, IsContent, Stands, used, places, most}
+use Rattle.slotmap_core.specs.Content.{Content, IsContent, Stands, used, most}
 use Rattle.slotmap_core.specs.Transition.{IsNew, Inserts}
 use Rattle.slotmap_core.specs.Machine as machine
 use Rattle.slotmap_core.specs.Machine.{State, IsIssued, IsHeld, Fresh, after_insert, after_remove, after_replace, after_reserve, after_detach, after_reattach, retired}
@@ -90,8 +90,7 @@ module _ {V : Type 0} (c : Content V) (new : IsNew c) where
   new_fits =
       let none : retired (machine.empty_state {V = V}) ≡ c.retired = set.same_set keys_total exact_keys _ _
       (λ k. grind (arith, in_retired (machine.empty_state {V = V}) k, new.retired, set.contains-empty key_cmp k)) in
-      let no_places : places c ≡ 0 = omega (arith, ap map.len new.live, ap set.len new.detached, ap set.len new.retired, ap map.len new.next, map.len-empty key_cmp V, map.len-empty nat_cmp ℕ, set.len-empty key_cmp) in
-      grind (arith, none, set.contains-empty key_cmp, new_stands c new)
+      grind (arith, none, set.contains-empty key_cmp, new_stands c new, map.len-empty key_cmp V, map.len-empty nat_cmp ℕ, set.len-empty key_cmp)
 
   -- it lasts for each number of calls below 2^32
   pub new_lasts : (n : ℕ) → n < 2 ^ 32 → Lasts n c

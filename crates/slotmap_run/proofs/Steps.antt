@@ -1,6 +1,6 @@
 -- What the calls of a map ensure is a step of the machine.
 use Rattle.std.proofs.Common.{◌≡◌, ◌≢◌, ℕ, ◌+◌, ◌≤◌, List, [], ◌∷◌, ◌++◌, Vec, Global, Result, Ok, Err, IfOk, OnOk, IfErr, OnErr, IsErr, IsOk, Option}
-use Rattle.std.proofs.Common.{Some, None, Bool, false, cond, refl, sym, ap, ◌∙◌, subst, arith, is_some}
+use Rattle.std.proofs.Common.{Some, None, Bool, false, refl, sym, ap, ◌∙◌, subst, arith, is_some}
 use Rattle.std.specs.Prelude.{map as list_map, MatchOption, IsSomeAnd, OnSome, IfNone, option_copied}
 use Rattle.std.specs.Fn.{Mut}
 use Rattle.std.specs.Borrow.{Bor, MutBor}
@@ -190,15 +190,11 @@ module _ {K V R E : Type 0} (given : Given K V R E) (old new : Content V) (ok : 
   module _ {F : Type 0} (g : Mut F (K × (MutBor V × Unit {0})) (Bool × (MutBor V × Unit {0}))) (f : F) (Is : F → Type 0)
       (says : (f : F) (x : Visit K V) (f' : F) → Is f → CallsAt g f x f' → Is f' × given.keeps x.key x.before x.after x.stays) (is : Is f)
       (r : RetainsBy g given.data_of f old.live new.live) where
-    each : (q : Key) (v : V) → map.get old.live q ≡ Some v → (key : K) × (w : V) × (stays : Bool) × (given.data_of key ≡ q) × given.keeps key v w stays
-        × (map.get new.live q ≡ cond stays (Some w) None)
-    each q v found =
-        let at = retained_at g given.data_of Is (λ x. given.keeps x.key x.before x.after x.stays) (λ f f' x. says f x f') is r q v found in
-        (at.0.key, at.0.after, at.0.stays, at.2, subst (λ (b : V). given.keeps at.0.key b at.0.after at.0.stays) at.3 at.1, at.4)
-
     pub retains : Leaves old new → Answers command.Retain reply.Done
     retains l = left (λ b. b) l (λ s live. record {
-      each = λ q v found. each q v (rw (← live) found);
+      each = λ q v found.
+          let at = retained_at g given.data_of Is (λ x. given.keeps x.key x.before x.after x.stays) (λ f f' x. says f x f') is r q v (rw (← live) found) in
+          (at.0.key, at.0.after, at.0.stays, at.2, subst (λ (b : V). given.keeps at.0.key b at.0.after at.0.stays) at.3 at.1, at.4);
       no_more = λ q none. retained_none g given.data_of r q (rw (← live) none);
       rest = refl;
     })
