@@ -3,7 +3,7 @@ use Rattle.std.proofs.Common.{◌≡◌, arith, [], true, ◌⊎◌, inl, inr, r
 use Rattle.std.specs.FinMap as map
 use Rattle.std.specs.FinSet as set
 use Rattle.slotmap_core.specs.Key.{Key, key_cmp}
-use Rattle.slotmap_core.specs.Machine.{State, IsHeld}
+use Rattle.slotmap_core.specs.Machine.{State}
 use Rattle.slotmap_core.specs.Given.{Given}
 use Rattle.slotmap_core.specs.Step.{Step, DetachStep}
 use Rattle.slotmap_core.specs.declared.commands.Command.TheVariants as command
@@ -17,19 +17,12 @@ use Rattle.slotmap_run.proofs.Laws.{Binds, Shrinks, IsMachine}
 
 module _ {K V R E : Type 0} (given : Given K V R E) where
   module _ (old : State V) (c : DetachCommand K V) (r : Reply K V R E) (new : State V) (step : DetachStep given old c r new) where
-    held_before : reply_keys given.data_of r ≡ [] → (q : Key) → IsHeld new q → IsHeld old q
-    held_before quiet q h = grind (arith, changes, map.get-empty {X = V} key_cmp q)
-
-    apart_still : reply_keys given.data_of r ≡ [] → (q : Key) → map.contains_key new.live q ≡ true → set.contains new.detached q ≡ true
-        → (map.contains_key old.live q ≡ true) × (set.contains old.detached q ≡ true)
-    apart_still quiet q h g = grind (arith, changes, map.get-empty {X = V} key_cmp q)
-
     shrinks : reply_keys given.data_of r ≡ [] → Shrinks given.data_of old r new
     shrinks quiet = record {
       tells = quiet;
       issued = grind arith;
-      held = held_before quiet;
-      apart = λ a q h g. let was = apart_still quiet q h g in a q was.0 was.1;
+      held = λ q h. grind (arith, changes, map.get-empty {X = V} key_cmp q);
+      apart = λ a q h g. grind (arith, changes, map.get-empty {X = V} key_cmp q, a q);
       promised = grind arith;
       within = λ h. grind arith;
     }

@@ -159,18 +159,18 @@ module _ {K V W R : Type 0} (given : Given K W R) (old : Content V) (m : Pairs W
       lasts = stays_lasts;
     }
 
-  abbrev Beside : JoinedCommand V W → JoinedReply K V W R → Pairs W → Type 0
-  Beside c r m' = Follows given.data_of (Step given) (TellingStep given) old m keys c r old m' keys
+  abbrev Second : JoinedCommand V W → JoinedReply K V W R → Pairs W → Type 0
+  Second c r m' = Follows given.data_of (Step given) (TellingStep given) old m keys c r old m' keys
 
   -- nor does the dictionary, which tells nothing
   plainly : (c : JoinedCommand V W) (r : JoinedReply K V W R) → ((s : State V) → Step given (joined s m keys) c r (joined s m keys))
-      → ((s : State V) (d : Dictionary W) → Tells given (joined s m keys) d c r × (d ≡ noted given keys d c r)) → Beside c r m
+      → ((s : State V) (d : Dictionary W) → Tells given (joined s m keys) d c r × (d ≡ noted given keys d c r)) → Second c r m
   plainly c r step telling = silent (Step given) (TellingStep given) c r step (λ s d fits known step. record { steps = step; tells = (telling s d).0; notes = (telling s d).1 })
 
   -- the secondary map changes
   turns : (m' : Pairs W) (c : JoinedCommand V W) (r : JoinedReply K V W R) (after : Dictionary W → Dictionary W) → ((s : State V) → Step given (joined s m keys) c r (joined s m' keys))
       → ((s : State V) (d : Dictionary W) → Fits s old → Known given.data_of s d old m keys → Lasts (2 ^ 31) old
-      → Tells given (joined s m keys) d c r × (after d ≡ noted given keys d c r) × Known given.data_of s (after d) old m' keys) → Beside c r m'
+      → Tells given (joined s m keys) d c r × (after d ≡ noted given keys d c r) × Known given.data_of s (after d) old m' keys) → Second c r m'
   turns m' c r after step telling = record {
     step = λ s fits. (s, step s, fits, λ d known lasts. let tells = telling s d fits known lasts in (after d, record { steps = step s; tells = tells.0; notes = tells.1 }, tells.2));
     lasts = stays_lasts;
@@ -188,24 +188,24 @@ module _ {K V W R : Type 0} (given : Given K W R) (old : Content V) (m : Pairs W
       agrees : (k : K) → named keys i ≡ Some k → IsHeld s (given.data_of k) → get m at ≡ map.get d (given.data_of k)
       agrees k is held = ap (λ q. get m (given.data_of q)) (same_Some key k (told ∙ is)) ∙ known.agree (given.data_of k) (stands_of s old fits (given.data_of k) held)
 
-    pub puts_step : (w : W) (before : Option W) → before ≡ get m at → Beside (command.Put i w) (reply.Old before) (put m at w)
+    pub puts_step : (w : W) (before : Option W) → before ≡ get m at → Second (command.Put i w) (reply.Old before) (put m at w)
     puts_step w before was = turns (put m at w) _ _ (λ d. map.insert d at w) (λ s. rw (← told) ((was, refl), refl, refl)) (λ s d fits known lasts. (
       λ k h held. was ∙ agrees s d fits known k h held,
       rw (← told) refl,
       puts given.data_of given.reuses old ok m keys s fits d known at (heard s d fits known) w lasts,
     ))
 
-    pub takes_step : (taken : Option W) → taken ≡ get m at → Beside (command.Take i) (reply.TakenSecond taken) (remove m at)
+    pub takes_step : (taken : Option W) → taken ≡ get m at → Second (command.Take i) (reply.TakenSecond taken) (remove m at)
     takes_step taken was = turns (remove m at) _ _ (λ d. map.remove d at) (λ s. rw (← told) ((was, refl), refl, refl)) (λ s d fits known lasts. (
       λ k h held. was ∙ agrees s d fits known k h held,
       rw (← told) refl,
       takes given.data_of given.reuses old ok m keys s fits d known at (heard s d fits known),
     ))
 
-    pub no_room : (w back : W) → RefusesPut m at w back → Beside (command.Put i w) (reply.NoRoom back) m
+    pub no_room : (w back : W) → RefusesPut m at w back → Second (command.Put i w) (reply.NoRoom back) m
     no_room w back lacks = plainly _ _ (λ s. rw (← told) ((lacks, refl), refl, refl)) (λ s d. (tt, refl))
 
-    pub looks : (found : Option W) (looked : Option R) → found ≡ get m at → LooksAt given.looks found looked → Beside (command.Look i) (reply.Looked looked) m
+    pub looks : (found : Option W) (looked : Option R) → found ≡ get m at → LooksAt given.looks found looked → Second (command.Look i) (reply.Looked looked) m
     looks found looked is saw = silent (Step given) (TellingStep given) _ _ (λ s. rw (← told) ((rw is at saw, refl), refl, refl)) (λ s d fits known step. record {
       steps = step;
       tells = λ k h held. rw (is ∙ agrees s d fits known k h held) at saw;
@@ -213,16 +213,16 @@ module _ {K V W R : Type 0} (given : Given K W R) (old : Content V) (m : Pairs W
     })
 
   module _ (i : ℕ) (told : None ≡ named keys i) where
-    pub removes_no_key : Beside (command.Remove i) reply.NoKey m
+    pub removes_no_key : Second (command.Remove i) reply.NoKey m
     removes_no_key = plainly _ _ (λ s. rw (← told) refl) (λ s d. (tt, refl))
 
-    pub puts_no_key : (w : W) → Beside (command.Put i w) (reply.NoKeySecond w) m
+    pub puts_no_key : (w : W) → Second (command.Put i w) (reply.NoKeySecond w) m
     puts_no_key w = plainly _ _ (λ s. rw (← told) (refl, refl)) (λ s d. (tt, refl))
 
-    pub looks_no_key : Beside (command.Look i) reply.NoKey m
+    pub looks_no_key : Second (command.Look i) reply.NoKey m
     looks_no_key = plainly _ _ (λ s. rw (← told) refl) (λ s d. (tt, refl))
 
-    pub takes_no_key : Beside (command.Take i) reply.NoKey m
+    pub takes_no_key : Second (command.Take i) reply.NoKey m
     takes_no_key = plainly _ _ (λ s. rw (← told) refl) (λ s d. (tt, refl))
 
     abbrev Detached : JoinedDetachCommand V W → JoinedReply K V W R → Type 0

@@ -1,6 +1,7 @@
 -- What follows from a run of a machine alone.
-use Rattle.std.proofs.Common.{◌≡◌, ◌≢◌, ◌+◌, ◌-◌, ◌≤◌, List, [], ◌∷◌, length, true, ◌⊎◌, inl, inr, refl, ap, arith}
+use Rattle.std.proofs.Common.{◌≡◌, ◌≢◌, ◌+◌, ◌≤◌, List, [], ◌∷◌, length, true, false, ◌⊎◌, inl, inr, refl, ap, arith}
 use Rattle.std.specs.List.{IsDistinct, AllByRecursion}
+use Rattle.std.specs.Ordering.{eq_by_cmp}
 use Rattle.std.specs.FinMap as map
 use Rattle.std.specs.FinSet as set
 use Rattle.slotmap_core.specs.Key.{Key, key_cmp}
@@ -12,8 +13,7 @@ use Rattle.slotmap_core.specs.Step as plain
 use Rattle.slotmap_core.specs.declared.commands.Command.{Command}
 use Rattle.slotmap_core.specs.declared.commands.Reply.{Reply}
 use Rattle.slotmap_core.specs.Law.{reply_keys, keys_told, NoKeyTwice}
-use Rattle.slotmap_core.proofs.KeyLemmas.{keys_total, exact_keys, tied, itself}
-use Rattle.slotmap_core.proofs.Maps.{false_of, item_inserted}
+use Rattle.slotmap_core.proofs.KeyLemmas.{keys_total, exact_keys, itself}
 use Rattle.slotmap_core.proofs.Retired.{in_retired}
 use Rattle.slotmap_run.proofs.Runs.{run_keeps}
 use Rattle.slotmap_run.proofs.Changes.{changes}
@@ -98,10 +98,7 @@ module _ {K V R E C : Type 0} {given : Given K V R E} {Step : State V → C → 
   -- a step lowers what is promised by at most 1, a run of n by at most n
   pub still_promised : (cs : List C) (rs : List (Reply K V R E)) (s t : State V) → Run Step s cs rs t → s.promised ≤ t.promised + length cs
   still_promised [] [] s t run = rw run (omega arith)
-  still_promised (c ∷ cs) (r ∷ rs) s t run = let rest = still_promised cs rs run.0 t run.2 in elim (m.cases s c r run.0 run.1) [
-    | inl b ↦ let is : run.0.promised ≡ s.promised - 1 = ap (λ (u : State V). u.promised) b.is in omega arith
-    | inr n ↦ let less = n.promised in omega arith
-  ]
+  still_promised (c ∷ cs) (r ∷ rs) s t run = grind (arith, m.cases s c r run.0 run.1, still_promised cs rs run.0 t run.2)
   still_promised _ _ s t run = absurd run
 
   -- no key that the replies return was issued before, and they return none twice
@@ -112,10 +109,9 @@ module _ {K V R E C : Type 0} {given : Given K V R E} {Step : State V → C → 
       let rest = told_new cs rs run.0 t run.2 in
       let new = weaker (λ q h g. h (issued_stays s c r run.0 run.1 q g)) (keys_told given.data_of rs) rest.0 in
       elim (m.cases s c r run.0 run.1) [
-        | inl b ↦ rw b.tells (
-          (not_issued s b.key b.fresh, new),
-          (weaker (λ q h. false_of _ (λ e. h (rw (b.is, ← tied keys_total exact_keys b.key q e) (item_inserted keys_total exact_keys s.issued b.key)))) (keys_told given.data_of rs) rest.0, rest.1),
-        )
+        | inl b ↦
+            let other : (q : Key) → (IsIssued run.0 q → ⊥) → eq_by_cmp key_cmp b.key q ≡ false = λ q h. grind (arith, changes, itself keys_total exact_keys b.key, b.is) in
+            rw b.tells ((not_issued s b.key b.fresh, new), (weaker other (keys_told given.data_of rs) rest.0, rest.1))
         | inr n ↦ rw n.tells (new, rest.1)
       ]
   told_new _ _ s t run = absurd run
