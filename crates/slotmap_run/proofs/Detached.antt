@@ -5,7 +5,6 @@ use Rattle.std.specs.FinSet as set
 use Rattle.slotmap_core.specs.Machine.{State, IsIssued}
 use Rattle.slotmap_core.specs.Given.{Given}
 use Rattle.slotmap_core.specs.Step.{DetachStep}
-use Rattle.slotmap_core.specs.Run.{Run}
 use Rattle.slotmap_core.specs.declared.commands.Command.TheVariants as command
 use Rattle.slotmap_core.specs.declared.commands.DetachCommand.{DetachCommand}
 use Rattle.slotmap_core.specs.declared.commands.DetachCommand.TheVariants as detaching
@@ -22,7 +21,7 @@ use Rattle.slotmap_run.proofs.Anew.{RunsWell}
 module _ {K V R E : Type 0} (given : Given K V R E) where
   pub detached_not_reissued : (commands : List (DetachCommand K V)) (replies : List (Reply K V R E)) → RunsWell (DetachStep given) commands replies → DetachedNotReissued given.data_of commands replies
   detached_not_reissued commands replies well cs ds rs ss key v e is js =
-      let run : Run (DetachStep given) well.first (cs ++ detaching.Detach key ∷ ds) (rs ++ reply.Taken (Some v) ∷ ss) well.last = rw (← is, ← js) well.run in
+      let run = rw (is, js) at well.run in
       let first = run_split (DetachStep given) cs rs (detaching.Detach key) (reply.Taken (Some v)) ds ss well.first well.last e run in
       let good = run_keeps (DetachStep given) IsGood (good_stays (detach_machine given)) cs rs well.first first.0 first.2 well.good in
       let still : IsIssued first.1 (given.data_of key) = rw first.3.1 (good.held_issued (given.data_of key) (inl (ap is_some first.3.0))) in
@@ -35,8 +34,7 @@ module _ {K V R E : Type 0} (given : Given K V R E) where
   pub detached_reattaches : (commands : List (DetachCommand K V)) (replies : List (Reply K V R E)) → RunsWell (DetachStep given) commands replies
       → DetachedReattaches given.data_of given.reuses commands replies
   detached_reattaches commands replies well cs ds es rs ss us key v w answer e f spares is js =
-      let run : Run (DetachStep given) well.first (cs ++ detaching.Detach key ∷ (ds ++ detaching.Reattach key w ∷ es))
-      (rs ++ reply.Taken (Some v) ∷ (ss ++ answer ∷ us)) well.last = rw (← is, ← js) well.run in
+      let run = rw (is, js) at well.run in
       let first = run_split (DetachStep given) cs rs (detaching.Detach key) (reply.Taken (Some v)) (ds ++ detaching.Reattach key w ∷ es) (ss ++ answer ∷ us) well.first well.last e run in
       let second = run_split (DetachStep given) ds ss (detaching.Reattach key w) answer es us first.1 well.last f first.4 in
       let aside : set.contains first.1.detached (given.data_of key) ≡ true = grind (arith, changes, itself keys_total exact_keys (given.data_of key), first.3.1) in
@@ -50,7 +48,6 @@ module _ {K V R E : Type 0} (given : Given K V R E) where
 
   pub reattach_binds : (commands : List (DetachCommand K V)) (replies : List (Reply K V R E)) → RunsWell (DetachStep given) commands replies → ReattachBinds commands replies
   reattach_binds commands replies well cs ds rs ss key w u answer e is js =
-      let run : Run (DetachStep given) well.first (cs ++ detaching.Reattach key w ∷ detaching.Plain (command.Replace key u) ∷ ds)
-      (rs ++ reply.Done ∷ answer ∷ ss) well.last = rw (← is, ← js) well.run in
+      let run = rw (is, js) at well.run in
       let first = run_split (DetachStep given) cs rs (detaching.Reattach key w) reply.Done (detaching.Plain (command.Replace key u) ∷ ds) (answer ∷ ss) well.first well.last e run in
       replaces first.1 key w u answer first.4.0 (grind (arith, changes, itself keys_total exact_keys (given.data_of key), first.3.1)) first.4.1

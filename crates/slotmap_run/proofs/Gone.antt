@@ -4,7 +4,6 @@ use Rattle.std.specs.FinMap as map
 use Rattle.slotmap_core.specs.Key.{Key}
 use Rattle.slotmap_core.specs.Machine.{State, after_remove}
 use Rattle.slotmap_core.specs.Given.{Given}
-use Rattle.slotmap_core.specs.Run.{Run}
 use Rattle.slotmap_core.specs.declared.commands.Command.{Command}
 use Rattle.slotmap_core.specs.declared.commands.Command.TheVariants as command
 use Rattle.slotmap_core.specs.declared.commands.Reply.{Reply}
@@ -25,8 +24,7 @@ module _ {K V R E C : Type 0} {given : Given K V R E} {Machine : State V → C �
   pub removed_for_good : (commands : List C) (replies : List (Reply K V R E)) → RunsWell Machine commands replies → RemovedForGood of commands replies
   removed_for_good commands replies well cs ds es rs ss us key v None e f is js = refl
   removed_for_good commands replies well cs ds es rs ss us key v (Some seen) e f is js =
-      let run : Run Machine well.first (cs ++ of (command.Remove key) ∷ (ds ++ of (command.Get key) ∷ es))
-      (rs ++ reply.Taken (Some v) ∷ (ss ++ reply.Looked (Some seen) ∷ us)) well.last = rw (← is, ← js) well.run in
+      let run = rw (is, js) at well.run in
       let first = run_split Machine cs rs (of (command.Remove key)) (reply.Taken (Some v)) (ds ++ of (command.Get key) ∷ es) (ss ++ reply.Looked (Some seen) ∷ us) well.first well.last e run in
       let second = run_split Machine ds ss (of (command.Get key)) (reply.Looked (Some seen)) es us first.1 well.last f first.4 in
       let good = run_keeps Machine IsGood (good_stays m) cs rs well.first first.0 first.2 well.good in

@@ -4,7 +4,6 @@ use Rattle.slotmap_core.specs.Machine.{State, used}
 use Rattle.slotmap_core.specs.Content.{most}
 use Rattle.slotmap_core.specs.Given.{Given}
 use Rattle.slotmap_core.specs.Step.{Step, DetachStep}
-use Rattle.slotmap_core.specs.Run.{Run}
 use Rattle.slotmap_core.specs.declared.commands.Command.{Command}
 use Rattle.slotmap_core.specs.declared.commands.Command.TheVariants as command
 use Rattle.slotmap_core.specs.declared.commands.DetachCommand.{DetachCommand}
@@ -29,7 +28,7 @@ module _ {K V R E C : Type 0} {given : Given K V R E} {Machine : State V → C �
     (Such : C → Type 0) (refused : (old : State V) (c : C) (r : Reply K V R E) (new : State V) → Such c → Machine old c r new → IsRefusal r → used old + old.promised ≤ most → old.promised ≡ 0) where
   pub reserve_holds : (commands : List C) (replies : List (Reply K V R E)) → RunsWell Machine commands replies → ReserveHolds of Such commands replies
   reserve_holds commands replies well cs ds es rs ss us n c r e f few such is js refusal =
-      let run : Run Machine well.first (cs ++ of (command.Reserve n) ∷ (ds ++ c ∷ es)) (rs ++ reply.Done ∷ (ss ++ r ∷ us)) well.last = rw (← is, ← js) well.run in
+      let run = rw (is, js) at well.run in
       let first = run_split Machine cs rs (of (command.Reserve n)) reply.Done (ds ++ c ∷ es) (ss ++ r ∷ us) well.first well.last e run in
       let second = run_split Machine ds ss c r es us first.1 well.last f first.4 in
       let done = m.plainly first.0 (command.Reserve n) reply.Done first.1 first.3 in
