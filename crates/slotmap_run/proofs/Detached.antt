@@ -1,5 +1,5 @@
 -- No later insert returns a detached key, and it can be reattached.
-use Rattle.std.proofs.Common.{Ok, ◌≡◌, List, ◌∷◌, ◌++◌, Some, true, false, ◌⊎◌, inl, ap, is_some, arith}
+use Rattle.std.proofs.Common.{Ok, ◌≡◌, List, Some, true, false, ◌⊎◌, inl, ap, is_some, arith}
 use Rattle.std.specs.FinMap as map
 use Rattle.std.specs.FinSet as set
 use Rattle.slotmap_core.specs.Machine.{State, IsIssued}
@@ -22,7 +22,7 @@ module _ {K V R E : Type 0} (given : Given K V R E) where
   pub detached_not_reissued : (commands : List (DetachCommand K V)) (replies : List (Reply K V R E)) → RunsWell (DetachStep given) commands replies → DetachedNotReissued given.data_of commands replies
   detached_not_reissued commands replies well cs ds rs ss key v e is js =
       let run = rw (is, js) at well.run in
-      let first = run_split (DetachStep given) cs rs (detaching.Detach key) (reply.Taken (Some v)) ds ss well.first well.last e run in
+      let first = run_split (DetachStep given) cs rs _ _ _ _ _ _ e run in
       let good = run_keeps (DetachStep given) IsGood (good_stays (detach_machine given)) cs rs well.first first.0 first.2 well.good in
       let still : IsIssued first.1 (given.data_of key) = rw first.3.1 (good.held_issued (given.data_of key) (inl (ap is_some first.3.0))) in
       weaker (λ q h e. h (rw e still)) (keys_told given.data_of ss) (told_new (detach_machine given) ds ss first.1 well.last first.4).0
@@ -35,8 +35,8 @@ module _ {K V R E : Type 0} (given : Given K V R E) where
       → DetachedReattaches given.data_of given.reuses commands replies
   detached_reattaches commands replies well cs ds es rs ss us key v w answer e f spares is js =
       let run = rw (is, js) at well.run in
-      let first = run_split (DetachStep given) cs rs (detaching.Detach key) (reply.Taken (Some v)) (ds ++ detaching.Reattach key w ∷ es) (ss ++ answer ∷ us) well.first well.last e run in
-      let second = run_split (DetachStep given) ds ss (detaching.Reattach key w) answer es us first.1 well.last f first.4 in
+      let first = run_split (DetachStep given) cs rs _ _ _ _ _ _ e run in
+      let second = run_split (DetachStep given) ds ss _ _ _ _ _ _ f first.4 in
       let aside : set.contains first.1.detached (given.data_of key) ≡ true = grind (arith, changes, itself keys_total exact_keys (given.data_of key), first.3.1) in
       let still = run_keeps_by (DetachStep given) (λ s. set.contains s.detached (given.data_of key) ≡ true) (Spares given.data_of (given.data_of key))
       (λ old c r new spares step. detached_stays given old c r new step (given.data_of key) spares) ds ss first.1 second.0 spares second.2 aside in
@@ -49,5 +49,5 @@ module _ {K V R E : Type 0} (given : Given K V R E) where
   pub reattach_binds : (commands : List (DetachCommand K V)) (replies : List (Reply K V R E)) → RunsWell (DetachStep given) commands replies → ReattachBinds commands replies
   reattach_binds commands replies well cs ds rs ss key w u answer e is js =
       let run = rw (is, js) at well.run in
-      let first = run_split (DetachStep given) cs rs (detaching.Reattach key w) reply.Done (detaching.Plain (command.Replace key u) ∷ ds) (answer ∷ ss) well.first well.last e run in
+      let first = run_split (DetachStep given) cs rs _ _ _ _ _ _ e run in
       replaces first.1 key w u answer first.4.0 (grind (arith, changes, itself keys_total exact_keys (given.data_of key), first.3.1)) first.4.1

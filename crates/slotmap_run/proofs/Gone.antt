@@ -1,5 +1,5 @@
 -- A key that was removed is gone.
-use Rattle.std.proofs.Common.{◌≡◌, List, ◌∷◌, ◌++◌, Some, None, true, inl, refl, ap, is_some, arith}
+use Rattle.std.proofs.Common.{◌≡◌, List, Some, None, true, inl, refl, ap, is_some, arith}
 use Rattle.std.specs.FinMap as map
 use Rattle.slotmap_core.specs.Key.{Key}
 use Rattle.slotmap_core.specs.Machine.{State, after_remove}
@@ -25,8 +25,8 @@ module _ {K V R E C : Type 0} {given : Given K V R E} {Machine : State V → C �
   removed_for_good commands replies well cs ds es rs ss us key v None e f is js = refl
   removed_for_good commands replies well cs ds es rs ss us key v (Some seen) e f is js =
       let run = rw (is, js) at well.run in
-      let first = run_split Machine cs rs (of (command.Remove key)) (reply.Taken (Some v)) (ds ++ of (command.Get key) ∷ es) (ss ++ reply.Looked (Some seen) ∷ us) well.first well.last e run in
-      let second = run_split Machine ds ss (of (command.Get key)) (reply.Looked (Some seen)) es us first.1 well.last f first.4 in
+      let first = run_split Machine cs rs _ _ _ _ _ _ e run in
+      let second = run_split Machine ds ss _ _ _ _ _ _ f first.4 in
       let good = run_keeps Machine IsGood (good_stays m) cs rs well.first first.0 first.2 well.good in
       let removes = m.plainly first.0 (command.Remove key) (reply.Taken (Some v)) first.1 first.3 in
       let gets = m.plainly second.0 (command.Get key) (reply.Looked (Some seen)) second.1 second.3 in

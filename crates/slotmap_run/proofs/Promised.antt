@@ -1,5 +1,5 @@
 -- What a reserve promised is kept.
-use Rattle.std.proofs.Common.{◌≡◌, ◌+◌, ◌≤◌, max, List, ◌∷◌, ◌++◌, ap, arith}
+use Rattle.std.proofs.Common.{◌≡◌, ◌+◌, ◌≤◌, max, List, ap, arith}
 use Rattle.slotmap_core.specs.Machine.{State, used}
 use Rattle.slotmap_core.specs.Content.{most}
 use Rattle.slotmap_core.specs.Given.{Given}
@@ -29,8 +29,8 @@ module _ {K V R E C : Type 0} {given : Given K V R E} {Machine : State V → C �
   pub reserve_holds : (commands : List C) (replies : List (Reply K V R E)) → RunsWell Machine commands replies → ReserveHolds of Such commands replies
   reserve_holds commands replies well cs ds es rs ss us n c r e f few such is js refusal =
       let run = rw (is, js) at well.run in
-      let first = run_split Machine cs rs (of (command.Reserve n)) reply.Done (ds ++ c ∷ es) (ss ++ r ∷ us) well.first well.last e run in
-      let second = run_split Machine ds ss c r es us first.1 well.last f first.4 in
+      let first = run_split Machine cs rs _ _ _ _ _ _ e run in
+      let second = run_split Machine ds ss _ _ _ _ _ _ f first.4 in
       let done = m.plainly first.0 (command.Reserve n) reply.Done first.1 first.3 in
       let promised : first.1.promised ≡ max first.0.promised n = ap (λ (s : State V). s.promised) done.1 in
       let still = still_promised m ds ss first.1 second.0 second.2 in
