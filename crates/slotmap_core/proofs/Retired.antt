@@ -34,7 +34,7 @@ module _ {V : Type 0} where
     pub last : is_last k ≡ true
     pub not_held : IsHeld s k → ⊥
 
-  in_retired : (s : State V) (k : Key) → set.contains (retired s) k ≡ (set.contains s.issued k && is_spent s k)
+  pub in_retired : (s : State V) (k : Key) → set.contains (retired s) k ≡ (set.contains s.issued k && is_spent s k)
   in_retired s k = set.contains-retain s.issued (is_spent s) k (λ x e. ap (is_spent s) (sym (exact_keys k x e)))
 
   pub spent_of_retired : (s : State V) (k : Key) → set.contains (retired s) k ≡ true → Spent s k

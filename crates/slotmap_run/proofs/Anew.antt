@@ -7,8 +7,7 @@ use Rattle.slotmap_core.specs.Machine.{State, empty_state, retired}
 use Rattle.slotmap_core.specs.Run.{Run, Unretiring}
 use Rattle.slotmap_core.specs.Fit.{Follows, Starts, RunFollows, RunsAnew, Continues}
 use Rattle.slotmap_run.proofs.Some.{first_state, first_fits, first_good}
-use Rattle.slotmap_run.proofs.Fits.{new_fits}
-use Rattle.slotmap_run.proofs.Lasts.{new_lasts}
+use Rattle.slotmap_run.proofs.Fits.{new_fits, new_lasts}
 use Rattle.slotmap_run.proofs.Runs.{run_seen, runs_follow, goes_on, goes_on_anew}
 use Rattle.slotmap_run.proofs.Laws.{IsGood, empty_good}
 
@@ -86,7 +85,7 @@ module _ {V C R : Type 0} {Step Any : State V → C → R → State V → Type 0
         run = run;
         none_retired = λ few.
             let same : length cs + 0 ≡ length cs = omega arith in
-            let lasts = follows.lasts 0 (rw same (new_lasts old (length cs) start few)) in
+            let lasts = follows.lasts 0 (rw same (new_lasts old start (length cs) few)) in
             (run.0, machine.unretired cs rs empty_state run.0 run.1 (run.2.retired ∙ lasts.unretired), run.2);
         goes_on = free;
         laws = machine.laws cs rs (well_anew Any cs rs new free);

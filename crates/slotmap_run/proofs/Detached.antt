@@ -1,68 +1,53 @@
 -- No later insert returns a detached key, and it can be reattached.
-use Rattle.std.proofs.Common.{Ok, Err, sym, ◌≡◌, List, ◌∷◌, ◌++◌, Some, true, false, ◌⊎◌, inl, inr, refl, ap, ◌∙◌, is_some}
-use Rattle.std.specs.Option.{unwrap_or}
+use Rattle.std.proofs.Common.{Ok, ◌≡◌, List, Some, true, false, ◌⊎◌, inl, ap, is_some, arith}
 use Rattle.std.specs.FinMap as map
 use Rattle.std.specs.FinSet as set
 use Rattle.slotmap_core.specs.Machine.{State, IsIssued}
 use Rattle.slotmap_core.specs.Given.{Given}
 use Rattle.slotmap_core.specs.Step.{DetachStep}
-use Rattle.slotmap_core.specs.Run.{Run}
 use Rattle.slotmap_core.specs.declared.commands.Command.TheVariants as command
 use Rattle.slotmap_core.specs.declared.commands.DetachCommand.{DetachCommand}
 use Rattle.slotmap_core.specs.declared.commands.DetachCommand.TheVariants as detaching
 use Rattle.slotmap_core.specs.declared.commands.Reply.{Reply}
 use Rattle.slotmap_core.specs.declared.commands.Reply.TheVariants as reply
 use Rattle.slotmap_core.specs.Law.{keys_told, DetachedNotReissued, DetachedReattaches, ReattachBinds, Spares}
-use Rattle.slotmap_core.proofs.KeyLemmas.{keys_total, exact_keys}
-use Rattle.slotmap_core.proofs.Maps.{item_inserted, get_inserted}
+use Rattle.slotmap_core.proofs.KeyLemmas.{keys_total, exact_keys, itself}
+use Rattle.slotmap_run.proofs.Changes.{changes}
 use Rattle.slotmap_run.proofs.Laws.{IsGood, good_stays, told_new, weaker}
 use Rattle.slotmap_run.proofs.Cases.{detach_machine, detached_stays}
 use Rattle.slotmap_run.proofs.Runs.{run_split, run_keeps, run_keeps_by}
 use Rattle.slotmap_run.proofs.Anew.{RunsWell}
 
 module _ {K V R E : Type 0} (given : Given K V R E) where
-  good_at : (cs : List (DetachCommand K V)) (rs : List (Reply K V R E)) (s t : State V) → IsGood s → Run (DetachStep given) s cs rs t → IsGood t
-  good_at cs rs s t good run = run_keeps (DetachStep given) IsGood (good_stays (detach_machine given)) cs rs s t run good
-
   pub detached_not_reissued : (commands : List (DetachCommand K V)) (replies : List (Reply K V R E)) → RunsWell (DetachStep given) commands replies → DetachedNotReissued given.data_of commands replies
   detached_not_reissued commands replies well cs ds rs ss key v e is js =
-      let run : Run (DetachStep given) well.first (cs ++ detaching.Detach key ∷ ds) (rs ++ reply.Taken (Some v) ∷ ss) well.last = rw (← is, ← js) well.run in
-      let first = run_split (DetachStep given) cs rs (detaching.Detach key) (reply.Taken (Some v)) ds ss well.first well.last e run in
-      let issued : IsIssued first.0 (given.data_of key) = (good_at cs rs well.first first.0 well.good first.2).held_issued (given.data_of key) (inl (ap is_some first.3.0)) in
-      let still : IsIssued first.1 (given.data_of key) = rw first.3.1 issued in
+      let run = rw (is, js) at well.run in
+      let first = run_split (DetachStep given) cs rs _ _ _ _ _ _ e run in
+      let good = run_keeps (DetachStep given) IsGood (good_stays (detach_machine given)) cs rs well.first first.0 first.2 well.good in
+      let still : IsIssued first.1 (given.data_of key) = rw first.3.1 (good.held_issued (given.data_of key) (inl (ap is_some first.3.0))) in
       weaker (λ q h e. h (rw e still)) (keys_told given.data_of ss) (told_new (detach_machine given) ds ss first.1 well.last first.4).0
 
   answered : (old : State V) (key : K) (w : V) (answer : Reply K V R E) (new : State V) → set.contains old.detached (given.data_of key) ≡ true
       → DetachStep given old (detaching.Reattach key w) answer new → (answer ≡ reply.Done) ⊎ ((given.reuses ≡ false) × (answer ≡ reply.Memory (Some w)))
-  answered old key w reply.Done new h step = inl refl
-  answered old key w (reply.Memory back) new h step = inr (step.0, ap reply.Memory step.3)
-  answered old key w (reply.NotDetached back) new h step = let none = step.0 in absurd (cc)
-  answered old key w _ new h step = absurd step
+  answered old key w answer new h step = grind arith
 
   pub detached_reattaches : (commands : List (DetachCommand K V)) (replies : List (Reply K V R E)) → RunsWell (DetachStep given) commands replies
       → DetachedReattaches given.data_of given.reuses commands replies
   detached_reattaches commands replies well cs ds es rs ss us key v w answer e f spares is js =
-      let run : Run (DetachStep given) well.first (cs ++ detaching.Detach key ∷ (ds ++ detaching.Reattach key w ∷ es))
-      (rs ++ reply.Taken (Some v) ∷ (ss ++ answer ∷ us)) well.last = rw (← is, ← js) well.run in
-      let first = run_split (DetachStep given) cs rs (detaching.Detach key) (reply.Taken (Some v)) (ds ++ detaching.Reattach key w ∷ es) (ss ++ answer ∷ us) well.first well.last e run in
-      let second = run_split (DetachStep given) ds ss (detaching.Reattach key w) answer es us first.1 well.last f first.4 in
-      let aside : set.contains first.1.detached (given.data_of key) ≡ true = ap (λ (s : State V). set.contains s.detached (given.data_of key)) first.3.1
-      ∙ item_inserted keys_total exact_keys first.0.detached (given.data_of key) in
+      let run = rw (is, js) at well.run in
+      let first = run_split (DetachStep given) cs rs _ _ _ _ _ _ e run in
+      let second = run_split (DetachStep given) ds ss _ _ _ _ _ _ f first.4 in
+      let aside : set.contains first.1.detached (given.data_of key) ≡ true = grind (arith, changes, itself keys_total exact_keys (given.data_of key), first.3.1) in
       let still = run_keeps_by (DetachStep given) (λ s. set.contains s.detached (given.data_of key) ≡ true) (Spares given.data_of (given.data_of key))
-      (detached_stays given (given.data_of key)) ds ss first.1 second.0 spares second.2 aside in
+      (λ old c r new spares step. detached_stays given old c r new step (given.data_of key) spares) ds ss first.1 second.0 spares second.2 aside in
       answered second.0 key w answer second.1 still second.3
 
   replaces : (old : State V) (key : K) (w u : V) (answer : Reply K V R E) (new : State V) → map.get old.live (given.data_of key) ≡ Some w
       → DetachStep given old (detaching.Plain (command.Replace key u)) answer new → answer ≡ reply.Put (Ok w)
-  replaces old key w u (reply.Put (Ok before)) new found step = let same : before ≡ w = ap (λ o. unwrap_or o w) (sym step.0 ∙ found) in ap (λ x. reply.Put (Ok x)) same
-  replaces old key w u (reply.Put (Err back)) new found step = let none = step.0 in absurd (cc)
-  replaces old key w u _ new found step = absurd step
+  replaces old key w u answer new found step = grind arith
 
   pub reattach_binds : (commands : List (DetachCommand K V)) (replies : List (Reply K V R E)) → RunsWell (DetachStep given) commands replies → ReattachBinds commands replies
   reattach_binds commands replies well cs ds rs ss key w u answer e is js =
-      let run : Run (DetachStep given) well.first (cs ++ detaching.Reattach key w ∷ detaching.Plain (command.Replace key u) ∷ ds)
-      (rs ++ reply.Done ∷ answer ∷ ss) well.last = rw (← is, ← js) well.run in
-      let first = run_split (DetachStep given) cs rs (detaching.Reattach key w) reply.Done (detaching.Plain (command.Replace key u) ∷ ds) (answer ∷ ss) well.first well.last e run in
-      let found : map.get first.1.live (given.data_of key) ≡ Some w = ap (λ (s : State V). map.get s.live (given.data_of key)) first.3.1
-      ∙ get_inserted keys_total exact_keys first.0.live (given.data_of key) w in
-      replaces first.1 key w u answer first.4.0 found first.4.1
+      let run = rw (is, js) at well.run in
+      let first = run_split (DetachStep given) cs rs _ _ _ _ _ _ e run in
+      replaces first.1 key w u answer first.4.0 (grind (arith, changes, itself keys_total exact_keys (given.data_of key), first.3.1)) first.4.1

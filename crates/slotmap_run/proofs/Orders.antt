@@ -1,7 +1,5 @@
 -- The calls of a map with a stack are the steps of the machine that reuses the slot freed last.
-use Rattle.std.proofs.Common.{◌≡◌, ℕ, ◌+◌, ◌<◌, max, List, [], ◌∷◌, ◌++◌, Option, Some, None, Bool, true, if◌then◌else◌, inl, inr, refl, sym, ap, ◌∙◌, arith, is_some}
-use Rattle.std.specs.Prelude.{drop}
-use Rattle.std.specs.Option.{option_map, unwrap_or}
+use Rattle.std.proofs.Common.{◌≡◌, ℕ, ◌+◌, ◌<◌, max, List, [], ◌∷◌, ◌++◌, Some, Bool, true, if◌then◌else◌, refl, ap, ◌∙◌, arith, is_some}
 use Rattle.std.specs.List.{AllByRecursion}
 use Rattle.std.specs.Ordering.{nat_cmp}
 use Rattle.std.specs.Cmp.{nat_cmp_total}
@@ -11,118 +9,56 @@ use Rattle.std.specs.FinMap as map
 use Rattle.std.specs.FinSet as set
 use Rattle.slotmap_core.specs.Key.{Key, key_cmp}
 use Rattle.slotmap_core.specs.Content.{Content, IsContent, IsLive, used, places, most}
-use Rattle.slotmap_core.specs.Transition.{IsNew, Inserts, Keeps, Removes, Detaches, Reattaches, pushed, freed}
+use Rattle.slotmap_core.specs.Transition.{IsNew, Inserts, Keeps, Removes, Detaches, Reattaches}
 use Rattle.slotmap_core.specs.Lifo as lifo
 use Rattle.slotmap_core.specs.Lifo.{Lifo, offer_of, top_key, places_after, after_insert}
-use Rattle.slotmap_core.proofs.KeyLemmas.{keys_total, exact_keys}
-use Rattle.slotmap_core.proofs.Maps.{same_bool, some_entry, in_after_insert, in_inserted, still_in, in_after_remove, left_in, item_after_insert}
-use Rattle.slotmap_core.proofs.Maps.{item_inserted, item_still, item_after_remove, item_left}
+use Rattle.slotmap_core.proofs.KeyLemmas.{keys_total}
+use Rattle.slotmap_core.proofs.Maps.{some_is, some_entry}
 use Rattle.slotmap_core.specs.Law.{keys_told, IsRefusal}
 use Rattle.slotmap_core.specs.Run.{Run}
 use Rattle.slotmap_core.specs.declared.commands.DetachCommand.{DetachCommand}
 use Rattle.slotmap_core.specs.declared.commands.Reply.{Reply}
 use Rattle.slotmap_run.specs.Order.{IsLifo, Orders}
+use Rattle.slotmap_run.proofs.Changes.{changes}
 use Rattle.slotmap_run.proofs.Fits.{new_fits}
 use Rattle.slotmap_core.proofs.PlaceCount.{places_grow, kept_places, removed_places, detached_places, reattached_places}
-
-key_is : (k : Key) (i v : ℕ) → k.index ≡ i → k.version ≡ v → k ≡ record { index = i; version = v }
-key_is k i v e f = λ j. record { index = e j; version = f j }
-
-module _ {V : Type 0} where
-  live_inserted : (l : set.FinSet key_cmp) (m : map.FinMap key_cmp V) (k : Key) (v : V) → ((q : Key) → set.contains l q ≡ map.contains_key m q)
-      → (q : Key) → set.contains (set.insert l k) q ≡ map.contains_key (map.insert m k v) q
-  live_inserted l m k v same q = same_bool _ _
-      (λ h. elim (item_after_insert keys_total exact_keys l k q h) [ inl e ↦ rw e (in_inserted keys_total exact_keys m k v) | inr g ↦ still_in keys_total exact_keys m k v q (sym (same q) ∙ g) ])
-      (λ h. elim (in_after_insert keys_total exact_keys m k v q h) [ inl e ↦ rw e (item_inserted keys_total exact_keys l k) | inr p ↦ item_still keys_total exact_keys l k q (same q ∙ p.1) ])
-
-  live_removed : (l : set.FinSet key_cmp) (m : map.FinMap key_cmp V) (k : Key) → ((q : Key) → set.contains l q ≡ map.contains_key m q) → (q : Key)
-      → set.contains (set.remove l k) q ≡ map.contains_key (map.remove m k) q
-  live_removed l m k same q = same_bool _ _
-      (λ h. let p = item_after_remove keys_total exact_keys l k q h in left_in keys_total exact_keys m k q p.0 (sym (same q) ∙ p.1))
-      (λ h. let p = in_after_remove keys_total exact_keys m k q h in item_left keys_total exact_keys l k q p.0 (same q ∙ p.1))
 
 module _ {V : Type 0} (reuses : Bool) (old new : Content V) (ok : IsContent reuses old) (l : Lifo) (is : IsLifo l old) where
   -- if the map isn't full, the machine's offer is the map's
   offer_by : used old < most → (stack : List ℕ) → old.stack ≡ Some stack → (old.offer ≡ top_key old.next (places old) stack) × (places_after (places old) stack ≡ max (places old) (used old + 1))
-  offer_by room [] e =
-      let none = (ok.stacked [] e).once in
-      elim (ok.offers room) [
-        | inl g ↦ let some = some_entry nat_cmp_total exact_unsigned old.next old.offer.index (ap is_some g) in absurd (omega arith)
-        | inr g ↦ (key_is old.offer (places old + 1) 1 g.1 g.2, omega arith)
-      ]
-  offer_by room (i ∷ rest) e =
-      let is = ok.stacked (i ∷ rest) e in
-      let top : old.offer.index ≡ i = is.top room i rest refl in
-      let some = is.once in
-      elim (ok.offers room) [
-        | inl g ↦ (key_is old.offer i (unwrap_or (map.get old.next i) 1) top (sym (ap (λ o. unwrap_or o 1) (ap (λ j. map.get old.next j) (sym top) ∙ g))), omega arith)
-        | inr g ↦ let none = g.0 in absurd (omega arith)
-      ]
+  offer_by room stack e = grind (arith, ok.offers room, ok.stacked stack e, some_entry nat_cmp_total exact_unsigned old.next old.offer.index)
 
   pub lifo_inserts : (k : Key) (v : V) → Inserts old k v new → (k ≡ offer_of l) × IsLifo (after_insert l) new
-  lifo_inserts k v i =
-      let both = offer_by i.below_limit l.stack is.stack in
-      let same : k ≡ offer_of l = i.offered ∙ both.0 ∙ rw (is.next, is.places) refl in (
-        same,
-        rw (← same) (record {
-          live = rw i.live (live_inserted l.live old.live k v is.live);
-          detached = is.detached ∙ sym i.detached;
-          next = ap (λ (m : map.FinMap nat_cmp ℕ). map.remove m k.index) is.next ∙ sym i.next;
-          stack = i.stack ∙ ap (option_map (drop 1)) is.stack;
-          places = ap (λ n. places_after n l.stack) is.places ∙ both.1 ∙ places_grow reuses old new ok k v i;
-        }),
-      )
+  lifo_inserts k v i = grind (
+    arith,
+    offer_by i.below_limit l.stack is.stack,
+    is.live,
+    i.live,
+    set.contains-insert keys_total l.live k,
+    map.get-insert keys_total old.live k v,
+    places_grow reuses old new ok k v i,
+  )
 
   pub lifo_keeps : Keeps old new → IsLifo l new
-  lifo_keeps k = record {
-    live = rw k.live is.live;
-    detached = is.detached ∙ sym k.detached;
-    next = is.next ∙ sym k.next;
-    stack = k.stack ∙ is.stack;
-    places = is.places ∙ sym (kept_places reuses old new ok k);
-  }
+  lifo_keeps k = grind (arith, is.live, k.live, kept_places reuses old new ok k)
 
   pub lifo_removes : (k : Key) → IsLive old k → Removes old k new → IsLifo (if set.contains l.live k then lifo.after_remove l k else l) new
-  lifo_removes k is_live r = rw (is.live k ∙ is_live) (record {
-    live = rw r.live (live_removed l.live old.live k is.live);
-    detached = is.detached ∙ sym r.detached;
-    next = ap (λ (m : map.FinMap nat_cmp ℕ). freed m k) is.next ∙ sym r.next;
-    stack = r.stack ∙ ap (option_map (λ stack. pushed stack k)) is.stack;
-    places = is.places ∙ sym (removed_places reuses old new ok k is_live r);
-  })
+  lifo_removes k is_live r = grind (arith, is.live, r.live, changes, removed_places reuses old new ok k is_live r)
 
   pub lifo_detaches : (k : Key) → IsLive old k → Detaches old k new → IsLifo (if set.contains l.live k then lifo.after_detach l k else l) new
-  lifo_detaches k is_live r = rw (is.live k ∙ is_live) (record {
-    live = rw r.live (live_removed l.live old.live k is.live);
-    detached = ap (λ (d : set.FinSet key_cmp). set.insert d k) is.detached ∙ sym r.detached;
-    next = is.next ∙ sym r.next;
-    stack = r.stack ∙ is.stack;
-    places = is.places ∙ sym (detached_places reuses old new ok k is_live r);
-  })
+  lifo_detaches k is_live r = grind (arith, is.live, r.live, changes, detached_places reuses old new ok k is_live r)
 
   pub lifo_reattaches : (k : Key) (v : V) → Reattaches old k v new → IsLifo (if set.contains l.detached k then lifo.after_reattach l k else l) new
-  lifo_reattaches k v r = rw (ap (λ (d : set.FinSet key_cmp). set.contains d k) is.detached ∙ r.was_detached) (record {
-    live = rw r.live (live_inserted l.live old.live k v is.live);
-    detached = ap (λ (d : set.FinSet key_cmp). set.remove d k) is.detached ∙ sym r.detached;
-    next = is.next ∙ sym r.next;
-    stack = r.stack ∙ is.stack;
-    places = is.places ∙ sym (reattached_places reuses old new ok k v r);
-  })
+  lifo_reattaches k v r = grind (arith, is.live, r.live, r.was_detached, changes, reattached_places reuses old new ok k v r)
 
 module _ {V : Type 0} (reuses : Bool) (c : Content V) (ok : IsContent reuses c) (new : IsNew c) where
-  none_stacked : (o : Option (List ℕ)) → is_some o ≡ true → c.stack ≡ o → c.stack ≡ Some []
-  none_stacked (Some stack) some e =
-      let none : map.len c.next ≡ 0 = ap (λ (m : map.FinMap nat_cmp ℕ). map.len m) new.next ∙ map.len-empty nat_cmp ℕ in
-      e ∙ ap Some (nil_from_length stack ((ok.stacked stack e).once ∙ none))
-  none_stacked None some e = absurd (cc)
-
   -- a new map with a stack is at the machine's start
   pub lifo_new : is_some c.stack ≡ true → IsLifo lifo.no_places c
   lifo_new some = record {
-    live = λ k. set.contains-empty key_cmp k ∙ sym (ap (λ (m : map.FinMap key_cmp V). map.contains_key m k) new.live ∙ ap is_some (map.get-empty key_cmp k));
-    detached = sym new.detached;
-    next = sym new.next;
-    stack = none_stacked c.stack some refl;
+    live = λ k. grind (arith, new.live, set.contains-empty key_cmp k, map.get-empty {X = V} key_cmp k);
+    detached = cc;
+    next = cc;
+    stack = let has = some_is c.stack some in has.1 ∙ ap Some (nil_from_length has.0 ((ok.stacked has.0 has.1).once ∙ ap map.len new.next ∙ map.len-empty nat_cmp ℕ));
     places = (new_fits c new).peak;
   }
 
@@ -130,9 +66,8 @@ module _ {K V R E : Type 0} (data_of : K → Key) where
   pub lifo_run : (l : Lifo) (old new : Content V) (cs : List (DetachCommand K V)) (rs : List (Reply K V R E)) → IsLifo l old → Run (Orders data_of) old cs rs new
       → AllByRecursion lifo.IsBasic cs → AllByRecursion (λ r. IsRefusal r → ⊥) rs → keys_told data_of rs ≡ lifo.answers data_of l cs
   lifo_run l old new [] [] is run basic told = refl
-  lifo_run l old new [] (r ∷ rs) is run basic told = absurd run
-  lifo_run l old new (c ∷ cs) [] is run basic told = absurd run
   lifo_run l old new (c ∷ cs) (r ∷ rs) is run basic told =
       let first = run.1 l is basic.0 told.0 in
       let rest = lifo_run (lifo.after_command data_of l c) run.0 new cs rs first.1 run.2 basic.1 told.1 in
       ap (λ ks. ks ++ keys_told data_of rs) first.0 ∙ ap (λ ks. lifo.answer data_of l c ++ ks) rest
+  lifo_run l old new _ _ is run basic told = absurd run

@@ -1,10 +1,9 @@
 -- What a reserve promised is kept.
-use Rattle.std.proofs.Common.{◌≡◌, ◌+◌, ◌≤◌, max, List, ◌∷◌, ◌++◌, ap, arith}
+use Rattle.std.proofs.Common.{◌≡◌, ◌+◌, ◌≤◌, max, List, ap, arith}
 use Rattle.slotmap_core.specs.Machine.{State, used}
 use Rattle.slotmap_core.specs.Content.{most}
 use Rattle.slotmap_core.specs.Given.{Given}
 use Rattle.slotmap_core.specs.Step.{Step, DetachStep}
-use Rattle.slotmap_core.specs.Run.{Run}
 use Rattle.slotmap_core.specs.declared.commands.Command.{Command}
 use Rattle.slotmap_core.specs.declared.commands.Command.TheVariants as command
 use Rattle.slotmap_core.specs.declared.commands.DetachCommand.{DetachCommand}
@@ -17,31 +16,21 @@ use Rattle.slotmap_run.proofs.Runs.{run_split, run_keeps}
 use Rattle.slotmap_run.proofs.Anew.{RunsWell}
 
 module _ {K V R E : Type 0} (given : Given K V R E) where
-  -- if what is owed is within the limit, an insert fails only if nothing is owed
-  pub plain_refused : (old : State V) (c : Command K V) (r : Reply K V R E) (new : State V) → Grows c → Step given old c r new → IsRefusal r → used old + old.promised ≤ most → old.promised ≡ 0
-  plain_refused old (command.Insert v) (reply.Full back) new g step is within = let full = step.0 in omega arith
-  plain_refused old (command.Insert v) (reply.Memory back) new g step is within = step.0.not_promised
-  plain_refused old command.InsertWith (reply.Full back) new g step is within = let full = step.0 in omega arith
-  plain_refused old command.InsertWith (reply.Memory back) new g step is within = step.0.not_promised
-  plain_refused old (command.Insert v) _ new g step is within = absurd is
-  plain_refused old command.InsertWith _ new g step is within = absurd is
-  plain_refused old _ _ new g step is within = absurd g
-
+  -- if what is owed is within the limit, an insert or a reattach fails only if nothing is owed
   pub detach_refused : (old : State V) (c : DetachCommand K V) (r : Reply K V R E) (new : State V) → DetachGrows c → DetachStep given old c r new
       → IsRefusal r → used old + old.promised ≤ most → old.promised ≡ 0
-  detach_refused old (detaching.Plain c) r new g step is within = plain_refused old c r new g step is within
-  detach_refused old (detaching.Reattach k v) (reply.Memory back) new g step is within = step.2
-  detach_refused old (detaching.Reattach k v) (reply.Full back) new g step is within = absurd step
-  detach_refused old (detaching.Reattach k v) _ new g step is within = absurd is
-  detach_refused old (detaching.Detach k) r new g step is within = absurd g
+  detach_refused old c r new grows step is within = grind arith
+
+  pub plain_refused : (old : State V) (c : Command K V) (r : Reply K V R E) (new : State V) → Grows c → Step given old c r new → IsRefusal r → used old + old.promised ≤ most → old.promised ≡ 0
+  plain_refused old c = detach_refused old (detaching.Plain c)
 
 module _ {K V R E C : Type 0} {given : Given K V R E} {Machine : State V → C → Reply K V R E → State V → Type 0} {of : Command K V → C} (m : IsMachine given Machine of)
     (Such : C → Type 0) (refused : (old : State V) (c : C) (r : Reply K V R E) (new : State V) → Such c → Machine old c r new → IsRefusal r → used old + old.promised ≤ most → old.promised ≡ 0) where
   pub reserve_holds : (commands : List C) (replies : List (Reply K V R E)) → RunsWell Machine commands replies → ReserveHolds of Such commands replies
   reserve_holds commands replies well cs ds es rs ss us n c r e f few such is js refusal =
-      let run : Run Machine well.first (cs ++ of (command.Reserve n) ∷ (ds ++ c ∷ es)) (rs ++ reply.Done ∷ (ss ++ r ∷ us)) well.last = rw (← is, ← js) well.run in
-      let first = run_split Machine cs rs (of (command.Reserve n)) reply.Done (ds ++ c ∷ es) (ss ++ r ∷ us) well.first well.last e run in
-      let second = run_split Machine ds ss c r es us first.1 well.last f first.4 in
+      let run = rw (is, js) at well.run in
+      let first = run_split Machine cs rs _ _ _ _ _ _ e run in
+      let second = run_split Machine ds ss _ _ _ _ _ _ f first.4 in
       let done = m.plainly first.0 (command.Reserve n) reply.Done first.1 first.3 in
       let promised : first.1.promised ≡ max first.0.promised n = ap (λ (s : State V). s.promised) done.1 in
       let still = still_promised m ds ss first.1 second.0 second.2 in

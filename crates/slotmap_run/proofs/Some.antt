@@ -1,11 +1,14 @@
 -- Each content has a state that fits it.
-use Rattle.std.proofs.Common.{Bool, inl, inr, refl, sym, ap, arith, is_some}
+use Rattle.std.proofs.Common.{◌≡◌, Bool, ◌||◌, arith}
+use Rattle.std.specs.FinMap as map
+use Rattle.std.specs.FinSet as set
 use Rattle.slotmap_core.specs.Key.{Key}
-use Rattle.slotmap_core.specs.Content.{Content, IsContent, Uses, places}
-use Rattle.slotmap_core.specs.Machine.{State, IsIssued}
+use Rattle.slotmap_core.specs.Content.{Content, IsContent, places}
+use Rattle.slotmap_core.specs.Machine.{State, retired}
 use Rattle.slotmap_core.specs.Fit.{Fits}
-use Rattle.slotmap_core.proofs.Retired.{retired_is}
-use Rattle.slotmap_run.proofs.Counts.{all_keys, among_all, all_among}
+use Rattle.slotmap_core.proofs.KeyLemmas.{keys_total, exact_keys}
+use Rattle.slotmap_core.proofs.Retired.{in_retired}
+use Rattle.slotmap_run.proofs.Counts.{all_keys, contains-all_keys}
 use Rattle.slotmap_run.proofs.Fits.{used_same}
 use Rattle.slotmap_run.proofs.Laws.{IsGood}
 
@@ -14,30 +17,13 @@ module _ {V : Type 0} (reuses : Bool) (c : Content V) (ok : IsContent reuses c) 
   abbrev pub first_state : State V
   first_state = record { live = c.live; detached = c.detached; issued = all_keys c.live c.detached c.retired; peak = places c; promised = 0 }
 
-  issued_used : (k : Key) → IsIssued first_state k → Uses c k
-  issued_used = among_all c.live c.detached c.retired
-
-  used_issued : (k : Key) → Uses c k → IsIssued first_state k
-  used_issued = all_among c.live c.detached c.retired
+  issued : (k : Key) → set.contains first_state.issued k ≡ (map.contains_key c.live k || (set.contains c.detached k || set.contains c.retired k))
+  issued k = contains-all_keys c.live c.detached c.retired k
 
   pub first_fits : Fits first_state c
-  first_fits = record {
-    live = refl;
-    detached = refl;
-    retired = retired_is first_state c.retired
-        (λ k h. elim (issued_used k h.issued) [ inl g ↦ absurd (h.not_held g) | inr g ↦ g ])
-        (λ k h. record { issued = used_issued k (inr h); last = ok.last k h; not_held = λ held. ok.stands_or_retired k held h });
-    peak = refl;
-    promised = omega arith;
-    issued = λ k h. used_issued k (inl h);
-    within = λ k h. (ok.within k (issued_used k h)).1;
-    past = λ k v h g. absurd (ok.used_or_vacant k (issued_used k h) (ap is_some g));
-    present = λ k other h st e. rw (ok.apart k other (issued_used k h) (inl st) (sym e)) (omega arith);
-  }
+  first_fits =
+      let same = set.same_set keys_total exact_keys (retired first_state) c.retired (λ k. grind (arith, in_retired first_state k, issued k, ok.last k, ok.stands_or_retired k)) in
+      grind (arith, issued, ok.within, ok.used_or_vacant, ok.apart)
 
   pub first_good : IsGood first_state
-  first_good = record {
-    held_issued = λ k h. used_issued k (inl h);
-    apart = λ k h g. ok.live_or_detached k h g;
-    within = let same = used_same reuses first_state c c ok first_fits in let limit = ok.limit in omega arith;
-  }
+  first_good = grind (arith, issued, ok.live_or_detached, used_same first_state c first_fits, ok.limit)

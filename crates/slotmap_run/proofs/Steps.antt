@@ -1,23 +1,22 @@
 -- What the calls of a map ensure is a step of the machine.
-use Rattle.std.proofs.Common.{◌≡◌, ℕ, ◌+◌, ◌<◌, ◌≤◌, List, [], ◌∷◌, ◌++◌, Vec, Global, Result, Ok, Err, IfOk, OnOk, IfErr, OnErr, IsErr, IsOk, Option}
-use Rattle.std.proofs.Common.{Some, None, Bool, false, cond, inl, inr, refl, sym, ap, ◌∙◌, subst, arith, is_some}
+use Rattle.std.proofs.Common.{◌≡◌, ◌≢◌, ℕ, ◌+◌, ◌≤◌, List, [], ◌∷◌, ◌++◌, Vec, Global, Result, Ok, Err, IfOk, OnOk, IfErr, OnErr, IsErr, IsOk, Option}
+use Rattle.std.proofs.Common.{Some, None, Bool, false, refl, sym, ap, ◌∙◌, subst, arith, is_some}
 use Rattle.std.specs.Prelude.{map as list_map, MatchOption, IsSomeAnd, OnSome, IfNone, option_copied}
 use Rattle.std.specs.Fn.{Mut}
 use Rattle.std.specs.Borrow.{Bor, MutBor}
 use Rattle.std.specs.FinMap as map
 use Rattle.std.specs.FinSet as set
-use Rattle.std.proofs.lemmas.Bool.{cases_lt}
 use Rattle.slotmap_core.specs.Key.{Key, key_cmp}
 use Rattle.slotmap_core.specs.Content.{Content, IsContent, used, most}
 use Rattle.slotmap_core.specs.Listing.{IsListing, IsKeyListing}
 use Rattle.slotmap_core.specs.Transition.{Inserts, Keeps, Removes, Replaces, Leaves, Detaches, Reattaches, with_value}
 use Rattle.slotmap_core.specs.Call.{MayGrow, MakesRoom}
 use Rattle.slotmap_core.specs.Refusal.{LacksRoom, Refuses, RefusesWith, RefusesCapacity, RefusesReattach}
-use Rattle.slotmap_core.specs.Retain.{Visit, seen, CallsAt, RetainsBy}
+use Rattle.slotmap_core.specs.Retain.{Visit, CallsAt, RetainsBy}
 use Rattle.slotmap_core.specs.Given.{Given}
 use Rattle.slotmap_core.specs.Machine as machine
-use Rattle.slotmap_core.specs.Machine.{State, after_insert, after_remove, after_replace, after_reserve, after_detach, after_reattach}
-use Rattle.slotmap_core.specs.Step.{MayLackMemory, Step, DetachStep}
+use Rattle.slotmap_core.specs.Machine.{State, Fresh, after_insert}
+use Rattle.slotmap_core.specs.Step.{MayLackMemory, MayLackRoom, Step, DetachStep}
 use Rattle.slotmap_core.specs.Fit.{Fits, Follows}
 use Rattle.slotmap_core.specs.declared.commands.Command.{Command}
 use Rattle.slotmap_core.specs.declared.commands.Command.TheVariants as command
@@ -36,23 +35,22 @@ use Rattle.slotmap_core.specs.declared.errors.ReattachError.TheVariants as again
 use Rattle.slotmap_core.specs.declared.errors.OutOfMemory.{OutOfMemory}
 use Rattle.slotmap_core.proofs.Maps.{none_of, false_of}
 use Rattle.slotmap_core.proofs.RetainLemmas.{retained_none, retained_at}
-use Rattle.slotmap_run.proofs.Fits.{used_same, below, offer_fresh, inserts_fresh, inserts_fits}
-use Rattle.slotmap_run.proofs.Moves.{keeps_fits, promises_fits, replaces_fits, detaches_fits, reattaches_fits, removes_fits, leaves_fits}
-use Rattle.slotmap_run.proofs.Lasts.{inserts_lasts, keeps_lasts, replaces_lasts, detaches_lasts, reattaches_lasts, removes_lasts, leaves_lasts}
-use Rattle.slotmap_core.specs.Lifo.{IsBasic}
-use Rattle.slotmap_core.specs.Law.{IsRefusal}
-use Rattle.slotmap_run.specs.Order.{Served}
+use Rattle.slotmap_run.proofs.Fits.{used_same, below, offer_fresh, inserts_fresh, inserts as inserts_moves}
+use Rattle.slotmap_run.proofs.Moves.{Moves, keeps, promises, replaces, detaches, reattaches, removes, leaves}
+use Rattle.slotmap_core.specs.Lifo.{Lifo, IsBasic, answer, after_command}
+use Rattle.slotmap_core.specs.Law.{IsRefusal, reply_keys}
+use Rattle.slotmap_run.specs.Order.{Served, IsLifo}
 use Rattle.slotmap_run.specs.Replies.{insert_reply_of, insert_with_reply_of, reserve_reply_of, reattach_reply_of}
 use Rattle.slotmap_run.proofs.Orders.{lifo_inserts, lifo_keeps, lifo_removes, lifo_detaches, lifo_reattaches}
 
 pub keeps_itself : {V : Type 0} (c : Content V) → Keeps c c
-keeps_itself c = record { live = refl; detached = refl; retired = refl; next = refl; offer = refl; stack = refl; room = omega arith }
+keeps_itself c = grind arith
 
 pub keeps_same : {V : Type 0} (old new : Content V) → new ≡ old → Keeps old new
-keeps_same old new same = subst (Keeps old) (sym same) (keeps_itself old)
+keeps_same old new same = grind arith
 
 replaces_with : {V : Type 0} (old new : Content V) (k : Key) (v : V) → new ≡ with_value old k v → Replaces old k v new
-replaces_with old new k v put = subst (Replaces old k v) (sym put) (record { live = refl; detached = refl; retired = refl; next = refl; offer = refl; stack = refl; room = omega arith })
+replaces_with old new k v put = grind arith
 
 module _ {K V R E : Type 0} (given : Given K V R E) (old new : Content V) (ok : IsContent given.reuses old) where
   abbrev Answers : Command K V → Reply K V R E → Type 0
@@ -61,78 +59,44 @@ module _ {K V R E : Type 0} (given : Given K V R E) (old new : Content V) (ok : 
   abbrev DetachAnswers : DetachCommand K V → Reply K V R E → Type 0
   DetachAnswers command reply = Served DetachStep (λ command. command) given old command reply new
 
+  -- a call that moves each state that fits is a step
+  by : {C : Type 0} {Machine : State V → C → Reply K V R E → State V → Type 0} {c : C} {r : Reply K V R E} {after : State V → State V}
+      → Moves after old new → ((s : State V) → Fits s old → Machine s c r (after s)) → Follows Machine old c r new
+  by {after = after} moves step = record { step = λ s fits. (after s, step s fits, moves.fits s fits); lasts = moves.lasts }
+
   -- a command that isn't of the machine that reuses the slot freed last
-  other : (c : Command K V) (r : Reply K V R E) → (IsBasic (detaching.Plain c) → ⊥) → Follows (Step given) old c r new → Answers c r
-  other c r not_basic follows = record { follows = follows; orders = λ l is basic told. absurd (not_basic basic) }
+  other : {c : Command K V} {r : Reply K V R E} → (IsBasic (detaching.Plain c) → ⊥) → Follows (Step given) old c r new → Answers c r
+  other not_basic follows = record { follows = follows; orders = λ l is basic told. absurd (not_basic basic) }
+
+  stays : {c : Command K V} {r : Reply K V R E} → (IsBasic (detaching.Plain c) → ⊥) → Keeps old new → ((s : State V) → Fits s old → Step given s c r s) → Answers c r
+  stays not_basic kept step = other not_basic (by (keeps given.reuses old new ok kept) step)
 
   -- a command that fails
-  refused : (c : Command K V) (r : Reply K V R E) → IsRefusal r → Follows (Step given) old c r new → Answers c r
-  refused c r is follows = record { follows = follows; orders = λ l lifo basic told. absurd (told is) }
+  refused : {c : Command K V} {r : Reply K V R E} → IsRefusal r → Keeps old new → ((s : State V) → Fits s old → Step given s c r s) → Answers c r
+  refused is kept step = record { follows = by (keeps given.reuses old new ok kept) step; orders = λ l lifo basic told. absurd (told is) }
 
-  -- a call that keeps the content is a step that stays
-  module _ {C : Type 0} (Machine : State V → C → Reply K V R E → State V → Type 0) (c : C) (r : Reply K V R E) where
-    stays_by : Keeps old new → ((s : State V) → Fits s old → Machine s c r s) → Follows Machine old c r new
-    stays_by keeps step = record {
-      step = λ s fits. (s, step s fits, keeps_fits given.reuses s old new ok fits keeps);
-      lasts = λ n lasts. keeps_lasts given.reuses old new n ok lasts keeps;
-    }
+  -- an insert binds a fresh key
+  binds : {c : Command K V} {r : Reply K V R E} (key : K) (v : V) → IsContent given.reuses new → Inserts old (given.data_of key) v new
+      → ((s : State V) → machine.used s ≢ most → Fresh s (given.data_of key) → Step given s c r (after_insert s (given.data_of key) v)) → Follows (Step given) old c r new
+  binds key v new_ok i step =
+      by (inserts_moves given.reuses old new ok (given.data_of key) v i new_ok)
+      (λ s fits. step s (below s old fits i.below_limit) (inserts_fresh given.reuses s old ok fits new (given.data_of key) v i new_ok))
 
-  stays : (c : Command K V) (r : Reply K V R E) → (IsBasic (detaching.Plain c) → ⊥) → Keeps old new → ((s : State V) → s.live ≡ old.live → machine.used s ≡ used old → Step given s c r s) → Answers c r
-  stays c r not_basic keeps step = other c r not_basic (stays_by (Step given) c r keeps (λ s fits. step s fits.live (used_same given.reuses s old new ok fits)))
-
-  inserts : IsContent given.reuses new → (key : K) (v : V) → Inserts old (given.data_of key) v new → Answers (command.Insert v) (reply.Key key)
+  pub inserts : IsContent given.reuses new → (key : K) (v : V) → Inserts old (given.data_of key) v new → Answers (command.Insert v) (reply.Key key)
   inserts new_ok key v i = record {
-    follows = record {
-      step =
-          λ s fits. (
-            after_insert s (given.data_of key) v,
-            (below given.reuses s old new ok fits i.below_limit, inserts_fresh given.reuses s old new ok fits (given.data_of key) v i new_ok, refl),
-            inserts_fits given.reuses s old new ok fits (given.data_of key) v i new_ok,
-          );
-      lasts = λ n lasts. inserts_lasts given.reuses old new n ok lasts (given.data_of key) v i;
-    };
+    follows = binds key v new_ok i (λ s below fresh. (below, fresh, refl));
     orders = λ l is basic told. let both = lifo_inserts given.reuses old new ok l is (given.data_of key) v i in (ap (λ k. k ∷ []) both.0, both.1);
   }
 
-  inserts_with : IsContent given.reuses new → (key : K) (v : V) → given.makes key (Ok v) → Inserts old (given.data_of key) v new → Answers command.InsertWith (reply.Key key)
-  inserts_with new_ok key v made i = other command.InsertWith (reply.Key key) (λ b. b) (record {
-    step =
-        λ s fits. (
-          after_insert s (given.data_of key) v,
-          (
-            below given.reuses s old new ok fits i.below_limit,
-            inserts_fresh given.reuses s old new ok fits (given.data_of key) v i new_ok,
-            (v, made, refl),
-          ),
-          inserts_fits given.reuses s old new ok fits (given.data_of key) v i new_ok,
-        );
-    lasts = λ n lasts. inserts_lasts given.reuses old new n ok lasts (given.data_of key) v i;
-  })
-
-  full : (v back : V) → Refuses old v (Full back) → Keeps old new → Answers (command.Insert v) (reply.Full (Some back))
-  full v back r keeps =
-      refused (command.Insert v) (reply.Full (Some back)) tt
-      (stays_by (Step given) (command.Insert v) (reply.Full (Some back)) keeps
-      (λ s fits. (used_same given.reuses s old new ok fits ∙ r.0, ap Some r.1, refl)))
-
-  with_full : used old ≡ most → Keeps old new → Answers command.InsertWith (reply.Full None)
-  with_full r keeps =
-      other command.InsertWith (reply.Full None) (λ b. b) (stays_by (Step given) command.InsertWith (reply.Full None) keeps (λ s fits. (used_same given.reuses s old new ok fits ∙ r, refl, refl)))
+  pub full : (v back : V) → Refuses old v (Full back) → Keeps old new → Answers (command.Insert v) (reply.Full (Some back))
+  full v back r kept = refused tt kept (λ s fits. (used_same s old fits ∙ r.0, ap Some r.1, refl))
 
   -- if memory may run out for an insert, it may in the machine
   may_lack : LacksRoom old → (s : State V) → Fits s old → MayLackMemory given.reuses s
-  may_lack r s fits = let same = used_same given.reuses s old new ok fits in record {
-    below_limit = λ e. let less = r.below_limit in omega arith;
-    not_promised = let promised = fits.promised in let room = r.no_room in omega arith;
-    at_peak = λ h. let none = ok.reused h in let room = r.no_room in let peak = fits.peak in omega arith;
-  }
+  may_lack r s fits = grind (arith, used_same s old fits, ok.reused)
 
-  no_memory : (v back : V) → Refuses old v (Memory back) → Keeps old new → Answers (command.Insert v) (reply.Memory (Some back))
-  no_memory v back r keeps =
-      refused (command.Insert v) (reply.Memory (Some back)) tt (stays_by (Step given) (command.Insert v) (reply.Memory (Some back)) keeps (λ s fits. (may_lack r.0 s fits, ap Some r.1, refl)))
-
-  with_no_memory : LacksRoom old → Keeps old new → Answers command.InsertWith (reply.Memory None)
-  with_no_memory r keeps = other command.InsertWith (reply.Memory None) (λ b. b) (stays_by (Step given) command.InsertWith (reply.Memory None) keeps (λ s fits. (may_lack r s fits, refl, refl)))
+  pub no_memory : (v back : V) → Refuses old v (Memory back) → Keeps old new → Answers (command.Insert v) (reply.Memory (Some back))
+  no_memory v back r kept = refused tt kept (λ s fits. (may_lack r.0 s fits, ap Some r.1, refl))
 
   -- whatever an insert returns
   pub inserted : (v : V) (r : Result K (InsertError V)) → MayGrow given.reuses old (IsErr r) new
@@ -141,97 +105,69 @@ module _ {K V R E : Type 0} (given : Given K V R E) (old new : Content V) (ok : 
   inserted v (Err (Full back)) valid ok err = full v back err (valid.unchanged refl)
   inserted v (Err (Memory back)) valid ok err = no_memory v back err (valid.unchanged refl)
 
-  with_failed : (e : E) → (used old < most) × ((k : K) × (given.data_of k ≡ old.offer) × given.makes k (Err e)) → Keeps old new → Answers command.InsertWith (reply.Failed e)
-  with_failed e r keeps = other command.InsertWith (reply.Failed e) (λ b. b) (stays_by (Step given) command.InsertWith (reply.Failed e) keeps
-      (λ s fits. (below given.reuses s old new ok fits r.0, (r.1.0, rw r.1.1 (offer_fresh given.reuses s old new ok fits r.0), r.1.2), refl)))
-
   -- whatever an insert of what `make` returns does
   pub inserted_with : (r : Result K (TryInsertError E)) → MayGrow given.reuses old (IsErr r) new
       → IfOk r (λ key. (v : V) × given.makes key (Ok v) × Inserts old (given.data_of key) v new) → IfErr r (RefusesWith given.data_of given.makes old)
       → Answers command.InsertWith (insert_with_reply_of r)
-  inserted_with (Ok key) valid ok err = inserts_with valid.after key ok.0 ok.1 ok.2
-  inserted_with (Err with_key.Full) valid ok err = with_full err (valid.unchanged refl)
-  inserted_with (Err with_key.Memory) valid ok err = with_no_memory err (valid.unchanged refl)
-  inserted_with (Err (with_key.Closure e)) valid ok err = with_failed e err (valid.unchanged refl)
-
-  looks : (key : K) (v : V) (r : R) → Keeps old new → Some v ≡ map.get old.live (given.data_of key) → given.looks v r → Answers (command.Get key) (reply.Looked (Some r))
-  looks key v r keeps found seen = stays (command.Get key) (reply.Looked (Some r)) (λ b. b) keeps (λ s live same. ((v, rw live (sym found), seen), refl))
-
-  looks_none : (key : K) → Keeps old new → None ≡ map.get old.live (given.data_of key) → Answers (command.Get key) (reply.Looked None)
-  looks_none key keeps none = stays (command.Get key) (reply.Looked None) (λ b. b) keeps (λ s live same. (rw live (sym none), refl))
+  inserted_with (Ok key) valid ok err = other (λ b. b) (binds key ok.0 valid.after ok.2 (λ s below fresh. (below, fresh, (ok.0, ok.1, refl))))
+  inserted_with (Err with_key.Full) valid ok err = stays (λ b. b) (valid.unchanged refl) (λ s fits. (used_same s old fits ∙ err, refl, refl))
+  inserted_with (Err with_key.Memory) valid ok err = stays (λ b. b) (valid.unchanged refl) (λ s fits. (may_lack err s fits, refl, refl))
+  inserted_with (Err (with_key.Closure e)) valid none err =
+      stays (λ b. b) (valid.unchanged refl) (λ s fits. (below s old fits err.0, (err.1.0, rw err.1.1 (offer_fresh given.reuses s old ok fits err.0), err.1.2), refl))
 
   -- whatever a look-up finds, if the reply may be told of it
   pub looked : (key : K) (found : Option (Bor V)) (told : Option R) (P : Bor V → R → Type 0) → ((x : Bor V) (r : R) → P x r → given.looks x.now r) → Keeps old new
       → option_copied found ≡ map.get old.live (given.data_of key) → MatchOption found (told ≡ None) (λ x. IsSomeAnd told (P x)) → Answers (command.Get key) (reply.Looked told)
-  looked key None told P says keeps is shown = rw shown (looks_none key keeps is)
-  looked key (Some x) (Some r) P says keeps is shown = looks key x.now r keeps is (says x r shown)
-  looked key (Some x) None P says keeps is shown = absurd shown
+  looked key None told P says kept is shown = rw shown (stays (λ b. b) kept (λ s fits. (rw fits.live (sym is), refl)))
+  looked key (Some x) (Some r) P says kept is shown = stays (λ b. b) kept (λ s fits. ((x.now, rw fits.live (sym is), says x r shown), refl))
+  looked key (Some x) None P says kept is shown = absurd shown
 
   pub contains : (key : K) (is : Bool) → Keeps old new → is ≡ map.contains_key old.live (given.data_of key) → Answers (command.Contains key) (reply.Flag is)
-  contains key is keeps found = stays (command.Contains key) (reply.Flag is) (λ b. b) keeps (λ s live same. (rw live found, refl))
+  contains key is kept found = stays (λ b. b) kept (λ s fits. (rw fits.live found, refl))
 
   pub counts : (n : ℕ) → Keeps old new → n ≡ map.len old.live → Answers command.Len (reply.Len n)
-  counts n keeps is = stays command.Len (reply.Len n) (λ b. b) keeps (λ s live same. (rw live is, refl))
+  counts n kept is = stays (λ b. b) kept (λ s fits. (rw fits.live is, refl))
 
   pub replaced : (key : K) (v : V) (r : Result V V) → IfOk r (λ before. map.get old.live (given.data_of key) ≡ Some before) → OnOk r (new ≡ with_value old (given.data_of key) v)
       → IfErr r (λ back. map.contains_key old.live (given.data_of key) ≡ false × back ≡ v) → OnErr r (new ≡ old) → Answers (command.Replace key v) (reply.Put r)
-  replaced key v (Ok before) found put none same = let changes = replaces_with old new (given.data_of key) v put in other (command.Replace key v) (reply.Put (Ok before)) (λ b. b) (record {
-    step = λ s fits. (after_replace s (given.data_of key) v, (rw fits.live found, refl), replaces_fits given.reuses s old new ok fits (given.data_of key) v (ap is_some found) changes);
-    lasts = λ n lasts. replaces_lasts given.reuses old new n ok lasts (given.data_of key) v (ap is_some found) changes;
-  })
-  replaced key v (Err back) found put none same = stays (command.Replace key v) (reply.Put (Err back)) (λ b. b) (keeps_same old new same) (λ s live _. (rw live (none_of _ none.0), none.1, refl))
+  replaced key v (Ok before) found put none same =
+      other (λ b. b) (by (replaces given.reuses old new ok (given.data_of key) v (ap is_some found) (replaces_with old new (given.data_of key) v put)) (λ s fits. (rw fits.live found, refl)))
+  replaced key v (Err back) found put none same = stays (λ b. b) (keeps_same old new same) (λ s fits. (rw fits.live (none_of _ none.0), none.1, refl))
+
+  -- a command that leaves the machine that reuses the slot freed last as it is
+  unmoved : {C : Type 0} {Machine : Given K V R E → State V → C → Reply K V R E → State V → Type 0} {of : C → DetachCommand K V} {c : C} {r : Reply K V R E}
+      → Keeps old new → ((s : State V) → Fits s old → Machine given s c r s) → ((l : Lifo) → reply_keys given.data_of r ≡ answer given.data_of l (of c))
+      → ((l : Lifo) → IsLifo l old → after_command given.data_of l (of c) ≡ l) → Served Machine of given old c r new
+  unmoved kept step told same = record {
+    follows = by (keeps given.reuses old new ok kept) step;
+    orders = λ l lifo basic _. (told l, rw (same l lifo) (lifo_keeps given.reuses old new ok l lifo kept));
+  }
 
   pub removed : (key : K) (taken : Option V) → taken ≡ map.get old.live (given.data_of key) → OnSome taken (Removes old (given.data_of key) new)
       → IfNone taken (new ≡ old) → Answers (command.Remove key) (reply.Taken taken)
   removed key (Some v) is some none = record {
-    follows = record {
-      step = λ s fits. (after_remove s (given.data_of key), (rw fits.live (sym is), refl), removes_fits given.reuses s old new ok fits (given.data_of key) (ap is_some (sym is)) some);
-      lasts = λ n lasts. removes_lasts given.reuses old new n ok lasts (given.data_of key) (ap is_some (sym is)) some;
-    };
+    follows = by (removes given.reuses old new ok (given.data_of key) (ap is_some (sym is)) some) (λ s fits. (rw fits.live (sym is), refl));
     orders = λ l lifo basic told. (refl, lifo_removes given.reuses old new ok l lifo (given.data_of key) (ap is_some (sym is)) some);
   }
-  removed key None is some none = record {
-    follows = stays_by (Step given) (command.Remove key) (reply.Taken None) (keeps_same old new none) (λ s fits. (rw fits.live (sym is), refl));
-    orders = λ l lifo basic told. (refl, rw (lifo.live (given.data_of key) ∙ ap is_some (sym is)) (lifo_keeps given.reuses old new ok l lifo (keeps_same old new none)));
-  }
+  removed key None is some none =
+      unmoved (keeps_same old new none) (λ s fits. (rw fits.live (sym is), refl)) (λ l. refl) (λ l lifo. rw (lifo.live (given.data_of key) ∙ ap is_some (sym is)) refl)
 
-  reserves : (m : ℕ) → used old + m ≤ most → m ≤ new.room → Keeps old new → Answers (command.Reserve m) reply.Done
-  reserves m fits room keeps = other (command.Reserve m) reply.Done (λ b. b) (record {
-    step = λ s ok_fits. (after_reserve s m, (let same = used_same given.reuses s old new ok ok_fits in omega arith, refl), promises_fits given.reuses s old new ok ok_fits keeps m room);
-    lasts = λ n lasts. keeps_lasts given.reuses old new n ok lasts keeps;
-  })
-
-  too_great : (m : ℕ) → most < used old + m → Keeps old new → Answers (command.Reserve m) reply.TooGreat
-  too_great m great keeps = stays (command.Reserve m) reply.TooGreat (λ b. b) keeps (λ s live same. (omega arith, refl))
-
-  reserves_no_memory : (m : ℕ) → used old + m ≤ most → old.room < m → Keeps old new → Answers (command.Reserve m) (reply.Memory None)
-  reserves_no_memory m within lacks keeps =
-      other (command.Reserve m) (reply.Memory None) (λ b. b) (stays_by (Step given) (command.Reserve m) (reply.Memory None) keeps (λ s fits. let same = used_same given.reuses s old new ok fits in (
-        record {
-          within_limit = omega arith;
-          beyond_promise = let promised = fits.promised in omega arith;
-          beyond_peak = λ h. let vacant = ok.reused h in let peak = fits.peak in omega arith;
-        },
-        refl,
-        refl,
-      )))
+  may_lack_room : (m : ℕ) → used old + m ≤ most → (m ≤ old.room → ⊥) → (s : State V) → Fits s old → MayLackRoom given.reuses s m
+  may_lack_room m within lacks s fits = grind (arith, used_same s old fits, ok.reused)
 
   -- whatever a reserve returns
   pub reserved : (m : ℕ) (r : Result (Unit {0}) ReserveError) → MakesRoom given.reuses old m (IsOk r) new → IfErr r (RefusesCapacity (used old + m)) → Answers (command.Reserve m) (reserve_reply_of r)
-  reserved m (Ok done) made err = reserves m (made.fits refl) (made.room refl) made.keeps
-  reserved m (Err capacity.TooGreat) made err = too_great m err made.keeps
-  reserved m (Err capacity.Memory) made err = elim (cases_lt old.room m) [ inl lacks ↦ reserves_no_memory m err lacks made.keeps | inr room ↦ let done = made.succeeds room in absurd (cc) ]
+  reserved m (Ok done) made err = other (λ b. b) (by (promises given.reuses old new ok made.keeps m (made.room refl)) (λ s fits. (rw (used_same s old fits) (made.fits refl), refl)))
+  reserved m (Err capacity.TooGreat) made err = stays (λ b. b) made.keeps (λ s fits. (rw (used_same s old fits) err, refl))
+  reserved m (Err capacity.Memory) made err = stays (λ b. b) made.keeps (λ s fits. (may_lack_room m err (λ room. let done = made.succeeds room in absurd (cc)) s fits, refl, refl))
 
   -- some keys are removed, and nothing else of the state changes
-  leaves : (c : Command K V) (r : Reply K V R E) → (IsBasic (detaching.Plain c) → ⊥) → Leaves old new
+  left : {c : Command K V} {r : Reply K V R E} → (IsBasic (detaching.Plain c) → ⊥) → Leaves old new
       → ((s : State V) → s.live ≡ old.live → Step given s c r (record s { live = new.live })) → Answers c r
-  leaves c r not_basic l step = other c r not_basic (record {
-    step = λ s fits. (record s { live = new.live }, step s fits.live, leaves_fits given.reuses s old new ok fits l);
-    lasts = λ n lasts. leaves_lasts given.reuses old new n ok lasts l;
-  })
+  left not_basic l step = other not_basic (by (leaves given.reuses old new ok l) (λ s fits. step s fits.live))
 
   pub clears : new.live ≡ map.empty → Leaves old new → Answers command.Clear reply.Done
-  clears empty l = leaves command.Clear reply.Done (λ b. b) l (λ s live. ap (λ (m : map.FinMap key_cmp V). record s { live = m }) empty)
+  clears empty l = left (λ b. b) l (λ s live. ap (λ (m : map.FinMap key_cmp V). record s { live = m }) empty)
 
   -- whatever a drain into a new vector returns
   pub drained : (done : Result (Unit {0}) OutOfMemory) (first out : Vec (K × V) Global) (r : Reply K V R E) → first.items ≡ [] → OnOk done (r ≡ reply.Drained out) → OnErr done (r ≡ reply.Memory None)
@@ -240,29 +176,25 @@ module _ {K V R E : Type 0} (given : Given K V R E) (old new : Content V) (ok : 
       → Answers command.Drain r
   drained (Ok done) first out r none told refusal all empty l unchanged =
       let is : out.items ≡ all.0 = all.1 ∙ ap (λ front. front ++ all.0) none in
-      rw told (leaves command.Drain (reply.Drained out) (λ b. b) l (λ s live. (rw (is, live) all.2, ap (λ (m : map.FinMap key_cmp V). record s { live = m }) empty)))
-  drained (Err e) first out r none told refusal all empty l unchanged = rw refusal (stays command.Drain (reply.Memory None) (λ b. b) (keeps_same old new unchanged.0) (λ s live same. (refl, refl)))
+      rw told (left (λ b. b) l (λ s live. (rw (is, live) all.2, ap (λ (m : map.FinMap key_cmp V). record s { live = m }) empty)))
+  drained (Err e) first out r none told refusal all empty l unchanged = rw refusal (stays (λ b. b) (keeps_same old new unchanged.0) (λ s fits. (refl, refl)))
 
   -- whatever listing the keys in a new vector returns
   pub listed : (done : Result (Unit {0}) OutOfMemory) (first out : Vec K Global) (r : Reply K V R E) → first.items ≡ [] → OnOk done (r ≡ reply.Keys out) → OnErr done (r ≡ reply.Memory None)
       → OnOk done ((keys : List K) × (out.items ≡ first.items ++ keys) × IsKeyListing old.live (list_map given.data_of keys)) → Keeps old new → Answers command.Keys r
-  listed (Ok done) first out r none told refusal all keeps =
+  listed (Ok done) first out r none told refusal all kept =
       let is : out.items ≡ all.0 = all.1 ∙ ap (λ front. front ++ all.0) none in
-      rw told (stays command.Keys (reply.Keys out) (λ b. b) keeps (λ s live same. (rw (is, live) all.2, refl)))
-  listed (Err e) first out r none told refusal all keeps = rw refusal (stays command.Keys (reply.Memory None) (λ b. b) keeps (λ s live same. (refl, refl)))
+      rw told (stays (λ b. b) kept (λ s fits. (rw (is, fits.live) all.2, refl)))
+  listed (Err e) first out r none told refusal all kept = rw refusal (stays (λ b. b) kept (λ s fits. (refl, refl)))
 
   module _ {F : Type 0} (g : Mut F (K × (MutBor V × Unit {0})) (Bool × (MutBor V × Unit {0}))) (f : F) (Is : F → Type 0)
       (says : (f : F) (x : Visit K V) (f' : F) → Is f → CallsAt g f x f' → Is f' × given.keeps x.key x.before x.after x.stays) (is : Is f)
       (r : RetainsBy g given.data_of f old.live new.live) where
-    each : (q : Key) (v : V) → map.get old.live q ≡ Some v → (key : K) × (w : V) × (stays : Bool) × (given.data_of key ≡ q) × given.keeps key v w stays
-        × (map.get new.live q ≡ cond stays (Some w) None)
-    each q v found =
-        let at = retained_at g given.data_of Is (λ x. given.keeps x.key x.before x.after x.stays) (λ f f' x. says f x f') is r q v found in
-        (at.0.key, at.0.after, at.0.stays, at.2, subst (λ (b : V). given.keeps at.0.key b at.0.after at.0.stays) at.3 at.1, at.4)
-
     pub retains : Leaves old new → Answers command.Retain reply.Done
-    retains l = leaves command.Retain reply.Done (λ b. b) l (λ s live. record {
-      each = λ q v found. each q v (rw (← live) found);
+    retains l = left (λ b. b) l (λ s live. record {
+      each = λ q v found.
+          let at = retained_at g given.data_of Is (λ x. given.keeps x.key x.before x.after x.stays) (λ f f' x. says f x f') is r q v (rw (← live) found) in
+          (at.0.key, at.0.after, at.0.stays, at.2, subst (λ (b : V). given.keeps at.0.key b at.0.after at.0.stays) at.3 at.1, at.4);
       no_more = λ q none. retained_none g given.data_of r q (rw (← live) none);
       rest = refl;
     })
@@ -274,45 +206,34 @@ module _ {K V R E : Type 0} (given : Given K V R E) (old new : Content V) (ok : 
   pub detached : (key : K) (taken : Option V) → taken ≡ map.get old.live (given.data_of key) → OnSome taken (Detaches old (given.data_of key) new)
       → IfNone taken (new ≡ old) → DetachAnswers (detaching.Detach key) (reply.Taken taken)
   detached key (Some v) is some none = record {
-    follows = record {
-      step = λ s fits. (after_detach s (given.data_of key), (rw fits.live (sym is), refl), detaches_fits given.reuses s old new ok fits (given.data_of key) (ap is_some (sym is)) some);
-      lasts = λ n lasts. detaches_lasts given.reuses old new n ok lasts (given.data_of key) (ap is_some (sym is)) some;
-    };
+    follows = by (detaches given.reuses old new ok (given.data_of key) (ap is_some (sym is)) some) (λ s fits. (rw fits.live (sym is), refl));
     orders = λ l lifo basic told. (refl, lifo_detaches given.reuses old new ok l lifo (given.data_of key) (ap is_some (sym is)) some);
   }
-  detached key None is some none = record {
-    follows = stays_by (DetachStep given) (detaching.Detach key) (reply.Taken None) (keeps_same old new none) (λ s fits. (rw fits.live (sym is), refl));
-    orders = λ l lifo basic told. (refl, rw (lifo.live (given.data_of key) ∙ ap is_some (sym is)) (lifo_keeps given.reuses old new ok l lifo (keeps_same old new none)));
-  }
+  detached key None is some none =
+      unmoved (keeps_same old new none) (λ s fits. (rw fits.live (sym is), refl)) (λ l. refl) (λ l lifo. rw (lifo.live (given.data_of key) ∙ ap is_some (sym is)) refl)
 
-  reattaches : (key : K) (v : V) → Reattaches old (given.data_of key) v new → DetachAnswers (detaching.Reattach key v) reply.Done
-  reattaches key v r = record {
-    follows = record {
-      step = λ s fits. (after_reattach s (given.data_of key) v, (rw fits.detached r.was_detached, refl), reattaches_fits given.reuses s old new ok fits (given.data_of key) v r);
-      lasts = λ n lasts. reattaches_lasts given.reuses old new n ok lasts (given.data_of key) v r;
-    };
+  pub reattached : (key : K) (v : V) → Reattaches old (given.data_of key) v new → DetachAnswers (detaching.Reattach key v) reply.Done
+  reattached key v r = record {
+    follows = by (reattaches given.reuses old new ok (given.data_of key) v r) (λ s fits. (rw fits.detached r.was_detached, refl));
     orders = λ l lifo basic told. (refl, lifo_reattaches given.reuses old new ok l lifo (given.data_of key) v r);
   }
 
-  not_detached : (key : K) (v back : V) → RefusesReattach given.reuses old (given.data_of key) v (again.NotDetached back) → Keeps old new
+  pub not_detached : (key : K) (v back : V) → RefusesReattach given.reuses old (given.data_of key) v (again.NotDetached back) → Keeps old new
       → DetachAnswers (detaching.Reattach key v) (reply.NotDetached back)
-  not_detached key v back r keeps = record {
-    follows = stays_by (DetachStep given) (detaching.Reattach key v) (reply.NotDetached back) keeps (λ s fits. (rw fits.detached (false_of _ r.0), r.1, refl));
-    orders = λ l lifo basic told. (refl, rw (ap (λ (d : set.FinSet key_cmp). set.contains d (given.data_of key)) lifo.detached ∙ false_of _ r.0) (lifo_keeps given.reuses old new ok l lifo keeps));
-  }
+  not_detached key v back r kept = unmoved kept (λ s fits. (rw fits.detached (false_of _ r.0), r.1, refl)) (λ l. refl)
+      (λ l lifo. rw (ap (λ (d : set.FinSet key_cmp). set.contains d (given.data_of key)) lifo.detached ∙ false_of _ r.0) refl)
 
-  reattaches_no_memory : (key : K) (v back : V) → RefusesReattach given.reuses old (given.data_of key) v (again.Memory back) → Keeps old new
+  pub reattaches_no_memory : (key : K) (v back : V) → RefusesReattach given.reuses old (given.data_of key) v (again.Memory back) → Keeps old new
       → DetachAnswers (detaching.Reattach key v) (reply.Memory (Some back))
-  reattaches_no_memory key v back r keeps = record {
-    follows = stays_by (DetachStep given) (detaching.Reattach key v) (reply.Memory (Some back)) keeps
-        (λ s fits. (r.0, rw fits.detached r.1, (let promised = fits.promised in let room = r.2 in omega arith), ap Some r.3, refl));
+  reattaches_no_memory key v back r kept = record {
+    follows = by (keeps given.reuses old new ok kept) (λ s fits. (r.0, rw fits.detached r.1, (let promised = fits.promised in let room = r.2 in omega arith), ap Some r.3, refl));
     orders = λ l lifo basic told. absurd (told tt);
   }
 
   -- whatever a reattach returns
-  pub reattached : (key : K) (v : V) (r : Result (Unit {0}) (ReattachError V)) → OnOk r (Reattaches old (given.data_of key) v new)
+  pub reattach_served : (key : K) (v : V) (r : Result (Unit {0}) (ReattachError V)) → OnOk r (Reattaches old (given.data_of key) v new)
       → IfErr r (RefusesReattach given.reuses old (given.data_of key) v) → MayGrow given.reuses old (IsErr r) new
       → DetachAnswers (detaching.Reattach key v) (reattach_reply_of r)
-  reattached key v (Ok done) ok err valid = reattaches key v ok
-  reattached key v (Err (again.NotDetached back)) ok err valid = not_detached key v back err (valid.unchanged refl)
-  reattached key v (Err (again.Memory back)) ok err valid = reattaches_no_memory key v back err (valid.unchanged refl)
+  reattach_served key v (Ok done) ok err valid = reattached key v ok
+  reattach_served key v (Err (again.NotDetached back)) ok err valid = not_detached key v back err (valid.unchanged refl)
+  reattach_served key v (Err (again.Memory back)) ok err valid = reattaches_no_memory key v back err (valid.unchanged refl)

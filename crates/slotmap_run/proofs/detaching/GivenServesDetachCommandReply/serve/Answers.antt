@@ -1,4 +1,4 @@
-use Rattle.slotmap_run.proofs.Steps.{plain, detached, reattached}
+use Rattle.slotmap_run.proofs.Steps.{plain, detached, reattach_served}
 use Rattle.slotmap_run.proofs.detaching.GivenServesDetachCommandReply.serve.Goals as goal
 
 pub returns-in-Plain-clause-step : goal.returns-in-Plain-clause-step
@@ -12,4 +12,4 @@ returns-in-Detach-clause-step g c =
 pub returns-in-Reattach-clause-step : goal.returns-in-Reattach-clause-step
 returns-in-Reattach-clause-step g c =
     let e = c.reattach.ensures in
-    rw (c.in-Reattach.is, c.reattach_reply.ensures) (reattached _ _ _ c.requires.ready.1.3 c.in-Reattach.key c.in-Reattach.value c.reattach.result e.ok e.err e.valid)
+    rw (c.in-Reattach.is, c.reattach_reply.ensures) (reattach_served _ _ _ c.requires.ready.1.3 c.in-Reattach.key c.in-Reattach.value c.reattach.result e.ok e.err e.valid)

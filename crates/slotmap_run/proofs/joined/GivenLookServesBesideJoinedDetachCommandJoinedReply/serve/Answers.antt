@@ -1,77 +1,40 @@
-use Rattle.std.proofs.Common.{Some, None, refl, sym, ap, ◌∙◌, ◌≡◌}
-use Rattle.slotmap_core.specs.Joined.{given_joined, named}
-use Rattle.slotmap_run.proofs.Steps.{keeps_itself}
+use Rattle.std.proofs.Common.{refl}
 use Rattle.slotmap_run.proofs.Joins.{detached, reattached, not_detached, reattaches_no_memory, detaches_no_key, reattaches_no_key}
+use Rattle.slotmap_run.proofs.JoinRuns.{served}
 use Rattle.slotmap_run.proofs.joined.GivenLookServesBesideJoinedDetachCommandJoinedReply.serve.Goals as goal
 
 pub returns-in-Plain-clause-step : goal.returns-in-Plain-clause-step
 returns-in-Plain-clause-step g c =
     let step = c.serve.ensures.step in
-    rw c.in-Plain.is (record { follows = step.follows; same_primary = step.same_primary; same_secondary = step.same_secondary })
+    rw c.in-Plain.is (served (record { step = step.follows.step; lasts = step.follows.lasts }) step.same_primary step.same_secondary)
 
 pub returns-in-Some-clause-step : goal.returns-in-Some-clause-step
 returns-in-Some-clause-step g c =
-    let what = given_joined g.K.Key.data_of g.L.Fn c.args.self.now.look g.M.Primary.REUSES in
-    let told : Some c.in-Some.key ≡ named c.args.maps.now.keys.now.items c.in-Detach.number = sym c.in-Some.is ∙ c.key_named.ensures ∙ ap (λ ks. named ks c.in-Detach.number) c.deref.ensures.value in
-    rw c.in-Detach.is (record {
-      follows = detached what _ _ _ _ c.requires.ready.1.1 c.in-Detach.number c.in-Some.key told c.detach.result
-          c.detach.ensures.value c.detach.ensures.detaches c.detach.ensures.unchanged;
-      same_primary = refl;
-      same_secondary = refl;
-    })
+    let e = c.detach.ensures in
+    rw c.in-Detach.is (served (detached _ _ _ _ c.args.maps.now.keys.now.items c.requires.ready.1.1 c.in-Detach.number c.in-Some.key (cc) c.detach.result e.value e.detaches e.unchanged) refl refl)
 
 pub returns-in-None-clause-step : goal.returns-in-None-clause-step
-returns-in-None-clause-step g c =
-    let what = given_joined g.K.Key.data_of g.L.Fn c.args.self.now.look g.M.Primary.REUSES in
-    let told : None ≡ named c.args.maps.now.keys.now.items c.in-Detach.number = sym c.in-None.is ∙ c.key_named.ensures ∙ ap (λ ks. named ks c.in-Detach.number) c.deref.ensures.value in
-    rw c.in-Detach.is (record { follows = detaches_no_key what _ _ _ _ c.requires.ready.1.1 (keeps_itself _) c.in-Detach.number told; same_primary = refl; same_secondary = refl })
+returns-in-None-clause-step g c = rw c.in-Detach.is (served (detaches_no_key _ _ _ c.args.maps.now.keys.now.items c.requires.ready.1.1 c.in-Detach.number (cc)) refl refl)
 
 pub returns-in-Ok-clause-step : goal.returns-in-Ok-clause-step
 returns-in-Ok-clause-step g c =
-    let what = given_joined g.K.Key.data_of g.L.Fn c.args.self.now.look g.M.Primary.REUSES in
-    let told : Some c.in-Some-key_named.key ≡ named c.args.maps.now.keys.now.items c.in-Reattach.number = sym c.in-Some-key_named.is
-    ∙ c.key_named-in-Reattach.ensures ∙ ap (λ ks. named ks c.in-Reattach.number) c.deref-in-Reattach.ensures.value in
-    rw c.in-Reattach.is (record {
-      follows = reattached what _ _ _ _ c.requires.ready.1.1 c.in-Reattach.number c.in-Some-key_named.key told
-          c.in-Reattach.value c.in-Ok.ensures.ok;
-      same_primary = refl;
-      same_secondary = refl;
-    })
+    rw c.in-Reattach.is (served (reattached _ _ _ _ c.args.maps.now.keys.now.items c.requires.ready.1.1 c.in-Reattach.number c.in-Some-key_named.key (cc)
+    c.in-Reattach.value c.in-Ok.ensures.ok) refl refl)
 
 pub returns-in-Err-NotDetached-clause-step : goal.returns-in-Err-NotDetached-clause-step
 returns-in-Err-NotDetached-clause-step g c =
-    let what = given_joined g.K.Key.data_of g.L.Fn c.args.self.now.look g.M.Primary.REUSES in
-    let told : Some c.in-Some-key_named.key ≡ named c.args.maps.now.keys.now.items c.in-Reattach.number = sym c.in-Some-key_named.is
-    ∙ c.key_named-in-Reattach.ensures ∙ ap (λ ks. named ks c.in-Reattach.number) c.deref-in-Reattach.ensures.value in
-    let r = rw c.in-Err-NotDetached.field-0-is at c.in-Err-NotDetached.ensures.err in
-    rw c.in-Reattach.is (record {
-      follows = not_detached what _ _ _ _ c.requires.ready.1.1 c.in-Reattach.number c.in-Some-key_named.key told
-          c.in-Reattach.value c.in-Err-NotDetached.value (c.in-Err-NotDetached.ensures.valid.unchanged refl) r;
-      same_primary = refl;
-      same_secondary = refl;
-    })
+    let e = c.in-Err-NotDetached.ensures in
+    rw c.in-Reattach.is (served (not_detached _ _ _ _ c.args.maps.now.keys.now.items c.requires.ready.1.1 c.in-Reattach.number c.in-Some-key_named.key (cc)
+    c.in-Reattach.value c.in-Err-NotDetached.value
+    (e.valid.unchanged refl) (rw c.in-Err-NotDetached.field-0-is at e.err)) refl refl)
 
 pub returns-in-Err-Memory-clause-step : goal.returns-in-Err-Memory-clause-step
 returns-in-Err-Memory-clause-step g c =
-    let what = given_joined g.K.Key.data_of g.L.Fn c.args.self.now.look g.M.Primary.REUSES in
-    let told : Some c.in-Some-key_named.key ≡ named c.args.maps.now.keys.now.items c.in-Reattach.number = sym c.in-Some-key_named.is
-    ∙ c.key_named-in-Reattach.ensures ∙ ap (λ ks. named ks c.in-Reattach.number) c.deref-in-Reattach.ensures.value in
-    let r = rw c.in-Err-Memory.field-0-is at c.in-Err-Memory.ensures.err in
-    rw c.in-Reattach.is (record {
-      follows = reattaches_no_memory what _ _ _ _ c.requires.ready.1.1 c.in-Reattach.number c.in-Some-key_named.key told
-          c.in-Reattach.value c.in-Err-Memory.value (c.in-Err-Memory.ensures.valid.unchanged refl) r;
-      same_primary = refl;
-      same_secondary = refl;
-    })
+    let e = c.in-Err-Memory.ensures in
+    rw c.in-Reattach.is (served (reattaches_no_memory _ _ _ _ c.args.maps.now.keys.now.items c.requires.ready.1.1 c.in-Reattach.number c.in-Some-key_named.key (cc)
+    c.in-Reattach.value c.in-Err-Memory.value
+    (e.valid.unchanged refl) (rw c.in-Err-Memory.field-0-is at e.err)) refl refl)
 
 pub returns-in-None-key_named-clause-step : goal.returns-in-None-key_named-clause-step
 returns-in-None-key_named-clause-step g c =
-    let what = given_joined g.K.Key.data_of g.L.Fn c.args.self.now.look g.M.Primary.REUSES in
-    let told : None ≡ named c.args.maps.now.keys.now.items c.in-Reattach.number = sym c.in-None-key_named.is ∙ c.key_named-in-Reattach.ensures
-    ∙ ap (λ ks. named ks c.in-Reattach.number) c.deref-in-Reattach.ensures.value in
-    rw c.in-Reattach.is (record {
-      follows = reattaches_no_key what _ _ _ _ c.requires.ready.1.1
-          (keeps_itself _) c.in-Reattach.number told c.in-Reattach.value;
-      same_primary = refl;
-      same_secondary = refl;
-    })
+    rw c.in-Reattach.is (served (reattaches_no_key _ _ _ c.args.maps.now.keys.now.items c.requires.ready.1.1 c.in-Reattach.number (cc) c.in-Reattach.value) refl refl)
