@@ -10,7 +10,7 @@ use Rattle.slotmap_core.specs.Transition.{Removes, with_value}
 use Rattle.slotmap_core.proofs.IndexLemmas.{from_index, alone_at, NoneBelow-removed, NoneBelow-end, get-remove_other}
 use Rattle.slotmap_core.proofs.Maps.{in_after_remove}
 use Rattle.slotmap_core.proofs.KeyLemmas.{keys_total, exact_keys}
-use Rattle.slotmap_core.proofs.SweepLemmas.{first_entry, Swept, Swept-start, Swept-on, Swept-written, Swept-removed}
+use Rattle.slotmap_core.proofs.SweepLemmas.{first_entry, above_next, Swept, Swept-start, Swept-to, Swept-on, Swept-written, Swept-removed}
 use Rattle.slotmap_core.proofs.LeaveLemmas.{same_live}
 use Rattle.slotmap_core.proofs.ListingLemmas.{remove-insert}
 use Rattle.slotmap_core.proofs.VisitLemmas.{Visits}
@@ -50,29 +50,19 @@ module _ {K V : Type 0} (data_of : K → Key) where
   pub sweep_starts : (m : HopContent V) (next : Option K) → IsHopContent m → IsNextLive data_of m.content 0 next → Sweeping m m 0 next
   sweep_starts m next well comes = record { swept = Swept-start m.content 0 well.valid; valid = well; comes = comes }
 
-  Swept-to : (old now : Content V) (k i : ℕ) → Swept true old now i → Swept true old now (i + k)
-  Swept-to old now zero i swept = let same : i + 0 ≡ i = omega arith in rw same swept
-  Swept-to old now (suc k) i swept = let same : i + 1 + k ≡ i + suc k = omega arith in rw same at (Swept-to old now k (i + 1) (Swept-on old now i swept))
-
   module _ (old now : HopContent V) (i : ℕ) (k : K) (sweep : Sweeping old now i (Some k)) where
-    pub swept_here : Swept true old.content now.content (data_of k).index
-    swept_here =
-        let same : i + ((data_of k).index - i) ≡ (data_of k).index = omega (arith, sweep.comes.1) in
-        rw same at (Swept-to old.content now.content ((data_of k).index - i) i sweep.swept)
+    swept_here : Swept true old.content now.content (data_of k).index
+    swept_here = Swept-to old.content now.content i (data_of k).index sweep.swept sweep.comes.1
 
     -- the next key after a change that keeps the same keys live, except perhaps this one
     comes_after : (new : Content V) (next : Option K) → ((q : Key) → IsLive new q → IsLive now.content q)
         → ((q : Key) → IsLive now.content q → q ≢ data_of k → IsLive new q) → IsNextLive data_of now.content ((data_of k).index + 1) next
         → IsNextLive data_of new ((data_of k).index + 1) next
-    comes_after new None less more comes = λ q there. comes q (less q there)
-    comes_after new (Some n) less more comes =
-        (more (data_of n) comes.0 (λ same. omega (arith, comes.1, ap (λ q. q.index) same)), comes.1, λ q there from. comes.2 q (less q there) from)
+    comes_after new next less more comes = grind (arith, less, more)
 
     -- the next key after a write to the value of this one
     pub comes_written : (w : V) (i' : ℕ) (next : Option K) → IsNextLive data_of (with_value now.content (data_of k) w) i' next → IsNextLive data_of now.content i' next
-    comes_written w i' None comes = λ q there. comes q (same_live now.content (data_of k) w sweep.comes.0 q ∙ there)
-    comes_written w i' (Some n) comes =
-        (sym (same_live now.content (data_of k) w sweep.comes.0 (data_of n)) ∙ comes.0, comes.1, λ q there from. comes.2 q (same_live now.content (data_of k) w sweep.comes.0 q ∙ there) from)
+    comes_written w i' next comes = grind (arith, same_live now.content (data_of k) w sweep.comes.0)
 
     -- the key is removed, perhaps after a write to its value
     removed_to : (was : Content V) (new : HopContent V) (next : Option K) → Swept true old.content was (data_of k).index → IsLive was (data_of k)
@@ -109,9 +99,6 @@ module _ {K V : Type 0} (data_of : K → Key) where
           comes;
     }
 
-    pub none_between : (m : map.FinMap key_cmp V) → ((q : Key) → map.contains_key m q ≡ true → IsLive now.content q) → NoneBelow m i → NoneBelow m (data_of k).index
-    none_between m part above q there = sweep.comes.2 q (part q there) (above q there)
-
   -- the loop so far, with what it says about the keys below its index, and which blocks are to come
   pub record Clearing (old now : HopContent V) (next : Option K) : Type 0 where
     pub index : ℕ
@@ -128,13 +115,13 @@ module _ {K V : Type 0} (data_of : K → Key) where
       → new.blocks ≡ blocks_without now (data_of k) → StaysHop now new
       → Clearing old new next × (map.entries now.content.live ≡ (data_of k, x) ∷ map.entries new.content.live)
   clearing_removed old now new k x next clearing comes value removes blocks stays =
-      let alone = alone_at now.content clearing.sweep.valid.valid (data_of k) (data_of k).index clearing.sweep.comes.0 refl in
-      let above = none_between old now clearing.index k clearing.sweep now.content.live (λ q there. there) clearing.above in
-      let first = first_entry now.content clearing.sweep.valid.valid clearing.index (data_of k) clearing.sweep.comes.2 x clearing.above value ∙ ap (λ m. (data_of k, x) ∷ map.entries m) (sym removes.live) in (
+      let well = clearing.sweep.valid.valid in
+      let least = clearing.sweep.comes in
+      let first = first_entry now.content well clearing.index (data_of k) least.2 x clearing.above value ∙ ap (λ m. (data_of k, x) ∷ map.entries m) (sym removes.live) in (
         record {
           index = (data_of k).index + 1;
           sweep = sweep_removed old now clearing.index k clearing.sweep new next comes removes stays;
-          above = subst (λ m. NoneBelow m ((data_of k).index + 1)) (sym removes.live) (NoneBelow-removed now.content.live (data_of k).index (data_of k) alone above);
+          above = rw removes.live (above_next now.content well clearing.index (data_of k) least.2 least.0 clearing.above);
           blocks = clearing.blocks ∙ ap (blocks_without_all now) (keys_first now.content.live new.content.live (data_of k) x first)
               ∙ blocks_taken now new (data_of k) (map.keys new.content.live) removes blocks;
         },
@@ -145,29 +132,14 @@ module _ {K V : Type 0} (data_of : K → Key) where
   pub after_above : (now new : HopContent V) (k : K) → IsHopContent now → IsNextLive data_of now.content 0 (Some k)
       → Removes now.content (data_of k) new.content → (q : Key) → IsLive new.content q → (data_of k).index < q.index
   after_above now new k well least removes q there =
-      let alone = alone_at now.content well.valid (data_of k) (data_of k).index least.0 refl in
-      let above = NoneBelow-removed now.content.live (data_of k).index (data_of k) alone (λ q there. least.2 q there (omega arith)) in
-      omega (arith, above q (sym (ap (λ m. map.contains_key m q) removes.live) ∙ there))
+      omega (arith, above_next now.content well.valid 0 (data_of k) least.2 least.0 (λ q there. omega arith) q (sym (ap (λ m. map.contains_key m q) removes.live) ∙ there))
 
   -- no live key is below the next one
   pub next_is_least : (old now : HopContent V) (next : Option K) → Clearing old now next → IsNextLive data_of now.content 0 next
-  next_is_least old now None clearing = λ q there. absurd (omega (arith, clearing.sweep.comes q there, clearing.above q there))
-  next_is_least old now (Some k) clearing = (clearing.sweep.comes.0, omega arith, λ q there from. clearing.sweep.comes.2 q there (clearing.above q there))
+  next_is_least old now next clearing = let comes = clearing.sweep.comes in grind (arith, clearing.above)
 
   pub clearing_ends : (old now : HopContent V) → Clearing old now None → now.content.live ≡ map.empty
   clearing_ends old now clearing = NoneBelow-end now.content.live clearing.index clearing.sweep.comes clearing.above
 
   pub clearing_blocks : (old now : HopContent V) → Clearing old now None → now.blocks ≡ blocks_without_all old (map.keys old.content.live)
   clearing_blocks old now clearing = sym (clearing.blocks ∙ ap (blocks_without_all now) (keys_none now.content.live (clearing_ends old now clearing)))
-
-  -- the visits up to the next key
-  pub Visits-here : (old : HopContent V) (xs : List (Visit K V)) (i : ℕ) (k : K) (now : HopContent V) → IsNextLive data_of now.content i (Some k)
-      → Visits data_of old.content.live xs (from_index i old.content.live) now.content.live
-      → Visits data_of old.content.live xs (from_index (data_of k).index old.content.live) now.content.live
-  Visits-here old xs i k now comes visits = Keyed-jump data_of old.content.live xs i (data_of k).index now.content.live visits comes.1 comes.2
-
-  -- no key is left to visit
-  pub Visits-end : (old : HopContent V) (xs : List (Visit K V)) (i : ℕ) (now : HopContent V) → IsNextLive data_of now.content i None
-      → Visits data_of old.content.live xs (from_index i old.content.live) now.content.live
-      → Visits data_of old.content.live xs map.empty now.content.live
-  Visits-end old xs i now comes visits = Keyed-done data_of old.content.live xs i now.content.live visits comes
