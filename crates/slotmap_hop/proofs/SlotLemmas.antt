@@ -26,7 +26,7 @@ use Rattle.slotmap_hop.specs.Slots.{links_in, place_in, layout, places_of, next_
 use Rattle.slotmap_hop.proofs.Chain.{occurs-head}
 use Rattle.slotmap_hop.proofs.BlockLemmas.{clash}
 use Rattle.slotmap_hop.proofs.Circle.{bounded_by_length, circle_block}
-use Rattle.slotmap_hop.proofs.SlotReads.{length-layout, length-places, slot_within, flag_at, place_read, free_read}
+use Rattle.slotmap_hop.proofs.SlotReads.{length-layout, length-places, slot_cases}
 use Rattle.slotmap_hop.proofs.Taking.{first_block, offer_is_end, offer_is_back}
 use Rattle.slotmap_hop.proofs.Maximal.{maximal}
 use Rattle.slotmap_hop.proofs.StackOrder.{IsStacked-first, untold, IsContent-untold}
@@ -60,30 +60,15 @@ none_vacant es [] linked none i here =
 
 -- slots as links and as places
 
-module _ {V : Type 0} where
-  vacant_state : (v : ℕ) (s : State V) (n : ℕ) → place_in v s ≡ Vacant n → is_vacant (links_in s) ≡ true
-  vacant_state v s n is = grind arith
-
 module _ {V : Type 0} (slots : List (Slot V)) (i : ℕ) where
   pub vacant_place : vacant_at (layout slots) i ≡ true → (n : ℕ) × (slice_get (places_of slots) i ≡ Some (Vacant n))
-  vacant_place vacant =
-      let inside = slot_within slots i vacant in
-      let d = (found_within slots i inside).0 in
-      let is = free_read slots i d vacant in
-      ((get_or slots i d).version + 1, place_read slots i d inside ∙ ap (λ s. Some (place_in (get_or slots i d).version s)) is.1)
+  vacant_place vacant = grind (arith, slot_cases slots i)
 
   pub place_vacant : (n : ℕ) → slice_get (places_of slots) i ≡ Some (Vacant n) → vacant_at (layout slots) i ≡ true
-  place_vacant n found =
-      let inside : i < length slots = omega (arith, slice_get_within (places_of slots) i (Vacant n) found, length-places slots) in
-      let d = (found_within slots i inside).0 in
-      flag_at slots i d inside ∙ vacant_state (get_or slots i d).version (get_or slots i d).state n (same_Some _ _ (sym (place_read slots i d inside) ∙ found))
+  place_vacant n found = grind (arith, slot_cases slots i)
 
   pub place_not_vacant : (p : Place V) → slice_get (places_of slots) i ≡ Some p → ((n : ℕ) → p ≢ Vacant n) → vacant_at (layout slots) i ≡ false
-  place_not_vacant p found other =
-      elim (cases_Bool (vacant_at (layout slots) i)) [
-        | inl vacant ↦ let at = vacant_place vacant in absurd (other at.0 (same_Some p (Vacant at.0) (sym found ∙ at.1)))
-        | inr not_vacant ↦ not_vacant
-      ]
+  place_not_vacant p found other = grind (arith, slot_cases slots i, other)
 
 pub counts_are : {V : Type 0} (slots : List (Slot V)) → vacant_at (layout slots) 0 ≡ true → (i : ℕ) → ((i == 0) || map.contains_key (next (places_of slots)) i) ≡ vacant_at (layout slots) i
 counts_are slots sentinel zero = sym sentinel
