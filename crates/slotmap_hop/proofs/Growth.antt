@@ -24,7 +24,7 @@ use Rattle.slotmap_hop.proofs.Taking.{HasBlockList-pushed, blocks_pushed, shorte
 use Rattle.slotmap_hop.proofs.StackOrder.{IsStacked-first, length_removed, untold, Inserts-untold, Removes-untold}
 use Rattle.slotmap_core.proofs.GatherLemmas.{at_set, at_push}
 use Rattle.slotmap_core.proofs.ListLemmas.{found_within}
-use Rattle.slotmap_hop.proofs.SlotLemmas.{taken_slots, back_vacant, empty_stack, in_order, ordered_map, content_is}
+use Rattle.slotmap_hop.proofs.SlotLemmas.{taken_slots, vacant_slot, back_vacant, empty_stack, in_order, ordered_map, content_is}
 
 module _ {V : Type 0} (slots : List (Slot V)) (vacant elems : ℕ) (sound : IsSound slots vacant elems) (new : List (Slot V)) where
   -- one place changes; the new stack and both counts are given
@@ -98,19 +98,8 @@ module _ {V : Type 0} (slots : List (Slot V)) (vacant elems : ℕ) (sound : IsSo
 
   pub back_slot : Back
   back_slot =
-      let flag = back_vacant slots vacant elems sound in
-      let inside = slot_within slots (next_place slots) flag in
-      let found = found_within slots (next_place slots) inside in
-      let same : get_or slots (next_place slots) found.0 ≡ found.0 = get_or_from_slice_get slots (next_place slots) found.0 found.0 found.1 in
-      let is = free_read slots (next_place slots) found.0 flag in
-      let place = place_at slots (next_place slots) found.0 found.1 ∙ ap (λ s. Some (place_in found.0.version s)) (ap (λ (s : Slot V). s.state) (sym same) ∙ is.1) in
-      record {
-        slot = found.0;
-        there = found.1;
-        within = inside;
-        place = place;
-        version = sound.stacked.versions (next_place slots) (Vacant (found.0.version + 1)) place;
-      }
+      let s = vacant_slot slots (next_place slots) (back_vacant slots vacant elems sound) in
+      record { slot = s.0; there = s.1; within = s.2; place = s.3; version = sound.stacked.versions (next_place slots) (Vacant (s.0.version + 1)) s.3 }
 
   pub offer-back : 0 < next_place slots → offer_at (places_of slots) (next_place slots) ≡ key (next_place slots) (back_slot.slot.version + 1)
   offer-back some = grind (arith, back_slot.place)
@@ -169,12 +158,7 @@ module _ {V : Type 0} (slots : List (Slot V)) (vacant elems : ℕ) (sound : IsSo
 
   -- an insert adds a place just if none is vacant
   pub none_offered : vacant ≡ 0 → next_place slots ≡ 0
-  none_offered none = elim (cases_lt 0 (next_place slots)) [
-    | inl some ↦
-        let on = sound.stacked.complete (next_place slots) (back_slot.slot.version + 1) some back_slot.place in
-        absurd (subst (λ vs. IsOn vs (next_place slots)) (nil_from_length sound.stack (sound.counted ∙ none)) on)
-    | inr least ↦ omega arith
-  ]
+  none_offered none = grind (arith, length_removed sound.stack (next_place slots), sound.stacked.complete (next_place slots) (back_slot.slot.version + 1), back_slot.place, sound.counted)
 
   pub some_offered : vacant ≢ 0 → 0 < next_place slots
-  some_offered some = elim (cases_lt 0 (next_place slots)) [ inl back ↦ back | inr least ↦ absurd (some (none_left (omega arith))) ]
+  some_offered some = grind (arith, none_left)

@@ -25,17 +25,11 @@ use Rattle.slotmap_hop.proofs.Walking.{pairs_from, retired_from, past_block, sta
 module _ {V : Type 0} where
   set-retired_from : (j : ℕ) (ps : List (Place V)) → set.from_list (retired_from j ps) ≡ gather (set.empty {R = key_cmp}) (λ s e. set.insert s e.0) retired_entry j ps
   set-retired_from j [] = refl
-  set-retired_from j (Live version value ∷ ps) = set-retired_from (j + 1) ps
-  set-retired_from j (Detached version ∷ ps) = set-retired_from (j + 1) ps
-  set-retired_from j (Vacant n ∷ ps) = set-retired_from (j + 1) ps
-  set-retired_from j (Retired ∷ ps) = ap (λ s. set.insert s (key j last_version)) (set-retired_from (j + 1) ps)
+  set-retired_from j (p ∷ ps) = grind (arith, set-retired_from (j + 1) ps)
 
   len-retired_from : (j : ℕ) (ps : List (Place V)) → set.len (gather (set.empty {R = key_cmp}) (λ s e. set.insert s e.0) retired_entry j ps) ≡ length (retired_from j ps)
   len-retired_from j [] = set.len-empty key_cmp
-  len-retired_from j (p ∷ ps) = by p (len-add detached_laws (λ k. k.index) (retired_entry {V = V}) retired_fits j p ps) (len-retired_from (j + 1) ps)
-    where
-      by : (p : Place V) {n m : ℕ} → n ≡ cond (is_some (retired_entry j p)) 1 0 + m → m ≡ length (retired_from (j + 1) ps) → n ≡ length (retired_from j (p ∷ ps))
-      by p more rest = grind arith
+  len-retired_from j (p ∷ ps) = grind (arith, len-add detached_laws (λ k. k.index) (retired_entry {V = V}) retired_fits j p ps, len-retired_from (j + 1) ps)
 
   -- they are the retired keys, each once
   pub retired-listed : (ps : List (Place V)) → (set.from_list (retired_from 0 ps) ≡ retired ps) × (length (retired_from 0 ps) ≡ set.len (retired ps))

@@ -61,6 +61,9 @@ none_vacant es [] linked none i here =
 -- slots as links and as places
 
 module _ {V : Type 0} (slots : List (Slot V)) (i : ℕ) where
+  pub vacant_slot : vacant_at (layout slots) i ≡ true → (s : Slot V) × (slice_get slots i ≡ Some s) × (i < length slots) × (slice_get (places_of slots) i ≡ Some (Vacant (s.version + 1)))
+  vacant_slot vacant = grind (arith, slot_cases slots i)
+
   pub vacant_place : vacant_at (layout slots) i ≡ true → (n : ℕ) × (slice_get (places_of slots) i ≡ Some (Vacant n))
   vacant_place vacant = grind (arith, slot_cases slots i)
 

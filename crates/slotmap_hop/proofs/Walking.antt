@@ -10,6 +10,7 @@ use Rattle.std.specs.FinMap as map
 use Rattle.slotmap_core.specs.Key.{Key, last_version}
 use Rattle.slotmap_core.specs.Places.{Place, Live, Detached, Vacant, Retired, live, live_entry, retired_entry}
 use Rattle.slotmap_core.specs.Gather.{gather}
+use Rattle.slotmap_core.specs.StackMap.{HasVersion}
 use Rattle.slotmap_core.proofs.ContentLemmas.{live_at}
 use Rattle.slotmap_core.proofs.PlacesLemmas.{key}
 use Rattle.slotmap_hop.specs.declared.links.Links.{Links}
@@ -17,12 +18,12 @@ use Rattle.slotmap_hop.specs.declared.links.Slot.{Slot}
 use Rattle.slotmap_hop.specs.declared.links.State.{State}
 use Rattle.slotmap_hop.specs.declared.links.State.TheVariants.{Occupied, Free, UsedUp}
 use Rattle.slotmap_hop.specs.Blocks.{Begins, IsBlock}
-use Rattle.slotmap_hop.specs.Links.{vacant_at, end_at}
+use Rattle.slotmap_hop.specs.Links.{vacant_at, links_at, end_at}
 use Rattle.slotmap_hop.specs.Slots.{place_in, layout, places_of}
 use Rattle.slotmap_hop.specs.Walk.{pairs_left, retired_left, StandsAt, CanGoOn, FindsNone, FindsSlot, ReadsOnTheWay}
 use Rattle.slotmap_hop.proofs.BlockLemmas.{clash, begins_after, back_of}
 use Rattle.slotmap_hop.proofs.Circle.{bounded_by_length}
-use Rattle.slotmap_hop.proofs.SlotReads.{length-places, slot_within, place_at, free_found}
+use Rattle.slotmap_hop.proofs.SlotReads.{length-places, slot_cases, slot_within, place_at}
 use Rattle.slotmap_hop.proofs.SlotLemmas.{vacant_place, place_not_vacant, slots_fit}
 
 module _ {V : Type 0} where
@@ -36,10 +37,7 @@ module _ {V : Type 0} where
   -- the retired places from j on aren't below j
   above : (i j : ℕ) (ps : List (Place V)) → i < j → All (λ k. i < k.index) (retired_from j ps)
   above i j [] low = All-nil (λ k. i < k.index)
-  above i j (Live version value ∷ ps) low = above i (j + 1) ps (omega arith)
-  above i j (Detached version ∷ ps) low = above i (j + 1) ps (omega arith)
-  above i j (Vacant n ∷ ps) low = above i (j + 1) ps (omega arith)
-  above i j (Retired ∷ ps) low = All-cons (λ k. i < k.index) (key j last_version) (retired_from (j + 1) ps) low (above i (j + 1) ps (omega arith))
+  above i j (p ∷ ps) low = let rest = above i (j + 1) ps (omega arith) in grind (arith, All-cons (λ k. i < k.index) (key j last_version) (retired_from (j + 1) ps) low rest)
 
 module _ {V : Type 0} (slots : List (Slot V)) where
   -- a step over a place, where a list is made of the places from it on
@@ -75,10 +73,6 @@ module _ {V : Type 0} (slots : List (Slot V)) where
 
   pub stands_on : (i j : ℕ) → StandsAt slots i → (vacant_at (layout slots) j ≡ true → Begins (vacant_at (layout slots)) j) → StandsAt slots j
   stands_on i j stands front = record { vacant = stands.vacant; elems = stands.elems; sound = stands.sound; at_front = front }
-
-  -- a live key is at a live place
-  not_here : (q : Key) (p : Place V) → map.contains_key (live (places_of slots)) q ≡ true → slice_get (places_of slots) q.index ≡ Some p → ((v : ℕ) (x : V) → p ≢ Live v x) → ⊥
-  not_here q p there is other = let at = live_at (places_of slots) q there in other q.version at.0 (same_Some p (Live q.version at.0) (sym is ∙ at.1))
 
 module _ {V : Type 0} (slots : List (Slot V)) (reads0 start : ℕ) where
   -- on the way from a place to the next live one: no live key was passed
@@ -151,7 +145,7 @@ module _ {V : Type 0} (slots : List (Slot V)) (reads0 start : ℕ) where
     pub way_hops : (links : Links) → s.state ≡ Free links → Hops reads place links
     way_hops links is =
         let v = vacant_at (layout slots) in
-        let free = free_found slots place s links at.found is in
+        let free : (vacant_at (layout slots) place ≡ true) × (links_at (layout slots) place ≡ links) = grind (arith, slot_cases slots place, at.found) in
         let back : links.other_end ≡ end_at (layout slots) place = sym (ap (λ (l : Links). l.other_end) free.1) in
         let block : IsBlock v place links.other_end = rw back (block_here slots place at.way.stands free.0) in
         let past = past_block slots place links.other_end block in
@@ -160,12 +154,7 @@ module _ {V : Type 0} (slots : List (Slot V)) (reads0 start : ℕ) where
           on = record {
             stands = stands_on slots place (links.other_end + 1) at.way.stands (λ again. clash v (links.other_end + 1) again block.ends);
             same = at.way.same ∙ past.0;
-            none = λ q there from. elim (cases_lt links.other_end q.index) [
-              | inl beyond ↦ omega arith
-              | inr within ↦
-                  let is_vacant = vacant_place slots q.index (block.inside q.index (at.way.none q there from) (omega arith)) in
-                  absurd (not_here slots q (Vacant is_vacant.0) there is_vacant.1 (λ v x e. absurd (cc)))
-            ];
+            none = λ q there from. (let live = live_at (places_of slots) q there in grind (arith, at.way.none q there from, block.inside q.index, slot_cases slots q.index));
             gone = at.way.gone;
             still = at.way.still ∙ ap (λ ks. at.way.gone ++ ks) past.1;
             below = All-weaker (λ k. k.index < place) (λ k. k.index < links.other_end + 1) (λ k low. omega (arith, block.ordered)) at.way.gone at.way.below;
@@ -179,18 +168,18 @@ module _ {V : Type 0} (slots : List (Slot V)) (reads0 start : ℕ) where
           within = slot_within slots links.other_end (block.inside links.other_end block.ordered (omega arith));
         }
 
+    here : (slice_get (places_of slots) place ≡ Some (place_in s.version s.state)) × HasVersion (place_in s.version s.state) × ((v : ℕ) → place_in s.version s.state ≢ Detached v)
+    here = let is = place_at slots place s at.found in (is, at.way.stands.sound.stacked.versions place _ is, λ v e. at.way.stands.sound.none_detached place v (is ∙ ap Some e))
+
     -- a slot that is neither live nor vacant is retired, and is passed
     pub way_passes : s.version % 2 ≢ 1 → ((links : Links) → s.state ≢ Free links) → OnTheWay (reads + 1) (place + 1)
     way_passes even other =
-        let spent = retired s.version s.state even other (place_at slots place s at.found) in
+        let spent : slice_get (places_of slots) place ≡ Some Retired = grind (arith, here, other) in
         let more = length-append at.way.gone (key place last_version ∷ []) in
         record {
           stands = stands_on slots place (place + 1) at.way.stands (λ _. begins_after (vacant_at (layout slots)) place (place_not_vacant slots place Retired spent (λ n e. absurd (cc))));
           same = at.way.same ∙ left-on slots pairs_from place Retired spent;
-          none = λ q there from. elim (cases_eq place q.index) [
-            | inl same ↦ absurd (not_here slots q Retired there (ap (slice_get (places_of slots)) (sym same) ∙ spent) (λ v x e. absurd (cc)))
-            | inr other ↦ omega (arith, at.way.none q there from)
-          ];
+          none = λ q there from. (let live = live_at (places_of slots) q there in grind (arith, at.way.none q there from));
           gone = at.way.gone ++ key place last_version ∷ [];
           still = at.way.still ∙ ap (λ ks. at.way.gone ++ ks) (left-on slots retired_from place Retired spent)
               ∙ sym (append_assoc at.way.gone (key place last_version ∷ []) (retired_left slots (place + 1)));
@@ -203,18 +192,12 @@ module _ {V : Type 0} (slots : List (Slot V)) (reads0 start : ℕ) where
           begun = omega (arith, at.way.begun);
           before = at.way.before;
         }
-      where
-        retired : (v : ℕ) (st : State V) → v % 2 ≢ 1 → ((links : Links) → st ≢ Free links) → slice_get (places_of slots) place ≡ Some (place_in v st) → slice_get (places_of slots) place ≡ Some Retired
-        retired v (Occupied value) even other is = absurd (even (at.way.stands.sound.stacked.versions place (Live v value) is).1)
-        retired v (Free links) even other is = absurd (other links refl)
-        retired zero UsedUp even other is = is
-        retired (suc v) UsedUp even other is = absurd (at.way.stands.sound.none_detached place (suc v) is)
 
     -- a slot of an odd version is live: it is what the search looks for
     pub way_finds : s.version % 2 ≡ 1 → FindsSlot slots start place s × ReadsOnTheWay slots reads0 start (reads + 1) place
     way_finds odd =
-        let live = occupied s.version s.state odd (place_at slots place s at.found) in
-        let there = place_at slots place s at.found ∙ ap (λ st. Some (place_in s.version st)) live.1 in
+        let live : (x : V) × (s.state ≡ Occupied x) = grind (arith, here) in
+        let there = here.0 ∙ ap (λ st. Some (place_in s.version st)) live.1 in
         let still = at.way.still ∙ ap (λ ks. at.way.gone ++ ks) (left-on slots retired_from place (Live s.version live.0) there) in (
           record {
             value = live.0;
@@ -231,9 +214,3 @@ module _ {V : Type 0} (slots : List (Slot V)) (reads0 start : ℕ) where
             passed = omega (arith, at.way.passed);
           },
         )
-      where
-        occupied : (v : ℕ) (st : State V) → v % 2 ≡ 1 → slice_get (places_of slots) place ≡ Some (place_in v st) → (x : V) × (st ≡ Occupied x)
-        occupied v (Occupied value) odd is = (value, refl)
-        occupied v (Free links) odd is = absurd (omega (arith, odd, (at.way.stands.sound.stacked.versions place (Vacant (v + 1)) is).1))
-        occupied zero UsedUp odd is = absurd (omega (arith, odd))
-        occupied (suc v) UsedUp odd is = absurd (at.way.stands.sound.none_detached place (suc v) is)
