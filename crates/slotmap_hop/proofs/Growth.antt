@@ -1,16 +1,14 @@
 -- What an insert makes of sound slots, and what stays when one place changes.
-use Rattle.std.proofs.Common.{⊎_elim, ◌≡◌, ◌≢◌, inl, inr, ℕ, ◌+◌, ◌-◌, ◌^◌, ◌<◌, ◌≤◌, List, []}
-use Rattle.std.proofs.Common.{◌∷◌, ◌++◌, length, set, slice_get, get_or, Some, None, sym, ap, subst, ◌∙◌, arith}
+use Rattle.std.proofs.Common.{⊎_elim, ◌≡◌, ◌≢◌, ℕ, ◌+◌, ◌-◌, ◌^◌, ◌<◌, ◌≤◌, List, []}
+use Rattle.std.proofs.Common.{◌∷◌, ◌++◌, length, set, slice_get, Some, None, sym, ap, subst, ◌∙◌, arith}
 use Rattle.std.proofs.Common.{min}
-use Rattle.std.proofs.lemmas.Bool.{cases_lt}
-use Rattle.std.proofs.lemmas.Option.{get_or_from_slice_get}
-use Rattle.std.proofs.lemmas.List.{map-append, nil_from_length}
+use Rattle.std.proofs.lemmas.List.{map-append}
 use Rattle.std.specs.FinMap as map
 use Rattle.slotmap_core.specs.Key.{Key}
 use Rattle.slotmap_core.specs.Content.{Content, most}
 use Rattle.slotmap_core.specs.Transition.{Removes, Inserts}
 use Rattle.slotmap_core.specs.Places.{Place, Live, Detached, Vacant, live, detached, retired, next, left_by}
-use Rattle.slotmap_core.specs.StackMap.{content, taken, filled, IsOn, IsVersion, IsStacked}
+use Rattle.slotmap_core.specs.StackMap.{content, taken, filled, IsVersion, IsStacked}
 use Rattle.slotmap_core.proofs.PlacesLemmas.{key, len-live-set, len-live-push}
 use Rattle.slotmap_core.proofs.StackLemmas.{IsStacked-filled, IsStacked-pushed}
 use Rattle.slotmap_core.proofs.StepLemmas.{removes, inserts}
@@ -19,11 +17,10 @@ use Rattle.slotmap_hop.specs.declared.links.State.TheVariants.{Occupied}
 use Rattle.slotmap_hop.specs.Blocks.{shorter}
 use Rattle.slotmap_hop.specs.Links.{removed, blocks_of, HasBlockList}
 use Rattle.slotmap_hop.specs.Slots.{links_in, place_in, layout, places_of, next_place, offer_at, hop_content, IsSound}
-use Rattle.slotmap_hop.proofs.SlotReads.{length-layout, length-places, slot_within, place_at, free_read}
+use Rattle.slotmap_hop.proofs.SlotReads.{length-layout, length-places}
 use Rattle.slotmap_hop.proofs.Taking.{HasBlockList-pushed, blocks_pushed, shorter_none}
 use Rattle.slotmap_hop.proofs.StackOrder.{IsStacked-first, length_removed, untold, Inserts-untold, Removes-untold}
 use Rattle.slotmap_core.proofs.GatherLemmas.{at_set, at_push}
-use Rattle.slotmap_core.proofs.ListLemmas.{found_within}
 use Rattle.slotmap_hop.proofs.SlotLemmas.{taken_slots, vacant_slot, back_vacant, empty_stack, in_order, ordered_map, content_is}
 
 module _ {V : Type 0} (slots : List (Slot V)) (vacant elems : ℕ) (sound : IsSound slots vacant elems) (new : List (Slot V)) where

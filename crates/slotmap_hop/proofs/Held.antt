@@ -1,5 +1,5 @@
 -- What calls know of a map's slots, by what the map holds.
-use Rattle.std.proofs.Common.{◌≡◌, ◌≢◌, ℕ, ◌+◌, ◌-◌, ◌<◌, List, length, set, get_or, Some, vec_capacity, refl, sym, ap, subst, ◌∙◌, arith}
+use Rattle.std.proofs.Common.{◌≡◌, ◌≢◌, ℕ, ◌+◌, ◌-◌, ◌^◌, ◌<◌, List, length, set, get_or, Some, vec_capacity, refl, sym, ap, subst, ◌∙◌, arith}
 use Rattle.std.specs.Vec.{with_items}
 use Rattle.std.specs.FinMap as map
 use Rattle.std.proofs.lemmas.List.{with_items_is}
@@ -11,16 +11,14 @@ use Rattle.slotmap_core.specs.StackMap.{taken}
 use Rattle.slotmap_core.proofs.PlacesLemmas.{key}
 use Rattle.slotmap_core.proofs.ListLemmas.{same_read}
 use Rattle.slotmap_hop.specs.declared.HopSlotMap.TheInside.{Inside}
-use Rattle.slotmap_hop.specs.declared.links.Links.{Links}
 use Rattle.slotmap_hop.specs.declared.links.Slot.{Slot}
 use Rattle.slotmap_hop.specs.Blocks.{vacated}
-use Rattle.slotmap_hop.specs.Links.{vacant_at, links_at, blocks_of, HasBlockList}
+use Rattle.slotmap_hop.specs.Links.{vacant_at, blocks_of, HasBlockList}
 use Rattle.slotmap_hop.specs.HopContent.{HopContent, IsHopContent, StaysHop, blocks_without}
 use Rattle.slotmap_hop.specs.Slots.{layout, places_of, value_at, next_place, hop_content, IsSound}
-use Rattle.slotmap_hop.proofs.SlotLemmas.{valid, same_length, key_is, slots_fit}
-use Rattle.slotmap_hop.proofs.Growth.{back_slot, has_room, none_offered, some_offered, offer-end, offer-back, sound-filled, inserts-filled}
+use Rattle.slotmap_hop.proofs.SlotLemmas.{valid, same_length, key_is, slots_fit, taken_slots}
+use Rattle.slotmap_hop.proofs.Growth.{back_slot, has_room, none_left, none_offered, some_offered, offer-end, offer-back, sound-filled, inserts-filled}
 use Rattle.slotmap_hop.proofs.LiveSlots.{Present, present, value_is, sound-freed, removes-freed, blocks-freed, sound-used_up, removes-used_up, blocks-used_up}
-use Rattle.slotmap_hop.proofs.Taking.{read_back}
 
 module _ {K V : Type 0} (m : Inside K V) {now : HopContent V} (view : hop_content m.slots.items (vec_capacity m.slots - 1) ≡ now) (sound : IsSound m.slots.items m.vacant_count m.live_count) where
   pub well_formed : IsHopContent now
@@ -79,28 +77,37 @@ module _ {K V : Type 0} (m : Inside K V) {now : HopContent V} (view : hop_conten
         took (Vacant (v + 1 + 1)) (m.vacant_count + 1) after (sound-freed _ _ _ sound i v _ found.place new other list after)
         (removes-freed _ _ _ sound i v _ found.place new other (vec_capacity m.slots - 1) after) (blocks-freed _ _ _ sound i v _ found.place new other (vec_capacity m.slots - 1) joined)
 
-  -- the key that is offered if no slot is vacant
-  pub offered_end : m.vacant_count ≡ 0 → now.content.offer ≡ key (length m.slots.items) 1
-  offered_end none = ap (λ m. m.content.offer) (sym view) ∙ offer-end _ _ _ sound (none_offered _ _ _ sound none)
+  -- the place of the next insert if no slot is vacant: a new one
+  pub record AtEnd : Type 0 where
+    pub none : next_place m.slots.items ≡ 0
+    pub below : taken (places_of m.slots.items) < most
+    pub fits : length m.slots.items + 1 < 2 ^ 32
+    pub holds : length m.slots.items < vec_capacity m.slots
+    pub is_key : IsKey (key (length m.slots.items) 1)
+    pub offers : now.content.offer ≡ key (length m.slots.items) 1
 
-  -- the place of the next insert, if a slot is vacant, as calls read it
-  module _ (some : m.vacant_count ≢ 0) (a b : List (Slot V)) (front block : Links) (seen_a : a ≡ m.slots.items) (seen_b : b ≡ m.slots.items)
-      (is_front : front ≡ links_at (layout a) 0) (is_block : block ≡ links_at (layout b) front.next) where
-    pub back_is : block.other_end ≡ next_place m.slots.items
-    back_is = read_back (layout m.slots.items) (layout a) (layout b) front block (ap layout seen_a) (ap layout seen_b) is_front is_block
+  pub at_end : m.vacant_count ≡ 0 → 0 < now.content.room → AtEnd
+  at_end none room =
+      let held = held_room room in
+      let at = none_offered _ _ _ sound none in
+      let fits : length m.slots.items + 1 < 2 ^ 32 = omega (arith, held.0, none_left _ _ _ sound at, taken_slots _ _ _ sound) in
+      let offers = ap (λ m. m.content.offer) (sym view) ∙ offer-end _ _ _ sound at in
+      record { none = at; below = held.0; fits = fits; holds = omega (arith, held.1, m.slots.ok.0, taken_slots _ _ _ sound); is_key = key_is fits (omega arith, refl); offers = offers }
 
-    pub back_within : block.other_end < length m.slots.items
-    back_within = omega (arith, back_is, (back_slot _ _ _ sound).within)
+  -- the place of the next insert, if a slot is vacant, and what calls read there
+  module _ (some : m.vacant_count ≢ 0) {place : ℕ} (is : place ≡ next_place m.slots.items) where
+    pub back_within : place < length m.slots.items
+    back_within = omega (arith, is, (back_slot _ _ _ sound).within)
 
-    module _ (read : Slot V) (is_read : read ≡ get_or m.slots.items block.other_end read) where
+    module _ {read : Slot V} (is_read : read ≡ get_or m.slots.items place read) where
       read_is : read ≡ (back_slot _ _ _ sound).slot
-      read_is = let back = back_slot _ _ _ sound in same_read m.slots.items block.other_end read back.slot is_read (rw back_is back.there)
+      read_is = let back = back_slot _ _ _ sound in same_read m.slots.items place read back.slot is_read (rw is back.there)
 
-      pub back_key : IsKey (key block.other_end (read.version + 1))
+      pub back_key : IsKey (key place (read.version + 1))
       back_key = rw read_is (key_is (omega (arith, back_within, slots_fit _ _ _ sound)) (back_slot _ _ _ sound).version)
 
-      pub offered_back : now.content.offer ≡ key block.other_end (read.version + 1)
-      offered_back = rw (back_is, read_is) (ap (λ m. m.content.offer) (sym view) ∙ offer-back _ _ _ sound (some_offered _ _ _ sound some))
+      pub offered_back : now.content.offer ≡ key place (read.version + 1)
+      offered_back = rw (is, read_is) (ap (λ m. m.content.offer) (sym view) ∙ offer-back _ _ _ sound (some_offered _ _ _ sound some))
 
       -- it was filled, and the vector has these slots now
       pub record Filled (x : V) (new : List (Slot V)) : Type 0 where
@@ -109,11 +116,11 @@ module _ {K V : Type 0} (m : Inside K V) {now : HopContent V} (view : hop_conten
         pub valid : StaysHop now (hop_content (with_items m.slots new).items (vec_capacity m.slots - 1))
 
       pub filled : (x : V) (given new : List (Slot V)) → given ≡ m.slots.items → 0 < now.content.room → HasBlockList (layout new)
-          → places_of new ≡ set (places_of given) block.other_end (Live (read.version + 1) x) → Filled x new
+          → places_of new ≡ set (places_of given) place (Live (read.version + 1) x) → Filled x new
       filled x given new seen room list places =
           let c = vec_capacity m.slots - 1 in
           let back = back_slot _ _ _ sound in
-          let after : places_of new ≡ set (places_of m.slots.items) (next_place m.slots.items) (Live (back.slot.version + 1) x) = places ∙ rw (seen, back_is, read_is) refl in
+          let after : places_of new ≡ set (places_of m.slots.items) (next_place m.slots.items) (Live (back.slot.version + 1) x) = places ∙ rw (seen, is, read_is) refl in
           let size = same_length _ _ _ _ after in
           let items = with_items_is m.slots new (size ∙ sym m.slots.ok.0) in
           let at = some_offered _ _ _ sound some in

@@ -1,12 +1,12 @@
 -- What an iterator that skips blocks has yet to yield, at its start and after each step.
-use Rattle.std.proofs.Common.{◌≡◌, ℕ, ◌+◌, ◌-◌, true, List, [], ◌∷◌, length, drop, set, ◌∙◌, cond, is_some, refl, sym, ap, subst, arith}
+use Rattle.std.proofs.Common.{◌≡◌, ℕ, ◌+◌, ◌-◌, true, List, [], ◌∷◌, length, drop, set, ◌∙◌, refl, sym, ap, subst, arith}
 use Rattle.std.proofs.lemmas.List.{nil_from_length, drop-set-lt}
 use Rattle.std.specs.FinMap as map
 use Rattle.std.specs.FinSet as set
-use Rattle.slotmap_core.specs.Key.{key_cmp, last_version}
-use Rattle.slotmap_core.specs.Places.{Place, Live, Detached, Vacant, Retired, live, retired, retired_entry}
+use Rattle.slotmap_core.specs.Key.{key_cmp}
+use Rattle.slotmap_core.specs.Places.{Place, Live, Retired, live, retired, retired_entry}
 use Rattle.slotmap_core.specs.Gather.{gather}
-use Rattle.slotmap_core.proofs.PlacesLemmas.{key, retired_fits}
+use Rattle.slotmap_core.proofs.PlacesLemmas.{retired_fits}
 use Rattle.slotmap_core.proofs.MapLaws.{detached_laws}
 use Rattle.slotmap_core.proofs.GatherLemmas.{len-add}
 use Rattle.slotmap_core.proofs.WalkLemmas.{entries-live}

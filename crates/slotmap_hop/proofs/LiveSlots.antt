@@ -1,31 +1,29 @@
 -- The slot of a live key: what a look-up, a removal or a write knows of it, and makes of it.
-use Rattle.std.proofs.Common.{◌≡◌, ◌≢◌, ℕ, zero, suc, ◌+◌, ◌-◌, ◌^◌, ◌<◌, ◌≤◌, true, false, cond, nat_eq, ◌==◌, List}
+use Rattle.std.proofs.Common.{◌≡◌, ◌≢◌, ℕ, ◌+◌, ◌-◌, ◌^◌, ◌<◌, ◌≤◌, true, false, cond, nat_eq, ◌==◌, List}
 use Rattle.std.proofs.Common.{◌∷◌, length, set, slice_get, get_or, Some, None, is_some, sym, ap, subst, ◌∙◌, arith, eq-eqb}
-use Rattle.std.proofs.Common.{ne_eqb, min}
+use Rattle.std.proofs.Common.{ne_eqb}
 use Rattle.std.proofs.lemmas.Bool.Decides.{nat_tests}
-use Rattle.std.proofs.lemmas.Option.{slice_get_within, slice_get_past, same_Some, get_or_from_slice_get}
+use Rattle.std.proofs.lemmas.Option.{slice_get_past, same_Some, get_or_from_slice_get}
 use Rattle.std.proofs.lemmas.List.{length-set, set-get_or}
 use Rattle.std.specs.FinMap as map
 use Rattle.slotmap_core.specs.Key.{Key, IsKey, key_cmp, last_version}
-use Rattle.slotmap_core.specs.Content.{most}
 use Rattle.slotmap_core.specs.Transition.{Removes}
-use Rattle.slotmap_core.specs.Places.{Place, Live, Detached, Vacant, Retired, live, detached, retired, next, live_value}
-use Rattle.slotmap_core.specs.StackMap.{taken, IsStacked}
+use Rattle.slotmap_core.specs.Places.{Place, Live, Detached, Vacant, Retired, live, live_value}
+use Rattle.slotmap_core.specs.StackMap.{IsStacked}
 use Rattle.slotmap_core.proofs.GatherLemmas.{slice_get-set_other}
 use Rattle.slotmap_core.proofs.PlacesLemmas.{key, get-live, get-live_at, len-live-set, total}
 use Rattle.slotmap_core.proofs.ContentLemmas.{live_at}
 use Rattle.slotmap_core.proofs.StackLemmas.{not_first, IsStacked-kept, IsStacked-freed}
 use Rattle.slotmap_core.proofs.StepLemmas.{content-written}
 use Rattle.slotmap_hop.specs.declared.links.Slot.{Slot}
-use Rattle.slotmap_hop.specs.declared.links.State.{State}
-use Rattle.slotmap_hop.specs.declared.links.State.TheVariants.{Occupied, Free, UsedUp}
+use Rattle.slotmap_hop.specs.declared.links.State.TheVariants.{Occupied}
 use Rattle.slotmap_hop.specs.Blocks.{vacated}
-use Rattle.slotmap_hop.specs.Links.{vacant_at, next_at, end_at, blocks_of, HasBlockList}
+use Rattle.slotmap_hop.specs.Links.{vacant_at, blocks_of, HasBlockList}
 use Rattle.slotmap_hop.specs.HopContent.{counts_vacant, blocks_without, hop_with_value}
 use Rattle.slotmap_hop.specs.Slots.{links_in, place_in, layout, places_of, value_of, value_at, CanFree, next_place, offer_at, hop_content, IsSound}
 use Rattle.slotmap_hop.proofs.SlotReads.{length-layout, length-places, slot_cases, layout_at, layout_written, places_written}
 use Rattle.slotmap_hop.proofs.Growth.{IsSound-set, removes-slots}
-use Rattle.slotmap_core.proofs.ListLemmas.{found_within, same_read}
+use Rattle.slotmap_core.proofs.ListLemmas.{same_read}
 use Rattle.slotmap_hop.proofs.SlotLemmas.{key_is, vacant_place, place_not_vacant, slots_fit, same_counts, back_vacant, in_order, ordered_map}
 
 -- the slot of a live place

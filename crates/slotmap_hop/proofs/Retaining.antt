@@ -12,7 +12,7 @@ use Rattle.slotmap_core.proofs.IndexLemmas.{from_index, from_index-start, none_l
 use Rattle.slotmap_core.proofs.OrderLemmas.{entries_none}
 use Rattle.slotmap_core.proofs.ListingLemmas.{remove-insert}
 use Rattle.slotmap_core.proofs.VisitLemmas.{Visits, Visits-listed, Visits-stay}
-use Rattle.slotmap_core.proofs.KeyedVisits.{Keyed-from_start, Keyed-next, Keyed-same, Keyed-may_come, Keyed-done}
+use Rattle.slotmap_core.proofs.KeyedVisits.{Keyed-from_start, Keyed-next, Keyed-same, Keyed-may_come}
 use Rattle.slotmap_hop.specs.HopContent.{HopContent, IsHopContent, IsNextLive, StaysHop, hop_with_value, blocks_without, blocks_without_all}
 use Rattle.slotmap_hop.specs.Retain.{RetainsByIndex, dropped}
 use Rattle.slotmap_hop.proofs.BlocksLeft.{InOrder, InOrder-kept, InOrder-dropped}

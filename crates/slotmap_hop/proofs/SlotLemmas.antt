@@ -1,10 +1,9 @@
 -- What sound slots hold: their blocks, their places, and the content of the map.
 use mathlib.Core.Path.{fun_ext}
 use Rattle.std.proofs.Common.{◌≡◌, ◌≢◌, inl, inr, ℕ, zero, suc, ◌+◌, ◌-◌, ◌^◌, ◌<◌, ◌≤◌, Bool, true, false, eqb, ◌==◌, ◌||◌, List, []}
-use Rattle.std.proofs.Common.{◌∷◌, ◌++◌, length, set, slice_get, get_or, Option, Some, None, is_some, refl, sym, ap, subst, ◌∙◌, arith, eq-eqb}
+use Rattle.std.proofs.Common.{◌∷◌, ◌++◌, length, set, slice_get, Option, Some, None, is_some, refl, sym, ap, subst, ◌∙◌, arith, eq-eqb}
 use Rattle.std.proofs.Common.{ne_eqb, min}
 use Rattle.std.proofs.lemmas.Bool.{cases_lt, cases_Bool}
-use Rattle.std.proofs.lemmas.Option.{slice_get_within, same_Some}
 use Rattle.std.proofs.lemmas.List.{length-set}
 use Rattle.std.specs.FinMap as map
 use Rattle.std.specs.FinSet as set
@@ -18,11 +17,10 @@ use Rattle.slotmap_core.proofs.Maps.{same_bool}
 use Rattle.slotmap_core.proofs.KeyLemmas.{keys_total, exact_keys}
 use Rattle.slotmap_hop.specs.declared.links.Links.{Links}
 use Rattle.slotmap_hop.specs.declared.links.Slot.{Slot}
-use Rattle.slotmap_hop.specs.declared.links.State.{State}
 use Rattle.slotmap_hop.specs.Blocks.{IsBlock, IsFront, HasMaximalBlocks, offer_place}
-use Rattle.slotmap_hop.specs.Links.{removed, is_vacant, vacant_at, next_at, end_at, fronts_of, blocks_of, IsLinked}
+use Rattle.slotmap_hop.specs.Links.{removed, vacant_at, next_at, end_at, fronts_of, blocks_of, IsLinked}
 use Rattle.slotmap_hop.specs.HopContent.{IsHopContent, counts_vacant}
-use Rattle.slotmap_hop.specs.Slots.{links_in, place_in, layout, places_of, next_place, offer_at, hop_content, IsSound}
+use Rattle.slotmap_hop.specs.Slots.{layout, places_of, next_place, offer_at, hop_content, IsSound}
 use Rattle.slotmap_hop.proofs.Chain.{occurs-head}
 use Rattle.slotmap_hop.proofs.BlockLemmas.{clash}
 use Rattle.slotmap_hop.proofs.Circle.{bounded_by_length, circle_block}
@@ -30,7 +28,6 @@ use Rattle.slotmap_hop.proofs.SlotReads.{length-layout, length-places, slot_case
 use Rattle.slotmap_hop.proofs.Taking.{first_block, offer_is_end, offer_is_back}
 use Rattle.slotmap_hop.proofs.Maximal.{maximal}
 use Rattle.slotmap_hop.proofs.StackOrder.{IsStacked-first, untold, IsContent-untold}
-use Rattle.slotmap_core.proofs.ListLemmas.{found_within}
 
 -- setting a place doesn't change the number of slots
 pub same_length : {V : Type 0} (slots new : List (Slot V)) (i : ℕ) (p : Place V) → places_of new ≡ set (places_of slots) i p → length new ≡ length slots

@@ -1,20 +1,17 @@
 -- A loop over the live keys of a map, which skips vacant places.
-use Rattle.std.proofs.Common.{◌∷◌, ◌≡◌, ◌≢◌, ℕ, zero, suc, ◌+◌, ◌-◌, ◌<◌, true, Option, Some, None, List}
-use Rattle.std.proofs.Common.{is_some, ◌^◌, refl, sym, ap, subst, ◌∙◌, inl, inr, arith}
+use Rattle.std.proofs.Common.{◌∷◌, ◌≡◌, ◌≢◌, ℕ, ◌+◌, ◌-◌, ◌<◌, true, Option, Some, None, List}
+use Rattle.std.proofs.Common.{is_some, ◌^◌, refl, sym, ap, ◌∙◌, inl, inr, arith}
 use Rattle.std.specs.FinMap as map
-use Rattle.slotmap_core.specs.Key.{Key, key_cmp}
+use Rattle.slotmap_core.specs.Key.{Key}
 use Rattle.slotmap_core.specs.Content.{Content, IsLive}
 use Rattle.slotmap_core.specs.Listing.{NoneBelow}
-use Rattle.slotmap_core.specs.Retain.{Visit}
 use Rattle.slotmap_core.specs.Transition.{Removes, with_value}
-use Rattle.slotmap_core.proofs.IndexLemmas.{from_index, alone_at, NoneBelow-removed, NoneBelow-end, get-remove_other}
+use Rattle.slotmap_core.proofs.IndexLemmas.{NoneBelow-end, get-remove_other}
 use Rattle.slotmap_core.proofs.Maps.{in_after_remove}
 use Rattle.slotmap_core.proofs.KeyLemmas.{keys_total, exact_keys}
 use Rattle.slotmap_core.proofs.SweepLemmas.{first_entry, above_next, Swept, Swept-start, Swept-to, Swept-on, Swept-written, Swept-removed}
 use Rattle.slotmap_core.proofs.LeaveLemmas.{same_live}
 use Rattle.slotmap_core.proofs.ListingLemmas.{remove-insert}
-use Rattle.slotmap_core.proofs.VisitLemmas.{Visits}
-use Rattle.slotmap_core.proofs.KeyedVisits.{Keyed-jump, Keyed-done}
 use Rattle.slotmap_hop.specs.declared.links.Slot.{Slot}
 use Rattle.slotmap_hop.specs.Blocks.{Begins}
 use Rattle.slotmap_hop.specs.Links.{vacant_at}

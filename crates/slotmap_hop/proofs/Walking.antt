@@ -1,22 +1,21 @@
 -- A search for the next live place skips a block of vacant places in one step.
 use Rattle.std.proofs.Common.{◌≡◌, ◌≢◌, ℕ, zero, suc, ◌+◌, ◌-◌, ◌*◌, ◌<◌, ◌≤◌, ◌^◌, ◌%◌, true, List, [], ◌∷◌, ◌++◌, length, drop}
 use Rattle.std.proofs.Common.{slice_get, Some, refl, sym, ap, ◌∙◌, inl, inr, arith}
-use Rattle.std.proofs.lemmas.Bool.{cases_eq, cases_lt}
-use Rattle.std.proofs.lemmas.Option.{slice_get_within, get_or_from_slice_get, same_Some}
+use Rattle.std.proofs.lemmas.Bool.{cases_lt}
+use Rattle.std.proofs.lemmas.Option.{slice_get_within, get_or_from_slice_get}
 use Rattle.std.proofs.lemmas.List.{drop_more, drop_all, append_assoc, length-append}
 use Rattle.std.proofs.lemmas.List.Elements.{All-nil, All-cons, All-push, All-weaker}
 use Rattle.std.specs.List.{All}
 use Rattle.std.specs.FinMap as map
 use Rattle.slotmap_core.specs.Key.{Key, last_version}
-use Rattle.slotmap_core.specs.Places.{Place, Live, Detached, Vacant, Retired, live, live_entry, retired_entry}
+use Rattle.slotmap_core.specs.Places.{Place, Live, Detached, Retired, live, live_entry, retired_entry}
 use Rattle.slotmap_core.specs.Gather.{gather}
 use Rattle.slotmap_core.specs.StackMap.{HasVersion}
 use Rattle.slotmap_core.proofs.ContentLemmas.{live_at}
 use Rattle.slotmap_core.proofs.PlacesLemmas.{key}
 use Rattle.slotmap_hop.specs.declared.links.Links.{Links}
 use Rattle.slotmap_hop.specs.declared.links.Slot.{Slot}
-use Rattle.slotmap_hop.specs.declared.links.State.{State}
-use Rattle.slotmap_hop.specs.declared.links.State.TheVariants.{Occupied, Free, UsedUp}
+use Rattle.slotmap_hop.specs.declared.links.State.TheVariants.{Occupied, Free}
 use Rattle.slotmap_hop.specs.Blocks.{Begins, IsBlock}
 use Rattle.slotmap_hop.specs.Links.{vacant_at, links_at, end_at}
 use Rattle.slotmap_hop.specs.Slots.{place_in, layout, places_of}

@@ -93,6 +93,16 @@ impl<K, V> Model for HopSlotMap<K, V> {
     ghost invariant = { λ m. IsSound m.slots.items m.vacant_count m.live_count };
 }
 
+impl<K, V> HopSlotMap<K, V> {
+    // Does nothing; its contract tells a caller that what the map holds is well formed.
+    #[inline(always)]
+    pub(crate) fn note_valid(&self)
+        ensures { IsHopContent self.now }
+    {
+        let _ = &self.live_count;
+    }
+}
+
 impl<V: Drop> HopSlotMap<DefaultKey, V> {
     /// Makes an empty map with the default key type.
     ///

@@ -15,8 +15,8 @@ rule_out-requires g c =
     let found = found g (goal.at.rule_out-requires g c).After-self in
     absurd (c.in_default.not-Occupied found.value (state_read found _ c.index.ensures))
 
-pub returns-clause-value : goal.returns-clause-value
-returns-clause-value g c = read_gives (found g (goal.at.returns-clause-value g c).After-self) _ c.index.ensures _ c.in-Occupied.is
-
-pub returns-clause-valid : goal.returns-clause-valid
-returns-clause-valid g c = well_formed c.self.inside c.self.view_is c.self.invariant
+pub returns : goal.returns
+returns g c = record {
+  value = read_gives (found g (goal.at.returns g c).After-self) _ c.index.ensures _ c.in-Occupied.is;
+  valid = well_formed c.self.inside c.self.view_is c.self.invariant;
+}

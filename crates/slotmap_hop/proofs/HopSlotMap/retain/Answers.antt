@@ -1,5 +1,4 @@
-use Rattle.std.proofs.Common.{Some, sym, ap, subst, ◌∙◌}
-use Rattle.slotmap_core.specs.Content.{IsLive}
+use Rattle.std.proofs.Common.{Some, ◌∙◌}
 use Rattle.slotmap_core.proofs.LeaveLemmas.{same_live}
 use Rattle.slotmap_core.proofs.VisitLemmas.{CallsAt-called}
 use Rattle.slotmap_hop.proofs.Retaining.{Retaining, retaining_starts, retaining_may_come, retaining_kept, retaining_dropped, retaining_ends}

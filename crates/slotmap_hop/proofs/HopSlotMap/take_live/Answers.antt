@@ -29,14 +29,8 @@ last g c =
 pub invariant_of-self : goal.invariant_of-self
 invariant_of-self g c = (last g (goal.at.invariant_of-self g c).After-use_up).sound_after
 
-pub returns-then-version-clause-value : goal.returns-then-version-clause-value
-returns-then-version-clause-value g c = (last g (goal.at.returns-then-version-clause-value g c).After-use_up).value
-
-pub returns-then-version-clause-removes : goal.returns-then-version-clause-removes
-returns-then-version-clause-removes g c = (last g (goal.at.returns-then-version-clause-removes g c).After-use_up).removes
-
-pub returns-then-version-clause-valid : goal.returns-then-version-clause-valid
-returns-then-version-clause-valid g c = (last g (goal.at.returns-then-version-clause-valid g c).After-use_up).valid
+pub returns-then-version : goal.returns-then-version
+returns-then-version g c = let took = last g (goal.at.returns-then-version g c).After-use_up in record { value = took.value; removes = took.removes; blocks = took.blocks; valid = took.valid }
 
 pub overflow_add-self : goal.overflow_add-self
 overflow_add-self g c = omega (arith, vacant_below _ _ _ c.self.invariant _ _ _ (found g (goal.at.overflow_add-self g c).After-self).place)
@@ -55,14 +49,5 @@ other g c =
 pub invariant_of-self-2 : goal.invariant_of-self-2
 invariant_of-self-2 g c = (other g (goal.at.invariant_of-self-2 g c).After-free_slot).sound_after
 
-pub returns-clause-value : goal.returns-clause-value
-returns-clause-value g c = (other g (goal.at.returns-clause-value g c).After-free_slot).value
-
-pub returns-clause-removes : goal.returns-clause-removes
-returns-clause-removes g c = (other g (goal.at.returns-clause-removes g c).After-free_slot).removes
-
-pub returns-clause-blocks : goal.returns-clause-blocks
-returns-clause-blocks g c = (other g (goal.at.returns-clause-blocks g c).After-free_slot).blocks
-
-pub returns-clause-valid : goal.returns-clause-valid
-returns-clause-valid g c = (other g (goal.at.returns-clause-valid g c).After-free_slot).valid
+pub returns : goal.returns
+returns g c = let took = other g (goal.at.returns g c).After-free_slot in record { value = took.value; removes = took.removes; blocks = took.blocks; valid = took.valid }
