@@ -32,17 +32,7 @@ loop-slot-init g c =
         few_vacant = omega arith;
         few_elems = omega arith;
       };
-      room =
-          omega (
-            arith,
-            taken.2,
-            c.into_iter-records.ensures.len,
-            c.push_reserved.ensures.len,
-            c.push_reserved.ensures.capacity,
-            c.in_ok-slots.ensures.len,
-            c.in_ok-slots.ensures.capacity,
-            c.len.ensures,
-          );
+      room = omega (arith, taken.2, c.into_iter-records.ensures.len, c.push_reserved.ensures.len, c.push_reserved.ensures.capacity, c.in_ok-slots.ensures.len, c.in_ok-slots.ensures.capacity, c.len.ensures);
     })
 
 with_next : (g : _) (c : After-push_reserved-in-loop-slot g) → c.push_reserved-in-loop-slot.new.self.items ≡ with_slot _ _ _ _ c.loop-slot.invariant.reading.read c.in-Some.slot
@@ -68,13 +58,8 @@ loop-slot-preserved-then-is_vacant g c =
     let next = with_next g (goal.at.loop-slot-preserved-then-is_vacant g c).After-push_reserved-in-loop-slot in
     let pushed = c.push_reserved-in-loop-slot.ensures in
     let m = c.push_reserved-in-loop-slot.new.self in
-    let index : c.len-index.result ≡ length at.slots.items = c.len-index.ensures ∙ at.slots.ok.0 in
-    let seen = c.as_mut_slice.ensures.value ∙ next in
-    let one = with_slot _ _ _ _ reading.read slot in
-    let after : places_of c.open_last.new.slots ≡ set (places_of one) (length at.slots.items) (Vacant (slot.version + 1)) =
-    c.open_last.ensures.places ∙ ap (λ xs. set (places_of xs) c.len-index.result (Vacant (slot.version + 1))) seen ∙ ap (λ i. set (places_of one) i (Vacant (slot.version + 1))) index in
-    let joined = c.open_last.ensures.blocks ∙ ap (λ xs. vacated (vacant_at (layout xs)) (blocks_of (layout xs)) c.len-index.result) seen
-    ∙ ap (vacated (vacant_at (layout one)) (blocks_of (layout one))) index in
+    let after = rw (c.as_mut_slice.ensures.value, next, c.len-index.ensures, at.slots.ok.0) at c.open_last.ensures.places in
+    let joined = rw (c.as_mut_slice.ensures.value, next, c.len-index.ensures, at.slots.ok.0) at c.open_last.ensures.blocks in
     let items = with_items_is m c.open_last.new.slots (same_length _ _ _ _ after ∙ ap length (sym next) ∙ sym m.ok.0) in
     record {
       reading =
@@ -110,10 +95,7 @@ invariant_of-result g c =
     IsSound-read c.args.list.items _ _ _ (all_read g (goal.at.invariant_of-result g c).In-None) 4294967295 (omega arith) (accepted g (goal.at.invariant_of-result g c).In_ok-check_slots) versions_fit
 
 pub returns-clause-ascending : goal.returns-clause-ascending
-returns-clause-ascending g c =
-    let read = all_read g (goal.at.returns-clause-ascending g c).In-None in
-    let size = read_count _ _ _ _ read in
-    rw size at read.ascending
+returns-clause-ascending g c = let read = all_read g (goal.at.returns-clause-ascending g c).In-None in rw (read_count _ _ _ _ read) at read.ascending
 
 pub returns-clause-valid : goal.returns-clause-valid
 returns-clause-valid g c =
