@@ -8,6 +8,7 @@ use Rattle.slotmap_hop.specs.declared.links.Slot.{Slot}
 use Rattle.slotmap_hop.specs.declared.links.State.TheVariants.{Free}
 use Rattle.slotmap_hop.specs.Links.{vacant_at, IsLinked}
 use Rattle.slotmap_hop.specs.Slots.{layout, places_of, IsSound}
+use Rattle.slotmap_hop.proofs.SlotReads.{slot_cases}
 use Rattle.slotmap_core.proofs.SlotGrowth.{IsSound-sentinel, taken-sentinel}
 
 abbrev pub sentinel_alone : (V : Type 0) → List (Slot V)
@@ -15,9 +16,7 @@ sentinel_alone V = record { version = 0; state = Free (record { next = 0; prev =
 
 module _ (V : Type 0) where
   alone : (x : ℕ) → vacant_at (layout (sentinel_alone V)) x ≡ true → x ≡ 0
-  alone zero vacant = refl
-  alone (suc zero) vacant = absurd (cc)
-  alone (suc (suc x)) vacant = absurd (cc)
+  alone x vacant = grind (arith, slot_cases (sentinel_alone V) x)
 
   linked-new : IsLinked (layout (sentinel_alone V)) []
   linked-new = record {

@@ -16,7 +16,7 @@ use Rattle.slotmap_hop.specs.declared.links.Slot.{Slot}
 use Rattle.slotmap_hop.specs.declared.links.State.TheVariants.{Occupied}
 use Rattle.slotmap_hop.specs.Blocks.{shorter}
 use Rattle.slotmap_hop.specs.Links.{removed, blocks_of, HasBlockList}
-use Rattle.slotmap_hop.specs.Slots.{links_in, place_in, layout, places_of, next_place, offer_at, hop_content, IsSound}
+use Rattle.slotmap_hop.specs.Slots.{links_in, place_in, layout, places_of, next_place, offer_at, holding, hop_content, IsSound}
 use Rattle.slotmap_hop.proofs.SlotReads.{length-layout, length-places}
 use Rattle.slotmap_hop.proofs.Taking.{HasBlockList-pushed, blocks_pushed, shorter_none}
 use Rattle.slotmap_hop.proofs.StackOrder.{IsStacked-first, length_removed, untold, Inserts-untold, Removes-untold}
@@ -37,19 +37,6 @@ module _ {V : Type 0} (slots : List (Slot V)) (vacant elems : ℕ) (sound : IsSo
     stacked = subst (λ ps. IsStacked ps vs) (sym after) stacked;
     counted = counted;
   }
-
--- a content with these places that offers this key
-abbrev pub holding : {V : Type 0} → List (Place V) → Key → ℕ → Content V
-holding ps o c = record {
-  live = live ps;
-  detached = detached ps;
-  retired = retired ps;
-  next = next ps;
-  offer = o;
-  stack = None;
-  room = min c most - taken ps;
-  capacity = c;
-}
 
 -- the steps on contents
 module _ {V : Type 0} (slots : List (Slot V)) (vacant elems : ℕ) (sound : IsSound slots vacant elems) (new : List (Slot V)) where

@@ -3,6 +3,7 @@ use mathlib.Core.Path.{fun_ext}
 use Rattle.std.proofs.Common.{◌≡◌, ◌≢◌, inl, inr, ℕ, zero, suc, ◌+◌, ◌-◌, ◌^◌, ◌<◌, ◌≤◌, Bool, true, false, eqb, ◌==◌, ◌||◌, List, []}
 use Rattle.std.proofs.Common.{◌∷◌, ◌++◌, length, set, slice_get, Option, Some, None, is_some, refl, sym, ap, subst, ◌∙◌, arith, eq-eqb}
 use Rattle.std.proofs.Common.{ne_eqb, min}
+use Rattle.std.proofs.lemmas.Bool.Decides.{nat_tests}
 use Rattle.std.proofs.lemmas.Bool.{cases_lt, cases_Bool}
 use Rattle.std.proofs.lemmas.List.{length-set}
 use Rattle.std.specs.FinMap as map
@@ -20,7 +21,7 @@ use Rattle.slotmap_hop.specs.declared.links.Slot.{Slot}
 use Rattle.slotmap_hop.specs.Blocks.{IsBlock, IsFront, HasMaximalBlocks, offer_place}
 use Rattle.slotmap_hop.specs.Links.{removed, vacant_at, next_at, end_at, fronts_of, blocks_of, IsLinked}
 use Rattle.slotmap_hop.specs.HopContent.{IsHopContent, counts_vacant}
-use Rattle.slotmap_hop.specs.Slots.{layout, places_of, next_place, offer_at, hop_content, IsSound}
+use Rattle.slotmap_hop.specs.Slots.{layout, places_of, next_place, offer_at, holding, hop_content, IsSound}
 use Rattle.slotmap_hop.proofs.Chain.{occurs-head}
 use Rattle.slotmap_hop.proofs.BlockLemmas.{clash}
 use Rattle.slotmap_hop.proofs.Circle.{bounded_by_length, circle_block}
@@ -72,9 +73,7 @@ module _ {V : Type 0} (slots : List (Slot V)) (i : ℕ) where
 
 pub counts_are : {V : Type 0} (slots : List (Slot V)) → vacant_at (layout slots) 0 ≡ true → (i : ℕ) → ((i == 0) || map.contains_key (next (places_of slots)) i) ≡ vacant_at (layout slots) i
 counts_are slots sentinel zero = sym sentinel
-counts_are slots sentinel (suc i) = let test : eqb (suc i) 0 ≡ false = ne_eqb (suc i) 0 (λ e. omega arith) in rw test (same_bool _ _
-    (λ there. let some = some_is (map.get (next (places_of slots)) (suc i)) there in place_vacant slots (suc i) some.0 (next_found (places_of slots) (suc i) some.0 some.1).1)
-    (λ vacant. let at = vacant_place slots (suc i) vacant in ap is_some (get-next_at (places_of slots) (suc i) at.0 (omega arith) at.1)))
+counts_are slots sentinel (suc i) = grind (arith, nat_tests, slot_cases slots (suc i), get-next_at (places_of slots) (suc i), next_found (places_of slots) (suc i))
 
 module _ {V : Type 0} (slots : List (Slot V)) (vacant elems : ℕ) (sound : IsSound slots vacant elems) where
   pub taken_slots : taken (places_of slots) + vacant + 1 ≡ length slots
@@ -140,42 +139,20 @@ module _ {V : Type 0} (slots : List (Slot V)) (vacant elems : ℕ) (sound : IsSo
   ordered_map c = record { places = places_of slots; vacant = in_order.order; capacity = c }
 
   pub content_is : (c : ℕ) → untold (content (ordered_map c)) ≡ (hop_content slots c).content
-  content_is c = let offers = in_order.offers in λ j. record {
-    live = live (places_of slots);
-    detached = detached (places_of slots);
-    retired = retired (places_of slots);
-    next = next (places_of slots);
-    offer = offers j;
-    stack = None;
-    room = min c most - taken (places_of slots);
-    capacity = c;
-  }
+  content_is c = ap (λ o. holding (places_of slots) o c) in_order.offers
 
   pub valid_content : (c : ℕ) → length slots ≤ c + 1 → IsContent true (hop_content slots c).content
   valid_content c holds =
       subst (IsContent true) (content_is c) (IsContent-untold true (content (ordered_map c)) (IsContent-stacked (ordered_map c) in_order.ordered (omega (arith, length-places slots))))
 
   none_kept : (k : Key) → set.contains (detached (places_of slots)) k ≡ false
-  none_kept k = contains-detached (places_of slots) k ∙ by (slice_get (places_of slots) k.index) (sound.none_detached k.index)
-    where
-      by : (p : Option (Place V)) → ((v : ℕ) → p ≡ Some (Detached v) → ⊥) → is_kept k.version p ≡ false
-      by p none = grind (arith, none)
+  none_kept k = grind (arith, nat_tests, contains-detached (places_of slots) k, sound.none_detached k.index k.version)
 
   pub places_count : (c : ℕ) → places (hop_content slots c).content + 1 ≡ length slots
   places_count c = omega (arith, total (places_of slots) 1 sound.stacked.sentinel, length-places slots)
 
   offers_first : (c : ℕ) → (offer_at (places_of slots) (next_place slots)).index ≡ offer_place (blocks_of (layout slots)) (places (hop_content slots c).content + 1)
-  offers_first c =
-      let count : places (hop_content slots c).content + 1 ≡ length (layout slots) = places_count c ∙ sym (length-layout slots) in
-      elim (cases_lt 0 (next_place slots)) [
-        | inl some ↦
-            let test : eqb (next_place slots) 0 ≡ false = ne_eqb (next_place slots) 0 (λ e. omega arith) in
-            rw (test, count) (sym (offer_is_back (layout slots) sound.linked some))
-        | inr none ↦
-            let zero_place : next_place slots ≡ 0 = omega arith in
-            let test : eqb (next_place slots) 0 ≡ true = eq-eqb (next_place slots) 0 zero_place in
-            rw (test, count) (length-places slots ∙ sym (length-layout slots) ∙ sym (offer_is_end (layout slots) sound.linked zero_place))
-      ]
+  offers_first c = grind (arith, nat_tests, places_count c, length-layout slots, length-places slots, offer_is_back (layout slots) sound.linked, offer_is_end (layout slots) sound.linked)
 
   pub valid : (c : ℕ) → length slots ≤ c + 1 → IsHopContent (hop_content slots c)
   valid c holds = record {

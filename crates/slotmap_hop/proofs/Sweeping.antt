@@ -24,12 +24,9 @@ use Rattle.slotmap_hop.proofs.WellFormed.{IsHopContent-with_value}
 
 -- a search may begin where an iterator may be
 pub look_begins : {V : Type 0} (slots : List (Slot V)) (vacant elems : ℕ) → IsSound slots vacant elems → (start c : ℕ) → MayStand (hop_content slots c).content start → CanGoOn slots 0 start
-look_begins slots vacant elems sound start c may = record { stands = record { vacant = vacant; elems = elems; sound = sound; at_front = λ _. begins may }; passed = omega arith }
-  where
-    begins : MayStand (hop_content slots c).content start → Begins (vacant_at (layout slots)) start
-    begins (inl first) = λ left next. absurd (omega arith)
-    begins (inr used) =
-        λ left next. let same : start - 1 ≡ left = omega arith in ap (vacant_at (layout slots)) (sym same) ∙ sym (ap (λ f. f (start - 1)) (same_counts slots vacant elems sound c)) ∙ used
+look_begins slots vacant elems sound start c may =
+    let same = ap (λ f. f (start - 1)) (same_counts slots vacant elems sound c) in
+    record { stands = record { vacant = vacant; elems = elems; sound = sound; at_front = λ _ left next. grind arith }; passed = omega arith }
 
 -- the measure by which a loop over the live keys ends
 abbrev pub indices_left : {K : Type 0} → (K → Key) → Option K → ℕ

@@ -47,20 +47,16 @@ module _ {V : Type 0} (slots : List (Slot V)) where
       ap (from i) (drop_more ps i p (slice_get_within ps i p found) ∙ ap (λ y. y ∷ drop (i + 1) ps) (get_or_from_slice_get ps i p p found))
 
   -- a sequence of vacant places holds nothing
-  skip : (k i : ℕ) → ((x : ℕ) → i ≤ x → x < i + k → vacant_at (layout slots) x ≡ true) → (pairs_left slots i ≡ pairs_left slots (i + k)) × (retired_left slots i ≡ retired_left slots (i + k))
-  skip zero i vacant = let same : i + 0 ≡ i = omega arith in rw same (refl, refl)
-  skip (suc k) i vacant =
+  skip : (k i j : ℕ) → i + k ≡ j → ((x : ℕ) → i ≤ x → x < j → vacant_at (layout slots) x ≡ true) → (pairs_left slots i ≡ pairs_left slots j) × (retired_left slots i ≡ retired_left slots j)
+  skip zero i j on vacant = let same : i ≡ j = omega arith in rw same (refl, refl)
+  skip (suc k) i j on vacant =
       let here = vacant_place slots i (vacant i (omega arith) (omega arith)) in
-      let rest = skip k (i + 1) (λ x low high. vacant x (omega arith) (omega arith)) in
-      let same : i + 1 + k ≡ i + suc k = omega arith in
-      (left-on pairs_from i _ here.1 ∙ rest.0 ∙ ap (pairs_left slots) same, left-on retired_from i _ here.1 ∙ rest.1 ∙ ap (retired_left slots) same)
+      let rest = skip k (i + 1) j (omega arith) (λ x low high. vacant x (omega arith) high) in
+      (left-on pairs_from i _ here.1 ∙ rest.0, left-on retired_from i _ here.1 ∙ rest.1)
 
   pub past_block : (front back : ℕ) → IsBlock (vacant_at (layout slots)) front back → (pairs_left slots front ≡ pairs_left slots (back + 1))
       × (retired_left slots front ≡ retired_left slots (back + 1))
-  past_block front back block =
-      let same : front + (back + 1 - front) ≡ back + 1 = omega (arith, block.ordered) in
-      let all = skip (back + 1 - front) front (λ x low high. block.inside x low (omega (arith, block.ordered))) in
-      (all.0 ∙ ap (pairs_left slots) same, all.1 ∙ ap (retired_left slots) same)
+  past_block front back block = skip (back + 1 - front) front (back + 1) (omega (arith, block.ordered)) (λ x low high. block.inside x low (omega arith))
 
   -- the block that begins where the iterator is
   block_here : (i : ℕ) → StandsAt slots i → vacant_at (layout slots) i ≡ true → IsBlock (vacant_at (layout slots)) i (end_at (layout slots) i)
@@ -107,20 +103,12 @@ module _ {V : Type 0} (slots : List (Slot V)) (reads0 start : ℕ) where
   pub way_ends : (reads place : ℕ) → OnTheWay reads place → length slots ≤ place → FindsNone slots start
   way_ends reads place way past = record {
     none = way.same ∙ ap (pairs_from place) (drop_all place (places_of slots) (omega (arith, length-places slots)));
-    below = λ q there. elim (cases_lt q.index start) [
-      | inl before ↦ before
-      | inr from ↦
-          let at = live_at (places_of slots) q there in
-          absurd (omega (arith, way.none q there (omega arith), slice_get_within (places_of slots) q.index (Live q.version at.0) at.1, length-places slots))
-    ];
+    below = λ q there. (let at = live_at (places_of slots) q there in grind (arith, way.none q there, slice_get_within (places_of slots) q.index, length-places slots));
   }
 
   -- what is left lies ahead
   pub way_inside : (reads place : ℕ) → OnTheWay reads place → 0 < length (pairs_left slots start) → place < length slots
-  way_inside reads place way some = elim (cases_lt place (length slots)) [
-    | inl inside ↦ inside
-    | inr past ↦ absurd (omega (arith, some, ap length (way_ends reads place way (omega arith)).none))
-  ]
+  way_inside reads place way some = grind (arith, λ (past : length slots ≤ place). ap length (way_ends reads place way past).none)
 
   pub way_few : (reads place : ℕ) → OnTheWay reads place → reads ≤ reads0 + 2 * length (retired_left slots start) + 1
   way_few reads place way = omega (arith, way.few, ap length way.still, length-append way.gone (retired_left slots place))
