@@ -1,13 +1,12 @@
 -- What an insert makes of sound slots, and what stays when one place changes.
 use Rattle.std.proofs.Common.{⊎_elim, ◌≡◌, ◌≢◌, ℕ, ◌+◌, ◌-◌, ◌^◌, ◌<◌, ◌≤◌, List, []}
 use Rattle.std.proofs.Common.{◌∷◌, ◌++◌, length, set, slice_get, Some, None, sym, ap, subst, ◌∙◌, arith}
-use Rattle.std.proofs.Common.{min}
 use Rattle.std.proofs.lemmas.List.{map-append}
 use Rattle.std.specs.FinMap as map
 use Rattle.slotmap_core.specs.Key.{Key}
-use Rattle.slotmap_core.specs.Content.{Content, most}
+use Rattle.slotmap_core.specs.Content.{most}
 use Rattle.slotmap_core.specs.Transition.{Removes, Inserts}
-use Rattle.slotmap_core.specs.Places.{Place, Live, Detached, Vacant, live, detached, retired, next, left_by}
+use Rattle.slotmap_core.specs.Places.{Place, Live, Detached, Vacant, live, left_by}
 use Rattle.slotmap_core.specs.StackMap.{content, taken, filled, IsVersion, IsStacked}
 use Rattle.slotmap_core.proofs.PlacesLemmas.{key, len-live-set, len-live-push}
 use Rattle.slotmap_core.proofs.StackLemmas.{IsStacked-filled, IsStacked-pushed}
@@ -47,19 +46,13 @@ module _ {V : Type 0} (slots : List (Slot V)) (vacant elems : ℕ) (sound : IsSo
       let k = offer_at (places_of slots) (next_place slots) in
       let o = offer_at (places_of new) (next_place new) in
       let ordered = in_order slots vacant elems sound in
-      let did = inserts (places_of slots) ordered.order c d k w ordered.ordered below (sym ordered.offers) more in
-      let told = Inserts-untold _ _ k o w did in
-      let moved = subst (λ ps. Inserts (untold (content (ordered_map slots vacant elems sound c))) k w (holding ps o d)) (sym after) told in
-      subst (λ m. Inserts m k w (holding (places_of new) o d)) (content_is slots vacant elems sound c) moved
+      let told = Inserts-untold _ _ k o w (inserts (places_of slots) ordered.order c d k w ordered.ordered below (sym ordered.offers) more) in
+      subst (λ m. Inserts m k w (holding (places_of new) o d)) (content_is slots vacant elems sound c)
+      (subst (λ ps. Inserts (untold (content (ordered_map slots vacant elems sound c))) k w (holding ps o d)) (sym after) told)
 
   pub removes-slots : (c : ℕ) (k : Key) (x : V) → slice_get (places_of slots) k.index ≡ Some (Live k.version x) → places_of new ≡ set (places_of slots) k.index (left_by k)
       → Removes (hop_content slots c).content k (hop_content new c).content
-  removes-slots c k x was after =
-      let o = offer_at (places_of new) (next_place new) in
-      let ordered = in_order slots vacant elems sound in
-      let did = removes (ordered_map slots vacant elems sound c) ordered.ordered k x was in
-      let told = Removes-untold _ _ k (offer_at (places_of slots) (next_place slots)) o did in
-      subst (λ ps. Removes (hop_content slots c).content k (holding ps o c)) (sym after) told
+  removes-slots c k x was after = rw after (Removes-untold _ _ k _ _ (removes (ordered_map slots vacant elems sound c) (in_order slots vacant elems sound).ordered k x was))
 
 module _ {V : Type 0} (slots : List (Slot V)) (vacant elems : ℕ) (sound : IsSound slots vacant elems) where
   -- what room means for the vector
@@ -116,9 +109,7 @@ module _ {V : Type 0} (slots : List (Slot V)) (vacant elems : ℕ) (sound : IsSo
   pub inserts-pushed : (c d : ℕ) (w : V) → next_place slots ≡ 0 → taken (places_of slots) < most → c ≤ d
       → Inserts (hop_content slots c).content (hop_content slots c).content.offer w (hop_content (pushed_slots w) d).content
   inserts-pushed c d w none below more =
-      let one : (offer_at (places_of slots) (next_place slots)).version ≡ 1 = ap (λ k. k.version) (offer-end none) in
-      inserts-slots slots vacant elems sound (pushed_slots w) c d w below more
-      (places-pushed w ∙ sym ((in_order slots vacant elems sound).fills_end none _ ∙ ap (λ v. places_of slots ++ Live v w ∷ []) one))
+      inserts-slots slots vacant elems sound (pushed_slots w) c d w below more (cc (places-pushed w, (in_order slots vacant elems sound).fills_end none (Live (offer_at (places_of slots) (next_place slots)).version w), offer-end none))
 
   -- the offered place is filled
   pub sound-filled : (new : List (Slot V)) (w : V) → 0 < next_place slots → HasBlockList (layout new)
@@ -136,9 +127,7 @@ module _ {V : Type 0} (slots : List (Slot V)) (vacant elems : ℕ) (sound : IsSo
       → places_of new ≡ set (places_of slots) (next_place slots) (Live (back_slot.slot.version + 1) w)
       → Inserts (hop_content slots c).content (hop_content slots c).content.offer w (hop_content new d).content
   inserts-filled new c d w some below more after =
-      let newer : (offer_at (places_of slots) (next_place slots)).version ≡ back_slot.slot.version + 1 = ap (λ k. k.version) (offer-back some) in
-      inserts-slots slots vacant elems sound new c d w below more
-      (after ∙ sym ((in_order slots vacant elems sound).fills_back some _ ∙ ap (λ v. set (places_of slots) (next_place slots) (Live v w)) newer))
+      inserts-slots slots vacant elems sound new c d w below more (cc (after, (in_order slots vacant elems sound).fills_back some (Live (offer_at (places_of slots) (next_place slots)).version w), offer-back some))
 
   -- an insert adds a place just if none is vacant
   pub none_offered : vacant ≡ 0 → next_place slots ≡ 0

@@ -1,12 +1,13 @@
 -- What calls know of a map's slots, by what the map holds.
-use Rattle.std.proofs.Common.{◌≡◌, ◌≢◌, ℕ, ◌+◌, ◌-◌, ◌^◌, ◌<◌, List, length, set, get_or, Some, vec_capacity, refl, sym, ap, subst, ◌∙◌, arith}
+use Rattle.std.proofs.Common.{◌≡◌, ◌≢◌, ℕ, ◌+◌, ◌-◌, ◌^◌, ◌<◌, List, length, set, get_or, Some, vec_capacity, refl, sym, ap, subst, ◌∙◌, arith, eq-eqb, ne_eqb}
+use Rattle.std.proofs.lemmas.Bool.Decides.{nat_tests}
 use Rattle.std.specs.Vec.{with_items}
 use Rattle.std.specs.FinMap as map
 use Rattle.std.proofs.lemmas.List.{with_items_is}
 use Rattle.slotmap_core.specs.Key.{Key, IsKey, last_version}
 use Rattle.slotmap_core.specs.Content.{IsLive, most}
 use Rattle.slotmap_core.specs.Transition.{Inserts, Removes}
-use Rattle.slotmap_core.specs.Places.{Place, Live, Vacant, Retired}
+use Rattle.slotmap_core.specs.Places.{Place, Live, Vacant, Retired, left_by}
 use Rattle.slotmap_core.specs.StackMap.{taken}
 use Rattle.slotmap_core.proofs.PlacesLemmas.{key}
 use Rattle.slotmap_core.proofs.ListLemmas.{same_read}
@@ -16,9 +17,9 @@ use Rattle.slotmap_hop.specs.Blocks.{vacated}
 use Rattle.slotmap_hop.specs.Links.{vacant_at, blocks_of, HasBlockList}
 use Rattle.slotmap_hop.specs.HopContent.{HopContent, IsHopContent, StaysHop, blocks_without}
 use Rattle.slotmap_hop.specs.Slots.{layout, places_of, value_at, next_place, hop_content, IsSound}
-use Rattle.slotmap_hop.proofs.SlotLemmas.{valid, same_length, key_is, slots_fit, taken_slots}
-use Rattle.slotmap_hop.proofs.Growth.{back_slot, has_room, none_left, none_offered, some_offered, offer-end, offer-back, sound-filled, inserts-filled}
-use Rattle.slotmap_hop.proofs.LiveSlots.{Present, present, value_is, sound-freed, removes-freed, blocks-freed, sound-used_up, removes-used_up, blocks-used_up}
+use Rattle.slotmap_hop.proofs.SlotLemmas.{valid, same_length, same_counts, key_is, slots_fit, taken_slots}
+use Rattle.slotmap_hop.proofs.Growth.{removes-slots, back_slot, has_room, none_left, none_offered, some_offered, offer-end, offer-back, sound-filled, inserts-filled}
+use Rattle.slotmap_hop.proofs.LiveSlots.{Present, present, value_is, sound-freed, sound-used_up}
 
 module _ {K V : Type 0} (m : Inside K V) {now : HopContent V} (view : hop_content m.slots.items (vec_capacity m.slots - 1) ≡ now) (sound : IsSound m.slots.items m.vacant_count m.live_count) where
   pub well_formed : IsHopContent now
@@ -44,38 +45,33 @@ module _ {K V : Type 0} (m : Inside K V) {now : HopContent V} (view : hop_conten
     pub blocks : blocks_of (layout (with_items m.slots new).items) ≡ blocks_without now k
     pub valid : StaysHop now (hop_content (with_items m.slots new).items (vec_capacity m.slots - 1))
 
-  module _ {k : Key} {i v : ℕ} (found : Present m.slots.items now.content.live k i v) (x : V) (given new : List (Slot V)) (seen : given ≡ m.slots.items) (read : value_at given i ≡ Some x) where
-    took : (p : Place V) (vacant : ℕ) → places_of new ≡ set (places_of m.slots.items) i p → IsSound new vacant (m.live_count - 1)
-        → Removes (hop_content m.slots.items (vec_capacity m.slots - 1)).content (key i v) (hop_content new (vec_capacity m.slots - 1)).content
+  module _ {k : Key} {i v : ℕ} (found : Present m.slots.items now.content.live k i v) (x : V) (new : List (Slot V)) (read : value_at m.slots.items i ≡ Some x) where
+    took : (p : Place V) (vacant : ℕ) → places_of new ≡ set (places_of m.slots.items) i p → p ≡ left_by (key i v) → IsSound new vacant (m.live_count - 1)
         → blocks_of (layout new) ≡ blocks_without (hop_content m.slots.items (vec_capacity m.slots - 1)) (key i v) → Took k x new vacant
-    took p vacant after sound_new removes blocks =
+    took p vacant after left sound_new blocks =
         let c = vec_capacity m.slots - 1 in
         let size = same_length m.slots.items new i p after in
         let items = with_items_is m.slots new (size ∙ sym m.slots.ok.0) in
         let sound_after = subst (λ xs. IsSound xs vacant (m.live_count - 1)) (sym items) sound_new in
+        let removes = removes-slots _ _ _ sound new c (key i v) _ found.place (after ∙ ap (set (places_of m.slots.items) i) left) in
         record {
           sound_after = sound_after;
-          value = found.gives ∙ value_is _ _ _ sound i v found.value found.place x (ap (λ xs. value_at xs i) (sym seen) ∙ read);
+          value = found.gives ∙ value_is _ _ _ sound i v found.value found.place x read;
           removes = rw (← view, found.key_is_at) (subst (λ xs. Removes (hop_content m.slots.items c).content (key i v) (hop_content xs c).content) (sym items) removes);
           blocks = rw (← view, found.key_is_at) (ap (λ xs. blocks_of (layout xs)) items ∙ blocks);
           valid = stays new vacant (m.live_count - 1) size sound_after;
         }
 
     -- it was the last key of its slot
-    pub took_last : v ≡ last_version → layout new ≡ layout given → places_of new ≡ set (places_of given) i Retired → Took k x new m.vacant_count
-    took_last last same places =
-        let kept = same ∙ ap layout seen in
-        let after = places ∙ ap (λ xs. set (places_of xs) i Retired) seen in
-        took Retired m.vacant_count after (sound-used_up _ _ _ sound i v _ found.place new kept after)
-        (removes-used_up _ _ _ sound i v _ found.place new (vec_capacity m.slots - 1) last after) (blocks-used_up _ _ _ sound i v _ found.place new (vec_capacity m.slots - 1) last kept)
+    pub took_last : v ≡ last_version → layout new ≡ layout m.slots.items → places_of new ≡ set (places_of m.slots.items) i Retired → Took k x new m.vacant_count
+    took_last last same after =
+        took Retired m.vacant_count after (grind (arith, nat_tests)) (sound-used_up _ _ _ sound i v _ found.place new same after) (ap blocks_of same ∙ rw (eq-eqb v last_version last) refl)
 
-    pub took_other : v ≢ last_version → HasBlockList (layout new) → blocks_of (layout new) ≡ vacated (vacant_at (layout given)) (blocks_of (layout given)) i
-        → places_of new ≡ set (places_of given) i (Vacant (v + 1 + 1)) → Took k x new (m.vacant_count + 1)
-    took_other other list blocks places =
-        let joined = blocks ∙ ap (λ xs. vacated (vacant_at (layout xs)) (blocks_of (layout xs)) i) seen in
-        let after = places ∙ ap (λ xs. set (places_of xs) i (Vacant (v + 1 + 1))) seen in
-        took (Vacant (v + 1 + 1)) (m.vacant_count + 1) after (sound-freed _ _ _ sound i v _ found.place new other list after)
-        (removes-freed _ _ _ sound i v _ found.place new other (vec_capacity m.slots - 1) after) (blocks-freed _ _ _ sound i v _ found.place new other (vec_capacity m.slots - 1) joined)
+    pub took_other : v ≢ last_version → HasBlockList (layout new) → blocks_of (layout new) ≡ vacated (vacant_at (layout m.slots.items)) (blocks_of (layout m.slots.items)) i
+        → places_of new ≡ set (places_of m.slots.items) i (Vacant (v + 1 + 1)) → Took k x new (m.vacant_count + 1)
+    took_other other list blocks after =
+        took (Vacant (v + 1 + 1)) (m.vacant_count + 1) after (grind (arith, nat_tests)) (sound-freed _ _ _ sound i v _ found.place new list after other)
+        (blocks ∙ rw (ne_eqb v last_version other) (ap (λ f. vacated f (blocks_of (layout m.slots.items)) i) (sym (same_counts _ _ _ sound (vec_capacity m.slots - 1)))))
 
   -- the place of the next insert if no slot is vacant: a new one
   pub record AtEnd : Type 0 where

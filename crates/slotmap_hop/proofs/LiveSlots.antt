@@ -1,15 +1,12 @@
 -- The slot of a live key: what a look-up, a removal or a write knows of it, and makes of it.
-use Rattle.std.proofs.Common.{◌≡◌, ◌≢◌, ℕ, ◌+◌, ◌-◌, ◌^◌, ◌<◌, ◌≤◌, true, false, cond, nat_eq, ◌==◌, List}
-use Rattle.std.proofs.Common.{◌∷◌, length, set, slice_get, get_or, Some, None, is_some, sym, ap, subst, ◌∙◌, arith, eq-eqb}
-use Rattle.std.proofs.Common.{ne_eqb}
+use Rattle.std.proofs.Common.{◌≡◌, ◌≢◌, ℕ, ◌+◌, ◌-◌, ◌^◌, ◌<◌, ◌≤◌, true, false, ◌==◌, List}
+use Rattle.std.proofs.Common.{◌∷◌, length, set, slice_get, get_or, Some, None, is_some, sym, ap, subst, ◌∙◌, arith}
 use Rattle.std.proofs.lemmas.Bool.Decides.{nat_tests}
 use Rattle.std.proofs.lemmas.Option.{slice_get_past, same_Some, get_or_from_slice_get}
 use Rattle.std.proofs.lemmas.List.{length-set, set-get_or}
 use Rattle.std.specs.FinMap as map
 use Rattle.slotmap_core.specs.Key.{Key, IsKey, key_cmp, last_version}
-use Rattle.slotmap_core.specs.Transition.{Removes}
-use Rattle.slotmap_core.specs.Places.{Place, Live, Detached, Vacant, Retired, live, live_value}
-use Rattle.slotmap_core.specs.StackMap.{IsStacked}
+use Rattle.slotmap_core.specs.Places.{Live, Vacant, Retired, live, live_value}
 use Rattle.slotmap_core.proofs.GatherLemmas.{slice_get-set_other}
 use Rattle.slotmap_core.proofs.PlacesLemmas.{key, get-live, get-live_at, len-live-set, total}
 use Rattle.slotmap_core.proofs.ContentLemmas.{live_at}
@@ -17,14 +14,13 @@ use Rattle.slotmap_core.proofs.StackLemmas.{not_first, IsStacked-kept, IsStacked
 use Rattle.slotmap_core.proofs.StepLemmas.{content-written}
 use Rattle.slotmap_hop.specs.declared.links.Slot.{Slot}
 use Rattle.slotmap_hop.specs.declared.links.State.TheVariants.{Occupied}
-use Rattle.slotmap_hop.specs.Blocks.{vacated}
-use Rattle.slotmap_hop.specs.Links.{vacant_at, blocks_of, HasBlockList}
-use Rattle.slotmap_hop.specs.HopContent.{counts_vacant, blocks_without, hop_with_value}
+use Rattle.slotmap_hop.specs.Links.{blocks_of, HasBlockList}
+use Rattle.slotmap_hop.specs.HopContent.{hop_with_value}
 use Rattle.slotmap_hop.specs.Slots.{links_in, place_in, layout, places_of, value_of, value_at, CanFree, next_place, offer_at, hop_content, IsSound}
 use Rattle.slotmap_hop.proofs.SlotReads.{length-layout, length-places, slot_cases, layout_at, layout_written, places_written}
-use Rattle.slotmap_hop.proofs.Growth.{IsSound-set, removes-slots}
+use Rattle.slotmap_hop.proofs.Growth.{IsSound-set}
 use Rattle.slotmap_core.proofs.ListLemmas.{same_read}
-use Rattle.slotmap_hop.proofs.SlotLemmas.{key_is, vacant_place, place_not_vacant, slots_fit, same_counts, back_vacant, in_order, ordered_map}
+use Rattle.slotmap_hop.proofs.SlotLemmas.{key_is, vacant_place, place_not_vacant, slots_fit, back_vacant, in_order, ordered_map}
 
 -- the slot of a live place
 live_slot : {V : Type 0} (slots : List (Slot V)) (i v : ℕ) (x : V) → slice_get (places_of slots) i ≡ Some (Live v x)
@@ -112,52 +108,21 @@ module _ {V : Type 0} (slots : List (Slot V)) (vacant elems : ℕ) (sound : IsSo
   pub value_is : (y : V) → value_at slots i ≡ Some y → Some x ≡ Some y
   value_is y is = sym (ap value_of place) ∙ is
 
-  left : (new : List (Slot V)) (p : Place V) → ((u : ℕ) → p ≢ Detached u) → HasBlockList (layout new) → places_of new ≡ set (places_of slots) i p
-      → (vs : List ℕ) → IsStacked (set (places_of slots) i p) vs → (vacant2 elems2 : ℕ) → length vs ≡ vacant2
-      → map.len (live (set (places_of slots) i p)) ≡ elems2 → IsSound new vacant2 elems2
-  left new p = IsSound-set slots vacant elems sound new i (Live v x) p place
-
   -- the slot becomes vacant
-  module _ (new : List (Slot V)) (other : v ≢ last_version) where
-    pub sound-freed : HasBlockList (layout new) → places_of new ≡ set (places_of slots) i (Vacant (v + 1 + 1)) → IsSound new (vacant + 1) (elems - 1)
-    sound-freed list after =
-        let version = sound.stacked.versions i (Live v x) place in
-        left new (Vacant (v + 1 + 1)) (λ u e. absurd (cc)) list after (i ∷ sound.stack)
-        (IsStacked-freed (places_of slots) sound.stack sound.stacked i v (v + 1 + 1) x place (omega (arith, version.0, version.1), omega (arith, version.1)) (omega (arith, version.1))) _ _
-        (omega (arith, sound.counted))
-        (omega (arith, len-live-set (places_of slots) i (Live v x) (Vacant (v + 1 + 1)) place, sound.elems_live))
-
-    test : nat_eq v last_version ≡ false
-    test = ne_eqb v last_version other
-
-    pub removes-freed : (c : ℕ) → places_of new ≡ set (places_of slots) i (Vacant (v + 1 + 1)) → Removes (hop_content slots c).content (key i v) (hop_content new c).content
-    removes-freed c after =
-        let two : v + 1 + 1 ≡ v + 2 = omega arith in
-        removes-slots slots vacant elems sound new c (key i v) x place (after ∙ ap (λ n. set (places_of slots) i (Vacant n)) two
-        ∙ ap (λ b. set (places_of slots) i (cond b Retired (Vacant (v + 2)))) (sym test))
-
-    pub blocks-freed : (c : ℕ) → blocks_of (layout new) ≡ vacated (vacant_at (layout slots)) (blocks_of (layout slots)) i → blocks_of (layout new) ≡ blocks_without (hop_content slots c) (key i v)
-    blocks-freed c after =
-        after ∙ ap (λ f. vacated f (blocks_of (layout slots)) i) (sym (same_counts slots vacant elems sound c))
-        ∙ ap (λ b. cond b (blocks_of (layout slots)) (vacated (counts_vacant (hop_content slots c).content) (blocks_of (layout slots)) i)) (sym test)
+  pub sound-freed : (new : List (Slot V)) → HasBlockList (layout new) → places_of new ≡ set (places_of slots) i (Vacant (v + 1 + 1)) → v ≢ last_version → IsSound new (vacant + 1) (elems - 1)
+  sound-freed new list after other =
+      let version = sound.stacked.versions i (Live v x) place in
+      IsSound-set slots vacant elems sound new i (Live v x) (Vacant (v + 1 + 1)) place (λ u e. absurd (cc)) list after (i ∷ sound.stack)
+      (IsStacked-freed (places_of slots) sound.stack sound.stacked i v (v + 1 + 1) x place (omega (arith, version.0, version.1), omega (arith, version.1)) (omega (arith, version.1))) _ _
+      (omega (arith, sound.counted))
+      (omega (arith, len-live-set (places_of slots) i (Live v x) (Vacant (v + 1 + 1)) place, sound.elems_live))
 
   -- the slot is retired
-  module _ (new : List (Slot V)) where
-    pub sound-used_up : layout new ≡ layout slots → places_of new ≡ set (places_of slots) i Retired → IsSound new vacant (elems - 1)
-    sound-used_up same after =
-        left new Retired (λ u e. absurd (cc)) (subst HasBlockList (sym same) sound.linked) after sound.stack
-        (IsStacked-kept (places_of slots) sound.stack sound.stacked i (Live v x) Retired place (λ n e. absurd (cc)) (λ n e. absurd (cc)) tt) _ _ sound.counted
-        (omega (arith, len-live-set (places_of slots) i (Live v x) Retired place, sound.elems_live))
-
-    pub removes-used_up : (c : ℕ) → v ≡ last_version → places_of new ≡ set (places_of slots) i Retired → Removes (hop_content slots c).content (key i v) (hop_content new c).content
-    removes-used_up c last after =
-        let test : nat_eq v last_version ≡ true = eq-eqb v last_version last in
-        removes-slots slots vacant elems sound new c (key i v) x place (after ∙ ap (λ b. set (places_of slots) i (cond b Retired (Vacant (v + 2)))) (sym test))
-
-    pub blocks-used_up : (c : ℕ) → v ≡ last_version → layout new ≡ layout slots → blocks_of (layout new) ≡ blocks_without (hop_content slots c) (key i v)
-    blocks-used_up c last same =
-        let test : nat_eq v last_version ≡ true = eq-eqb v last_version last in
-        ap blocks_of same ∙ ap (λ b. cond b (blocks_of (layout slots)) (vacated (counts_vacant (hop_content slots c).content) (blocks_of (layout slots)) i)) (sym test)
+  pub sound-used_up : (new : List (Slot V)) → layout new ≡ layout slots → places_of new ≡ set (places_of slots) i Retired → IsSound new vacant (elems - 1)
+  sound-used_up new same after =
+      IsSound-set slots vacant elems sound new i (Live v x) Retired place (λ u e. absurd (cc)) (subst HasBlockList (sym same) sound.linked) after sound.stack
+      (IsStacked-kept (places_of slots) sound.stack sound.stacked i (Live v x) Retired place (λ n e. absurd (cc)) (λ n e. absurd (cc)) tt) _ _ sound.counted
+      (omega (arith, len-live-set (places_of slots) i (Live v x) Retired place, sound.elems_live))
 
 -- another value is written to a live slot
 module _ {V : Type 0} (slots : List (Slot V)) (vacant elems : ℕ) (sound : IsSound slots vacant elems) (i v : ℕ) (x : V)

@@ -1,20 +1,19 @@
 -- What sound slots hold: their blocks, their places, and the content of the map.
 use mathlib.Core.Path.{fun_ext}
-use Rattle.std.proofs.Common.{◌≡◌, ◌≢◌, inl, inr, ℕ, zero, suc, ◌+◌, ◌-◌, ◌^◌, ◌<◌, ◌≤◌, Bool, true, false, eqb, ◌==◌, ◌||◌, List, []}
-use Rattle.std.proofs.Common.{◌∷◌, ◌++◌, length, set, slice_get, Option, Some, None, is_some, refl, sym, ap, subst, ◌∙◌, arith, eq-eqb}
-use Rattle.std.proofs.Common.{ne_eqb, min}
+use Rattle.std.proofs.Common.{◌≡◌, ◌≢◌, inl, inr, ℕ, zero, suc, ◌+◌, ◌^◌, ◌<◌, ◌≤◌, Bool, true, false, eqb, ◌==◌, ◌||◌, List, []}
+use Rattle.std.proofs.Common.{◌∷◌, ◌++◌, length, set, slice_get, Option, Some, refl, sym, ap, subst, ◌∙◌, arith}
 use Rattle.std.proofs.lemmas.Bool.Decides.{nat_tests}
-use Rattle.std.proofs.lemmas.Bool.{cases_lt, cases_Bool}
+use Rattle.std.proofs.lemmas.Bool.{cases_Bool}
 use Rattle.std.proofs.lemmas.List.{length-set}
+use Rattle.std.proofs.Common.{cond}
 use Rattle.std.specs.FinMap as map
 use Rattle.std.specs.FinSet as set
 use Rattle.slotmap_core.specs.Key.{Key, IsKey, key_cmp}
-use Rattle.slotmap_core.specs.Content.{IsContent, places, most}
-use Rattle.slotmap_core.specs.Places.{Place, Detached, Vacant, live, detached, retired, next, is_kept}
+use Rattle.slotmap_core.specs.Content.{IsContent, places}
+use Rattle.slotmap_core.specs.Places.{Place, Vacant, detached, next}
 use Rattle.slotmap_core.specs.StackMap.{StackMap, content, offer, taken, filled, IsVersion, IsStacked}
 use Rattle.slotmap_core.proofs.PlacesLemmas.{key, contains-detached, get-next_at, vacant_at as next_found, total}
-use Rattle.slotmap_core.proofs.ContentLemmas.{some_is, IsContent-stacked}
-use Rattle.slotmap_core.proofs.Maps.{same_bool}
+use Rattle.slotmap_core.proofs.ContentLemmas.{IsContent-stacked}
 use Rattle.slotmap_core.proofs.KeyLemmas.{keys_total, exact_keys}
 use Rattle.slotmap_hop.specs.declared.links.Links.{Links}
 use Rattle.slotmap_hop.specs.declared.links.Slot.{Slot}
@@ -111,29 +110,17 @@ module _ {V : Type 0} (slots : List (Slot V)) (vacant elems : ℕ) (sound : IsSo
     pub fills_end : next_place slots ≡ 0 → (p : Place V) → filled (places_of slots) order p ≡ places_of slots ++ p ∷ []
 
   pub in_order : Ordered
-  in_order = elim (cases_lt 0 (next_place slots)) [
-    | inl some ↦
-        let at = vacant_place slots (next_place slots) back_vacant in
-        let on = sound.stacked.complete (next_place slots) at.0 some at.1 in
-        let test : eqb (next_place slots) 0 ≡ false = ne_eqb (next_place slots) 0 (λ e. omega arith) in
-        record {
-          order = next_place slots ∷ removed sound.stack (next_place slots);
-          ordered = IsStacked-first (places_of slots) sound.stack (next_place slots) sound.stacked on;
-          offers = rw test refl;
-          fills_back = λ _ p. refl;
-          fills_end = λ none p. absurd (omega arith);
-        }
-    | inr none ↦
-        let zero_place : next_place slots ≡ 0 = omega arith in
-        let test : eqb (next_place slots) 0 ≡ true = eq-eqb (next_place slots) 0 zero_place in
-        record {
-          order = [];
-          ordered = subst (IsStacked (places_of slots)) (empty_stack zero_place) sound.stacked;
-          offers = rw test refl;
-          fills_back = λ some p. absurd (omega arith);
-          fills_end = λ _ p. refl;
-        }
-  ]
+  in_order =
+      let at = vacant_place slots (next_place slots) back_vacant in
+      let some = λ (some : 0 < next_place slots). IsStacked-first (places_of slots) sound.stack (next_place slots) sound.stacked (sound.stacked.complete (next_place slots) at.0 some at.1) in
+      let none = λ (none : next_place slots ≡ 0). subst (IsStacked (places_of slots)) (empty_stack none) sound.stacked in
+      record {
+        order = cond (eqb (next_place slots) 0) [] (next_place slots ∷ removed sound.stack (next_place slots));
+        ordered = grind (arith, nat_tests, some, none);
+        offers = grind (arith, nat_tests);
+        fills_back = λ some p. grind (arith, nat_tests);
+        fills_end = λ none p. grind (arith, nat_tests);
+      }
 
   abbrev pub ordered_map : ℕ → StackMap V
   ordered_map c = record { places = places_of slots; vacant = in_order.order; capacity = c }

@@ -1,6 +1,6 @@
 -- A loop over the live keys of a map, which skips vacant places.
-use Rattle.std.proofs.Common.{◌∷◌, ◌≡◌, ◌≢◌, ℕ, ◌+◌, ◌-◌, ◌<◌, true, Option, Some, None, List}
-use Rattle.std.proofs.Common.{is_some, ◌^◌, refl, sym, ap, ◌∙◌, inl, inr, arith}
+use Rattle.std.proofs.Common.{◌∷◌, ◌≡◌, ℕ, ◌+◌, ◌-◌, ◌<◌, true, Option, Some, None, List}
+use Rattle.std.proofs.Common.{◌^◌, refl, sym, ap, ◌∙◌, arith}
 use Rattle.std.specs.FinMap as map
 use Rattle.slotmap_core.specs.Key.{Key}
 use Rattle.slotmap_core.specs.Content.{Content, IsLive}
@@ -13,10 +13,8 @@ use Rattle.slotmap_core.proofs.SweepLemmas.{first_entry, above_next, Swept, Swep
 use Rattle.slotmap_core.proofs.LeaveLemmas.{same_live}
 use Rattle.slotmap_core.proofs.ListingLemmas.{remove-insert}
 use Rattle.slotmap_hop.specs.declared.links.Slot.{Slot}
-use Rattle.slotmap_hop.specs.Blocks.{Begins}
-use Rattle.slotmap_hop.specs.Links.{vacant_at}
 use Rattle.slotmap_hop.specs.HopContent.{HopContent, IsHopContent, IsNextLive, MayStand, StaysHop, hop_with_value, blocks_without, blocks_without_all}
-use Rattle.slotmap_hop.specs.Slots.{layout, hop_content, IsSound}
+use Rattle.slotmap_hop.specs.Slots.{hop_content, IsSound}
 use Rattle.slotmap_hop.specs.Walk.{CanGoOn}
 use Rattle.slotmap_hop.proofs.SlotLemmas.{same_counts}
 use Rattle.slotmap_hop.proofs.BlocksLeft.{blocks_taken, keys_first, keys_none}
@@ -48,13 +46,14 @@ module _ {K V : Type 0} (data_of : K → Key) where
     swept_here : Swept true old.content now.content (data_of k).index
     swept_here = Swept-to old.content now.content i (data_of k).index sweep.swept sweep.comes.1
 
-    -- the next key after a change that keeps the same keys live, except perhaps this one
-    comes_after : (new : Content V) (next : Option K) → ((q : Key) → IsLive new q → IsLive now.content q)
-        → ((q : Key) → IsLive now.content q → q ≢ data_of k → IsLive new q) → IsNextLive data_of now.content ((data_of k).index + 1) next
+    -- the next key after this one, if this one is removed, or has another value
+    comes_removed : (new : Content V) (next : Option K) → new.live ≡ map.remove now.content.live (data_of k) → IsNextLive data_of now.content ((data_of k).index + 1) next
         → IsNextLive data_of new ((data_of k).index + 1) next
-    comes_after new next less more comes = grind (arith, less, more)
+    comes_removed new next gone comes = grind (arith, in_after_remove keys_total exact_keys now.content.live (data_of k), get-remove_other now.content.live (data_of k))
 
-    -- the next key after a write to the value of this one
+    still_comes : (w : V) (i' : ℕ) (next : Option K) → IsNextLive data_of now.content i' next → IsNextLive data_of (with_value now.content (data_of k) w) i' next
+    still_comes w i' next comes = grind (arith, same_live now.content (data_of k) w sweep.comes.0)
+
     pub comes_written : (w : V) (i' : ℕ) (next : Option K) → IsNextLive data_of (with_value now.content (data_of k) w) i' next → IsNextLive data_of now.content i' next
     comes_written w i' next comes = grind (arith, same_live now.content (data_of k) w sweep.comes.0)
 
@@ -65,10 +64,7 @@ module _ {K V : Type 0} (data_of : K → Key) where
     removed_to was new next swept is_live gone comes removes capacity well = record {
       swept = Swept-removed old.content was new.content (data_of k).index (data_of k) swept is_live refl removes capacity well.valid;
       valid = well;
-      comes = comes_after new.content next
-          (λ q there. (in_after_remove keys_total exact_keys now.content.live (data_of k) q (sym (ap (λ m. map.contains_key m q) gone) ∙ there)).1)
-          (λ q there other. ap (λ m. map.contains_key m q) gone ∙ ap is_some (get-remove_other now.content.live (data_of k) q other) ∙ there)
-          comes;
+      comes = comes_removed new.content next gone comes;
     }
 
     pub sweep_removed : (new : HopContent V) (next : Option K) → IsNextLive data_of now.content ((data_of k).index + 1) next
@@ -87,10 +83,7 @@ module _ {K V : Type 0} (data_of : K → Key) where
     sweep_written w next comes = record {
       swept = Swept-on old.content (with_value now.content (data_of k) w) (data_of k).index (Swept-written old.content now.content (data_of k).index (data_of k) w swept_here sweep.comes.0);
       valid = IsHopContent-with_value now (data_of k) w sweep.valid sweep.comes.0;
-      comes = comes_after (with_value now.content (data_of k) w) next
-          (λ q there. sym (same_live now.content (data_of k) w sweep.comes.0 q) ∙ there)
-          (λ q there other. same_live now.content (data_of k) w sweep.comes.0 q ∙ there)
-          comes;
+      comes = still_comes w ((data_of k).index + 1) next comes;
     }
 
   -- the loop so far, with what it says about the keys below its index, and which blocks are to come

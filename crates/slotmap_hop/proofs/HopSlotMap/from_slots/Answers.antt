@@ -1,12 +1,8 @@
-use Rattle.std.proofs.Common.{◌≡◌, ◌+◌, ◌∷◌, ◌++◌, [], length, set, true, refl, sym, ap, subst, ◌∙◌, arith}
+use Rattle.std.proofs.Common.{◌≡◌, ◌∷◌, ◌++◌, [], length, true, refl, sym, ap, subst, ◌∙◌, arith}
 use Rattle.std.specs.Vec.Iter.{into_iter_items}
 use Rattle.std.proofs.lemmas.List.{with_items_is}
-use Rattle.slotmap_core.specs.Places.{Vacant}
 use Rattle.slotmap_core.specs.Slots.{Accepts, AllFitBelow}
 use Rattle.slotmap_core.proofs.ListReadLemmas.{reads_as, taken_first, some_records}
-use Rattle.slotmap_hop.specs.Blocks.{vacated}
-use Rattle.slotmap_hop.specs.Links.{vacant_at, blocks_of}
-use Rattle.slotmap_hop.specs.Slots.{layout, places_of}
 use Rattle.slotmap_hop.proofs.SlotLemmas.{valid, same_length}
 use Rattle.slotmap_hop.proofs.ReadLemmas.{AreRead, AreRead-first, AreRead-vacant, AreRead-in_use, read_count, with_slot, can_open, IsSound-read, starts-read}
 use Rattle.slotmap_hop.proofs.ReadLemmas.{reading_counted, reading_all, reading_on}

@@ -1,11 +1,9 @@
-use Rattle.std.proofs.Common.{◌≡◌, ◌+◌, ◌-◌, ◌∷◌, set, sym, ap, subst, refl, ◌∙◌, arith}
+use Rattle.std.proofs.Common.{◌≡◌, ◌+◌, ◌-◌, ◌∷◌, sym, ap, refl, ◌∙◌, arith}
 use Rattle.std.specs.Vec.{with_items}
 use Rattle.std.proofs.lemmas.List.{with_items_is}
 use Rattle.std.proofs.lemmas.Option.{same_Some}
-use Rattle.slotmap_core.specs.Places.{Retired}
 use Rattle.slotmap_core.proofs.PlacesLemmas.{key}
-use Rattle.slotmap_hop.specs.Slots.{layout, places_of, value_at}
-use Rattle.slotmap_hop.specs.Walk.{pairs_left, IsWalk, FindsSlot, ReadsOnTheWay}
+use Rattle.slotmap_hop.specs.Walk.{pairs_left, IsWalk, FindsSlot}
 use Rattle.slotmap_hop.proofs.SlotLemmas.{same_length}
 use Rattle.slotmap_hop.proofs.LiveSlots.{live_key, value_is}
 use Rattle.slotmap_hop.proofs.Iterators.{can_go_on, pairs-taken, walk_taken}

@@ -1,5 +1,4 @@
-use Rattle.std.proofs.Common.{◌≡◌, refl, sym, ap, ◌∙◌, arith}
-use Rattle.slotmap_core.proofs.PlacesLemmas.{key}
+use Rattle.std.proofs.Common.{refl, sym, ap, ◌∙◌, arith}
 use Rattle.slotmap_hop.proofs.LiveSlots.{live_key}
 use Rattle.slotmap_hop.proofs.Iterators.{can_go_on, walk_on, left_none}
 use Rattle.slotmap_hop.proofs.iter.Iter.step.Goals as goal
