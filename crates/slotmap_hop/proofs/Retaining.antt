@@ -16,7 +16,7 @@ use Rattle.slotmap_core.proofs.KeyedVisits.{Keyed-from_start, Keyed-next, Keyed-
 use Rattle.slotmap_hop.specs.HopContent.{HopContent, IsHopContent, IsNextLive, StaysHop, hop_with_value, blocks_without, blocks_without_all}
 use Rattle.slotmap_hop.specs.Retain.{RetainsByIndex, dropped}
 use Rattle.slotmap_hop.proofs.BlocksLeft.{InOrder, InOrder-kept, InOrder-dropped}
-use Rattle.slotmap_hop.proofs.Sweeping.{Sweeping, sweep_starts, comes_written, sweep_written, sweep_dropped}
+use Rattle.slotmap_hop.proofs.Sweeping.{Sweeping, sweep_starts, same_comes, sweep_written, sweep_dropped}
 
 module _ {F K V : Type 0} (g : Mut F (K × (MutBor V × Unit {0})) (Bool × (MutBor V × Unit {0}))) (data_of : K → Key) (old : HopContent V) (f : F) where
   -- the calls so far, and the key for which the closure is called next
@@ -53,7 +53,7 @@ module _ {F K V : Type 0} (g : Mut F (K × (MutBor V × Unit {0})) (Bool × (Mut
     called = FoldsTo-push (CallsAt g) f so_far.visits f' x f'' so_far.calls call
 
     after : IsNextLive data_of now.content ((data_of x.key).index + 1) next
-    after = comes_written data_of old now so_far.index x.key so_far.sweep x.after ((data_of x.key).index + 1) next comes
+    after = (same_comes data_of old now so_far.index x.key so_far.sweep x.after ((data_of x.key).index + 1) next).0 comes
 
     visited : (live : map.FinMap key_cmp V) → live ≡ cond x.stays (map.insert now.content.live (data_of x.key) x.after) (map.remove now.content.live (data_of x.key))
         → Visits data_of old.content.live (so_far.visits ++ x ∷ []) (from_index ((data_of x.key).index + 1) old.content.live) live

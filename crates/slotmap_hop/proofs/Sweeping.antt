@@ -1,5 +1,5 @@
 -- A loop over the live keys of a map, which skips vacant places.
-use Rattle.std.proofs.Common.{◌∷◌, ◌≡◌, ℕ, ◌+◌, ◌-◌, ◌<◌, true, Option, Some, None, List}
+use Rattle.std.proofs.Common.{◌∷◌, ◌≡◌, ◌↔◌, ℕ, ◌+◌, ◌-◌, ◌<◌, true, Option, Some, None, List}
 use Rattle.std.proofs.Common.{◌^◌, refl, sym, ap, ◌∙◌, arith}
 use Rattle.std.specs.FinMap as map
 use Rattle.slotmap_core.specs.Key.{Key}
@@ -9,7 +9,7 @@ use Rattle.slotmap_core.specs.Transition.{Removes, with_value}
 use Rattle.slotmap_core.proofs.IndexLemmas.{NoneBelow-end, get-remove_other}
 use Rattle.slotmap_core.proofs.Maps.{in_after_remove}
 use Rattle.slotmap_core.proofs.KeyLemmas.{keys_total, exact_keys}
-use Rattle.slotmap_core.proofs.SweepLemmas.{first_entry, above_next, Swept, Swept-start, Swept-to, Swept-on, Swept-written, Swept-removed}
+use Rattle.slotmap_core.proofs.SweepLemmas.{first_entry, above_next, Swept, Swept-start, Swept-to, Swept-on, Swept-next, Swept-removed}
 use Rattle.slotmap_core.proofs.LeaveLemmas.{same_live}
 use Rattle.slotmap_core.proofs.ListingLemmas.{remove-insert}
 use Rattle.slotmap_hop.specs.declared.links.Slot.{Slot}
@@ -43,47 +43,36 @@ module _ {K V : Type 0} (data_of : K → Key) where
   sweep_starts m next well comes = record { swept = Swept-start m.content 0 well.valid; valid = well; comes = comes }
 
   module _ (old now : HopContent V) (i : ℕ) (k : K) (sweep : Sweeping old now i (Some k)) where
-    swept_here : Swept true old.content now.content (data_of k).index
-    swept_here = Swept-to old.content now.content i (data_of k).index sweep.swept sweep.comes.1
+    -- the next key before and after a write to the value of this one
+    pub same_comes : (w : V) (i' : ℕ) (next : Option K) → IsNextLive data_of (with_value now.content (data_of k) w) i' next ↔ IsNextLive data_of now.content i' next
+    same_comes w i' next = (λ comes. grind (arith, same_live now.content (data_of k) w sweep.comes.0), λ comes. grind (arith, same_live now.content (data_of k) w sweep.comes.0))
 
-    -- the next key after this one, if this one is removed, or has another value
     comes_removed : (new : Content V) (next : Option K) → new.live ≡ map.remove now.content.live (data_of k) → IsNextLive data_of now.content ((data_of k).index + 1) next
         → IsNextLive data_of new ((data_of k).index + 1) next
     comes_removed new next gone comes = grind (arith, in_after_remove keys_total exact_keys now.content.live (data_of k), get-remove_other now.content.live (data_of k))
 
-    still_comes : (w : V) (i' : ℕ) (next : Option K) → IsNextLive data_of now.content i' next → IsNextLive data_of (with_value now.content (data_of k) w) i' next
-    still_comes w i' next comes = grind (arith, same_live now.content (data_of k) w sweep.comes.0)
-
-    pub comes_written : (w : V) (i' : ℕ) (next : Option K) → IsNextLive data_of (with_value now.content (data_of k) w) i' next → IsNextLive data_of now.content i' next
-    comes_written w i' next comes = grind (arith, same_live now.content (data_of k) w sweep.comes.0)
-
     -- the key is removed, perhaps after a write to its value
-    removed_to : (was : Content V) (new : HopContent V) (next : Option K) → Swept true old.content was (data_of k).index → IsLive was (data_of k)
+    pub sweep_removed : (was : Content V) (new : HopContent V) (next : Option K) → Swept true old.content was (data_of k).index → IsLive was (data_of k)
         → new.content.live ≡ map.remove now.content.live (data_of k) → IsNextLive data_of now.content ((data_of k).index + 1) next
         → Removes was (data_of k) new.content → new.content.capacity ≡ was.capacity → IsHopContent new → Sweeping old new ((data_of k).index + 1) next
-    removed_to was new next swept is_live gone comes removes capacity well = record {
+    sweep_removed was new next swept is_live gone comes removes capacity well = record {
       swept = Swept-removed old.content was new.content (data_of k).index (data_of k) swept is_live refl removes capacity well.valid;
       valid = well;
       comes = comes_removed new.content next gone comes;
     }
 
-    pub sweep_removed : (new : HopContent V) (next : Option K) → IsNextLive data_of now.content ((data_of k).index + 1) next
-        → Removes now.content (data_of k) new.content → StaysHop now new → Sweeping old new ((data_of k).index + 1) next
-    sweep_removed new next comes removes stays = removed_to now.content new next swept_here sweep.comes.0 removes.live comes removes stays.capacity stays.after
-
     pub sweep_dropped : (w : V) (new : HopContent V) (next : Option K) → IsNextLive data_of now.content ((data_of k).index + 1) next
         → Removes (with_value now.content (data_of k) w) (data_of k) new.content → StaysHop (hop_with_value now (data_of k) w) new → Sweeping old new ((data_of k).index + 1) next
     sweep_dropped w new next comes removes stays =
-        removed_to (with_value now.content (data_of k) w) new next
-        (Swept-written old.content now.content (data_of k).index (data_of k) w swept_here sweep.comes.0) (same_live now.content (data_of k) w sweep.comes.0 (data_of k) ∙ sweep.comes.0)
-        (removes.live ∙ remove-insert now.content.live (data_of k) w) comes removes stays.capacity stays.after
+        sweep_removed (with_value now.content (data_of k) w) new next (Swept-next old.content now.content i (data_of k) w sweep.swept sweep.comes.0 sweep.comes.1)
+        (same_live now.content (data_of k) w sweep.comes.0 (data_of k) ∙ sweep.comes.0) (removes.live ∙ remove-insert now.content.live (data_of k) w) comes removes stays.capacity stays.after
 
     -- the key stays, with another value
     pub sweep_written : (w : V) (next : Option K) → IsNextLive data_of now.content ((data_of k).index + 1) next → Sweeping old (hop_with_value now (data_of k) w) ((data_of k).index + 1) next
     sweep_written w next comes = record {
-      swept = Swept-on old.content (with_value now.content (data_of k) w) (data_of k).index (Swept-written old.content now.content (data_of k).index (data_of k) w swept_here sweep.comes.0);
+      swept = Swept-on old.content (with_value now.content (data_of k) w) (data_of k).index (Swept-next old.content now.content i (data_of k) w sweep.swept sweep.comes.0 sweep.comes.1);
       valid = IsHopContent-with_value now (data_of k) w sweep.valid sweep.comes.0;
-      comes = still_comes w ((data_of k).index + 1) next comes;
+      comes = (same_comes w ((data_of k).index + 1) next).1 comes;
     }
 
   -- the loop so far, with what it says about the keys below its index, and which blocks are to come
@@ -107,7 +96,8 @@ module _ {K V : Type 0} (data_of : K → Key) where
       let first = first_entry now.content well clearing.index (data_of k) least.2 x clearing.above value ∙ ap (λ m. (data_of k, x) ∷ map.entries m) (sym removes.live) in (
         record {
           index = (data_of k).index + 1;
-          sweep = sweep_removed old now clearing.index k clearing.sweep new next comes removes stays;
+          sweep = sweep_removed old now clearing.index k clearing.sweep now.content new next
+              (Swept-to old.content now.content clearing.index (data_of k).index clearing.sweep.swept least.1) least.0 removes.live comes removes stays.capacity stays.after;
           above = rw removes.live (above_next now.content well clearing.index (data_of k) least.2 least.0 clearing.above);
           blocks = clearing.blocks ∙ ap (blocks_without_all now) (keys_first now.content.live new.content.live (data_of k) x first)
               ∙ blocks_taken now new (data_of k) (map.keys new.content.live) removes blocks;

@@ -1,5 +1,5 @@
 -- A map stays well formed when values are written.
-use Rattle.std.proofs.Common.{◌≡◌, ◌+◌, true, cond, refl, ap, ◌∙◌}
+use Rattle.std.proofs.Common.{◌≡◌, true, refl, arith}
 use Rattle.std.specs.FinMap as map
 use Rattle.slotmap_core.specs.Key.{Key}
 use Rattle.slotmap_core.specs.Content.{IsLive}
@@ -10,8 +10,7 @@ use Rattle.slotmap_hop.specs.HopContent.{HopContent, IsHopContent, StaysHop, hop
 -- another value under a live key keeps it well formed
 pub IsHopContent-with_value : {V : Type 0} (m : HopContent V) (k : Key) (w : V) → IsHopContent m → IsLive m.content k → IsHopContent (hop_with_value m k w)
 IsHopContent-with_value m k w well is_live =
-    let same : map.len (map.insert m.content.live k w) ≡ map.len m.content.live = map.len-insert keys_total m.content.live k w
-    ∙ ap (λ b. cond b (map.len m.content.live) (map.len m.content.live + 1)) is_live in
+    let same : map.len (map.insert m.content.live k w) ≡ map.len m.content.live = grind (arith, map.len-insert keys_total m.content.live k w) in
     record {
       valid = IsContent-with_value true m.content well.valid k is_live w;
       none_detached = well.none_detached;

@@ -213,6 +213,7 @@ impl<K: Key, V: Drop> HopSlotMap<K, V> {
         ensures value { result ≡ map.len self.now.content.live }
         ensures valid { IsHopContent self.now }
     {
+        self.note_valid();
         self.live_count as usize
     }
 
@@ -245,6 +246,7 @@ impl<K: Key, V: Drop> HopSlotMap<K, V> {
         ensures value { result ≡ self.now.content.capacity }
         ensures valid { IsHopContent self.now }
     {
+        self.note_valid();
         self.slots.capacity() - 1
     }
 
@@ -255,6 +257,7 @@ impl<K: Key, V: Drop> HopSlotMap<K, V> {
         ensures fits { result ≤ self.now.content.capacity }
         ensures valid { IsHopContent self.now }
     {
+        self.note_valid();
         self.slots.len() - 1 - self.vacant_count as usize
     }
 

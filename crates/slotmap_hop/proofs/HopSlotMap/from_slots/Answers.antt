@@ -52,7 +52,6 @@ loop-slot-preserved-then-is_vacant g c =
     let steps = c.in-Some.ensures.steps in
     let accepts = accepted g (goal.at.loop-slot-preserved-then-is_vacant g c).In_ok-check_slots in
     let next = with_next g (goal.at.loop-slot-preserved-then-is_vacant g c).After-push_reserved-in-loop-slot in
-    let pushed = c.push_reserved-in-loop-slot.ensures in
     let m = c.push_reserved-in-loop-slot.new.self in
     let after = rw (c.as_mut_slice.ensures.value, next, c.len-index.ensures, at.slots.ok.0) at c.open_last.ensures.places in
     let joined = rw (c.as_mut_slice.ensures.value, next, c.len-index.ensures, at.slots.ok.0) at c.open_last.ensures.blocks in
@@ -61,7 +60,7 @@ loop-slot-preserved-then-is_vacant g c =
       reading =
           rw items (reading_on _ _ _ _ _ _ _ reading slot _ _ steps.0 steps.1 4294967295 accepts _ _ (omega arith)
           (λ consistent. AreRead-vacant _ _ _ _ reading.read slot consistent (omega arith) c.open_last.new.slots (sym c.is_vacant.ensures ∙ c.if-is_vacant.true) c.open_last.ensures.list joined after));
-      room = omega (arith, at.invariant.room, steps.1, pushed.len, pushed.capacity);
+      room = omega (arith, at.invariant.room, steps.1, c.push_reserved-in-loop-slot.ensures.len, c.push_reserved-in-loop-slot.ensures.capacity);
     }
 
 pub loop-slot-preserved : goal.loop-slot-preserved
@@ -72,14 +71,13 @@ loop-slot-preserved g c =
     let steps = c.in-Some.ensures.steps in
     let accepts = accepted g (goal.at.loop-slot-preserved g c).In_ok-check_slots in
     let next = with_next g (goal.at.loop-slot-preserved g c).After-push_reserved-in-loop-slot in
-    let pushed = c.push_reserved-in-loop-slot.ensures in
     let count = read_count _ _ _ _ reading.read in
     let counted = reading_counted _ _ _ _ _ _ _ reading in
     record {
       reading =
           rw next (reading_on _ _ _ _ _ _ _ reading slot _ _ steps.0 steps.1 4294967295 accepts _ _ (omega arith)
           (λ consistent. AreRead-in_use _ _ _ _ reading.read slot consistent (omega arith) (sym c.is_vacant.ensures ∙ c.if-is_vacant.false) (omega (arith, accepts.short, counted, steps.1))));
-      room = omega (arith, at.invariant.room, steps.1, pushed.len, pushed.capacity);
+      room = omega (arith, at.invariant.room, steps.1, c.push_reserved-in-loop-slot.ensures.len, c.push_reserved-in-loop-slot.ensures.capacity);
     }
 
 all_read : (g : _) (c : In-None g) → AreRead c.args.list.items c.loop-slot.slots.items c.loop-slot.vacant_count c.loop-slot.live_count
@@ -94,9 +92,7 @@ pub returns-clause-ascending : goal.returns-clause-ascending
 returns-clause-ascending g c = let read = all_read g (goal.at.returns-clause-ascending g c).In-None in rw (read_count _ _ _ _ read) at read.ascending
 
 pub returns-clause-valid : goal.returns-clause-valid
-returns-clause-valid g c =
-    let made = c.loop-slot.slots in
-    valid _ _ _ (invariant_of-result g c) _ (omega (arith, made.ok.0, made.ok.1))
+returns-clause-valid g c = let made = c.loop-slot.slots in valid _ _ _ (invariant_of-result g c) _ (omega (arith, made.ok.0, made.ok.1))
 
 pub returns-clause-reads : goal.returns-clause-reads
 returns-clause-reads g c =

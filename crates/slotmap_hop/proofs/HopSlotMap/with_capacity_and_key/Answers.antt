@@ -21,6 +21,4 @@ returns-clause-room g c =
     (omega (arith, taken-new g.row.V.Denot, c.push_reserved.ensures.capacity, c.in_ok-slots.ensures.capacity, c.if-capacity-gt-MOST_KEYS.false))
 
 pub returns-clause-valid : goal.returns-clause-valid
-returns-clause-valid g c =
-    let made = c.push_reserved.new.self in
-    valid _ _ _ (invariant_of-result g c) _ (omega (arith, made.ok.0, made.ok.1))
+returns-clause-valid g c = let made = c.push_reserved.new.self in valid _ _ _ (invariant_of-result g c) _ (omega (arith, made.ok.0, made.ok.1))
