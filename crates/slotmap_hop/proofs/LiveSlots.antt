@@ -1,5 +1,5 @@
 -- The slot of a live key: what a look-up, a removal or a write knows of it, and makes of it.
-use Rattle.std.proofs.Common.{◌≡◌, ◌≢◌, ℕ, ◌+◌, ◌-◌, ◌^◌, ◌<◌, ◌≤◌, true, false, ◌==◌, List}
+use Rattle.std.proofs.Common.{option_and_then, ◌≡◌, ◌≢◌, ℕ, ◌+◌, ◌-◌, ◌^◌, ◌<◌, ◌≤◌, true, false, ◌==◌, List}
 use Rattle.std.proofs.Common.{◌∷◌, length, set, slice_get, get_or, Some, None, is_some, sym, ap, subst, ◌∙◌, arith}
 use Rattle.std.proofs.lemmas.Bool.Decides.{nat_tests}
 use Rattle.std.proofs.lemmas.Option.{slice_get_past, same_Some, get_or_from_slice_get}
@@ -16,7 +16,7 @@ use Rattle.slotmap_hop.specs.declared.links.Slot.{Slot}
 use Rattle.slotmap_hop.specs.declared.links.State.TheVariants.{Occupied}
 use Rattle.slotmap_hop.specs.Links.{blocks_of, HasBlockList}
 use Rattle.slotmap_hop.specs.HopContent.{hop_with_value}
-use Rattle.slotmap_hop.specs.Slots.{links_in, place_in, layout, places_of, value_of, value_at, CanFree, next_place, offer_at, hop_content, IsSound}
+use Rattle.slotmap_hop.specs.Slots.{links_in, place_in, layout, places_of, value_in, value_at, CanFree, next_place, offer_at, hop_content, IsSound}
 use Rattle.slotmap_hop.proofs.SlotReads.{length-layout, length-places, slot_cases, layout_at, layout_written, places_written}
 use Rattle.slotmap_hop.proofs.Growth.{IsSound-set}
 use Rattle.slotmap_core.proofs.ListLemmas.{same_read}
@@ -101,12 +101,12 @@ module _ {V : Type 0} (slots : List (Slot V)) (vacant elems : ℕ) (sound : IsSo
       inside = omega (arith, live_within, length-layout slots);
     };
     inside = live_within;
-    live = ap (λ p. is_some (value_of p)) place;
+    live = ap (λ o. is_some (option_and_then (λ (s : Slot V). value_in s.state) o)) (live_slot slots i v x place).1;
   }
 
   -- the value that was taken out
   pub value_is : (y : V) → value_at slots i ≡ Some y → Some x ≡ Some y
-  value_is y is = sym (ap value_of place) ∙ is
+  value_is y is = sym (ap (option_and_then (λ (s : Slot V). value_in s.state)) (live_slot slots i v x place).1) ∙ is
 
   -- the slot becomes vacant
   pub sound-freed : (new : List (Slot V)) → HasBlockList (layout new) → places_of new ≡ set (places_of slots) i (Vacant (v + 1 + 1)) → v ≢ last_version → IsSound new (vacant + 1) (elems - 1)

@@ -41,10 +41,9 @@ key_is within version = record { index_fits = omega arith; version_fits = versio
 -- if place 1 isn't vacant and no block begins at a place other than 0, no other place is vacant
 only_zero : (v : ℕ → Bool) → v 1 ≡ false → ((g : ℕ) → IsFront v g → ⊥) → (i : ℕ) → v i ≡ true → i ≡ 0
 only_zero v next none zero here = refl
-only_zero v next none (suc i) here = elim (cases_Bool (v i)) [
-  | inl before ↦ let same : i ≡ 0 = only_zero v next none i before in clash v 1 (subst (λ j. v (suc j) ≡ true) same here) next
-  | inr taken ↦ absurd (none (suc i) (record { positive = omega arith; inside = here; begins = λ left e. let same : left ≡ i = omega arith in rw same taken }))
-]
+only_zero v next none (suc i) here =
+    let taken = λ (taken : v i ≡ false). none (suc i) (record { positive = omega arith; inside = here; begins = λ left e. let same : left ≡ i = omega arith in rw same taken }) in
+    grind (arith, only_zero v next none i, taken)
 
 -- if the block that an insert looks at is place 0 alone, no other place is vacant
 pub none_vacant : (es : List (Option Links)) (fs : List ℕ) → IsLinked es fs → end_at es (next_at es 0) ≡ 0 → (i : ℕ) → vacant_at es i ≡ true → i ≡ 0
