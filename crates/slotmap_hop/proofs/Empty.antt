@@ -1,6 +1,5 @@
 -- A map with no key: slot 0 alone.
-use Rattle.std.proofs.Common.{⊎_elim, ◌≡◌, ℕ, true, List, []}
-use Rattle.std.proofs.Common.{◌∷◌, refl, arith}
+use Rattle.std.proofs.Common.{⊎_elim, ◌≡◌, ℕ, true, List, [], ◌∷◌, refl, arith}
 use Rattle.slotmap_core.specs.Places.{Detached, Vacant}
 use Rattle.slotmap_core.specs.StackMap.{taken}
 use Rattle.slotmap_core.proofs.GatherLemmas.{at_push}

@@ -1,6 +1,5 @@
 -- What an insert makes of sound slots, and what stays when one place changes.
-use Rattle.std.proofs.Common.{⊎_elim, ◌≡◌, ◌≢◌, ℕ, ◌+◌, ◌-◌, ◌^◌, ◌<◌, ◌≤◌, List, []}
-use Rattle.std.proofs.Common.{◌∷◌, ◌++◌, length, set, slice_get, Some, None, sym, ap, subst, ◌∙◌, arith}
+use Rattle.std.proofs.Common.{⊎_elim, ◌≡◌, ◌≢◌, ℕ, ◌+◌, ◌-◌, ◌^◌, ◌<◌, ◌≤◌, List, [], ◌∷◌, ◌++◌, length, set, slice_get, Some, None, sym, ap, subst, ◌∙◌, arith}
 use Rattle.std.proofs.lemmas.List.{map-append}
 use Rattle.std.specs.FinMap as map
 use Rattle.slotmap_core.specs.Key.{Key}
@@ -109,7 +108,8 @@ module _ {V : Type 0} (slots : List (Slot V)) (vacant elems : ℕ) (sound : IsSo
   pub inserts-pushed : (c d : ℕ) (w : V) → next_place slots ≡ 0 → taken (places_of slots) < most → c ≤ d
       → Inserts (hop_content slots c).content (hop_content slots c).content.offer w (hop_content (pushed_slots w) d).content
   inserts-pushed c d w none below more =
-      inserts-slots slots vacant elems sound (pushed_slots w) c d w below more (cc (places-pushed w, (in_order slots vacant elems sound).fills_end none (Live (offer_at (places_of slots) (next_place slots)).version w), offer-end none))
+      inserts-slots slots vacant elems sound (pushed_slots w) c d w below more
+      (cc (places-pushed w, (in_order slots vacant elems sound).fills_end none (Live (offer_at (places_of slots) (next_place slots)).version w), offer-end none))
 
   -- the offered place is filled
   pub sound-filled : (new : List (Slot V)) (w : V) → 0 < next_place slots → HasBlockList (layout new)
@@ -127,7 +127,8 @@ module _ {V : Type 0} (slots : List (Slot V)) (vacant elems : ℕ) (sound : IsSo
       → places_of new ≡ set (places_of slots) (next_place slots) (Live (back_slot.slot.version + 1) w)
       → Inserts (hop_content slots c).content (hop_content slots c).content.offer w (hop_content new d).content
   inserts-filled new c d w some below more after =
-      inserts-slots slots vacant elems sound new c d w below more (cc (after, (in_order slots vacant elems sound).fills_back some (Live (offer_at (places_of slots) (next_place slots)).version w), offer-back some))
+      inserts-slots slots vacant elems sound new c d w below more
+      (cc (after, (in_order slots vacant elems sound).fills_back some (Live (offer_at (places_of slots) (next_place slots)).version w), offer-back some))
 
   -- an insert adds a place just if none is vacant
   pub none_offered : vacant ≡ 0 → next_place slots ≡ 0

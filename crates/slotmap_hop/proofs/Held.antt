@@ -32,7 +32,8 @@ module _ {K V : Type 0} (m : Inside K V) {now : HopContent V} (view : hop_conten
   pub held_room : 0 < now.content.room → (taken (places_of m.slots.items) < most) × (length m.slots.items < vec_capacity m.slots - 1 + 1 + m.vacant_count)
   held_room room = has_room _ _ _ sound _ (subst (λ m. 0 < m.content.room) (sym view) room)
 
-  stays : (new : List (Slot V)) (vacant elems : ℕ) → length new ≡ length m.slots.items → IsSound (with_items m.slots new).items vacant elems → StaysHop now (hop_content (with_items m.slots new).items (vec_capacity m.slots - 1))
+  stays : (new : List (Slot V)) (vacant elems : ℕ) → length new ≡ length m.slots.items → IsSound (with_items m.slots new).items vacant elems
+      → StaysHop now (hop_content (with_items m.slots new).items (vec_capacity m.slots - 1))
   stays new vacant elems size after =
       let items = with_items_is m.slots new (size ∙ sym m.slots.ok.0) in
       record { before = well_formed; after = valid _ vacant elems after _ (omega (arith, ap length items, size, m.slots.ok.0, m.slots.ok.1)); capacity = ap (λ m. m.content.capacity) view }

@@ -1,6 +1,5 @@
 -- The slot of a live key: what a look-up, a removal or a write knows of it, and makes of it.
-use Rattle.std.proofs.Common.{option_and_then, ◌≡◌, ◌≢◌, ℕ, ◌+◌, ◌-◌, ◌^◌, ◌<◌, ◌≤◌, true, false, ◌==◌, List}
-use Rattle.std.proofs.Common.{◌∷◌, length, set, slice_get, get_or, Some, None, is_some, sym, ap, subst, ◌∙◌, arith}
+use Rattle.std.proofs.Common.{option_and_then, ◌≡◌, ◌≢◌, ℕ, ◌+◌, ◌-◌, ◌^◌, ◌<◌, ◌≤◌, true, false, ◌==◌, List, ◌∷◌, length, set, slice_get, get_or, Some, None, is_some, sym, ap, subst, ◌∙◌, arith}
 use Rattle.std.proofs.lemmas.Bool.Decides.{nat_tests}
 use Rattle.std.proofs.lemmas.Option.{slice_get_past, same_Some, get_or_from_slice_get}
 use Rattle.std.proofs.lemmas.List.{length-set, set-get_or}
@@ -29,7 +28,8 @@ live_slot slots i v x place = grind (arith, slot_cases slots i)
 
 module _ {V : Type 0} (slots : List (Slot V)) (vacant elems : ℕ) (sound : IsSound slots vacant elems) where
   pub contains-version : (k : Key) (s : Slot V) → IsKey k → slice_get slots k.index ≡ Some s → (s.version == k.version) ≡ map.contains_key (live (places_of slots)) k
-  contains-version k s is found = grind (arith, nat_tests, is.odd, get-live (places_of slots) k, slot_cases slots k.index, sound.stacked.versions k.index (place_in s.version s.state), sound.none_detached k.index s.version)
+  contains-version k s is found =
+      grind (arith, nat_tests, is.odd, get-live (places_of slots) k, slot_cases slots k.index, sound.stacked.versions k.index (place_in s.version s.state), sound.none_detached k.index s.version)
 
   pub contains-past : (k : Key) → length slots ≤ k.index → map.contains_key (live (places_of slots)) k ≡ false
   contains-past k past = ap is_some (get-live (places_of slots) k ∙ ap (live_value k.version) (slice_get_past (places_of slots) k.index (omega (arith, length-places slots))))

@@ -39,7 +39,8 @@ module _ {F K V : Type 0} (g : Mut F (K × (MutBor V × Unit {0})) (Bool × (Mut
   }
 
   -- the closure may be called for the next key, whose value no call has seen
-  pub retaining_may_come : (now : HopContent V) (k : K) (f' : F) → Retaining now (Some k) f' → MayCome g data_of f old.content.live (data_of k) f' × (map.get old.content.live (data_of k) ≡ map.get now.content.live (data_of k))
+  pub retaining_may_come : (now : HopContent V) (k : K) (f' : F) → Retaining now (Some k) f'
+      → MayCome g data_of f old.content.live (data_of k) f' × (map.get old.content.live (data_of k) ≡ map.get now.content.live (data_of k))
   retaining_may_come now k f' so_far =
       let comes = so_far.sweep.comes in (
         Keyed-may_come data_of old.content.live g f f' so_far.visits so_far.index now.content.live so_far.calls so_far.visited (data_of k) comes.0 comes.1,
@@ -48,7 +49,8 @@ module _ {F K V : Type 0} (g : Mut F (K × (MutBor V × Unit {0})) (Bool × (Mut
 
   -- the closure was called for that key, and the key after it was looked for
   module _ (well : IsHopContent old) {x : Visit K V} {now : HopContent V} {f' f'' : F} (call : CallsAt g f' x f'') (so_far : Retaining now (Some x.key) f')
-      (found : map.get now.content.live (data_of x.key) ≡ Some x.before) (next : Option K) (comes : IsNextLive data_of (with_value now.content (data_of x.key) x.after) ((data_of x.key).index + 1) next) where
+      (found : map.get now.content.live (data_of x.key) ≡ Some x.before) (next : Option K)
+      (comes : IsNextLive data_of (with_value now.content (data_of x.key) x.after) ((data_of x.key).index + 1) next) where
     called : FoldsTo (CallsAt g) f (so_far.visits ++ x ∷ []) f''
     called = FoldsTo-push (CallsAt g) f so_far.visits f' x f'' so_far.calls call
 
@@ -79,7 +81,9 @@ module _ {F K V : Type 0} (g : Mut F (K × (MutBor V × Unit {0})) (Bool × (Mut
       visits = so_far.visits ++ x ∷ [];
       calls = called;
       visited = visited _ (removes.live ∙ remove-insert now.content.live (data_of x.key) x.after ∙ rw stays refl);
-      in_order = InOrder-dropped data_of old now so_far.visits so_far.index so_far.in_order well so_far.visited x so_far.sweep.comes found (hop_with_value now (data_of x.key) x.after) new stays refl refl removes blocks;
+      in_order =
+          InOrder-dropped data_of old now so_far.visits so_far.index so_far.in_order well so_far.visited x so_far.sweep.comes found
+          (hop_with_value now (data_of x.key) x.after) new stays refl refl removes blocks;
     }
 
   -- no key is left

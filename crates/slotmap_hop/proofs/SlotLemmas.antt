@@ -1,11 +1,9 @@
 -- What sound slots hold: their blocks, their places, and the content of the map.
 use mathlib.Core.Path.{fun_ext}
-use Rattle.std.proofs.Common.{◌≡◌, ◌≢◌, inl, inr, ℕ, zero, suc, ◌+◌, ◌^◌, ◌<◌, ◌≤◌, Bool, true, false, eqb, ◌==◌, ◌||◌, List, []}
-use Rattle.std.proofs.Common.{◌∷◌, ◌++◌, length, set, slice_get, Option, Some, refl, sym, ap, subst, ◌∙◌, arith}
+use Rattle.std.proofs.Common.{◌≡◌, ◌≢◌, inl, ℕ, zero, suc, ◌+◌, ◌^◌, ◌<◌, ◌≤◌, Bool, true, false, eqb, ◌==◌, ◌||◌, List, [], ◌∷◌, ◌++◌, length, set, slice_get, Option, Some, refl, sym, ap, subst, ◌∙◌}
+use Rattle.std.proofs.Common.{arith, cond}
 use Rattle.std.proofs.lemmas.Bool.Decides.{nat_tests}
-use Rattle.std.proofs.lemmas.Bool.{cases_Bool}
 use Rattle.std.proofs.lemmas.List.{length-set}
-use Rattle.std.proofs.Common.{cond}
 use Rattle.std.specs.FinMap as map
 use Rattle.std.specs.FinSet as set
 use Rattle.slotmap_core.specs.Key.{Key, IsKey, key_cmp}
@@ -22,7 +20,6 @@ use Rattle.slotmap_hop.specs.Links.{removed, vacant_at, next_at, end_at, fronts_
 use Rattle.slotmap_hop.specs.HopContent.{IsHopContent, counts_vacant}
 use Rattle.slotmap_hop.specs.Slots.{layout, places_of, next_place, offer_at, holding, hop_content, IsSound}
 use Rattle.slotmap_hop.proofs.Chain.{occurs-head}
-use Rattle.slotmap_hop.proofs.BlockLemmas.{clash}
 use Rattle.slotmap_hop.proofs.Circle.{bounded_by_length, circle_block}
 use Rattle.slotmap_hop.proofs.SlotReads.{length-layout, length-places, slot_cases}
 use Rattle.slotmap_hop.proofs.Taking.{first_block, offer_is_end, offer_is_back}

@@ -1,6 +1,5 @@
 -- A loop over the live keys of a map, which skips vacant places.
-use Rattle.std.proofs.Common.{◌∷◌, ◌≡◌, ◌↔◌, ℕ, ◌+◌, ◌-◌, ◌<◌, true, Option, Some, None, List}
-use Rattle.std.proofs.Common.{◌^◌, refl, sym, ap, ◌∙◌, arith}
+use Rattle.std.proofs.Common.{◌∷◌, ◌≡◌, ◌↔◌, ℕ, ◌+◌, ◌-◌, ◌<◌, true, Option, Some, None, List, ◌^◌, refl, sym, ap, ◌∙◌, arith}
 use Rattle.std.specs.FinMap as map
 use Rattle.slotmap_core.specs.Key.{Key}
 use Rattle.slotmap_core.specs.Content.{Content, IsLive}

@@ -28,14 +28,16 @@ loop-next-preserved g c =
     let clearing = rw c.in-Some.is at at.invariant.clearing in
     let comes = rw (c.idx.ensures.value, c.data.ensures.value) at c.first_live-next-in-Some.ensures.comes in
     let took = c.take_live-value.ensures in
+    let pushed = c.push_reserved.ensures in
     let pair : g.row.K.Denot × g.row.V.Denot = (c.in-Some.key, c.take_live-value.result) in
-    let next = clearing_removed g.K.Key.data_of c.args.self.now at.self c.take_live-value.new.self c.in-Some.key c.take_live-value.result _ clearing comes took.value took.removes took.blocks took.valid in
+    let next = clearing_removed g.K.Key.data_of c.args.self.now at.self c.take_live-value.new.self c.in-Some.key c.take_live-value.result _ clearing comes
+    took.value took.removes took.blocks took.valid in
     record {
       clearing = next.0;
       pairs = at.invariant.pairs ++ pair ∷ [];
-      pushed = c.push_reserved.ensures.items ∙ ap (λ xs. xs ++ pair ∷ []) at.invariant.pushed ∙ append_assoc c.args.out.now.items at.invariant.pairs (pair ∷ []);
+      pushed = pushed.items ∙ ap (λ xs. xs ++ pair ∷ []) at.invariant.pushed ∙ append_assoc c.args.out.now.items at.invariant.pairs (pair ∷ []);
       listed = simp (map-append, append_assoc) (at.invariant.listed ∙ ap (λ es. list_map (λ p. (g.K.Key.data_of p.0, p.1)) at.invariant.pairs ++ es) next.1);
-      room = omega (arith, at.invariant.room, c.push_reserved.ensures.len, c.push_reserved.ensures.capacity, ap map.len took.removes.live, len_removed keys_total exact_keys at.self.content.live key clearing.sweep.comes.0);
+      room = omega (arith, at.invariant.room, pushed.len, pushed.capacity, ap map.len took.removes.live, len_removed keys_total exact_keys at.self.content.live key clearing.sweep.comes.0);
     }
 
 pub returns-clause-empty : goal.returns-clause-empty

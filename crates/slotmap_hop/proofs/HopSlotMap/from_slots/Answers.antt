@@ -4,8 +4,7 @@ use Rattle.std.proofs.lemmas.List.{with_items_is}
 use Rattle.slotmap_core.specs.Slots.{Accepts, AllFitBelow}
 use Rattle.slotmap_core.proofs.ListReadLemmas.{reads_as, taken_first, some_records}
 use Rattle.slotmap_hop.proofs.SlotLemmas.{valid, same_length}
-use Rattle.slotmap_hop.proofs.ReadLemmas.{AreRead, AreRead-first, AreRead-vacant, AreRead-in_use, read_count, with_slot, can_open, IsSound-read, starts-read}
-use Rattle.slotmap_hop.proofs.ReadLemmas.{reading_counted, reading_all, reading_on}
+use Rattle.slotmap_hop.proofs.ReadLemmas.{AreRead, AreRead-first, AreRead-vacant, AreRead-in_use, read_count, with_slot, can_open, IsSound-read, starts-read, reading_counted, reading_all, reading_on}
 use Rattle.slotmap_hop.proofs.HopSlotMap.from_slots.Goals.{In_ok-check_slots, In-None, After-push_reserved-in-loop-slot}
 use Rattle.slotmap_hop.proofs.HopSlotMap.from_slots.Goals as goal
 
@@ -18,17 +17,18 @@ loop-slot-init g c =
     let some = some_records list.items 4294967295 (accepted g (goal.at.loop-slot-init g c).In_ok-check_slots) in
     let taken = taken_first _ _ _ _ c.next.result c.next.ensures.cases (omega (arith, some, c.into_iter-records.ensures.len, list.ok.0)) in
     let rest = c.into_iter-slot-iterator.ensures.into_iter_gives in
+    let made = c.in_ok-slots.ensures in
     let whole : taken.0 ∷ into_iter_items c.next.new.self ≡ list.items = sym taken.1 ∙ c.into_iter-records.ensures.rest in
     rw rest (record {
       reading = record {
         first = taken.0;
         all = whole;
         left_is = omega (arith, taken.2, ap length whole, c.into_iter-records.ensures.len, list.ok.0);
-        read = rw (c.push_reserved.ensures.items, c.in_ok-slots.ensures.items) (AreRead-first taken.0);
+        read = rw (c.push_reserved.ensures.items, made.items) (AreRead-first taken.0);
         few_vacant = omega arith;
         few_elems = omega arith;
       };
-      room = omega (arith, taken.2, c.into_iter-records.ensures.len, c.push_reserved.ensures.len, c.push_reserved.ensures.capacity, c.in_ok-slots.ensures.len, c.in_ok-slots.ensures.capacity, c.len.ensures);
+      room = omega (arith, taken.2, c.into_iter-records.ensures.len, c.push_reserved.ensures.len, c.push_reserved.ensures.capacity, made.len, made.capacity, c.len.ensures);
     })
 
 with_next : (g : _) (c : After-push_reserved-in-loop-slot g) → c.push_reserved-in-loop-slot.new.self.items ≡ with_slot _ _ _ _ c.loop-slot.invariant.reading.read c.in-Some.slot
@@ -59,7 +59,8 @@ loop-slot-preserved-then-is_vacant g c =
     record {
       reading =
           rw items (reading_on _ _ _ _ _ _ _ reading slot _ _ steps.0 steps.1 4294967295 accepts _ _ (omega arith)
-          (λ consistent. AreRead-vacant _ _ _ _ reading.read slot consistent (omega arith) c.open_last.new.slots (sym c.is_vacant.ensures ∙ c.if-is_vacant.true) c.open_last.ensures.list joined after));
+          (λ consistent. AreRead-vacant _ _ _ _ reading.read slot consistent (omega arith) c.open_last.new.slots (sym c.is_vacant.ensures ∙ c.if-is_vacant.true)
+          c.open_last.ensures.list joined after));
       room = omega (arith, at.invariant.room, steps.1, c.push_reserved-in-loop-slot.ensures.len, c.push_reserved-in-loop-slot.ensures.capacity);
     }
 

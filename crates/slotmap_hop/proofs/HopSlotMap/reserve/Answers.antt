@@ -21,7 +21,8 @@ returns-clause-makes_room g c =
     let all = taken_slots _ _ _ c.self.invariant in
     let same : used c.args.self.now.content ≡ taken (places_of slots.items) = ap (λ m. used m.content) (sym c.self.view_is) in
     let told = c.used-used.ensures in
-    let none : c.args.self.now.content.room < c.args.additional = omega (arith, told.value, told.below, told.fits, c.capacity.ensures.value, c.if-additional-used.false, c.if-additional-capacity.false) in
+    let none : c.args.self.now.content.room < c.args.additional =
+    omega (arith, told.value, told.below, told.fits, c.capacity.ensures.value, c.if-additional-used.false, c.if-additional-capacity.false) in
     rw c.reserve.ensures.items (grown_granted _ _ _ c.self.invariant _ holds c.self.view_is (vec_capacity c.reserve.new.self) (omega (arith, c.reserve.ensures.capacity)) _ _ none refl
     (omega (arith, told.value, told.below, c.if-additional-used.false))
     (omega (arith, slots.ok.0, c.reserve.ensures.len, c.in_ok-reserve.ensures.ok)))

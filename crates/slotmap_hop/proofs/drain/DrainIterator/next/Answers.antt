@@ -21,7 +21,8 @@ returns g c =
     let least = rw c.in-Some.is at c.requires.1 in
     let comes = rw (c.idx.ensures.value, c.data.ensures.value) at c.first_live-self.ensures.comes in
     let took = c.take_live.ensures in
-    let next = clearing_removed g.K.Key.data_of now now new c.in-Some.key c.take_live.result _ (clearing_starts g.K.Key.data_of now _ c.requires.0 least) comes took.value took.removes took.blocks took.valid in
+    let start = clearing_starts g.K.Key.data_of now _ c.requires.0 least in
+    let next = clearing_removed g.K.Key.data_of now now new c.in-Some.key c.take_live.result _ start comes took.value took.removes took.blocks took.valid in
     let above = after_above g.K.Key.data_of now new c.in-Some.key c.requires.0 least took.removes in
     let can : IsHopContent new × IsNextLive g.K.Key.data_of new.content 0 c.first_live-self.result = (took.valid.after, next_is_least g.K.Key.data_of now new c.first_live-self.result next.0) in
     record {

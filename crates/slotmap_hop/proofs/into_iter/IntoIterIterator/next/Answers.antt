@@ -24,7 +24,8 @@ exact-requires g c = live_key _ _ _ c.self.invariant.stands.sound _ _ _ (found g
 -- the value that was found is moved out
 moved : (g : _) (c : After-use_up-value g) → FindsSlot c.self.inside.slots.items c.self.inside.place c.next_live-place.result.0 c.next_live-place.result.1.now
     → IsWalk (with_items c.self.inside.slots c.use_up-value.new.slots).items 0 (c.next_live-place.result.0 + 1) (c.self.inside.left - 1) × (pairs_left c.self.inside.slots.items c.self.inside.place
-    ≡ (key c.next_live-place.result.0 c.next_live-place.result.1.now.version, c.use_up-value.result) ∷ pairs_left (with_items c.self.inside.slots c.use_up-value.new.slots).items (c.next_live-place.result.0 + 1))
+    ≡ (key c.next_live-place.result.0 c.next_live-place.result.1.now.version, c.use_up-value.result)
+    ∷ pairs_left (with_items c.self.inside.slots c.use_up-value.new.slots).items (c.next_live-place.result.0 + 1))
 moved g c found =
     let walk = c.self.invariant in
     let way = rw (c.new-counted.ensures.slots, c.as_slice.ensures.value, c.new-counted.ensures.reads) at c.next_live-place.ensures.reads in
