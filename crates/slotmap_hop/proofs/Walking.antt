@@ -17,7 +17,7 @@ use Rattle.slotmap_hop.specs.declared.links.State.TheVariants.{Occupied, Free}
 use Rattle.slotmap_hop.specs.Blocks.{Begins, IsBlock}
 use Rattle.slotmap_hop.specs.Links.{vacant_at, links_at, end_at}
 use Rattle.slotmap_hop.specs.Slots.{place_in, layout, places_of}
-use Rattle.slotmap_hop.specs.Walk.{pairs_left, retired_left, StandsAt, CanGoOn, FindsNone, FindsSlot, ReadsOnTheWay}
+use Rattle.slotmap_hop.specs.Walk.{Counted, pairs_left, retired_left, StandsAt, CanGoOn, FindsNone, FindsSlot, ReadsOnTheWay}
 use Rattle.slotmap_hop.proofs.BlockLemmas.{clash, begins_after, back_of}
 use Rattle.slotmap_hop.proofs.Circle.{bounded_by_length}
 use Rattle.slotmap_hop.proofs.SlotReads.{length-places, slot_cases, slot_within, place_at}
@@ -68,22 +68,24 @@ module _ {V : Type 0} (slots : List (Slot V)) where
   stands_on i j stands front = record { vacant = stands.vacant; elems = stands.elems; sound = stands.sound; at_front = front }
 
 module _ {V : Type 0} (slots : List (Slot V)) (reads0 start : ℕ) where
-  -- on the way from a place to the next live one: no live key was passed
-  pub record OnTheWay (reads place : ℕ) : Type 0 where
+  -- on the way from a place to the next live one: the slots are as they were, and no live key was passed
+  pub record OnTheWay (now : Counted V) (place : ℕ) : Type 0 where
+    pub kept : now.slots ≡ slots
     pub stands : StandsAt slots place
     pub same : pairs_left slots start ≡ pairs_left slots place
     pub none : (q : Key) → map.contains_key (live (places_of slots)) q ≡ true → start ≤ q.index → place ≤ q.index
     pub gone : List Key
     pub still : retired_left slots start ≡ gone ++ retired_left slots place
     pub below : All (λ k. k.index < place) gone
-    pub few_vacant : vacant_at (layout slots) place ≡ true → reads ≤ reads0 + 2 * length gone
-    pub few : reads ≤ reads0 + 2 * length gone + 1
-    pub passed : reads + start ≤ reads0 + place
-    pub begun : reads0 ≤ reads
+    pub few_vacant : vacant_at (layout slots) place ≡ true → now.reads ≤ reads0 + 2 * length gone
+    pub few : now.reads ≤ reads0 + 2 * length gone + 1
+    pub passed : now.reads + start ≤ reads0 + place
+    pub begun : reads0 ≤ now.reads
     pub before : reads0 ≤ start
 
-  pub way_begins : CanGoOn slots reads0 start → OnTheWay reads0 start
-  way_begins can = record {
+  pub way_begins : (now : Counted V) → now.slots ≡ slots → now.reads ≡ reads0 → CanGoOn slots reads0 start → OnTheWay now start
+  way_begins now kept none can = record {
+    kept = kept;
     stands = can.stands;
     same = refl;
     none = λ q there from. from;
@@ -98,36 +100,38 @@ module _ {V : Type 0} (slots : List (Slot V)) (reads0 start : ℕ) where
   }
 
   -- after all places nothing is left
-  pub way_ends : (reads place : ℕ) → OnTheWay reads place → length slots ≤ place → FindsNone slots start
-  way_ends reads place way past = record {
+  pub way_ends : (now : Counted V) (place : ℕ) → OnTheWay now place → length slots ≤ place → FindsNone slots start
+  way_ends now place way past = record {
     none = way.same ∙ ap (pairs_from place) (drop_all place (places_of slots) (omega (arith, length-places slots)));
     below = λ q there. (let at = live_at (places_of slots) q there in grind (arith, way.none q there, slice_get_within (places_of slots) q.index, length-places slots));
   }
 
   -- what is left lies ahead
-  pub way_inside : (reads place : ℕ) → OnTheWay reads place → 0 < length (pairs_left slots start) → place < length slots
-  way_inside reads place way some = grind (arith, λ (past : length slots ≤ place). ap length (way_ends reads place way past).none)
+  pub way_inside : (now : Counted V) (place : ℕ) → OnTheWay now place → 0 < length (pairs_left slots start) → place < length slots
+  way_inside now place way some = grind (arith, λ (past : length slots ≤ place). ap length (way_ends now place way past).none)
 
-  pub way_few : (reads place : ℕ) → OnTheWay reads place → reads ≤ reads0 + 2 * length (retired_left slots start) + 1
-  way_few reads place way = omega (arith, way.few, ap length way.still, length-append way.gone (retired_left slots place))
+  pub way_few : (now : Counted V) (place : ℕ) → OnTheWay now place → now.reads ≤ reads0 + 2 * length (retired_left slots start) + 1
+  way_few now place way = omega (arith, way.few, ap length way.still, length-append way.gone (retired_left slots place))
 
-  -- the slot to which the search has come
-  pub record At (reads place : ℕ) (s : Slot V) : Type 0 where
-    pub way : OnTheWay reads place
+  pub way_room : (now : Counted V) (place : ℕ) → OnTheWay now place → place < length slots → now.reads + 1 < 2 ^ 64
+  way_room now place way inside = omega (arith, inside, way.passed, way.before, slots_fit slots _ _ way.stands.sound)
+
+  -- a search that has come to this place reads the slot there
+  pub record Reads (now : Counted V) (place : ℕ) (s : Slot V) (new : Counted V) : Type 0 where
+    pub way : OnTheWay now place
     pub inside : place < length slots
     pub found : slice_get slots place ≡ Some s
+    pub kept : new.slots ≡ slots
+    pub one : new.reads ≡ now.reads + 1
 
   -- a block that begins there is skipped in one step
-  pub record Hops (reads place : ℕ) (links : Links) : Type 0 where
-    pub on : OnTheWay (reads + 1) (links.other_end + 1)
-    pub ahead : place ≤ links.other_end
+  pub record Hops (now new : Counted V) (place : ℕ) (links : Links) : Type 0 where
+    pub on : OnTheWay new (links.other_end + 1)
     pub within : links.other_end < length slots
+    pub smaller : length new.slots - (links.other_end + 1) < length now.slots - place
 
-  pub way_room : (reads place : ℕ) → OnTheWay reads place → place < length slots → reads + 1 < 2 ^ 64
-  way_room reads place way inside = omega (arith, inside, way.passed, way.before, slots_fit slots _ _ way.stands.sound)
-
-  module _ {reads place : ℕ} {s : Slot V} (at : At reads place s) where
-    pub way_hops : (links : Links) → s.state ≡ Free links → Hops reads place links
+  module _ {now new : Counted V} {place : ℕ} {s : Slot V} (at : Reads now place s new) where
+    pub way_hops : (links : Links) → s.state ≡ Free links → Hops now new place links
     way_hops links is =
         let v = vacant_at (layout slots) in
         let free : (vacant_at (layout slots) place ≡ true) × (links_at (layout slots) place ≡ links) = grind (arith, slot_cases slots place, at.found) in
@@ -135,8 +139,10 @@ module _ {V : Type 0} (slots : List (Slot V)) (reads0 start : ℕ) where
         let block : IsBlock v place links.other_end = rw back (block_here slots place at.way.stands free.0) in
         let past = past_block slots place links.other_end block in
         let few = at.way.few_vacant free.0 in
+        let within = slot_within slots links.other_end (block.inside links.other_end block.ordered (omega arith)) in
         record {
           on = record {
+            kept = at.kept;
             stands = stands_on slots place (links.other_end + 1) at.way.stands (λ again. clash v (links.other_end + 1) again block.ends);
             same = at.way.same ∙ past.0;
             none = λ q there from. (let live = live_at (places_of slots) q there in grind (arith, at.way.none q there from, block.inside q.index, slot_cases slots q.index));
@@ -149,19 +155,20 @@ module _ {V : Type 0} (slots : List (Slot V)) (reads0 start : ℕ) where
             begun = omega (arith, at.way.begun);
             before = at.way.before;
           };
-          ahead = block.ordered;
-          within = slot_within slots links.other_end (block.inside links.other_end block.ordered (omega arith));
+          within = within;
+          smaller = rw (at.kept, at.way.kept) (omega (arith, within, block.ordered));
         }
 
     here : (slice_get (places_of slots) place ≡ Some (place_in s.version s.state)) × HasVersion (place_in s.version s.state) × ((v : ℕ) → place_in s.version s.state ≢ Detached v)
     here = let is = place_at slots place s at.found in (is, at.way.stands.sound.stacked.versions place _ is, λ v e. at.way.stands.sound.none_detached place v (is ∙ ap Some e))
 
     -- a slot that is neither live nor vacant is retired, and is passed
-    pub way_passes : s.version % 2 ≢ 1 → ((links : Links) → s.state ≢ Free links) → OnTheWay (reads + 1) (place + 1)
+    pub way_passes : s.version % 2 ≢ 1 → ((links : Links) → s.state ≢ Free links) → OnTheWay new (place + 1)
     way_passes even other =
         let spent : slice_get (places_of slots) place ≡ Some Retired = grind (arith, here, other) in
         let more = length-append at.way.gone (key place last_version ∷ []) in
         record {
+          kept = at.kept;
           stands = stands_on slots place (place + 1) at.way.stands (λ _. begins_after (vacant_at (layout slots)) place (place_not_vacant slots place Retired spent (λ n e. absurd (cc))));
           same = at.way.same ∙ left-on slots pairs_from place Retired spent;
           none = λ q there from. (let live = live_at (places_of slots) q there in grind (arith, at.way.none q there from));
@@ -179,23 +186,23 @@ module _ {V : Type 0} (slots : List (Slot V)) (reads0 start : ℕ) where
         }
 
     -- a slot of an odd version is live: it is what the search looks for
-    pub way_finds : s.version % 2 ≡ 1 → FindsSlot slots start place s × ReadsOnTheWay slots reads0 start (reads + 1) place
+    pub way_finds : s.version % 2 ≡ 1 → FindsSlot slots start place s × ReadsOnTheWay slots reads0 start new.reads place
     way_finds odd =
         let live : (x : V) × (s.state ≡ Occupied x) = grind (arith, here) in
-        let there = here.0 ∙ ap (λ st. Some (place_in s.version st)) live.1 in
-        let still = at.way.still ∙ ap (λ ks. at.way.gone ++ ks) (left-on slots retired_from place (Live s.version live.0) there) in (
+        let live_there = here.0 ∙ ap (λ st. Some (place_in s.version st)) live.1 in
+        let gone = at.way.still ∙ ap (λ ks. at.way.gone ++ ks) (left-on slots retired_from place (Live s.version live.0) live_there) in (
           record {
             value = live.0;
             is = live.1;
-            finds = record { there = there; first = at.way.same ∙ left-on slots pairs_from place (Live s.version live.0) there; least = at.way.none };
+            finds = record { there = live_there; first = at.way.same ∙ left-on slots pairs_from place (Live s.version live.0) live_there; least = at.way.none };
           },
           record {
             gone = at.way.gone;
-            still = still;
+            still = gone;
             before = at.way.below;
             after = above place (place + 1) (drop (place + 1) (places_of slots)) (omega arith);
-            some = omega (arith, at.way.begun);
-            few = omega (arith, at.way.few, ap length still, length-append at.way.gone (retired_left slots (place + 1)));
-            passed = omega (arith, at.way.passed);
+            some = omega (arith, at.one, at.way.begun);
+            few = omega (arith, at.one, at.way.few, ap length gone, length-append at.way.gone (retired_left slots (place + 1)));
+            passed = omega (arith, at.one, at.way.passed);
           },
         )
