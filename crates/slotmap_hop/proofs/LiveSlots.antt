@@ -2,6 +2,7 @@
 use Rattle.std.proofs.Common.{option_and_then, ◌≡◌, ◌≢◌, ℕ, ◌+◌, ◌-◌, ◌^◌, ◌<◌, ◌≤◌, true, false, ◌==◌, List, ◌∷◌, length, set, slice_get, get_or, Some, None, is_some, sym, ap, subst, ◌∙◌, arith}
 use Rattle.std.proofs.lemmas.Bool.Decides.{nat_tests}
 use Rattle.std.proofs.lemmas.Option.{slice_get_past, same_Some, get_or_from_slice_get}
+use Rattle.std.proofs.Math.Seq.{map-set_same}
 use Rattle.std.proofs.lemmas.List.{length-set, set-get_or}
 use Rattle.std.specs.FinMap as map
 use Rattle.slotmap_core.specs.Key.{Key, IsKey, key_cmp, last_version}
@@ -16,7 +17,7 @@ use Rattle.slotmap_hop.specs.declared.links.State.TheVariants.{Occupied}
 use Rattle.slotmap_hop.specs.Links.{blocks_of, HasBlockList}
 use Rattle.slotmap_hop.specs.HopContent.{hop_with_value}
 use Rattle.slotmap_hop.specs.Slots.{links_in, place_in, layout, places_of, value_in, value_at, CanFree, next_place, offer_at, hop_content, IsSound}
-use Rattle.slotmap_hop.proofs.SlotReads.{length-layout, length-places, slot_cases, layout_at, layout_written, places_written}
+use Rattle.slotmap_hop.proofs.SlotReads.{length-layout, length-places, slot_cases, places_written}
 use Rattle.slotmap_hop.proofs.Growth.{IsSound-set}
 use Rattle.slotmap_core.proofs.ListLemmas.{same_read}
 use Rattle.slotmap_hop.proofs.SlotLemmas.{key_is, vacant_place, place_not_vacant, slots_fit, back_vacant, in_order, ordered_map}
@@ -133,9 +134,8 @@ module _ {V : Type 0} (slots : List (Slot V)) (vacant elems : ℕ) (sound : IsSo
   layout-rewritten : layout rewritten ≡ layout slots
   layout-rewritten =
       let old : Slot V = record { version = v; state = Occupied x } in
-      let slot = live_slot slots i v x place in
-      layout_written slots i (Occupied w) u ∙ ap (set (layout slots) i) (sym (layout_at slots i old slot.0 ∙ ap (λ s. links_in s.state) (get_or_from_slice_get slots i old old slot.1)))
-      ∙ set-get_or (layout slots) i None
+      let read = get_or_from_slice_get slots i old old (live_slot slots i v x place).1 in
+      map-set_same (λ (s : Slot V). links_in s.state) slots i _ old (sym (ap (λ s. links_in s.state) read))
 
   places-rewritten : places_of rewritten ≡ set (places_of slots) i (Live v w)
   places-rewritten = places_written slots i (Occupied w) u ∙ ap (λ u. set (places_of slots) i (Live u w)) same

@@ -12,12 +12,10 @@ found g c =
 pub overflow_sub-self : goal.overflow_sub-self
 overflow_sub-self g c = elems_positive _ _ _ c.self.invariant _ _ _ (found g (goal.at.overflow_sub-self g c).After-self).place
 
-pub use_up-requires-clause-inside : goal.use_up-requires-clause-inside
-use_up-requires-clause-inside g c = rw c.as_mut_slice.ensures.value (found g (goal.at.use_up-requires-clause-inside g c).After-self).within
-
-pub use_up-requires-clause-live : goal.use_up-requires-clause-live
-use_up-requires-clause-live g c =
-    rw c.as_mut_slice.ensures.value (can_free _ _ _ c.self.invariant _ _ _ (found g (goal.at.use_up-requires-clause-live g c).After-self).place).live
+pub use_up-requires : goal.use_up-requires
+use_up-requires g c =
+    let can = can_free _ _ _ c.self.invariant _ _ _ (found g (goal.at.use_up-requires g c).After-self).place in
+    rw c.as_mut_slice.ensures.value (record { inside = can.inside; live = can.live })
 
 last : (g : _) (c : After-use_up g) → Present c.self.inside.slots.items c.args.self.now.content.live (g.K.Key.data_of c.args.key) c.idx-index.result c.version-version.result
     → Took c.self.inside c.self.view_is c.self.invariant (g.K.Key.data_of c.args.key) c.use_up.result c.use_up.new.slots c.self.inside.vacant_count
