@@ -149,8 +149,7 @@ module _ {V : Type 0} (slots : List (Slot V)) (vacant elems : ℕ) (sound : IsSo
   same_offer : offer_at (set (places_of slots) i (Live v w)) (next_place slots) ≡ offer_at (places_of slots) (next_place slots)
   same_offer =
       let at = vacant_place slots (next_place slots) (back_vacant slots vacant elems sound) in
-      let other : next_place slots ≢ i = λ e. was_live slots vacant elems sound i v x place at.0 (same_Some _ _ (sym place ∙ ap (slice_get (places_of slots)) (sym e) ∙ at.1)) in
-      grind (arith, length-set (places_of slots) i (Live v w), slice_get-set_other (places_of slots) i (next_place slots) (Live v w) other)
+      grind (arith, length-set (places_of slots) i (Live v w), slice_get-set_other (places_of slots) i (next_place slots) (Live v w))
 
   pub content-rewritten : (c : ℕ) → hop_content rewritten c ≡ hop_with_value (hop_content slots c) (key i v) w
   content-rewritten c =

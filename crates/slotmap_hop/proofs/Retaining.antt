@@ -11,12 +11,13 @@ use Rattle.slotmap_core.specs.Retain.{Visit, CallsAt, MayCome, seen}
 use Rattle.slotmap_core.proofs.IndexLemmas.{from_index, from_index-start, none_live, in_from}
 use Rattle.slotmap_core.proofs.OrderLemmas.{entries_none}
 use Rattle.slotmap_core.proofs.ListingLemmas.{remove-insert}
+use Rattle.slotmap_core.proofs.SweepLemmas.{Swept-start}
 use Rattle.slotmap_core.proofs.VisitLemmas.{Visits, Visits-listed, Visits-stay}
 use Rattle.slotmap_core.proofs.KeyedVisits.{Keyed-from_start, Keyed-next, Keyed-same, Keyed-may_come}
 use Rattle.slotmap_hop.specs.HopContent.{HopContent, IsHopContent, IsNextLive, StaysHop, hop_with_value, blocks_without, blocks_without_all}
 use Rattle.slotmap_hop.specs.Retain.{RetainsByIndex, dropped}
 use Rattle.slotmap_hop.proofs.BlocksLeft.{InOrder, InOrder-kept, InOrder-dropped}
-use Rattle.slotmap_hop.proofs.Sweeping.{Sweeping, sweep_starts, same_comes, sweep_written, sweep_dropped}
+use Rattle.slotmap_hop.proofs.Sweeping.{Sweeping, same_comes, sweep_written, sweep_dropped}
 
 module _ {F K V : Type 0} (g : Mut F (K × (MutBor V × Unit {0})) (Bool × (MutBor V × Unit {0}))) (data_of : K → Key) (old : HopContent V) (f : F) where
   -- the calls so far, and the key for which the closure is called next
@@ -31,7 +32,7 @@ module _ {F K V : Type 0} (g : Mut F (K × (MutBor V × Unit {0})) (Bool × (Mut
   pub retaining_starts : (next : Option K) → IsHopContent old → IsNextLive data_of old.content 0 next → Retaining old next f
   retaining_starts next well comes = record {
     index = 0;
-    sweep = sweep_starts data_of old next well comes;
+    sweep = record { swept = Swept-start old.content 0 well.valid; valid = well; comes = comes };
     visits = [];
     calls = refl;
     visited = Keyed-from_start data_of old.content.live;

@@ -94,8 +94,7 @@ module _ {V : Type 0} (slots : List (Slot V)) (vacant elems : ℕ) (sound : IsSo
       by [] stacked = refl
       by (i ∷ rest) stacked =
           let at = stacked.listed i (inl refl) in
-          let is = none_vacant (layout slots) (fronts_of (layout slots)) sound.linked.linked none i (place_vacant slots i at.1.0 at.1.1) in
-          absurd (omega (arith, at.0))
+          absurd (omega (arith, at.0, none_vacant (layout slots) (fronts_of (layout slots)) sound.linked.linked none i (place_vacant slots i at.1.0 at.1.1)))
 
   -- the vacant places, in an order that starts with the one that the next insert uses
   pub record Ordered : Type 0 where

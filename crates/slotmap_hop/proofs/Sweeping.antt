@@ -38,9 +38,6 @@ module _ {K V : Type 0} (data_of : K → Key) where
     pub valid : IsHopContent now
     pub comes : IsNextLive data_of now.content index next
 
-  pub sweep_starts : (m : HopContent V) (next : Option K) → IsHopContent m → IsNextLive data_of m.content 0 next → Sweeping m m 0 next
-  sweep_starts m next well comes = record { swept = Swept-start m.content 0 well.valid; valid = well; comes = comes }
-
   module _ (old now : HopContent V) (i : ℕ) (k : K) (sweep : Sweeping old now i (Some k)) where
     -- the next key before and after a write to the value of this one
     pub same_comes : (w : V) (i' : ℕ) (next : Option K) → IsNextLive data_of (with_value now.content (data_of k) w) i' next ↔ IsNextLive data_of now.content i' next
@@ -82,7 +79,7 @@ module _ {K V : Type 0} (data_of : K → Key) where
     pub blocks : blocks_without_all old (map.keys old.content.live) ≡ blocks_without_all now (map.keys now.content.live)
 
   pub clearing_starts : (m : HopContent V) (next : Option K) → IsHopContent m → IsNextLive data_of m.content 0 next → Clearing m m next
-  clearing_starts m next well comes = record { index = 0; sweep = sweep_starts m next well comes; above = λ q there. omega arith; blocks = refl }
+  clearing_starts m next well comes = record { index = 0; sweep = record { swept = Swept-start m.content 0 well.valid; valid = well; comes = comes }; above = λ q there. omega arith; blocks = refl }
 
   -- the next key is removed, which was the first one
   pub clearing_removed : (old now new : HopContent V) (k : K) (x : V) (next : Option K) → Clearing old now (Some k)

@@ -1,5 +1,5 @@
 -- A map stays well formed when values are written.
-use Rattle.std.proofs.Common.{◌≡◌, true, refl, arith}
+use Rattle.std.proofs.Common.{◌≡◌, true, arith}
 use Rattle.std.specs.FinMap as map
 use Rattle.slotmap_core.specs.Key.{Key}
 use Rattle.slotmap_core.specs.Content.{IsLive}
@@ -21,6 +21,3 @@ IsHopContent-with_value m k w well is_live =
 -- and keeps the capacity
 pub StaysHop-with_value : {V : Type 0} (m now : HopContent V) (k : Key) (w : V) → StaysHop m now → IsLive now.content k → StaysHop m (hop_with_value now k w)
 StaysHop-with_value m now k w stays is_live = record { before = stays.before; after = IsHopContent-with_value now k w stays.after is_live; capacity = stays.capacity }
-
-pub StaysHop-start : {V : Type 0} (m : HopContent V) → IsHopContent m → StaysHop m m
-StaysHop-start m well = record { before = well; after = well; capacity = refl }
