@@ -5,7 +5,7 @@ use Rattle.slotmap_core.proofs.GatherLemmas.{at_push}
 use Rattle.slotmap_hop.specs.declared.links.Slot.{Slot}
 use Rattle.slotmap_hop.specs.declared.links.State.TheVariants.{Free}
 use Rattle.slotmap_hop.specs.Links.{vacant_at, IsLinked}
-use Rattle.slotmap_hop.specs.Slots.{layout, places_of, IsSound}
+use Rattle.slotmap_hop.specs.Slots.{layout, IsSound}
 use Rattle.slotmap_hop.proofs.SlotReads.{slot_cases}
 use Rattle.slotmap_core.proofs.SlotGrowth.{IsSound-sentinel}
 

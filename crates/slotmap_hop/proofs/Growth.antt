@@ -19,7 +19,7 @@ use Rattle.slotmap_hop.proofs.SlotReads.{length-layout, length-places}
 use Rattle.slotmap_hop.proofs.Taking.{HasBlockList-pushed, blocks_pushed, shorter_none}
 use Rattle.slotmap_hop.proofs.StackOrder.{IsStacked-first, length_removed, untold, Inserts-untold, Removes-untold}
 use Rattle.slotmap_core.proofs.GatherLemmas.{at_set, at_push}
-use Rattle.slotmap_hop.proofs.SlotLemmas.{taken_slots, vacant_slot, back_vacant, empty_stack, in_order, ordered_map, content_is}
+use Rattle.slotmap_hop.proofs.SlotLemmas.{vacant_slot, back_vacant, empty_stack, in_order, ordered_map, content_is}
 
 module _ {V : Type 0} (slots : List (Slot V)) (vacant elems : ℕ) (sound : IsSound slots vacant elems) (new : List (Slot V)) where
   -- one place changes; the new stack and both counts are given
@@ -54,10 +54,6 @@ module _ {V : Type 0} (slots : List (Slot V)) (vacant elems : ℕ) (sound : IsSo
   removes-slots c k x was after = rw after (Removes-untold _ _ k _ _ (removes (ordered_map slots vacant elems sound c) (in_order slots vacant elems sound).ordered k x was))
 
 module _ {V : Type 0} (slots : List (Slot V)) (vacant elems : ℕ) (sound : IsSound slots vacant elems) where
-  -- what room means for the vector
-  pub has_room : (c : ℕ) → 0 < (hop_content slots c).content.room → (taken (places_of slots) < most) × (length slots < c + 1 + vacant)
-  has_room c room = let all = taken_slots slots vacant elems sound in (omega arith, omega arith)
-
   pub none_left : next_place slots ≡ 0 → vacant ≡ 0
   none_left none = omega (arith, sound.counted, ap length (empty_stack slots vacant elems sound none))
 

@@ -18,7 +18,7 @@ use Rattle.slotmap_hop.specs.Links.{vacant_at, blocks_of, HasBlockList}
 use Rattle.slotmap_hop.specs.HopContent.{HopContent, IsHopContent, StaysHop, blocks_without}
 use Rattle.slotmap_hop.specs.Slots.{layout, places_of, value_at, next_place, hop_content, IsSound}
 use Rattle.slotmap_hop.proofs.SlotLemmas.{valid, same_length, same_counts, key_is, slots_fit, taken_slots}
-use Rattle.slotmap_hop.proofs.Growth.{removes-slots, back_slot, has_room, none_left, none_offered, some_offered, offer-end, offer-back, sound-filled, inserts-filled}
+use Rattle.slotmap_hop.proofs.Growth.{removes-slots, back_slot, none_left, none_offered, some_offered, offer-end, offer-back, sound-filled, inserts-filled}
 use Rattle.slotmap_hop.proofs.LiveSlots.{Present, present, value_is, sound-freed, sound-used_up}
 
 module _ {K V : Type 0} (m : Inside K V) {now : HopContent V} (view : hop_content m.slots.items (vec_capacity m.slots - 1) ≡ now) (sound : IsSound m.slots.items m.vacant_count m.live_count) where
@@ -30,7 +30,7 @@ module _ {K V : Type 0} (m : Inside K V) {now : HopContent V} (view : hop_conten
 
   -- what room means for the vector
   pub held_room : 0 < now.content.room → (taken (places_of m.slots.items) < most) × (length m.slots.items < vec_capacity m.slots - 1 + 1 + m.vacant_count)
-  held_room room = has_room _ _ _ sound _ (subst (λ m. 0 < m.content.room) (sym view) room)
+  held_room room = let same = ap (λ m. m.content.room) view in (omega (arith, taken_slots _ _ _ sound), omega (arith, taken_slots _ _ _ sound))
 
   stays : (new : List (Slot V)) (vacant elems : ℕ) → length new ≡ length m.slots.items → IsSound (with_items m.slots new).items vacant elems
       → StaysHop now (hop_content (with_items m.slots new).items (vec_capacity m.slots - 1))

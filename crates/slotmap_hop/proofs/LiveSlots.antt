@@ -1,9 +1,9 @@
 -- The slot of a live key: what a look-up, a removal or a write knows of it, and makes of it.
 use Rattle.std.proofs.Common.{option_and_then, ◌≡◌, ◌≢◌, ℕ, ◌+◌, ◌-◌, ◌^◌, ◌<◌, ◌≤◌, true, false, ◌==◌, List, ◌∷◌, length, set, slice_get, get_or, Some, None, is_some, sym, ap, subst, ◌∙◌, arith}
 use Rattle.std.proofs.lemmas.Bool.Decides.{nat_tests}
-use Rattle.std.proofs.lemmas.Option.{slice_get_past, same_Some, get_or_from_slice_get}
+use Rattle.std.proofs.lemmas.Option.{slice_get_past, get_or_from_slice_get}
 use Rattle.std.proofs.Math.Seq.{map-set_same}
-use Rattle.std.proofs.lemmas.List.{length-set, set-get_or}
+use Rattle.std.proofs.lemmas.List.{length-set}
 use Rattle.std.specs.FinMap as map
 use Rattle.slotmap_core.specs.Key.{Key, IsKey, key_cmp, last_version}
 use Rattle.slotmap_core.specs.Places.{Live, Vacant, Retired, live, live_value}
@@ -76,9 +76,6 @@ module _ {V : Type 0} {slots : List (Slot V)} {lives : map.FinMap key_cmp V} {k 
 -- the slot of a live key
 
 module _ {V : Type 0} (slots : List (Slot V)) (vacant elems : ℕ) (sound : IsSound slots vacant elems) (i v : ℕ) (x : V) (place : slice_get (places_of slots) i ≡ Some (Live v x)) where
-  was_live : (n : ℕ) → Live v x ≢ Vacant n
-  was_live n e = absurd (cc)
-
   pub live_within : i < length slots
   live_within = (live_slot slots i v x place).0
 
@@ -97,8 +94,8 @@ module _ {V : Type 0} (slots : List (Slot V)) (vacant elems : ℕ) (sound : IsSo
   can_free = record {
     vacate = record {
       sound = sound.linked;
-      live = place_not_vacant slots i (Live v x) place was_live;
-      positive = not_first (places_of slots) sound.stack sound.stacked i (Live v x) place was_live;
+      live = place_not_vacant slots i (Live v x) place (λ n e. absurd (cc));
+      positive = not_first (places_of slots) sound.stack sound.stacked i (Live v x) place (λ n e. absurd (cc));
       inside = omega (arith, live_within, length-layout slots);
     };
     inside = live_within;
