@@ -20,7 +20,7 @@ use Rattle.slotmap_hop.specs.Slots.{links_in, place_in, layout, places_of, value
 use Rattle.slotmap_hop.proofs.SlotReads.{length-layout, length-places, slot_cases, places_written}
 use Rattle.slotmap_hop.proofs.Growth.{IsSound-set}
 use Rattle.slotmap_core.proofs.ListLemmas.{same_read}
-use Rattle.slotmap_hop.proofs.SlotLemmas.{key_is, vacant_place, place_not_vacant, slots_fit, back_vacant, in_order, ordered_map}
+use Rattle.slotmap_hop.proofs.SlotLemmas.{key_is, vacant_slot, place_not_vacant, slots_fit, back_vacant, in_order, ordered_map}
 
 -- the slot of a live place
 live_slot : {V : Type 0} (slots : List (Slot V)) (i v : ℕ) (x : V) → slice_get (places_of slots) i ≡ Some (Live v x)
@@ -145,7 +145,7 @@ module _ {V : Type 0} (slots : List (Slot V)) (vacant elems : ℕ) (sound : IsSo
 
   same_offer : offer_at (set (places_of slots) i (Live v w)) (next_place slots) ≡ offer_at (places_of slots) (next_place slots)
   same_offer =
-      let at = vacant_place slots (next_place slots) (back_vacant slots vacant elems sound) in
+      let at = vacant_slot slots (next_place slots) (back_vacant slots vacant elems sound) in
       grind (arith, length-set (places_of slots) i (Live v w), slice_get-set_other (places_of slots) i (next_place slots) (Live v w))
 
   pub content-rewritten : (c : ℕ) → hop_content rewritten c ≡ hop_with_value (hop_content slots c) (key i v) w

@@ -57,9 +57,6 @@ module _ {V : Type 0} (slots : List (Slot V)) (i : ℕ) where
   pub vacant_slot : vacant_at (layout slots) i ≡ true → (s : Slot V) × (slice_get slots i ≡ Some s) × (i < length slots) × (slice_get (places_of slots) i ≡ Some (Vacant (s.version + 1)))
   vacant_slot vacant = grind (arith, slot_cases slots i)
 
-  pub vacant_place : vacant_at (layout slots) i ≡ true → (n : ℕ) × (slice_get (places_of slots) i ≡ Some (Vacant n))
-  vacant_place vacant = grind (arith, slot_cases slots i)
-
   pub place_vacant : (n : ℕ) → slice_get (places_of slots) i ≡ Some (Vacant n) → vacant_at (layout slots) i ≡ true
   place_vacant n found = grind (arith, slot_cases slots i)
 
@@ -80,12 +77,9 @@ module _ {V : Type 0} (slots : List (Slot V)) (vacant elems : ℕ) (sound : IsSo
   pub same_counts : (c : ℕ) → counts_vacant (hop_content slots c).content ≡ vacant_at (layout slots)
   same_counts c = fun_ext (λ i. counts_are slots sound.linked.linked.sentinel i)
 
-  -- the block from which the next insert takes a place
-  pub offered_block : IsBlock (vacant_at (layout slots)) (next_at (layout slots) 0) (next_place slots)
-  offered_block = first_block (layout slots) (fronts_of (layout slots)) sound.linked.linked
-
+  -- the place from which the next insert takes a slot is vacant
   pub back_vacant : vacant_at (layout slots) (next_place slots) ≡ true
-  back_vacant = offered_block.inside (next_place slots) offered_block.ordered (omega arith)
+  back_vacant = let block = first_block (layout slots) (fronts_of (layout slots)) sound.linked.linked in block.inside (next_place slots) block.ordered (omega arith)
 
   pub empty_stack : next_place slots ≡ 0 → sound.stack ≡ []
   empty_stack none = by sound.stack sound.stacked
@@ -106,8 +100,8 @@ module _ {V : Type 0} (slots : List (Slot V)) (vacant elems : ℕ) (sound : IsSo
 
   pub in_order : Ordered
   in_order =
-      let at = vacant_place slots (next_place slots) back_vacant in
-      let some = λ (some : 0 < next_place slots). IsStacked-first (places_of slots) sound.stack (next_place slots) sound.stacked (sound.stacked.complete (next_place slots) at.0 some at.1) in
+      let at = vacant_slot slots (next_place slots) back_vacant in
+      let some = λ (some : 0 < next_place slots). IsStacked-first (places_of slots) sound.stack (next_place slots) sound.stacked (sound.stacked.complete (next_place slots) _ some at.3) in
       let none = λ (none : next_place slots ≡ 0). subst (IsStacked (places_of slots)) (empty_stack none) sound.stacked in
       record {
         order = cond (eqb (next_place slots) 0) [] (next_place slots ∷ removed sound.stack (next_place slots));
@@ -123,23 +117,15 @@ module _ {V : Type 0} (slots : List (Slot V)) (vacant elems : ℕ) (sound : IsSo
   pub content_is : (c : ℕ) → untold (content (ordered_map c)) ≡ (hop_content slots c).content
   content_is c = ap (λ o. holding (places_of slots) o c) in_order.offers
 
-  pub valid_content : (c : ℕ) → length slots ≤ c + 1 → IsContent true (hop_content slots c).content
-  valid_content c holds =
-      subst (IsContent true) (content_is c) (IsContent-untold true (content (ordered_map c)) (IsContent-stacked (ordered_map c) in_order.ordered (omega (arith, length-places slots))))
-
-  none_kept : (k : Key) → set.contains (detached (places_of slots)) k ≡ false
-  none_kept k = grind (arith, nat_tests, contains-detached (places_of slots) k, sound.none_detached k.index k.version)
-
   pub places_count : (c : ℕ) → places (hop_content slots c).content + 1 ≡ length slots
   places_count c = omega (arith, total (places_of slots) 1 sound.stacked.sentinel, length-places slots)
 
-  offers_first : (c : ℕ) → (offer_at (places_of slots) (next_place slots)).index ≡ offer_place (blocks_of (layout slots)) (places (hop_content slots c).content + 1)
-  offers_first c = grind (arith, nat_tests, places_count c, length-layout slots, length-places slots, offer_is_back (layout slots) sound.linked, offer_is_end (layout slots) sound.linked)
-
   pub valid : (c : ℕ) → length slots ≤ c + 1 → IsHopContent (hop_content slots c)
   valid c holds = record {
-    valid = valid_content c holds;
-    none_detached = set.same_set keys_total exact_keys (detached (places_of slots)) set.empty (λ k. none_kept k ∙ sym (set.contains-empty key_cmp k));
+    valid = subst (IsContent true) (content_is c) (IsContent-untold true (content (ordered_map c)) (IsContent-stacked (ordered_map c) in_order.ordered (omega (arith, length-places slots))));
+    none_detached = set.same_set keys_total exact_keys (detached (places_of slots)) set.empty (λ k.
+        grind (arith, nat_tests, contains-detached (places_of slots) k, sound.none_detached k.index k.version, set.contains-empty key_cmp k));
     maximal = subst (λ v. HasMaximalBlocks v (blocks_of (layout slots))) (sym (same_counts c)) (maximal (layout slots) sound.linked);
-    offers = λ below. offers_first c;
+    offers = λ below.
+        grind (arith, nat_tests, places_count c, length-layout slots, length-places slots, offer_is_back (layout slots) sound.linked, offer_is_end (layout slots) sound.linked);
   }

@@ -21,7 +21,7 @@ use Rattle.slotmap_hop.specs.Walk.{Counted, pairs_left, retired_left, StandsAt, 
 use Rattle.slotmap_hop.proofs.BlockLemmas.{clash, begins_after, back_of}
 use Rattle.slotmap_hop.proofs.Circle.{bounded_by_length}
 use Rattle.slotmap_hop.proofs.SlotReads.{length-places, slot_cases, slot_within, place_at}
-use Rattle.slotmap_hop.proofs.SlotLemmas.{vacant_place, place_not_vacant, slots_fit}
+use Rattle.slotmap_hop.proofs.SlotLemmas.{vacant_slot, place_not_vacant, slots_fit}
 
 module _ {V : Type 0} where
   -- what is yielded at these places, and the keys of the retired ones, where the first place has this index
@@ -48,9 +48,9 @@ module _ {V : Type 0} (slots : List (Slot V)) where
   skip : (k i j : ℕ) → i + k ≡ j → ((x : ℕ) → i ≤ x → x < j → vacant_at (layout slots) x ≡ true) → (pairs_left slots i ≡ pairs_left slots j) × (retired_left slots i ≡ retired_left slots j)
   skip zero i j on vacant = let same : i ≡ j = omega arith in rw same (refl, refl)
   skip (suc k) i j on vacant =
-      let here = vacant_place slots i (vacant i (omega arith) (omega arith)) in
+      let here = vacant_slot slots i (vacant i (omega arith) (omega arith)) in
       let rest = skip k (i + 1) j (omega arith) (λ x low high. vacant x (omega arith) high) in
-      (left-on pairs_from i _ here.1 ∙ rest.0, left-on retired_from i _ here.1 ∙ rest.1)
+      (left-on pairs_from i _ here.3 ∙ rest.0, left-on retired_from i _ here.3 ∙ rest.1)
 
   pub past_block : (front back : ℕ) → IsBlock (vacant_at (layout slots)) front back → (pairs_left slots front ≡ pairs_left slots (back + 1))
       × (retired_left slots front ≡ retired_left slots (back + 1))
