@@ -79,9 +79,8 @@ module _ {V : Type 0} (slots : List (Slot V)) (vacant elems : ℕ) (sound : IsSo
 
   pub retired-start : (c : ℕ) → ListsRetired (hop_content slots c) (retired_left slots (end_at (layout slots) 0 + 1))
   retired-start c =
-      let all : retired_from 0 (places_of slots) ≡ retired_left slots (end_at (layout slots) 0 + 1) = (past_block slots 0 (end_at (layout slots) 0) first_place).1 in
       let listed = retired-listed (places_of slots) in
-      subst (ListsRetired (hop_content slots c)) all (record { all = listed.0; once = listed.1 })
+      subst (ListsRetired (hop_content slots c)) (past_block slots 0 (end_at (layout slots) 0) first_place).1 (record { all = listed.0; once = listed.1 })
 
   pub walk_starts : IsWalk slots 0 (end_at (layout slots) 0 + 1) elems
   walk_starts = record {

@@ -6,7 +6,7 @@ use Rattle.std.proofs.lemmas.Bool.Decides.{nat_tests}
 use Rattle.std.proofs.lemmas.List.{length-set}
 use Rattle.std.specs.FinMap as map
 use Rattle.std.specs.FinSet as set
-use Rattle.slotmap_core.specs.Key.{Key, IsKey, key_cmp}
+use Rattle.slotmap_core.specs.Key.{IsKey, key_cmp}
 use Rattle.slotmap_core.specs.Content.{IsContent, places}
 use Rattle.slotmap_core.specs.Places.{Place, Vacant, detached, next}
 use Rattle.slotmap_core.specs.StackMap.{StackMap, content, offer, taken, filled, IsVersion, IsStacked}
@@ -15,7 +15,7 @@ use Rattle.slotmap_core.proofs.ContentLemmas.{IsContent-stacked}
 use Rattle.slotmap_core.proofs.KeyLemmas.{keys_total, exact_keys}
 use Rattle.slotmap_hop.specs.declared.links.Links.{Links}
 use Rattle.slotmap_hop.specs.declared.links.Slot.{Slot}
-use Rattle.slotmap_hop.specs.Blocks.{IsBlock, IsFront, HasMaximalBlocks, offer_place}
+use Rattle.slotmap_hop.specs.Blocks.{IsFront, HasMaximalBlocks}
 use Rattle.slotmap_hop.specs.Links.{removed, vacant_at, next_at, end_at, fronts_of, blocks_of, IsLinked}
 use Rattle.slotmap_hop.specs.HopContent.{IsHopContent, counts_vacant}
 use Rattle.slotmap_hop.specs.Slots.{layout, places_of, next_place, offer_at, holding, hop_content, IsSound}
