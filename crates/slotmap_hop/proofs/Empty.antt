@@ -1,23 +1,20 @@
 -- A map with no key: slot 0 alone.
-use Rattle.std.proofs.Common.{⊎_elim, ◌≡◌, ℕ, zero, suc, true, List, []}
-use Rattle.std.proofs.Common.{◌∷◌, refl, arith}
+use Rattle.std.proofs.Common.{⊎_elim, ◌≡◌, ℕ, true, List, [], ◌∷◌, refl, arith}
 use Rattle.slotmap_core.specs.Places.{Detached, Vacant}
-use Rattle.slotmap_core.specs.StackMap.{taken}
 use Rattle.slotmap_core.proofs.GatherLemmas.{at_push}
 use Rattle.slotmap_hop.specs.declared.links.Slot.{Slot}
 use Rattle.slotmap_hop.specs.declared.links.State.TheVariants.{Free}
 use Rattle.slotmap_hop.specs.Links.{vacant_at, IsLinked}
-use Rattle.slotmap_hop.specs.Slots.{layout, places_of, IsSound}
-use Rattle.slotmap_core.proofs.SlotGrowth.{IsSound-sentinel, taken-sentinel}
+use Rattle.slotmap_hop.specs.Slots.{layout, IsSound}
+use Rattle.slotmap_hop.proofs.SlotReads.{slot_cases}
+use Rattle.slotmap_core.proofs.SlotGrowth.{IsSound-sentinel}
 
 abbrev pub sentinel_alone : (V : Type 0) → List (Slot V)
 sentinel_alone V = record { version = 0; state = Free (record { next = 0; prev = 0; other_end = 0 }) } ∷ []
 
 module _ (V : Type 0) where
   alone : (x : ℕ) → vacant_at (layout (sentinel_alone V)) x ≡ true → x ≡ 0
-  alone zero vacant = refl
-  alone (suc zero) vacant = absurd (cc)
-  alone (suc (suc x)) vacant = absurd (cc)
+  alone x vacant = grind (arith, slot_cases (sentinel_alone V) x)
 
   linked-new : IsLinked (layout (sentinel_alone V)) []
   linked-new = record {
@@ -41,6 +38,3 @@ module _ (V : Type 0) where
         stacked = same.stacked;
         counted = same.counted;
       }
-
-  pub taken-new : taken (places_of (sentinel_alone V)) ≡ 0
-  taken-new = taken-sentinel V

@@ -1,16 +1,12 @@
 -- What an insert makes of sound slots, and what stays when one place changes.
-use Rattle.std.proofs.Common.{⊎_elim, ◌≡◌, ◌≢◌, inl, inr, ℕ, ◌+◌, ◌-◌, ◌^◌, ◌<◌, ◌≤◌, List, []}
-use Rattle.std.proofs.Common.{◌∷◌, ◌++◌, length, set, slice_get, get_or, Some, None, sym, ap, subst, ◌∙◌, arith}
-use Rattle.std.proofs.Common.{min}
-use Rattle.std.proofs.lemmas.Bool.{cases_lt}
-use Rattle.std.proofs.lemmas.Option.{get_or_from_slice_get}
-use Rattle.std.proofs.lemmas.List.{map-append, nil_from_length}
+use Rattle.std.proofs.Common.{⊎_elim, ◌≡◌, ◌≢◌, ℕ, ◌+◌, ◌-◌, ◌^◌, ◌<◌, ◌≤◌, List, [], ◌∷◌, ◌++◌, length, set, slice_get, Some, None, sym, ap, subst, ◌∙◌, arith}
+use Rattle.std.proofs.lemmas.List.{map-append}
 use Rattle.std.specs.FinMap as map
 use Rattle.slotmap_core.specs.Key.{Key}
-use Rattle.slotmap_core.specs.Content.{Content, most}
+use Rattle.slotmap_core.specs.Content.{most}
 use Rattle.slotmap_core.specs.Transition.{Removes, Inserts}
-use Rattle.slotmap_core.specs.Places.{Place, Live, Detached, Vacant, live, detached, retired, next, left_by}
-use Rattle.slotmap_core.specs.StackMap.{content, taken, filled, IsOn, IsVersion, IsStacked}
+use Rattle.slotmap_core.specs.Places.{Place, Live, Detached, Vacant, live, left_by}
+use Rattle.slotmap_core.specs.StackMap.{content, taken, filled, IsVersion, IsStacked}
 use Rattle.slotmap_core.proofs.PlacesLemmas.{key, len-live-set, len-live-push}
 use Rattle.slotmap_core.proofs.StackLemmas.{IsStacked-filled, IsStacked-pushed}
 use Rattle.slotmap_core.proofs.StepLemmas.{removes, inserts}
@@ -18,13 +14,12 @@ use Rattle.slotmap_hop.specs.declared.links.Slot.{Slot}
 use Rattle.slotmap_hop.specs.declared.links.State.TheVariants.{Occupied}
 use Rattle.slotmap_hop.specs.Blocks.{shorter}
 use Rattle.slotmap_hop.specs.Links.{removed, blocks_of, HasBlockList}
-use Rattle.slotmap_hop.specs.Slots.{links_in, place_in, layout, places_of, next_place, offer_at, hop_content, IsSound}
-use Rattle.slotmap_hop.proofs.SlotReads.{length-layout, length-places, slot_within, place_at, free_read}
+use Rattle.slotmap_hop.specs.Slots.{links_in, place_in, layout, places_of, next_place, offer_at, holding, hop_content, IsSound}
+use Rattle.slotmap_hop.proofs.SlotReads.{length-layout, length-places}
 use Rattle.slotmap_hop.proofs.Taking.{HasBlockList-pushed, blocks_pushed, shorter_none}
 use Rattle.slotmap_hop.proofs.StackOrder.{IsStacked-first, length_removed, untold, Inserts-untold, Removes-untold}
 use Rattle.slotmap_core.proofs.GatherLemmas.{at_set, at_push}
-use Rattle.slotmap_core.proofs.ListLemmas.{found_within}
-use Rattle.slotmap_hop.proofs.SlotLemmas.{taken_slots, back_vacant, empty_stack, in_order, ordered_map, content_is}
+use Rattle.slotmap_hop.proofs.SlotLemmas.{vacant_slot, back_vacant, empty_stack, in_order, ordered_map, content_is}
 
 module _ {V : Type 0} (slots : List (Slot V)) (vacant elems : ℕ) (sound : IsSound slots vacant elems) (new : List (Slot V)) where
   -- one place changes; the new stack and both counts are given
@@ -41,19 +36,6 @@ module _ {V : Type 0} (slots : List (Slot V)) (vacant elems : ℕ) (sound : IsSo
     counted = counted;
   }
 
--- a content with these places that offers this key
-abbrev pub holding : {V : Type 0} → List (Place V) → Key → ℕ → Content V
-holding ps o c = record {
-  live = live ps;
-  detached = detached ps;
-  retired = retired ps;
-  next = next ps;
-  offer = o;
-  stack = None;
-  room = min c most - taken ps;
-  capacity = c;
-}
-
 -- the steps on contents
 module _ {V : Type 0} (slots : List (Slot V)) (vacant elems : ℕ) (sound : IsSound slots vacant elems) (new : List (Slot V)) where
   pub inserts-slots : (c d : ℕ) (w : V) → taken (places_of slots) < most → c ≤ d
@@ -63,25 +45,15 @@ module _ {V : Type 0} (slots : List (Slot V)) (vacant elems : ℕ) (sound : IsSo
       let k = offer_at (places_of slots) (next_place slots) in
       let o = offer_at (places_of new) (next_place new) in
       let ordered = in_order slots vacant elems sound in
-      let did = inserts (places_of slots) ordered.order c d k w ordered.ordered below (sym ordered.offers) more in
-      let told = Inserts-untold _ _ k o w did in
-      let moved = subst (λ ps. Inserts (untold (content (ordered_map slots vacant elems sound c))) k w (holding ps o d)) (sym after) told in
-      subst (λ m. Inserts m k w (holding (places_of new) o d)) (content_is slots vacant elems sound c) moved
+      let told = Inserts-untold _ _ k o w (inserts (places_of slots) ordered.order c d k w ordered.ordered below (sym ordered.offers) more) in
+      subst (λ m. Inserts m k w (holding (places_of new) o d)) (content_is slots vacant elems sound c)
+      (subst (λ ps. Inserts (untold (content (ordered_map slots vacant elems sound c))) k w (holding ps o d)) (sym after) told)
 
   pub removes-slots : (c : ℕ) (k : Key) (x : V) → slice_get (places_of slots) k.index ≡ Some (Live k.version x) → places_of new ≡ set (places_of slots) k.index (left_by k)
       → Removes (hop_content slots c).content k (hop_content new c).content
-  removes-slots c k x was after =
-      let o = offer_at (places_of new) (next_place new) in
-      let ordered = in_order slots vacant elems sound in
-      let did = removes (ordered_map slots vacant elems sound c) ordered.ordered k x was in
-      let told = Removes-untold _ _ k (offer_at (places_of slots) (next_place slots)) o did in
-      subst (λ ps. Removes (hop_content slots c).content k (holding ps o c)) (sym after) told
+  removes-slots c k x was after = rw after (Removes-untold _ _ k _ _ (removes (ordered_map slots vacant elems sound c) (in_order slots vacant elems sound).ordered k x was))
 
 module _ {V : Type 0} (slots : List (Slot V)) (vacant elems : ℕ) (sound : IsSound slots vacant elems) where
-  -- what room means for the vector
-  pub has_room : (c : ℕ) → 0 < (hop_content slots c).content.room → (taken (places_of slots) < most) × (length slots < c + 1 + vacant)
-  has_room c room = let all = taken_slots slots vacant elems sound in (omega arith, omega arith)
-
   pub none_left : next_place slots ≡ 0 → vacant ≡ 0
   none_left none = omega (arith, sound.counted, ap length (empty_stack slots vacant elems sound none))
 
@@ -98,19 +70,8 @@ module _ {V : Type 0} (slots : List (Slot V)) (vacant elems : ℕ) (sound : IsSo
 
   pub back_slot : Back
   back_slot =
-      let flag = back_vacant slots vacant elems sound in
-      let inside = slot_within slots (next_place slots) flag in
-      let found = found_within slots (next_place slots) inside in
-      let same : get_or slots (next_place slots) found.0 ≡ found.0 = get_or_from_slice_get slots (next_place slots) found.0 found.0 found.1 in
-      let is = free_read slots (next_place slots) found.0 flag in
-      let place = place_at slots (next_place slots) found.0 found.1 ∙ ap (λ s. Some (place_in found.0.version s)) (ap (λ (s : Slot V). s.state) (sym same) ∙ is.1) in
-      record {
-        slot = found.0;
-        there = found.1;
-        within = inside;
-        place = place;
-        version = sound.stacked.versions (next_place slots) (Vacant (found.0.version + 1)) place;
-      }
+      let s = vacant_slot slots (next_place slots) (back_vacant slots vacant elems sound) in
+      record { slot = s.0; there = s.1; within = s.2; place = s.3; version = sound.stacked.versions (next_place slots) (Vacant (s.0.version + 1)) s.3 }
 
   pub offer-back : 0 < next_place slots → offer_at (places_of slots) (next_place slots) ≡ key (next_place slots) (back_slot.slot.version + 1)
   offer-back some = grind (arith, back_slot.place)
@@ -143,9 +104,8 @@ module _ {V : Type 0} (slots : List (Slot V)) (vacant elems : ℕ) (sound : IsSo
   pub inserts-pushed : (c d : ℕ) (w : V) → next_place slots ≡ 0 → taken (places_of slots) < most → c ≤ d
       → Inserts (hop_content slots c).content (hop_content slots c).content.offer w (hop_content (pushed_slots w) d).content
   inserts-pushed c d w none below more =
-      let one : (offer_at (places_of slots) (next_place slots)).version ≡ 1 = ap (λ k. k.version) (offer-end none) in
       inserts-slots slots vacant elems sound (pushed_slots w) c d w below more
-      (places-pushed w ∙ sym ((in_order slots vacant elems sound).fills_end none _ ∙ ap (λ v. places_of slots ++ Live v w ∷ []) one))
+      (cc (places-pushed w, (in_order slots vacant elems sound).fills_end none (Live (offer_at (places_of slots) (next_place slots)).version w), offer-end none))
 
   -- the offered place is filled
   pub sound-filled : (new : List (Slot V)) (w : V) → 0 < next_place slots → HasBlockList (layout new)
@@ -163,18 +123,12 @@ module _ {V : Type 0} (slots : List (Slot V)) (vacant elems : ℕ) (sound : IsSo
       → places_of new ≡ set (places_of slots) (next_place slots) (Live (back_slot.slot.version + 1) w)
       → Inserts (hop_content slots c).content (hop_content slots c).content.offer w (hop_content new d).content
   inserts-filled new c d w some below more after =
-      let newer : (offer_at (places_of slots) (next_place slots)).version ≡ back_slot.slot.version + 1 = ap (λ k. k.version) (offer-back some) in
       inserts-slots slots vacant elems sound new c d w below more
-      (after ∙ sym ((in_order slots vacant elems sound).fills_back some _ ∙ ap (λ v. set (places_of slots) (next_place slots) (Live v w)) newer))
+      (cc (after, (in_order slots vacant elems sound).fills_back some (Live (offer_at (places_of slots) (next_place slots)).version w), offer-back some))
 
   -- an insert adds a place just if none is vacant
   pub none_offered : vacant ≡ 0 → next_place slots ≡ 0
-  none_offered none = elim (cases_lt 0 (next_place slots)) [
-    | inl some ↦
-        let on = sound.stacked.complete (next_place slots) (back_slot.slot.version + 1) some back_slot.place in
-        absurd (subst (λ vs. IsOn vs (next_place slots)) (nil_from_length sound.stack (sound.counted ∙ none)) on)
-    | inr least ↦ omega arith
-  ]
+  none_offered none = grind (arith, length_removed sound.stack (next_place slots), sound.stacked.complete (next_place slots) (back_slot.slot.version + 1), back_slot.place, sound.counted)
 
   pub some_offered : vacant ≢ 0 → 0 < next_place slots
-  some_offered some = elim (cases_lt 0 (next_place slots)) [ inl back ↦ back | inr least ↦ absurd (some (none_left (omega arith))) ]
+  some_offered some = grind (arith, none_left)

@@ -1,26 +1,25 @@
 -- What calls know of a map's slots, by what the map holds.
-use Rattle.std.proofs.Common.{◌≡◌, ◌≢◌, ℕ, ◌+◌, ◌-◌, ◌<◌, List, length, set, get_or, Some, vec_capacity, refl, sym, ap, subst, ◌∙◌, arith}
+use Rattle.std.proofs.Common.{◌≡◌, ◌≢◌, ℕ, ◌+◌, ◌-◌, ◌^◌, ◌<◌, List, length, set, get_or, Some, vec_capacity, refl, sym, ap, subst, ◌∙◌, arith, eq-eqb, ne_eqb}
+use Rattle.std.proofs.lemmas.Bool.Decides.{nat_tests}
 use Rattle.std.specs.Vec.{with_items}
 use Rattle.std.specs.FinMap as map
 use Rattle.std.proofs.lemmas.List.{with_items_is}
 use Rattle.slotmap_core.specs.Key.{Key, IsKey, last_version}
 use Rattle.slotmap_core.specs.Content.{IsLive, most}
 use Rattle.slotmap_core.specs.Transition.{Inserts, Removes}
-use Rattle.slotmap_core.specs.Places.{Place, Live, Vacant, Retired}
+use Rattle.slotmap_core.specs.Places.{Place, Live, Vacant, Retired, left_by}
 use Rattle.slotmap_core.specs.StackMap.{taken}
 use Rattle.slotmap_core.proofs.PlacesLemmas.{key}
 use Rattle.slotmap_core.proofs.ListLemmas.{same_read}
 use Rattle.slotmap_hop.specs.declared.HopSlotMap.TheInside.{Inside}
-use Rattle.slotmap_hop.specs.declared.links.Links.{Links}
 use Rattle.slotmap_hop.specs.declared.links.Slot.{Slot}
 use Rattle.slotmap_hop.specs.Blocks.{vacated}
-use Rattle.slotmap_hop.specs.Links.{vacant_at, links_at, blocks_of, HasBlockList}
+use Rattle.slotmap_hop.specs.Links.{vacant_at, blocks_of, HasBlockList}
 use Rattle.slotmap_hop.specs.HopContent.{HopContent, IsHopContent, StaysHop, blocks_without}
 use Rattle.slotmap_hop.specs.Slots.{layout, places_of, value_at, next_place, hop_content, IsSound}
-use Rattle.slotmap_hop.proofs.SlotLemmas.{valid, same_length, key_is, slots_fit}
-use Rattle.slotmap_hop.proofs.Growth.{back_slot, has_room, none_offered, some_offered, offer-end, offer-back, sound-filled, inserts-filled}
-use Rattle.slotmap_hop.proofs.LiveSlots.{Present, present, value_is, sound-freed, removes-freed, blocks-freed, sound-used_up, removes-used_up, blocks-used_up}
-use Rattle.slotmap_hop.proofs.Taking.{read_back}
+use Rattle.slotmap_hop.proofs.SlotLemmas.{valid, same_length, same_counts, key_is, slots_fit, taken_slots}
+use Rattle.slotmap_hop.proofs.Growth.{removes-slots, back_slot, none_left, none_offered, some_offered, offer-end, offer-back, sound-filled, inserts-filled}
+use Rattle.slotmap_hop.proofs.LiveSlots.{Present, present, value_is, sound-freed, sound-used_up}
 
 module _ {K V : Type 0} (m : Inside K V) {now : HopContent V} (view : hop_content m.slots.items (vec_capacity m.slots - 1) ≡ now) (sound : IsSound m.slots.items m.vacant_count m.live_count) where
   pub well_formed : IsHopContent now
@@ -31,9 +30,10 @@ module _ {K V : Type 0} (m : Inside K V) {now : HopContent V} (view : hop_conten
 
   -- what room means for the vector
   pub held_room : 0 < now.content.room → (taken (places_of m.slots.items) < most) × (length m.slots.items < vec_capacity m.slots - 1 + 1 + m.vacant_count)
-  held_room room = has_room _ _ _ sound _ (subst (λ m. 0 < m.content.room) (sym view) room)
+  held_room room = let same = ap (λ m. m.content.room) view in (omega (arith, taken_slots _ _ _ sound), omega (arith, taken_slots _ _ _ sound))
 
-  stays : (new : List (Slot V)) (vacant elems : ℕ) → length new ≡ length m.slots.items → IsSound (with_items m.slots new).items vacant elems → StaysHop now (hop_content (with_items m.slots new).items (vec_capacity m.slots - 1))
+  stays : (new : List (Slot V)) (vacant elems : ℕ) → length new ≡ length m.slots.items → IsSound (with_items m.slots new).items vacant elems
+      → StaysHop now (hop_content (with_items m.slots new).items (vec_capacity m.slots - 1))
   stays new vacant elems size after =
       let items = with_items_is m.slots new (size ∙ sym m.slots.ok.0) in
       record { before = well_formed; after = valid _ vacant elems after _ (omega (arith, ap length items, size, m.slots.ok.0, m.slots.ok.1)); capacity = ap (λ m. m.content.capacity) view }
@@ -46,61 +46,65 @@ module _ {K V : Type 0} (m : Inside K V) {now : HopContent V} (view : hop_conten
     pub blocks : blocks_of (layout (with_items m.slots new).items) ≡ blocks_without now k
     pub valid : StaysHop now (hop_content (with_items m.slots new).items (vec_capacity m.slots - 1))
 
-  module _ {k : Key} {i v : ℕ} (found : Present m.slots.items now.content.live k i v) (x : V) (given new : List (Slot V)) (seen : given ≡ m.slots.items) (read : value_at given i ≡ Some x) where
-    took : (p : Place V) (vacant : ℕ) → places_of new ≡ set (places_of m.slots.items) i p → IsSound new vacant (m.live_count - 1)
-        → Removes (hop_content m.slots.items (vec_capacity m.slots - 1)).content (key i v) (hop_content new (vec_capacity m.slots - 1)).content
+  module _ {k : Key} {i v : ℕ} (found : Present m.slots.items now.content.live k i v) (x : V) (new : List (Slot V)) (read : value_at m.slots.items i ≡ Some x) where
+    took : (p : Place V) (vacant : ℕ) → places_of new ≡ set (places_of m.slots.items) i p → p ≡ left_by (key i v) → IsSound new vacant (m.live_count - 1)
         → blocks_of (layout new) ≡ blocks_without (hop_content m.slots.items (vec_capacity m.slots - 1)) (key i v) → Took k x new vacant
-    took p vacant after sound_new removes blocks =
+    took p vacant after left sound_new blocks =
         let c = vec_capacity m.slots - 1 in
         let size = same_length m.slots.items new i p after in
         let items = with_items_is m.slots new (size ∙ sym m.slots.ok.0) in
         let sound_after = subst (λ xs. IsSound xs vacant (m.live_count - 1)) (sym items) sound_new in
+        let removes = removes-slots _ _ _ sound new c (key i v) _ found.place (after ∙ ap (set (places_of m.slots.items) i) left) in
         record {
           sound_after = sound_after;
-          value = found.gives ∙ value_is _ _ _ sound i v found.value found.place x (ap (λ xs. value_at xs i) (sym seen) ∙ read);
+          value = found.gives ∙ value_is _ _ _ sound i v found.value found.place x read;
           removes = rw (← view, found.key_is_at) (subst (λ xs. Removes (hop_content m.slots.items c).content (key i v) (hop_content xs c).content) (sym items) removes);
           blocks = rw (← view, found.key_is_at) (ap (λ xs. blocks_of (layout xs)) items ∙ blocks);
           valid = stays new vacant (m.live_count - 1) size sound_after;
         }
 
     -- it was the last key of its slot
-    pub took_last : v ≡ last_version → layout new ≡ layout given → places_of new ≡ set (places_of given) i Retired → Took k x new m.vacant_count
-    took_last last same places =
-        let kept = same ∙ ap layout seen in
-        let after = places ∙ ap (λ xs. set (places_of xs) i Retired) seen in
-        took Retired m.vacant_count after (sound-used_up _ _ _ sound i v _ found.place new kept after)
-        (removes-used_up _ _ _ sound i v _ found.place new (vec_capacity m.slots - 1) last after) (blocks-used_up _ _ _ sound i v _ found.place new (vec_capacity m.slots - 1) last kept)
+    pub took_last : v ≡ last_version → layout new ≡ layout m.slots.items → places_of new ≡ set (places_of m.slots.items) i Retired → Took k x new m.vacant_count
+    took_last last same after =
+        took Retired m.vacant_count after (grind (arith, nat_tests)) (sound-used_up _ _ _ sound i v _ found.place new same after) (ap blocks_of same ∙ rw (eq-eqb v last_version last) refl)
 
-    pub took_other : v ≢ last_version → HasBlockList (layout new) → blocks_of (layout new) ≡ vacated (vacant_at (layout given)) (blocks_of (layout given)) i
-        → places_of new ≡ set (places_of given) i (Vacant (v + 1 + 1)) → Took k x new (m.vacant_count + 1)
-    took_other other list blocks places =
-        let joined = blocks ∙ ap (λ xs. vacated (vacant_at (layout xs)) (blocks_of (layout xs)) i) seen in
-        let after = places ∙ ap (λ xs. set (places_of xs) i (Vacant (v + 1 + 1))) seen in
-        took (Vacant (v + 1 + 1)) (m.vacant_count + 1) after (sound-freed _ _ _ sound i v _ found.place new other list after)
-        (removes-freed _ _ _ sound i v _ found.place new other (vec_capacity m.slots - 1) after) (blocks-freed _ _ _ sound i v _ found.place new other (vec_capacity m.slots - 1) joined)
+    pub took_other : v ≢ last_version → HasBlockList (layout new) → blocks_of (layout new) ≡ vacated (vacant_at (layout m.slots.items)) (blocks_of (layout m.slots.items)) i
+        → places_of new ≡ set (places_of m.slots.items) i (Vacant (v + 1 + 1)) → Took k x new (m.vacant_count + 1)
+    took_other other list blocks after =
+        took (Vacant (v + 1 + 1)) (m.vacant_count + 1) after (grind (arith, nat_tests)) (sound-freed _ _ _ sound i v _ found.place new list after other)
+        (blocks ∙ rw (ne_eqb v last_version other) (ap (λ f. vacated f (blocks_of (layout m.slots.items)) i) (sym (same_counts _ _ _ sound (vec_capacity m.slots - 1)))))
 
-  -- the key that is offered if no slot is vacant
-  pub offered_end : m.vacant_count ≡ 0 → now.content.offer ≡ key (length m.slots.items) 1
-  offered_end none = ap (λ m. m.content.offer) (sym view) ∙ offer-end _ _ _ sound (none_offered _ _ _ sound none)
+  -- the place of the next insert if no slot is vacant: a new one
+  pub record AtEnd : Type 0 where
+    pub none : next_place m.slots.items ≡ 0
+    pub below : taken (places_of m.slots.items) < most
+    pub fits : length m.slots.items + 1 < 2 ^ 32
+    pub holds : length m.slots.items < vec_capacity m.slots
+    pub is_key : IsKey (key (length m.slots.items) 1)
+    pub offers : now.content.offer ≡ key (length m.slots.items) 1
 
-  -- the place of the next insert, if a slot is vacant, as calls read it
-  module _ (some : m.vacant_count ≢ 0) (a b : List (Slot V)) (front block : Links) (seen_a : a ≡ m.slots.items) (seen_b : b ≡ m.slots.items)
-      (is_front : front ≡ links_at (layout a) 0) (is_block : block ≡ links_at (layout b) front.next) where
-    pub back_is : block.other_end ≡ next_place m.slots.items
-    back_is = read_back (layout m.slots.items) (layout a) (layout b) front block (ap layout seen_a) (ap layout seen_b) is_front is_block
+  pub at_end : m.vacant_count ≡ 0 → 0 < now.content.room → AtEnd
+  at_end none room =
+      let held = held_room room in
+      let at = none_offered _ _ _ sound none in
+      let fits : length m.slots.items + 1 < 2 ^ 32 = omega (arith, held.0, none_left _ _ _ sound at, taken_slots _ _ _ sound) in
+      let offers = ap (λ m. m.content.offer) (sym view) ∙ offer-end _ _ _ sound at in
+      record { none = at; below = held.0; fits = fits; holds = omega (arith, held.1, m.slots.ok.0, taken_slots _ _ _ sound); is_key = key_is fits (omega arith, refl); offers = offers }
 
-    pub back_within : block.other_end < length m.slots.items
-    back_within = omega (arith, back_is, (back_slot _ _ _ sound).within)
+  -- the place of the next insert, if a slot is vacant, and what calls read there
+  module _ (some : m.vacant_count ≢ 0) {place : ℕ} (is : place ≡ next_place m.slots.items) where
+    pub back_within : place < length m.slots.items
+    back_within = omega (arith, is, (back_slot _ _ _ sound).within)
 
-    module _ (read : Slot V) (is_read : read ≡ get_or m.slots.items block.other_end read) where
+    module _ {read : Slot V} (is_read : read ≡ get_or m.slots.items place read) where
       read_is : read ≡ (back_slot _ _ _ sound).slot
-      read_is = let back = back_slot _ _ _ sound in same_read m.slots.items block.other_end read back.slot is_read (rw back_is back.there)
+      read_is = let back = back_slot _ _ _ sound in same_read m.slots.items place read back.slot is_read (rw is back.there)
 
-      pub back_key : IsKey (key block.other_end (read.version + 1))
+      pub back_key : IsKey (key place (read.version + 1))
       back_key = rw read_is (key_is (omega (arith, back_within, slots_fit _ _ _ sound)) (back_slot _ _ _ sound).version)
 
-      pub offered_back : now.content.offer ≡ key block.other_end (read.version + 1)
-      offered_back = rw (back_is, read_is) (ap (λ m. m.content.offer) (sym view) ∙ offer-back _ _ _ sound (some_offered _ _ _ sound some))
+      pub offered_back : now.content.offer ≡ key place (read.version + 1)
+      offered_back = rw (is, read_is) (ap (λ m. m.content.offer) (sym view) ∙ offer-back _ _ _ sound (some_offered _ _ _ sound some))
 
       -- it was filled, and the vector has these slots now
       pub record Filled (x : V) (new : List (Slot V)) : Type 0 where
@@ -109,11 +113,11 @@ module _ {K V : Type 0} (m : Inside K V) {now : HopContent V} (view : hop_conten
         pub valid : StaysHop now (hop_content (with_items m.slots new).items (vec_capacity m.slots - 1))
 
       pub filled : (x : V) (given new : List (Slot V)) → given ≡ m.slots.items → 0 < now.content.room → HasBlockList (layout new)
-          → places_of new ≡ set (places_of given) block.other_end (Live (read.version + 1) x) → Filled x new
+          → places_of new ≡ set (places_of given) place (Live (read.version + 1) x) → Filled x new
       filled x given new seen room list places =
           let c = vec_capacity m.slots - 1 in
           let back = back_slot _ _ _ sound in
-          let after : places_of new ≡ set (places_of m.slots.items) (next_place m.slots.items) (Live (back.slot.version + 1) x) = places ∙ rw (seen, back_is, read_is) refl in
+          let after : places_of new ≡ set (places_of m.slots.items) (next_place m.slots.items) (Live (back.slot.version + 1) x) = places ∙ rw (seen, is, read_is) refl in
           let size = same_length _ _ _ _ after in
           let items = with_items_is m.slots new (size ∙ sym m.slots.ok.0) in
           let at = some_offered _ _ _ sound some in

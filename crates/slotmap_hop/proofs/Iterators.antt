@@ -1,12 +1,12 @@
 -- What an iterator that skips blocks has yet to yield, at its start and after each step.
-use Rattle.std.proofs.Common.{◌≡◌, ℕ, ◌+◌, ◌-◌, true, List, [], ◌∷◌, length, drop, set, ◌∙◌, cond, is_some, refl, sym, ap, subst, arith}
+use Rattle.std.proofs.Common.{◌≡◌, ℕ, ◌+◌, ◌-◌, true, List, [], ◌∷◌, length, drop, set, ◌∙◌, refl, sym, ap, subst, arith}
 use Rattle.std.proofs.lemmas.List.{nil_from_length, drop-set-lt}
 use Rattle.std.specs.FinMap as map
 use Rattle.std.specs.FinSet as set
-use Rattle.slotmap_core.specs.Key.{key_cmp, last_version}
-use Rattle.slotmap_core.specs.Places.{Place, Live, Detached, Vacant, Retired, live, retired, retired_entry}
+use Rattle.slotmap_core.specs.Key.{key_cmp}
+use Rattle.slotmap_core.specs.Places.{Place, Live, Retired, live, retired, retired_entry}
 use Rattle.slotmap_core.specs.Gather.{gather}
-use Rattle.slotmap_core.proofs.PlacesLemmas.{key, retired_fits}
+use Rattle.slotmap_core.proofs.PlacesLemmas.{retired_fits}
 use Rattle.slotmap_core.proofs.MapLaws.{detached_laws}
 use Rattle.slotmap_core.proofs.GatherLemmas.{len-add}
 use Rattle.slotmap_core.proofs.WalkLemmas.{entries-live}
@@ -25,17 +25,11 @@ use Rattle.slotmap_hop.proofs.Walking.{pairs_from, retired_from, past_block, sta
 module _ {V : Type 0} where
   set-retired_from : (j : ℕ) (ps : List (Place V)) → set.from_list (retired_from j ps) ≡ gather (set.empty {R = key_cmp}) (λ s e. set.insert s e.0) retired_entry j ps
   set-retired_from j [] = refl
-  set-retired_from j (Live version value ∷ ps) = set-retired_from (j + 1) ps
-  set-retired_from j (Detached version ∷ ps) = set-retired_from (j + 1) ps
-  set-retired_from j (Vacant n ∷ ps) = set-retired_from (j + 1) ps
-  set-retired_from j (Retired ∷ ps) = ap (λ s. set.insert s (key j last_version)) (set-retired_from (j + 1) ps)
+  set-retired_from j (p ∷ ps) = grind (arith, set-retired_from (j + 1) ps)
 
   len-retired_from : (j : ℕ) (ps : List (Place V)) → set.len (gather (set.empty {R = key_cmp}) (λ s e. set.insert s e.0) retired_entry j ps) ≡ length (retired_from j ps)
   len-retired_from j [] = set.len-empty key_cmp
-  len-retired_from j (p ∷ ps) = by p (len-add detached_laws (λ k. k.index) (retired_entry {V = V}) retired_fits j p ps) (len-retired_from (j + 1) ps)
-    where
-      by : (p : Place V) {n m : ℕ} → n ≡ cond (is_some (retired_entry j p)) 1 0 + m → m ≡ length (retired_from (j + 1) ps) → n ≡ length (retired_from j (p ∷ ps))
-      by p more rest = grind arith
+  len-retired_from j (p ∷ ps) = grind (arith, len-add detached_laws (λ k. k.index) (retired_entry {V = V}) retired_fits j p ps, len-retired_from (j + 1) ps)
 
   -- they are the retired keys, each once
   pub retired-listed : (ps : List (Place V)) → (set.from_list (retired_from 0 ps) ≡ retired ps) × (length (retired_from 0 ps) ≡ set.len (retired ps))
@@ -85,9 +79,8 @@ module _ {V : Type 0} (slots : List (Slot V)) (vacant elems : ℕ) (sound : IsSo
 
   pub retired-start : (c : ℕ) → ListsRetired (hop_content slots c) (retired_left slots (end_at (layout slots) 0 + 1))
   retired-start c =
-      let all : retired_from 0 (places_of slots) ≡ retired_left slots (end_at (layout slots) 0 + 1) = (past_block slots 0 (end_at (layout slots) 0) first_place).1 in
       let listed = retired-listed (places_of slots) in
-      subst (ListsRetired (hop_content slots c)) all (record { all = listed.0; once = listed.1 })
+      subst (ListsRetired (hop_content slots c)) (past_block slots 0 (end_at (layout slots) 0) first_place).1 (record { all = listed.0; once = listed.1 })
 
   pub walk_starts : IsWalk slots 0 (end_at (layout slots) 0 + 1) elems
   walk_starts = record {

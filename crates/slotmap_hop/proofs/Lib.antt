@@ -19,6 +19,7 @@ pub mod RoomLemmas
 pub mod Walking
 pub mod Iterators
 pub mod Sweeping
+pub mod Retaining
 pub mod DrainLemmas
 pub mod ReadLemmas
 pub mod BlocksLeft

@@ -1,49 +1,36 @@
 -- The slot of a live key: what a look-up, a removal or a write knows of it, and makes of it.
-use Rattle.std.proofs.Common.{◌≡◌, ◌≢◌, ℕ, zero, suc, ◌+◌, ◌-◌, ◌^◌, ◌<◌, ◌≤◌, true, false, cond, nat_eq, ◌==◌, List}
-use Rattle.std.proofs.Common.{◌∷◌, length, set, slice_get, get_or, Some, None, is_some, sym, ap, subst, ◌∙◌, arith, eq-eqb}
-use Rattle.std.proofs.Common.{ne_eqb, min}
-use Rattle.std.proofs.lemmas.Option.{slice_get_within, slice_get_past, same_Some, get_or_from_slice_get}
-use Rattle.std.proofs.lemmas.List.{length-set, set-get_or}
+use Rattle.std.proofs.Common.{option_and_then, ◌≡◌, ◌≢◌, ℕ, ◌+◌, ◌-◌, ◌^◌, ◌<◌, ◌≤◌, true, false, ◌==◌, List, ◌∷◌, length, set, slice_get, get_or, Some, None, is_some, sym, ap, subst, ◌∙◌, arith}
+use Rattle.std.proofs.lemmas.Bool.Decides.{nat_tests}
+use Rattle.std.proofs.lemmas.Option.{slice_get_past, get_or_from_slice_get}
+use Rattle.std.proofs.Math.Seq.{map-set_same}
+use Rattle.std.proofs.lemmas.List.{length-set}
 use Rattle.std.specs.FinMap as map
 use Rattle.slotmap_core.specs.Key.{Key, IsKey, key_cmp, last_version}
-use Rattle.slotmap_core.specs.Content.{most}
-use Rattle.slotmap_core.specs.Transition.{Removes}
-use Rattle.slotmap_core.specs.Places.{Place, Live, Detached, Vacant, Retired, live, detached, retired, next, live_value}
-use Rattle.slotmap_core.specs.StackMap.{taken, IsStacked}
+use Rattle.slotmap_core.specs.Places.{Live, Vacant, Retired, live, live_value}
 use Rattle.slotmap_core.proofs.GatherLemmas.{slice_get-set_other}
 use Rattle.slotmap_core.proofs.PlacesLemmas.{key, get-live, get-live_at, len-live-set, total}
 use Rattle.slotmap_core.proofs.ContentLemmas.{live_at}
 use Rattle.slotmap_core.proofs.StackLemmas.{not_first, IsStacked-kept, IsStacked-freed}
 use Rattle.slotmap_core.proofs.StepLemmas.{content-written}
 use Rattle.slotmap_hop.specs.declared.links.Slot.{Slot}
-use Rattle.slotmap_hop.specs.declared.links.State.{State}
-use Rattle.slotmap_hop.specs.declared.links.State.TheVariants.{Occupied, Free, UsedUp}
-use Rattle.slotmap_hop.specs.Blocks.{vacated}
-use Rattle.slotmap_hop.specs.Links.{vacant_at, next_at, end_at, blocks_of, HasBlockList}
-use Rattle.slotmap_hop.specs.HopContent.{counts_vacant, blocks_without, hop_with_value}
-use Rattle.slotmap_hop.specs.Slots.{links_in, place_in, layout, places_of, value_of, value_at, CanFree, next_place, offer_at, hop_content, IsSound}
-use Rattle.slotmap_hop.proofs.SlotReads.{length-layout, length-places, layout_at, place_at, layout_written, places_written}
-use Rattle.slotmap_hop.proofs.Growth.{IsSound-set, removes-slots}
-use Rattle.slotmap_core.proofs.ListLemmas.{found_within, same_read}
-use Rattle.slotmap_hop.proofs.SlotLemmas.{key_is, vacant_place, place_not_vacant, slots_fit, same_counts, back_vacant, in_order, ordered_map}
+use Rattle.slotmap_hop.specs.declared.links.State.TheVariants.{Occupied}
+use Rattle.slotmap_hop.specs.Links.{blocks_of, HasBlockList}
+use Rattle.slotmap_hop.specs.HopContent.{hop_with_value}
+use Rattle.slotmap_hop.specs.Slots.{links_in, place_in, layout, places_of, value_in, value_at, CanFree, next_place, offer_at, hop_content, IsSound}
+use Rattle.slotmap_hop.proofs.SlotReads.{length-layout, length-places, slot_cases, places_written}
+use Rattle.slotmap_hop.proofs.Growth.{IsSound-set}
+use Rattle.slotmap_core.proofs.ListLemmas.{same_read}
+use Rattle.slotmap_hop.proofs.SlotLemmas.{key_is, vacant_slot, place_not_vacant, slots_fit, back_vacant, in_order, ordered_map}
 
-module _ {V : Type 0} where
-  live_state : (v : ℕ) (s : State V) (u : ℕ) (x : V) → place_in v s ≡ Live u x → (v ≡ u) × (s ≡ Occupied x)
-  live_state v s u x is = grind arith
+-- the slot of a live place
+live_slot : {V : Type 0} (slots : List (Slot V)) (i v : ℕ) (x : V) → slice_get (places_of slots) i ≡ Some (Live v x)
+    → (i < length slots) × (slice_get slots i ≡ Some (record { version = v; state = Occupied x }))
+live_slot slots i v x place = grind (arith, slot_cases slots i)
 
 module _ {V : Type 0} (slots : List (Slot V)) (vacant elems : ℕ) (sound : IsSound slots vacant elems) where
   pub contains-version : (k : Key) (s : Slot V) → IsKey k → slice_get slots k.index ≡ Some s → (s.version == k.version) ≡ map.contains_key (live (places_of slots)) k
   contains-version k s is found =
-      sym (ap is_some (get-live (places_of slots) k ∙ ap (live_value k.version) place) ∙ by s.version s.state place)
-    where
-      place : slice_get (places_of slots) k.index ≡ Some (place_in s.version s.state)
-      place = place_at slots k.index s found
-
-      by : (v : ℕ) (st : State V) → slice_get (places_of slots) k.index ≡ Some (place_in v st) → is_some (live_value k.version (Some (place_in v st))) ≡ (v == k.version)
-      by v (Occupied value) at = grind arith
-      by v (Free links) at = let good = sound.stacked.versions k.index (Vacant (v + 1)) at in sym (ne_eqb v k.version (λ e. omega (arith, good.1, is.odd)))
-      by zero UsedUp at = sym (ne_eqb 0 k.version (λ e. omega (arith, is.odd)))
-      by (suc v) UsedUp at = absurd (sound.none_detached k.index (suc v) at)
+      grind (arith, nat_tests, is.odd, get-live (places_of slots) k, slot_cases slots k.index, sound.stacked.versions k.index (place_in s.version s.state), sound.none_detached k.index s.version)
 
   pub contains-past : (k : Key) → length slots ≤ k.index → map.contains_key (live (places_of slots)) k ≡ false
   contains-past k past = ap is_some (get-live (places_of slots) k ∙ ap (live_value k.version) (slice_get_past (places_of slots) k.index (omega (arith, length-places slots))))
@@ -51,11 +38,8 @@ module _ {V : Type 0} (slots : List (Slot V)) (vacant elems : ℕ) (sound : IsSo
 -- the slot of a key that is live
 pub record Present {V : Type 0} (slots : List (Slot V)) (lives : map.FinMap key_cmp V) (k : Key) (i v : ℕ) : Type 0 where
   pub value : V
-  pub slot : Slot V
-  pub found : slice_get slots i ≡ Some slot
+  pub found : slice_get slots i ≡ Some (record { version = v; state = Occupied value })
   pub within : i < length slots
-  pub version_is : slot.version ≡ v
-  pub state_is : slot.state ≡ Occupied value
   pub place : slice_get (places_of slots) i ≡ Some (Live v value)
   pub key_is_at : k ≡ key i v
   pub gives : map.get lives k ≡ Some value
@@ -65,16 +49,11 @@ pub present : {V : Type 0} (slots : List (Slot V)) (lives : map.FinMap key_cmp V
 present slots lives all k i v at of holds =
     let there = live_at (places_of slots) k (ap (λ m. map.contains_key m k) all ∙ holds) in
     let place : slice_get (places_of slots) i ≡ Some (Live v there.0) = ap (slice_get (places_of slots)) at ∙ there.1 ∙ ap (λ u. Some (Live u there.0)) (sym of) in
-    let within : i < length slots = omega (arith, slice_get_within (places_of slots) i (Live v there.0) place, length-places slots) in
-    let slot = found_within slots i within in
-    let is = live_state slot.0.version slot.0.state v there.0 (same_Some _ _ (sym (place_at slots i slot.0 slot.1) ∙ place)) in
+    let slot = live_slot slots i v there.0 place in
     record {
       value = there.0;
-      slot = slot.0;
       found = slot.1;
-      within = within;
-      version_is = is.0;
-      state_is = is.1;
+      within = slot.0;
       place = place;
       key_is_at = let here_i = sym at in let here_v = sym of in λ j. record { index = here_i j; version = here_v j };
       gives = ap (λ m. map.get m k) (sym all) ∙ get-live_at (places_of slots) k i there.0 (sym at) (place ∙ ap (λ u. Some (Live u there.0)) of);
@@ -82,26 +61,23 @@ present slots lives all k i v at of holds =
 
 -- what is read at its index
 module _ {V : Type 0} {slots : List (Slot V)} {lives : map.FinMap key_cmp V} {k : Key} {i v : ℕ} (found : Present slots lives k i v) (read : Slot V) (is_read : read ≡ get_or slots i read) where
+  slot_read : read ≡ record { version = v; state = Occupied found.value }
+  slot_read = same_read slots i read _ is_read found.found
+
   pub version_read : read.version ≡ v
-  version_read = ap (λ s. s.version) (same_read slots i read found.slot is_read found.found) ∙ found.version_is
+  version_read = ap (λ s. s.version) slot_read
 
   pub state_read : read.state ≡ Occupied found.value
-  state_read = ap (λ s. s.state) (same_read slots i read found.slot is_read found.found) ∙ found.state_is
+  state_read = ap (λ s. s.state) slot_read
 
   pub read_gives : (x : V) → read.state ≡ Occupied x → map.get lives k ≡ Some x
-  read_gives x is = found.gives ∙ same_value found.value x (sym state_read ∙ is)
-    where
-      same_value : (x y : V) → Occupied x ≡ Occupied y → Some x ≡ Some y
-      same_value x y is = let same : x ≡ y = cc in ap Some same
+  read_gives x is = let same : found.value ≡ x = cc (sym state_read ∙ is) in found.gives ∙ ap Some same
 
 -- the slot of a live key
 
 module _ {V : Type 0} (slots : List (Slot V)) (vacant elems : ℕ) (sound : IsSound slots vacant elems) (i v : ℕ) (x : V) (place : slice_get (places_of slots) i ≡ Some (Live v x)) where
-  was_live : (n : ℕ) → Live v x ≢ Vacant n
-  was_live n e = absurd (cc)
-
   pub live_within : i < length slots
-  live_within = omega (arith, slice_get_within (places_of slots) i (Live v x) place, length-places slots)
+  live_within = (live_slot slots i v x place).0
 
   -- its index and version are those of a key
   pub live_key : IsKey (key i v)
@@ -118,64 +94,33 @@ module _ {V : Type 0} (slots : List (Slot V)) (vacant elems : ℕ) (sound : IsSo
   can_free = record {
     vacate = record {
       sound = sound.linked;
-      live = place_not_vacant slots i (Live v x) place was_live;
-      positive = not_first (places_of slots) sound.stack sound.stacked i (Live v x) place was_live;
+      live = place_not_vacant slots i (Live v x) place (λ n e. absurd (cc));
+      positive = not_first (places_of slots) sound.stack sound.stacked i (Live v x) place (λ n e. absurd (cc));
       inside = omega (arith, live_within, length-layout slots);
     };
     inside = live_within;
-    live = ap (λ p. is_some (value_of p)) place;
+    live = ap (λ o. is_some (option_and_then (λ (s : Slot V). value_in s.state) o)) (live_slot slots i v x place).1;
   }
 
   -- the value that was taken out
   pub value_is : (y : V) → value_at slots i ≡ Some y → Some x ≡ Some y
-  value_is y is = sym (ap value_of place) ∙ is
-
-  left : (new : List (Slot V)) (p : Place V) → ((u : ℕ) → p ≢ Detached u) → HasBlockList (layout new) → places_of new ≡ set (places_of slots) i p
-      → (vs : List ℕ) → IsStacked (set (places_of slots) i p) vs → (vacant2 elems2 : ℕ) → length vs ≡ vacant2
-      → map.len (live (set (places_of slots) i p)) ≡ elems2 → IsSound new vacant2 elems2
-  left new p = IsSound-set slots vacant elems sound new i (Live v x) p place
+  value_is y is = sym (ap (option_and_then (λ (s : Slot V). value_in s.state)) (live_slot slots i v x place).1) ∙ is
 
   -- the slot becomes vacant
-  module _ (new : List (Slot V)) (other : v ≢ last_version) where
-    pub sound-freed : HasBlockList (layout new) → places_of new ≡ set (places_of slots) i (Vacant (v + 1 + 1)) → IsSound new (vacant + 1) (elems - 1)
-    sound-freed list after =
-        let version = sound.stacked.versions i (Live v x) place in
-        left new (Vacant (v + 1 + 1)) (λ u e. absurd (cc)) list after (i ∷ sound.stack)
-        (IsStacked-freed (places_of slots) sound.stack sound.stacked i v (v + 1 + 1) x place (omega (arith, version.0, version.1), omega (arith, version.1)) (omega (arith, version.1))) _ _
-        (omega (arith, sound.counted))
-        (omega (arith, len-live-set (places_of slots) i (Live v x) (Vacant (v + 1 + 1)) place, sound.elems_live))
-
-    test : nat_eq v last_version ≡ false
-    test = ne_eqb v last_version other
-
-    pub removes-freed : (c : ℕ) → places_of new ≡ set (places_of slots) i (Vacant (v + 1 + 1)) → Removes (hop_content slots c).content (key i v) (hop_content new c).content
-    removes-freed c after =
-        let two : v + 1 + 1 ≡ v + 2 = omega arith in
-        removes-slots slots vacant elems sound new c (key i v) x place (after ∙ ap (λ n. set (places_of slots) i (Vacant n)) two
-        ∙ ap (λ b. set (places_of slots) i (cond b Retired (Vacant (v + 2)))) (sym test))
-
-    pub blocks-freed : (c : ℕ) → blocks_of (layout new) ≡ vacated (vacant_at (layout slots)) (blocks_of (layout slots)) i → blocks_of (layout new) ≡ blocks_without (hop_content slots c) (key i v)
-    blocks-freed c after =
-        after ∙ ap (λ f. vacated f (blocks_of (layout slots)) i) (sym (same_counts slots vacant elems sound c))
-        ∙ ap (λ b. cond b (blocks_of (layout slots)) (vacated (counts_vacant (hop_content slots c).content) (blocks_of (layout slots)) i)) (sym test)
+  pub sound-freed : (new : List (Slot V)) → HasBlockList (layout new) → places_of new ≡ set (places_of slots) i (Vacant (v + 1 + 1)) → v ≢ last_version → IsSound new (vacant + 1) (elems - 1)
+  sound-freed new list after other =
+      let version = sound.stacked.versions i (Live v x) place in
+      IsSound-set slots vacant elems sound new i (Live v x) (Vacant (v + 1 + 1)) place (λ u e. absurd (cc)) list after (i ∷ sound.stack)
+      (IsStacked-freed (places_of slots) sound.stack sound.stacked i v (v + 1 + 1) x place (omega (arith, version.0, version.1), omega (arith, version.1)) (omega (arith, version.1))) _ _
+      (omega (arith, sound.counted))
+      (omega (arith, len-live-set (places_of slots) i (Live v x) (Vacant (v + 1 + 1)) place, sound.elems_live))
 
   -- the slot is retired
-  module _ (new : List (Slot V)) where
-    pub sound-used_up : layout new ≡ layout slots → places_of new ≡ set (places_of slots) i Retired → IsSound new vacant (elems - 1)
-    sound-used_up same after =
-        left new Retired (λ u e. absurd (cc)) (subst HasBlockList (sym same) sound.linked) after sound.stack
-        (IsStacked-kept (places_of slots) sound.stack sound.stacked i (Live v x) Retired place (λ n e. absurd (cc)) (λ n e. absurd (cc)) tt) _ _ sound.counted
-        (omega (arith, len-live-set (places_of slots) i (Live v x) Retired place, sound.elems_live))
-
-    pub removes-used_up : (c : ℕ) → v ≡ last_version → places_of new ≡ set (places_of slots) i Retired → Removes (hop_content slots c).content (key i v) (hop_content new c).content
-    removes-used_up c last after =
-        let test : nat_eq v last_version ≡ true = eq-eqb v last_version last in
-        removes-slots slots vacant elems sound new c (key i v) x place (after ∙ ap (λ b. set (places_of slots) i (cond b Retired (Vacant (v + 2)))) (sym test))
-
-    pub blocks-used_up : (c : ℕ) → v ≡ last_version → layout new ≡ layout slots → blocks_of (layout new) ≡ blocks_without (hop_content slots c) (key i v)
-    blocks-used_up c last same =
-        let test : nat_eq v last_version ≡ true = eq-eqb v last_version last in
-        ap blocks_of same ∙ ap (λ b. cond b (blocks_of (layout slots)) (vacated (counts_vacant (hop_content slots c).content) (blocks_of (layout slots)) i)) (sym test)
+  pub sound-used_up : (new : List (Slot V)) → layout new ≡ layout slots → places_of new ≡ set (places_of slots) i Retired → IsSound new vacant (elems - 1)
+  sound-used_up new same after =
+      IsSound-set slots vacant elems sound new i (Live v x) Retired place (λ u e. absurd (cc)) (subst HasBlockList (sym same) sound.linked) after sound.stack
+      (IsStacked-kept (places_of slots) sound.stack sound.stacked i (Live v x) Retired place (λ n e. absurd (cc)) (λ n e. absurd (cc)) tt) _ _ sound.counted
+      (omega (arith, len-live-set (places_of slots) i (Live v x) Retired place, sound.elems_live))
 
 -- another value is written to a live slot
 module _ {V : Type 0} (slots : List (Slot V)) (vacant elems : ℕ) (sound : IsSound slots vacant elems) (i v : ℕ) (x : V)
@@ -185,13 +130,9 @@ module _ {V : Type 0} (slots : List (Slot V)) (vacant elems : ℕ) (sound : IsSo
 
   layout-rewritten : layout rewritten ≡ layout slots
   layout-rewritten =
-      let within = live_within slots vacant elems sound i v x place in
-      let slot = found_within slots i within in
-      let is = live_state slot.0.version slot.0.state v x (same_Some _ _ (sym (place_at slots i slot.0 slot.1) ∙ place)) in
-      let read : get_or slots i slot.0 ≡ slot.0 = get_or_from_slice_get slots i slot.0 slot.0 slot.1 in
-      layout_written slots i (Occupied w) u
-      ∙ ap (set (layout slots) i) (sym (layout_at slots i slot.0 within ∙ ap (λ (s : Slot V). links_in s.state) read ∙ ap links_in is.1))
-      ∙ set-get_or (layout slots) i None
+      let old : Slot V = record { version = v; state = Occupied x } in
+      let read = get_or_from_slice_get slots i old old (live_slot slots i v x place).1 in
+      map-set_same (λ (s : Slot V). links_in s.state) slots i _ old (sym (ap (λ s. links_in s.state) read))
 
   places-rewritten : places_of rewritten ≡ set (places_of slots) i (Live v w)
   places-rewritten = places_written slots i (Occupied w) u ∙ ap (λ u. set (places_of slots) i (Live u w)) same
@@ -202,39 +143,14 @@ module _ {V : Type 0} (slots : List (Slot V)) (vacant elems : ℕ) (sound : IsSo
       (IsStacked-kept (places_of slots) sound.stack sound.stacked i (Live v x) (Live v w) place (λ n e. absurd (cc)) (λ n e. absurd (cc)) (sound.stacked.versions i (Live v x) place)) _ _ sound.counted
       (omega (arith, len-live-set (places_of slots) i (Live v x) (Live v w) place, sound.elems_live))
 
-  same_next : next_place rewritten ≡ next_place slots
-  same_next = ap (λ es. end_at es (next_at es 0)) layout-rewritten
-
-  same_offer : offer_at (places_of rewritten) (next_place rewritten) ≡ offer_at (places_of slots) (next_place slots)
-  same_offer = ap (offer_at (places_of rewritten)) same_next ∙ ap (λ ps. offer_at ps (next_place slots)) places-rewritten ∙ by
-    where
-      by : offer_at (set (places_of slots) i (Live v w)) (next_place slots) ≡ offer_at (places_of slots) (next_place slots)
-      by =
-          let at = vacant_place slots (next_place slots) (back_vacant slots vacant elems sound) in
-          let other : next_place slots ≢ i = λ e. was_live slots vacant elems sound i v x place at.0 (same_Some _ _ (sym place ∙ ap (slice_get (places_of slots)) (sym e) ∙ at.1)) in
-          grind (arith, length-set (places_of slots) i (Live v w), slice_get-set_other (places_of slots) i (next_place slots) (Live v w) other)
+  same_offer : offer_at (set (places_of slots) i (Live v w)) (next_place slots) ≡ offer_at (places_of slots) (next_place slots)
+  same_offer =
+      let at = vacant_slot slots (next_place slots) (back_vacant slots vacant elems sound) in
+      grind (arith, length-set (places_of slots) i (Live v w), slice_get-set_other (places_of slots) i (next_place slots) (Live v w))
 
   pub content-rewritten : (c : ℕ) → hop_content rewritten c ≡ hop_with_value (hop_content slots c) (key i v) w
   content-rewritten c =
       let ordered = in_order slots vacant elems sound in
       let all = content-written (ordered_map slots vacant elems sound c) ordered.ordered (key i v) x place w in
-      let lives = ap live places-rewritten ∙ ap (λ n. n.live) all in
-      let keeps = ap detached places-rewritten ∙ ap (λ n. n.detached) all in
-      let spent = ap retired places-rewritten ∙ ap (λ n. n.retired) all in
-      let nexts = ap next places-rewritten ∙ ap (λ n. n.next) all in
       let offers = same_offer in
-      let rooms = ap (λ ps. min c most - taken ps) places-rewritten ∙ ap (λ n. n.room) all in
-      let blocks = ap blocks_of layout-rewritten in
-      λ j. record {
-        content = record {
-          live = lives j;
-          detached = keeps j;
-          retired = spent j;
-          next = nexts j;
-          offer = offers j;
-          stack = None;
-          room = rooms j;
-          capacity = c;
-        };
-        blocks = blocks j;
-      }
+      rw (places-rewritten, layout-rewritten) (λ j. record { content = record (all j) { offer = offers j; stack = None }; blocks = blocks_of (layout slots) })

@@ -1,25 +1,19 @@
 -- A loop over the live keys of a map, which skips vacant places.
-use Rattle.std.proofs.Common.{◌∷◌, ◌≡◌, ◌≢◌, ℕ, zero, suc, ◌+◌, ◌-◌, ◌<◌, true, Option, Some, None, List}
-use Rattle.std.proofs.Common.{is_some, ◌^◌, refl, sym, ap, subst, ◌∙◌, inl, inr, arith}
+use Rattle.std.proofs.Common.{◌∷◌, ◌≡◌, ◌↔◌, ℕ, ◌+◌, ◌-◌, ◌<◌, true, Option, Some, None, List, ◌^◌, refl, sym, ap, ◌∙◌, arith}
 use Rattle.std.specs.FinMap as map
-use Rattle.slotmap_core.specs.Key.{Key, key_cmp}
+use Rattle.slotmap_core.specs.Key.{Key}
 use Rattle.slotmap_core.specs.Content.{Content, IsLive}
 use Rattle.slotmap_core.specs.Listing.{NoneBelow}
-use Rattle.slotmap_core.specs.Retain.{Visit}
 use Rattle.slotmap_core.specs.Transition.{Removes, with_value}
-use Rattle.slotmap_core.proofs.IndexLemmas.{from_index, alone_at, NoneBelow-removed, NoneBelow-end, get-remove_other}
+use Rattle.slotmap_core.proofs.IndexLemmas.{NoneBelow-end, get-remove_other}
 use Rattle.slotmap_core.proofs.Maps.{in_after_remove}
 use Rattle.slotmap_core.proofs.KeyLemmas.{keys_total, exact_keys}
-use Rattle.slotmap_core.proofs.SweepLemmas.{first_entry, Swept, Swept-start, Swept-on, Swept-written, Swept-removed}
+use Rattle.slotmap_core.proofs.SweepLemmas.{first_entry, above_next, Swept, Swept-start, Swept-to, Swept-on, Swept-next, Swept-removed}
 use Rattle.slotmap_core.proofs.LeaveLemmas.{same_live}
 use Rattle.slotmap_core.proofs.ListingLemmas.{remove-insert}
-use Rattle.slotmap_core.proofs.VisitLemmas.{Visits}
-use Rattle.slotmap_core.proofs.KeyedVisits.{Keyed-jump, Keyed-done}
 use Rattle.slotmap_hop.specs.declared.links.Slot.{Slot}
-use Rattle.slotmap_hop.specs.Blocks.{Begins}
-use Rattle.slotmap_hop.specs.Links.{vacant_at}
 use Rattle.slotmap_hop.specs.HopContent.{HopContent, IsHopContent, IsNextLive, MayStand, StaysHop, hop_with_value, blocks_without, blocks_without_all}
-use Rattle.slotmap_hop.specs.Slots.{layout, hop_content, IsSound}
+use Rattle.slotmap_hop.specs.Slots.{hop_content, IsSound}
 use Rattle.slotmap_hop.specs.Walk.{CanGoOn}
 use Rattle.slotmap_hop.proofs.SlotLemmas.{same_counts}
 use Rattle.slotmap_hop.proofs.BlocksLeft.{blocks_taken, keys_first, keys_none}
@@ -27,12 +21,9 @@ use Rattle.slotmap_hop.proofs.WellFormed.{IsHopContent-with_value}
 
 -- a search may begin where an iterator may be
 pub look_begins : {V : Type 0} (slots : List (Slot V)) (vacant elems : ℕ) → IsSound slots vacant elems → (start c : ℕ) → MayStand (hop_content slots c).content start → CanGoOn slots 0 start
-look_begins slots vacant elems sound start c may = record { stands = record { vacant = vacant; elems = elems; sound = sound; at_front = λ _. begins may }; passed = omega arith }
-  where
-    begins : MayStand (hop_content slots c).content start → Begins (vacant_at (layout slots)) start
-    begins (inl first) = λ left next. absurd (omega arith)
-    begins (inr used) =
-        λ left next. let same : start - 1 ≡ left = omega arith in ap (vacant_at (layout slots)) (sym same) ∙ sym (ap (λ f. f (start - 1)) (same_counts slots vacant elems sound c)) ∙ used
+look_begins slots vacant elems sound start c may =
+    let same = ap (λ f. f (start - 1)) (same_counts slots vacant elems sound c) in
+    record { stands = record { vacant = vacant; elems = elems; sound = sound; at_front = λ _ left next. grind arith }; passed = omega arith }
 
 -- the measure by which a loop over the live keys ends
 abbrev pub indices_left : {K : Type 0} → (K → Key) → Option K → ℕ
@@ -47,70 +38,38 @@ module _ {K V : Type 0} (data_of : K → Key) where
     pub valid : IsHopContent now
     pub comes : IsNextLive data_of now.content index next
 
-  pub sweep_starts : (m : HopContent V) (next : Option K) → IsHopContent m → IsNextLive data_of m.content 0 next → Sweeping m m 0 next
-  sweep_starts m next well comes = record { swept = Swept-start m.content 0 well.valid; valid = well; comes = comes }
-
-  Swept-to : (old now : Content V) (k i : ℕ) → Swept true old now i → Swept true old now (i + k)
-  Swept-to old now zero i swept = let same : i + 0 ≡ i = omega arith in rw same swept
-  Swept-to old now (suc k) i swept = let same : i + 1 + k ≡ i + suc k = omega arith in rw same at (Swept-to old now k (i + 1) (Swept-on old now i swept))
-
   module _ (old now : HopContent V) (i : ℕ) (k : K) (sweep : Sweeping old now i (Some k)) where
-    pub swept_here : Swept true old.content now.content (data_of k).index
-    swept_here =
-        let same : i + ((data_of k).index - i) ≡ (data_of k).index = omega (arith, sweep.comes.1) in
-        rw same at (Swept-to old.content now.content ((data_of k).index - i) i sweep.swept)
+    -- the next key before and after a write to the value of this one
+    pub same_comes : (w : V) (i' : ℕ) (next : Option K) → IsNextLive data_of (with_value now.content (data_of k) w) i' next ↔ IsNextLive data_of now.content i' next
+    same_comes w i' next = (λ comes. grind (arith, same_live now.content (data_of k) w sweep.comes.0), λ comes. grind (arith, same_live now.content (data_of k) w sweep.comes.0))
 
-    -- the next key after a change that keeps the same keys live, except perhaps this one
-    comes_after : (new : Content V) (next : Option K) → ((q : Key) → IsLive new q → IsLive now.content q)
-        → ((q : Key) → IsLive now.content q → q ≢ data_of k → IsLive new q) → IsNextLive data_of now.content ((data_of k).index + 1) next
+    comes_removed : (new : Content V) (next : Option K) → new.live ≡ map.remove now.content.live (data_of k) → IsNextLive data_of now.content ((data_of k).index + 1) next
         → IsNextLive data_of new ((data_of k).index + 1) next
-    comes_after new None less more comes = λ q there. comes q (less q there)
-    comes_after new (Some n) less more comes =
-        (more (data_of n) comes.0 (λ same. omega (arith, comes.1, ap (λ q. q.index) same)), comes.1, λ q there from. comes.2 q (less q there) from)
-
-    -- the next key after a write to the value of this one
-    pub comes_written : (w : V) (i' : ℕ) (next : Option K) → IsNextLive data_of (with_value now.content (data_of k) w) i' next → IsNextLive data_of now.content i' next
-    comes_written w i' None comes = λ q there. comes q (same_live now.content (data_of k) w sweep.comes.0 q ∙ there)
-    comes_written w i' (Some n) comes =
-        (sym (same_live now.content (data_of k) w sweep.comes.0 (data_of n)) ∙ comes.0, comes.1, λ q there from. comes.2 q (same_live now.content (data_of k) w sweep.comes.0 q ∙ there) from)
+    comes_removed new next gone comes = grind (arith, in_after_remove keys_total exact_keys now.content.live (data_of k), get-remove_other now.content.live (data_of k))
 
     -- the key is removed, perhaps after a write to its value
-    removed_to : (was : Content V) (new : HopContent V) (next : Option K) → Swept true old.content was (data_of k).index → IsLive was (data_of k)
+    pub sweep_removed : (was : Content V) (new : HopContent V) (next : Option K) → Swept true old.content was (data_of k).index → IsLive was (data_of k)
         → new.content.live ≡ map.remove now.content.live (data_of k) → IsNextLive data_of now.content ((data_of k).index + 1) next
         → Removes was (data_of k) new.content → new.content.capacity ≡ was.capacity → IsHopContent new → Sweeping old new ((data_of k).index + 1) next
-    removed_to was new next swept is_live gone comes removes capacity well = record {
+    sweep_removed was new next swept is_live gone comes removes capacity well = record {
       swept = Swept-removed old.content was new.content (data_of k).index (data_of k) swept is_live refl removes capacity well.valid;
       valid = well;
-      comes = comes_after new.content next
-          (λ q there. (in_after_remove keys_total exact_keys now.content.live (data_of k) q (sym (ap (λ m. map.contains_key m q) gone) ∙ there)).1)
-          (λ q there other. ap (λ m. map.contains_key m q) gone ∙ ap is_some (get-remove_other now.content.live (data_of k) q other) ∙ there)
-          comes;
+      comes = comes_removed new.content next gone comes;
     }
-
-    pub sweep_removed : (new : HopContent V) (next : Option K) → IsNextLive data_of now.content ((data_of k).index + 1) next
-        → Removes now.content (data_of k) new.content → StaysHop now new → Sweeping old new ((data_of k).index + 1) next
-    sweep_removed new next comes removes stays = removed_to now.content new next swept_here sweep.comes.0 removes.live comes removes stays.capacity stays.after
 
     pub sweep_dropped : (w : V) (new : HopContent V) (next : Option K) → IsNextLive data_of now.content ((data_of k).index + 1) next
         → Removes (with_value now.content (data_of k) w) (data_of k) new.content → StaysHop (hop_with_value now (data_of k) w) new → Sweeping old new ((data_of k).index + 1) next
     sweep_dropped w new next comes removes stays =
-        removed_to (with_value now.content (data_of k) w) new next
-        (Swept-written old.content now.content (data_of k).index (data_of k) w swept_here sweep.comes.0) (same_live now.content (data_of k) w sweep.comes.0 (data_of k) ∙ sweep.comes.0)
-        (removes.live ∙ remove-insert now.content.live (data_of k) w) comes removes stays.capacity stays.after
+        sweep_removed (with_value now.content (data_of k) w) new next (Swept-next old.content now.content i (data_of k) w sweep.swept sweep.comes.0 sweep.comes.1)
+        (same_live now.content (data_of k) w sweep.comes.0 (data_of k) ∙ sweep.comes.0) (removes.live ∙ remove-insert now.content.live (data_of k) w) comes removes stays.capacity stays.after
 
     -- the key stays, with another value
     pub sweep_written : (w : V) (next : Option K) → IsNextLive data_of now.content ((data_of k).index + 1) next → Sweeping old (hop_with_value now (data_of k) w) ((data_of k).index + 1) next
     sweep_written w next comes = record {
-      swept = Swept-on old.content (with_value now.content (data_of k) w) (data_of k).index (Swept-written old.content now.content (data_of k).index (data_of k) w swept_here sweep.comes.0);
+      swept = Swept-on old.content (with_value now.content (data_of k) w) (data_of k).index (Swept-next old.content now.content i (data_of k) w sweep.swept sweep.comes.0 sweep.comes.1);
       valid = IsHopContent-with_value now (data_of k) w sweep.valid sweep.comes.0;
-      comes = comes_after (with_value now.content (data_of k) w) next
-          (λ q there. sym (same_live now.content (data_of k) w sweep.comes.0 q) ∙ there)
-          (λ q there other. same_live now.content (data_of k) w sweep.comes.0 q ∙ there)
-          comes;
+      comes = (same_comes w ((data_of k).index + 1) next).1 comes;
     }
-
-    pub none_between : (m : map.FinMap key_cmp V) → ((q : Key) → map.contains_key m q ≡ true → IsLive now.content q) → NoneBelow m i → NoneBelow m (data_of k).index
-    none_between m part above q there = sweep.comes.2 q (part q there) (above q there)
 
   -- the loop so far, with what it says about the keys below its index, and which blocks are to come
   pub record Clearing (old now : HopContent V) (next : Option K) : Type 0 where
@@ -120,7 +79,7 @@ module _ {K V : Type 0} (data_of : K → Key) where
     pub blocks : blocks_without_all old (map.keys old.content.live) ≡ blocks_without_all now (map.keys now.content.live)
 
   pub clearing_starts : (m : HopContent V) (next : Option K) → IsHopContent m → IsNextLive data_of m.content 0 next → Clearing m m next
-  clearing_starts m next well comes = record { index = 0; sweep = sweep_starts m next well comes; above = λ q there. omega arith; blocks = refl }
+  clearing_starts m next well comes = record { index = 0; sweep = record { swept = Swept-start m.content 0 well.valid; valid = well; comes = comes }; above = λ q there. omega arith; blocks = refl }
 
   -- the next key is removed, which was the first one
   pub clearing_removed : (old now new : HopContent V) (k : K) (x : V) (next : Option K) → Clearing old now (Some k)
@@ -128,13 +87,14 @@ module _ {K V : Type 0} (data_of : K → Key) where
       → new.blocks ≡ blocks_without now (data_of k) → StaysHop now new
       → Clearing old new next × (map.entries now.content.live ≡ (data_of k, x) ∷ map.entries new.content.live)
   clearing_removed old now new k x next clearing comes value removes blocks stays =
-      let alone = alone_at now.content clearing.sweep.valid.valid (data_of k) (data_of k).index clearing.sweep.comes.0 refl in
-      let above = none_between old now clearing.index k clearing.sweep now.content.live (λ q there. there) clearing.above in
-      let first = first_entry now.content clearing.sweep.valid.valid clearing.index (data_of k) clearing.sweep.comes.2 x clearing.above value ∙ ap (λ m. (data_of k, x) ∷ map.entries m) (sym removes.live) in (
+      let well = clearing.sweep.valid.valid in
+      let least = clearing.sweep.comes in
+      let first = first_entry now.content well clearing.index (data_of k) least.2 x clearing.above value ∙ ap (λ m. (data_of k, x) ∷ map.entries m) (sym removes.live) in (
         record {
           index = (data_of k).index + 1;
-          sweep = sweep_removed old now clearing.index k clearing.sweep new next comes removes stays;
-          above = subst (λ m. NoneBelow m ((data_of k).index + 1)) (sym removes.live) (NoneBelow-removed now.content.live (data_of k).index (data_of k) alone above);
+          sweep = sweep_removed old now clearing.index k clearing.sweep now.content new next
+              (Swept-to old.content now.content clearing.index (data_of k).index clearing.sweep.swept least.1) least.0 removes.live comes removes stays.capacity stays.after;
+          above = rw removes.live (above_next now.content well clearing.index (data_of k) least.2 least.0 clearing.above);
           blocks = clearing.blocks ∙ ap (blocks_without_all now) (keys_first now.content.live new.content.live (data_of k) x first)
               ∙ blocks_taken now new (data_of k) (map.keys new.content.live) removes blocks;
         },
@@ -145,29 +105,14 @@ module _ {K V : Type 0} (data_of : K → Key) where
   pub after_above : (now new : HopContent V) (k : K) → IsHopContent now → IsNextLive data_of now.content 0 (Some k)
       → Removes now.content (data_of k) new.content → (q : Key) → IsLive new.content q → (data_of k).index < q.index
   after_above now new k well least removes q there =
-      let alone = alone_at now.content well.valid (data_of k) (data_of k).index least.0 refl in
-      let above = NoneBelow-removed now.content.live (data_of k).index (data_of k) alone (λ q there. least.2 q there (omega arith)) in
-      omega (arith, above q (sym (ap (λ m. map.contains_key m q) removes.live) ∙ there))
+      omega (arith, above_next now.content well.valid 0 (data_of k) least.2 least.0 (λ q there. omega arith) q (sym (ap (λ m. map.contains_key m q) removes.live) ∙ there))
 
   -- no live key is below the next one
   pub next_is_least : (old now : HopContent V) (next : Option K) → Clearing old now next → IsNextLive data_of now.content 0 next
-  next_is_least old now None clearing = λ q there. absurd (omega (arith, clearing.sweep.comes q there, clearing.above q there))
-  next_is_least old now (Some k) clearing = (clearing.sweep.comes.0, omega arith, λ q there from. clearing.sweep.comes.2 q there (clearing.above q there))
+  next_is_least old now next clearing = let comes = clearing.sweep.comes in grind (arith, clearing.above)
 
   pub clearing_ends : (old now : HopContent V) → Clearing old now None → now.content.live ≡ map.empty
   clearing_ends old now clearing = NoneBelow-end now.content.live clearing.index clearing.sweep.comes clearing.above
 
   pub clearing_blocks : (old now : HopContent V) → Clearing old now None → now.blocks ≡ blocks_without_all old (map.keys old.content.live)
   clearing_blocks old now clearing = sym (clearing.blocks ∙ ap (blocks_without_all now) (keys_none now.content.live (clearing_ends old now clearing)))
-
-  -- the visits up to the next key
-  pub Visits-here : (old : HopContent V) (xs : List (Visit K V)) (i : ℕ) (k : K) (now : HopContent V) → IsNextLive data_of now.content i (Some k)
-      → Visits data_of old.content.live xs (from_index i old.content.live) now.content.live
-      → Visits data_of old.content.live xs (from_index (data_of k).index old.content.live) now.content.live
-  Visits-here old xs i k now comes visits = Keyed-jump data_of old.content.live xs i (data_of k).index now.content.live visits comes.1 comes.2
-
-  -- no key is left to visit
-  pub Visits-end : (old : HopContent V) (xs : List (Visit K V)) (i : ℕ) (now : HopContent V) → IsNextLive data_of now.content i None
-      → Visits data_of old.content.live xs (from_index i old.content.live) now.content.live
-      → Visits data_of old.content.live xs map.empty now.content.live
-  Visits-end old xs i now comes visits = Keyed-done data_of old.content.live xs i now.content.live visits comes

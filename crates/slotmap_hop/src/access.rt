@@ -24,6 +24,7 @@ impl<K: Key, V: Drop> HopSlotMap<K, V> {
         ensures absent { IfNone result (map.contains_key self.now.content.live (K.data_of key) ≡ false) }
         ensures valid { IsHopContent self.now }
     {
+        self.note_valid();
         let key = key.data();
         let index = key.idx() as usize;
         if self.slots.get(index)?.version == key.version() {
@@ -87,6 +88,7 @@ impl<K: Key, V: Drop> HopSlotMap<K, V> {
         ensures value { map.get self.now.content.live (K.data_of key) ≡ Some result.now }
         ensures valid { IsHopContent self.now }
     {
+        self.note_valid();
         let index = key.data().idx() as usize;
         match &self.slots[index].state {
             State::Occupied(value) => value,

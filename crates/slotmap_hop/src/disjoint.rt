@@ -51,8 +51,7 @@ impl<K: Key, V: Drop> HopSlotMap<K, V> {
         ensures which { IsTrue result ↔ CanReplace self.now.content (map_list K.data_of keys.now) }
         ensures valid { IsHopContent self.now }
     {
-        // The clause `valid` needs a look at the map, even if there are no keys.
-        let _ = &self.live_count;
+        self.note_valid();
         for i in 0..keys.len() {
             let key = keys[i];
             if !self.contains_key(key) || keys[..i].contains(&key) {

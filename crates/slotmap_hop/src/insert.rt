@@ -34,6 +34,7 @@ impl<K: Key, V: Drop> HopSlotMap<K, V> {
         ensures room { IsTrue result → 0 < self.now.content.room }
         ensures valid { IsHopContent self.now }
     {
+        self.note_valid();
         self.vacant_count > 0 || self.slots.len() < self.slots.capacity().min(MOST_KEYS + 1)
     }
 

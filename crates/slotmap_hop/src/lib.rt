@@ -93,6 +93,16 @@ impl<K, V> Model for HopSlotMap<K, V> {
     ghost invariant = { λ m. IsSound m.slots.items m.vacant_count m.live_count };
 }
 
+impl<K, V> HopSlotMap<K, V> {
+    // Does nothing; its contract tells a caller that what the map holds is well formed.
+    #[inline(always)]
+    pub(crate) fn note_valid(&self)
+        ensures { IsHopContent self.now }
+    {
+        let _ = &self.live_count;
+    }
+}
+
 impl<V: Drop> HopSlotMap<DefaultKey, V> {
     /// Makes an empty map with the default key type.
     ///
@@ -203,6 +213,7 @@ impl<K: Key, V: Drop> HopSlotMap<K, V> {
         ensures value { result ≡ map.len self.now.content.live }
         ensures valid { IsHopContent self.now }
     {
+        self.note_valid();
         self.live_count as usize
     }
 
@@ -235,6 +246,7 @@ impl<K: Key, V: Drop> HopSlotMap<K, V> {
         ensures value { result ≡ self.now.content.capacity }
         ensures valid { IsHopContent self.now }
     {
+        self.note_valid();
         self.slots.capacity() - 1
     }
 
@@ -245,6 +257,7 @@ impl<K: Key, V: Drop> HopSlotMap<K, V> {
         ensures fits { result ≤ self.now.content.capacity }
         ensures valid { IsHopContent self.now }
     {
+        self.note_valid();
         self.slots.len() - 1 - self.vacant_count as usize
     }
 

@@ -45,6 +45,7 @@ impl<K: Key, V: Drop> HopSlotMap<K, V> {
         ensures comes { IsNextLive K.data_of self.now.content start result }
         ensures valid { IsHopContent self.now }
     {
+        self.note_valid();
         let mut counted = CountedSlots::new(self.slots.as_slice());
         let (place, slot) = find_live(&mut counted, start)?;
         Some(K::from(KeyData::exact(place, slot.version)))

@@ -74,6 +74,7 @@ impl<K: Key, V: Drop> HopSlotMap<K, V> {
         ensures contents { IfOk result (λ slots. contents slots.items ≡ self.now.content.live) }
         ensures valid { IsHopContent self.now }
     {
+        self.note_valid();
         let mut slots = Vec::with_capacity(*self.slots.allocator(), self.slots.len())?;
         for index in 0..self.slots.len() {
             slots.push_reserved(record_of(&self.slots[index])?);

@@ -1,11 +1,10 @@
-use Rattle.std.proofs.Common.{◌≡◌, ◌+◌, [], ◌∷◌, ◌++◌, map as list_map, refl, sym, ap, subst, ◌∙◌, append_assoc, append-nil, arith}
+use Rattle.std.proofs.Common.{[], ◌∷◌, ◌++◌, map as list_map, refl, sym, ap, ◌∙◌, append_assoc, append-nil, arith}
 use Rattle.std.specs.FinMap as map
 use Rattle.std.proofs.lemmas.List.{map-append}
 use Rattle.slotmap_core.proofs.KeyLemmas.{keys_total, exact_keys}
 use Rattle.slotmap_core.proofs.Maps.{some_entry, len_removed}
 use Rattle.slotmap_core.proofs.OrderLemmas.{entries_none}
-use Rattle.slotmap_hop.specs.HopContent.{IsNextLive}
-use Rattle.slotmap_hop.proofs.Sweeping.{Clearing, clearing_starts, clearing_removed, clearing_ends, clearing_blocks}
+use Rattle.slotmap_hop.proofs.Sweeping.{clearing_starts, clearing_removed, clearing_ends, clearing_blocks}
 use Rattle.slotmap_hop.proofs.HopSlotMap.drain_into.Goals as goal
 
 pub loop-next-init : goal.loop-next-init
@@ -19,39 +18,30 @@ loop-next-init g c = record {
 
 pub push_reserved-requires : goal.push_reserved-requires
 push_reserved-requires g c =
-    let at = c.loop-next in
-    let clearing = subst (Clearing g.K.Key.data_of c.args.self.now at.self) c.in-Some.is at.invariant.clearing in
-    omega (arith, at.invariant.room, some_entry keys_total exact_keys at.self.content.live (g.K.Key.data_of c.in-Some.key) clearing.sweep.comes.0)
+    let clearing = rw c.in-Some.is at c.loop-next.invariant.clearing in
+    omega (arith, c.loop-next.invariant.room, some_entry keys_total exact_keys c.loop-next.self.content.live (g.K.Key.data_of c.in-Some.key) clearing.sweep.comes.0)
 
 pub loop-next-preserved : goal.loop-next-preserved
 loop-next-preserved g c =
     let at = c.loop-next in
     let key = g.K.Key.data_of c.in-Some.key in
-    let clearing = subst (Clearing g.K.Key.data_of c.args.self.now at.self) c.in-Some.is at.invariant.clearing in
-    let index : c.idx.result ≡ key.index = c.idx.ensures.value ∙ ap (λ k. k.index) c.data.ensures.value in
-    let comes = subst (λ i. IsNextLive g.K.Key.data_of at.self.content (i + 1) c.first_live-next-in-Some.result) index c.first_live-next-in-Some.ensures.comes in
+    let clearing = rw c.in-Some.is at at.invariant.clearing in
+    let comes = rw (c.idx.ensures.value, c.data.ensures.value) at c.first_live-next-in-Some.ensures.comes in
     let took = c.take_live-value.ensures in
+    let pushed = c.push_reserved.ensures in
     let pair : g.row.K.Denot × g.row.V.Denot = (c.in-Some.key, c.take_live-value.result) in
-    let next = clearing_removed g.K.Key.data_of c.args.self.now at.self c.take_live-value.new.self c.in-Some.key c.take_live-value.result _ clearing comes took.value took.removes took.blocks took.valid in
+    let next = clearing_removed g.K.Key.data_of c.args.self.now at.self c.take_live-value.new.self c.in-Some.key c.take_live-value.result _ clearing comes
+    took.value took.removes took.blocks took.valid in
     record {
       clearing = next.0;
       pairs = at.invariant.pairs ++ pair ∷ [];
-      pushed = c.push_reserved.ensures.items ∙ ap (λ xs. xs ++ pair ∷ []) at.invariant.pushed ∙ append_assoc c.args.out.now.items at.invariant.pairs (pair ∷ []);
+      pushed = pushed.items ∙ ap (λ xs. xs ++ pair ∷ []) at.invariant.pushed ∙ append_assoc c.args.out.now.items at.invariant.pairs (pair ∷ []);
       listed = simp (map-append, append_assoc) (at.invariant.listed ∙ ap (λ es. list_map (λ p. (g.K.Key.data_of p.0, p.1)) at.invariant.pairs ++ es) next.1);
-      room =
-          omega (
-            arith,
-            at.invariant.room,
-            c.push_reserved.ensures.len,
-            c.push_reserved.ensures.capacity,
-            ap map.len took.removes.live,
-            len_removed keys_total exact_keys at.self.content.live key clearing.sweep.comes.0,
-          );
+      room = omega (arith, at.invariant.room, pushed.len, pushed.capacity, ap map.len took.removes.live, len_removed keys_total exact_keys at.self.content.live key clearing.sweep.comes.0);
     }
 
 pub returns-clause-empty : goal.returns-clause-empty
-returns-clause-empty g c =
-    clearing_ends g.K.Key.data_of c.args.self.now c.loop-next.self (subst (Clearing g.K.Key.data_of c.args.self.now c.loop-next.self) c.in_default.is c.loop-next.invariant.clearing)
+returns-clause-empty g c = clearing_ends g.K.Key.data_of c.args.self.now c.loop-next.self (rw c.in_default.is at c.loop-next.invariant.clearing)
 
 pub returns-clause-ok : goal.returns-clause-ok
 returns-clause-ok g c =
@@ -61,4 +51,4 @@ returns-clause-ok g c =
     (pairs, at.invariant.pushed, sym (at.invariant.listed ∙ ap (λ es. entries ++ es) (ap (λ m. map.entries m) (returns-clause-empty g c) ∙ entries_none) ∙ append-nil entries))
 
 pub returns-clause-blocks : goal.returns-clause-blocks
-returns-clause-blocks g c = clearing_blocks g.K.Key.data_of c.args.self.now c.loop-next.self (subst (Clearing g.K.Key.data_of c.args.self.now c.loop-next.self) c.in_default.is c.loop-next.invariant.clearing)
+returns-clause-blocks g c = clearing_blocks g.K.Key.data_of c.args.self.now c.loop-next.self (rw c.in_default.is at c.loop-next.invariant.clearing)

@@ -1,15 +1,10 @@
-use Rattle.std.proofs.Common.{◌≡◌, ◌+◌, ◌∷◌, ◌++◌, [], length, set, true, refl, sym, ap, subst, ◌∙◌, arith}
+use Rattle.std.proofs.Common.{◌≡◌, ◌∷◌, ◌++◌, [], length, true, refl, sym, ap, subst, ◌∙◌, arith}
 use Rattle.std.specs.Vec.Iter.{into_iter_items}
 use Rattle.std.proofs.lemmas.List.{with_items_is}
-use Rattle.slotmap_core.specs.Places.{Vacant}
 use Rattle.slotmap_core.specs.Slots.{Accepts, AllFitBelow}
 use Rattle.slotmap_core.proofs.ListReadLemmas.{reads_as, taken_first, some_records}
-use Rattle.slotmap_hop.specs.Blocks.{vacated}
-use Rattle.slotmap_hop.specs.Links.{vacant_at, blocks_of}
-use Rattle.slotmap_hop.specs.Slots.{layout, places_of}
 use Rattle.slotmap_hop.proofs.SlotLemmas.{valid, same_length}
-use Rattle.slotmap_hop.proofs.ReadLemmas.{AreRead, AreRead-first, AreRead-vacant, AreRead-in_use, read_count, with_slot, can_open, IsSound-read, starts-read}
-use Rattle.slotmap_hop.proofs.ReadLemmas.{reading_counted, reading_all, reading_on}
+use Rattle.slotmap_hop.proofs.ReadLemmas.{AreRead, AreRead-first, AreRead-vacant, AreRead-in_use, read_count, with_slot, can_open, IsSound-read, starts-read, reading_counted, reading_all, reading_on}
 use Rattle.slotmap_hop.proofs.HopSlotMap.from_slots.Goals.{In_ok-check_slots, In-None, After-push_reserved-in-loop-slot}
 use Rattle.slotmap_hop.proofs.HopSlotMap.from_slots.Goals as goal
 
@@ -22,27 +17,18 @@ loop-slot-init g c =
     let some = some_records list.items 4294967295 (accepted g (goal.at.loop-slot-init g c).In_ok-check_slots) in
     let taken = taken_first _ _ _ _ c.next.result c.next.ensures.cases (omega (arith, some, c.into_iter-records.ensures.len, list.ok.0)) in
     let rest = c.into_iter-slot-iterator.ensures.into_iter_gives in
+    let made = c.in_ok-slots.ensures in
     let whole : taken.0 ∷ into_iter_items c.next.new.self ≡ list.items = sym taken.1 ∙ c.into_iter-records.ensures.rest in
     rw rest (record {
       reading = record {
         first = taken.0;
         all = whole;
         left_is = omega (arith, taken.2, ap length whole, c.into_iter-records.ensures.len, list.ok.0);
-        read = rw (c.push_reserved.ensures.items, c.in_ok-slots.ensures.items) (AreRead-first taken.0);
+        read = rw (c.push_reserved.ensures.items, made.items) (AreRead-first taken.0);
         few_vacant = omega arith;
         few_elems = omega arith;
       };
-      room =
-          omega (
-            arith,
-            taken.2,
-            c.into_iter-records.ensures.len,
-            c.push_reserved.ensures.len,
-            c.push_reserved.ensures.capacity,
-            c.in_ok-slots.ensures.len,
-            c.in_ok-slots.ensures.capacity,
-            c.len.ensures,
-          );
+      room = omega (arith, taken.2, c.into_iter-records.ensures.len, c.push_reserved.ensures.len, c.push_reserved.ensures.capacity, made.len, made.capacity, c.len.ensures);
     })
 
 with_next : (g : _) (c : After-push_reserved-in-loop-slot g) → c.push_reserved-in-loop-slot.new.self.items ≡ with_slot _ _ _ _ c.loop-slot.invariant.reading.read c.in-Some.slot
@@ -66,21 +52,16 @@ loop-slot-preserved-then-is_vacant g c =
     let steps = c.in-Some.ensures.steps in
     let accepts = accepted g (goal.at.loop-slot-preserved-then-is_vacant g c).In_ok-check_slots in
     let next = with_next g (goal.at.loop-slot-preserved-then-is_vacant g c).After-push_reserved-in-loop-slot in
-    let pushed = c.push_reserved-in-loop-slot.ensures in
     let m = c.push_reserved-in-loop-slot.new.self in
-    let index : c.len-index.result ≡ length at.slots.items = c.len-index.ensures ∙ at.slots.ok.0 in
-    let seen = c.as_mut_slice.ensures.value ∙ next in
-    let one = with_slot _ _ _ _ reading.read slot in
-    let after : places_of c.open_last.new.slots ≡ set (places_of one) (length at.slots.items) (Vacant (slot.version + 1)) =
-    c.open_last.ensures.places ∙ ap (λ xs. set (places_of xs) c.len-index.result (Vacant (slot.version + 1))) seen ∙ ap (λ i. set (places_of one) i (Vacant (slot.version + 1))) index in
-    let joined = c.open_last.ensures.blocks ∙ ap (λ xs. vacated (vacant_at (layout xs)) (blocks_of (layout xs)) c.len-index.result) seen
-    ∙ ap (vacated (vacant_at (layout one)) (blocks_of (layout one))) index in
+    let after = rw (c.as_mut_slice.ensures.value, next, c.len-index.ensures, at.slots.ok.0) at c.open_last.ensures.places in
+    let joined = rw (c.as_mut_slice.ensures.value, next, c.len-index.ensures, at.slots.ok.0) at c.open_last.ensures.blocks in
     let items = with_items_is m c.open_last.new.slots (same_length _ _ _ _ after ∙ ap length (sym next) ∙ sym m.ok.0) in
     record {
       reading =
           rw items (reading_on _ _ _ _ _ _ _ reading slot _ _ steps.0 steps.1 4294967295 accepts _ _ (omega arith)
-          (λ consistent. AreRead-vacant _ _ _ _ reading.read slot consistent (omega arith) c.open_last.new.slots (sym c.is_vacant.ensures ∙ c.if-is_vacant.true) c.open_last.ensures.list joined after));
-      room = omega (arith, at.invariant.room, steps.1, pushed.len, pushed.capacity);
+          (λ consistent. AreRead-vacant _ _ _ _ reading.read slot consistent (omega arith) c.open_last.new.slots (sym c.is_vacant.ensures ∙ c.if-is_vacant.true)
+          c.open_last.ensures.list joined after));
+      room = omega (arith, at.invariant.room, steps.1, c.push_reserved-in-loop-slot.ensures.len, c.push_reserved-in-loop-slot.ensures.capacity);
     }
 
 pub loop-slot-preserved : goal.loop-slot-preserved
@@ -91,14 +72,13 @@ loop-slot-preserved g c =
     let steps = c.in-Some.ensures.steps in
     let accepts = accepted g (goal.at.loop-slot-preserved g c).In_ok-check_slots in
     let next = with_next g (goal.at.loop-slot-preserved g c).After-push_reserved-in-loop-slot in
-    let pushed = c.push_reserved-in-loop-slot.ensures in
     let count = read_count _ _ _ _ reading.read in
     let counted = reading_counted _ _ _ _ _ _ _ reading in
     record {
       reading =
           rw next (reading_on _ _ _ _ _ _ _ reading slot _ _ steps.0 steps.1 4294967295 accepts _ _ (omega arith)
           (λ consistent. AreRead-in_use _ _ _ _ reading.read slot consistent (omega arith) (sym c.is_vacant.ensures ∙ c.if-is_vacant.false) (omega (arith, accepts.short, counted, steps.1))));
-      room = omega (arith, at.invariant.room, steps.1, pushed.len, pushed.capacity);
+      room = omega (arith, at.invariant.room, steps.1, c.push_reserved-in-loop-slot.ensures.len, c.push_reserved-in-loop-slot.ensures.capacity);
     }
 
 all_read : (g : _) (c : In-None g) → AreRead c.args.list.items c.loop-slot.slots.items c.loop-slot.vacant_count c.loop-slot.live_count
@@ -110,15 +90,10 @@ invariant_of-result g c =
     IsSound-read c.args.list.items _ _ _ (all_read g (goal.at.invariant_of-result g c).In-None) 4294967295 (omega arith) (accepted g (goal.at.invariant_of-result g c).In_ok-check_slots) versions_fit
 
 pub returns-clause-ascending : goal.returns-clause-ascending
-returns-clause-ascending g c =
-    let read = all_read g (goal.at.returns-clause-ascending g c).In-None in
-    let size = read_count _ _ _ _ read in
-    rw size at read.ascending
+returns-clause-ascending g c = let read = all_read g (goal.at.returns-clause-ascending g c).In-None in rw (read_count _ _ _ _ read) at read.ascending
 
 pub returns-clause-valid : goal.returns-clause-valid
-returns-clause-valid g c =
-    let made = c.loop-slot.slots in
-    valid _ _ _ (invariant_of-result g c) _ (omega (arith, made.ok.0, made.ok.1))
+returns-clause-valid g c = let made = c.loop-slot.slots in valid _ _ _ (invariant_of-result g c) _ (omega (arith, made.ok.0, made.ok.1))
 
 pub returns-clause-reads : goal.returns-clause-reads
 returns-clause-reads g c =

@@ -11,9 +11,7 @@ pub index_mut-requires : goal.index_mut-requires
 index_mut-requires g c = omega (arith, (found g (goal.at.index_mut-requires g c).After-self).within, c.self.inside.slots.ok.0)
 
 pub rule_out-requires : goal.rule_out-requires
-rule_out-requires g c =
-    let found = found g (goal.at.rule_out-requires g c).After-self in
-    absurd (c.in_default.not-Occupied found.value (state_read found _ c.index_mut.ensures.value))
+rule_out-requires g c = let found = found g (goal.at.rule_out-requires g c).After-self in absurd (c.in_default.not-Occupied found.value (state_read found _ c.index_mut.ensures.value))
 
 pub invariant_of-self-lent : goal.invariant_of-self-lent
 invariant_of-self-lent g c w =

@@ -1,6 +1,5 @@
 use Rattle.std.proofs.Common.{arith, ltb-true}
 use Rattle.slotmap_hop.proofs.RoomLemmas.{vacant_room, spare_room}
-use Rattle.slotmap_hop.proofs.Held.{well_formed}
 use Rattle.slotmap_hop.proofs.HopSlotMap.has_room.Goals as goal
 
 pub returns-then-self-gt0-clause-room : goal.returns-then-self-gt0-clause-room
@@ -8,14 +7,8 @@ returns-then-self-gt0-clause-room g c = λ _.
     let slots = c.self.inside.slots in
     omega (arith, vacant_room _ _ _ c.self.invariant _ (omega (arith, slots.ok.0, slots.ok.1)) c.self.view_is)
 
-pub returns-then-self-gt0-clause-valid : goal.returns-then-self-gt0-clause-valid
-returns-then-self-gt0-clause-valid g c = well_formed c.self.inside c.self.view_is c.self.invariant
-
 pub returns-else-self-gt0-clause-room : goal.returns-else-self-gt0-clause-room
 returns-else-self-gt0-clause-room g c = λ less.
     let slots = c.self.inside.slots in
     let spare = ltb-true c.len.result c.min.result less in
     spare_room _ _ _ c.self.invariant _ (omega (arith, slots.ok.0, slots.ok.1)) c.self.view_is (omega (arith, slots.ok.0, c.len.ensures, c.capacity.ensures, c.min.ensures))
-
-pub returns-else-self-gt0-clause-valid : goal.returns-else-self-gt0-clause-valid
-returns-else-self-gt0-clause-valid g c = well_formed c.self.inside c.self.view_is c.self.invariant

@@ -10,15 +10,8 @@ pub returns-then-additional-capacity-clause-makes_room : goal.returns-then-addit
 returns-then-additional-capacity-clause-makes_room g c =
     let slots = c.self.inside.slots in
     let room = room_is _ _ _ c.self.invariant _ (omega (arith, slots.ok.0, slots.ok.1)) c.self.view_is in
-    hop_room_had _ _ _ c.used-used.ensures.valid refl (omega (
-      arith,
-      c.used-used.ensures.value,
-      c.used-used.ensures.below,
-      c.used-used.ensures.fits,
-      c.capacity.ensures.value,
-      c.if-additional-used.false,
-      c.if-additional-capacity.true,
-    ))
+    let used = c.used-used.ensures in
+    hop_room_had _ _ _ used.valid refl (omega (arith, used.value, used.below, used.fits, c.capacity.ensures.value, c.if-additional-used.false, c.if-additional-capacity.true))
 
 pub returns-clause-makes_room : goal.returns-clause-makes_room
 returns-clause-makes_room g c =
@@ -27,8 +20,9 @@ returns-clause-makes_room g c =
     let room = room_is _ _ _ c.self.invariant _ holds c.self.view_is in
     let all = taken_slots _ _ _ c.self.invariant in
     let same : used c.args.self.now.content ≡ taken (places_of slots.items) = ap (λ m. used m.content) (sym c.self.view_is) in
+    let told = c.used-used.ensures in
     let none : c.args.self.now.content.room < c.args.additional =
-    omega (arith, c.used-used.ensures.value, c.used-used.ensures.below, c.used-used.ensures.fits, c.capacity.ensures.value, c.if-additional-used.false, c.if-additional-capacity.false) in
+    omega (arith, told.value, told.below, told.fits, c.capacity.ensures.value, c.if-additional-used.false, c.if-additional-capacity.false) in
     rw c.reserve.ensures.items (grown_granted _ _ _ c.self.invariant _ holds c.self.view_is (vec_capacity c.reserve.new.self) (omega (arith, c.reserve.ensures.capacity)) _ _ none refl
-    (omega (arith, c.used-used.ensures.value, c.used-used.ensures.below, c.if-additional-used.false))
+    (omega (arith, told.value, told.below, c.if-additional-used.false))
     (omega (arith, slots.ok.0, c.reserve.ensures.len, c.in_ok-reserve.ensures.ok)))

@@ -12,31 +12,26 @@ found g c =
 pub overflow_sub-self : goal.overflow_sub-self
 overflow_sub-self g c = elems_positive _ _ _ c.self.invariant _ _ _ (found g (goal.at.overflow_sub-self g c).After-self).place
 
-pub use_up-requires-clause-inside : goal.use_up-requires-clause-inside
-use_up-requires-clause-inside g c = rw c.as_mut_slice.ensures.value (found g (goal.at.use_up-requires-clause-inside g c).After-self).within
+pub use_up-requires : goal.use_up-requires
+use_up-requires g c =
+    let can = can_free _ _ _ c.self.invariant _ _ _ (found g (goal.at.use_up-requires g c).After-self).place in
+    rw c.as_mut_slice.ensures.value (record { inside = can.inside; live = can.live })
 
-pub use_up-requires-clause-live : goal.use_up-requires-clause-live
-use_up-requires-clause-live g c =
-    rw c.as_mut_slice.ensures.value (can_free _ _ _ c.self.invariant _ _ _ (found g (goal.at.use_up-requires-clause-live g c).After-self).place).live
-
-last : (g : _) (c : After-use_up g) → Took c.self.inside c.self.view_is c.self.invariant (g.K.Key.data_of c.args.key) c.use_up.result c.use_up.new.slots c.self.inside.vacant_count
-last g c =
-    let found = held c.self.inside c.self.view_is c.self.invariant _ _ _ (c.idx-index.ensures.value ∙ ap (λ k. k.index) c.data-data.ensures.value)
-    (c.version-version.ensures.value ∙ ap (λ k. k.version) c.data-data.ensures.value) c.requires in
-    took_last c.self.inside c.self.view_is c.self.invariant found c.use_up.result c.as_mut_slice.result.now c.use_up.new.slots
-    c.as_mut_slice.ensures.value c.use_up.ensures.value c.if-version.true c.use_up.ensures.layout c.use_up.ensures.places
+last : (g : _) (c : After-use_up g) → Present c.self.inside.slots.items c.args.self.now.content.live (g.K.Key.data_of c.args.key) c.idx-index.result c.version-version.result
+    → Took c.self.inside c.self.view_is c.self.invariant (g.K.Key.data_of c.args.key) c.use_up.result c.use_up.new.slots c.self.inside.vacant_count
+last g c found =
+    let seen = c.as_mut_slice.ensures.value in
+    let did = c.use_up.ensures in
+    took_last c.self.inside c.self.view_is c.self.invariant found c.use_up.result c.use_up.new.slots (rw seen at did.value) c.if-version.true (rw seen at did.layout) (rw seen at did.places)
 
 pub invariant_of-self : goal.invariant_of-self
-invariant_of-self g c = (last g (goal.at.invariant_of-self g c).After-use_up).sound_after
+invariant_of-self g c = let at = goal.at.invariant_of-self g c in (last g at.After-use_up (found g at.After-self)).sound_after
 
-pub returns-then-version-clause-value : goal.returns-then-version-clause-value
-returns-then-version-clause-value g c = (last g (goal.at.returns-then-version-clause-value g c).After-use_up).value
-
-pub returns-then-version-clause-removes : goal.returns-then-version-clause-removes
-returns-then-version-clause-removes g c = (last g (goal.at.returns-then-version-clause-removes g c).After-use_up).removes
-
-pub returns-then-version-clause-valid : goal.returns-then-version-clause-valid
-returns-then-version-clause-valid g c = (last g (goal.at.returns-then-version-clause-valid g c).After-use_up).valid
+pub returns-then-version : goal.returns-then-version
+returns-then-version g c =
+    let at = goal.at.returns-then-version g c in
+    let took = last g at.After-use_up (found g at.After-self) in
+    record { value = took.value; removes = took.removes; blocks = took.blocks; valid = took.valid }
 
 pub overflow_add-self : goal.overflow_add-self
 overflow_add-self g c = omega (arith, vacant_below _ _ _ c.self.invariant _ _ _ (found g (goal.at.overflow_add-self g c).After-self).place)
@@ -45,24 +40,19 @@ pub free_slot-requires : goal.free_slot-requires
 free_slot-requires g c =
     record { can = rw c.as_mut_slice-2.ensures.value (can_free _ _ _ c.self.invariant _ _ _ (found g (goal.at.free_slot-requires g c).After-self).place) }
 
-other : (g : _) (c : After-free_slot g) → Took c.self.inside c.self.view_is c.self.invariant (g.K.Key.data_of c.args.key) c.free_slot.result c.free_slot.new.slots (c.self.inside.vacant_count + 1)
-other g c =
-    let found = held c.self.inside c.self.view_is c.self.invariant _ _ _ (c.idx-index.ensures.value ∙ ap (λ k. k.index) c.data-data.ensures.value)
-    (c.version-version.ensures.value ∙ ap (λ k. k.version) c.data-data.ensures.value) c.requires in
-    took_other c.self.inside c.self.view_is c.self.invariant found c.free_slot.result c.as_mut_slice-2.result.now c.free_slot.new.slots
-    c.as_mut_slice-2.ensures.value c.free_slot.ensures.value c.if-version.false c.free_slot.ensures.list c.free_slot.ensures.blocks c.free_slot.ensures.places
+other : (g : _) (c : After-free_slot g) → Present c.self.inside.slots.items c.args.self.now.content.live (g.K.Key.data_of c.args.key) c.idx-index.result c.version-version.result
+    → Took c.self.inside c.self.view_is c.self.invariant (g.K.Key.data_of c.args.key) c.free_slot.result c.free_slot.new.slots (c.self.inside.vacant_count + 1)
+other g c found =
+    let seen = c.as_mut_slice-2.ensures.value in
+    let did = c.free_slot.ensures in
+    took_other c.self.inside c.self.view_is c.self.invariant found c.free_slot.result c.free_slot.new.slots
+    (rw seen at did.value) c.if-version.false did.list (rw seen at did.blocks) (rw seen at did.places)
 
 pub invariant_of-self-2 : goal.invariant_of-self-2
-invariant_of-self-2 g c = (other g (goal.at.invariant_of-self-2 g c).After-free_slot).sound_after
+invariant_of-self-2 g c = let at = goal.at.invariant_of-self-2 g c in (other g at.After-free_slot (found g at.After-self)).sound_after
 
-pub returns-clause-value : goal.returns-clause-value
-returns-clause-value g c = (other g (goal.at.returns-clause-value g c).After-free_slot).value
-
-pub returns-clause-removes : goal.returns-clause-removes
-returns-clause-removes g c = (other g (goal.at.returns-clause-removes g c).After-free_slot).removes
-
-pub returns-clause-blocks : goal.returns-clause-blocks
-returns-clause-blocks g c = (other g (goal.at.returns-clause-blocks g c).After-free_slot).blocks
-
-pub returns-clause-valid : goal.returns-clause-valid
-returns-clause-valid g c = (other g (goal.at.returns-clause-valid g c).After-free_slot).valid
+pub returns : goal.returns
+returns g c =
+    let at = goal.at.returns g c in
+    let took = other g at.After-free_slot (found g at.After-self) in
+    record { value = took.value; removes = took.removes; blocks = took.blocks; valid = took.valid }

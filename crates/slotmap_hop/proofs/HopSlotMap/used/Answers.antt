@@ -1,6 +1,5 @@
 use Rattle.std.proofs.Common.{arith}
 use Rattle.slotmap_hop.proofs.SlotLemmas.{taken_slots}
-use Rattle.slotmap_hop.proofs.Held.{well_formed}
 use Rattle.slotmap_hop.proofs.HopSlotMap.used.Goals as goal
 
 pub overflow_sub-result-2 : goal.overflow_sub-result-2
@@ -8,6 +7,3 @@ overflow_sub-result-2 g c = omega (arith, taken_slots _ _ _ c.self.invariant, c.
 
 pub returns-clause-value : goal.returns-clause-value
 returns-clause-value g c = rw (← c.self.view_is) (omega (arith, taken_slots _ _ _ c.self.invariant, c.self.inside.slots.ok.0))
-
-pub returns-clause-valid : goal.returns-clause-valid
-returns-clause-valid g c = well_formed c.self.inside c.self.view_is c.self.invariant

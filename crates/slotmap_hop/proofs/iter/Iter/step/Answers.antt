@@ -1,5 +1,4 @@
-use Rattle.std.proofs.Common.{◌≡◌, refl, sym, ap, ◌∙◌, arith}
-use Rattle.slotmap_core.proofs.PlacesLemmas.{key}
+use Rattle.std.proofs.Common.{refl, sym, ap, ◌∙◌, arith}
 use Rattle.slotmap_hop.proofs.LiveSlots.{live_key}
 use Rattle.slotmap_hop.proofs.Iterators.{can_go_on, walk_on, left_none}
 use Rattle.slotmap_hop.proofs.iter.Iter.step.Goals as goal
@@ -8,7 +7,7 @@ pub next_live-place-requires-clause-can : goal.next_live-place-requires-clause-c
 next_live-place-requires-clause-can g c = can_go_on c.self.invariant
 
 pub overflow_cast-place : goal.overflow_cast-place
-overflow_cast-place g c = let is_key = live_key _ _ _ c.self.invariant.stands.sound _ _ _ c.next_live-place.ensures.found.finds.there in omega (arith, is_key.index_fits)
+overflow_cast-place g c = omega (arith, (live_key _ _ _ c.self.invariant.stands.sound _ _ _ c.next_live-place.ensures.found.finds.there).index_fits)
 
 pub exact-requires : goal.exact-requires
 exact-requires g c = live_key _ _ _ c.self.invariant.stands.sound _ _ _ c.next_live-place.ensures.found.finds.there
@@ -21,14 +20,12 @@ returns-clause-some g c =
     let found = c.next_live-place.ensures in
     let way = found.reads in
     let is_key = live_key _ _ _ c.self.invariant.stands.sound _ _ _ found.found.finds.there in
-    let is : g.K.Key.data_of c.from-key.result ≡ key c.next_live-place.result.0 c.next_live-place.result.1.now.version =
-    ap g.K.Key.data_of (g.met.K.Key.from_gives_key _ _ c.from-key.ensures) ∙ g.met.K.Key.from_data _ (rw c.exact.ensures is_key) ∙ c.exact.ensures in
-    let index = ap (λ k. k.index) is in
+    let is = ap g.K.Key.data_of (g.met.K.Key.from_gives_key _ _ c.from-key.ensures) ∙ g.met.K.Key.from_data _ (rw c.exact.ensures is_key) ∙ c.exact.ensures in
     record {
       value = found.found.value;
       is = found.found.is;
       rest = ap (λ w. w.rest) (sym c.self.view_is) ∙ found.found.finds.first ∙ rw (is, found.slots) refl;
-      reads = rw (index, found.slots, ← c.self.view_is) (record { passed = way.gone; still = way.still; before = way.before; after = way.after; some = way.some; few = way.few });
+      reads = rw (is, found.slots, ← c.self.view_is) (record { passed = way.gone; still = way.still; before = way.before; after = way.after; some = way.some; few = way.few });
     }
 
 pub returns-then-self-eq0-clause-none : goal.returns-then-self-eq0-clause-none
