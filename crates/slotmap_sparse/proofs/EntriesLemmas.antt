@@ -43,6 +43,10 @@ module _ {V : Type 0} where
   pub found_pair : (es : Entries V) (p : Pairs V) → pairs_of es ≡ p → (q : ℕ) → lookup (nat_eq q) es ≡ map.get p q
   found_pair es p is q = sym (get-pairs es q) ∙ ap (λ (x : Pairs V). map.get x q) is
 
+  -- what a look-up of an index returned is there
+  pub found_there : (es : Entries V) (i k : ℕ) → i ≡ k → (o : Option (ℕ × V)) → o ≡ lookup (nat_eq i) es → map.get (pairs_of es) k ≡ o
+  found_there es i k at o found = ap (map.get (pairs_of es)) (sym at) ∙ get-pairs es i ∙ sym found
+
   pub same_pairs : (es fs : Entries V) → ((q : ℕ) → lookup (nat_eq q) fs ≡ lookup (nat_eq q) es) → pairs_of fs ≡ pairs_of es
   same_pairs es fs same = map.same_map nat_cmp_total exact_unsigned _ _ (λ q. get-pairs fs q ∙ same q ∙ sym (get-pairs es q))
 

@@ -5,9 +5,12 @@ ghost use Rattle.std.specs.FinMap as map;
 ghost use Rattle.slotmap_core.specs.Key.{IsKey};
 ghost use Rattle.slotmap_core.specs.Secondary.{entry, is_null};
 ghost use Rattle.slotmap_sparse.specs.Content.{IsContent};
+ghost use Rattle.slotmap_sparse.specs.Entries.{IsPlaceOf};
 
 use crate::SparseSecondaryMap;
-use slotmap_core::keys::{Key, is_older_version};
+use indexmap::IndexMap;
+use slotmap_core::keys::{Key, KeyData, is_older_version};
+use std::alloc::Global;
 use std::hash::BuildHasher;
 
 // What a key finds at its index.
@@ -54,6 +57,22 @@ impl<K: Key, V: Drop, S: BuildHasher + Drop> SparseSecondaryMap<K, V, S> {
                 }
             }
         }
+    }
+}
+
+// The position of a key's pair, or `None` if the key isn't in the map.
+#[inline(always)]
+pub(crate) fn place_of<V, S: BuildHasher>(
+    slots: &IndexMap<u32, (u32, V), S, Global>,
+    key: KeyData,
+) -> Option<usize>
+    ensures place { IsPlaceOf slots.now.entries key result }
+{
+    let (place, _, slot) = slots.get_full(&key.idx())?;
+    if slot.0 == key.version() {
+        Some(place)
+    } else {
+        None
     }
 }
 

@@ -7,6 +7,7 @@ ghost use Rattle.slotmap_sparse.specs.Content.{IsContent, room};
 ghost use Rattle.slotmap_sparse.specs.Drain.{TakesPair};
 
 use crate::SparseSecondaryMap;
+use crate::find::place_of;
 use slotmap_core::keys::{Key, KeyData};
 use std::hash::BuildHasher;
 
@@ -28,11 +29,9 @@ impl<K: Key, V: Drop, S: BuildHasher + Drop> SparseSecondaryMap<K, V, S> {
         ensures room { room self.old ≤ room self.new }
         ensures valid { IsContent self.new }
     {
-        if self.contains_key(key) {
-            Some(self.take_live(key))
-        } else {
-            None
-        }
+        let place = place_of(&self.slots, key.data())?;
+        let (_, (_, value)) = self.slots.swap_remove_index(place).unwrap();
+        Some(value)
     }
 
     // Removes a key that is in the map, and returns its value.
@@ -44,8 +43,7 @@ impl<K: Key, V: Drop, S: BuildHasher + Drop> SparseSecondaryMap<K, V, S> {
         ensures room { room self.old ≤ room self.new }
         ensures valid { IsContent self.new }
     {
-        let (_, value) = self.take_slot(key).unwrap();
-        value
+        self.remove(key).unwrap()
     }
 
     // Removes what is at the index of a key, whatever its version.
