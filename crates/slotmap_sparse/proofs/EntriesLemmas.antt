@@ -1,35 +1,33 @@
 -- The entries of a hash map as a finite map.
-use Rattle.std.proofs.Common.{◌≡◌, ℕ, zero, suc, ◌+◌, true, false, cond, nat_eq, List, [], ◌∷◌, length, Option, Some, None, is_some, refl, sym, ap, subst}
-use Rattle.std.proofs.Common.{◌∙◌, true≢false, nat_cmp, arith, ◌<◌, inl, inr, MutBor, Result, Ok, Err, OnOk, IfOk, Bool}
-use Rattle.std.specs.Option.{option_copied_mut}
+use Rattle.std.proofs.Common.{◌≡◌, ℕ, suc, ◌+◌, true, false, cond, nat_eq, List, [], ◌∷◌, length, Option, Some, None, is_some, refl, sym, ap, subst}
+use Rattle.std.proofs.Common.{◌∙◌, nat_cmp, arith, ◌<◌, inl, inr, MutBor, Result, Ok, Err, OnOk, slice_get}
+use Rattle.std.specs.Option.{option_copied_mut, option_map}
 use Rattle.std.specs.Ordering.{eq_by_cmp}
 use Rattle.std.specs.Cmp.{nat_cmp_total, unsigned_tied, nat_eq_equiv}
 use Rattle.std.specs.List.{IsDistinct}
 use Rattle.std.specs.FinMap as map
 use Rattle.std.specs.FinMap.Entries.{find}
 use Rattle.std.specs.HashMap.{HashMap, hash_map_len, spare, WritesThrough}
-use Rattle.std.specs.Map.{lookup, keys_of}
+use Rattle.std.specs.Map.{lookup, keys_of, values_of}
+use Rattle.indexmap.specs.IndexMap.{with_value_at}
+use Rattle.indexmap.proofs.CallerLemmas.{keys-with_value_at, index_map_len-with_value_at, updates-with_value_at}
 use Rattle.std.proofs.lemmas.Map.Lookups.{exact_unsigned}
 use Rattle.std.proofs.lemmas.Map.{lookup-none}
-use Rattle.std.proofs.lemmas.Map.Entries.{none_past_head}
-use Rattle.slotmap_core.proofs.KeyLemmas.{tied}
+use Rattle.std.proofs.lemmas.Map.Entries.{none_past_head, hash_map_get_place}
+use Rattle.std.proofs.lemmas.Option.{same_Some, slice_get-map}
 use Rattle.slotmap_core.proofs.Maps.{len_inserted, get_after_insert}
 use Rattle.slotmap_core.specs.Key.{Key, IsKey, null_key}
-use Rattle.slotmap_core.specs.Secondary.{Pairs, IsSecondary, is_null, bind, put, contains_key}
+use Rattle.slotmap_core.specs.Secondary.{Pairs, IsSecondary, is_null, bind, put, get, contains_key}
 use Rattle.slotmap_sparse.specs.Content.{Content, IsContent, with_value, room}
 use Rattle.slotmap_sparse.specs.Found.{put_over}
 use Rattle.slotmap_sparse.specs.Entries.{pairs_of, content_of, IsSound}
-use Rattle.slotmap_core.proofs.StandLemmas.{IsSecondary-empty, IsSecondary-bind, IsSecondary-put, IsSecondary-remove, same_version, not_null_at, put_at}
+use Rattle.slotmap_core.proofs.StandLemmas.{get_stands, IsSecondary-empty, IsSecondary-bind, IsSecondary-put, IsSecondary-remove, same_version, not_null_at, put_at}
 
 turned : (k q : ℕ) → nat_eq k q ≡ eq_by_cmp nat_cmp q k
 turned k q = nat_eq_equiv.symm k q ∙ sym (unsigned_tied q k)
 
 abbrev Entries : Type 0 → Type 0
 Entries V = List (ℕ × (ℕ × V))
-
-pub no_spare : (n : ℕ) → (0 < n → false ≡ true) → n ≡ 0
-no_spare zero none = refl
-no_spare (suc n) none = absurd (true≢false (sym (none (omega arith))))
 
 module _ {V : Type 0} where
   find-lookup : (q : ℕ) (es : Entries V) → find nat_cmp q es ≡ lookup (nat_eq q) es
@@ -124,40 +122,44 @@ module _ {V : Type 0} where
         | inr e ↦ sound.keys j r e.1
       ]
 
-  -- what a write through a reference to the value of a key leaves
-  module _ {S : Type 0} (m n : HashMap ℕ (ℕ × V) S) (sound : IsSound m.entries) (k : Key) (i : ℕ) (at : i ≡ k.index) (p : ℕ × V) (w : V)
-      (stood : lookup (nat_eq i) m.entries ≡ Some p) (written : WritesThrough nat_eq (nat_eq i) m (p.0, w) n) where
-    put_there : pairs_of n.entries ≡ map.insert (pairs_of m.entries) i (p.0, w)
-    put_there = pairs_put m.entries n.entries i (p.0, w) (written.3 (ap is_some stood)).0
+  -- the pair that is lent is that of the entry
+  pub lent_there : (es : Entries V) (place i : ℕ) (q : ℕ × V) (o : Option (MutBor (ℕ × V))) (r : MutBor (ℕ × V)) → slice_get es place ≡ Some (i, q)
+      → option_copied_mut o ≡ slice_get (values_of es) place → o ≡ Some r → slice_get es place ≡ Some (i, r.now)
+  lent_there es place i q o r at value is =
+      let same = sym (ap option_copied_mut is) ∙ value ∙ slice_get-map (λ (e : ℕ × (ℕ × V)). e.1) es place ∙ ap (option_map (λ (e : ℕ × (ℕ × V)). e.1)) at in
+      at ∙ ap (λ (x : ℕ × V). Some (i, x)) (sym (same_Some r.now q same))
 
-    pub IsSound-through : IsSound n.entries
-    IsSound-through = IsSound-written m.entries n.entries sound written.4 i p (p.0, w) (get-pairs m.entries i ∙ stood) refl put_there
+  -- what a write through a reference to the value at a position leaves
+  module _ {S : Type 0} (m : HashMap ℕ (ℕ × V) S) (sound : IsSound m.entries) (k : Key) (i : ℕ) (at : i ≡ k.index) (place : ℕ) (p : ℕ × V)
+      (there : slice_get m.entries place ≡ Some (i, p)) where
+    stood : lookup (nat_eq i) m.entries ≡ Some p
+    stood = hash_map_get_place nat_eq_equiv m place i p sound.unique there
 
-    pub content-through : (c : Content V) → content_of m ≡ c → contains_key c.pairs k ≡ true → content_of n ≡ with_value c k w
-    content-through c is stands =
-        let there : map.get c.pairs k.index ≡ Some p = sym (found_pair m.entries c.pairs (ap (λ (x : Content V). x.pairs) is) i ∙ ap (map.get c.pairs) at) ∙ stood in
-        let version : p.0 ≡ k.version = same_version c.pairs k stands p there in
-        let memory : hash_map_len n + spare n ≡ c.capacity = (λ j. written.2 j + written.6 j) ∙ ap (λ (x : Content V). x.capacity) is in
-        λ j. record { pairs = (put_there ∙ (λ l. map.insert (is l).pairs (at l) (version l, w))) j; capacity = memory j }
+    module _ (w : V) where
+      abbrev pub written_at : HashMap ℕ (ℕ × V) S
+      written_at = with_value_at m place (p.0, w)
 
-  -- what a reference leaves if nothing was written through it
-  module _ {S : Type 0} (m n : HashMap ℕ (ℕ × V) S) (sound : IsSound m.entries) (i : ℕ) (p : ℕ × V) (stood : lookup (nat_eq i) m.entries ≡ Some p)
-      (written : WritesThrough nat_eq (nat_eq i) m p n) where
-    pairs_kept : pairs_of n.entries ≡ pairs_of m.entries
-    pairs_kept =
-        pairs_put m.entries n.entries i p (written.3 (ap is_some stood)).0
-        ∙ map.same_map nat_cmp_total exact_unsigned _ _ (λ q. map.get-insert nat_cmp_total (pairs_of m.entries) i p q
-        ∙ by q (eq_by_cmp nat_cmp q i) refl)
-      where
-        by : (q : ℕ) (b : Bool) → eq_by_cmp nat_cmp q i ≡ b → cond b (Some p) (map.get (pairs_of m.entries) q) ≡ map.get (pairs_of m.entries) q
-        by q true t = sym (get-pairs m.entries i ∙ stood) ∙ ap (map.get (pairs_of m.entries)) (sym (tied nat_cmp_total exact_unsigned q i t))
-        by q false t = refl
+      put_at_place : pairs_of written_at.entries ≡ map.insert (pairs_of m.entries) i (p.0, w)
+      put_at_place = pairs_put m.entries written_at.entries i (p.0, w) (updates-with_value_at m place (p.0, w) nat_eq_equiv sound.unique i p there).0
 
-    pub IsSound-kept : IsSound n.entries
-    IsSound-kept = IsSound-same m.entries n.entries sound written.4 pairs_kept
+      pub IsSound-at : IsSound written_at.entries
+      IsSound-at =
+          let unique = subst (IsDistinct nat_eq) (sym (keys-with_value_at m place (p.0, w))) sound.unique in
+          IsSound-written m.entries written_at.entries sound unique i p (p.0, w) (get-pairs m.entries i ∙ stood) refl put_at_place
 
-    pub content_kept : content_of n ≡ content_of m
-    content_kept = let memory : hash_map_len n + spare n ≡ hash_map_len m + spare m = λ j. written.2 j + written.6 j in λ j. record { pairs = pairs_kept j; capacity = memory j }
+    module _ (c : Content V) (is : content_of m ≡ c) where
+      here : map.get c.pairs k.index ≡ Some p
+      here = sym (found_pair m.entries c.pairs (ap (λ (x : Content V). x.pairs) is) i ∙ ap (map.get c.pairs) at) ∙ stood
+
+      module _ (stands : contains_key c.pairs k ≡ true) where
+        pub content-at : (w : V) → content_of (written_at w) ≡ with_value c k w
+        content-at w =
+            let version : p.0 ≡ k.version = same_version c.pairs k stands p here in
+            let memory : hash_map_len (written_at w) + spare m ≡ c.capacity = ap (λ n. n + spare m) (index_map_len-with_value_at m place (p.0, w)) ∙ ap (λ (x : Content V). x.capacity) is in
+            λ j. record { pairs = (put_at_place w ∙ (λ l. map.insert (is l).pairs (at l) (version l, w))) j; capacity = memory j }
+
+        pub found-at : get c.pairs k ≡ Some p.1
+        found-at = get_stands c.pairs k stands p here
 
   -- what a put over the pair at the index of a key leaves
   module _ {S : Type 0} (m n : HashMap ℕ (ℕ × V) S) (sound : IsSound m.entries) (c : Content V) (is : content_of m ≡ c) (k : Key) (key : IsKey k)
@@ -186,19 +188,9 @@ module _ {V : Type 0} where
         let memory : hash_map_len n + spare n ≡ c.capacity = (λ j. written.2 j + written.6 j) ∙ ap (λ (x : Content V). x.capacity) is in
         λ j. record { pairs = pairs_over j; capacity = memory j }
 
-some_copied : {A : Type 0} (o : Option (MutBor A)) → is_some (option_copied_mut o) ≡ is_some o
-some_copied None = refl
-some_copied (Some r) = refl
-
-pub some_lent : {A : Type 0} (o : Option (MutBor A)) (p : Option A) → option_copied_mut o ≡ p → is_some p ≡ true → is_some o ≡ true
-some_lent o p is h = sym (some_copied o) ∙ ap is_some is ∙ h
-
 pub on_ok : {A E : Type 0} {P Q : Type 0} (r : Result A E) → OnOk r P → (P → Q) → OnOk r Q
 on_ok (Ok x) h f = f h
 on_ok (Err e) h f = tt
 
 pub of_ok : {A E : Type 0} (P : Type 0) (r : Result A E) (x : A) → r ≡ Ok x → OnOk r P → P
 of_ok P r x is holds = subst (λ s. OnOk s P) is holds
-
-pub of_if_ok : {A E : Type 0} (P : A → Type 0) (r : Result A E) (x : A) → r ≡ Ok x → IfOk r P → P x
-of_if_ok P r x is holds = subst (λ s. IfOk s P) is holds

@@ -7,7 +7,7 @@ ghost use Rattle.slotmap_sparse.specs.Content.{IsContent, room};
 ghost use Rattle.slotmap_sparse.specs.Drain.{TakesPair};
 
 use crate::SparseSecondaryMap;
-use crate::find::place_of;
+use crate::find::{place_near, place_of};
 use slotmap_core::keys::{Key, KeyData};
 use std::hash::BuildHasher;
 
@@ -34,16 +34,18 @@ impl<K: Key, V: Drop, S: BuildHasher + Drop> SparseSecondaryMap<K, V, S> {
         Some(value)
     }
 
-    // Removes a key that is in the map, and returns its value.
-    #[inline(always)]
-    pub(crate) fn take_live(&mut self, key: K) -> V
+    // Removes a key that is in the map, and returns its value. Its pair is looked for at position
+    // `near` first.
+    pub(crate) fn take_near(&mut self, near: usize, key: K) -> V
         requires { contains_key self.old.pairs (K.data_of key) ≡ true }
         ensures value { get self.old.pairs (K.data_of key) ≡ Some result }
         ensures removes { self.new.pairs ≡ remove self.old.pairs (K.data_of key) }
         ensures room { room self.old ≤ room self.new }
         ensures valid { IsContent self.new }
     {
-        self.remove(key).unwrap()
+        let place = place_near(&self.slots, near, key.data());
+        let (_, (_, value)) = self.slots.swap_remove_index(place).unwrap();
+        value
     }
 
     // Removes what is at the index of a key, whatever its version.

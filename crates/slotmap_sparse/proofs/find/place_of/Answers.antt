@@ -1,5 +1,4 @@
 use Rattle.std.proofs.Common.{◌≡◌, nat_eq, eqb-true, eq-eqb, ne_eqb, Some, None, cond, sym, ap, ◌∙◌}
-use Rattle.std.specs.FinMap as map
 use Rattle.std.proofs.lemmas.Map.Made.{lookup_key_passes}
 use Rattle.slotmap_core.specs.Secondary.{value_at}
 use Rattle.slotmap_core.proofs.StandLemmas.{get_here}
