@@ -1,6 +1,6 @@
 -- The entries of a hash map as a finite map.
 use Rattle.std.proofs.Common.{◌≡◌, ℕ, suc, ◌+◌, true, false, cond, nat_eq, List, [], ◌∷◌, length, Option, Some, None, is_some, refl, sym, ap, subst}
-use Rattle.std.proofs.Common.{◌∙◌, nat_cmp, arith, ◌<◌, inl, inr, MutBor, Result, Ok, Err, OnOk, slice_get}
+use Rattle.std.proofs.Common.{◌∙◌, nat_cmp, arith, ◌<◌, inl, inr, MutBor, Result, Ok, Err, OnOk, slice_get, Bool}
 use Rattle.std.specs.Option.{option_copied_mut, option_map}
 use Rattle.std.specs.Ordering.{eq_by_cmp}
 use Rattle.std.specs.Cmp.{nat_cmp_total, unsigned_tied, nat_eq_equiv}
@@ -15,6 +15,7 @@ use Rattle.std.proofs.lemmas.Map.Lookups.{exact_unsigned}
 use Rattle.std.proofs.lemmas.Map.{lookup-none}
 use Rattle.std.proofs.lemmas.Map.Entries.{none_past_head, hash_map_get_place}
 use Rattle.std.proofs.lemmas.Option.{same_Some, slice_get-map}
+use Rattle.slotmap_core.proofs.KeyLemmas.{tied}
 use Rattle.slotmap_core.proofs.Maps.{len_inserted, get_after_insert}
 use Rattle.slotmap_core.specs.Key.{Key, IsKey, null_key}
 use Rattle.slotmap_core.specs.Secondary.{Pairs, IsSecondary, is_null, bind, put, get, contains_key}
@@ -161,6 +162,41 @@ module _ {V : Type 0} where
         pub found-at : get c.pairs k ≡ Some p.1
         found-at = get_stands c.pairs k stands p here
 
+  -- what a write through a reference to the value of a key leaves
+  module _ {S : Type 0} (m n : HashMap ℕ (ℕ × V) S) (sound : IsSound m.entries) (k : Key) (i : ℕ) (at : i ≡ k.index) (p : ℕ × V) (w : V)
+      (stood : lookup (nat_eq i) m.entries ≡ Some p) (written : WritesThrough nat_eq (nat_eq i) m (p.0, w) n) where
+    put_there : pairs_of n.entries ≡ map.insert (pairs_of m.entries) i (p.0, w)
+    put_there = pairs_put m.entries n.entries i (p.0, w) (written.3 (ap is_some stood)).0
+
+    pub IsSound-through : IsSound n.entries
+    IsSound-through = IsSound-written m.entries n.entries sound written.4 i p (p.0, w) (get-pairs m.entries i ∙ stood) refl put_there
+
+    pub content-through : (c : Content V) → content_of m ≡ c → contains_key c.pairs k ≡ true → content_of n ≡ with_value c k w
+    content-through c is stands =
+        let there : map.get c.pairs k.index ≡ Some p = sym (found_pair m.entries c.pairs (ap (λ (x : Content V). x.pairs) is) i ∙ ap (map.get c.pairs) at) ∙ stood in
+        let version : p.0 ≡ k.version = same_version c.pairs k stands p there in
+        let memory : hash_map_len n + spare n ≡ c.capacity = (λ j. written.2 j + written.6 j) ∙ ap (λ (x : Content V). x.capacity) is in
+        λ j. record { pairs = (put_there ∙ (λ l. map.insert (is l).pairs (at l) (version l, w))) j; capacity = memory j }
+
+  -- what a reference leaves if nothing was written through it
+  module _ {S : Type 0} (m n : HashMap ℕ (ℕ × V) S) (sound : IsSound m.entries) (i : ℕ) (p : ℕ × V) (stood : lookup (nat_eq i) m.entries ≡ Some p)
+      (written : WritesThrough nat_eq (nat_eq i) m p n) where
+    pairs_kept : pairs_of n.entries ≡ pairs_of m.entries
+    pairs_kept =
+        pairs_put m.entries n.entries i p (written.3 (ap is_some stood)).0
+        ∙ map.same_map nat_cmp_total exact_unsigned _ _ (λ q. map.get-insert nat_cmp_total (pairs_of m.entries) i p q
+        ∙ by q (eq_by_cmp nat_cmp q i) refl)
+      where
+        by : (q : ℕ) (b : Bool) → eq_by_cmp nat_cmp q i ≡ b → cond b (Some p) (map.get (pairs_of m.entries) q) ≡ map.get (pairs_of m.entries) q
+        by q true t = sym (get-pairs m.entries i ∙ stood) ∙ ap (map.get (pairs_of m.entries)) (sym (tied nat_cmp_total exact_unsigned q i t))
+        by q false t = refl
+
+    pub IsSound-kept : IsSound n.entries
+    IsSound-kept = IsSound-same m.entries n.entries sound written.4 pairs_kept
+
+    pub content_kept : content_of n ≡ content_of m
+    content_kept = let memory : hash_map_len n + spare n ≡ hash_map_len m + spare m = λ j. written.2 j + written.6 j in λ j. record { pairs = pairs_kept j; capacity = memory j }
+
   -- what a put over the pair at the index of a key leaves
   module _ {S : Type 0} (m n : HashMap ℕ (ℕ × V) S) (sound : IsSound m.entries) (c : Content V) (is : content_of m ≡ c) (k : Key) (key : IsKey k)
       (i : ℕ) (at : i ≡ k.index) (p : ℕ × V) (v : V) (stood : lookup (nat_eq i) m.entries ≡ Some p)
@@ -187,6 +223,13 @@ module _ {V : Type 0} where
     content_over =
         let memory : hash_map_len n + spare n ≡ c.capacity = (λ j. written.2 j + written.6 j) ∙ ap (λ (x : Content V). x.capacity) is in
         λ j. record { pairs = pairs_over j; capacity = memory j }
+
+some_copied : {A : Type 0} (o : Option (MutBor A)) → is_some (option_copied_mut o) ≡ is_some o
+some_copied None = refl
+some_copied (Some r) = refl
+
+pub some_lent : {A : Type 0} (o : Option (MutBor A)) (p : Option A) → option_copied_mut o ≡ p → is_some p ≡ true → is_some o ≡ true
+some_lent o p is h = sym (some_copied o) ∙ ap is_some is ∙ h
 
 pub on_ok : {A E : Type 0} {P Q : Type 0} (r : Result A E) → OnOk r P → (P → Q) → OnOk r Q
 on_ok (Ok x) h f = f h

@@ -7,7 +7,7 @@ ghost use Rattle.slotmap_core.specs.Secondary.{get, contains_key};
 ghost use Rattle.slotmap_sparse.specs.Content.{IsContent, with_value};
 
 use crate::SparseSecondaryMap;
-use crate::find::{place_near, place_of};
+use crate::find::place_near;
 use slotmap_core::keys::Key;
 use std::hash::BuildHasher;
 use std::ops::{Index, IndexMut};
@@ -87,8 +87,14 @@ impl<K: Key, V: Drop, S: BuildHasher + Drop> SparseSecondaryMap<K, V, S> {
         ensures value { option_copied_mut result ≡ get self.old.pairs (K.data_of key) }
         ensures was_valid { IsContent self.old }
     {
-        let place = place_of(&self.slots, key.data())?;
-        Some(&mut self.slots.get_index_mut(place).unwrap().1)
+        let key = key.data();
+        let Some(slot) = self.slots.get_mut(&key.idx()) else {
+            return None;
+        };
+        if slot.0 != key.version() {
+            return None;
+        }
+        Some(&mut slot.1)
     }
 
     /// Returns a mutable reference to the value of a key that is in the map.
@@ -106,7 +112,8 @@ impl<K: Key, V: Drop, S: BuildHasher + Drop> SparseSecondaryMap<K, V, S> {
         ensures value { get self.old.pairs (K.data_of key) ≡ Some result.now }
         ensures was_valid { IsContent self.old }
     {
-        self.get_mut(key).unwrap()
+        let index = key.data().idx();
+        &mut self.slots.get_mut(&index).unwrap().1
     }
 
     // The value of a key that is in the map. Its pair is looked for at position `near` first.

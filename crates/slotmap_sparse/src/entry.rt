@@ -397,8 +397,8 @@ impl<'a, K: Key, V: Drop, S: BuildHasher + Drop> OccupiedEntry<'a, K, V, S> {
         ensures removes { self.exit.0.now.pairs ≡ entry_without K.data_of (Occupied self.entry) }
         ensures room { room (entry_map (Occupied self.entry)) ≤ room self.exit.0.now }
     {
-        let OccupiedEntry { map, key, place } = self;
-        (key, map.take_near(place, key))
+        let OccupiedEntry { map, key, .. } = self;
+        (key, map.take_live(key))
     }
 
     /// Removes the key and returns its value, in constant time.

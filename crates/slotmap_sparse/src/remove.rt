@@ -7,7 +7,6 @@ ghost use Rattle.slotmap_sparse.specs.Content.{IsContent, room};
 ghost use Rattle.slotmap_sparse.specs.Drain.{TakesPair};
 
 use crate::SparseSecondaryMap;
-use crate::find::{place_near, place_of};
 use slotmap_core::keys::{Key, KeyData};
 use std::hash::BuildHasher;
 
@@ -29,22 +28,23 @@ impl<K: Key, V: Drop, S: BuildHasher + Drop> SparseSecondaryMap<K, V, S> {
         ensures room { room self.old ≤ room self.new }
         ensures valid { IsContent self.new }
     {
-        let place = place_of(&self.slots, key.data())?;
-        let (_, (_, value)) = self.slots.swap_remove_index(place).unwrap();
-        Some(value)
+        if self.contains_key(key) {
+            Some(self.take_live(key))
+        } else {
+            None
+        }
     }
 
-    // Removes a key that is in the map, and returns its value. Its pair is looked for at position
-    // `near` first.
-    pub(crate) fn take_near(&mut self, near: usize, key: K) -> V
+    // Removes a key that is in the map, and returns its value.
+    #[inline(always)]
+    pub(crate) fn take_live(&mut self, key: K) -> V
         requires { contains_key self.old.pairs (K.data_of key) ≡ true }
         ensures value { get self.old.pairs (K.data_of key) ≡ Some result }
         ensures removes { self.new.pairs ≡ remove self.old.pairs (K.data_of key) }
         ensures room { room self.old ≤ room self.new }
         ensures valid { IsContent self.new }
     {
-        let place = place_near(&self.slots, near, key.data());
-        let (_, (_, value)) = self.slots.swap_remove_index(place).unwrap();
+        let (_, value) = self.take_slot(key).unwrap();
         value
     }
 
