@@ -59,7 +59,7 @@ module _ {K V S Z : Type 0} where
 
     -- o, once this is its value
     abbrev pub occupied_with : OccupiedEntry K V S Z → V → OccupiedEntry K V S Z
-    occupied_with o v = record { map = record o.map { now = with_value o.map.now (data_of o.key) v }; key = o.key }
+    occupied_with o v = record o { map = record o.map { now = with_value o.map.now (data_of o.key) v } }
 
     -- d is the entry e, once v is its value
     pub record IsWritten (e : Entry K V S Z) (v : V) (d : Entry K V S Z) : Type 0 where

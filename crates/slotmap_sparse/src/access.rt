@@ -7,9 +7,9 @@ ghost use Rattle.slotmap_core.specs.Secondary.{get, contains_key};
 ghost use Rattle.slotmap_sparse.specs.Content.{IsContent, with_value};
 
 use crate::SparseSecondaryMap;
+use crate::find::place_near;
 use slotmap_core::keys::Key;
 use std::hash::BuildHasher;
-use std::mem;
 use std::ops::{Index, IndexMut};
 
 impl<K: Key, V: Drop, S: BuildHasher + Drop> SparseSecondaryMap<K, V, S> {
@@ -43,7 +43,7 @@ impl<K: Key, V: Drop, S: BuildHasher + Drop> SparseSecondaryMap<K, V, S> {
         ensures valid { IsContent self.now }
     {
         match self.slot(key) {
-            Some((version, value)) => {
+            Some((_, (version, value))) => {
                 if *version == key.data().version() {
                     Some(value)
                 } else {
@@ -116,13 +116,16 @@ impl<K: Key, V: Drop, S: BuildHasher + Drop> SparseSecondaryMap<K, V, S> {
         &mut self.slots.get_mut(&index).unwrap().1
     }
 
-    // Sets the value of a key that is in the map, and returns the one before.
-    pub(crate) fn exchange(&mut self, key: K, value: V) -> V
+    // The value of a key that is in the map. Its pair is looked for at position `near` first.
+    #[inline(always)]
+    pub(crate) fn value_near(&mut self, near: usize, key: K) -> &mut V
         requires { contains_key self.old.pairs (K.data_of key) ≡ true }
-        ensures value { get self.old.pairs (K.data_of key) ≡ Some result }
-        ensures puts { self.new ≡ with_value self.old (K.data_of key) value }
+        ensures* writes_back { sem 𝓛 (lends_value K.row V.row S.row S.Hasher.row S.BuildHasher S.Hasher.Hasher self.entry (K.data_of key) result) }
+        ensures value { get self.old.pairs (K.data_of key) ≡ Some result.now }
+        ensures was_valid { IsContent self.old }
     {
-        mem::replace(self.get_unchecked_mut(key), value)
+        let place = place_near(&self.slots, near, key.data());
+        &mut self.slots.get_index_mut(place).unwrap().1
     }
 }
 

@@ -12,8 +12,8 @@ use crate::find::Found;
 use slotmap_core::errors::{OutOfMemory, PutError};
 use slotmap_core::keys::Key;
 use slotmap_core::secondary::NoEntry;
-use std::fmt;
 use std::hash::BuildHasher;
+use std::{fmt, mem};
 
 /// The entry of a key: occupied if the key is in the map, vacant if it can be inserted.
 ///
@@ -32,6 +32,8 @@ pub enum Entry<'a, K, V, S: BuildHasher> {
 pub struct OccupiedEntry<'a, K, V, S: BuildHasher> {
     map: &'a mut SparseSecondaryMap<K, V, S>,
     key: K,
+    // Where the pair of the key was found. It is looked for there first.
+    place: usize,
 }
 
 /// The entry of a key that isn't in the map and can be inserted.
@@ -95,8 +97,12 @@ impl<K: Key, V: Drop, S: BuildHasher + Drop> SparseSecondaryMap<K, V, S> {
     {
         match self.find(key) {
             Found::No => return Err(NoEntry::Older),
-            Found::Occupied => {
-                return Ok(Entry::Occupied(OccupiedEntry { map: self, key }));
+            Found::Occupied(place) => {
+                return Ok(Entry::Occupied(OccupiedEntry {
+                    map: self,
+                    key,
+                    place,
+                }));
             }
             Found::Empty => return Ok(Entry::Vacant(VacantEntry { map: self, key })),
             Found::Outdated => {}
@@ -149,9 +155,9 @@ impl<'a, K: Key, V: Drop, S: BuildHasher + Drop> Entry<'a, K, V, S> {
         match self {
             Entry::Vacant(entry) => Entry::Vacant(entry),
             Entry::Occupied(entry) => {
-                let OccupiedEntry { map, key } = entry;
-                f(map.get_unchecked_mut(key));
-                Entry::Occupied(OccupiedEntry { map, key })
+                let OccupiedEntry { map, key, place } = entry;
+                f(map.value_near(place, key));
+                Entry::Occupied(OccupiedEntry { map, key, place })
             }
         }
     }
@@ -266,10 +272,9 @@ impl<'a, K: Key, V: Drop, S: BuildHasher + Drop> VacantEntry<'a, K, V, S> {
         ensures room { map.len (entry_map (Vacant self.entry)).pairs < (entry_map (Vacant self.entry)).capacity → IsOk result }
     {
         let VacantEntry { map, key } = self;
-        if let Err(error) = map.add(key, value) {
-            return Err(error);
-        }
-        Ok(map.get_unchecked_mut(key))
+        let place = map.len();
+        map.add(key, value)?;
+        Ok(map.value_near(place, key))
     }
 
     // Inserts the result of the closure, once there is memory for it.
@@ -286,8 +291,9 @@ impl<'a, K: Key, V: Drop, S: BuildHasher + Drop> VacantEntry<'a, K, V, S> {
         if map.make_room(1).is_err() {
             return Err(OutOfMemory);
         }
-        map.store(key, f());
-        Ok(map.get_unchecked_mut(key))
+        let place = map.len();
+        map.add(key, f()).unwrap();
+        Ok(map.value_near(place, key))
     }
 }
 
@@ -336,8 +342,9 @@ impl<'a, K: Key, V: Drop, S: BuildHasher + Drop> OccupiedEntry<'a, K, V, S> {
         ensures value { entry_value K.data_of (Occupied self.old) ≡ Some result.now }
         ensures written { (w : V) → IsWritten K.data_of (Occupied self.old) w (Occupied (occupied_with K.data_of self.old w)) }
     {
+        let place = self.place;
         let key = self.key;
-        self.map.get_unchecked_mut(key)
+        self.map.value_near(place, key)
     }
 
     /// Returns a mutable reference to the value, valid for as long as the map is borrowed.
@@ -355,8 +362,8 @@ impl<'a, K: Key, V: Drop, S: BuildHasher + Drop> OccupiedEntry<'a, K, V, S> {
         ensures* writes_back { sem 𝓛 (entry_lends K.row V.row S.row S.Hasher.row S.BuildHasher S.Hasher.Hasher K.data_of (Occupied self.entry) result) }
         ensures value { entry_value K.data_of (Occupied self.entry) ≡ Some result.now }
     {
-        let OccupiedEntry { map, key } = self;
-        map.get_unchecked_mut(key)
+        let OccupiedEntry { map, key, place } = self;
+        map.value_near(place, key)
     }
 
     /// Sets the value and returns the one before, in constant time.
@@ -372,7 +379,7 @@ impl<'a, K: Key, V: Drop, S: BuildHasher + Drop> OccupiedEntry<'a, K, V, S> {
         ensures old { entry_value K.data_of (Occupied self.old) ≡ Some result }
         ensures written { IsWritten K.data_of (Occupied self.old) value (Occupied self.new) }
     {
-        self.map.exchange(self.key, value)
+        mem::replace(self.get_mut(), value)
     }
 
     /// Removes the key and returns it with its value, in constant time.
@@ -390,7 +397,7 @@ impl<'a, K: Key, V: Drop, S: BuildHasher + Drop> OccupiedEntry<'a, K, V, S> {
         ensures removes { self.exit.0.now.pairs ≡ entry_without K.data_of (Occupied self.entry) }
         ensures room { room (entry_map (Occupied self.entry)) ≤ room self.exit.0.now }
     {
-        let OccupiedEntry { map, key } = self;
+        let OccupiedEntry { map, key, .. } = self;
         (key, map.take_live(key))
     }
 

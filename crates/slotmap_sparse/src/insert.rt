@@ -29,21 +29,8 @@ impl<K: Key, V: Drop, S: BuildHasher + Drop> SparseSecondaryMap<K, V, S> {
         self.slots.reserve(additional)
     }
 
-    // Puts the value under a key whose index is vacant, if there is memory for it.
-    pub(crate) fn store(&mut self, key: K, value: V)
-        requires not_null { is_null (K.data_of key) ≡ false }
-        requires absent { map.get self.old.pairs (K.data_of key).index ≡ None }
-        requires memory { map.len self.old.pairs < self.old.capacity }
-        ensures puts { self.new.pairs ≡ bind self.old.pairs (K.data_of key) value }
-        ensures capacity { self.old.capacity ≤ self.new.capacity }
-        ensures valid { IsContent self.new }
-    {
-        let key = key.data();
-        let stored: Result<_, _> = self.slots.insert(key.idx(), (key.version(), value));
-        drop(stored.unwrap());
-    }
-
-    // The same, if there may be no memory for it.
+    // Puts the value under a key whose index is vacant, if there is memory for it. Its pair is then
+    // the last of the hash map.
     #[inline(always)]
     pub(crate) fn add(&mut self, key: K, value: V) -> Result<(), PutError<V>>
         requires not_null { is_null (K.data_of key) ≡ false }
@@ -163,7 +150,7 @@ impl<K: Key, V: Drop, S: BuildHasher + Drop> SparseSecondaryMap<K, V, S> {
     {
         match self.find(key) {
             Found::No => OrPut::NoEntry(value),
-            Found::Occupied => OrPut::Kept(value),
+            Found::Occupied(_) => OrPut::Kept(value),
             Found::Outdated | Found::Empty => match self.insert(key, value) {
                 Ok(_) => OrPut::Placed,
                 Err(PutError(value)) => OrPut::Memory(value),

@@ -26,4 +26,4 @@ pub returns-in-Occupied-clause-value : goal.returns-in-Occupied-clause-value
 returns-in-Occupied-clause-value g c =
     let e = c.in-Occupied.entry in
     let own = get_bound e.map.now.pairs (g.K.Key.data_of e.key) c.f.new.arg2 in
-    rw (c.in-Occupied.is, c.get_unchecked_mut.ensures.value, own) (record { lent = c.get_unchecked_mut.result; result = c.f.result; left = _; before = refl; met = c.f.ensures; after = refl })
+    rw (c.in-Occupied.is, c.value_near.ensures.value, own) (record { lent = c.value_near.result; result = c.f.result; left = _; before = refl; met = c.f.ensures; after = refl })

@@ -9,7 +9,7 @@ returns g c =
       (refl, λ w. refl),
       record {
         writes_back = tt;
-        value = c.get_unchecked_mut.ensures.value;
+        value = c.value_near.ensures.value;
         written = λ w. record {
           same_map = refl;
           same_key = refl;
