@@ -38,4 +38,4 @@ returns-clause-makes_room g c =
     let keys = c.in_ok-make_room_in.ensures in
     let values = c.in_ok-make_room_in-2.ensures in
     makes-room _ m c.self.view_is c.self.invariant c.make_room.new.self c.make_room_in.new.items c.make_room_in-2.new.items 1 _
-    c.in_ok-make_room.ensures.makes_room keys.keeps values.keeps keys.capacity values.capacity _ (grind arith) (grind arith) (grind arith)
+    c.in_ok-make_room.ensures.makes_room keys.keeps values.keeps keys.capacity values.capacity _ (λ _. (refl, keys.ok, values.ok)) (grind arith) (grind arith)

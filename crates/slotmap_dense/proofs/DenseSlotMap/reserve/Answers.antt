@@ -38,4 +38,4 @@ returns-clause-makes_room g c =
     let keys = c.in_ok-make_room_in.ensures in
     let values = c.in_ok-make_room_in-2.ensures in
     makes-room _ m c.self.view_is c.self.invariant c.reserve.new.self c.make_room_in.new.items c.make_room_in-2.new.items c.args.additional _
-    c.in_ok-reserve.ensures.makes_room keys.keeps values.keeps keys.capacity values.capacity _ (grind arith) (grind arith) (grind arith)
+    c.in_ok-reserve.ensures.makes_room keys.keeps values.keeps keys.capacity values.capacity _ (λ _. (refl, keys.ok, values.ok)) (grind arith) (grind arith)
