@@ -20,8 +20,8 @@ use Rattle.slotmap_hop.specs.Blocks.{Begins, IsBlock}
 use Rattle.slotmap_hop.specs.Links.{vacant_at, end_at}
 use Rattle.slotmap_hop.specs.Slots.{place_in, layout, places_of}
 use Rattle.slotmap_hop.specs.Walk.{pairs_left, retired_left, StandsAt, CanGoOn, FindsNone, FindsSlot, ReadsOnTheWay}
-use Rattle.slotmap_hop.proofs.BlockLemmas.{clash, begins_after, back_of}
-use Rattle.slotmap_hop.proofs.Circle.{bounded_by_length}
+use Rattle.slotmap_hop.proofs.BlockLemmas.{clash, begins_after, front_here}
+use Rattle.slotmap_hop.proofs.Circle.{shown}
 use Rattle.slotmap_hop.proofs.SlotReads.{length-places, slot_within, place_at, free_found}
 use Rattle.slotmap_hop.proofs.SlotLemmas.{vacant_place, place_not_vacant, slots_fit}
 
@@ -68,10 +68,7 @@ module _ {V : Type 0} (slots : List (Slot V)) where
   -- the block that begins where the iterator is
   block_here : (i : ℕ) → StandsAt slots i → vacant_at (layout slots) i ≡ true → IsBlock (vacant_at (layout slots)) i (end_at (layout slots) i)
   block_here i stands vacant =
-      let es = layout slots in
-      let found = back_of (vacant_at es) (length es) (length es) i i (bounded_by_length es) (omega arith) (omega arith) (stands.at_front vacant)
-      (λ x low high. let same : x ≡ i = omega arith in rw same vacant) in
-      rw (stands.sound.linked.linked.ends i found.0 found.1).0 found.1
+      ((shown stands.sound.linked.linked).ends i (front_here (vacant_at (layout slots)) i vacant (stands.at_front vacant))).0
 
   pub stands_on : (i j : ℕ) → StandsAt slots i → (vacant_at (layout slots) j ≡ true → Begins (vacant_at (layout slots)) j) → StandsAt slots j
   stands_on i j stands front = record { vacant = stands.vacant; elems = stands.elems; sound = stands.sound; at_front = front }
