@@ -48,17 +48,14 @@ module _ {K V : Type 0} (data_of : K → Key) where
         let k = data_of x.key in
         let same : (q : Key) → index ≤ q.index → map.get old.content.live q ≡ map.get now.content.live q = λ q from. Keyed-same data_of old.content.live visits index now.content.live visited q from in
         let first = next_entry old.content well.valid index k (λ q there from. comes.2 q (sym (ap is_some (same q from)) ∙ there) from) x.before comes.1 (same k comes.1 ∙ found) in
-        so_far.ascending ∙ ap (λ es. seen data_of visits ++ es) first
-        ∙ sym (append_assoc (seen data_of visits) ((k, x.before) ∷ []) (map.entries (from_index (k.index + 1) old.content.live)))
-        ∙ ap (λ es. es ++ map.entries (from_index (k.index + 1) old.content.live)) (sym (seen_push visits x))
+        rw (seen_push visits x, append_assoc, ← first) so_far.ascending
 
     -- the entry stays, and no block changes
     pub InOrder-kept : (new : HopContent V) → x.stays ≡ true → new.content.next ≡ now.content.next → new.blocks ≡ now.blocks → InOrder old (visits ++ x ∷ []) ((data_of x.key).index + 1) new
     InOrder-kept new stays next blocks = record {
       ascending = next_seen;
       blocks = λ ks.
-          ap (λ ds. blocks_without_all old (ds ++ ks)) (dropped_push visits x ∙ ap (λ b. dropped data_of visits ++ cond b [] (data_of x.key ∷ [])) stays ∙ append-nil (dropped data_of visits))
-          ∙ so_far.blocks ks ∙ λ j. blocks_without_all (record { content = record now.content { next = sym next j }; blocks = sym blocks j }) ks;
+          rw (dropped_push visits x, stays, append-nil) (so_far.blocks ks ∙ λ j. blocks_without_all (record { content = record now.content { next = sym next j }; blocks = sym blocks j }) ks);
     }
 
     -- the key is removed
@@ -68,9 +65,8 @@ module _ {K V : Type 0} (data_of : K → Key) where
     InOrder-dropped written new stays next same removes blocks = record {
       ascending = next_seen;
       blocks = λ ks.
-          ap (λ ds. blocks_without_all old (ds ++ ks)) (dropped_push visits x ∙ ap (λ b. dropped data_of visits ++ cond b [] (data_of x.key ∷ [])) stays)
-          ∙ ap (blocks_without_all old) (append_assoc (dropped data_of visits) (data_of x.key ∷ []) ks)
-          ∙ so_far.blocks (data_of x.key ∷ ks)
+          rw (dropped_push visits x, stays, append_assoc)
+          (so_far.blocks (data_of x.key ∷ ks)
           ∙ (λ j. blocks_without_all (record { content = record now.content { next = sym next j }; blocks = sym same j }) (data_of x.key ∷ ks))
-          ∙ blocks_taken written new (data_of x.key) ks removes blocks;
+          ∙ blocks_taken written new (data_of x.key) ks removes blocks);
     }

@@ -16,7 +16,7 @@ use Rattle.slotmap_hop.specs.Links.{vacant_at, end_at, fronts_of}
 use Rattle.slotmap_hop.specs.Slots.{layout, places_of, hop_content, IsSound}
 use Rattle.slotmap_hop.specs.Walk.{pairs_left, retired_left, IsWalk, CanGoOn, FindsLive, ReadsOnTheWay, ListsRetired}
 use Rattle.slotmap_hop.proofs.BlockLemmas.{clash, begins_after}
-use Rattle.slotmap_hop.proofs.Circle.{bounded_by_length, circle_block}
+use Rattle.slotmap_hop.proofs.Circle.{block_at}
 use Rattle.slotmap_hop.proofs.Vacating.{zero_in_circle}
 use Rattle.slotmap_hop.proofs.SlotLemmas.{place_not_vacant}
 use Rattle.slotmap_hop.proofs.LiveSlots.{sound-used_up}
@@ -72,7 +72,7 @@ module _ {V : Type 0} {slots : List (Slot V)} {reads place left : ℕ} (walk : I
 module _ {V : Type 0} (slots : List (Slot V)) (vacant elems : ℕ) (sound : IsSound slots vacant elems) where
   -- an iterator starts after the block of place 0
   first_place : IsBlock (vacant_at (layout slots)) 0 (end_at (layout slots) 0)
-  first_place = circle_block (length (layout slots)) (bounded_by_length (layout slots)) 0 sound.linked.linked (zero_in_circle (fronts_of (layout slots)))
+  first_place = block_at 0 sound.linked.linked (zero_in_circle (fronts_of (layout slots)))
 
   pub pairs-start : pairs_left slots (end_at (layout slots) 0 + 1) ≡ map.entries (live (places_of slots))
   pairs-start = sym (past_block slots 0 (end_at (layout slots) 0) first_place).0 ∙ sym (entries-live (places_of slots))

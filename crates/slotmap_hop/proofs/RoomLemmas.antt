@@ -43,19 +43,10 @@ module _ {V : Type 0} (slots : List (Slot V)) (vacant elems : ℕ) (sound : IsSo
     grown_granted granted few enough =
         let same : used now.content ≡ taken (places_of slots) = ap (λ m. used m.content) (sym view) in
         let room : n ≤ (hop_content slots (more - 1)).content.room = omega arith in
-        record {
-          makes_room = record {
-            before = hop_valid.valid;
-            after = grown_valid.valid;
-            fits = λ _. few;
-            room = λ _. room;
-            live_and_more = λ _. rw (← view) (omega (arith, grown_valid.valid.capacity_fits));
-            succeeds = λ room. absurd (omega arith);
-            had_room = λ room. absurd (omega arith);
-            keeps = kept;
-            capacity = rw (← view) (omega arith);
-          };
-          blocks = ap (λ m. m.blocks) view;
-          before = hop_valid;
-          after = grown_valid;
-        }
+        let keeps = kept in
+        let capacity : now.content.capacity ≤ more - 1 = rw (← view) (omega arith) in
+        let blocks = ap (λ m. m.blocks) view in
+        let before = hop_valid in
+        let after = grown_valid in
+        let fits = grown_valid.valid.capacity_fits in
+        grind arith

@@ -15,13 +15,15 @@ use Rattle.slotmap_core.proofs.ContentLemmas.{IsContent-stacked}
 use Rattle.slotmap_core.proofs.KeyLemmas.{keys_total, exact_keys}
 use Rattle.slotmap_hop.specs.declared.links.Links.{Links}
 use Rattle.slotmap_hop.specs.declared.links.Slot.{Slot}
-use Rattle.slotmap_hop.specs.Blocks.{IsFront, HasMaximalBlocks}
-use Rattle.slotmap_hop.specs.Links.{removed, vacant_at, next_at, end_at, fronts_of, blocks_of, IsLinked}
+use Rattle.slotmap_hop.specs.declared.links.State.{State}
+use Rattle.slotmap_hop.specs.Blocks.{IsBlock, HasMaximalBlocks}
+use Rattle.slotmap_hop.specs.Links.{removed, is_vacant, is_front, ListsOnce, vacant_at, next_at, end_at, fronts_of, blocks_of, IsLinked}
 use Rattle.slotmap_hop.specs.HopContent.{IsHopContent, counts_vacant}
 use Rattle.slotmap_hop.specs.Slots.{layout, places_of, next_place, offer_at, holding, hop_content, IsSound}
 use Rattle.slotmap_hop.proofs.Chain.{occurs-head}
-use Rattle.slotmap_hop.proofs.Circle.{bounded_by_length, circle_block}
-use Rattle.slotmap_hop.proofs.SlotReads.{length-layout, length-places, slot_cases}
+use Rattle.slotmap_hop.proofs.Steps.{listed_positive}
+use Rattle.slotmap_hop.proofs.Circle.{shown}
+use Rattle.slotmap_hop.proofs.SlotReads.{length-layout, length-places, slot_within, slot_cases}
 use Rattle.slotmap_hop.proofs.Taking.{first_block, offer_is_end, offer_is_back}
 use Rattle.slotmap_hop.proofs.Maximal.{maximal}
 use Rattle.slotmap_hop.proofs.StackOrder.{IsStacked-first, untold, IsContent-untold}
@@ -36,20 +38,16 @@ key_is within version = record { index_fits = omega arith; version_fits = versio
 -- blocks
 
 -- if place 1 isn't vacant and no block begins at a place other than 0, no other place is vacant
-only_zero : (v : ℕ → Bool) → v 1 ≡ false → ((g : ℕ) → IsFront v g → ⊥) → (i : ℕ) → v i ≡ true → i ≡ 0
-only_zero v next none zero here = refl
-only_zero v next none (suc i) here =
-    let taken = λ (taken : v i ≡ false). none (suc i) (record { positive = omega arith; inside = here; begins = λ left e. let same : left ≡ i = omega arith in rw same taken }) in
-    grind (arith, only_zero v next none i, taken)
+only_zero : (v : ℕ → Bool) → v 1 ≡ false → ListsOnce (is_front v) [] → (i : ℕ) → v i ≡ true → i ≡ 0
+only_zero v next listed zero here = refl
+only_zero v next listed (suc i) here = grind (arith, listed (suc i), only_zero v next listed i)
 
 -- if the block that an insert looks at is place 0 alone, no other place is vacant
 pub none_vacant : (es : List (Option Links)) (fs : List ℕ) → IsLinked es fs → end_at es (next_at es 0) ≡ 0 → (i : ℕ) → vacant_at es i ≡ true → i ≡ 0
 none_vacant es (x ∷ fs) linked none i here =
-    absurd (omega (arith, (first_block es (x ∷ fs) linked).ordered, linked.chain.0, (linked.listed.only x (omega (arith, occurs-head x fs))).positive))
+    absurd (omega (arith, (first_block es (x ∷ fs) linked).ordered, (shown linked).chain.0, listed_positive (shown linked) x (omega (arith, occurs-head x fs))))
 none_vacant es [] linked none i here =
-    let zero_end : end_at es 0 ≡ 0 = ap (end_at es) (sym linked.chain.0) ∙ none in
-    let block = circle_block (length es) (bounded_by_length es) 0 linked (omega (arith, occurs-head 0 [])) in
-    only_zero (vacant_at es) (subst (λ b. vacant_at es (b + 1) ≡ false) zero_end block.ends) (λ g front. absurd (omega (arith, linked.listed.once g front))) i here
+    only_zero (vacant_at es) (subst (λ b. vacant_at es (b + 1) ≡ false) none (first_block es [] linked).ends) (shown linked).listed i here
 
 -- slots as links and as places
 
@@ -75,7 +73,7 @@ module _ {V : Type 0} (slots : List (Slot V)) (vacant elems : ℕ) (sound : IsSo
   slots_fit = omega (arith, sound.linked.fits, length-layout slots)
 
   pub same_counts : (c : ℕ) → counts_vacant (hop_content slots c).content ≡ vacant_at (layout slots)
-  same_counts c = fun_ext (λ i. counts_are slots sound.linked.linked.sentinel i)
+  same_counts c = fun_ext (λ i. counts_are slots sound.linked.sentinel i)
 
   -- the place from which the next insert takes a slot is vacant
   pub back_vacant : vacant_at (layout slots) (next_place slots) ≡ true

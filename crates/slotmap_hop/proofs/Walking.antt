@@ -17,11 +17,11 @@ use Rattle.slotmap_hop.specs.declared.links.State.TheVariants.{Occupied, Free}
 use Rattle.slotmap_hop.specs.Blocks.{Begins, IsBlock}
 use Rattle.slotmap_hop.specs.Links.{vacant_at, links_at, end_at}
 use Rattle.slotmap_hop.specs.Slots.{place_in, layout, places_of}
-use Rattle.slotmap_hop.specs.Walk.{Counted, pairs_left, retired_left, StandsAt, CanGoOn, FindsNone, FindsSlot, ReadsOnTheWay}
-use Rattle.slotmap_hop.proofs.BlockLemmas.{clash, begins_after, back_of}
-use Rattle.slotmap_hop.proofs.Circle.{bounded_by_length}
-use Rattle.slotmap_hop.proofs.SlotReads.{length-places, slot_cases, slot_within, place_at}
-use Rattle.slotmap_hop.proofs.SlotLemmas.{vacant_slot, place_not_vacant, slots_fit}
+use Rattle.slotmap_hop.specs.Walk.{pairs_left, retired_left, StandsAt, CanGoOn, FindsNone, FindsSlot, ReadsOnTheWay, Counted}
+use Rattle.slotmap_hop.proofs.BlockLemmas.{clash, begins_after, front_here}
+use Rattle.slotmap_hop.proofs.Circle.{shown}
+use Rattle.slotmap_hop.proofs.SlotReads.{length-places, slot_within, place_at, slot_cases}
+use Rattle.slotmap_hop.proofs.SlotLemmas.{place_not_vacant, slots_fit, vacant_slot}
 
 module _ {V : Type 0} where
   -- what is yielded at these places, and the keys of the retired ones, where the first place has this index
@@ -59,10 +59,7 @@ module _ {V : Type 0} (slots : List (Slot V)) where
   -- the block that begins where the iterator is
   block_here : (i : ℕ) → StandsAt slots i → vacant_at (layout slots) i ≡ true → IsBlock (vacant_at (layout slots)) i (end_at (layout slots) i)
   block_here i stands vacant =
-      let es = layout slots in
-      let found = back_of (vacant_at es) (length es) (length es) i i (bounded_by_length es) (omega arith) (omega arith) (stands.at_front vacant)
-      (λ x low high. let same : x ≡ i = omega arith in rw same vacant) in
-      rw (stands.sound.linked.linked.ends i found.0 found.1).0 found.1
+      ((shown stands.sound.linked.linked).ends i (front_here (vacant_at (layout slots)) i vacant (stands.at_front vacant))).0
 
   pub stands_on : (i j : ℕ) → StandsAt slots i → (vacant_at (layout slots) j ≡ true → Begins (vacant_at (layout slots)) j) → StandsAt slots j
   stands_on i j stands front = record { vacant = stands.vacant; elems = stands.elems; sound = stands.sound; at_front = front }
