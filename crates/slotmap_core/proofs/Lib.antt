@@ -23,6 +23,7 @@ pub mod LeaveLemmas
 pub mod OrderLemmas
 pub mod IndexLemmas
 pub mod VisitLemmas
+pub mod ReplaceLemmas
 pub mod RetainLemmas
 pub mod RetainCallers
 pub mod AgainLemmas
