@@ -50,4 +50,5 @@ pub mod PutLemmas
 pub mod ListReadLemmas
 pub mod PairsLemmas
 pub mod SecondaryCallers
+pub mod SecondaryDrains
 pub mod SideTables

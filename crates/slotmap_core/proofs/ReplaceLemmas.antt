@@ -1,12 +1,15 @@
 -- What the calls `can_replace` and `replace_disjoint` of a map of any kind do with the key at position i of those that were given.
 use Rattle.std.proofs.Common.{◌≡◌, ◌↔◌, ℕ, ◌+◌, ◌<◌, Bool, true, false, List, length, get_or, set, take}
-use Rattle.std.proofs.Common.{Option, Some, is_some, map as map_list, sym, ap, ◌∙◌, ◌⊎◌, inl, inr, IsTrue, arith}
+use Rattle.std.proofs.Common.{Option, Some, is_some, map as map_list, sym, ap, subst, ◌∙◌, ◌⊎◌, inl, inr, IsTrue, arith}
 use Rattle.std.proofs.lemmas.List.{get_or-map, get_or_default, length-map}
 use Rattle.std.specs.List.{list_any}
-use Rattle.slotmap_core.specs.Key.{Key}
+use Rattle.std.specs.Cmp.{nat_cmp_total}
+use Rattle.std.specs.FinMap as map
+use Rattle.slotmap_core.specs.Key.{Key, IsKey}
 use Rattle.slotmap_core.specs.Several.{CanReplace}
 use Rattle.slotmap_core.specs.Secondary as pair
 use Rattle.slotmap_core.proofs.KeyedLemmas.{pairs_written}
+use Rattle.slotmap_core.proofs.StandLemmas.{pair_of, index_stands, same_version, not_null_at, IsSecondary-bind}
 use Rattle.slotmap_core.proofs.SeveralLemmas.{WriteLaws, Exchanged, Exchanged-step, next_there, refuses_absent, refuses_again}
 
 module _ {M V K : Type 0} {get : M → Key → Option V} (m : M) (data_of : K → Key) (keys : List K) (i : ℕ) (key : K) (within : i < length keys) (at : key ≡ get_or keys i key)
@@ -32,7 +35,18 @@ module _ {M V K : Type 0} {get : M → Key → Option V} {put : M → Key → V 
       Exchanged-step get put writes old (map_list data_of keys) vs now ws i done (data_of (get_or keys i key)) (get_or ws i v) w
       (omega (arith, length-map keys data_of)) (omega (arith, length-map keys data_of)) (sym (named _)) (get_or_default ws i v _ (omega (arith, done.long))) was
 
--- the same in a secondary map, whose other parts stay
+-- a key of a secondary map gets another value
+module _ {V : Type 0} (m : pair.Pairs V) (k : Key) (v : V) (has : pair.contains_key m k ≡ true) where
+  pub len_again : map.len (pair.bind m k v) ≡ map.len m
+  len_again = grind (arith, map.len-insert nat_cmp_total m k.index (k.version, v), index_stands m k has)
+
+  pub IsSecondary-again : pair.IsSecondary m → pair.IsSecondary (pair.bind m k v)
+  IsSecondary-again valid =
+      let there = pair_of m k has in
+      let key = subst (λ n. IsKey (record { index = k.index; version = n })) (same_version m k has there.0 there.1) (valid k.index there.0 there.1).0 in
+      IsSecondary-bind m k v valid key (not_null_at m k there.0 there.1 valid)
+
+-- several keys of a secondary map, whose other parts stay
 module _ {C V : Type 0} (Valid : C → Type 0) (pairs : C → pair.Pairs V) (with_pairs : C → pair.Pairs V → C) where
   pub record Exchanging (old : C) (keys : List Key) (vs : List V) (now : C) (ws : List V) (i : ℕ) : Type 0 where
     pub keeps : now ≡ with_pairs old (pairs now)
