@@ -51,4 +51,6 @@ pub mod ListReadLemmas
 pub mod PairsLemmas
 pub mod SecondaryCallers
 pub mod SecondaryDrains
+pub mod TakingLemmas
+pub mod StoppedExtends
 pub mod SideTables
