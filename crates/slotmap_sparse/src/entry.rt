@@ -266,9 +266,7 @@ impl<'a, K: Key, V: Drop, S: BuildHasher + Drop> VacantEntry<'a, K, V, S> {
         ensures room { map.len (entry_map (Vacant self.entry)).pairs < (entry_map (Vacant self.entry)).capacity → IsOk result }
     {
         let VacantEntry { map, key } = self;
-        if let Err(error) = map.add(key, value) {
-            return Err(error);
-        }
+        map.add(key, value)?;
         Ok(map.get_unchecked_mut(key))
     }
 

@@ -6,14 +6,14 @@ use Rattle.slotmap_sparse.proofs.entry.VacantEntry.insert.Goals as goal
 pub get_unchecked_mut-requires : goal.get_unchecked_mut-requires
 get_unchecked_mut-requires g c =
     let k = g.K.Key.data_of c.args.self.key in
-    ap (λ m. contains_key m k) c.in_default.ensures.ok ∙ in_own c.args.self.map.now.pairs k c.args.value
+    ap (λ m. contains_key m k) c.in_ok-add.ensures.ok ∙ in_own c.args.self.map.now.pairs k c.args.value
 
 pub returns : goal.returns
 returns g c =
     let e = c.args.self in
     let k = g.K.Key.data_of e.key in
     let v = c.args.value in
-    let puts = c.in_default.ensures.ok in (
+    let puts = c.in_ok-add.ensures.ok in (
       (
         refl,
         λ w ok. record {
