@@ -9,9 +9,10 @@ swap_value-requires g c = key_there dense_written g.K.Key.data_of c.args.keys c.
 
 pub loop-i-preserved : goal.loop-i-preserved
 loop-i-preserved g c =
+    let well = subst IsDense c.swap_value.ensures.put c.swap_value.ensures.valid in
     rw c.swap_value.ensures.put
     (record {
-      well = subst IsDense c.swap_value.ensures.put c.swap_value.ensures.valid;
+      well = well;
       capacity = c.loop-i.invariant.capacity;
       done =
           key_exchanged dense_written g.K.Key.data_of c.args.keys c.loop-i.invariant.done c.index-keys-i.result (omega arith) c.index-values-i.result _ (omega arith)
