@@ -1,5 +1,5 @@
 -- An insertion of many pairs of references that stops for want of memory.
-use Rattle.std.proofs.Common.{◌≡◌, List, Option, Some, Err, ap}
+use Rattle.std.proofs.Common.{List, Option, Some, Err, ap}
 use Rattle.std.specs.Borrow.{Bor}
 use Rattle.std.specs.Iterator.{YieldsThen}
 use Rattle.slotmap_core.specs.Key.{Key}
