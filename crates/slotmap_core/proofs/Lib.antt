@@ -23,6 +23,7 @@ pub mod LeaveLemmas
 pub mod OrderLemmas
 pub mod IndexLemmas
 pub mod VisitLemmas
+pub mod ReplaceLemmas
 pub mod RetainLemmas
 pub mod RetainCallers
 pub mod AgainLemmas
@@ -49,4 +50,7 @@ pub mod PutLemmas
 pub mod ListReadLemmas
 pub mod PairsLemmas
 pub mod SecondaryCallers
+pub mod SecondaryDrains
+pub mod TakingLemmas
+pub mod StoppedExtends
 pub mod SideTables

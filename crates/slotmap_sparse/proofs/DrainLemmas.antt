@@ -1,5 +1,5 @@
--- What the steps of a drain keep, and what they return.
-use Rattle.std.proofs.Common.{◌≡◌, ◌≤◌, ℕ, Bool, true, false, cond, nat_eq, eq-eqb, List, [], ◌∷◌, ◌++◌, Option, Some, None, is_some, if◌then◌else◌, map as list_map, refl, sym, ap, subst, ◌∙◌, arith}
+-- What the steps of a drain leave.
+use Rattle.std.proofs.Common.{◌≡◌, ℕ, Bool, true, cond, nat_eq, eq-eqb, List, [], ◌∷◌, ◌++◌, Option, Some, None, is_some, if◌then◌else◌, refl, sym, ap, ◌∙◌, arith}
 use Rattle.std.specs.Cmp.{nat_eq_equiv}
 use Rattle.std.specs.FinMap as map
 use Rattle.std.specs.Iterator.{MakesProgress}
@@ -7,32 +7,16 @@ use Rattle.std.specs.HashMap.{HashMap, Updates}
 use Rattle.std.specs.List.{IsDistinct}
 use Rattle.std.specs.Map.{lookup, keys_of}
 use Rattle.slotmap_core.specs.Key.{Key, key_from}
-use Rattle.slotmap_core.specs.Secondary.{Pairs, get, remove, keyed}
-use Rattle.slotmap_core.specs.Listing.{IsListingBut}
-use Rattle.slotmap_core.proofs.KeyedLemmas.{get-keyed, keyed-remove}
-use Rattle.slotmap_core.proofs.ListingLemmas.{IsListingBut-start, IsListingBut-first}
+use Rattle.slotmap_core.specs.Secondary.{Pairs, get, remove}
 use Rattle.slotmap_core.proofs.KeyLemmas.{key_from-odd}
 use Rattle.slotmap_core.proofs.StandLemmas.{get_here, len_taken}
-use Rattle.slotmap_sparse.specs.Content.{Content, room}
+use Rattle.slotmap_sparse.specs.Content.{Content}
 use Rattle.slotmap_sparse.specs.Entries.{pairs_of, content_of, IsSound}
 use Rattle.slotmap_sparse.proofs.EntriesLemmas.{get-pairs, found_pair, pairs_taken, IsSound-taken}
 use Rattle.slotmap_sparse.specs.declared.drain.Drain.{Drain}
-use Rattle.slotmap_sparse.specs.Drain.{TakesPair, drain_map, drain_count, DrainKeeps, DrainKeepsAlong, DrainLists}
-
-no_less : (a b c : ℕ) → a ≤ b → b ≤ c → a ≤ c
-no_less a b c p q = omega arith
-
-abbrev entries : {K V : Type 0} → (K → Key) → List (K × V) → List (Key × V)
-entries data_of pairs = list_map (λ p. (data_of p.0, p.1)) pairs
+use Rattle.slotmap_sparse.specs.Drain.{TakesPair, drain_map, drain_count}
 
 module _ {K V S Z : Type 0} (data_of : K → Key) where
-  pub Drain-keeps_along : (first : Drain K V S Z) → DrainKeepsAlong data_of first
-  Drain-keeps_along first [] later run = subst (λ d. DrainKeeps first d) run (refl, omega arith)
-  Drain-keeps_along first (pair ∷ pairs) later run =
-      let step = run.1.1 in
-      let rest = Drain-keeps_along run.0 pairs later run.2 in
-      (rest.0 ∙ step.0, no_less (room (drain_map first)) (room (drain_map run.0)) (room (drain_map later)) step.1 rest.1)
-
   -- a step leaves fewer pairs
   pub Drain-goes : (can : Drain K V S Z → Type 0) → ((d : Drain K V S Z) → can d) → (old new : Drain K V S Z) (item : Option (K × V)) → TakesPair data_of (drain_map old) item (drain_map new)
       → MakesProgress can drain_count old item new
@@ -41,24 +25,9 @@ module _ {K V S Z : Type 0} (data_of : K → Key) where
       let fewer = len_taken (drain_map old).pairs (data_of item.0) (ap is_some taken.0) in
       record { on = λ finite. (always new, finite, omega (arith, fewer, ap map.len taken.1)); keeps = always new; rests = λ _. tt }
 
-  pub Drain-lists : (first : Drain K V S Z) → DrainLists data_of first
-  Drain-lists first [] later run = subst (λ d. IsListingBut (keyed (drain_map first).pairs) [] (keyed (drain_map d).pairs)) run (IsListingBut-start (keyed (drain_map first).pairs))
-  Drain-lists first (pair ∷ pairs) later run =
-      let taken = run.1.0 in
-      let m = (drain_map first).pairs in
-      let k = data_of pair.0 in
-      let rest = Drain-lists run.0 pairs later run.2 in
-      let left : keyed (drain_map run.0).pairs ≡ map.remove (keyed m) k = ap keyed taken.1 ∙ keyed-remove m k (ap is_some taken.0) in
-      IsListingBut-first (keyed m) (keyed (drain_map later).pairs) (entries data_of pairs) k pair.1 (get-keyed m k ∙ taken.0)
-      (subst (λ n. IsListingBut n (entries data_of pairs) (keyed (drain_map later).pairs)) left rest)
-
 last_found : {X : Type 0} (t : ℕ → Bool) (es : List (ℕ × X)) (e : ℕ × X) → lookup t es ≡ None → t e.0 ≡ true → lookup t (es ++ e ∷ []) ≡ Some e.1
 last_found t [] e none hit = ap (λ b. cond b (Some e.1) None) hit
-last_found {X} t (x ∷ xs) e none hit = by (last_found t xs e) (t x.0) none
-  where
-    by : (lookup t xs ≡ None → t e.0 ≡ true → lookup t (xs ++ e ∷ []) ≡ Some e.1) → (b : Bool) → cond b (Some x.1) (lookup t xs) ≡ None → cond b (Some x.1) (lookup t (xs ++ e ∷ [])) ≡ Some e.1
-    by rest true none = absurd (cc)
-    by rest false none = rest none hit
+last_found t (x ∷ xs) e none hit = grind (arith, last_found t xs e)
 
 module _ {V S : Type 0} (m n : HashMap ℕ (ℕ × V) S) (c : Content V) (is : content_of m ≡ c) (sound : IsSound m.entries) where
   pairs : pairs_of m.entries ≡ c.pairs

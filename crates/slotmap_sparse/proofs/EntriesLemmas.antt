@@ -1,6 +1,5 @@
 -- The entries of a hash map as a finite map.
-use Rattle.std.proofs.Common.{◌≡◌, ℕ, suc, ◌+◌, true, false, cond, nat_eq, List, [], ◌∷◌, length, Option, Some, None, is_some, refl, sym, ap, subst}
-use Rattle.std.proofs.Common.{◌∙◌, nat_cmp, arith, ◌<◌, inl, inr, MutBor, Result, Ok, Err, OnOk, slice_get, Bool}
+use Rattle.std.proofs.Common.{◌≡◌, ℕ, suc, ◌+◌, true, false, cond, nat_eq, List, [], ◌∷◌, length, Option, Some, None, is_some, refl, sym, ap, subst, ◌∙◌, nat_cmp, arith, ◌<◌, inl, inr, MutBor, Result, Ok, Err, OnOk, slice_get, Bool, zero, ◌≤◌, true≢false, IfOk}
 use Rattle.std.specs.Option.{option_copied_mut, option_map}
 use Rattle.std.specs.Ordering.{eq_by_cmp}
 use Rattle.std.specs.Cmp.{nat_cmp_total, unsigned_tied, nat_eq_equiv}
@@ -16,7 +15,7 @@ use Rattle.std.proofs.lemmas.Map.{lookup-none}
 use Rattle.std.proofs.lemmas.Map.Entries.{none_past_head, hash_map_get_place}
 use Rattle.std.proofs.lemmas.Option.{same_Some, slice_get-map}
 use Rattle.slotmap_core.proofs.KeyLemmas.{tied}
-use Rattle.slotmap_core.proofs.Maps.{len_inserted, get_after_insert}
+use Rattle.slotmap_core.proofs.Maps.{len_inserted, get_after_insert, insert_same}
 use Rattle.slotmap_core.specs.Key.{Key, IsKey, null_key}
 use Rattle.slotmap_core.specs.Secondary.{Pairs, IsSecondary, is_null, bind, put, get, contains_key}
 use Rattle.slotmap_sparse.specs.Content.{Content, IsContent, with_value, room}
@@ -60,13 +59,10 @@ module _ {V : Type 0} where
   none_there : (e : ℕ × (ℕ × V)) (es : Entries V) → IsDistinct nat_eq (keys_of (e ∷ es)) → map.contains_key (pairs_of es) e.0 ≡ false
   none_there e es h = ap is_some (get-pairs es e.0 ∙ lookup-none (nat_eq e.0) es (none_past_head nat_eq_equiv e.0 e es h (nat_eq_equiv.refl e.0)))
 
-  push_one : (es : Entries V) → length es + 1 ≡ suc (length es)
-  push_one es = omega arith
-
   pub len-pairs : (es : Entries V) → IsDistinct nat_eq (keys_of es) → map.len (pairs_of es) ≡ length es
   unfolding IsDistinct
   len-pairs [] h = map.len-empty nat_cmp (ℕ × V)
-  len-pairs (e ∷ es) h = len_inserted nat_cmp_total exact_unsigned (pairs_of es) e.0 e.1 (none_there e es h) ∙ ap (λ n. n + 1) (len-pairs es h.1) ∙ push_one es
+  len-pairs (e ∷ es) h = omega (arith, len_inserted nat_cmp_total exact_unsigned (pairs_of es) e.0 e.1 (none_there e es h), len-pairs es h.1)
 
   pub valid_pairs : (es : Entries V) (p : Pairs V) → pairs_of es ≡ p → IsSound es → IsSecondary p
   valid_pairs es p is sound = subst (λ (x : Pairs V). IsSecondary x) is sound.keys
@@ -83,11 +79,15 @@ module _ {V : Type 0} where
       record { keys = valid_pairs m.entries c.pairs pairs sound; fits = omega (arith, memory, long) }
 
   -- there is memory for as many further keys as the hash map has spare entries
-  pub spare_room : {S : Type 0} (m : HashMap ℕ (ℕ × V) S) (c : Content V) → content_of m ≡ c → IsSound m.entries → room c ≡ spare m
+  spare_room : {S : Type 0} (m : HashMap ℕ (ℕ × V) S) (c : Content V) → content_of m ≡ c → IsSound m.entries → room c ≡ spare m
   spare_room m c is sound =
       let memory : hash_map_len m + spare m ≡ c.capacity = ap (λ (x : Content V). x.capacity) is in
       let long = same_len m.entries c.pairs (ap (λ (x : Content V). x.pairs) is) sound in
       omega (arith, memory, long)
+
+  -- so with no fewer spare entries there is memory for no fewer keys
+  pub more_room : {S : Type 0} (m n : HashMap ℕ (ℕ × V) S) (c : Content V) → content_of m ≡ c → IsSound m.entries → IsSound n.entries → spare m ≤ spare n → room c ≤ room (content_of n)
+  more_room m n c is sound after more = omega (arith, spare_room m c is sound, spare_room n (content_of n) refl after, more)
 
   pub IsSound-empty : (es : Entries V) → IsDistinct nat_eq (keys_of es) → es ≡ [] → IsSound es
   IsSound-empty es unique none = record { unique = unique; keys = subst (λ (fs : Entries V). IsSecondary (pairs_of fs)) (sym none) IsSecondary-empty }
@@ -113,15 +113,10 @@ module _ {V : Type 0} where
   -- with another value at an index that is there
   pub IsSound-written : (es fs : Entries V) → IsSound es → IsDistinct nat_eq (keys_of fs) → (i : ℕ) (p q : ℕ × V) → map.get (pairs_of es) i ≡ Some p
       → q.0 ≡ p.0 → pairs_of fs ≡ map.insert (pairs_of es) i q → IsSound fs
-  IsSound-written es fs sound unique i p q at same put = record { unique = unique; keys = subst (λ (x : Pairs V). IsSecondary x) (sym put) written }
-    where
-      written : IsSecondary (map.insert (pairs_of es) i q)
-      written j r h = elim (get_after_insert nat_cmp_total exact_unsigned (pairs_of es) i q j r h) [
-        | inl e ↦ let had = sound.keys i p at in
-            subst (λ (n : ℕ). IsKey (record { index = n; version = r.0 }) × (n < null_key.index)) (sym e.0)
-            (subst (λ (v : ℕ). IsKey (record { index = i; version = v }) × (i < null_key.index)) (sym (ap (λ (x : ℕ × V). x.0) e.1 ∙ same)) had)
-        | inr e ↦ sound.keys j r e.1
-      ]
+  IsSound-written es fs sound unique i p q at same put = record {
+    unique = unique;
+    keys = rw put (λ j r h. elim (get_after_insert nat_cmp_total exact_unsigned (pairs_of es) i q j r h) [ inl e ↦ rw (e.0, e.1, same) (sound.keys i p at) | inr e ↦ sound.keys j r e.1 ]);
+  }
 
   -- the pair that is lent is that of the entry
   pub lent_there : (es : Entries V) (place i : ℕ) (q : ℕ × V) (o : Option (MutBor (ℕ × V))) (r : MutBor (ℕ × V)) → slice_get es place ≡ Some (i, q)
@@ -183,13 +178,7 @@ module _ {V : Type 0} where
       (written : WritesThrough nat_eq (nat_eq i) m p n) where
     pairs_kept : pairs_of n.entries ≡ pairs_of m.entries
     pairs_kept =
-        pairs_put m.entries n.entries i p (written.3 (ap is_some stood)).0
-        ∙ map.same_map nat_cmp_total exact_unsigned _ _ (λ q. map.get-insert nat_cmp_total (pairs_of m.entries) i p q
-        ∙ by q (eq_by_cmp nat_cmp q i) refl)
-      where
-        by : (q : ℕ) (b : Bool) → eq_by_cmp nat_cmp q i ≡ b → cond b (Some p) (map.get (pairs_of m.entries) q) ≡ map.get (pairs_of m.entries) q
-        by q true t = sym (get-pairs m.entries i ∙ stood) ∙ ap (map.get (pairs_of m.entries)) (sym (tied nat_cmp_total exact_unsigned q i t))
-        by q false t = refl
+        pairs_put m.entries n.entries i p (written.3 (ap is_some stood)).0 ∙ insert_same nat_cmp_total exact_unsigned (pairs_of m.entries) i p (get-pairs m.entries i ∙ stood)
 
     pub IsSound-kept : IsSound n.entries
     IsSound-kept = IsSound-same m.entries n.entries sound written.4 pairs_kept
@@ -224,16 +213,11 @@ module _ {V : Type 0} where
         let memory : hash_map_len n + spare n ≡ c.capacity = (λ j. written.2 j + written.6 j) ∙ ap (λ (x : Content V). x.capacity) is in
         λ j. record { pairs = pairs_over j; capacity = memory j }
 
-some_copied : {A : Type 0} (o : Option (MutBor A)) → is_some (option_copied_mut o) ≡ is_some o
-some_copied None = refl
-some_copied (Some r) = refl
-
 pub some_lent : {A : Type 0} (o : Option (MutBor A)) (p : Option A) → option_copied_mut o ≡ p → is_some p ≡ true → is_some o ≡ true
-some_lent o p is h = sym (some_copied o) ∙ ap is_some is ∙ h
+some_lent o p is h = grind arith
 
 pub on_ok : {A E : Type 0} {P Q : Type 0} (r : Result A E) → OnOk r P → (P → Q) → OnOk r Q
-on_ok (Ok x) h f = f h
-on_ok (Err e) h f = tt
+on_ok r h f = grind arith
 
 pub of_ok : {A E : Type 0} (P : Type 0) (r : Result A E) (x : A) → r ≡ Ok x → OnOk r P → P
 of_ok P r x is holds = subst (λ s. OnOk s P) is holds

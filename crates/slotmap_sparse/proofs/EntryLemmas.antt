@@ -1,15 +1,16 @@
 -- What an entry leaves in the map.
-use Rattle.std.proofs.Common.{◌≡◌, ℕ, None, Bool, true, false, cond, is_some, refl, sym, ap, ◌∙◌, nat_cmp, if◌then◌else◌}
+use Rattle.std.proofs.Common.{◌≡◌, None, true, is_some, refl, sym, ap, ◌∙◌, if◌then◌else◌}
 use Rattle.std.specs.Cmp.{nat_cmp_total}
 use Rattle.std.proofs.lemmas.Map.Lookups.{exact_unsigned}
-use Rattle.std.specs.Ordering.{eq_by_cmp}
 use Rattle.std.specs.FinMap as map
 use Rattle.slotmap_core.specs.Key.{Key}
 use Rattle.slotmap_core.specs.Secondary.{Pairs, occupied, vacant, entry, get, contains_key, IsSecondary}
-use Rattle.slotmap_core.proofs.KeyLemmas.{tied}
-use Rattle.slotmap_core.proofs.SecondaryLemmas.{value_of, value_of_entry}
-use Rattle.slotmap_core.proofs.StandLemmas.{entry_absent, removed, vacant_not_null}
-use Rattle.slotmap_sparse.specs.Entry.{entry_leaves}
+use Rattle.slotmap_core.proofs.MapLaws.{remove_absent}
+use Rattle.slotmap_core.proofs.SecondaryLemmas.{get_bound, value_of, value_of_entry}
+use Rattle.slotmap_core.proofs.StandLemmas.{entry_absent, in_own, removed, vacant_not_null}
+use Rattle.slotmap_sparse.specs.declared.entry.Entry.TheVariants.{Occupied}
+use Rattle.slotmap_sparse.specs.declared.entry.OccupiedEntry.{OccupiedEntry}
+use Rattle.slotmap_sparse.specs.Entry.{IsWritten, entry_leaves, occupied_with}
 
 module _ {V : Type 0} (m : Pairs V) (valid : IsSecondary m) (k : Key) where
   -- a key whose entry is vacant has no value
@@ -30,14 +31,7 @@ module _ {V : Type 0} (m : Pairs V) (valid : IsSecondary m) (k : Key) where
 
   -- and if nothing is there, it is as before
   pub leaves_empty : entry m k ≡ vacant → map.get m k.index ≡ None → m ≡ entry_leaves m k
-  leaves_empty is none = sym nothing ∙ vacant_leaves is
-    where
-      nothing : map.remove m k.index ≡ m
-      nothing = map.same_map nat_cmp_total exact_unsigned _ _ (λ q. map.get-remove nat_cmp_total m k.index q ∙ by q (eq_by_cmp nat_cmp q k.index) refl)
-        where
-          by : (q : ℕ) (b : Bool) → eq_by_cmp nat_cmp q k.index ≡ b → cond b None (map.get m q) ≡ map.get m q
-          by q true t = sym none ∙ ap (map.get m) (sym (tied nat_cmp_total exact_unsigned q k.index t))
-          by q false t = refl
+  leaves_empty is none = sym (remove_absent nat_cmp_total exact_unsigned m k.index none) ∙ vacant_leaves is
 
   -- an occupied entry leaves the map as it is
   pub occupied_there : (v : V) → entry m k ≡ occupied v → contains_key m k ≡ true
@@ -45,3 +39,7 @@ module _ {V : Type 0} (m : Pairs V) (valid : IsSecondary m) (k : Key) where
 
   pub leaves_occupied : (v : V) → entry m k ≡ occupied v → m ≡ entry_leaves m k
   leaves_occupied v is = sym (ap (λ b. if b then m else map.remove m k.index) (occupied_there v is))
+
+-- an entry once w is the value of its key
+pub IsWritten-own : {K V S Z : Type 0} (data_of : K → Key) (e : OccupiedEntry K V S Z) (w : V) → IsWritten data_of (Occupied e) w (Occupied (occupied_with data_of e w))
+IsWritten-own data_of e w = record { same_map = refl; same_key = refl; after = refl; value = get_bound e.map.now.pairs (data_of e.key) w; in_place = in_own e.map.now.pairs (data_of e.key) w }

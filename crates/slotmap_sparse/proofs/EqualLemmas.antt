@@ -1,14 +1,15 @@
 -- Two hash maps are equal if and only if their maps hold the same keys with equal values.
-use Rattle.std.proofs.Common.{◌≡◌, ◌↔◌, ℕ, Bool, true, false, cond, ◌&&◌, nat_eq, eqb-true, eq-eqb, Option, None, Some, refl, sym, ap, subst, ◌∙◌}
+use Rattle.std.proofs.Common.{◌≡◌, ◌↔◌, ℕ, Bool, true, ◌&&◌, nat_eq, Option, None, Some, refl, sym, ◌∙◌, arith}
 use Rattle.std.specs.Option.{option_eq}
 use Rattle.std.specs.Cmp.{nat_eq_equiv}
+use Rattle.std.proofs.lemmas.Grind.{common_steps}
 use Rattle.std.specs.FinMap as map
 use Rattle.std.specs.HashMap.{HashMap, hash_map_eq}
 use Rattle.std.specs.HashMap.Eq.{hash_map_eq_from_get, get_from_hash_map_eq}
 use Rattle.std.specs.Map.{lookup}
 use Rattle.slotmap_core.specs.Secondary.{Pairs, value_at}
 use Rattle.slotmap_core.specs.SecondaryEqual.{SameValue, AreEqual, are_equal}
-use Rattle.slotmap_core.proofs.Maps.{same_bool, of_and}
+use Rattle.slotmap_core.proofs.Maps.{same_bool}
 use Rattle.slotmap_core.proofs.SecondaryEqualLemmas.{equal_where}
 use Rattle.slotmap_sparse.specs.Entries.{pairs_of}
 use Rattle.slotmap_sparse.proofs.EntriesLemmas.{found_pair}
@@ -18,37 +19,15 @@ module _ {V : Type 0} (eq : V → V → Bool) where
   abbrev pub same_pair : ℕ × V → ℕ × V → Bool
   same_pair p q = nat_eq p.0 q.0 && eq p.1 q.1
 
-  value_there : (version : ℕ) (p : ℕ × V) → p.0 ≡ version → value_at version (Some p) ≡ Some p.1
-  value_there version p at = ap (λ b. cond b (Some p.1) None) (eq-eqb p.0 version at)
-
-  true_and : (a b : Bool) → a ≡ true → b ≡ true → (a && b) ≡ true
-  true_and true true p q = refl
-  true_and true false p q = q
-  true_and false b p q = absurd (cc)
-
   -- if both have the same pair at an index, they have the same value of each version
   same_values : (o p : Option (ℕ × V)) → option_eq same_pair o p ≡ true → (version : ℕ) → SameValue eq (value_at version o) (value_at version p)
-  same_values None None h version = tt
-  same_values None (Some q) h version = absurd (cc)
-  same_values (Some p) None h version = absurd (cc)
-  same_values (Some p) (Some q) h version =
-      let parts = of_and (nat_eq p.0 q.0) (eq p.1 q.1) h in
-      subst (λ n. SameValue eq (value_at version (Some p)) (cond (nat_eq n version) (Some q.1) None)) (eqb-true p.0 q.0 parts.0) (by (nat_eq p.0 version) parts.1)
-    where
-      by : (b : Bool) → eq p.1 q.1 ≡ true → SameValue eq (cond b (Some p.1) None) (cond b (Some q.1) None)
-      by true same = same
-      by false same = tt
+  same_values o p h version = grind (arith, common_steps)
 
   -- and conversely
   same_there : (o p : Option (ℕ × V)) → ((version : ℕ) → SameValue eq (value_at version o) (value_at version p)) → option_eq same_pair o p ≡ true
   same_there None None is = refl
-  same_there None (Some q) is = absurd (subst (λ x. SameValue eq None x) (value_there q.0 q refl) (is q.0))
-  same_there (Some p) None is = absurd (subst (λ x. SameValue eq x None) (value_there p.0 p refl) (is p.0))
-  same_there (Some p) (Some q) is = by (nat_eq q.0 p.0) refl (subst (λ x. SameValue eq x (value_at p.0 (Some q))) (value_there p.0 p refl) (is p.0))
-    where
-      by : (b : Bool) → nat_eq q.0 p.0 ≡ b → SameValue eq (Some p.1) (cond b (Some q.1) None) → (nat_eq p.0 q.0 && eq p.1 q.1) ≡ true
-      by true at same = true_and (nat_eq p.0 q.0) (eq p.1 q.1) (eq-eqb p.0 q.0 (sym (eqb-true q.0 p.0 at))) same
-      by false at same = absurd same
+  same_there None (Some q) is = grind (arith, common_steps, is q.0)
+  same_there (Some p) q is = grind (arith, common_steps, is p.0)
 
 module _ {V S : Type 0} (eq : V → V → Bool) (m n : HashMap ℕ (ℕ × V) S) (a b : Pairs V) (is : pairs_of m.entries ≡ a) (also : pairs_of n.entries ≡ b) where
   test : (q : ℕ) → option_eq (same_pair eq) (lookup (nat_eq q) m.entries) (lookup (nat_eq q) n.entries) ≡ option_eq (same_pair eq) (map.get a q) (map.get b q)

@@ -1,5 +1,5 @@
 -- What calls of a closure on each entry of a hash map leave, as visits of keys.
-use Rattle.std.proofs.Common.{◌≡◌, ℕ, ◌+◌, Bool, true, false, cond, nat_eq, List, [], ◌∷◌, ◌++◌, length, Some, None, is_some, refl, sym, ap, subst, ◌∙◌, arith}
+use Rattle.std.proofs.Common.{◌≡◌, ℕ, ◌+◌, Bool, cond, nat_eq, List, [], ◌∷◌, ◌++◌, length, Some, None, is_some, refl, sym, ap, subst, ◌∙◌, arith}
 use Rattle.std.specs.Cmp.{nat_eq_equiv}
 use Rattle.std.specs.Fn.{Mut}
 use Rattle.std.specs.Borrow.{MutBor}
@@ -113,24 +113,16 @@ module _ {F G K V : Type 0} (g : Mut F (K × (MutBor V × Unit {0})) (Bool × (M
       let named : data_of key ≡ record { index = e.0; version = e.1.0 } = call.1.1 ∙ key_from-odd e.0 e.1.0 of.0.1 of.0.0.odd in
       let more = visited shows d es rest of.1 run.5 in
       let one : Visit K V = record { key = key; before = e.1.1; after = w.1; stays = b } in
+      let here : IsOfKey (e.0, w) = (subst (λ (n : ℕ). IsKey (record { index = e.0; version = n })) (sym call.0) of.0.0, of.0.1) in
       let same : ◌≡◌ {A = Key × V} (data_of key, w.1) (keyed_entry (e.0, w)) = λ i. ((named ∙ (λ j. record { index = e.0; version = sym call.0 j })) i, w.1) in
       record {
         visits = one ∷ more.visits;
         last = more.last;
         calls = (state d, call.1.2, more.calls);
         saw = λ i. (named i, e.1.1) ∷ more.saw i;
-        stay = stays b (data_of key, w.1) (e.0, w) more.visits rest same more.stay ∙ ap key_pairs (sym run.6);
-        of = subst (λ (x : List (ℕ × (ℕ × V))). AreOfKeys x) (sym run.6) (all_of b (e.0, w) rest (subst (λ (n : ℕ). IsKey (record { index = e.0; version = n })) (sym call.0) of.0.0, of.0.1) more.of);
+        stay = grind (arith, same, more.stay, run.6);
+        of = rw run.6 (grind (arith, here, more.of));
       }
-    where
-      stays : (b : Bool) (x : Key × V) (y : ℕ × (ℕ × V)) (xs : List (Visit K V)) (rest : List (ℕ × (ℕ × V))) → x ≡ keyed_entry y → kept data_of xs ≡ key_pairs rest
-          → cond b (x ∷ kept data_of xs) (kept data_of xs) ≡ key_pairs (cond b (y ∷ rest) rest)
-      stays true x y xs rest e f = λ i. e i ∷ f i
-      stays false x y xs rest e f = f
-
-      all_of : (b : Bool) (y : ℕ × (ℕ × V)) (rest : List (ℕ × (ℕ × V))) → IsOfKey y → AreOfKeys rest → AreOfKeys (cond b (y ∷ rest) rest)
-      all_of true y rest here more = (here, more)
-      all_of false y rest here more = more
 
   pub retains_by : (c : G) (es left : List (ℕ × (ℕ × V))) (p : Pairs V) → pairs_of es ≡ p → IsDistinct nat_eq (keys_of es)
       → IsDistinct nat_eq (keys_of left) → Visited c es left → RetainsBy g data_of (state c) (keyed p) (keyed (pairs_of left))

@@ -1,27 +1,22 @@
 -- How many slots a map is written as, and what a map holds that reads a list slot by slot.
-use Rattle.std.proofs.Common.{◌≡◌, ℕ, ◌+◌, ◌-◌, ◌<◌, ◌≤◌, ◌^◌, ◌⊎◌, inl, inr, Bool, true, false, cond, List, [], ◌∷◌, ◌++◌, length, slice_get, Option}
-use Rattle.std.proofs.Common.{Some, None, is_some, eq-eqb, option_map, refl, sym, ap, subst, ◌∙◌, nat_cmp, arith}
+use Rattle.std.proofs.Common.{◌≡◌, ℕ, ◌+◌, ◌-◌, ◌<◌, ◌≤◌, ◌^◌, ◌⊎◌, inl, inr, true, List, [], ◌∷◌, ◌++◌, length, slice_get}
+use Rattle.std.proofs.Common.{None, is_some, eq-eqb, refl, sym, ap, subst, ◌∙◌, nat_cmp, arith}
 use Rattle.std.specs.Cmp.{nat_cmp_total}
 use Rattle.std.proofs.lemmas.Map.Lookups.{exact_unsigned}
 use Rattle.std.proofs.lemmas.Option.{slice_get_past}
-use Rattle.std.specs.Ordering.{eq_by_cmp}
 use Rattle.std.specs.FinMap as map
 use Rattle.std.specs.FinSet as set
 use Rattle.slotmap_core.specs.Key.{Key, key_cmp}
 use Rattle.slotmap_core.specs.Listing.{IsKeyListing}
-use Rattle.slotmap_core.specs.Secondary.{Pairs, contains_key, keyed, value_at}
+use Rattle.slotmap_core.specs.Secondary.{Pairs, contains_key, keyed}
 use Rattle.slotmap_core.specs.SecondaryWritten.{slot_pair}
 use Rattle.slotmap_core.specs.declared.serial.SlotRecord.{SlotRecord}
 use Rattle.slotmap_core.proofs.KeyLemmas.{keys_total, exact_keys, tied, untied}
 use Rattle.slotmap_core.proofs.KeyedLemmas.{contains-keyed}
-use Rattle.slotmap_core.proofs.StandLemmas.{index_stands}
-use Rattle.slotmap_core.proofs.Maps.{item_after_insert, item_inserted, item_still}
+use Rattle.slotmap_core.proofs.StandLemmas.{index_stands, get_here}
+use Rattle.slotmap_core.proofs.Maps.{some_is, item_after_insert, item_inserted, item_still}
 use Rattle.slotmap_core.proofs.GatherLemmas.{slice_get_push, slice_get_push_other}
-use Rattle.slotmap_sparse.specs.Written.{Reaches, with_value_at, with_slot}
-
-pub slice_get_next : {X : Type 0} (xs ys : List X) (x : X) → slice_get (xs ++ x ∷ ys) (length xs) ≡ Some x
-slice_get_next [] ys x = refl
-slice_get_next (z ∷ xs) ys x = slice_get_next xs ys x
+use Rattle.slotmap_sparse.specs.Written.{Reaches, with_slot}
 
 module _ {V : Type 0} where
   -- the keys of the map that aren't in the rest have smaller indices than the count, which is within the limit
@@ -68,17 +63,13 @@ module _ {V : Type 0} where
 
   pub Counts-end : (m : Pairs V) (count : ℕ) → Counts m [] count → Reaches m count
   Counts-end m count done = record {
-    within = λ i has. by i (map.get m i) refl has;
+    within = λ i has.
+        let p = some_is (map.get m i) has in
+        let k : Key = record { index = i; version = p.0.0 } in
+        grind (arith, done.covered k (ap is_some (get_here m k p.0 p.1 (eq-eqb p.0.0 p.0.0 refl))), set.contains-empty key_cmp k);
     one = done.one;
     last = done.last;
   }
-    where
-      by : (i : ℕ) (o : Option (ℕ × V)) → map.get m i ≡ o → is_some o ≡ true → i < count
-      by i None at has = absurd (cc)
-      by i (Some p) at has = elim (done.covered (record { index = i; version = p.0 }) (ap (λ o. is_some (value_at p.0 o)) at ∙ ap (λ b. is_some (cond b (Some p.1) None)) (eq-eqb p.0 p.0 refl))) [
-        | inl less ↦ less
-        | inr in_none ↦ let none = set.contains-empty key_cmp (record { index = i; version = p.0 }) in absurd (cc)
-      ]
 
   -- each index has what its record says, as far as they were read
   abbrev pub Read : List (SlotRecord V) → Pairs V → Type 0
@@ -91,28 +82,15 @@ module _ {V : Type 0} where
     pub Read-absent : map.get m (length slots) ≡ None
     Read-absent = read (length slots) ∙ ap slot_pair (slice_get_past slots (length slots) (omega arith))
 
-    Read-empty : slot.value ≡ None → Read (slots ++ slot ∷ []) m
-    Read-empty none i = by (eq_by_cmp nat_cmp i (length slots)) refl
-      where
-        by : (b : Bool) → eq_by_cmp nat_cmp i (length slots) ≡ b → map.get m i ≡ slot_pair (slice_get (slots ++ slot ∷ []) i)
-        by true t =
-            let at = tied nat_cmp_total exact_unsigned i (length slots) t in
-            ap (map.get m) at ∙ Read-absent ∙ sym (ap slot_pair (ap (slice_get (slots ++ slot ∷ [])) at ∙ slice_get_push slots slot) ∙ ap (option_map (λ v. (slot.version, v))) none)
-        by false t = read i ∙ ap slot_pair (sym (slice_get_push_other slots slot i (untied nat_cmp_total exact_unsigned i (length slots) t)))
-
-    Read-key : (v : V) (n : Pairs V) → slot.value ≡ Some v → n ≡ map.insert m (length slots) (slot.version, v) → Read (slots ++ slot ∷ []) n
-    Read-key v n some put i =
-        ap (λ (x : Pairs V). map.get x i) put ∙ map.get-insert nat_cmp_total m (length slots) (slot.version, v) i ∙ by (eq_by_cmp nat_cmp i (length slots)) refl
-      where
-        by : (b : Bool) → eq_by_cmp nat_cmp i (length slots) ≡ b → cond b (Some (slot.version, v)) (map.get m i) ≡ slot_pair (slice_get (slots ++ slot ∷ []) i)
-        by true t =
-            let at = tied nat_cmp_total exact_unsigned i (length slots) t in
-            sym (ap slot_pair (ap (slice_get (slots ++ slot ∷ [])) at ∙ slice_get_push slots slot) ∙ ap (option_map (λ v. (slot.version, v))) some)
-        by false t = read i ∙ ap slot_pair (sym (slice_get_push_other slots slot i (untied nat_cmp_total exact_unsigned i (length slots) t)))
-
     pub Read-slot : (n : Pairs V) → n ≡ with_slot m (length slots) slot → Read (slots ++ slot ∷ []) n
-    Read-slot n put = by slot.value refl put
-      where
-        by : (o : Option V) → slot.value ≡ o → n ≡ with_value_at m (length slots) slot.version o → Read (slots ++ slot ∷ []) n
-        by None is same = subst (λ (x : Pairs V). Read (slots ++ slot ∷ []) x) (sym same) (Read-empty is)
-        by (Some v) is put = Read-key v n is put
+    Read-slot n put i = grind (
+      arith,
+      put,
+      read i,
+      Read-absent,
+      slice_get_push slots slot,
+      slice_get_push_other slots slot i,
+      tied nat_cmp_total exact_unsigned i (length slots),
+      untied nat_cmp_total exact_unsigned i (length slots),
+      λ (v : V). map.get-insert nat_cmp_total m (length slots) (slot.version, v) i,
+    )

@@ -1,12 +1,12 @@
 -- The entries of a hash map as keys with their values.
-use Rattle.std.proofs.Common.{◌≡◌, ℕ, ◌&&◌, Bool, true, false, cond, nat_eq, List, [], ◌∷◌, Option, Some, None, refl, sym, ap, subst, ◌∙◌, is_eq, nat_cmp, arith}
-use Rattle.std.proofs.lemmas.Grind.{common_steps}
+use Rattle.std.proofs.Common.{◌≡◌, ℕ, true, false, cond, nat_eq, eqb-true, List, [], ◌∷◌, Some, None, refl, sym, ap, ◌∙◌, nat_cmp, arith}
 use Rattle.std.specs.List.{IsDistinct, AllByRecursion}
 use Rattle.std.specs.Cmp.{nat_eq_equiv, unsigned_tied}
 use Rattle.std.specs.FinMap as map
 use Rattle.std.specs.FinMap.Entries.{find}
 use Rattle.std.specs.Map.{lookup, keys_of}
 use Rattle.std.proofs.lemmas.List.{length-map}
+use Rattle.std.proofs.lemmas.Option.{same_Some}
 use Rattle.std.proofs.lemmas.Map.{lookup-none}
 use Rattle.std.proofs.lemmas.Map.Entries.{none_past_head, lookup_head}
 use Rattle.slotmap_core.specs.Key.{Key, key_cmp}
@@ -20,10 +20,7 @@ use Rattle.slotmap_sparse.proofs.EntriesLemmas.{get-pairs, len-pairs}
 
 module _ {X : Type 0} where
   in_tail : (e : ℕ × X) (es : List (ℕ × X)) → IsDistinct nat_eq (keys_of (e ∷ es)) → (i : ℕ) (p : X) → lookup (nat_eq i) es ≡ Some p → lookup (nat_eq i) (e ∷ es) ≡ Some p
-  in_tail e es distinct i p h = elim (nat_eq i e.0) as (λ b. nat_eq i e.0 ≡ b → cond b (Some e.1) (lookup (nat_eq i) es) ≡ Some p) [
-    | true ↦ λ t. let none = lookup-none (nat_eq i) es (none_past_head nat_eq_equiv i e es distinct t) in absurd (cc)
-    | false ↦ λ t. h
-  ] refl
+  in_tail e es distinct i p h = grind (arith, lookup-none (nat_eq i) es, none_past_head nat_eq_equiv i e es distinct)
 
   pub all_found : (P : ℕ × X → Type 0) (es : List (ℕ × X)) → IsDistinct nat_eq (keys_of es) → ((i : ℕ) (p : X) → lookup (nat_eq i) es ≡ Some p → P (i, p)) → AllByRecursion P es
   unfolding IsDistinct
@@ -37,32 +34,23 @@ module _ {V : Type 0} where
   -- a key finds nothing in entries that don't have its index
   missed : (k : Key) (es : List (ℕ × (ℕ × V))) → lookup (nat_eq k.index) es ≡ None → find key_cmp k (key_pairs es) ≡ None
   missed k [] h = refl
-  missed k (e ∷ es) h =
-      ap (λ b. cond b (Some e.1.1) (find key_cmp k (key_pairs es))) (tie_parts (nat_cmp k.index e.0) (nat_cmp k.version e.1.0)
-      ∙ ap (λ b. b && is_eq (nat_cmp k.version e.1.0)) (unsigned_tied k.index e.0))
-      ∙ by (missed k es) (nat_eq k.index e.0) h
-    where
-      by : (lookup (nat_eq k.index) es ≡ None → find key_cmp k (key_pairs es) ≡ None) → (b : Bool) → cond b (Some e.1) (lookup (nat_eq k.index) es) ≡ None
-          → cond (b && is_eq (nat_cmp k.version e.1.0)) (Some e.1.1) (find key_cmp k (key_pairs es)) ≡ None
-      by rest true none = absurd (cc)
-      by rest false none = rest none
+  missed k (e ∷ es) h = grind (arith, missed k es, tie_parts (nat_cmp k.index e.0) (nat_cmp k.version e.1.0), unsigned_tied k.index e.0)
 
   -- and otherwise the value at its index, if it is of its version
   find-pairs : (k : Key) (es : List (ℕ × (ℕ × V))) → IsDistinct nat_eq (keys_of es) → find key_cmp k (key_pairs es) ≡ value_at k.version (lookup (nat_eq k.index) es)
   unfolding IsDistinct
   find-pairs k [] distinct = refl
-  find-pairs k (e ∷ es) distinct =
-      ap (λ b. cond b (Some e.1.1) (find key_cmp k (key_pairs es))) (tie_parts (nat_cmp k.index e.0) (nat_cmp k.version e.1.0) ∙ (λ i. unsigned_tied k.index e.0 i && unsigned_tied k.version e.1.0 i))
-      ∙ by (find-pairs k es distinct.1) (nat_eq k.index e.0) refl
-    where
-      at : nat_eq k.index e.0 ≡ true → (b : Bool) → cond b (Some e.1.1) (find key_cmp k (key_pairs es)) ≡ cond b (Some e.1.1) None
-      at t true = refl
-      at t false = missed k es (lookup-none (nat_eq k.index) es (none_past_head nat_eq_equiv k.index e es distinct t))
-
-      by : find key_cmp k (key_pairs es) ≡ value_at k.version (lookup (nat_eq k.index) es) → (b : Bool) → nat_eq k.index e.0 ≡ b
-          → cond (b && nat_eq k.version e.1.0) (Some e.1.1) (find key_cmp k (key_pairs es)) ≡ value_at k.version (cond b (Some e.1) (lookup (nat_eq k.index) es))
-      by rest true t = at t (nat_eq k.version e.1.0) ∙ ap (λ b. cond b (Some e.1.1) None) (nat_eq_equiv.symm k.version e.1.0)
-      by rest false t = rest
+  find-pairs k (e ∷ es) distinct = grind (
+    arith,
+    find-pairs k es distinct.1,
+    tie_parts (nat_cmp k.index e.0) (nat_cmp k.version e.1.0),
+    unsigned_tied k.index e.0,
+    unsigned_tied k.version e.1.0,
+    nat_eq_equiv.symm k.version e.1.0,
+    missed k es,
+    lookup-none (nat_eq k.index) es,
+    none_past_head nat_eq_equiv k.index e es distinct,
+  )
 
   -- the entries list the keys of the map with their values
   pub listing : (es : List (ℕ × (ℕ × V))) (p : Pairs V) → pairs_of es ≡ p → IsDistinct nat_eq (keys_of es) → IsListing (keyed p) (key_pairs es)
@@ -77,16 +65,9 @@ module _ {V : Type 0} where
   pub valid_from : (es : List (ℕ × (ℕ × V))) → AreOfKeys es → IsSecondary (pairs_of es)
   valid_from es of i p h = at_lookup es of (sym (get-pairs es i) ∙ h)
     where
-      same_nats : (a b : ℕ) → nat_eq a b ≡ true → a ≡ b
-      same_nats a b h = grind (arith, common_steps)
-
       at_lookup : (es : List (ℕ × (ℕ × V))) → AreOfKeys es → lookup (nat_eq i) es ≡ Some p → IsOfKey (i, p)
       at_lookup [] of h = absurd (cc)
-      at_lookup (e ∷ es) of h = by (at_lookup es of.1) (nat_eq i e.0) refl h
-        where
-          by : (lookup (nat_eq i) es ≡ Some p → IsOfKey (i, p)) → (b : Bool) → nat_eq i e.0 ≡ b → cond b (Some e.1) (lookup (nat_eq i) es) ≡ Some p → IsOfKey (i, p)
-          by rest true is g = subst (λ (x : ℕ × (ℕ × V)). IsOfKey x) (λ j. (sym (same_nats i e.0 is) j, same e.1 p g j)) of.0
-            where
-              same : (x y : ℕ × V) → ◌≡◌ {A = Option (ℕ × V)} (Some x) (Some y) → x ≡ y
-              same x y e = cc
-          by rest false is g = rest g
+      at_lookup (e ∷ es) of h = elim (nat_eq i e.0) as (λ b. nat_eq i e.0 ≡ b → cond b (Some e.1) (lookup (nat_eq i) es) ≡ Some p → IsOfKey (i, p)) [
+        | true ↦ λ t is. rw (eqb-true i e.0 t, ← same_Some _ _ is) of.0
+        | false ↦ λ t is. at_lookup es of.1 is
+      ] refl h

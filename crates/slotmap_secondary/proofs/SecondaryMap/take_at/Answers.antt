@@ -2,9 +2,10 @@ use Rattle.std.proofs.Common.{◌≡◌, ◌<◌, length, set, slice_get, Some, 
 use Rattle.std.proofs.lemmas.List.{set-get_or, length-set}
 use Rattle.slotmap_core.specs.Key.{Key}
 use Rattle.slotmap_core.specs.Secondary.{get}
-use Rattle.slotmap_secondary.specs.declared.slot.Slot.TheVariants.{Vacant}
+use Rattle.slotmap_secondary.specs.declared.slot.Slot.TheVariants.{Vacant, Occupied}
 use Rattle.slotmap_secondary.proofs.SlotLemmas.{IsSound-clear, content-clear, some_left, valid}
-use Rattle.slotmap_secondary.proofs.ReadLemmas.{there_read, nothing-here, key-here}
+use Rattle.slotmap_secondary.proofs.ReadLemmas.{there_read, stands, key-here}
+use Rattle.slotmap_secondary.proofs.SecondaryMap.take_at.Goals.{In-Occupied}
 use Rattle.slotmap_secondary.proofs.SecondaryMap.take_at.Goals as goal
 
 -- nothing is there, and a vacant slot is written over another
@@ -25,45 +26,43 @@ pub invariant_of-self : goal.invariant_of-self
 invariant_of-self g c = rw (same_slots g c) c.self.invariant
 
 pub returns-in-Vacant-clause-takes : goal.returns-in-Vacant-clause-takes
-returns-in-Vacant-clause-takes g c = (nothing-here _ _ (ap (λ m. m.pairs) c.self.view_is) _ _ (vacant_there g c), rw (same_slots g c, ← c.self.view_is) refl)
+returns-in-Vacant-clause-takes g c = (stands _ _ (ap (λ m. m.pairs) c.self.view_is) _ _ (vacant_there g c), rw (same_slots g c, ← c.self.view_is) refl)
 
 pub returns-in-Vacant-clause-valid : goal.returns-in-Vacant-clause-valid
 returns-in-Vacant-clause-valid g c = rw (same_slots g c) (valid c.self.inside.slots.items _ c.self.invariant _ (omega (arith, c.self.inside.slots.ok.0, c.self.inside.slots.ok.1)))
 
+-- a key is there
+key_there : (g : _) (c : In-Occupied g) → slice_get c.self.inside.slots.items c.args.index ≡ Some (Occupied c.in-Occupied.version c.in-Occupied.value)
+key_there g c =
+    let within : c.args.index < length c.self.inside.slots.items = omega (arith, c.requires, ap (λ m. m.places) c.self.view_is) in
+    there_read c.self.inside.slots.items c.args.index _ _ c.index_mut.ensures.value within (sym c.replace.ensures.value ∙ c.in-Occupied.is)
+
 pub overflow_sub-self : goal.overflow_sub-self
 overflow_sub-self g c =
-    let slots = c.self.inside.slots.items in
-    let within : c.args.index < length slots = omega (arith, c.requires, ap (λ m. m.places) c.self.view_is) in
-    let there = there_read slots c.args.index _ _ c.index_mut.ensures.value within (sym c.replace.ensures.value ∙ c.in-Occupied.is) in
-    some_left slots _ c.self.invariant (record { index = c.args.index; version = c.in-Occupied.version }) _ there
+    let there = key_there g (goal.at.overflow_sub-self g c).In-Occupied in
+    some_left _ _ c.self.invariant (record { index = c.args.index; version = c.in-Occupied.version }) _ there
 
 pub invariant_of-self-in-Occupied : goal.invariant_of-self-in-Occupied
 invariant_of-self-in-Occupied g c =
-    let slots = c.self.inside.slots.items in
-    let within : c.args.index < length slots = omega (arith, c.requires, ap (λ m. m.places) c.self.view_is) in
-    let there = there_read slots c.args.index _ _ c.index_mut.ensures.value within (sym c.replace.ensures.value ∙ c.in-Occupied.is) in
-    rw (c.replace.ensures.after) (IsSound-clear slots _ c.self.invariant (record { index = c.args.index; version = c.in-Occupied.version }) _ there)
+    let there = key_there g (goal.at.invariant_of-self-in-Occupied g c).In-Occupied in
+    rw (c.replace.ensures.after) (IsSound-clear _ _ c.self.invariant (record { index = c.args.index; version = c.in-Occupied.version }) _ there)
 
 pub exact-requires : goal.exact-requires
 exact-requires g c =
-    let slots = c.self.inside.slots.items in
-    let within : c.args.index < length slots = omega (arith, c.requires, ap (λ m. m.places) c.self.view_is) in
-    let there = there_read slots c.args.index _ _ c.index_mut.ensures.value within (sym c.replace.ensures.value ∙ c.in-Occupied.is) in
-    (key-here slots _ (ap (λ m. m.pairs) c.self.view_is) c.args.index _ c.self.invariant _ _ there).0
+    let there = key_there g (goal.at.exact-requires g c).In-Occupied in
+    (key-here _ _ (ap (λ m. m.pairs) c.self.view_is) c.args.index _ c.self.invariant _ _ there).0
 
 pub returns-in-Occupied-clause-takes : goal.returns-in-Occupied-clause-takes
 returns-in-Occupied-clause-takes g c =
-    let slots = c.self.inside.slots.items in
-    let within : c.args.index < length slots = omega (arith, c.requires, ap (λ m. m.places) c.self.view_is) in
-    let there = there_read slots c.args.index _ _ c.index_mut.ensures.value within (sym c.replace.ensures.value ∙ c.in-Occupied.is) in
+    let there = key_there g (goal.at.returns-in-Occupied-clause-takes g c).In-Occupied in
     let k : Key = record { index = c.args.index; version = c.in-Occupied.version } in
-    let key = key-here slots _ (ap (λ m. m.pairs) c.self.view_is) c.args.index _ c.self.invariant _ _ there in
+    let key = key-here _ _ (ap (λ m. m.pairs) c.self.view_is) c.args.index _ c.self.invariant _ _ there in
     let is : g.K.Key.data_of c.from.result ≡ k =
     ap g.K.Key.data_of (g.met.K.Key.from_gives_key _ _ c.from.ensures) ∙ g.met.K.Key.from_data _ (rw c.exact.ensures key.0) ∙ c.exact.ensures in (
       ap (λ q. q.index) is,
       (
         subst (λ q. get c.args.self.now.pairs q ≡ Some c.in-Occupied.value) (sym is) key.1.0,
-        rw (c.replace.ensures.after, is, ← c.self.view_is) (content-clear slots _ k _ there),
+        rw (c.replace.ensures.after, is, ← c.self.view_is) (content-clear c.self.inside.slots.items _ k _ there),
       ),
     )
 

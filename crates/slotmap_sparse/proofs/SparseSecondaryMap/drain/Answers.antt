@@ -1,8 +1,10 @@
-use Rattle.slotmap_sparse.proofs.DrainLemmas.{Drain-keeps_along, Drain-lists}
+use Rattle.std.proofs.Common.{refl, ◌∙◌, arith}
+use Rattle.slotmap_core.proofs.SecondaryDrains.{kept_along, lists_taken}
+use Rattle.slotmap_sparse.specs.Drain.{drain_map, DrainKeeps, DrainSteps}
 use Rattle.slotmap_sparse.proofs.SparseSecondaryMap.drain.Goals as goal
 
 pub returns-clause-stays : goal.returns-clause-stays
-returns-clause-stays g c = Drain-keeps_along g.K.Key.data_of _
+returns-clause-stays g c = kept_along (DrainSteps g.K.Key.data_of) DrainKeeps (λ d. (refl, omega arith)) (λ _ _ _ item step rest. (rest.0 ∙ step.1.0, omega (arith, step.1.1, rest.1))) _
 
 pub returns-clause-lists : goal.returns-clause-lists
-returns-clause-lists g c = Drain-lists g.K.Key.data_of _
+returns-clause-lists g c = lists_taken g.K.Key.data_of (λ d. (drain_map d).pairs) (DrainSteps g.K.Key.data_of) (λ _ _ item step. step.0) _

@@ -1,12 +1,7 @@
-use Rattle.std.proofs.Common.{◌≡◌, map as map_list}
-use Rattle.slotmap_core.specs.Secondary.{get, bind}
-use Rattle.slotmap_core.proofs.SeveralLemmas.{Exchanged}
+use Rattle.std.proofs.Common.{map as map_list}
+use Rattle.slotmap_core.proofs.ReplaceLemmas.{Exchanging}
 use Rattle.slotmap_sparse.specs.Content.{IsContent}
 use Rattle.slotmap_sparse.proofs.SparseSecondaryMap.replace_disjoint.Given as goal
 
 abbrev pub invariant-loop-i : goal.invariant-loop-i
-invariant-loop-i g l = record {
-  keeps : l.self ≡ record l.fn.self { pairs = l.self.pairs };
-  well : IsContent l.self;
-  done : Exchanged get bind l.fn.self.pairs (map_list g.K.Key.data_of l.keys) l.initial.values l.self.pairs l.values l.i;
-}
+invariant-loop-i g l = Exchanging IsContent (λ c. c.pairs) (λ c m. record c { pairs = m }) l.fn.self (map_list g.K.Key.data_of l.keys) l.initial.values l.self l.values l.i

@@ -1,11 +1,11 @@
-use Rattle.std.proofs.Common.{◌≡◌, ℕ, List, Some, refl, sym, ap, subst, ◌∙◌, arith}
+use Rattle.std.proofs.Common.{◌≡◌, ℕ, List, Some, refl, sym, ap, subst, ◌∙◌}
 use Rattle.std.specs.FinMap as map
 use Rattle.slotmap_core.specs.Key.{Key, key_from}
 use Rattle.slotmap_core.specs.Secondary.{keyed}
 use Rattle.slotmap_core.specs.Retain.{MayCome}
 use Rattle.slotmap_core.proofs.KeyLemmas.{key_from-odd}
-use Rattle.slotmap_sparse.specs.Entries.{pairs_of, content_of, IsSound}
-use Rattle.slotmap_sparse.proofs.EntriesLemmas.{spare_room, well_formed}
+use Rattle.slotmap_sparse.specs.Entries.{pairs_of, IsSound}
+use Rattle.slotmap_sparse.proofs.EntriesLemmas.{more_room, well_formed}
 use Rattle.slotmap_sparse.proofs.WalkLemmas.{of_keys, valid_from}
 use Rattle.slotmap_sparse.proofs.RetainLemmas.{visited, comes_to, shown_at, retains_by}
 use Rattle.slotmap_sparse.proofs.SparseSecondaryMap.retain.Goals as goal
@@ -40,10 +40,7 @@ returns-clause-retained g c =
     retains_by g.F.FnMut g.K.Key.data_of _ (λ x. x.0) _ _ _ _ (ap (λ m. m.pairs) c.self.view_is) c.self.invariant.unique c.retain.ensures.unique done
 
 pub returns-clause-room : goal.returns-clause-room
-returns-clause-room g c =
-    let before = spare_room c.self.inside.slots c.args.self.now c.self.view_is c.self.invariant in
-    let after = spare_room c.retain.new.self (content_of c.retain.new.self) refl (invariant_of-self g c) in
-    omega (arith, before, after, c.retain.ensures.room.0)
+returns-clause-room g c = more_room c.self.inside.slots c.retain.new.self _ c.self.view_is c.self.invariant (invariant_of-self g c) c.retain.ensures.room.0
 
 pub returns-clause-valid : goal.returns-clause-valid
 returns-clause-valid g c = well_formed c.retain.new.self _ refl (invariant_of-self g c)

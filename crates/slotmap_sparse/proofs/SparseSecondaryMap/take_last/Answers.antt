@@ -1,8 +1,7 @@
-use Rattle.std.proofs.Common.{nat_eq, ◌++◌, None, IfSome, refl, ap, subst, ◌∙◌, arith}
+use Rattle.std.proofs.Common.{nat_eq, ◌++◌, None, IfSome, refl, ap, subst, ◌∙◌}
 use Rattle.std.specs.HashMap.{Updates}
 use Rattle.std.specs.Option.{option_to_list}
-use Rattle.slotmap_sparse.specs.Entries.{content_of}
-use Rattle.slotmap_sparse.proofs.EntriesLemmas.{spare_room, well_formed}
+use Rattle.slotmap_sparse.proofs.EntriesLemmas.{more_room, well_formed}
 use Rattle.slotmap_sparse.proofs.DrainLemmas.{value-popped, pairs-popped, IsSound-popped}
 use Rattle.slotmap_sparse.proofs.SparseSecondaryMap.take_last.Goals as goal
 
@@ -26,10 +25,7 @@ returns-clause-takes g c =
     )
 
 pub returns-clause-room : goal.returns-clause-room
-returns-clause-room g c =
-    let before = spare_room c.self.inside.slots c.args.self.now c.self.view_is c.self.invariant in
-    let after = spare_room c.pop.new.self (content_of c.pop.new.self) refl (invariant_of-self g c) in
-    omega (arith, before, after, c.pop.ensures.room.0)
+returns-clause-room g c = more_room c.self.inside.slots c.pop.new.self _ c.self.view_is c.self.invariant (invariant_of-self g c) c.pop.ensures.room.0
 
 pub returns-clause-valid : goal.returns-clause-valid
 returns-clause-valid g c = well_formed c.pop.new.self _ refl (invariant_of-self g c)

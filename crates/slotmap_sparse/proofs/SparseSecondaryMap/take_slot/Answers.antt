@@ -1,7 +1,6 @@
-use Rattle.std.proofs.Common.{refl, ap, ◌∙◌, arith}
+use Rattle.std.proofs.Common.{refl, ap, ◌∙◌}
 use Rattle.std.specs.FinMap as map
-use Rattle.slotmap_sparse.specs.Entries.{content_of}
-use Rattle.slotmap_sparse.proofs.EntriesLemmas.{IsSound-taken, pairs_taken, found_pair, spare_room, well_formed}
+use Rattle.slotmap_sparse.proofs.EntriesLemmas.{IsSound-taken, pairs_taken, found_pair, more_room, well_formed}
 use Rattle.slotmap_sparse.proofs.SparseSecondaryMap.take_slot.Goals as goal
 
 pub invariant_of-self : goal.invariant_of-self
@@ -18,10 +17,7 @@ returns-clause-removes g c =
     pairs_taken _ _ _ c.swap_remove.ensures.updates.0 ∙ (λ i. map.remove (c.self.view_is i).pairs (at i))
 
 pub returns-clause-room : goal.returns-clause-room
-returns-clause-room g c =
-    let before = spare_room c.self.inside.slots c.args.self.now c.self.view_is c.self.invariant in
-    let after = spare_room c.swap_remove.new.self (content_of c.swap_remove.new.self) refl (invariant_of-self g c) in
-    omega (arith, before, after, c.swap_remove.ensures.room.0)
+returns-clause-room g c = more_room c.self.inside.slots c.swap_remove.new.self _ c.self.view_is c.self.invariant (invariant_of-self g c) c.swap_remove.ensures.room.0
 
 pub returns-clause-valid : goal.returns-clause-valid
 returns-clause-valid g c = well_formed c.swap_remove.new.self _ refl (invariant_of-self g c)

@@ -7,9 +7,7 @@ use Rattle.slotmap_core.proofs.StandLemmas.{in_own, bind_twice}
 use Rattle.slotmap_sparse.proofs.entry.Entry.and_modify.Goals as goal
 
 pub returns-in-Occupied-clause-in_place : goal.returns-in-Occupied-clause-in_place
-returns-in-Occupied-clause-in_place g c =
-    let e = c.in-Occupied.entry in
-    in_own e.map.now.pairs (g.K.Key.data_of e.key) c.f.new.arg2
+returns-in-Occupied-clause-in_place g c = in_own c.in-Occupied.entry.map.now.pairs (g.K.Key.data_of c.in-Occupied.entry.key) c.f.new.arg2
 
 pub returns-in-Occupied-clause-same_writes : goal.returns-in-Occupied-clause-same_writes
 returns-in-Occupied-clause-same_writes g c w =
