@@ -1,14 +1,13 @@
 -- A map with no key: slot 0 alone.
-use Rattle.std.proofs.Common.{⊎_elim, ◌≡◌, zero, suc, List, [], ◌∷◌, refl, arith, ℕ, true}
+use Rattle.std.proofs.Common.{⊎_elim, ◌≡◌, zero, suc, List, [], ◌∷◌, refl, arith}
 use Rattle.slotmap_core.specs.Places.{Detached, Vacant}
 use Rattle.slotmap_core.proofs.GatherLemmas.{at_push}
 use Rattle.slotmap_hop.specs.declared.links.Slot.{Slot}
 use Rattle.slotmap_hop.specs.declared.links.State.TheVariants.{Free}
-use Rattle.slotmap_hop.specs.Links.{is_front, vacant_at, end_at, ListsOnce, NamesEnds, IsLinked}
+use Rattle.slotmap_hop.specs.Links.{is_front, vacant_at, end_at, ListsOnce, NamesEnds}
 use Rattle.slotmap_hop.proofs.Circle.{shut}
-use Rattle.slotmap_hop.specs.Slots.{layout, places_of, IsSound}
-use Rattle.slotmap_core.proofs.SlotGrowth.{IsSound-sentinel, taken-sentinel}
-use Rattle.slotmap_hop.proofs.SlotReads.{slot_cases}
+use Rattle.slotmap_hop.specs.Slots.{layout, IsSound}
+use Rattle.slotmap_core.proofs.SlotGrowth.{IsSound-sentinel}
 
 abbrev pub sentinel_alone : (V : Type 0) → List (Slot V)
 sentinel_alone V = record { version = 0; state = Free (record { next = 0; prev = 0; other_end = 0 }) } ∷ []

@@ -1,6 +1,6 @@
 -- What sound slots hold: their blocks, their places, and the content of the map.
 use mathlib.Core.Path.{fun_ext}
-use Rattle.std.proofs.Common.{◌≡◌, ◌≢◌, inl, ℕ, zero, suc, ◌+◌, ◌^◌, ◌<◌, ◌≤◌, Bool, true, false, eqb, ◌==◌, ◌||◌, List, [], ◌∷◌, ◌++◌, length, set, slice_get, Option, Some, refl, sym, ap, subst, ◌∙◌}
+use Rattle.std.proofs.Common.{◌≡◌, ◌≢◌, inl, ℕ, zero, suc, ◌+◌, ◌^◌, ◌<◌, ◌≤◌, Bool, true, false, eqb, ◌==◌, ◌||◌, List, [], ◌∷◌, ◌++◌, length, set, slice_get, Option, Some, refl, sym, ap, subst}
 use Rattle.std.proofs.Common.{arith, cond}
 use Rattle.std.proofs.lemmas.Bool.Decides.{nat_tests}
 use Rattle.std.proofs.lemmas.List.{length-set}
@@ -15,15 +15,14 @@ use Rattle.slotmap_core.proofs.ContentLemmas.{IsContent-stacked}
 use Rattle.slotmap_core.proofs.KeyLemmas.{keys_total, exact_keys}
 use Rattle.slotmap_hop.specs.declared.links.Links.{Links}
 use Rattle.slotmap_hop.specs.declared.links.Slot.{Slot}
-use Rattle.slotmap_hop.specs.declared.links.State.{State}
-use Rattle.slotmap_hop.specs.Blocks.{IsBlock, HasMaximalBlocks}
-use Rattle.slotmap_hop.specs.Links.{removed, is_vacant, is_front, ListsOnce, vacant_at, next_at, end_at, fronts_of, blocks_of, IsLinked}
+use Rattle.slotmap_hop.specs.Blocks.{HasMaximalBlocks}
+use Rattle.slotmap_hop.specs.Links.{removed, is_front, ListsOnce, vacant_at, next_at, end_at, fronts_of, blocks_of, IsLinked}
 use Rattle.slotmap_hop.specs.HopContent.{IsHopContent, counts_vacant}
 use Rattle.slotmap_hop.specs.Slots.{layout, places_of, next_place, offer_at, holding, hop_content, IsSound}
 use Rattle.slotmap_hop.proofs.Chain.{occurs-head}
 use Rattle.slotmap_hop.proofs.Steps.{listed_positive}
 use Rattle.slotmap_hop.proofs.Circle.{shown}
-use Rattle.slotmap_hop.proofs.SlotReads.{length-layout, length-places, slot_within, slot_cases}
+use Rattle.slotmap_hop.proofs.SlotReads.{length-layout, length-places, slot_cases}
 use Rattle.slotmap_hop.proofs.Taking.{first_block, offer_is_end, offer_is_back}
 use Rattle.slotmap_hop.proofs.Maximal.{maximal}
 use Rattle.slotmap_hop.proofs.StackOrder.{IsStacked-first, untold, IsContent-untold}
