@@ -1,14 +1,13 @@
 //! `SlotMap` held to rows.
 
-use crate::call::Words;
-use crate::detached::on_detached;
-use crate::held::{Held, Way, looked, written};
+use crate::held::Held;
+use crate::maps::Maps;
 use crate::walks::{
-    next_item, of_key, of_pair, of_taken, of_value, rest, stepped, write_both, write_end,
+    next_item, of_key, of_pair, of_taken, of_value, stepped, taken, walked, write_both, write_end,
     write_item, write_left, write_step,
 };
-use slotmap::{DefaultKey, OutOfMemory, ReserveError, SlotMap, SlotRecord, SlotsError};
-use slotmap_rows::{Counts, Number, Stop};
+use slotmap::{DefaultKey, OutOfMemory, ReserveError, SlotMap, SlotsError};
+use slotmap_rows::{Call, Exchanged, ExchangedTwo, Number, Slots, Stop, Way, looked, written};
 use std::alloc::{AllocError, Global};
 use std::mem;
 
@@ -20,11 +19,11 @@ impl<'a> Held<'a> for SlotMap<DefaultKey, Number<'a>> {
         }
     }
 
-    fn of_list(alloc: Global, list: Vec<SlotRecord<Number<'a>>>) -> Result<Self, SlotsError> {
+    fn of_list(alloc: Global, list: Slots<'a>) -> Result<Self, SlotsError> {
         SlotMap::from_slots(alloc, list)
     }
 
-    fn list(&self) -> Result<Vec<SlotRecord<Number<'a>>>, OutOfMemory> {
+    fn list(&self) -> Result<Slots<'a>, OutOfMemory> {
         self.to_slots()
     }
 
@@ -40,20 +39,11 @@ impl<'a> Held<'a> for SlotMap<DefaultKey, Number<'a>> {
         looked!(self, way, key)
     }
 
-    fn write(
-        &mut self,
-        way: Way,
-        key: DefaultKey,
-        value: Number<'a>,
-    ) -> Result<Number<'a>, Number<'a>> {
+    fn write(&mut self, way: Way, key: DefaultKey, value: Number<'a>) -> Exchanged<'a> {
         written!(self, way, key, value)
     }
 
-    fn replace_two(
-        &mut self,
-        keys: [DefaultKey; 2],
-        values: [Number<'a>; 2],
-    ) -> Result<[Number<'a>; 2], [Number<'a>; 2]> {
+    fn replace_two(&mut self, keys: [DefaultKey; 2], values: [Number<'a>; 2]) -> ExchangedTwo<'a> {
         self.replace_disjoint(keys, values)
     }
 
@@ -62,24 +52,19 @@ impl<'a> Held<'a> for SlotMap<DefaultKey, Number<'a>> {
     }
 
     fn walk_pairs(&self, steps: usize, reply: &mut String) -> Result<(), Stop> {
-        let mut walk = self.iter();
-        stepped!(walk, of_pair, steps, reply)?;
-        rest!(walk, of_pair, reply)
+        walked!(self.iter(), "pairs", of_pair, steps, reply)
     }
 
     fn walk_keys(&self, steps: usize, reply: &mut String) -> Result<(), Stop> {
-        let mut walk = self.keys();
-        stepped!(walk, of_key, steps, reply)?;
-        rest!(walk, of_key, reply)
+        walked!(self.keys(), "keys", of_key, steps, reply)
     }
 
     fn walk_values(&self, steps: usize, reply: &mut String) -> Result<(), Stop> {
-        let mut walk = self.values();
-        stepped!(walk, of_value, steps, reply)?;
-        rest!(walk, of_value, reply)
+        walked!(self.values(), "values", of_value, steps, reply)
     }
 
     fn walk_all(&self, reply: &mut String) -> Result<(), Stop> {
+        reply.push_str("pairs")?;
         for pair in self {
             write_item(reply, of_pair(pair))?;
         }
@@ -87,28 +72,18 @@ impl<'a> Held<'a> for SlotMap<DefaultKey, Number<'a>> {
     }
 
     fn drain_some(&mut self, steps: usize, reply: &mut String) -> Result<(), Stop> {
-        let mut drain = self.drain();
-        stepped!(drain, of_taken, steps, reply)
+        taken!(self.drain(), steps, reply)
     }
 
     fn take_some(self, steps: usize, reply: &mut String) -> Result<(), Stop> {
-        let mut walk = self.into_iter();
-        stepped!(walk, of_taken, steps, reply)
+        taken!(self.into_iter(), steps, reply)
     }
 
     fn take_all(self, steps: usize, reply: &mut String) -> Result<(), Stop> {
-        let mut walk = self.into_iter();
-        stepped!(walk, of_taken, steps, reply)?;
-        rest!(walk, of_taken, reply)
+        walked!(self.into_iter(), "pairs", of_taken, steps, reply)
     }
 
-    fn own(
-        &mut self,
-        counts: &'a Counts,
-        name: &str,
-        words: Words,
-        reply: &mut String,
-    ) -> Result<(), Stop> {
-        on_detached(self, counts, name, words, reply)
+    fn own(maps: &mut Maps<'a, Self>, call: &Call<'_>, reply: &mut String) -> Result<(), Stop> {
+        maps.on_detached(call, reply)
     }
 }

@@ -1,20 +1,9 @@
 //! A map that is held to rows.
 
-use crate::call::Words;
-use slotmap::{DefaultKey, OutOfMemory, ReserveError, SlotRecord, SlotsError};
-use slotmap_rows::{Counts, Number, Stop};
+use crate::maps::Maps;
+use slotmap::{DefaultKey, OutOfMemory, ReserveError, SlotsError};
+use slotmap_rows::{Call, Exchanged, ExchangedTwo, Number, Slots, Stop, Way};
 use std::alloc::{AllocError, Global};
-
-/// A way to the value of a live key.
-#[derive(Clone, Copy, PartialEq, Eq)]
-pub enum Way {
-    /// `get_mut`.
-    Get,
-    /// `Index` and `IndexMut`.
-    Index,
-    /// `get_unchecked` and `get_unchecked_mut`.
-    Unchecked,
-}
 
 /// What a map can do beside the calls of `Primary`. Each method makes the map's own call.
 ///
@@ -24,10 +13,10 @@ pub trait Held<'a>: Drop {
     fn made(alloc: Global, capacity: Option<usize>) -> Result<Self, ReserveError>;
 
     /// `from_slots`.
-    fn of_list(alloc: Global, list: Vec<SlotRecord<Number<'a>>>) -> Result<Self, SlotsError>;
+    fn of_list(alloc: Global, list: Slots<'a>) -> Result<Self, SlotsError>;
 
     /// `to_slots`.
-    fn list(&self) -> Result<Vec<SlotRecord<Number<'a>>>, OutOfMemory>;
+    fn list(&self) -> Result<Slots<'a>, OutOfMemory>;
 
     /// `clone`.
     fn copy(&self) -> Result<Self, AllocError>;
@@ -38,20 +27,11 @@ pub trait Held<'a>: Drop {
     /// The value of a key, or none where it is not live.
     fn look(&self, way: Way, key: DefaultKey) -> Option<u64>;
 
-    /// Exchanges the value of a key: the value before, or the given one where the key is not live.
-    fn write(
-        &mut self,
-        way: Way,
-        key: DefaultKey,
-        value: Number<'a>,
-    ) -> Result<Number<'a>, Number<'a>>;
+    /// Exchanges the value of a key.
+    fn write(&mut self, way: Way, key: DefaultKey, value: Number<'a>) -> Exchanged<'a>;
 
     /// `replace_disjoint` of two keys.
-    fn replace_two(
-        &mut self,
-        keys: [DefaultKey; 2],
-        values: [Number<'a>; 2],
-    ) -> Result<[Number<'a>; 2], [Number<'a>; 2]>;
+    fn replace_two(&mut self, keys: [DefaultKey; 2], values: [Number<'a>; 2]) -> ExchangedTwo<'a>;
 
     /// `replace_disjoint` of no key: whether it succeeds.
     fn replace_none(&mut self) -> bool;
@@ -78,46 +58,5 @@ pub trait Held<'a>: Drop {
     fn take_all(self, steps: usize, reply: &mut String) -> Result<(), Stop>;
 
     /// The calls that this map alone has, or this and another one.
-    fn own(
-        &mut self,
-        counts: &'a Counts,
-        name: &str,
-        words: Words,
-        reply: &mut String,
-    ) -> Result<(), Stop>;
+    fn own(maps: &mut Maps<'a, Self>, call: &Call<'_>, reply: &mut String) -> Result<(), Stop>;
 }
-
-/// The value of a live key, by a way to it.
-macro_rules! looked {
-    ($map:expr, $way:expr, $key:expr) => {{
-        if !$map.contains_key($key) {
-            return None;
-        }
-        Some(match $way {
-            Way::Index => $map[$key].value,
-            _ => $map.get_unchecked($key).value,
-        })
-    }};
-}
-
-/// Exchanges the value of a live key, by a way to it.
-macro_rules! written {
-    ($map:expr, $way:expr, $key:expr, $value:expr) => {{
-        if $way == Way::Get {
-            return match $map.get_mut($key) {
-                Some(place) => Ok(mem::replace(place, $value)),
-                None => Err($value),
-            };
-        }
-        if !$map.contains_key($key) {
-            return Err($value);
-        }
-        Ok(match $way {
-            Way::Index => mem::replace(&mut $map[$key], $value),
-            _ => mem::replace($map.get_unchecked_mut($key), $value),
-        })
-    }};
-}
-
-pub(crate) use looked;
-pub(crate) use written;

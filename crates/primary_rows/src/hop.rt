@@ -1,13 +1,15 @@
 //! `HopSlotMap` held to rows.
 
-use crate::call::{Mode, Words};
-use crate::held::{Held, Way, looked, written};
+use crate::held::Held;
+use crate::maps::Maps;
 use crate::walks::{
-    next_item, of_key, of_pair, of_taken, of_value, rest, stepped, write_both, write_end,
+    next_item, of_key, of_pair, of_taken, of_value, stepped, taken, walked, write_both, write_end,
     write_item, write_left, write_step,
 };
-use slotmap::{DefaultKey, HopSlotMap, OutOfMemory, ReserveError, SlotRecord, SlotsError};
-use slotmap_rows::{Counts, Number, Stop};
+use slotmap::{DefaultKey, HopSlotMap, OutOfMemory, ReserveError, SlotsError};
+use slotmap_rows::{
+    Call, Exchanged, ExchangedTwo, Mode, Number, Slots, Stop, Way, Words, looked, written,
+};
 use std::alloc::{AllocError, Global};
 use std::mem;
 
@@ -33,11 +35,11 @@ impl<'a> Held<'a> for HopSlotMap<DefaultKey, Number<'a>> {
         }
     }
 
-    fn of_list(alloc: Global, list: Vec<SlotRecord<Number<'a>>>) -> Result<Self, SlotsError> {
+    fn of_list(alloc: Global, list: Slots<'a>) -> Result<Self, SlotsError> {
         HopSlotMap::from_slots(alloc, list)
     }
 
-    fn list(&self) -> Result<Vec<SlotRecord<Number<'a>>>, OutOfMemory> {
+    fn list(&self) -> Result<Slots<'a>, OutOfMemory> {
         self.to_slots()
     }
 
@@ -53,20 +55,11 @@ impl<'a> Held<'a> for HopSlotMap<DefaultKey, Number<'a>> {
         looked!(self, way, key)
     }
 
-    fn write(
-        &mut self,
-        way: Way,
-        key: DefaultKey,
-        value: Number<'a>,
-    ) -> Result<Number<'a>, Number<'a>> {
+    fn write(&mut self, way: Way, key: DefaultKey, value: Number<'a>) -> Exchanged<'a> {
         written!(self, way, key, value)
     }
 
-    fn replace_two(
-        &mut self,
-        keys: [DefaultKey; 2],
-        values: [Number<'a>; 2],
-    ) -> Result<[Number<'a>; 2], [Number<'a>; 2]> {
+    fn replace_two(&mut self, keys: [DefaultKey; 2], values: [Number<'a>; 2]) -> ExchangedTwo<'a> {
         self.replace_disjoint(keys, values)
     }
 
@@ -75,24 +68,19 @@ impl<'a> Held<'a> for HopSlotMap<DefaultKey, Number<'a>> {
     }
 
     fn walk_pairs(&self, steps: usize, reply: &mut String) -> Result<(), Stop> {
-        let mut walk = self.iter();
-        stepped!(walk, of_pair, steps, reply)?;
-        rest!(walk, of_pair, reply)
+        walked!(self.iter(), "pairs", of_pair, steps, reply)
     }
 
     fn walk_keys(&self, steps: usize, reply: &mut String) -> Result<(), Stop> {
-        let mut walk = self.keys();
-        stepped!(walk, of_key, steps, reply)?;
-        rest!(walk, of_key, reply)
+        walked!(self.keys(), "keys", of_key, steps, reply)
     }
 
     fn walk_values(&self, steps: usize, reply: &mut String) -> Result<(), Stop> {
-        let mut walk = self.values();
-        stepped!(walk, of_value, steps, reply)?;
-        rest!(walk, of_value, reply)
+        walked!(self.values(), "values", of_value, steps, reply)
     }
 
     fn walk_all(&self, reply: &mut String) -> Result<(), Stop> {
+        reply.push_str("pairs")?;
         for pair in self {
             write_item(reply, of_pair(pair))?;
         }
@@ -100,38 +88,26 @@ impl<'a> Held<'a> for HopSlotMap<DefaultKey, Number<'a>> {
     }
 
     fn drain_some(&mut self, steps: usize, reply: &mut String) -> Result<(), Stop> {
-        let mut drain = self.drain();
-        stepped!(drain, of_taken, steps, reply)
+        taken!(self.drain(), steps, reply)
     }
 
     fn take_some(self, steps: usize, reply: &mut String) -> Result<(), Stop> {
-        let mut walk = self.into_iter();
-        stepped!(walk, of_taken, steps, reply)
+        taken!(self.into_iter(), steps, reply)
     }
 
     fn take_all(self, steps: usize, reply: &mut String) -> Result<(), Stop> {
-        let mut walk = self.into_iter();
-        stepped!(walk, of_taken, steps, reply)?;
-        rest!(walk, of_taken, reply)
+        walked!(self.into_iter(), "pairs", of_taken, steps, reply)
     }
 
-    fn own(
-        &mut self,
-        _counts: &'a Counts,
-        name: &str,
-        words: Words,
-        reply: &mut String,
-    ) -> Result<(), Stop> {
-        match (name, words) {
-            ("reads", Words::Bounded(Mode::Iter, steps, least, most)) => {
-                read!(self.iter(), steps, (least, most), reply)
-            }
-            ("reads", Words::Bounded(Mode::Keys, steps, least, most)) => {
-                read!(self.keys(), steps, (least, most), reply)
-            }
-            ("reads", Words::Bounded(Mode::Values, steps, least, most)) => {
-                read!(self.values(), steps, (least, most), reply)
-            }
+    fn own(maps: &mut Maps<'a, Self>, call: &Call<'_>, reply: &mut String) -> Result<(), Stop> {
+        let ("reads", Words::Bounded(walk, steps, least, most)) = (call.name, call.words) else {
+            return Err(Stop::Unknown);
+        };
+        let bounds = (least, most);
+        match walk {
+            Mode::Iter => read!(maps.map.iter(), steps, bounds, reply),
+            Mode::Keys => read!(maps.map.keys(), steps, bounds, reply),
+            Mode::Values => read!(maps.map.values(), steps, bounds, reply),
             _ => Err(Stop::Unknown),
         }
     }

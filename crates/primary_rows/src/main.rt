@@ -52,7 +52,6 @@
 #![tactic(auto)]
 
 mod basic;
-mod call;
 mod dense;
 mod detached;
 mod held;
@@ -72,11 +71,9 @@ use crate::held::Held;
 use crate::maps::Maps;
 use crate::runs::{Detachable, Plain, Runner, Runs};
 use slotmap::{DefaultKey, DenseSlotMap, HopSlotMap, Primary, SlotMap};
-use slotmap_rows::{Counts, Number, Stop, hold};
-use std::alloc::Global;
+use slotmap_rows::{File, Kinds, Number, Stop, run_program};
 use std::io::Write;
 use std::process::ExitCode;
-use std::{env, fs};
 
 type Basic<'a> = SlotMap<DefaultKey, Number<'a>>;
 
@@ -86,45 +83,35 @@ type Hop<'a> = HopSlotMap<DefaultKey, Number<'a>>;
 
 // Holds a map, on which each call is made, to the rows of a file: whether no result differs.
 fn hold_map<'a, M: Held<'a> + Primary<DefaultKey, Number<'a>>>(
-    alloc: Global,
-    counts: &'a Counts,
-    place: (&str, &str),
-    text: &str,
+    file: File<'a, '_>,
+    kind: &str,
     output: &mut impl Write,
 ) -> Result<bool, Stop> {
-    let mut maps: Maps<'a, M> = Maps::new(alloc, counts)?;
-    hold(alloc, &mut maps, counts, place, text, output)
+    let mut maps: Maps<'a, M> = Maps::new(file.supply)?;
+    file.hold(kind, &mut maps, output)
 }
 
 // The same of runs.
-fn hold_runs<'a, M: Drop, R: Runner<'a, M>>(
-    alloc: Global,
-    counts: &'a Counts,
-    place: (&str, &str),
-    text: &str,
+fn hold_runs<'a, M: Drop, C: Runner<'a, M>>(
+    file: File<'a, '_>,
+    kind: &str,
     output: &mut impl Write,
 ) -> Result<bool, Stop> {
-    let mut runs: Runs<'a, M, R> = Runs::new(alloc, counts)?;
-    hold(alloc, &mut runs, counts, place, text, output)
+    let mut runs: Runs<'a, M, C> = Runs::new(file.supply)?;
+    file.hold(kind, &mut runs, output)
 }
 
 // Holds a kind of map or of runs to the rows of a file.
-fn hold_kind(
-    alloc: Global,
-    counts: &Counts,
-    place: (&str, &str),
-    text: &str,
-    output: &mut impl Write,
-) -> Result<bool, Stop> {
-    match place.0 {
-        "basic" => hold_map::<Basic<'_>>(alloc, counts, place, text, output),
-        "dense" => hold_map::<Dense<'_>>(alloc, counts, place, text, output),
-        "hop" => hold_map::<Hop<'_>>(alloc, counts, place, text, output),
-        "run-basic" => hold_runs::<Basic<'_>, Plain>(alloc, counts, place, text, output),
-        "run-dense" => hold_runs::<Dense<'_>, Plain>(alloc, counts, place, text, output),
-        "run-hop" => hold_runs::<Hop<'_>, Plain>(alloc, counts, place, text, output),
-        "detaching-basic" => hold_runs::<Basic<'_>, Detachable>(alloc, counts, place, text, output),
-        _ => hold_runs::<Dense<'_>, Detachable>(alloc, counts, place, text, output),
+fn hold_kind(file: File<'_, '_>, kind: &str, output: &mut impl Write) -> Result<bool, Stop> {
+    match kind {
+        "basic" => hold_map::<Basic<'_>>(file, kind, output),
+        "dense" => hold_map::<Dense<'_>>(file, kind, output),
+        "hop" => hold_map::<Hop<'_>>(file, kind, output),
+        "run-basic" => hold_runs::<Basic<'_>, Plain<'_>>(file, kind, output),
+        "run-dense" => hold_runs::<Dense<'_>, Plain<'_>>(file, kind, output),
+        "run-hop" => hold_runs::<Hop<'_>, Plain<'_>>(file, kind, output),
+        "detaching-basic" => hold_runs::<Basic<'_>, Detachable<'_>>(file, kind, output),
+        _ => hold_runs::<Dense<'_>, Detachable<'_>>(file, kind, output),
     }
 }
 
@@ -139,39 +126,19 @@ const KINDS: [&str; 8] = [
     "detaching-dense",
 ];
 
-// Holds all kinds to the rows of a file.
-fn hold_file(
-    alloc: Global,
-    counts: &Counts,
-    file: &str,
-    text: &str,
-    output: &mut impl Write,
-) -> Result<bool, Stop> {
-    let mut is_well = true;
-    for kind in KINDS {
-        is_well = hold_kind(alloc, counts, (kind, file), text, output)? && is_well;
-    }
-    Ok(is_well)
-}
+// All kinds.
+struct All;
 
-// Holds all kinds to the rows of the files that the arguments name.
-fn hold_files(rt: &HostRuntime, output: &mut impl Write) -> Result<bool, Stop> {
-    let counts = Counts::new();
-    let mut is_well = true;
-    for file in env::args(rt)?.skip(1) {
-        let text = fs::read_to_string(rt, file.as_str()).map_err(|_| Stop::Input)?;
-        let is_same = hold_file(rt.alloc(), &counts, file.as_str(), text.as_str(), output)?;
-        is_well = is_same && is_well;
+impl Kinds for All {
+    fn hold_all(&self, file: File<'_, '_>, output: &mut impl Write) -> Result<bool, Stop> {
+        let mut is_well = true;
+        for kind in KINDS {
+            is_well = hold_kind(file, kind, output)? && is_well;
+        }
+        Ok(is_well)
     }
-    output.flush()?;
-    Ok(is_well)
 }
 
 fn main(rt: HostRuntime) -> ExitCode {
-    let mut output = rt.stdout();
-    match hold_files(&rt, &mut output) {
-        Ok(true) => ExitCode::SUCCESS,
-        Ok(false) => ExitCode::from(1),
-        Err(_) => ExitCode::from(3),
-    }
+    run_program(&rt, &All, &mut rt.stdout())
 }

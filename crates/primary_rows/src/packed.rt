@@ -1,33 +1,62 @@
 //! Calls that `DenseSlotMap` alone has.
 
-use crate::call::Words;
-use crate::detached::on_detached;
+use crate::maps::Maps;
 use crate::walks::{Item, next_item, of_value, stepped, write_item, write_left, write_step};
 use slotmap::{DefaultKey, DenseSlotMap};
-use slotmap_rows::{Counts, Number, Stop, write_keys, write_pair};
+use slotmap_rows::{Call, Number, Stop, Words, write_keys, write_pair};
 use std::mem;
 
 type Map<'a> = DenseSlotMap<DefaultKey, Number<'a>>;
 
-/// The calls that lend values for writing, or the next ones.
-pub fn on_packed<'a>(
-    map: &mut Map<'a>,
-    counts: &'a Counts,
-    name: &str,
-    words: Words,
-    reply: &mut String,
-) -> Result<(), Stop> {
-    match (name, words) {
-        ("iter_mut", Words::Number(steps)) => iter_mut(map, steps as usize, reply),
-        ("values_mut", Words::Number(steps)) => values_mut(map, steps as usize, reply),
-        ("for_mut", Words::Nothing) => for_mut(map, reply),
-        ("get_disjoint_mut", Words::Keys(first, second)) => {
-            swap_two(map, [first, second], reply)
+impl<'a> Maps<'a, Map<'a>> {
+    /// The calls that lend values for writing, or the next ones.
+    pub fn on_packed(&mut self, call: &Call<'_>, reply: &mut String) -> Result<(), Stop> {
+        match (call.name, call.words) {
+            ("iter_mut", Words::Number(steps)) => iter_mut(&mut self.map, steps as usize, reply),
+            ("values_mut", Words::Number(steps)) => {
+                values_mut(&mut self.map, steps as usize, reply)
+            }
+            ("for_mut", Words::Nothing) => for_mut(&mut self.map, reply),
+            ("get_disjoint_mut", Words::Keys(first, second)) => {
+                swap_two(&mut self.map, [first, second], reply)
+            }
+            ("get_disjoint_unchecked_mut", Words::Keys(first, second)) => {
+                swap_unchecked(&mut self.map, first, second, reply)
+            }
+            _ => self.on_slices(call, reply),
         }
-        ("get_disjoint_unchecked_mut", Words::Keys(first, second)) => {
-            swap_unchecked(map, first, second, reply)
+    }
+
+    // The calls on slices.
+    fn on_slices(&mut self, call: &Call<'_>, reply: &mut String) -> Result<(), Stop> {
+        match (call.name, call.words) {
+            ("keys_as_slice", Words::Nothing) => write_keys(reply, self.map.keys_as_slice())?,
+            ("values_as_slice", Words::Nothing) => {
+                write_values(reply, self.map.values_as_slice())?;
+            }
+            ("as_slices", Words::Nothing) => {
+                let (keys, values) = self.map.as_slices();
+                write_slices(reply, keys, values)?;
+            }
+            ("values_as_mut_slice", Words::Numbers(position, value)) => {
+                let value = self.supply.number(value);
+                put(
+                    self.map.values_as_mut_slice(),
+                    position as usize,
+                    value,
+                    reply,
+                )?;
+            }
+            ("as_mut_slices", Words::Numbers(position, value)) => {
+                let value = self.supply.number(value);
+                let (keys, values) = self.map.as_mut_slices();
+                write_keys(reply, keys)?;
+                reply.push_str(", ")?;
+                put(values, position as usize, value, reply)?;
+            }
+            _ => return self.on_detached(call, reply),
         }
-        _ => on_slices(map, counts, name, words, reply),
+        Ok(())
     }
 }
 
@@ -99,37 +128,6 @@ fn swap_unchecked(
     }
     let (first, second) = map.get_disjoint_unchecked_mut([first, second]);
     swap(first, second, reply)
-}
-
-// The calls on slices.
-fn on_slices<'a>(
-    map: &mut Map<'a>,
-    counts: &'a Counts,
-    name: &str,
-    words: Words,
-    reply: &mut String,
-) -> Result<(), Stop> {
-    match (name, words) {
-        ("keys_as_slice", Words::Nothing) => write_keys(reply, map.keys_as_slice())?,
-        ("values_as_slice", Words::Nothing) => write_values(reply, map.values_as_slice())?,
-        ("as_slices", Words::Nothing) => {
-            let (keys, values) = map.as_slices();
-            write_slices(reply, keys, values)?;
-        }
-        ("values_as_mut_slice", Words::Numbers(position, value)) => {
-            let value = Number::new(counts, value);
-            put(map.values_as_mut_slice(), position as usize, value, reply)?;
-        }
-        ("as_mut_slices", Words::Numbers(position, value)) => {
-            let value = Number::new(counts, value);
-            let (keys, values) = map.as_mut_slices();
-            write_keys(reply, keys)?;
-            reply.push_str(", ")?;
-            put(values, position as usize, value, reply)?;
-        }
-        _ => return on_detached(map, counts, name, words, reply),
-    }
-    Ok(())
 }
 
 fn write_values(reply: &mut String, values: &[Number<'_>]) -> Result<(), Stop> {

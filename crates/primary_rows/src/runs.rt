@@ -1,53 +1,80 @@
 //! Runs of commands held to rows.
 
-use crate::call::{Words, read_words};
 use crate::inserts::{Made, make};
-use crate::many::keep_even;
-use crate::steps::{Answer, Step, detach_command, plain_command, read_step, write_answer};
+use crate::steps::{Answer, Step, plain_command, read_step, write_answer};
 use slotmap::{
-    DefaultKey, Detaching, Primary, Reply, run, run_detaching, run_detaching_new, run_new,
+    Command, DefaultKey, DetachCommand, Detaching, Primary, Reply, run, run_detaching,
+    run_detaching_new, run_new,
 };
-use slotmap_rows::{Counts, Number, Stop, Subject, Word, look};
-use std::alloc::Global;
+use slotmap_rows::{Call, Number, Stop, Subject, Supply, Word, Words, keep_even, look};
 use std::marker::PhantomData;
 
-/// The ways to run commands on maps of one kind.
-pub trait Runner<'a, M> {
-    /// On a new map.
-    fn run_new(
-        alloc: Global,
-        counts: &'a Counts,
-        steps: &[Step],
-    ) -> Result<(M, Vec<Answer<'a>>), Stop>;
+type Answers<'a> = Vec<Answer<'a>>;
 
-    /// On the map of an earlier run.
-    fn run(
-        alloc: Global,
-        counts: &'a Counts,
-        map: &mut M,
-        steps: &[Step],
-    ) -> Result<Vec<Answer<'a>>, Stop>;
+/// A command that is run on maps of one kind.
+pub trait Runner<'a, M>: Sized + Drop {
+    /// The command of a step, where there is one.
+    fn of_step(supply: Supply<'a>, step: &Step) -> Option<Self>;
+
+    /// Runs commands on a new map; none where memory runs out.
+    fn run_new(supply: Supply<'a>, commands: Vec<Self>) -> Option<(M, Answers<'a>)>;
+
+    /// The same on the map of an earlier run.
+    fn run(supply: Supply<'a>, map: &mut M, commands: Vec<Self>) -> Option<Answers<'a>>;
 }
 
-/// `run_new` and `run`.
-pub struct Plain;
+/// A command of `run_new` and `run`.
+pub type Plain<'a> = Command<DefaultKey, Number<'a>>;
 
-/// `run_detaching_new` and `run_detaching`.
-pub struct Detachable;
+/// A command of `run_detaching_new` and `run_detaching`.
+pub type Detachable<'a> = DetachCommand<DefaultKey, Number<'a>>;
+
+impl<'a, M: Primary<DefaultKey, Number<'a>>> Runner<'a, M> for Plain<'a> {
+    fn of_step(supply: Supply<'a>, step: &Step) -> Option<Self> {
+        match step {
+            DetachCommand::Plain(step) => Some(plain_command(supply, step)),
+            _ => None,
+        }
+    }
+
+    fn run_new(supply: Supply<'a>, commands: Vec<Self>) -> Option<(M, Answers<'a>)> {
+        let made = |key| make(supply, Made::Key, key);
+        run_new(supply.alloc, commands, look, keep_even, made).ok()
+    }
+
+    fn run(supply: Supply<'a>, map: &mut M, commands: Vec<Self>) -> Option<Answers<'a>> {
+        let made = |key| make(supply, Made::Key, key);
+        run(supply.alloc, map, commands, look, keep_even, made).ok()
+    }
+}
+
+impl<'a, M: Detaching<DefaultKey, Number<'a>>> Runner<'a, M> for Detachable<'a> {
+    fn of_step(supply: Supply<'a>, step: &Step) -> Option<Self> {
+        Some(match step {
+            DetachCommand::Plain(step) => DetachCommand::Plain(plain_command(supply, step)),
+            DetachCommand::Detach(key) => DetachCommand::Detach(*key),
+            DetachCommand::Reattach(key, value) => {
+                DetachCommand::Reattach(*key, supply.number(*value))
+            }
+        })
+    }
+
+    fn run_new(supply: Supply<'a>, commands: Vec<Self>) -> Option<(M, Answers<'a>)> {
+        let made = |key| make(supply, Made::Key, key);
+        run_detaching_new(supply.alloc, commands, look, keep_even, made).ok()
+    }
+
+    fn run(supply: Supply<'a>, map: &mut M, commands: Vec<Self>) -> Option<Answers<'a>> {
+        let made = |key| make(supply, Made::Key, key);
+        run_detaching(supply.alloc, map, commands, look, keep_even, made).ok()
+    }
+}
 
 // The commands of the steps, each of which has one.
-fn commands<C: Drop, F: FnMut(Step) -> Option<C>>(
-    alloc: Global,
-    steps: &[Step],
-    mut read: F,
-) -> Result<Vec<C>, Stop>
-where
-    F: Drop,
-    requires { F.IsAlwaysCallable read }
-{
-    let mut commands = Vec::new(alloc);
+fn commands<'a, M, C: Runner<'a, M>>(supply: Supply<'a>, steps: &[Step]) -> Result<Vec<C>, Stop> {
+    let mut commands = Vec::new(supply.alloc);
     for step in steps {
-        match read(*step) {
+        match C::of_step(supply, step) {
             Some(command) => commands.push(command)?,
             None => return Err(Stop::Unknown),
         }
@@ -55,105 +82,60 @@ where
     Ok(commands)
 }
 
-impl<'a, M: Primary<DefaultKey, Number<'a>>> Runner<'a, M> for Plain {
-    fn run_new(
-        alloc: Global,
-        counts: &'a Counts,
-        steps: &[Step],
-    ) -> Result<(M, Vec<Answer<'a>>), Stop> {
-        let commands = commands(alloc, steps, |step| plain_command(counts, step))?;
-        let made = run_new(alloc, commands, look, keep_even, |key| {
-            make(counts, Made::Key, key)
-        });
-        made.map_err(|_| Stop::Memory)
-    }
-
-    fn run(
-        alloc: Global,
-        counts: &'a Counts,
-        map: &mut M,
-        steps: &[Step],
-    ) -> Result<Vec<Answer<'a>>, Stop> {
-        let commands = commands(alloc, steps, |step| plain_command(counts, step))?;
-        let replies = run(alloc, map, commands, look, keep_even, |key| {
-            make(counts, Made::Key, key)
-        });
-        replies.map_err(|_| Stop::Memory)
-    }
+// Runs steps on a new map.
+fn run_steps<'a, M, C: Runner<'a, M>>(
+    supply: Supply<'a>,
+    steps: &[Step],
+) -> Result<(M, Answers<'a>), Stop> {
+    let commands = commands::<M, C>(supply, steps)?;
+    C::run_new(supply, commands).ok_or(Stop::Memory)
 }
 
-impl<'a, M: Detaching<DefaultKey, Number<'a>>> Runner<'a, M> for Detachable {
-    fn run_new(
-        alloc: Global,
-        counts: &'a Counts,
-        steps: &[Step],
-    ) -> Result<(M, Vec<Answer<'a>>), Stop> {
-        let commands = commands(alloc, steps, |step| detach_command(counts, step))?;
-        let made = run_detaching_new(alloc, commands, look, keep_even, |key| {
-            make(counts, Made::Key, key)
-        });
-        made.map_err(|_| Stop::Memory)
-    }
-
-    fn run(
-        alloc: Global,
-        counts: &'a Counts,
-        map: &mut M,
-        steps: &[Step],
-    ) -> Result<Vec<Answer<'a>>, Stop> {
-        let commands = commands(alloc, steps, |step| detach_command(counts, step))?;
-        let replies = run_detaching(alloc, map, commands, look, keep_even, |key| {
-            make(counts, Made::Key, key)
-        });
-        replies.map_err(|_| Stop::Memory)
-    }
-}
-
-/// The commands of a row, and the map of its last run. `looks` gives how often that run called
-/// `look`.
+/// The commands of a row, run as those of type `C`, and the map of its last run. `looks` gives how
+/// often that run called `look`.
 #[derive(Drop)]
-pub struct Runs<'a, M, R> {
-    alloc: Global,
-    counts: &'a Counts,
+pub struct Runs<'a, M, C> {
+    supply: Supply<'a>,
     steps: Vec<Step>,
     map: Option<M>,
     // The reply after two runs.
     again: String,
-    runner: PhantomData<R>,
+    commands: PhantomData<C>,
 }
 
-impl<'a, M: Drop, R: Runner<'a, M>> Runs<'a, M, R> {
+impl<'a, M: Drop, C: Runner<'a, M>> Runs<'a, M, C> {
     /// No command yet.
-    pub fn new(alloc: Global, counts: &'a Counts) -> Result<Runs<'a, M, R>, Stop> {
-        let mut again = String::new(alloc);
+    pub fn new(supply: Supply<'a>) -> Result<Runs<'a, M, C>, Stop> {
+        let mut again = String::new(supply.alloc);
         again.reserve(100000)?;
         Ok(Runs {
-            alloc,
-            counts,
-            steps: Vec::new(alloc),
+            supply,
+            steps: Vec::new(supply.alloc),
             map: None,
             again,
-            runner: PhantomData,
+            commands: PhantomData,
         })
     }
 
     // Runs all commands of the row on a new map, and once more in two runs: writes the last reply.
     fn run_all(&mut self, reply: &mut String) -> Result<(), Stop> {
-        self.counts.begin_looks();
-        let (map, replies) = R::run_new(self.alloc, self.counts, &self.steps)?;
+        let (supply, counts) = (self.supply, self.supply.counts);
+        counts.begin_looks();
+        let (map, replies) = run_steps::<M, C>(supply, &self.steps)?;
         write_last(reply, &replies, self.steps.len())?;
-        let looks = self.counts.looks();
-        self.counts.begin_looks();
+        let looks = counts.looks();
+        counts.begin_looks();
         let (first, second) = self.steps.split_at(self.steps.len() / 2);
-        let (mut other, replies) = R::run_new(self.alloc, self.counts, first)?;
+        let (mut other, replies) = run_steps::<M, C>(supply, first)?;
         all_served(&replies)?;
-        let replies = R::run(self.alloc, self.counts, &mut other, second)?;
+        let commands = commands::<M, C>(supply, second)?;
+        let replies = C::run(supply, &mut other, commands).ok_or(Stop::Memory)?;
         self.again.clear();
         write_last(&mut self.again, &replies, second.len())?;
         if reply.as_str() != self.again.as_str() {
             write!(reply, " and by two runs {}", self.again)?;
         }
-        if looks != self.counts.looks() {
+        if looks != counts.looks() {
             write!(reply, " and by two runs another number of looks")?;
         }
         self.map = Some(map);
@@ -161,17 +143,18 @@ impl<'a, M: Drop, R: Runner<'a, M>> Runs<'a, M, R> {
     }
 
     // Adds the commands of a call, and runs all. `looks` adds none.
-    fn add(&mut self, name: &str, words: Words, reply: &mut String) -> Result<(), Stop> {
-        match (name, words) {
-            ("looks", Words::Nothing) => return Ok(write!(reply, "{}", self.counts.looks())?),
+    fn add(&mut self, call: &Call<'_>, reply: &mut String) -> Result<(), Stop> {
+        match (call.name, call.words) {
+            ("looks", Words::Nothing) => {
+                return Ok(write!(reply, "{}", self.supply.counts.looks())?);
+            }
             ("insert_many", Words::Number(count)) => {
                 for value in 0..count {
-                    self.steps.push(Step::Insert(value.wrapping_add(1)))?;
+                    let command = Command::Insert(value.wrapping_add(1));
+                    self.steps.push(DetachCommand::Plain(command))?;
                 }
             }
-            _ => self
-                .steps
-                .push(read_step(name, words).ok_or(Stop::Unknown)?)?,
+            _ => self.steps.push(read_step(call).ok_or(Stop::Unknown)?)?,
         }
         self.run_all(reply)
     }
@@ -199,16 +182,21 @@ fn write_last(reply: &mut String, replies: &[Answer<'_>], count: usize) -> Resul
     }
 }
 
-impl<'a, M: Drop, R: Runner<'a, M>> Subject for Runs<'a, M, R> {
+impl<'a, M: Drop, C: Runner<'a, M>> Subject for Runs<'a, M, C> {
     fn begin(&mut self) -> Result<(), Stop> {
         self.steps.clear();
         self.map = None;
         Ok(())
     }
 
-    fn call(&mut self, name: &str, words: &[Word<'_>], reply: &mut String) -> Result<(), Stop> {
+    fn call(
+        &mut self,
+        call: &Call<'_>,
+        _list: &[Word<'_>],
+        reply: &mut String,
+    ) -> Result<(), Stop> {
         let before = self.steps.len();
-        let added = self.add(name, read_words(words), reply);
+        let added = self.add(call, reply);
         if added.is_err() {
             self.steps.truncate(before);
         }

@@ -1,7 +1,7 @@
 //! Iterators, step by step.
 
 use slotmap::DefaultKey;
-use slotmap_rows::{Number, Stop, write_key, write_keys, write_pair, write_pairs};
+use slotmap_rows::{Number, SHOWN, Stop, write_key, write_pair};
 use std::alloc::AllocError;
 
 /// What an iterator yields, with the number of a value.
@@ -29,9 +29,6 @@ pub fn of_taken(pair: (DefaultKey, Number<'_>)) -> Item {
     Item::Pair(pair.0, pair.1.value)
 }
 
-/// How many items a result shows at most; of more it says how many they are.
-pub const SHOWN: usize = 1000;
-
 /// Writes a blank and an item.
 pub fn write_item(reply: &mut String, item: Item) -> Result<(), AllocError> {
     match item {
@@ -41,27 +38,6 @@ pub fn write_item(reply: &mut String, item: Item) -> Result<(), AllocError> {
         }
         Item::Value(value) => write!(reply, " {value}"),
         Item::Pair(key, value) => write_pair(reply, key, value),
-    }
-}
-
-/// Writes `keys`, and each key, or how many they are.
-pub fn write_all_keys(reply: &mut String, keys: &[DefaultKey]) -> Result<(), AllocError> {
-    if keys.len() > SHOWN {
-        write!(reply, "keys ({})", keys.len())
-    } else {
-        write_keys(reply, keys)
-    }
-}
-
-/// Writes `pairs`, and each pair, or how many they are.
-pub fn write_all_pairs(
-    reply: &mut String,
-    pairs: &[(DefaultKey, Number<'_>)],
-) -> Result<(), AllocError> {
-    if pairs.len() > SHOWN {
-        write!(reply, "pairs ({})", pairs.len())
-    } else {
-        write_pairs(reply, pairs)
     }
 }
 
@@ -137,24 +113,37 @@ macro_rules! stepped {
     }};
 }
 
-/// Writes the rest of an iterator, which a clone has to yield too.
-macro_rules! rest {
-    ($walk:ident, $item:ident, $reply:expr) => {{
-        let mut copy = $walk.clone()?;
+/// The same of an iterator over pairs that were taken out, which is then dropped.
+macro_rules! taken {
+    ($walk:expr, $steps:expr, $reply:expr) => {{
+        $reply.push_str("pairs")?;
+        let mut walk = $walk;
+        stepped!(walk, of_taken, $steps, $reply)
+    }};
+}
+
+/// The same of any iterator, and the rest of it, which a clone has to yield too.
+macro_rules! walked {
+    ($walk:expr, $name:expr, $item:ident, $steps:expr, $reply:expr) => {{
+        $reply.push_str($name)?;
+        let mut walk = $walk;
+        stepped!(walk, $item, $steps, $reply)?;
+        let mut copy = walk.clone()?;
         let mut is_same = true;
-        for _ in 0..$walk.len() {
-            let item = next_item!($walk, $item);
+        for _ in 0..walk.len() {
+            let item = next_item!(walk, $item);
             let other = next_item!(copy, $item);
             if !write_both($reply, item, other) {
                 is_same = false;
                 break;
             }
         }
-        let is_over = $walk.next().is_none();
+        let is_over = walk.next().is_none();
         write_end($reply, is_same, is_over)
     }};
 }
 
 pub(crate) use next_item;
-pub(crate) use rest;
 pub(crate) use stepped;
+pub(crate) use taken;
+pub(crate) use walked;

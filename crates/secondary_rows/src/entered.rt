@@ -1,27 +1,52 @@
 //! Calls on the entry of a key.
 
-use crate::held::{Change, Held, Put, Told};
+use crate::held::{Change, Given, Held, Pair, Put, Told};
 use crate::maps::Maps;
 use slotmap::{DefaultKey, Key, Secondary};
 use slotmap_rows::{Number, Stop, write_key, write_option, write_pair};
 
-/// The calls on an entry.
-pub fn on_entry<'a, M: Held<'a, H> + Secondary<DefaultKey, Number<'a>>, H: Copy>(
-    maps: &mut Maps<'a, M, H>,
-    name: &str,
-    key: DefaultKey,
-    reply: &mut String,
-) -> Result<(), Stop> {
-    let change = match name {
-        "entry" => return write_told(reply, maps.map.tell(key)?),
-        "try_entry" => return write_told(reply, maps.map.try_tell(key)?),
-        "entry_key" => return write_entry_key(reply, maps.map.entry_key(key)?),
-        "entry_into_mut" => Change::Double,
-        "entry_remove" => Change::Remove,
-        "entry_remove_entry" => Change::RemoveEntry,
-        _ => return Err(Stop::Unknown),
-    };
-    write_change(reply, name, maps.map.change_by_entry(change, key, 0)?)
+impl<'a, M: Held<'a, H> + Secondary<DefaultKey, Number<'a>>, H: Copy> Maps<'a, M, H> {
+    /// The calls on an entry.
+    pub fn enter(&mut self, name: &str, key: DefaultKey, reply: &mut String) -> Result<(), Stop> {
+        let change = match name {
+            "entry" => return write_told(reply, self.map.tell(key)?),
+            "try_entry" => return write_told(reply, self.map.try_tell(key)?),
+            "entry_key" => return write_entry_key(reply, self.map.entry_key(key)?),
+            "entry_into_mut" => Change::Double,
+            "entry_remove" => Change::Remove,
+            "entry_remove_entry" => Change::RemoveEntry,
+            _ => return Err(Stop::Unknown),
+        };
+        write_change(reply, name, self.map.change_by_entry(change, key, 0)?)
+    }
+
+    /// The calls on an entry with a value.
+    pub fn enter_pair(&mut self, name: &str, pair: Pair, reply: &mut String) -> Result<(), Stop> {
+        let (key, value) = pair;
+        let put = match name {
+            "or_insert" => Put::OrInsert,
+            "or_insert_with" => Put::OrInsertWith,
+            "and_modify" => Put::AddOrInsert,
+            "entry_insert" => Put::Insert,
+            "entry_get_mut" => {
+                let before = self.map.change_by_entry(Change::Write, key, value)?;
+                return write_change(reply, name, before);
+            }
+            _ => return Err(Stop::Unknown),
+        };
+        let supply = self.supply;
+        let mut given = Given {
+            supply,
+            value,
+            calls: 0,
+        };
+        match self.map.put_by_entry(put, key, &mut given) {
+            Ok(stored) => write_option(reply, stored)?,
+            Err(Stop::Memory) if given.calls > 0 => reply.push_str("refused")?,
+            Err(stop) => return Err(stop),
+        }
+        write_calls(reply, name, given.calls)
+    }
 }
 
 // Writes what an entry is.
@@ -43,11 +68,7 @@ fn write_entry_key(reply: &mut String, key: Option<DefaultKey>) -> Result<(), St
 }
 
 // Writes the value before, with its key where the call gives that too.
-fn write_change(
-    reply: &mut String,
-    name: &str,
-    before: Option<(DefaultKey, u64)>,
-) -> Result<(), Stop> {
+fn write_change(reply: &mut String, name: &str, before: Option<Pair>) -> Result<(), Stop> {
     let Some((key, value)) = before else {
         return Ok(reply.push_str("not occupied")?);
     };
@@ -58,37 +79,6 @@ fn write_change(
         write!(reply, "{value}")?;
     }
     Ok(())
-}
-
-/// The calls on an entry with a value.
-pub fn on_entry_with_value<'a, M: Held<'a, H> + Secondary<DefaultKey, Number<'a>>, H: Copy>(
-    maps: &mut Maps<'a, M, H>,
-    name: &str,
-    put: (DefaultKey, u64),
-    reply: &mut String,
-) -> Result<(), Stop> {
-    let (key, value) = put;
-    let put = match name {
-        "or_insert" => Put::OrInsert,
-        "or_insert_with" => Put::OrInsertWith,
-        "and_modify" => Put::AddOrInsert,
-        "entry_insert" => Put::Insert,
-        "entry_get_mut" => {
-            let before = maps.map.change_by_entry(Change::Write, key, value)?;
-            return write_change(reply, name, before);
-        }
-        _ => return Err(Stop::Unknown),
-    };
-    let mut calls = 0;
-    match maps
-        .map
-        .put_by_entry(put, key, (maps.counts, value), &mut calls)
-    {
-        Ok(stored) => write_option(reply, stored)?,
-        Err(Stop::Memory) if calls > 0 => reply.push_str("refused")?,
-        Err(stop) => return Err(stop),
-    }
-    write_calls(reply, name, calls)
 }
 
 // Writes how often the closure was called.

@@ -1,8 +1,8 @@
 //! Hashers of a sparse map.
 
 use slotmap::sparse_secondary::DefaultHasher;
-use slotmap::{DefaultKey, ReserveError, SlotRecord, SlotsError, SparseSecondaryMap};
-use slotmap_rows::Number;
+use slotmap::{DefaultKey, ReserveError, SlotsError, SparseSecondaryMap};
+use slotmap_rows::{Number, Slots};
 use std::alloc::Global;
 use std::collections::hash_map::RandomState;
 use std::hash::{BuildHasher, Hasher};
@@ -13,65 +13,47 @@ pub type Sparse<'a, S> = SparseSecondaryMap<DefaultKey, Number<'a>, S>;
 /// Pairs that are put into a map.
 pub type Pairs<'a> = Vec<(DefaultKey, Number<'a>)>;
 
+/// What a call that makes a map gives.
+pub type Made<M> = Result<M, ReserveError>;
+
+/// What `from_iter` gives: a map, or why it fails, with the pair that wasn't put.
+pub type OfPairs<'a, M> = Result<M, Option<(DefaultKey, Number<'a>)>>;
+
 /// A hasher, with the calls that make a map of it: those that take a hasher, and in their place
 /// those that take none for the default hasher.
 pub trait Seed: BuildHasher + Copy + Drop {
     /// `with_hasher`, or `with_capacity_and_hasher`.
-    fn made<'a>(
-        self,
-        alloc: Global,
-        capacity: Option<usize>,
-    ) -> Result<Sparse<'a, Self>, ReserveError> {
-        match capacity {
+    fn made<'a>(self, alloc: Global, room: Option<usize>) -> Made<Sparse<'a, Self>> {
+        match room {
             None => SparseSecondaryMap::with_hasher(alloc, self),
             Some(capacity) => SparseSecondaryMap::with_capacity_and_hasher(alloc, capacity, self),
         }
     }
 
     /// `from_slots_with_hasher`.
-    fn of_list<'a>(
-        self,
-        alloc: Global,
-        list: Vec<SlotRecord<Number<'a>>>,
-    ) -> Result<Sparse<'a, Self>, SlotsError> {
+    fn of_list<'a>(self, alloc: Global, list: Slots<'a>) -> Result<Sparse<'a, Self>, SlotsError> {
         SparseSecondaryMap::from_slots_with_hasher(alloc, list, self)
     }
 
     /// `from_iter_with_hasher`.
-    fn of_pairs<'a>(
-        self,
-        alloc: Global,
-        pairs: Pairs<'a>,
-    ) -> Result<Sparse<'a, Self>, Option<(DefaultKey, Number<'a>)>> {
+    fn of_pairs<'a>(self, alloc: Global, pairs: Pairs<'a>) -> OfPairs<'a, Sparse<'a, Self>> {
         SparseSecondaryMap::from_iter_with_hasher(alloc, pairs, self)
     }
 }
 
 impl Seed for DefaultHasher {
-    fn made<'a>(
-        self,
-        alloc: Global,
-        capacity: Option<usize>,
-    ) -> Result<Sparse<'a, Self>, ReserveError> {
-        match capacity {
+    fn made<'a>(self, alloc: Global, room: Option<usize>) -> Made<Sparse<'a, Self>> {
+        match room {
             None => SparseSecondaryMap::new(alloc),
             Some(capacity) => SparseSecondaryMap::with_capacity(alloc, capacity),
         }
     }
 
-    fn of_list<'a>(
-        self,
-        alloc: Global,
-        list: Vec<SlotRecord<Number<'a>>>,
-    ) -> Result<Sparse<'a, Self>, SlotsError> {
+    fn of_list<'a>(self, alloc: Global, list: Slots<'a>) -> Result<Sparse<'a, Self>, SlotsError> {
         SparseSecondaryMap::from_slots(alloc, list)
     }
 
-    fn of_pairs<'a>(
-        self,
-        alloc: Global,
-        pairs: Pairs<'a>,
-    ) -> Result<Sparse<'a, Self>, Option<(DefaultKey, Number<'a>)>> {
+    fn of_pairs<'a>(self, alloc: Global, pairs: Pairs<'a>) -> OfPairs<'a, Sparse<'a, Self>> {
         SparseSecondaryMap::from_iter(alloc, pairs)
     }
 }

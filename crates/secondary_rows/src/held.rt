@@ -1,21 +1,10 @@
 //! A map that is held to rows.
 
-use crate::hashers::Pairs;
+use crate::hashers::{Made, OfPairs, Pairs};
 use crate::walks::Walked;
-use slotmap::{DefaultKey, OutOfMemory, ReserveError, SlotRecord, SlotsError};
-use slotmap_rows::{Counts, Number, Stop};
+use slotmap::{DefaultKey, OutOfMemory, ReserveError, SlotsError};
+use slotmap_rows::{Exchanged, ExchangedTwo, Number, Slots, Stop, Supply, Way};
 use std::alloc::{AllocError, Global};
-
-/// A way to the value of a key.
-#[derive(Clone, Copy, PartialEq, Eq)]
-pub enum Way {
-    /// `get_mut`.
-    Get,
-    /// `Index` and `IndexMut`.
-    Index,
-    /// `get_unchecked` and `get_unchecked_mut`.
-    Unchecked,
-}
 
 /// What a `retain` keeps.
 #[derive(Clone, Copy)]
@@ -58,47 +47,52 @@ pub enum Change {
     RemoveEntry,
 }
 
+/// A value that is put by an entry, and how often a closure made it.
+#[derive(Drop)]
+pub struct Given<'a> {
+    pub supply: Supply<'a>,
+    pub value: u64,
+    pub calls: u64,
+}
+
+/// The value that stands under a key then, or none where there is no entry.
+pub type Stored = Result<Option<u64>, Stop>;
+
+/// A key and the number of a value.
+pub type Pair = (DefaultKey, u64);
+
+/// The key with the value before a change, or none where there was none.
+pub type Changed = Result<Option<Pair>, Stop>;
+
 /// What a map can do beside the calls of `Secondary`; `H` is its hasher. Each method makes the
 /// map's own call.
-pub trait Held<'a, H>: Drop {
+pub trait Held<'a, H>: PartialEq + Drop {
     /// Whether iterators go by ascending index. Else their order is open.
     const IS_ORDERED: bool;
 
     /// `new`, or `with_capacity`.
-    fn made(alloc: Global, hasher: H, capacity: Option<usize>) -> Result<Self, ReserveError>;
+    fn made(alloc: Global, hasher: H, room: Option<usize>) -> Made<Self>;
 
     /// `with_hasher`, or `with_capacity_and_hasher`; none where the map has no hasher.
-    fn hashed(
-        alloc: Global,
-        hasher: H,
-        capacity: Option<usize>,
-    ) -> Option<Result<Self, ReserveError>>;
+    fn hashed(alloc: Global, hasher: H, room: Option<usize>) -> Option<Made<Self>>;
 
     /// `from_slots`.
-    fn of_list(
-        alloc: Global,
-        hasher: H,
-        list: Vec<SlotRecord<Number<'a>>>,
-    ) -> Result<Self, SlotsError>;
-
-    /// `from_iter`.
-    fn of_pairs(
-        alloc: Global,
-        hasher: H,
-        pairs: Pairs<'a>,
-    ) -> Result<Self, Option<(DefaultKey, Number<'a>)>>;
+    fn of_list(alloc: Global, hasher: H, list: Slots<'a>) -> Result<Self, SlotsError>;
 
     /// `to_slots`.
-    fn list(&self) -> Result<Vec<SlotRecord<Number<'a>>>, OutOfMemory>;
+    fn list(&self) -> Result<Slots<'a>, OutOfMemory>;
+
+    /// `from_iter`.
+    fn of_pairs(alloc: Global, hasher: H, pairs: Pairs<'a>) -> OfPairs<'a, Self>;
+
+    /// The pairs of `into_iter`.
+    fn into_pairs(self, alloc: Global) -> Result<Pairs<'a>, Stop>;
 
     /// `clone`.
     fn copy(&self) -> Result<Self, AllocError>;
 
     /// `clone_from`.
     fn copy_from(&mut self, source: &Self) -> Result<(), AllocError>;
-
-    /// `==`.
-    fn is_same(&self, other: &Self) -> bool;
 
     /// `is_empty`.
     fn is_vacant(&self) -> bool;
@@ -112,33 +106,23 @@ pub trait Held<'a, H>: Drop {
     /// The value of a key, or none where it is not in the map.
     fn look(&self, way: Way, key: DefaultKey) -> Option<u64>;
 
-    /// Exchanges the value of a key: the value before, or the given one where the key is not in
-    /// the map.
-    fn write(
-        &mut self,
-        way: Way,
-        key: DefaultKey,
-        value: Number<'a>,
-    ) -> Result<Number<'a>, Number<'a>>;
-
-    /// `replace_disjoint` of two keys.
-    fn replace_two(
-        &mut self,
-        keys: [DefaultKey; 2],
-        values: [Number<'a>; 2],
-    ) -> Result<[Number<'a>; 2], [Number<'a>; 2]>;
-
-    /// `replace_disjoint` of no key: whether it succeeds.
-    fn replace_none(&mut self) -> bool;
-
-    /// `extend`.
-    fn put_all(&mut self, pairs: Pairs<'a>) -> Result<(), (DefaultKey, Number<'a>)>;
+    /// Exchanges the value of a key.
+    fn write(&mut self, way: Way, key: DefaultKey, value: Number<'a>) -> Exchanged<'a>;
 
     /// `clear`.
     fn clear_all(&mut self);
 
     /// `retain`; writes the values that the calls see, where those are asked for.
     fn retain_some(&mut self, keep: Keep, reply: &mut String);
+
+    /// `extend`.
+    fn put_all(&mut self, pairs: Pairs<'a>) -> Result<(), (DefaultKey, Number<'a>)>;
+
+    /// `replace_disjoint` of two keys.
+    fn replace_two(&mut self, keys: [DefaultKey; 2], values: [Number<'a>; 2]) -> ExchangedTwo<'a>;
+
+    /// `replace_disjoint` of no key: whether it succeeds.
+    fn replace_none(&mut self) -> bool;
 
     /// So many steps of `iter`, and the rest of it.
     fn walk_pairs(&self, alloc: Global, steps: usize) -> Result<Walked, Stop>;
@@ -158,9 +142,6 @@ pub trait Held<'a, H>: Drop {
     /// So many steps of `into_iter`, which is then dropped.
     fn take_some(self, alloc: Global, steps: usize) -> Result<Walked, Stop>;
 
-    /// The pairs of `into_iter`.
-    fn into_pairs(self, alloc: Global) -> Result<Pairs<'a>, Stop>;
-
     /// What the entry of a key is, by `entry`; it is dropped unused.
     fn tell(&mut self, key: DefaultKey) -> Result<Told, Stop>;
 
@@ -171,24 +152,11 @@ pub trait Held<'a, H>: Drop {
     fn entry_key(&mut self, key: DefaultKey) -> Result<Option<DefaultKey>, Stop>;
 
     /// Puts a value by an entry: the value that stands there then, or none where there is no
-    /// entry. Of `insert` on an occupied entry the value before. `calls` counts the calls of a
-    /// closure.
-    fn put_by_entry(
-        &mut self,
-        put: Put,
-        key: DefaultKey,
-        value: (&'a Counts, u64),
-        calls: &mut u64,
-    ) -> Result<Option<u64>, Stop>;
+    /// entry. Of `insert` on an occupied entry the value before.
+    fn put_by_entry(&mut self, put: Put, key: DefaultKey, given: &mut Given<'a>) -> Stored;
 
-    /// Changes a value by an occupied entry: the key with the value before, or none where there
-    /// is no such entry.
-    fn change_by_entry(
-        &mut self,
-        change: Change,
-        key: DefaultKey,
-        value: u64,
-    ) -> Result<Option<(DefaultKey, u64)>, Stop>;
+    /// Changes a value by an occupied entry, or none where there is no such entry.
+    fn change_by_entry(&mut self, change: Change, key: DefaultKey, value: u64) -> Changed;
 }
 
 /// Says that memory ran out, and drops what a failed call hands back.

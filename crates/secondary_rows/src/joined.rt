@@ -1,44 +1,17 @@
 //! Runs of commands on a primary map and a secondary map beside it.
 
-use crate::call::{Words, read_words};
 use crate::fresh::Fresh;
+use crate::runs::Bench;
 use slotmap::{
-    DefaultKey, Detaching, JoinedCommand, JoinedDetachCommand, JoinedReply, Primary, Secondary,
-    run_joined, run_joined_detaching,
+    DefaultKey, Detaching, JoinedCommand, JoinedDetachCommand, JoinedReply, Primary, ReserveError,
+    Secondary, run_joined, run_joined_detaching,
 };
-use slotmap_rows::{Counts, Number, Stop, Subject, Word, write_key, write_option};
+use slotmap_rows::{Call, Number, Stop, Supply, Words, look, write_key, write_option};
 use std::alloc::Global;
-use std::cell::Cell;
 use std::marker::PhantomData;
 
-/// A command of a row, or the end of one of its lists. Keys are given by the number of their
-/// insert.
-#[derive(Clone, Copy)]
-pub enum Line {
-    Insert(u64),
-    Remove(usize),
-    Put(usize, u64),
-    Look(usize),
-    Take(usize),
-    Detach(usize),
-    Reattach(usize, u64),
-    NextList,
-}
-
-// The command that a call asks for.
-fn line_of(name: &str, words: &[Word<'_>]) -> Option<Line> {
-    Some(match (name, read_words(words)) {
-        ("insert", Words::Number(value)) => Line::Insert(value),
-        ("remove", Words::Number(number)) => Line::Remove(number as usize),
-        ("put", Words::Numbers(number, value)) => { Line::Put(number as usize, value) }
-        ("look", Words::Number(number)) => Line::Look(number as usize),
-        ("take", Words::Number(number)) => Line::Take(number as usize),
-        ("detach", Words::Number(number)) => Line::Detach(number as usize),
-        ("reattach", Words::Numbers(number, value)) => { Line::Reattach(number as usize, value) }
-        ("next_list", Words::Nothing) => Line::NextList,
-        _ => return None,
-    })
-}
+/// A step of a run on two maps. Keys are given by the number of their insert.
+pub type JoinedStep = JoinedDetachCommand<u64, u64>;
 
 /// A command to any two maps.
 pub type Command<'a> = JoinedCommand<Number<'a>, Number<'a>>;
@@ -49,31 +22,38 @@ pub type DetachCommand<'a> = JoinedDetachCommand<Number<'a>, Number<'a>>;
 /// The reply to a command.
 pub type Reply<'a> = JoinedReply<DefaultKey, Number<'a>, Number<'a>, u64>;
 
-// The command of a line that every primary map has.
-fn command<'a>(counts: &'a Counts, line: Line) -> Option<Command<'a>> {
-    Some(match line {
-        Line::Insert(value) => JoinedCommand::Insert(Number::new(counts, value)),
-        Line::Remove(number) => JoinedCommand::Remove(number),
-        Line::Put(number, value) => JoinedCommand::Put(number, Number::new(counts, value)),
-        Line::Look(number) => JoinedCommand::Look(number),
-        Line::Take(number) => JoinedCommand::Take(number),
+type Replies<'a> = Option<Vec<Reply<'a>>>;
+
+// The step of a call that every primary map has.
+fn read_plain(call: &Call<'_>) -> Option<JoinedCommand<u64, u64>> {
+    Some(match (call.name, call.words) {
+        ("insert", Words::Number(value)) => JoinedCommand::Insert(value),
+        ("remove", Words::Number(number)) => JoinedCommand::Remove(number as usize),
+        ("put", Words::Numbers(number, value)) => JoinedCommand::Put(number as usize, value),
+        ("look", Words::Number(number)) => JoinedCommand::Look(number as usize),
+        ("take", Words::Number(number)) => JoinedCommand::Take(number as usize),
         _ => return None,
     })
 }
 
+// The command of such a step.
+fn plain_command<'a>(supply: Supply<'a>, step: &JoinedCommand<u64, u64>) -> Command<'a> {
+    match step {
+        JoinedCommand::Insert(value) => JoinedCommand::Insert(supply.number(*value)),
+        JoinedCommand::Remove(number) => JoinedCommand::Remove(*number),
+        JoinedCommand::Put(number, value) => JoinedCommand::Put(*number, supply.number(*value)),
+        JoinedCommand::Look(number) => JoinedCommand::Look(*number),
+        JoinedCommand::Take(number) => JoinedCommand::Take(*number),
+    }
+}
+
 /// How lists are run on two maps: by `run_joined` or by `run_joined_detaching`.
 pub trait Joins<'a, M, S>: Sized + Drop {
-    /// The command of a line, where there is one.
-    fn of_line(counts: &'a Counts, line: Line) -> Option<Self>;
+    /// The command of a step, where there is one.
+    fn of_step(supply: Supply<'a>, step: &JoinedStep) -> Option<Self>;
 
-    /// Runs commands; none where memory runs out. `looks` counts the calls of `look`.
-    fn run(
-        alloc: Global,
-        primary: &mut M,
-        secondary: &mut S,
-        commands: Vec<Self>,
-        looks: &Cell<u64>,
-    ) -> Option<Vec<Reply<'a>>>;
+    /// Runs commands; none where memory runs out.
+    fn run(alloc: Global, maps: &mut Beside<M, S, Self>, list: Vec<Self>) -> Replies<'a>;
 }
 
 impl<'a, M, S> Joins<'a, M, S> for Command<'a>
@@ -81,22 +61,15 @@ where
     M: Primary<DefaultKey, Number<'a>>,
     S: Secondary<DefaultKey, Number<'a>>,
 {
-    fn of_line(counts: &'a Counts, line: Line) -> Option<Self> {
-        command(counts, line)
+    fn of_step(supply: Supply<'a>, step: &JoinedStep) -> Option<Self> {
+        match step {
+            JoinedDetachCommand::Plain(step) => Some(plain_command(supply, step)),
+            _ => None,
+        }
     }
 
-    fn run(
-        alloc: Global,
-        primary: &mut M,
-        secondary: &mut S,
-        commands: Vec<Self>,
-        looks: &Cell<u64>,
-    ) -> Option<Vec<Reply<'a>>> {
-        let look = |value: &Number<'_>| {
-            looks.set(looks.get().wrapping_add(1));
-            value.value
-        };
-        run_joined(alloc, primary, secondary, commands, look).ok()
+    fn run(alloc: Global, maps: &mut Beside<M, S, Self>, list: Vec<Self>) -> Replies<'a> {
+        run_joined(alloc, &mut maps.primary, &mut maps.secondary, list, look).ok()
     }
 }
 
@@ -105,28 +78,20 @@ where
     M: Detaching<DefaultKey, Number<'a>>,
     S: Secondary<DefaultKey, Number<'a>>,
 {
-    fn of_line(counts: &'a Counts, line: Line) -> Option<Self> {
-        Some(match line {
-            Line::Detach(number) => JoinedDetachCommand::Detach(number),
-            Line::Reattach(number, value) => {
-                JoinedDetachCommand::Reattach(number, Number::new(counts, value))
+    fn of_step(supply: Supply<'a>, step: &JoinedStep) -> Option<Self> {
+        Some(match step {
+            JoinedDetachCommand::Plain(step) => {
+                JoinedDetachCommand::Plain(plain_command(supply, step))
             }
-            line => JoinedDetachCommand::Plain(command(counts, line)?),
+            JoinedDetachCommand::Detach(number) => JoinedDetachCommand::Detach(*number),
+            JoinedDetachCommand::Reattach(number, value) => {
+                JoinedDetachCommand::Reattach(*number, supply.number(*value))
+            }
         })
     }
 
-    fn run(
-        alloc: Global,
-        primary: &mut M,
-        secondary: &mut S,
-        commands: Vec<Self>,
-        looks: &Cell<u64>,
-    ) -> Option<Vec<Reply<'a>>> {
-        let look = |value: &Number<'_>| {
-            looks.set(looks.get().wrapping_add(1));
-            value.value
-        };
-        run_joined_detaching(alloc, primary, secondary, commands, look).ok()
+    fn run(alloc: Global, maps: &mut Beside<M, S, Self>, list: Vec<Self>) -> Replies<'a> {
+        run_joined_detaching(alloc, &mut maps.primary, &mut maps.secondary, list, look).ok()
     }
 }
 
@@ -163,102 +128,51 @@ fn number(value: &Option<Number<'_>>) -> Option<u64> {
     value.as_ref().map(|value| value.value)
 }
 
-// Whether memory ran out for a command.
-fn is_refused(told: &Reply<'_>) -> bool {
-    matches!(told, JoinedReply::Memory(_) | JoinedReply::NoRoom(_))
-}
-
-/// The commands of a row so far, of type `C`. With each call all of them are run anew on new
-/// maps, as lists one after the other, and the result is the last reply. `looks` gives how often
-/// `look` was called in the last run of a row.
+/// Two maps that commands of type `C` are run on.
 #[derive(Drop)]
-pub struct JoinedRuns<'a, M, S, C> {
-    alloc: Global,
-    counts: &'a Counts,
-    lines: Vec<Line>,
-    looks: Cell<u64>,
-    maps: PhantomData<(M, S, C)>,
+pub struct Beside<M, S, C> {
+    primary: M,
+    secondary: S,
+    commands: PhantomData<C>,
 }
 
-impl<'a, M, S, C> JoinedRuns<'a, M, S, C> {
-    /// No command.
-    pub fn new(alloc: Global, counts: &'a Counts) -> JoinedRuns<'a, M, S, C> {
-        JoinedRuns {
-            alloc,
-            counts,
-            lines: Vec::new(alloc),
-            looks: Cell::new(0),
-            maps: PhantomData,
-        }
-    }
-}
-
-impl<'a, M, S, C> JoinedRuns<'a, M, S, C>
+impl<'a, M, S, C> Bench<'a, JoinedStep> for Beside<M, S, C>
 where
     M: Primary<DefaultKey, Number<'a>> + Drop,
     S: Fresh + Drop,
     C: Joins<'a, M, S>,
 {
-    // Runs all lists of the row on new maps, and writes the last reply.
-    fn run(&self, reply: &mut String) -> Result<(), Stop> {
-        let mut primary = M::with_key(self.alloc).map_err(|_| Stop::Memory)?;
-        let mut secondary = S::fresh(self.alloc).map_err(|_| Stop::Memory)?;
-        self.looks.set(0);
-        for list in self.lines.split(|line| matches!(line, Line::NextList)) {
-            reply.clear();
-            self.run_list(&mut primary, &mut secondary, list, reply)?;
-        }
-        Ok(())
+    type Command = C;
+
+    type Reply = Reply<'a>;
+
+    fn fresh(alloc: Global) -> Result<Self, ReserveError> {
+        Ok(Beside {
+            primary: M::with_key(alloc)?,
+            secondary: S::fresh(alloc)?,
+            commands: PhantomData,
+        })
     }
 
-    // Runs a list of the row.
-    fn run_list(
-        &self,
-        primary: &mut M,
-        secondary: &mut S,
-        list: &[Line],
-        reply: &mut String,
-    ) -> Result<(), Stop> {
-        let mut commands = Vec::with_capacity(self.alloc, list.len())?;
-        for line in list {
-            let command = C::of_line(self.counts, *line).ok_or(Stop::Unknown)?;
-            commands.push(command)?;
-        }
-        let replies = C::run(self.alloc, primary, secondary, commands, &self.looks);
-        let replies = replies.ok_or(Stop::Memory)?;
-        if replies.iter().any(is_refused) {
-            return Err(Stop::Memory);
-        }
-        match replies.last() {
-            Some(told) => write_reply(reply, told),
-            None => Ok(()),
-        }
-    }
-}
-
-impl<'a, M, S, C> Subject for JoinedRuns<'a, M, S, C>
-where
-    M: Primary<DefaultKey, Number<'a>> + Drop,
-    S: Fresh + Drop,
-    C: Joins<'a, M, S>,
-{
-    fn begin(&mut self) -> Result<(), Stop> {
-        self.lines.clear();
-        self.looks.set(0);
-        Ok(())
+    fn read(call: &Call<'_>) -> Option<JoinedStep> {
+        Some(match (call.name, call.words) {
+            ("detach", Words::Number(number)) => JoinedDetachCommand::Detach(number as usize),
+            ("reattach", Words::Numbers(number, value)) => {
+                JoinedDetachCommand::Reattach(number as usize, value)
+            }
+            _ => JoinedDetachCommand::Plain(read_plain(call)?),
+        })
     }
 
-    fn call(&mut self, name: &str, words: &[Word<'_>], reply: &mut String) -> Result<(), Stop> {
-        if name == "looks" {
-            write!(reply, "{}", self.looks.get())?;
-            return Ok(());
-        }
-        let line = line_of(name, words).ok_or(Stop::Unknown)?;
-        self.lines.push(line)?;
-        let done = self.run(reply);
-        if done.is_err() {
-            self.lines.pop();
-        }
-        done
+    fn command(supply: Supply<'a>, step: &JoinedStep) -> Option<C> {
+        C::of_step(supply, step)
+    }
+
+    fn run(&mut self, alloc: Global, commands: Vec<C>) -> Replies<'a> {
+        C::run(alloc, self, commands)
+    }
+
+    fn write(reply: &mut String, told: &Reply<'a>) -> Result<(), Stop> {
+        write_reply(reply, told)
     }
 }

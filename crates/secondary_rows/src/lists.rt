@@ -4,123 +4,138 @@ use crate::call::{is_name, read_pair};
 use crate::hashers::Pairs;
 use crate::held::{Held, Keep};
 use crate::maps::Maps;
-use slotmap::{DefaultKey, Secondary, SlotRecord, SlotsError};
-use slotmap_rows::{Counts, Number, Stop, Word, write_slots};
-use std::alloc::Global;
+use slotmap::{DefaultKey, Secondary, SlotsError};
+use slotmap_rows::{Number, Slots, Stop, Supply, Word, read_slots, write_put_two, write_slots};
 
-/// The calls that are given a list of words.
-pub fn on_list<'a, M: Held<'a, H> + Secondary<DefaultKey, Number<'a>>, H: Copy>(
-    maps: &mut Maps<'a, M, H>,
-    name: &str,
-    words: &[Word<'_>],
-    reply: &mut String,
-) -> Result<(), Stop> {
-    match name {
-        "extend" => extend(maps, words),
-        "from_iter" => {
-            maps.map = of_words(maps, words)?;
-            Ok(())
+impl<'a, M: Held<'a, H> + Secondary<DefaultKey, Number<'a>>, H: Copy> Maps<'a, M, H> {
+    /// The calls that are given a list of words.
+    pub fn on_list(
+        &mut self,
+        name: &str,
+        list: &[Word<'_>],
+        reply: &mut String,
+    ) -> Result<(), Stop> {
+        match name {
+            "extend" => self.extend(list),
+            "from_iter" => {
+                self.map = self.of_pairs(read_pairs(self.supply, list)?)?;
+                Ok(())
+            }
+            "equals" => {
+                let other = self.of_pairs(read_pairs(self.supply, list)?)?;
+                Ok(write!(reply, "{}", self.map == other)?)
+            }
+            "from_slots" => {
+                let list = read_slots(self.supply, list)?;
+                self.from_list(list, reply)
+            }
+            "retain" => self.retain(list, reply),
+            "replace_disjoint" => self.replace_disjoint(list, reply),
+            _ => Err(Stop::Unknown),
         }
-        "equals" => {
-            let other = of_words(maps, words)?;
-            Ok(write!(reply, "{}", maps.map.is_same(&other))?)
-        }
-        "from_slots" => {
-            let list = slots(maps, words)?;
-            from_list(maps, list, reply)
-        }
-        "retain" => retain(maps, words, reply),
-        "replace_disjoint" => replace_disjoint(maps, words, reply),
-        _ => Err(Stop::Unknown),
     }
-}
 
-fn retain<'a, M: Held<'a, H> + Secondary<DefaultKey, Number<'a>>, H: Copy>(
-    maps: &mut Maps<'a, M, H>,
-    words: &[Word<'_>],
-    reply: &mut String,
-) -> Result<(), Stop> {
-    let Some(word) = words.first() else {
-        return Err(Stop::Unknown);
-    };
-    if is_name(word, "even") {
-        maps.map.retain_some(Keep::Even, reply);
-    } else if is_name(word, "nothing") {
-        maps.map.retain_some(Keep::Nothing, reply);
-    } else {
-        reply.push_str("values")?;
-        maps.map.retain_some(Keep::OddCalls, reply);
+    fn retain(&mut self, list: &[Word<'_>], reply: &mut String) -> Result<(), Stop> {
+        let Some(word) = list.first() else {
+            return Err(Stop::Unknown);
+        };
+        if is_name(word, "even") {
+            self.map.retain_some(Keep::Even, reply);
+        } else if is_name(word, "nothing") {
+            self.map.retain_some(Keep::Nothing, reply);
+        } else {
+            reply.push_str("values")?;
+            self.map.retain_some(Keep::OddCalls, reply);
+        }
+        Ok(())
     }
-    Ok(())
+
+    // The map of some pairs.
+    fn of_pairs(&self, pairs: Pairs<'a>) -> Result<M, Stop> {
+        match M::of_pairs(self.supply.alloc, self.hasher, pairs) {
+            Ok(map) => Ok(map),
+            Err(_) => Err(Stop::Memory),
+        }
+    }
+
+    /// Makes a map of the pairs of the row's clone, and keeps it instead of the row's.
+    pub fn through_pairs(&mut self) -> Result<(), Stop> {
+        let pairs = self.map.copy()?.into_pairs(self.supply.alloc)?;
+        self.map = self.of_pairs(pairs)?;
+        Ok(())
+    }
+
+    // `extend`. Where memory runs out for a pair, those before it are in the map; then it is called
+    // once more with the rest.
+    fn extend(&mut self, list: &[Word<'_>]) -> Result<(), Stop> {
+        let Some(refused) = self.put_all(list)? else {
+            return Ok(());
+        };
+        let position = list.iter().position(|word| is_pair_of(word, refused));
+        let Some(rest) = list.get(position.unwrap_or(0)..) else {
+            return Err(Stop::Memory);
+        };
+        match self.put_all(rest)? {
+            Some(_) => Err(Stop::Memory),
+            None => Ok(()),
+        }
+    }
+
+    // `extend`: the key of the pair that came back.
+    fn put_all(&mut self, list: &[Word<'_>]) -> Result<Option<DefaultKey>, Stop> {
+        match self.map.put_all(read_pairs(self.supply, list)?) {
+            Ok(()) => Ok(None),
+            Err(pair) => Ok(Some(key_of(pair))),
+        }
+    }
+
+    /// The calls on a map's list of slots.
+    pub fn on_slots(&mut self, name: &str, reply: &mut String) -> Result<(), Stop> {
+        let list = self.map.list()?;
+        if name == "through_slots" {
+            return self.from_list(list, reply);
+        }
+        Ok(write_slots(reply, &list)?)
+    }
+
+    // Reads a map from a list, and keeps it instead of the row's.
+    fn from_list(&mut self, list: Slots<'a>, reply: &mut String) -> Result<(), Stop> {
+        match M::of_list(self.supply.alloc, self.hasher, list) {
+            Ok(map) => self.map = map,
+            Err(SlotsError::Memory) => return Err(Stop::Memory),
+            Err(error) => write!(reply, "{error}")?,
+        }
+        Ok(())
+    }
+
+    // `replace_disjoint` of no key, or of two.
+    fn replace_disjoint(&mut self, list: &[Word<'_>], reply: &mut String) -> Result<(), Stop> {
+        match list {
+            [] => Ok(write!(reply, "{}", self.map.replace_none())?),
+            [first, second] => match (read_pair(first), read_pair(second)) {
+                (Some((first, value)), Some((second, other))) => {
+                    let values = [self.supply.number(value), self.supply.number(other)];
+                    write_put_two(reply, self.map.replace_two([first, second], values))
+                }
+                _ => Err(Stop::Unknown),
+            },
+            _ => Err(Stop::Unknown),
+        }
+    }
 }
 
 // The pairs of the words.
-fn pairs<'a>(alloc: Global, counts: &'a Counts, words: &[Word<'_>]) -> Result<Pairs<'a>, Stop> {
-    let mut pairs = Vec::new(alloc);
-    for word in words {
+fn read_pairs<'a>(supply: Supply<'a>, list: &[Word<'_>]) -> Result<Pairs<'a>, Stop> {
+    let mut pairs = Vec::new(supply.alloc);
+    for word in list {
         let Some((key, value)) = read_pair(word) else {
             return Err(Stop::Unknown);
         };
-        if pairs.push((key, Number::new(counts, value))).is_err() {
+        if pairs.push((key, supply.number(value))).is_err() {
             return Err(Stop::Memory);
         }
     }
     Ok(pairs)
-}
-
-// The map of the pairs of the words.
-fn of_words<'a, M: Held<'a, H> + Secondary<DefaultKey, Number<'a>>, H: Copy>(
-    maps: &Maps<'a, M, H>,
-    words: &[Word<'_>],
-) -> Result<M, Stop> {
-    let pairs = pairs(maps.alloc, maps.counts, words)?;
-    match M::of_pairs(maps.alloc, maps.hasher, pairs) {
-        Ok(map) => Ok(map),
-        Err(_) => Err(Stop::Memory),
-    }
-}
-
-/// Makes a map of the pairs of the row's clone, and keeps it instead of the row's.
-pub fn through_pairs<'a, M: Held<'a, H> + Secondary<DefaultKey, Number<'a>>, H: Copy>(
-    maps: &mut Maps<'a, M, H>,
-) -> Result<(), Stop> {
-    let pairs = maps.map.copy()?.into_pairs(maps.alloc)?;
-    match M::of_pairs(maps.alloc, maps.hasher, pairs) {
-        Ok(map) => maps.map = map,
-        Err(_) => return Err(Stop::Memory),
-    }
-    Ok(())
-}
-
-// `extend`. Where memory runs out for a pair, those before it are in the map; then it is called
-// once more with the rest.
-fn extend<'a, M: Held<'a, H> + Secondary<DefaultKey, Number<'a>>, H: Copy>(
-    maps: &mut Maps<'a, M, H>,
-    words: &[Word<'_>],
-) -> Result<(), Stop> {
-    let Some(refused) = put_all(maps, words)? else {
-        return Ok(());
-    };
-    let position = words.iter().position(|word| is_pair_of(word, refused));
-    let Some(rest) = words.get(position.unwrap_or(0)..) else {
-        return Err(Stop::Memory);
-    };
-    match put_all(maps, rest)? {
-        Some(_) => Err(Stop::Memory),
-        None => Ok(()),
-    }
-}
-
-// `extend`: the key of the pair that came back.
-fn put_all<'a, M: Held<'a, H> + Secondary<DefaultKey, Number<'a>>, H: Copy>(
-    maps: &mut Maps<'a, M, H>,
-    words: &[Word<'_>],
-) -> Result<Option<DefaultKey>, Stop> {
-    let pairs = pairs(maps.alloc, maps.counts, words)?;
-    match maps.map.put_all(pairs) {
-        Ok(()) => Ok(None),
-        Err(pair) => Ok(Some(key_of(pair))),
-    }
 }
 
 // The key of a pair, whose value is dropped.
@@ -134,92 +149,4 @@ fn is_pair_of(word: &Word<'_>, key: DefaultKey) -> bool {
         Some((other, _)) => other == key,
         None => false,
     }
-}
-
-/// The calls on a map's list of slots.
-pub fn on_slots<'a, M: Held<'a, H> + Secondary<DefaultKey, Number<'a>>, H: Copy>(
-    maps: &mut Maps<'a, M, H>,
-    name: &str,
-    reply: &mut String,
-) -> Result<(), Stop> {
-    let list = maps.map.list()?;
-    if name == "through_slots" {
-        return from_list(maps, list, reply);
-    }
-    if list.len() > 1000 {
-        write!(reply, "slots ({})", list.len())?;
-    } else {
-        write_slots(reply, &list)?;
-    }
-    Ok(())
-}
-
-// Reads a map from a list, and keeps it instead of the row's.
-fn from_list<'a, M: Held<'a, H> + Secondary<DefaultKey, Number<'a>>, H: Copy>(
-    maps: &mut Maps<'a, M, H>,
-    list: Vec<SlotRecord<Number<'a>>>,
-    reply: &mut String,
-) -> Result<(), Stop> {
-    match M::of_list(maps.alloc, maps.hasher, list) {
-        Ok(map) => maps.map = map,
-        Err(SlotsError::Memory) => return Err(Stop::Memory),
-        Err(error) => write!(reply, "{error}")?,
-    }
-    Ok(())
-}
-
-// The slots of the words.
-fn slots<'a, M: Held<'a, H> + Secondary<DefaultKey, Number<'a>>, H: Copy>(
-    maps: &Maps<'a, M, H>,
-    words: &[Word<'_>],
-) -> Result<Vec<SlotRecord<Number<'a>>>, Stop> {
-    let mut slots = Vec::new(maps.alloc);
-    for word in words {
-        let slot = match word {
-            Word::Slot(Some(value), version) => SlotRecord {
-                value: Some(Number::new(maps.counts, *value)),
-                version: *version,
-            },
-            Word::Slot(None, version) => SlotRecord {
-                value: None,
-                version: *version,
-            },
-            _ => return Err(Stop::Unknown),
-        };
-        slots.push(slot)?;
-    }
-    Ok(slots)
-}
-
-// `replace_disjoint` of no key, or of two.
-fn replace_disjoint<'a, M: Held<'a, H> + Secondary<DefaultKey, Number<'a>>, H: Copy>(
-    maps: &mut Maps<'a, M, H>,
-    words: &[Word<'_>],
-    reply: &mut String,
-) -> Result<(), Stop> {
-    match words {
-        [] => Ok(write!(reply, "{}", maps.map.replace_none())?),
-        [first, second] => match (read_pair(first), read_pair(second)) {
-            (Some(first), Some(second)) => replace_two(maps, first, second, reply),
-            _ => Err(Stop::Unknown),
-        },
-        _ => Err(Stop::Unknown),
-    }
-}
-
-fn replace_two<'a, M: Held<'a, H> + Secondary<DefaultKey, Number<'a>>, H: Copy>(
-    maps: &mut Maps<'a, M, H>,
-    first: (DefaultKey, u64),
-    second: (DefaultKey, u64),
-    reply: &mut String,
-) -> Result<(), Stop> {
-    let values = [
-        Number::new(maps.counts, first.1),
-        Number::new(maps.counts, second.1),
-    ];
-    match maps.map.replace_two([first.0, second.0], values) {
-        Ok(before) => write!(reply, "{} {}", before[0].value, before[1].value)?,
-        Err(back) => write!(reply, "{} {} back", back[0].value, back[1].value)?,
-    }
-    Ok(())
 }

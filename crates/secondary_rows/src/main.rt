@@ -92,37 +92,14 @@ mod sized;
 mod sparse;
 mod walks;
 
-use crate::kinds::{File, hold_all};
-use slotmap_rows::{Counts, Stop};
+use crate::kinds::All;
+use slotmap_rows::run_program;
 use std::collections::hash_map::RandomState;
-use std::io::Write;
 use std::process::ExitCode;
-use std::{env, fs};
-
-// Holds all kinds to the rows of the files that the arguments name.
-fn hold_files(rt: &HostRuntime, output: &mut impl Write) -> Result<bool, Stop> {
-    let counts = Counts::new();
-    let random = RandomState::new(rt)?;
-    let mut is_well = true;
-    for name in env::args(rt)?.skip(1) {
-        let text = fs::read_to_string(rt, name.as_str()).map_err(|_| Stop::Input)?;
-        let file = File {
-            alloc: rt.alloc(),
-            counts: &counts,
-            name: name.as_str(),
-            text: text.as_str(),
-        };
-        is_well = hold_all(file, random, output)? && is_well;
-    }
-    output.flush()?;
-    Ok(is_well)
-}
 
 fn main(rt: HostRuntime) -> ExitCode {
-    let mut output = rt.stdout();
-    match hold_files(&rt, &mut output) {
-        Ok(true) => ExitCode::SUCCESS,
-        Ok(false) => ExitCode::from(1),
+    match RandomState::new(&rt) {
+        Ok(random) => run_program(&rt, &All { random }, &mut rt.stdout()),
         Err(_) => ExitCode::from(3),
     }
 }

@@ -1,9 +1,9 @@
 //! Calls that ask more of the values: `or_default` and `extend_refs`, on maps of plain numbers.
 
-use crate::call::{Words, read_pair, read_words};
+use crate::call::read_pair;
 use crate::fresh::Fresh;
 use slotmap::{DefaultKey, OutOfMemory, Secondary, SecondaryMap, SparseSecondaryMap};
-use slotmap_rows::{Stop, Subject, Word, write_option};
+use slotmap_rows::{Call, Stop, Subject, Word, Words, write_option};
 use std::alloc::Global;
 
 /// What such a map can do beside the calls of `Secondary`. Each method makes the map's own call.
@@ -65,9 +65,9 @@ impl<M: Plain> Subject for PlainMap<M> {
         Ok(())
     }
 
-    fn call(&mut self, name: &str, words: &[Word<'_>], reply: &mut String) -> Result<(), Stop> {
-        match (name, read_words(words)) {
-            ("extend_refs", _) => extend_refs(self.alloc, &mut self.map, words)?,
+    fn call(&mut self, call: &Call<'_>, list: &[Word<'_>], reply: &mut String) -> Result<(), Stop> {
+        match (call.name, call.words) {
+            ("extend_refs", _) => extend_refs(self.alloc, &mut self.map, list)?,
             ("or_default", Words::Key(key)) => write_option(reply, self.map.put_default(key)?)?,
             ("insert", Words::Put(key, value)) => {
                 let before = self.map.insert(key, value).map_err(|_| Stop::Memory)?;

@@ -2,57 +2,46 @@
 
 use crate::held::Held;
 use crate::maps::Maps;
-use slotmap::{DefaultKey, ReserveError, Secondary};
-use slotmap_rows::{Number, Stop};
+use slotmap::{DefaultKey, Secondary};
+use slotmap_rows::{Number, Stop, write_reserved};
 
-/// The calls with a number that are no iterator's.
-pub fn on_number<'a, M: Held<'a, H> + Secondary<DefaultKey, Number<'a>>, H: Copy>(
-    maps: &mut Maps<'a, M, H>,
-    name: &str,
-    number: u64,
-    reply: &mut String,
-) -> Result<(), Stop> {
-    match name {
-        "has_capacity" => write!(reply, "{}", maps.map.room() as u64 >= number)?,
-        "capacity_is_within" => write!(reply, "{}", maps.map.room() as u64 <= number)?,
-        "with_capacity" | "with_capacity_and_hasher" => {
-            return on_new(maps, name, Some(number as usize), reply);
+impl<'a, M: Held<'a, H> + Secondary<DefaultKey, Number<'a>>, H: Copy> Maps<'a, M, H> {
+    /// The calls with a number that are no iterator's.
+    pub fn on_number(&mut self, name: &str, number: u64, reply: &mut String) -> Result<(), Stop> {
+        match name {
+            "has_capacity" => write!(reply, "{}", self.map.room() as u64 >= number)?,
+            "capacity_is_within" => write!(reply, "{}", self.map.room() as u64 <= number)?,
+            "with_capacity" | "with_capacity_and_hasher" => {
+                return self.on_new(name, Some(number as usize), reply);
+            }
+            _ => match self.map.make_room(name, number as usize) {
+                Some(made) => write_reserved(reply, made)?,
+                None => return Err(Stop::Unknown),
+            },
         }
-        _ => match maps.map.make_room(name, number as usize) {
-            Some(made) => write_made(reply, made)?,
-            None => return Err(Stop::Unknown),
-        },
+        Ok(())
     }
-    Ok(())
-}
 
-/// The calls that make a map, which is kept instead of the row's.
-pub fn on_new<'a, M: Held<'a, H> + Secondary<DefaultKey, Number<'a>>, H: Copy>(
-    maps: &mut Maps<'a, M, H>,
-    name: &str,
-    capacity: Option<usize>,
-    reply: &mut String,
-) -> Result<(), Stop> {
-    let made = match name {
-        "with_hasher" | "with_capacity_and_hasher" => {
-            M::hashed(maps.alloc, maps.hasher, capacity).ok_or(Stop::Unknown)?
+    /// The calls that make a map, which is kept instead of the row's.
+    pub fn on_new(
+        &mut self,
+        name: &str,
+        room: Option<usize>,
+        reply: &mut String,
+    ) -> Result<(), Stop> {
+        let (alloc, hasher) = (self.supply.alloc, self.hasher);
+        let made = match name {
+            "with_hasher" | "with_capacity_and_hasher" => {
+                M::hashed(alloc, hasher, room).ok_or(Stop::Unknown)?
+            }
+            _ => M::made(alloc, hasher, room),
+        };
+        match made {
+            Ok(map) => {
+                self.map = map;
+                Ok(())
+            }
+            Err(error) => write_reserved(reply, Err(error)),
         }
-        _ => M::made(maps.alloc, maps.hasher, capacity),
-    };
-    match made {
-        Ok(map) => {
-            maps.map = map;
-            Ok(())
-        }
-        Err(error) => write_made(reply, Err(error)),
-    }
-}
-
-// Writes why no room was made.
-fn write_made(reply: &mut String, made: Result<(), ReserveError>) -> Result<(), Stop> {
-    match made {
-        Ok(()) => Ok(()),
-        Err(ReserveError::TooGreat) => Ok(reply.push_str("too great")?),
-        Err(ReserveError::Memory) => Err(Stop::Memory),
     }
 }

@@ -1,53 +1,49 @@
 //! `SparseSecondaryMap` held to rows.
 
-use crate::hashers::{Pairs, Seed, Sparse};
-use crate::held::{Change, Held, Keep, Put, Told, Way, no_memory};
-use crate::shared::{change_by_entry, keep_even, looked, put_by_entry, retained, told, written};
-use crate::walks::{Shown, Walked, drained, listed, looped, rested, stepped};
+use crate::hashers::{Made, OfPairs, Pairs, Seed, Sparse};
+use crate::held::{Change, Changed, Given, Held, Keep, Put, Stored, Told, no_memory};
+use crate::shared::{change_by_entry, put_by_entry, retained, told};
+use crate::walks::{Shown, Walked, drained, listed, looped, stepped, walked};
 use slotmap::sparse_secondary::Entry;
-use slotmap::{
-    DefaultKey, NoEntry, OutOfMemory, ReserveError, SlotRecord, SlotsError, SparseSecondaryMap,
-};
-use slotmap_rows::{Counts, Number, Stop};
+use slotmap::{DefaultKey, NoEntry, OutOfMemory, ReserveError, SlotsError, SparseSecondaryMap};
+use slotmap_rows::{Exchanged, ExchangedTwo, Number, Slots, Stop, Way, keep_even, looked, written};
 use std::alloc::{AllocError, Global};
 use std::mem;
 
 impl<'a, S: Seed> Held<'a, S> for Sparse<'a, S> {
     const IS_ORDERED: bool = false;
 
-    fn made(alloc: Global, hasher: S, capacity: Option<usize>) -> Result<Self, ReserveError> {
-        hasher.made(alloc, capacity)
+    fn made(alloc: Global, hasher: S, room: Option<usize>) -> Made<Self> {
+        hasher.made(alloc, room)
     }
 
-    fn hashed(
-        alloc: Global,
-        hasher: S,
-        capacity: Option<usize>,
-    ) -> Option<Result<Self, ReserveError>> {
-        Some(match capacity {
+    fn hashed(alloc: Global, hasher: S, room: Option<usize>) -> Option<Made<Self>> {
+        Some(match room {
             None => SparseSecondaryMap::with_hasher(alloc, hasher),
             Some(capacity) => SparseSecondaryMap::with_capacity_and_hasher(alloc, capacity, hasher),
         })
     }
 
-    fn of_list(
-        alloc: Global,
-        hasher: S,
-        list: Vec<SlotRecord<Number<'a>>>,
-    ) -> Result<Self, SlotsError> {
+    fn of_list(alloc: Global, hasher: S, list: Slots<'a>) -> Result<Self, SlotsError> {
         hasher.of_list(alloc, list)
     }
 
-    fn of_pairs(
-        alloc: Global,
-        hasher: S,
-        pairs: Pairs<'a>,
-    ) -> Result<Self, Option<(DefaultKey, Number<'a>)>> {
+    fn list(&self) -> Result<Slots<'a>, OutOfMemory> {
+        self.to_slots()
+    }
+
+    fn of_pairs(alloc: Global, hasher: S, pairs: Pairs<'a>) -> OfPairs<'a, Self> {
         hasher.of_pairs(alloc, pairs)
     }
 
-    fn list(&self) -> Result<Vec<SlotRecord<Number<'a>>>, OutOfMemory> {
-        self.to_slots()
+    fn into_pairs(self, alloc: Global) -> Result<Pairs<'a>, Stop> {
+        let mut pairs = Vec::new(alloc);
+        for pair in self {
+            if pairs.push(pair).is_err() {
+                return Err(Stop::Memory);
+            }
+        }
+        Ok(pairs)
     }
 
     fn copy(&self) -> Result<Self, AllocError> {
@@ -56,10 +52,6 @@ impl<'a, S: Seed> Held<'a, S> for Sparse<'a, S> {
 
     fn copy_from(&mut self, source: &Self) -> Result<(), AllocError> {
         self.clone_from(source)
-    }
-
-    fn is_same(&self, other: &Self) -> bool {
-        self == other
     }
 
     fn is_vacant(&self) -> bool {
@@ -82,29 +74,8 @@ impl<'a, S: Seed> Held<'a, S> for Sparse<'a, S> {
         looked!(self, way, key)
     }
 
-    fn write(
-        &mut self,
-        way: Way,
-        key: DefaultKey,
-        value: Number<'a>,
-    ) -> Result<Number<'a>, Number<'a>> {
+    fn write(&mut self, way: Way, key: DefaultKey, value: Number<'a>) -> Exchanged<'a> {
         written!(self, way, key, value)
-    }
-
-    fn replace_two(
-        &mut self,
-        keys: [DefaultKey; 2],
-        values: [Number<'a>; 2],
-    ) -> Result<[Number<'a>; 2], [Number<'a>; 2]> {
-        self.replace_disjoint(keys, values)
-    }
-
-    fn replace_none(&mut self) -> bool {
-        self.replace_disjoint([], []).is_ok()
-    }
-
-    fn put_all(&mut self, pairs: Pairs<'a>) -> Result<(), (DefaultKey, Number<'a>)> {
-        self.extend(pairs)
     }
 
     fn clear_all(&mut self) {
@@ -115,22 +86,28 @@ impl<'a, S: Seed> Held<'a, S> for Sparse<'a, S> {
         retained!(self, keep, reply)
     }
 
+    fn put_all(&mut self, pairs: Pairs<'a>) -> Result<(), (DefaultKey, Number<'a>)> {
+        self.extend(pairs)
+    }
+
+    fn replace_two(&mut self, keys: [DefaultKey; 2], values: [Number<'a>; 2]) -> ExchangedTwo<'a> {
+        self.replace_disjoint(keys, values)
+    }
+
+    fn replace_none(&mut self) -> bool {
+        self.replace_disjoint([], []).is_ok()
+    }
+
     fn walk_pairs(&self, alloc: Global, steps: usize) -> Result<Walked, Stop> {
-        let mut walk = self.iter();
-        let walked = stepped!(walk, steps, alloc);
-        rested!(walk, walked, alloc)
+        walked!(self.iter(), steps, alloc)
     }
 
     fn walk_keys(&self, alloc: Global, steps: usize) -> Result<Walked, Stop> {
-        let mut walk = self.keys();
-        let walked = stepped!(walk, steps, alloc);
-        rested!(walk, walked, alloc)
+        walked!(self.keys(), steps, alloc)
     }
 
     fn walk_values(&self, alloc: Global, steps: usize) -> Result<Walked, Stop> {
-        let mut walk = self.values();
-        let walked = stepped!(walk, steps, alloc);
-        rested!(walk, walked, alloc)
+        walked!(self.values(), steps, alloc)
     }
 
     fn walk_all(&self, alloc: Global) -> Result<Walked, Stop> {
@@ -144,16 +121,6 @@ impl<'a, S: Seed> Held<'a, S> for Sparse<'a, S> {
     fn take_some(self, alloc: Global, steps: usize) -> Result<Walked, Stop> {
         let mut walk = self.into_iter();
         Ok(stepped!(walk, steps, alloc))
-    }
-
-    fn into_pairs(self, alloc: Global) -> Result<Pairs<'a>, Stop> {
-        let mut pairs = Vec::new(alloc);
-        for pair in self {
-            if pairs.push(pair).is_err() {
-                return Err(Stop::Memory);
-            }
-        }
-        Ok(pairs)
     }
 
     fn tell(&mut self, key: DefaultKey) -> Result<Told, Stop> {
@@ -178,22 +145,11 @@ impl<'a, S: Seed> Held<'a, S> for Sparse<'a, S> {
         }
     }
 
-    fn put_by_entry(
-        &mut self,
-        put: Put,
-        key: DefaultKey,
-        value: (&'a Counts, u64),
-        calls: &mut u64,
-    ) -> Result<Option<u64>, Stop> {
-        put_by_entry!(self, put, key, value, calls, .map_err(no_memory)?)
+    fn put_by_entry(&mut self, put: Put, key: DefaultKey, given: &mut Given<'a>) -> Stored {
+        put_by_entry!(self, put, key, given, .map_err(no_memory)?)
     }
 
-    fn change_by_entry(
-        &mut self,
-        change: Change,
-        key: DefaultKey,
-        value: u64,
-    ) -> Result<Option<(DefaultKey, u64)>, Stop> {
+    fn change_by_entry(&mut self, change: Change, key: DefaultKey, value: u64) -> Changed {
         change_by_entry!(self, change, key, value)
     }
 }

@@ -3,7 +3,7 @@
 ghost use Rattle.std.specs.Iterator.{IsFinite};
 
 use slotmap::{DefaultKey, Key};
-use slotmap_rows::{Number, Stop, write_key, write_pair};
+use slotmap_rows::{Number, SHOWN, Stop, write_key, write_pair};
 use std::alloc::{AllocError, Global};
 
 /// What an iterator of a map yields.
@@ -128,12 +128,14 @@ macro_rules! drained {
     }};
 }
 
-/// The rest of an iterator, which a clone has to yield too, after some steps.
-macro_rules! rested {
-    ($walk:ident, $walked:ident, $alloc:expr) => {{
-        let again = listed($walk.clone()?, $alloc)?;
-        let rest = listed($walk, $alloc)?;
-        Ok($walked.with_rest(rest, again))
+/// So many steps of an iterator and the rest of it, which a clone has to yield too.
+macro_rules! walked {
+    ($walk:expr, $steps:expr, $alloc:expr) => {{
+        let mut walk = $walk;
+        let walked = stepped!(walk, $steps, $alloc);
+        let again = listed(walk.clone()?, $alloc)?;
+        let rest = listed(walk, $alloc)?;
+        Ok(walked.with_rest(rest, again))
     }};
 }
 
@@ -150,11 +152,8 @@ macro_rules! looped {
 
 pub(crate) use drained;
 pub(crate) use looped;
-pub(crate) use rested;
 pub(crate) use stepped;
-
-// How many items a result shows at most; of more it says how many they are.
-const SHOWN: usize = 1000;
+pub(crate) use walked;
 
 /// Writes what an iterator yielded in some steps, how many were left then, and the rest.
 ///

@@ -11,7 +11,7 @@
 //!   its words `#` stands for the number of the turn, from 1 on: `#` alone, `#v1` in a key, `#v1:#`
 //!   in a pair.
 //!
-//! A [`Subject`] makes the calls. These calls are [`hold`]'s own:
+//! A [`Subject`] makes the calls. These calls are [`File::hold`]'s own:
 //!
 //! - `dropped`, `cloned`: how many values were dropped or cloned since the row began, or since the
 //!   last such call;
@@ -26,6 +26,9 @@
 //! program prints the same whichever of its allocations fails.
 #![tactic(auto)]
 
+mod call;
+mod files;
+mod maps;
 mod number;
 mod progress;
 mod rows;
@@ -33,10 +36,13 @@ mod stop;
 mod texts;
 mod words;
 
-pub use number::{Counts, Number, look};
-pub use rows::{Subject, hold};
-pub use stop::Stop;
-pub use texts::{
-    write_key, write_keys, write_numbers, write_option, write_pair, write_pairs, write_slots,
+pub use call::{Call, Mode, Words};
+pub use files::{Kinds, run_program};
+pub use maps::{
+    Exchanged, ExchangedTwo, Slots, Way, read_slots, write_put, write_put_two, write_reserved,
 };
+pub use number::{Counts, Number, Supply, keep_even, look};
+pub use rows::{File, Subject};
+pub use stop::Stop;
+pub use texts::{SHOWN, write_key, write_keys, write_option, write_pair, write_pairs, write_slots};
 pub use words::Word;

@@ -1,6 +1,7 @@
 //! Values that are counted.
 
-use std::alloc::AllocError;
+use slotmap_core::keys::DefaultKey;
+use std::alloc::{AllocError, Global};
 use std::cell::Cell;
 
 /// How many values were made, cloned, dropped and looked at.
@@ -86,6 +87,27 @@ impl<'a> Number<'a> {
         count(&counts.made);
         Number { value, counts }
     }
+}
+
+/// What calls take memory and numbers from.
+#[derive(Clone, Copy)]
+pub struct Supply<'a> {
+    pub alloc: Global,
+    pub counts: &'a Counts,
+}
+
+impl<'a> Supply<'a> {
+    /// Makes a number and counts it.
+    pub fn number(self, value: u64) -> Number<'a> {
+        Number::new(self.counts, value)
+    }
+}
+
+/// Keeps the even values, and makes each value ten times as great.
+pub fn keep_even(_key: DefaultKey, value: &mut Number<'_>) -> bool {
+    let is_even = value.value % 2 == 0;
+    value.value = value.value.wrapping_mul(10);
+    is_even
 }
 
 /// Returns what a number is, and counts this call: what a run shows of a value.

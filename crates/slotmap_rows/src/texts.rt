@@ -6,6 +6,9 @@ use slotmap_core::keys::{DefaultKey, Key};
 use slotmap_core::serial::SlotRecord;
 use std::alloc::AllocError;
 
+/// How many items a result shows at most; of more it says how many they are.
+pub const SHOWN: usize = 1000;
+
 /// Writes a key.
 pub fn write_key(reply: &mut String, key: DefaultKey) -> Result<(), AllocError> {
     write!(reply, "{:?}", key.data())
@@ -24,39 +27,39 @@ pub fn write_pair(reply: &mut String, key: DefaultKey, value: u64) -> Result<(),
     write!(reply, " {:?}:{value}", key.data())
 }
 
-/// Writes `keys`, and each key after a blank.
+/// Writes `keys`, and each key after a blank, or how many they are.
 pub fn write_keys(reply: &mut String, keys: &[DefaultKey]) -> Result<(), AllocError> {
     write!(reply, "keys")?;
+    if keys.len() > SHOWN {
+        return write!(reply, " ({})", keys.len());
+    }
     for key in keys {
         write!(reply, " {:?}", key.data())?;
     }
     Ok(())
 }
 
-/// Writes `values`, and each number after a blank.
-pub fn write_numbers(reply: &mut String, numbers: &[u64]) -> Result<(), AllocError> {
-    write!(reply, "values")?;
-    for number in numbers {
-        write!(reply, " {number}")?;
-    }
-    Ok(())
-}
-
-/// Writes `pairs`, and each pair after a blank.
+/// Writes `pairs`, and each pair after a blank, or how many they are.
 pub fn write_pairs(
     reply: &mut String,
     pairs: &[(DefaultKey, Number<'_>)],
 ) -> Result<(), AllocError> {
     write!(reply, "pairs")?;
+    if pairs.len() > SHOWN {
+        return write!(reply, " ({})", pairs.len());
+    }
     for (key, value) in pairs {
         write_pair(reply, *key, value.value)?;
     }
     Ok(())
 }
 
-/// Writes `slots`, and each slot after a blank.
+/// Writes `slots`, and each slot after a blank, or how many they are.
 pub fn write_slots(reply: &mut String, slots: &[SlotRecord<Number<'_>>]) -> Result<(), AllocError> {
     write!(reply, "slots")?;
+    if slots.len() > SHOWN {
+        return write!(reply, " ({})", slots.len());
+    }
     for slot in slots {
         match &slot.value {
             Some(value) => write!(reply, " {}@{}", value.value, slot.version)?,

@@ -1,7 +1,14 @@
-//! The words of a call as plain values.
+//! A call, with its words as plain values.
 
-use slotmap::DefaultKey;
-use slotmap_rows::Word;
+use crate::words::Word;
+use slotmap_core::keys::DefaultKey;
+
+/// A call: its name and its words.
+#[derive(Clone, Copy)]
+pub struct Call<'c> {
+    pub name: &'c str,
+    pub words: Words,
+}
 
 /// A word that says what is meant.
 #[derive(Clone, Copy)]

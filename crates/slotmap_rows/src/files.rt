@@ -1,0 +1,52 @@
+//! The files that a program's arguments name.
+
+use crate::number::{Counts, Supply};
+use crate::rows::File;
+use crate::stop::Stop;
+use std::env::Env;
+use std::fs::Files;
+use std::io::Write;
+use std::process::ExitCode;
+use std::{env, fs};
+
+/// The kinds of maps that a program holds to rows.
+pub trait Kinds {
+    /// Checks each kind against the rows of a file that are for it, and returns whether no result
+    /// differs.
+    fn hold_all(&self, file: File<'_, '_>, output: &mut impl Write) -> Result<bool, Stop>;
+}
+
+// Checks all kinds against the rows of the files that the arguments name.
+fn hold_files<R: AllocGlobal + Env + Files>(
+    rt: &R,
+    kinds: &impl Kinds,
+    output: &mut impl Write,
+) -> Result<bool, Stop> {
+    let (alloc, counts) = (rt.alloc(), Counts::new());
+    let supply = Supply {
+        alloc,
+        counts: &counts,
+    };
+    let mut is_well = true;
+    for name in env::args(rt)?.skip(1) {
+        let text = fs::read_to_string(rt, name.as_str()).map_err(|_| Stop::Input)?;
+        let (name, text) = (name.as_str(), text.as_str());
+        is_well = kinds.hold_all(File { supply, name, text }, output)? && is_well;
+    }
+    output.flush()?;
+    Ok(is_well)
+}
+
+/// A row program: its status is 1 where a result differs, and 3 where a file can't be read, the
+/// output can't be written or memory runs out twice.
+pub fn run_program<R: AllocGlobal + Env + Files>(
+    rt: &R,
+    kinds: &impl Kinds,
+    output: &mut impl Write,
+) -> ExitCode {
+    match hold_files(rt, kinds, output) {
+        Ok(true) => ExitCode::SUCCESS,
+        Ok(false) => ExitCode::from(1),
+        Err(_) => ExitCode::from(3),
+    }
+}
