@@ -1,6 +1,6 @@
 //! What the map holds at an index, and what a key finds there.
 
-ghost use Rattle.std.specs.Prelude.{◌≡◌, Some, true, option_copied};
+ghost use Rattle.std.specs.Prelude.{◌≡◌, Some, true};
 ghost use Rattle.std.specs.FinMap as map;
 ghost use Rattle.std.specs.Option.{option_map};
 ghost use Rattle.slotmap_core.specs.Key.{IsKey};
@@ -79,7 +79,9 @@ pub(crate) fn place_of<V, S: BuildHasher>(
     }
 }
 
-// The position of the pair of a key that is in the map. It is looked for at `near` first.
+// The position of the pair of a key that is in the map. It is looked for at `near` first. An entry
+// keeps that position, which stays right while it borrows the map. The contract of an entry knows no
+// positions, so a proof needs the search too.
 #[inline(always)]
 pub(crate) fn place_near<V, S: BuildHasher>(
     slots: &IndexMap<u32, (u32, V), S, Global>,
