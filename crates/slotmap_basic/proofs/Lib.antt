@@ -1,2 +1,1 @@
-pub mod DrainLemmas
 pub mod RetainLemmas

@@ -1,53 +1,28 @@
 -- What a contract sees of a `Drain`.
-use Rattle.std.specs.Prelude.{◌≡◌, ◌++◌, List, map as list_map, Option}
-use Rattle.std.specs.Borrow.{GName}
-use Rattle.std.specs.Iterator.{Count, at_most, Yields}
+use Rattle.std.specs.Prelude.{Option}
+use Rattle.std.specs.Borrow.{MutBor}
 use Rattle.std.specs.FinMap as map
-use Rattle.slotmap_core.specs.Key.{Key}
+use Rattle.slotmap_core.specs.Key.{Key, key_cmp}
 use Rattle.slotmap_core.specs.Content.{Content}
-use Rattle.slotmap_core.specs.Listing.{IsListingBut, NoneBelow}
+use Rattle.slotmap_core.specs.Draining.{KeepsLoan}
+use Rattle.slotmap_core.specs.Listing.{NoneBelow}
 use Rattle.slotmap_core.specs.Transition.{TakesPair, TakesFirst, EmptiesByIndex}
 use Rattle.slotmap_basic.specs.declared.drain.Drain.{Drain}
 
 module _ {K V : Type 0} where
-  -- what the map still holds
-  abbrev pub drain_map : Drain K V → Content V
-  drain_map d = d.map.now
+  -- the loan of the map
+  abbrev pub drain_loan : Drain K V → MutBor (Content V)
+  drain_loan d = d.map
 
-  -- the ghost name of the reference to the map
-  abbrev pub drain_lender : Drain K V → GName
-  drain_lender d = d.map.ghost_name
-
-  -- the number of pairs that are left
-  abbrev pub drain_count : Drain K V → Count
-  drain_count d = at_most (map.len (drain_map d).live)
+  -- the pairs that are left
+  abbrev pub drain_live : Drain K V → map.FinMap key_cmp V
+  drain_live d = d.map.now.live
 
   -- no key at an index before that of the drain is live
   abbrev pub DrainCanStep : Drain K V → Type 0
-  DrainCanStep d = NoneBelow (drain_map d).live d.index
+  DrainCanStep d = NoneBelow (drain_live d) d.index
 
-  -- Old and new borrow the same map. What new ends as, once every key is removed, old ends as too
-  abbrev pub DrainKeeps : Drain K V → Drain K V → Type 0
-  DrainKeeps old new = (drain_lender new ≡ drain_lender old)
-      × ((end : Content V) → EmptiesByIndex (drain_map new) end → EmptiesByIndex (drain_map old) end)
-
-  module _ (data_of : K → Key) where
-    -- `next` took old to new, and yielded the item
-    abbrev pub DrainSteps : Drain K V → Option (K × V) → Drain K V → Type 0
-    DrainSteps old item new = TakesPair data_of (drain_map old) item (drain_map new)
-        × DrainKeeps old new × DrainCanStep new × TakesFirst data_of (drain_map old) item (drain_map new)
-
-    -- each state that calls of `next` lead to keeps what the first keeps
-    abbrev pub DrainKeepsAlong : Drain K V → Type 0
-    DrainKeepsAlong first = (pairs : List (K × V)) (later : Drain K V) → Yields DrainSteps first pairs later
-        → DrainKeeps first later
-
-    -- the pairs that calls of `next` yield, and those that the map still holds then, are those that it held
-    abbrev pub DrainLists : Drain K V → Type 0
-    DrainLists first = (pairs : List (K × V)) (later : Drain K V) → Yields DrainSteps first pairs later
-        → IsListingBut (drain_map first).live (list_map (λ p. (data_of p.0, p.1)) pairs) (drain_map later).live
-
-    -- they are yielded by ascending index, before those that the map still holds
-    abbrev pub DrainInOrder : Drain K V → Type 0
-    DrainInOrder first = (pairs : List (K × V)) (later : Drain K V) → Yields DrainSteps first pairs later
-        → map.entries (drain_map first).live ≡ list_map (λ p. (data_of p.0, p.1)) pairs ++ map.entries (drain_map later).live
+  -- `next` took old to new, and yielded the item
+  abbrev pub DrainSteps : (K → Key) → Drain K V → Option (K × V) → Drain K V → Type 0
+  DrainSteps data_of old item new = TakesPair data_of old.map.now item new.map.now
+      × KeepsLoan drain_loan EmptiesByIndex old new × DrainCanStep new × TakesFirst data_of old.map.now item new.map.now

@@ -20,10 +20,10 @@ pub struct Drain<'a, K: Key, V> {
 }
 
 impl<'a, K: Key, V: Drop> Drop for Drain<'a, K, V> {
-    ghost use Rattle.slotmap_basic.specs.Drain.{drain_map, DrainCanStep};
+    ghost use Rattle.slotmap_basic.specs.Drain.{drain_loan, DrainCanStep};
 
     fn drop(self)
-        ensures ends { DrainCanStep self.entry → EmptiesByIndex (drain_map self.entry) self.exit.0.now }
+        ensures ends { DrainCanStep self.entry → EmptiesByIndex (drain_loan self.entry).now self.exit.0.now }
         ensures valid { IsContent true self.exit.0.now }
     {
         let Drain { map, index } = self;
@@ -32,7 +32,8 @@ impl<'a, K: Key, V: Drop> Drop for Drain<'a, K, V> {
 }
 
 impl<'a, K: Key, V: Drop> Iterator for Drain<'a, K, V> {
-    ghost use Rattle.slotmap_basic.specs.Drain.{drain_count, DrainSteps, DrainCanStep};
+    ghost use Rattle.slotmap_core.specs.Draining.{drain_count};
+    ghost use Rattle.slotmap_basic.specs.Drain.{drain_live, DrainSteps, DrainCanStep};
 
     type Item = (K, V);
 
@@ -40,7 +41,7 @@ impl<'a, K: Key, V: Drop> Iterator for Drain<'a, K, V> {
 
     ghost next_gives = { DrainSteps K.data_of };
 
-    ghost remaining = { drain_count };
+    ghost remaining = { drain_count drain_live };
 
     fn next(&mut self) -> Option<(K, V)> {
         let index = self.index;
@@ -51,9 +52,9 @@ impl<'a, K: Key, V: Drop> Iterator for Drain<'a, K, V> {
     }
 
     fn size_hint(&self) -> (usize, Option<usize>)
-        ensures lower { result.0 ≤ size (drain_count self.now) }
-        ensures upper { IfSome result.1 (UpTo (drain_count self.now)) }
-        ensures exact { result ≡ (size (drain_count self.now), Some (size (drain_count self.now))) }
+        ensures lower { result.0 ≤ size (drain_count drain_live self.now) }
+        ensures upper { IfSome result.1 (UpTo (drain_count drain_live self.now)) }
+        ensures exact { result ≡ (size (drain_count drain_live self.now), Some (size (drain_count drain_live self.now))) }
     {
         let len = self.len();
         (len, Some(len))
@@ -69,7 +70,8 @@ impl<'a, K: Key, V: Drop> ExactSizeIterator for Drain<'a, K, V> {
 impl<'a, K: Key, V: Drop> FusedIterator for Drain<'a, K, V> {}
 
 impl<K: Key, V: Drop> SlotMap<K, V> {
-    ghost use Rattle.slotmap_basic.specs.Drain.{drain_map, drain_lender, DrainCanStep, DrainKeepsAlong, DrainLists, DrainInOrder};
+    ghost use Rattle.slotmap_core.specs.Draining.{KeepsLoan, KeepsAlong, ListsAlong, InOrderAlong};
+    ghost use Rattle.slotmap_basic.specs.Drain.{drain_loan, drain_live, DrainCanStep, DrainSteps};
 
     /// Returns an iterator that removes the live keys and yields them with their values, by
     /// ascending index.
@@ -87,14 +89,14 @@ impl<K: Key, V: Drop> SlotMap<K, V> {
     /// assert!(rt; map.is_empty());
     /// ```
     pub fn drain(&mut self) -> Drain<'_, K, V>
-        ensures map { drain_map result ≡ self.old }
-        ensures same_reference { drain_lender result ≡ self.entry.ghost_name }
+        ensures map { (drain_loan result).now ≡ self.old }
+        ensures same_reference { (drain_loan result).ghost_name ≡ self.entry.ghost_name }
         ensures ready { DrainCanStep result }
 
         // Laws of the steps, for callers that take more of them.
-        ensures stays { DrainKeepsAlong K.data_of result }
-        ensures lists { DrainLists K.data_of result }
-        ensures in_order { DrainInOrder K.data_of result }
+        ensures stays { KeepsAlong (DrainSteps K.data_of) (KeepsLoan drain_loan EmptiesByIndex) result }
+        ensures lists { ListsAlong K.data_of drain_live (DrainSteps K.data_of) result }
+        ensures in_order { InOrderAlong K.data_of drain_live (DrainSteps K.data_of) result }
 
         ensures valid { IsContent true self.old }
     {

@@ -50,6 +50,7 @@ pub mod PutLemmas
 pub mod ListReadLemmas
 pub mod PairsLemmas
 pub mod SecondaryCallers
+pub mod DrainingLemmas
 pub mod SecondaryDrains
 pub mod TakingLemmas
 pub mod StoppedExtends

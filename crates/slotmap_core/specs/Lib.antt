@@ -1,6 +1,7 @@
 pub mod Key
 pub mod Content
 pub mod Listing
+pub mod Draining
 pub mod Transition
 pub mod Spent
 pub mod Call

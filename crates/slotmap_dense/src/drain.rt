@@ -17,10 +17,10 @@ pub struct Drain<'a, K: Key, V> {
 }
 
 impl<'a, K: Key, V: Drop> Drop for Drain<'a, K, V> {
-    ghost use Rattle.slotmap_dense.specs.Drain.{drain_map};
+    ghost use Rattle.slotmap_dense.specs.Drain.{drain_loan};
 
     fn drop(self)
-        ensures ends { Empties (drain_map self.entry) self.exit.0.now }
+        ensures ends { Empties (drain_loan self.entry).now self.exit.0.now }
         ensures valid { IsDense self.exit.0.now }
     {
         let Drain { map } = self;
@@ -29,13 +29,14 @@ impl<'a, K: Key, V: Drop> Drop for Drain<'a, K, V> {
 }
 
 impl<'a, K: Key, V: Drop> Iterator for Drain<'a, K, V> {
-    ghost use Rattle.slotmap_dense.specs.Drain.{drain_count, DrainSteps};
+    ghost use Rattle.slotmap_core.specs.Draining.{drain_count};
+    ghost use Rattle.slotmap_dense.specs.Drain.{drain_live, DrainSteps};
 
     type Item = (K, V);
 
     ghost next_gives = { DrainSteps K.data_of };
 
-    ghost remaining = { drain_count };
+    ghost remaining = { drain_count drain_live };
 
     fn next(&mut self) -> Option<(K, V)> {
         match self.map.take_last() {
@@ -45,9 +46,9 @@ impl<'a, K: Key, V: Drop> Iterator for Drain<'a, K, V> {
     }
 
     fn size_hint(&self) -> (usize, Option<usize>)
-        ensures lower { result.0 ≤ size (drain_count self.now) }
-        ensures upper { IfSome result.1 (UpTo (drain_count self.now)) }
-        ensures exact { result ≡ (size (drain_count self.now), Some (size (drain_count self.now))) }
+        ensures lower { result.0 ≤ size (drain_count drain_live self.now) }
+        ensures upper { IfSome result.1 (UpTo (drain_count drain_live self.now)) }
+        ensures exact { result ≡ (size (drain_count drain_live self.now), Some (size (drain_count drain_live self.now))) }
     {
         let len = self.len();
         (len, Some(len))
@@ -63,7 +64,8 @@ impl<'a, K: Key, V: Drop> ExactSizeIterator for Drain<'a, K, V> {
 impl<'a, K: Key, V: Drop> FusedIterator for Drain<'a, K, V> {}
 
 impl<K: Key, V: Drop> DenseSlotMap<K, V> {
-    ghost use Rattle.slotmap_dense.specs.Drain.{drain_map, drain_lender, DrainKeepsAlong, DrainLists, DrainInOrder};
+    ghost use Rattle.slotmap_core.specs.Draining.{KeepsLoan, Along, KeepsAlong, ListsAlong};
+    ghost use Rattle.slotmap_dense.specs.Drain.{drain_loan, drain_live, DrainSteps, DrainsFromBack};
 
     /// Returns an iterator that removes the live keys and yields them with their values, from the
     /// back of the packed order.
@@ -81,12 +83,12 @@ impl<K: Key, V: Drop> DenseSlotMap<K, V> {
     /// assert!(rt; map.is_empty());
     /// ```
     pub fn drain(&mut self) -> Drain<'_, K, V>
-        ensures map { drain_map result ≡ self.old }
-        ensures same_reference { drain_lender result ≡ self.entry.ghost_name }
+        ensures map { (drain_loan result).now ≡ self.old }
+        ensures same_reference { (drain_loan result).ghost_name ≡ self.entry.ghost_name }
         // Laws of the steps, for callers that take more of them.
-        ensures stays { DrainKeepsAlong K.data_of result }
-        ensures lists { DrainLists K.data_of result }
-        ensures in_order { DrainInOrder K.data_of result }
+        ensures stays { KeepsAlong (DrainSteps K.data_of) (KeepsLoan drain_loan Empties) result }
+        ensures lists { ListsAlong K.data_of drain_live (DrainSteps K.data_of) result }
+        ensures in_order { Along (DrainSteps K.data_of) (DrainsFromBack K.data_of) result }
         ensures valid { IsDense self.old }
     {
         self.note_valid();

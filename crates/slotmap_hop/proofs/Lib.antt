@@ -20,6 +20,5 @@ pub mod Walking
 pub mod Iterators
 pub mod Sweeping
 pub mod Retaining
-pub mod DrainLemmas
 pub mod ReadLemmas
 pub mod BlocksLeft

@@ -3,20 +3,19 @@ use Rattle.std.specs.FinMap as map
 use Rattle.slotmap_core.proofs.KeyLemmas.{keys_total, exact_keys}
 use Rattle.slotmap_core.proofs.Maps.{len_removed}
 use Rattle.slotmap_core.proofs.SweepLemmas.{Empties-first}
-use Rattle.slotmap_hop.specs.Drain.{drain_map}
 use Rattle.slotmap_hop.specs.HopContent.{IsHopContent, IsNextLive}
 use Rattle.slotmap_hop.proofs.Sweeping.{clearing_starts, clearing_removed, after_above, next_is_least, clearing_ends}
 use Rattle.slotmap_hop.proofs.drain.DrainIterator.next.Goals as goal
 
 pub returns-in_default-clause-steps : goal.returns-in_default-clause-steps
 returns-in_default-clause-steps g c =
-    let now = drain_map c.args.self.now in
+    let now = c.args.self.now.map.now in
     ((clearing_ends g.K.Key.data_of now now (clearing_starts g.K.Key.data_of now _ c.requires.0 (rw c.in_default.is at c.requires.1)), refl), (refl, λ end empties. empties), c.requires, tt)
 
 -- the key that came next was the first one, and is removed
 pub returns : goal.returns
 returns g c =
-    let now = drain_map c.args.self.now in
+    let now = c.args.self.now.map.now in
     let new = c.take_live.new.self in
     let least = rw c.in-Some.is at c.requires.1 in
     let comes = rw (c.idx.ensures.value, c.data.ensures.value) at c.first_live-self.ensures.comes in
