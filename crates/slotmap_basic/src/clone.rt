@@ -7,7 +7,6 @@ ghost use Rattle.slotmap_core.specs.Copy.{IsCopy};
 use crate::SlotMap;
 use slotmap_core::keys::Key;
 use std::alloc::AllocError;
-use std::marker::PhantomData;
 
 impl<K: Key, V: Clone> SlotMap<K, V> {
     /// Returns a copy of the map, with clones of the values.
@@ -32,10 +31,7 @@ impl<K: Key, V: Clone> SlotMap<K, V> {
         ensures copies { IfOk result (IsCopy self.now) }
         ensures valid { IfOk result (IsContent true) }
     {
-        Ok(SlotMap {
-            slots: self.slots.copy()?,
-            key_type: PhantomData,
-        })
+        Ok(SlotMap::over(self.slots.copy()?))
     }
 
     /// Makes this map a copy of another, as [`SlotMap::clone`] does, and drops what it had.

@@ -5,13 +5,26 @@ ghost use Rattle.std.specs.FinMap as map;
 ghost use Rattle.slotmap_core.specs.Content.{used, most};
 ghost use Rattle.slotmap_core.specs.Transition.{Inserts};
 ghost use Rattle.slotmap_core.specs.Refusal.{Refuses, RefusesInsert, RefusesWith};
-ghost use Rattle.slotmap_core.specs.Call.{MayGrow};
+ghost use Rattle.slotmap_core.specs.Call.{MayGrow, MakesRoom};
 
 use crate::SlotMap;
 use slotmap_core::errors::{InsertError, InsertWithError, ReserveError, TryInsertError};
 use slotmap_core::keys::Key;
 
 impl<K: Key, V: Drop> SlotMap<K, V> {
+    // Makes room for one more key, and returns the key that the next insert returns.
+    fn offer(&mut self) -> Result<K, InsertWithError>
+        ensures makes_room { MakesRoom true self.old 1 (IsOk result) self.new }
+        ensures key { IfOk result (λ key. K.data_of key ≡ self.old.offer) }
+        ensures err { IfErr result (RefusesInsert self.old) }
+    {
+        match self.slots.make_room() {
+            Ok(()) => Ok(K::from(self.slots.next_key())),
+            Err(ReserveError::TooGreat) => Err(InsertWithError::Full),
+            Err(ReserveError::Memory) => Err(InsertWithError::Memory),
+        }
+    }
+
     /// Inserts a value and returns its new key.
     ///
     /// The slot freed last is reused, without allocating. If no slot is vacant, one is added. It
@@ -67,12 +80,7 @@ impl<K: Key, V: Drop> SlotMap<K, V> {
 
         ensures valid { MayGrow true self.old (IsErr result) self.new }
     {
-        match self.slots.make_room() {
-            Ok(()) => {}
-            Err(ReserveError::TooGreat) => return Err(InsertWithError::Full),
-            Err(ReserveError::Memory) => return Err(InsertWithError::Memory),
-        }
-        let key = K::from(self.slots.next_key());
+        let key = self.offer()?;
         self.slots.fill(f(key));
         Ok(key)
     }
@@ -106,12 +114,11 @@ impl<K: Key, V: Drop> SlotMap<K, V> {
 
         ensures valid { MayGrow true self.old (IsErr result) self.new }
     {
-        match self.slots.make_room() {
-            Ok(()) => {}
-            Err(ReserveError::TooGreat) => return Err(TryInsertError::Full),
-            Err(ReserveError::Memory) => return Err(TryInsertError::Memory),
-        }
-        let key = K::from(self.slots.next_key());
+        let key = match self.offer() {
+            Ok(key) => key,
+            Err(InsertWithError::Full) => return Err(TryInsertError::Full),
+            Err(InsertWithError::Memory) => return Err(TryInsertError::Memory),
+        };
         match f(key) {
             Ok(value) => {
                 self.slots.fill(value);

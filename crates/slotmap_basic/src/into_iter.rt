@@ -8,6 +8,7 @@ use crate::SlotMap;
 use slotmap_core::keys::Key;
 use slotmap_core::slots::SlotIntoIter;
 use std::alloc::AllocError;
+use std::fmt;
 use std::iter::FusedIterator;
 use std::marker::{Model, PhantomData};
 
@@ -108,6 +109,14 @@ impl<K: Key, V: Drop> ExactSizeIterator for IntoIter<K, V> {
 }
 
 impl<K: Key, V: Drop> FusedIterator for IntoIter<K, V> {}
+
+impl<K, V> fmt::Debug for IntoIter<K, V> {
+    fn fmt<W: fmt::Write>(&self, f: &mut fmt::Formatter<W>) -> fmt::Result {
+        f.debug_struct("IntoIter")
+            .field("remaining", &self.len())
+            .finish()
+    }
+}
 
 impl<K: Key, V: Drop> IntoIterator for SlotMap<K, V> {
     type Item = (K, V);

@@ -10,6 +10,7 @@ use crate::SlotMap;
 use slotmap_core::keys::Key;
 use slotmap_core::slots::SlotIter;
 use std::alloc::AllocError;
+use std::fmt;
 use std::iter::FusedIterator;
 use std::marker::{Model, PhantomData};
 
@@ -94,6 +95,14 @@ impl<'a, K: Key, V> ExactSizeIterator for Iter<'a, K, V> {
 
 impl<'a, K: Key, V> FusedIterator for Iter<'a, K, V> {}
 
+impl<'a, K, V> fmt::Debug for Iter<'a, K, V> {
+    fn fmt<W: fmt::Write>(&self, f: &mut fmt::Formatter<W>) -> fmt::Result {
+        f.debug_struct("Iter")
+            .field("remaining", &self.len())
+            .finish()
+    }
+}
+
 /// An iterator over the live keys, by ascending index: see [`SlotMap::keys`].
 ///
 /// A contract sees it as the list of the keys that it will still yield. After its end it yields
@@ -172,6 +181,14 @@ impl<'a, K: Key, V> ExactSizeIterator for Keys<'a, K, V> {
 
 impl<'a, K: Key, V> FusedIterator for Keys<'a, K, V> {}
 
+impl<'a, K, V> fmt::Debug for Keys<'a, K, V> {
+    fn fmt<W: fmt::Write>(&self, f: &mut fmt::Formatter<W>) -> fmt::Result {
+        f.debug_struct("Keys")
+            .field("remaining", &self.len())
+            .finish()
+    }
+}
+
 /// An iterator over the values, by ascending index of their keys: see [`SlotMap::values`].
 ///
 /// A contract sees it as the list of the values that it will still yield. After its end it yields
@@ -248,6 +265,14 @@ impl<'a, K: Key, V> ExactSizeIterator for Values<'a, K, V> {
 }
 
 impl<'a, K: Key, V> FusedIterator for Values<'a, K, V> {}
+
+impl<'a, K, V> fmt::Debug for Values<'a, K, V> {
+    fn fmt<W: fmt::Write>(&self, f: &mut fmt::Formatter<W>) -> fmt::Result {
+        f.debug_struct("Values")
+            .field("remaining", &self.len())
+            .finish()
+    }
+}
 
 impl<K: Key, V> SlotMap<K, V> {
     /// Returns an iterator over the live keys and their values, by ascending index.

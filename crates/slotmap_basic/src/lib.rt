@@ -27,9 +27,7 @@ ghost use Rattle.slotmap_core.specs.Call.{MakesRoom};
 
 mod access;
 mod clone;
-mod debug;
 mod detach;
-mod disjoint;
 mod drain;
 mod insert;
 mod into_iter;
@@ -47,6 +45,7 @@ use slotmap_core::keys::{DefaultKey, Key};
 use slotmap_core::layout::Columns;
 use slotmap_core::slots::Slots;
 use std::alloc::Global;
+use std::fmt;
 use std::marker::{Model, PhantomData};
 
 /// A map that makes a key for each value that is inserted.
@@ -80,6 +79,19 @@ impl<K, V> Model for SlotMap<K, V> {
     ghost coded = { content_code V.code };
 
     ghost view = { λ m. m.slots };
+}
+
+impl<K, V> SlotMap<K, V> {
+    // The map that has these slots.
+    #[inline(always)]
+    pub(crate) fn over(slots: Slots<V, Columns<V>>) -> Self
+        ensures { result ≡ slots }
+    {
+        SlotMap {
+            slots,
+            key_type: PhantomData,
+        }
+    }
 }
 
 impl<V: Drop> SlotMap<DefaultKey, V> {
@@ -159,10 +171,7 @@ impl<K: Key, V: Drop> SlotMap<K, V> {
         ensures err { IfErr result (RefusesCapacity capacity) }
         ensures valid { IfOk result (IsContent true) }
     {
-        Ok(SlotMap {
-            slots: Slots::with_capacity(alloc, capacity)?,
-            key_type: PhantomData,
-        })
+        Ok(SlotMap::over(Slots::with_capacity(alloc, capacity)?))
     }
 
     /// Returns the number of live keys.
@@ -255,5 +264,12 @@ impl<K: Key, V: Drop> SlotMap<K, V> {
         ensures reuses { additional ≤ map.len self.old.next → IsOk result }
     {
         self.reserve(additional)
+    }
+}
+
+/// Prints the pairs, each key before its value, as Rust's own maps do.
+impl<K: Key, V: fmt::Debug> fmt::Debug for SlotMap<K, V> {
+    fn fmt<W: fmt::Write>(&self, f: &mut fmt::Formatter<W>) -> fmt::Result {
+        f.debug_map().entries(self.iter()).finish()
     }
 }

@@ -13,7 +13,6 @@ use slotmap_core::keys::Key;
 use slotmap_core::serial::SlotRecord;
 use slotmap_core::slots::Slots;
 use std::alloc::Global;
-use std::marker::PhantomData;
 
 impl<K: Key, V: Drop> SlotMap<K, V> {
     /// Returns the map as a list of slots, with clones of the values.
@@ -86,9 +85,6 @@ impl<K: Key, V: Drop> SlotMap<K, V> {
         ensures accepted { IsOk result → Accepts list.items 4294967295 }
         ensures err { IfErr result (RefusesStart list.items 4294967295) }
     {
-        Ok(SlotMap {
-            slots: Slots::from_slots(alloc, list)?,
-            key_type: PhantomData,
-        })
+        Ok(SlotMap::over(Slots::from_slots(alloc, list)?))
     }
 }

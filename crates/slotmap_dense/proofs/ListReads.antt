@@ -78,6 +78,11 @@ module _ {V : Type 0} (records : List (SlotRecord V)) (positions : List (SlotRec
   pub same_places : length positions ≡ length records
   same_places = sym (length-map positions shape) ∙ ap length split.alike ∙ length-map records shape
 
+  -- fewer keys and records were read than the list has, and the list is short
+  pub fewer_read : (list : List (SlotRecord V)) (left : ℕ) → length records + left ≡ length list → Accepts list 4294967295
+      → (length keys < 4294967295) × (length positions < 4294967295)
+  fewer_read list left counted accepted = omega (arith, accepted.short, split.fewer, same_places)
+
   more : (made : SlotRecord V) (p : SlotRecord ℕ) → shape p ≡ shape made → list_map shape (positions ++ p ∷ []) ≡ list_map shape (records ++ made ∷ [])
   more made p same = grind (arith, map_push shape positions p, map_push shape records made, split.alike)
 

@@ -1,13 +1,13 @@
 //! Inserts: new keys.
 
-ghost use Rattle.std.specs.Prelude.{◌≡◌, ◌+◌, ◌<◌, IfOk, IfErr, IsOk, IsErr, Ok};
+ghost use Rattle.std.specs.Prelude.{◌≡◌, ◌<◌, IfOk, IfErr, IsOk, IsErr, Ok};
 ghost use Rattle.slotmap_core.specs.Content.{used, most};
 ghost use Rattle.slotmap_core.specs.Transition.{Inserts};
-ghost use Rattle.slotmap_core.specs.Refusal.{Refuses, RefusesInsert, RefusesWith, RefusesCapacity};
+ghost use Rattle.slotmap_core.specs.Refusal.{Refuses, RefusesInsert, RefusesWith};
 ghost use Rattle.slotmap_dense.specs.Dense.{Appends};
 ghost use Rattle.slotmap_dense.specs.Call.{StaysValid, MayGrow, MakesRoom};
 
-use crate::{DenseSlotMap, make_room_in};
+use crate::DenseSlotMap;
 use slotmap_core::errors::{InsertError, InsertWithError, ReserveError, TryInsertError};
 use slotmap_core::keys::Key;
 
@@ -20,16 +20,17 @@ impl<K: Key, V: Drop> DenseSlotMap<K, V> {
         K::from(self.slots.next_key())
     }
 
-    // Makes room for one more key.
-    #[inline(always)]
-    fn make_room(&mut self) -> Result<(), ReserveError>
+    // Makes room for one more key, and returns the key that the next insert returns.
+    fn offer(&mut self) -> Result<K, InsertWithError>
         ensures makes_room { MakesRoom self.old 1 (IsOk result) self.new }
-        ensures err { IfErr result (RefusesCapacity (used self.old.content + 1)) }
+        ensures key { IfOk result (λ key. K.data_of key ≡ self.old.content.offer) }
+        ensures err { IfErr result (RefusesInsert self.old.content) }
     {
-        self.slots.make_room()?;
-        make_room_in(&mut self.keys, 1)?;
-        make_room_in(&mut self.values, 1)?;
-        Ok(())
+        match self.reserve(1) {
+            Ok(()) => Ok(self.next_key()),
+            Err(ReserveError::TooGreat) => Err(InsertWithError::Full),
+            Err(ReserveError::Memory) => Err(InsertWithError::Memory),
+        }
     }
 
     // Binds the next key to a value.
@@ -71,12 +72,11 @@ impl<K: Key, V: Drop> DenseSlotMap<K, V> {
 
         ensures valid { MayGrow self.old (IsErr result) self.new }
     {
-        match self.make_room() {
-            Ok(()) => {}
-            Err(ReserveError::TooGreat) => return Err(InsertError::Full(value)),
-            Err(ReserveError::Memory) => return Err(InsertError::Memory(value)),
+        match self.reserve(1) {
+            Ok(()) => Ok(self.append(value)),
+            Err(ReserveError::TooGreat) => Err(InsertError::Full(value)),
+            Err(ReserveError::Memory) => Err(InsertError::Memory(value)),
         }
-        Ok(self.append(value))
     }
 
     /// Inserts the value that a closure returns for the new key, and returns the key.
@@ -100,12 +100,7 @@ impl<K: Key, V: Drop> DenseSlotMap<K, V> {
 
         ensures valid { MayGrow self.old (IsErr result) self.new }
     {
-        match self.make_room() {
-            Ok(()) => {}
-            Err(ReserveError::TooGreat) => return Err(InsertWithError::Full),
-            Err(ReserveError::Memory) => return Err(InsertWithError::Memory),
-        }
-        let key = self.next_key();
+        let key = self.offer()?;
         let value = f(key);
         self.append(value);
         Ok(key)
@@ -136,12 +131,11 @@ impl<K: Key, V: Drop> DenseSlotMap<K, V> {
 
         ensures valid { MayGrow self.old (IsErr result) self.new }
     {
-        match self.make_room() {
-            Ok(()) => {}
-            Err(ReserveError::TooGreat) => return Err(TryInsertError::Full),
-            Err(ReserveError::Memory) => return Err(TryInsertError::Memory),
-        }
-        let key = self.next_key();
+        let key = match self.offer() {
+            Ok(key) => key,
+            Err(InsertWithError::Full) => return Err(TryInsertError::Full),
+            Err(InsertWithError::Memory) => return Err(TryInsertError::Memory),
+        };
         match f(key) {
             Ok(value) => {
                 self.append(value);

@@ -8,6 +8,7 @@ use crate::DenseSlotMap;
 use slotmap_core::keys::Key;
 use std::alloc::AllocError;
 use std::collections::VecDeque;
+use std::fmt;
 use std::iter::FusedIterator;
 use std::marker::Model;
 
@@ -121,6 +122,14 @@ impl<K: Key, V: Drop> ExactSizeIterator for IntoIter<K, V> {
 }
 
 impl<K: Key, V: Drop> FusedIterator for IntoIter<K, V> {}
+
+impl<K: Key, V> fmt::Debug for IntoIter<K, V> {
+    fn fmt<W: fmt::Write>(&self, f: &mut fmt::Formatter<W>) -> fmt::Result {
+        f.debug_struct("IntoIter")
+            .field("remaining", &self.len())
+            .finish()
+    }
+}
 
 impl<K: Key, V: Drop> IntoIterator for DenseSlotMap<K, V> {
     type Item = (K, V);

@@ -9,6 +9,7 @@ ghost use Rattle.slotmap_dense.specs.Dense.{IsDense, ListsPairs};
 use crate::DenseSlotMap;
 use slotmap_core::keys::Key;
 use std::alloc::AllocError;
+use std::fmt;
 use std::iter::FusedIterator;
 use std::marker::Model;
 
@@ -102,6 +103,14 @@ impl<'a, K: Key, V> ExactSizeIterator for Iter<'a, K, V> {
 
 impl<'a, K: Key, V> FusedIterator for Iter<'a, K, V> {}
 
+impl<'a, K: Key, V> fmt::Debug for Iter<'a, K, V> {
+    fn fmt<W: fmt::Write>(&self, f: &mut fmt::Formatter<W>) -> fmt::Result {
+        f.debug_struct("Iter")
+            .field("remaining", &self.len())
+            .finish()
+    }
+}
+
 /// An iterator over the live keys, in packed order: see [`DenseSlotMap::keys`].
 ///
 /// A contract sees it as the list of the keys that it will still yield. After its end it yields
@@ -179,6 +188,14 @@ impl<'a, K: Key, V> ExactSizeIterator for Keys<'a, K, V> {
 
 impl<'a, K: Key, V> FusedIterator for Keys<'a, K, V> {}
 
+impl<'a, K: Key, V> fmt::Debug for Keys<'a, K, V> {
+    fn fmt<W: fmt::Write>(&self, f: &mut fmt::Formatter<W>) -> fmt::Result {
+        f.debug_struct("Keys")
+            .field("remaining", &self.len())
+            .finish()
+    }
+}
+
 /// An iterator over the values, in packed order: see [`DenseSlotMap::values`].
 ///
 /// A contract sees it as the list of the values that it will still yield. After its end it yields
@@ -254,6 +271,14 @@ impl<'a, K: Key, V> ExactSizeIterator for Values<'a, K, V> {
 }
 
 impl<'a, K: Key, V> FusedIterator for Values<'a, K, V> {}
+
+impl<'a, K: Key, V> fmt::Debug for Values<'a, K, V> {
+    fn fmt<W: fmt::Write>(&self, f: &mut fmt::Formatter<W>) -> fmt::Result {
+        f.debug_struct("Values")
+            .field("remaining", &self.len())
+            .finish()
+    }
+}
 
 impl<K: Key, V> DenseSlotMap<K, V> {
     /// Returns an iterator over the live keys and their values, in packed order.

@@ -14,7 +14,7 @@ use crate::DenseSlotMap;
 use slotmap_core::keys::Key;
 use std::iter::FusedIterator;
 use std::marker::PhantomData;
-use std::slice;
+use std::{fmt, slice};
 
 /// An iterator over the live keys and mutable references to their values, in packed order: see
 /// [`DenseSlotMap::iter_mut`].
@@ -55,6 +55,14 @@ impl<'a, K: Key, V> ExactSizeIterator for IterMut<'a, K, V> {
 }
 
 impl<'a, K: Key, V> FusedIterator for IterMut<'a, K, V> {}
+
+impl<'a, K: Key, V> fmt::Debug for IterMut<'a, K, V> {
+    fn fmt<W: fmt::Write>(&self, f: &mut fmt::Formatter<W>) -> fmt::Result {
+        f.debug_struct("IterMut")
+            .field("remaining", &self.len())
+            .finish()
+    }
+}
 
 impl<'a, K: Key, V> IterMut<'a, K, V> {
     /// Returns how many pairs are left.
@@ -109,6 +117,14 @@ impl<'a, K, V> ExactSizeIterator for ValuesMut<'a, K, V> {
 }
 
 impl<'a, K, V> FusedIterator for ValuesMut<'a, K, V> {}
+
+impl<'a, K, V> fmt::Debug for ValuesMut<'a, K, V> {
+    fn fmt<W: fmt::Write>(&self, f: &mut fmt::Formatter<W>) -> fmt::Result {
+        f.debug_struct("ValuesMut")
+            .field("remaining", &self.len())
+            .finish()
+    }
+}
 
 impl<'a, K, V> ValuesMut<'a, K, V> {
     /// Returns how many values are left.

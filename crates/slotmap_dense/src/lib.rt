@@ -14,19 +14,18 @@
 //! ```
 #![tactic(auto)]
 
-ghost use Rattle.std.specs.Prelude.{◌≡◌, [], Some, ◌+◌, ◌≤◌, ◌↔◌, IsTrue, IfOk, IfErr, IsOk, OnOk, vec_len, vec_capacity};
+ghost use Rattle.std.specs.Prelude.{◌≡◌, [], Some, ◌+◌, ◌≤◌, ◌↔◌, IsTrue, IfOk, IfErr, IsOk, OnOk, true, vec_len, vec_capacity};
 ghost use Rattle.std.specs.FinMap as map;
 ghost use Rattle.slotmap_core.specs.Content.{used};
 ghost use Rattle.slotmap_core.specs.Transition.{IsNew};
 ghost use Rattle.slotmap_core.specs.Refusal.{RefusesCapacity};
+ghost use Rattle.slotmap_core.specs.Call.{MakesRoom as SlotsMakeRoom};
 ghost use Rattle.slotmap_dense.specs.Dense.{IsDense, IsEmpty};
 ghost use Rattle.slotmap_dense.specs.Call.{MakesRoom};
 
 mod access;
 mod clone;
-mod debug;
 mod detach;
-mod disjoint;
 mod drain;
 mod insert;
 mod into_iter;
@@ -47,6 +46,7 @@ use slotmap_core::keys::{DefaultKey, Key};
 use slotmap_core::layout::Rows;
 use slotmap_core::slots::Slots;
 use std::alloc::{AllocError, Global};
+use std::fmt;
 use std::marker::Model;
 
 /// A map that makes a key for each value that is inserted, and stores the values with no gaps.
@@ -106,6 +106,20 @@ pub(crate) fn make_room_in<T>(items: &mut Vec<T>, additional: usize) -> Result<(
         return Ok(());
     }
     items.reserve(additional)
+}
+
+// Makes room in the slots for `additional` more keys. For one key, as at an insert, the slots look at
+// their vacant slots first.
+#[inline(always)]
+fn make_room_in_slots(slots: &mut Slots<u32, Rows>, additional: usize) -> Result<(), ReserveError>
+    ensures makes_room { SlotsMakeRoom true slots.old additional (IsOk result) slots.new }
+    ensures err { IfErr result (RefusesCapacity (used slots.old + additional)) }
+{
+    if additional == 1 {
+        slots.make_room()
+    } else {
+        slots.reserve(additional)
+    }
 }
 
 impl<V: Drop> DenseSlotMap<DefaultKey, V> {
@@ -276,11 +290,12 @@ impl<K: Key, V: Drop> DenseSlotMap<K, V> {
     /// }
     /// assert_eq!(rt; map.capacity(), capacity);
     /// ```
+    #[inline(always)]
     pub fn reserve(&mut self, additional: usize) -> Result<(), ReserveError>
         ensures makes_room { MakesRoom self.old additional (IsOk result) self.new }
         ensures err { IfErr result (RefusesCapacity (used self.old.content + additional)) }
     {
-        self.slots.reserve(additional)?;
+        make_room_in_slots(&mut self.slots, additional)?;
         make_room_in(&mut self.keys, additional)?;
         make_room_in(&mut self.values, additional)?;
         Ok(())
@@ -299,5 +314,12 @@ impl<K: Key, V: Drop> DenseSlotMap<K, V> {
         ensures err { IfErr result (RefusesCapacity (used self.old.content + additional)) }
     {
         self.reserve(additional)
+    }
+}
+
+/// Prints the pairs, each key before its value, as Rust's own maps do.
+impl<K: Key, V: fmt::Debug> fmt::Debug for DenseSlotMap<K, V> {
+    fn fmt<W: fmt::Write>(&self, f: &mut fmt::Formatter<W>) -> fmt::Result {
+        f.debug_map().entries(self.iter()).finish()
     }
 }

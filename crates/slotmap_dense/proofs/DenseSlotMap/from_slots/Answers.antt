@@ -7,7 +7,7 @@ use Rattle.slotmap_core.proofs.StartLemmas.{odd_of}
 use Rattle.slotmap_core.proofs.KeyLemmas.{key_from-odd}
 use Rattle.slotmap_core.proofs.PlacesLemmas.{key}
 use Rattle.slotmap_core.proofs.ListReadLemmas.{next_consistent}
-use Rattle.slotmap_dense.proofs.ListReads.{AreSplit, AreSplit-start, AreSplit-live, AreSplit-none, same_places, refuses-positions, IsSound-split, reads-split, stack_alike}
+use Rattle.slotmap_dense.proofs.ListReads.{AreSplit, AreSplit-start, AreSplit-live, AreSplit-none, same_places, fewer_read, refuses-positions, IsSound-split, reads-split, stack_alike}
 use Rattle.slotmap_dense.proofs.Held.{dense_valid}
 use Rattle.slotmap_dense.proofs.DenseSlotMap.from_slots.Goals.{In_ok-check_slots, In-None}
 use Rattle.slotmap_dense.proofs.DenseSlotMap.from_slots.Goals.{in-Some-value+in_ok-push-in-Some-value+in_ok-push-in-Some-value-2, in-None-value}
@@ -39,27 +39,14 @@ loop-slot-init g c =
 pub overflow_cast-position : goal.overflow_cast-position
 overflow_cast-position g c =
     let at = c.loop-slot in
-    omega (
-      arith,
-      (accepted g (goal.at.overflow_cast-position g c).In_ok-check_slots).short,
-      at.invariant.counted,
-      at.invariant.split.fewer,
-      length-map at.keys.items g.K.Key.data_of,
-      c.len-position.ensures,
-      at.keys.ok.0,
-    )
+    let few = fewer_read _ _ _ _ at.invariant.split _ _ at.invariant.counted (accepted g (goal.at.overflow_cast-position g c).In_ok-check_slots) in
+    omega (arith, few.0, length-map at.keys.items g.K.Key.data_of, c.len-position.ensures, at.keys.ok.0)
 
 pub overflow_cast-len : goal.overflow_cast-len
 overflow_cast-len g c =
     let at = c.loop-slot in
-    omega (
-      arith,
-      (accepted g (goal.at.overflow_cast-len g c).In_ok-check_slots).short,
-      at.invariant.counted,
-      same_places _ _ _ _ at.invariant.split,
-      c.len-in-Some-value.ensures,
-      at.positions.ok.0,
-    )
+    let few = fewer_read _ _ _ _ at.invariant.split _ _ at.invariant.counted (accepted g (goal.at.overflow_cast-len g c).In_ok-check_slots) in
+    omega (arith, few.1, c.len-in-Some-value.ensures, at.positions.ok.0)
 
 pub loop-slot-preserved : goal.loop-slot-preserved
 loop-slot-preserved g c =
