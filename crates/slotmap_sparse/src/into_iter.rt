@@ -9,6 +9,7 @@ use crate::SparseSecondaryMap;
 use indexmap::map;
 use slotmap_core::keys::{Key, KeyData};
 use std::alloc::Global;
+use std::fmt;
 use std::hash::BuildHasher;
 use std::iter::FusedIterator;
 use std::marker::{Model, PhantomData};
@@ -50,6 +51,14 @@ impl<K, V: Drop> IntoIter<K, V> {
         ensures { result ≡ length self.now }
     {
         self.pairs.len()
+    }
+}
+
+impl<K, V: Drop> fmt::Debug for IntoIter<K, V> {
+    fn fmt<W: fmt::Write>(&self, f: &mut fmt::Formatter<W>) -> fmt::Result {
+        f.debug_struct("IntoIter")
+            .field("remaining", &self.len())
+            .finish()
     }
 }
 

@@ -11,6 +11,7 @@ use crate::SparseSecondaryMap;
 use indexmap::map;
 use slotmap_core::keys::{Key, KeyData};
 use std::alloc::AllocError;
+use std::fmt;
 use std::hash::BuildHasher;
 use std::iter::FusedIterator;
 use std::marker::{Model, PhantomData};
@@ -64,6 +65,14 @@ impl<'a, K, V> Clone for Iter<'a, K, V> {
             pairs: self.pairs.clone()?,
             keys: PhantomData,
         })
+    }
+}
+
+impl<'a, K, V> fmt::Debug for Iter<'a, K, V> {
+    fn fmt<W: fmt::Write>(&self, f: &mut fmt::Formatter<W>) -> fmt::Result {
+        f.debug_struct("Iter")
+            .field("remaining", &self.len())
+            .finish()
     }
 }
 
@@ -147,6 +156,14 @@ impl<'a, K, V> Clone for Keys<'a, K, V> {
     }
 }
 
+impl<'a, K, V> fmt::Debug for Keys<'a, K, V> {
+    fn fmt<W: fmt::Write>(&self, f: &mut fmt::Formatter<W>) -> fmt::Result {
+        f.debug_struct("Keys")
+            .field("remaining", &self.len())
+            .finish()
+    }
+}
+
 impl<'a, K: Key, V> Iterator for Keys<'a, K, V> {
     type Item = K;
 
@@ -219,6 +236,14 @@ impl<'a, K, V> Clone for Values<'a, K, V> {
         Ok(Values {
             pairs: self.pairs.clone()?,
         })
+    }
+}
+
+impl<'a, K, V> fmt::Debug for Values<'a, K, V> {
+    fn fmt<W: fmt::Write>(&self, f: &mut fmt::Formatter<W>) -> fmt::Result {
+        f.debug_struct("Values")
+            .field("remaining", &self.len())
+            .finish()
     }
 }
 
