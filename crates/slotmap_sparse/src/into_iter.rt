@@ -70,12 +70,8 @@ impl<K: Key, V: Drop> Iterator for IntoIter<K, V> {
     ghost remaining = { item_count (λ rest. rest) };
 
     fn next(&mut self) -> Option<(K, V)> {
-        match self.pairs.next() {
-            Some((index, (version, value))) => {
-                Some((K::from(KeyData::new(index, version)), value))
-            }
-            None => None,
-        }
+        let (index, (version, value)) = self.pairs.next()?;
+        Some((K::from(KeyData::new(index, version)), value))
     }
 
     fn size_hint(&self) -> (usize, Option<usize>)

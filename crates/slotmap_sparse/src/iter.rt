@@ -84,12 +84,8 @@ impl<'a, K: Key, V> Iterator for Iter<'a, K, V> {
     ghost remaining = { item_count (λ rest. rest) };
 
     fn next(&mut self) -> Option<(K, &'a V)> {
-        match self.pairs.next() {
-            Some((index, (version, value))) => {
-                Some((K::from(KeyData::new(*index, *version)), value))
-            }
-            None => None,
-        }
+        let (index, (version, value)) = self.pairs.next()?;
+        Some((K::from(KeyData::new(*index, *version)), value))
     }
 
     fn size_hint(&self) -> (usize, Option<usize>)
