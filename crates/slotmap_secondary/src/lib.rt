@@ -28,8 +28,6 @@ ghost use Rattle.slotmap_secondary.specs.Content.{IsContent, SetsCapacity};
 mod access;
 mod clear;
 mod clone;
-mod debug;
-mod disjoint;
 mod drain;
 mod entry;
 mod equal;
@@ -52,6 +50,7 @@ use slot::Slot;
 use slotmap_core::errors::ReserveError;
 use slotmap_core::keys::Key;
 use std::alloc::Global;
+use std::fmt;
 use std::marker::{Model, PhantomData};
 
 /// A map from the keys of another map to further values, for most of those keys.
@@ -95,6 +94,13 @@ impl<K, V> Model for SecondaryMap<K, V> {
     ghost view = { λ m. content_of m.slots.items (vec_capacity m.slots - 1) };
 
     ghost invariant = { λ m. IsSound m.slots.items m.len };
+}
+
+/// Prints the pairs, each key before its value, as Rust's own maps do.
+impl<K: Key, V: fmt::Debug> fmt::Debug for SecondaryMap<K, V> {
+    fn fmt<W: fmt::Write>(&self, f: &mut fmt::Formatter<W>) -> fmt::Result {
+        f.debug_map().entries(self.iter()).finish()
+    }
 }
 
 // The largest index of a key other than the null key.

@@ -1,4 +1,5 @@
 -- The entries of a hash map as a finite map.
+use Rattle.std.proofs.Common.{◌≢◌, ne_eqb, eq-eqb}
 use Rattle.std.proofs.Common.{◌≡◌, ℕ, ◌+◌, true, false, cond, nat_eq, List, [], ◌∷◌, length, Option, Some, None, is_some, refl, sym, ap, subst, ◌∙◌, nat_cmp, arith, inl, inr, MutBor, Result, Ok, OnOk, slice_get, ◌≤◌}
 use Rattle.std.specs.Option.{option_copied_mut, option_map}
 use Rattle.std.specs.Ordering.{eq_by_cmp}
@@ -16,11 +17,11 @@ use Rattle.std.proofs.lemmas.Map.Entries.{none_past_head, hash_map_get_place}
 use Rattle.std.proofs.lemmas.Option.{same_Some, slice_get-map}
 use Rattle.slotmap_core.proofs.Maps.{len_inserted, get_after_insert, insert_same}
 use Rattle.slotmap_core.specs.Key.{Key, IsKey}
-use Rattle.slotmap_core.specs.Secondary.{Pairs, IsSecondary, is_null, bind, put, get, contains_key}
+use Rattle.slotmap_core.specs.Secondary.{Pairs, IsSecondary, is_null, bind, put, get, contains_key, value_at}
 use Rattle.slotmap_sparse.specs.Content.{Content, IsContent, with_value, room}
 use Rattle.slotmap_sparse.specs.Found.{put_over}
 use Rattle.slotmap_sparse.specs.Entries.{pairs_of, content_of, IsSound}
-use Rattle.slotmap_core.proofs.StandLemmas.{get_stands, IsSecondary-empty, IsSecondary-bind, IsSecondary-put, IsSecondary-remove, same_version, not_null_at, put_at}
+use Rattle.slotmap_core.proofs.StandLemmas.{get_here, get_stands, IsSecondary-empty, IsSecondary-bind, IsSecondary-put, IsSecondary-remove, same_version, not_null_at, put_at}
 
 turned : (k q : ℕ) → nat_eq k q ≡ eq_by_cmp nat_cmp q k
 turned k q = nat_eq_equiv.symm k q ∙ sym (unsigned_tied q k)
@@ -40,9 +41,23 @@ module _ {V : Type 0} where
   pub found_pair : (es : Entries V) (p : Pairs V) → pairs_of es ≡ p → (q : ℕ) → lookup (nat_eq q) es ≡ map.get p q
   found_pair es p is q = sym (get-pairs es q) ∙ ap (λ (x : Pairs V). map.get x q) is
 
+  -- what a look-up of an index finds is at the index of the key
+  pub stands_at : {S : Type 0} (m : HashMap ℕ (ℕ × V) S) (c : Content V) → content_of m ≡ c → (k : Key) (i : ℕ) → i ≡ k.index → (o : Option (ℕ × V)) → lookup (nat_eq i) m.entries ≡ o
+      → map.get c.pairs k.index ≡ o
+  stands_at m c is k i at o found = sym (found_pair m.entries c.pairs (ap (λ (x : Content V). x.pairs) is) i ∙ ap (map.get c.pairs) at) ∙ found
+
   -- what a look-up of an index returned is there
   pub found_there : (es : Entries V) (i k : ℕ) → i ≡ k → (o : Option (ℕ × V)) → o ≡ lookup (nat_eq i) es → map.get (pairs_of es) k ≡ o
   found_there es i k at o found = ap (map.get (pairs_of es)) (sym at) ∙ get-pairs es i ∙ sym found
+
+  -- what a key finds at a pair that a look-up of its index lends
+  module _ {S : Type 0} (m : HashMap ℕ (ℕ × V) S) (c : Content V) (is : content_of m ≡ c) (k : Key) (i : ℕ) (at : i ≡ k.index) (p : ℕ × V)
+      (stood : lookup (nat_eq i) m.entries ≡ Some p) where
+    pub found_own : p.0 ≡ k.version → get c.pairs k ≡ Some p.1
+    found_own same = get_here c.pairs k p (stands_at m c is k i at (Some p) stood) (eq-eqb p.0 k.version same)
+
+    pub found_none : p.0 ≢ k.version → get c.pairs k ≡ None
+    found_none other = ap (value_at k.version) (stands_at m c is k i at (Some p) stood) ∙ ap (λ b. cond b (Some p.1) None) (ne_eqb p.0 k.version other)
 
   pub same_pairs : (es fs : Entries V) → ((q : ℕ) → lookup (nat_eq q) fs ≡ lookup (nat_eq q) es) → pairs_of fs ≡ pairs_of es
   same_pairs es fs same = map.same_map nat_cmp_total exact_unsigned _ _ (λ q. get-pairs fs q ∙ same q ∙ sym (get-pairs es q))
@@ -144,7 +159,7 @@ module _ {V : Type 0} where
 
     module _ (c : Content V) (is : content_of m ≡ c) where
       here : map.get c.pairs k.index ≡ Some p
-      here = sym (found_pair m.entries c.pairs (ap (λ (x : Content V). x.pairs) is) i ∙ ap (map.get c.pairs) at) ∙ stood
+      here = stands_at m c is k i at (Some p) stood
 
       module _ (stands : contains_key c.pairs k ≡ true) where
         pub content-at : (w : V) → content_of (written_at w) ≡ with_value c k w
@@ -167,7 +182,7 @@ module _ {V : Type 0} where
 
     pub content-through : (c : Content V) → content_of m ≡ c → contains_key c.pairs k ≡ true → content_of n ≡ with_value c k w
     content-through c is stands =
-        let there : map.get c.pairs k.index ≡ Some p = sym (found_pair m.entries c.pairs (ap (λ (x : Content V). x.pairs) is) i ∙ ap (map.get c.pairs) at) ∙ stood in
+        let there = stands_at m c is k i at (Some p) stood in
         let version : p.0 ≡ k.version = same_version c.pairs k stands p there in
         let memory : hash_map_len n + spare n ≡ c.capacity = (λ j. written.2 j + written.6 j) ∙ ap (λ (x : Content V). x.capacity) is in
         λ j. record { pairs = (put_there ∙ (λ l. map.insert (is l).pairs (at l) (version l, w))) j; capacity = memory j }
@@ -190,7 +205,7 @@ module _ {V : Type 0} where
       (i : ℕ) (at : i ≡ k.index) (p : ℕ × V) (v : V) (stood : lookup (nat_eq i) m.entries ≡ Some p)
       (written : WritesThrough nat_eq (nat_eq i) m (put_over k.version v p) n) where
     stands : map.get c.pairs k.index ≡ Some p
-    stands = sym (found_pair m.entries c.pairs (ap (λ (x : Content V). x.pairs) is) i ∙ ap (map.get c.pairs) at) ∙ stood
+    stands = stands_at m c is k i at (Some p) stood
 
     valid : IsSecondary c.pairs
     valid = valid_pairs m.entries c.pairs (ap (λ (x : Content V). x.pairs) is) sound

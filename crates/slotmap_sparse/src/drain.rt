@@ -7,6 +7,7 @@ ghost use Rattle.slotmap_sparse.specs.Content.{IsContent};
 
 use crate::SparseSecondaryMap;
 use slotmap_core::keys::Key;
+use std::fmt;
 use std::hash::BuildHasher;
 use std::iter::FusedIterator;
 
@@ -60,6 +61,14 @@ impl<'a, K: Key, V: Drop, S: BuildHasher + Drop> ExactSizeIterator for Drain<'a,
 }
 
 impl<'a, K: Key, V: Drop, S: BuildHasher + Drop> FusedIterator for Drain<'a, K, V, S> {}
+
+impl<'a, K: Key, V: Drop, S: BuildHasher + Drop> fmt::Debug for Drain<'a, K, V, S> {
+    fn fmt<W: fmt::Write>(&self, f: &mut fmt::Formatter<W>) -> fmt::Result {
+        f.debug_struct("Drain")
+            .field("remaining", &self.len())
+            .finish()
+    }
+}
 
 impl<K: Key, V: Drop, S: BuildHasher + Drop> SparseSecondaryMap<K, V, S> {
     ghost use Rattle.slotmap_sparse.specs.Drain.{drain_map, drain_lender, DrainKeepsAlong, DrainLists};

@@ -9,6 +9,7 @@ use crate::SparseSecondaryMap;
 use indexmap::map;
 use slotmap_core::keys::{Key, KeyData};
 use std::alloc::Global;
+use std::fmt;
 use std::hash::BuildHasher;
 use std::iter::FusedIterator;
 use std::marker::{Model, PhantomData};
@@ -53,6 +54,14 @@ impl<K, V: Drop> IntoIter<K, V> {
     }
 }
 
+impl<K, V: Drop> fmt::Debug for IntoIter<K, V> {
+    fn fmt<W: fmt::Write>(&self, f: &mut fmt::Formatter<W>) -> fmt::Result {
+        f.debug_struct("IntoIter")
+            .field("remaining", &self.len())
+            .finish()
+    }
+}
+
 impl<K: Key, V: Drop> Iterator for IntoIter<K, V> {
     type Item = (K, V);
 
@@ -61,12 +70,8 @@ impl<K: Key, V: Drop> Iterator for IntoIter<K, V> {
     ghost remaining = { item_count (λ rest. rest) };
 
     fn next(&mut self) -> Option<(K, V)> {
-        match self.pairs.next() {
-            Some((index, (version, value))) => {
-                Some((K::from(KeyData::new(index, version)), value))
-            }
-            None => None,
-        }
+        let (index, (version, value)) = self.pairs.next()?;
+        Some((K::from(KeyData::new(index, version)), value))
     }
 
     fn size_hint(&self) -> (usize, Option<usize>)

@@ -11,6 +11,7 @@ use crate::SparseSecondaryMap;
 use indexmap::map;
 use slotmap_core::keys::{Key, KeyData};
 use std::alloc::AllocError;
+use std::fmt;
 use std::hash::BuildHasher;
 use std::iter::FusedIterator;
 use std::marker::{Model, PhantomData};
@@ -67,6 +68,14 @@ impl<'a, K, V> Clone for Iter<'a, K, V> {
     }
 }
 
+impl<'a, K, V> fmt::Debug for Iter<'a, K, V> {
+    fn fmt<W: fmt::Write>(&self, f: &mut fmt::Formatter<W>) -> fmt::Result {
+        f.debug_struct("Iter")
+            .field("remaining", &self.len())
+            .finish()
+    }
+}
+
 impl<'a, K: Key, V> Iterator for Iter<'a, K, V> {
     type Item = (K, &'a V);
 
@@ -75,12 +84,8 @@ impl<'a, K: Key, V> Iterator for Iter<'a, K, V> {
     ghost remaining = { item_count (λ rest. rest) };
 
     fn next(&mut self) -> Option<(K, &'a V)> {
-        match self.pairs.next() {
-            Some((index, (version, value))) => {
-                Some((K::from(KeyData::new(*index, *version)), value))
-            }
-            None => None,
-        }
+        let (index, (version, value)) = self.pairs.next()?;
+        Some((K::from(KeyData::new(*index, *version)), value))
     }
 
     fn size_hint(&self) -> (usize, Option<usize>)
@@ -144,6 +149,14 @@ impl<'a, K, V> Clone for Keys<'a, K, V> {
         Ok(Keys {
             pairs: self.pairs.clone()?,
         })
+    }
+}
+
+impl<'a, K, V> fmt::Debug for Keys<'a, K, V> {
+    fn fmt<W: fmt::Write>(&self, f: &mut fmt::Formatter<W>) -> fmt::Result {
+        f.debug_struct("Keys")
+            .field("remaining", &self.len())
+            .finish()
     }
 }
 
@@ -219,6 +232,14 @@ impl<'a, K, V> Clone for Values<'a, K, V> {
         Ok(Values {
             pairs: self.pairs.clone()?,
         })
+    }
+}
+
+impl<'a, K, V> fmt::Debug for Values<'a, K, V> {
+    fn fmt<W: fmt::Write>(&self, f: &mut fmt::Formatter<W>) -> fmt::Result {
+        f.debug_struct("Values")
+            .field("remaining", &self.len())
+            .finish()
     }
 }
 

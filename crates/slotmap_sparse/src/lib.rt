@@ -26,8 +26,6 @@ ghost use Rattle.slotmap_sparse.specs.Content.{IsContent, MakesRoom, RefusesRoom
 mod access;
 mod clear;
 mod clone;
-mod debug;
-mod disjoint;
 mod drain;
 mod entry;
 mod equal;
@@ -49,6 +47,7 @@ pub use iter::{Iter, Keys, Values};
 use slotmap_core::errors::ReserveError;
 use slotmap_core::keys::Key;
 use std::alloc::Global;
+use std::fmt;
 use std::hash::{BuildHasher, BuildHasherDefault, FoldHasher};
 use std::marker::{Model, PhantomData};
 
@@ -106,6 +105,13 @@ impl<K, V, S: BuildHasher> Model for SparseSecondaryMap<K, V, S> {
     ghost view = { λ m. content_of m.slots };
 
     ghost invariant = { λ m. IsSound m.slots.entries };
+}
+
+/// Prints the pairs, each key before its value, as Rust's own maps do.
+impl<K: Key, V: fmt::Debug, S: BuildHasher> fmt::Debug for SparseSecondaryMap<K, V, S> {
+    fn fmt<W: fmt::Write>(&self, f: &mut fmt::Formatter<W>) -> fmt::Result {
+        f.debug_map().entries(self.iter()).finish()
+    }
 }
 
 // The number of indices that keys other than the null key have.

@@ -1,9 +1,6 @@
-use Rattle.std.proofs.Common.{◌≡◌, true, refl, subst, ap}
-use Rattle.slotmap_core.specs.Secondary.{contains_key}
-use Rattle.slotmap_core.proofs.StandLemmas.{without_own}
-use Rattle.slotmap_sparse.specs.Entry.{IsInPlace}
+use Rattle.std.proofs.Common.{refl, ap, arith}
 use Rattle.slotmap_core.proofs.SecondaryLemmas.{get_bound}
-use Rattle.slotmap_core.proofs.StandLemmas.{in_own, bind_twice}
+use Rattle.slotmap_core.proofs.StandLemmas.{in_own, bind_twice, without_own}
 use Rattle.slotmap_sparse.proofs.entry.Entry.and_modify.Goals as goal
 
 pub returns-in-Occupied-clause-in_place : goal.returns-in-Occupied-clause-in_place
@@ -15,13 +12,8 @@ returns-in-Occupied-clause-same_writes g c w =
     rw c.in-Occupied.is (ap (λ m. record e.map.now { pairs = m }) (bind_twice e.map.now.pairs (g.K.Key.data_of e.key) c.f.new.arg2 w))
 
 pub returns-in-Occupied-clause-same_removal : goal.returns-in-Occupied-clause-same_removal
-returns-in-Occupied-clause-same_removal g c =
-    let e = c.in-Occupied.entry in
-    let in_place : contains_key e.map.now.pairs (g.K.Key.data_of e.key) ≡ true = subst (λ x. IsInPlace g.K.Key.data_of x) c.in-Occupied.is c.requires.in_place in
-    rw (c.in-Occupied.is, without_own e.map.now.pairs (g.K.Key.data_of e.key) c.f.new.arg2 in_place) refl
+returns-in-Occupied-clause-same_removal g c = grind (arith, without_own, c.requires.in_place)
 
 pub returns-in-Occupied-clause-value : goal.returns-in-Occupied-clause-value
 returns-in-Occupied-clause-value g c =
-    let e = c.in-Occupied.entry in
-    let own = get_bound e.map.now.pairs (g.K.Key.data_of e.key) c.f.new.arg2 in
-    rw (c.in-Occupied.is, c.value_near.ensures.value, own) (record { lent = c.value_near.result; result = c.f.result; left = _; before = refl; met = c.f.ensures; after = refl })
+    rw (c.in-Occupied.is, c.value_near.ensures.value, get_bound) (record { lent = c.value_near.result; result = c.f.result; left = _; before = refl; met = c.f.ensures; after = refl })
