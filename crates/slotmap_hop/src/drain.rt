@@ -6,6 +6,7 @@ ghost use Rattle.slotmap_hop.specs.HopContent.{IsHopContent};
 
 use crate::HopSlotMap;
 use slotmap_core::keys::Key;
+use std::fmt;
 use std::iter::FusedIterator;
 
 /// An iterator that takes the pairs out of a map, by ascending index.
@@ -68,6 +69,14 @@ impl<'a, K: Key, V: Drop> ExactSizeIterator for Drain<'a, K, V> {
 }
 
 impl<'a, K: Key, V: Drop> FusedIterator for Drain<'a, K, V> {}
+
+impl<'a, K: Key, V: Drop> fmt::Debug for Drain<'a, K, V> {
+    fn fmt<W: fmt::Write>(&self, f: &mut fmt::Formatter<W>) -> fmt::Result {
+        f.debug_struct("Drain")
+            .field("remaining", &self.len())
+            .finish()
+    }
+}
 
 impl<K: Key, V: Drop> HopSlotMap<K, V> {
     ghost use Rattle.slotmap_core.specs.Draining.{KeepsLoan, KeepsAlong, ListsAlong, InOrderAlong};

@@ -11,6 +11,7 @@ use crate::iter::next_live;
 use crate::links::{Slot, links_at, use_up};
 use slotmap_core::keys::{Key, KeyData};
 use std::alloc::AllocError;
+use std::fmt;
 use std::iter::FusedIterator;
 use std::marker::{Model, PhantomData};
 
@@ -128,6 +129,14 @@ impl<K: Key, V: Drop> ExactSizeIterator for IntoIter<K, V> {
 }
 
 impl<K: Key, V: Drop> FusedIterator for IntoIter<K, V> {}
+
+impl<K, V> fmt::Debug for IntoIter<K, V> {
+    fn fmt<W: fmt::Write>(&self, f: &mut fmt::Formatter<W>) -> fmt::Result {
+        f.debug_struct("IntoIter")
+            .field("remaining", &self.len())
+            .finish()
+    }
+}
 
 impl<K: Key, V: Drop> IntoIterator for HopSlotMap<K, V> {
     type Item = (K, V);

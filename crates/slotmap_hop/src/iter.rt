@@ -13,6 +13,7 @@ use crate::links::{Slot, State, links_at};
 use slotmap_core::keys::{Key, KeyData};
 use slotmap_core::sure::rule_out;
 use std::alloc::AllocError;
+use std::fmt;
 use std::iter::FusedIterator;
 use std::marker::{Model, PhantomData};
 
@@ -175,6 +176,14 @@ impl<'a, K: Key, V> ExactSizeIterator for Iter<'a, K, V> {
 
 impl<'a, K: Key, V> FusedIterator for Iter<'a, K, V> {}
 
+impl<'a, K, V> fmt::Debug for Iter<'a, K, V> {
+    fn fmt<W: fmt::Write>(&self, f: &mut fmt::Formatter<W>) -> fmt::Result {
+        f.debug_struct("Iter")
+            .field("remaining", &self.len())
+            .finish()
+    }
+}
+
 /// An iterator over the live keys, by ascending index: see [`HopSlotMap::keys`].
 ///
 /// A contract sees it as the list of the keys that it will still yield, with the two other
@@ -269,6 +278,14 @@ impl<'a, K: Key, V> ExactSizeIterator for Keys<'a, K, V> {
 
 impl<'a, K: Key, V> FusedIterator for Keys<'a, K, V> {}
 
+impl<'a, K, V> fmt::Debug for Keys<'a, K, V> {
+    fn fmt<W: fmt::Write>(&self, f: &mut fmt::Formatter<W>) -> fmt::Result {
+        f.debug_struct("Keys")
+            .field("remaining", &self.len())
+            .finish()
+    }
+}
+
 /// An iterator over the values, by ascending index of their keys: see [`HopSlotMap::values`].
 ///
 /// A contract sees it as the list of the values that it will still yield, with the two other
@@ -362,6 +379,14 @@ impl<'a, K: Key, V> ExactSizeIterator for Values<'a, K, V> {
 }
 
 impl<'a, K: Key, V> FusedIterator for Values<'a, K, V> {}
+
+impl<'a, K, V> fmt::Debug for Values<'a, K, V> {
+    fn fmt<W: fmt::Write>(&self, f: &mut fmt::Formatter<W>) -> fmt::Result {
+        f.debug_struct("Values")
+            .field("remaining", &self.len())
+            .finish()
+    }
+}
 
 impl<K: Key, V> HopSlotMap<K, V> {
     /// Returns an iterator over the live keys and their values, by ascending index.

@@ -31,8 +31,6 @@ ghost use Rattle.slotmap_hop.specs.HopContent.{IsHopContent, MakesHopRoom, NoBlo
 mod access;
 mod clone;
 mod counted;
-mod debug;
-mod disjoint;
 mod drain;
 mod insert;
 mod into_iter;
@@ -51,6 +49,7 @@ use slotmap_core::errors::ReserveError;
 use slotmap_core::keys::{DefaultKey, Key};
 use slotmap_core::limits::MOST_KEYS;
 use std::alloc::Global;
+use std::fmt;
 use std::marker::{Model, PhantomData};
 
 /// A map that makes a key for each value that is inserted, with iterators that skip vacant slots.
@@ -311,5 +310,12 @@ impl<K: Key, V: Drop> HopSlotMap<K, V> {
         ensures reuses { additional ≤ map.len self.old.content.next → IsOk result }
     {
         self.reserve(additional)
+    }
+}
+
+/// Prints the pairs, each key before its value, as Rust's own maps do.
+impl<K: Key, V: fmt::Debug> fmt::Debug for HopSlotMap<K, V> {
+    fn fmt<W: fmt::Write>(&self, f: &mut fmt::Formatter<W>) -> fmt::Result {
+        f.debug_map().entries(self.iter()).finish()
     }
 }
