@@ -1,7 +1,7 @@
 //! Slots in three vectors of one length.
 
 ghost use Rattle.std.specs.Prelude.{◌≡◌, ◌<◌, ◌≤◌, ◌%◌, ◌^◌, ℕ, List, length, slice_get, Some, IsSome, refl, vec_capacity};
-ghost use Rattle.slotmap_core.specs.Columns.{AllEven, HasEachOdd, zip_slots};
+ghost use Rattle.slotmap_core.specs.Columns.{AllEven, IsNextOdd, HasEachOdd, zip_slots};
 ghost use Rattle.slotmap_core.specs.Pass.{MayPass, Passes, in_columns, in_slots, stage};
 ghost use Rattle.slotmap_core.specs.Slot.{version_at, payload_at};
 ghost use Rattle.slotmap_core.specs.declared.layout.Link.{Link as LinkOf};
@@ -74,10 +74,7 @@ fn skip_even(versions: &[u32], start: usize) -> usize
 #[inline(always)]
 pub(crate) fn next_odd(versions: &[u32], start: usize) -> usize
     requires { start ≤ length versions.now }
-    ensures on { start ≤ result }
-    ensures within { result ≤ length versions.now }
-    ensures passed { AllEven versions.now start result }
-    ensures odd { (v : ℕ) → slice_get versions.now result ≡ Some v → v % 2 ≡ 1 }
+    ensures { IsNextOdd versions.now start result }
 {
     if start < versions.len() && versions[start] % 2 == 1 {
         return start;
@@ -91,10 +88,7 @@ pub(crate) fn next_odd(versions: &[u32], start: usize) -> usize
 #[inline(never)]
 fn search_odd(versions: &[u32], start: usize) -> usize
     requires { start ≤ length versions.now }
-    ensures on { start ≤ result }
-    ensures within { result ≤ length versions.now }
-    ensures passed { AllEven versions.now start result }
-    ensures odd { (v : ℕ) → slice_get versions.now result ≡ Some v → v % 2 ≡ 1 }
+    ensures { IsNextOdd versions.now start result }
 {
     let mut index = start;
     while index < versions.len() {
@@ -113,10 +107,7 @@ fn search_odd(versions: &[u32], start: usize) -> usize
 #[inline(never)]
 fn search_blocks(versions: &[u32], start: usize) -> usize
     requires { start ≤ length versions.now }
-    ensures on { start ≤ result }
-    ensures within { result ≤ length versions.now }
-    ensures passed { AllEven versions.now start result }
-    ensures odd { (v : ℕ) → slice_get versions.now result ≡ Some v → v % 2 ≡ 1 }
+    ensures { IsNextOdd versions.now start result }
 {
     let mut index = skip_even(versions, start);
     while index < versions.len() {
