@@ -121,14 +121,10 @@ pub next_consistent : {V : Type 0} (records before after : List (SlotRecord V)) 
 next_consistent records before after made limit accepted whole =
     grind (arith, common_steps, accepted.consistent (length before) made, slice_get-get_or records (length before) made)
 
--- the first element that an iterator yields, if there is one
-pub taken_first : {X : Type 0} (items rest : List X) (len left : ℕ) (taken : Option X)
-    → MatchOption taken ((len ≡ 0) × (left ≡ 0)) (λ x. (items ≡ x ∷ rest) × (left + 1 ≡ len)) → 0 < len → (x : X) × (items ≡ x ∷ rest)
-    × (left + 1 ≡ len)
-taken_first items rest len left taken steps some = grind arith
-
-pub some_records : {V : Type 0} (records : List (SlotRecord V)) (limit : ℕ) → Accepts records limit → 0 < length records
-some_records records limit accepted = slice_get_within records 0 accepted.first_empty.0 accepted.first_empty.1
+-- the first record of an accepted list is the one that an iterator over the list yields
+pub first_taken : {V : Type 0} (records : List (SlotRecord V)) (limit : ℕ) → Accepts records limit → {items rest : List (SlotRecord V)} {len : ℕ} (left : ℕ) (taken : Option (SlotRecord V))
+    → MatchOption taken ((len ≡ 0) × (left ≡ 0)) (λ x. (items ≡ x ∷ rest) × (left + 1 ≡ len)) → len ≡ length records → (x : SlotRecord V) × (items ≡ x ∷ rest) × (left + 1 ≡ len)
+first_taken records limit accepted left taken steps whole = grind (arith, slice_get_within records 0 accepted.first_empty.0 accepted.first_empty.1)
 
 -- all records of an accepted list were read
 module _ {V : Type 0} (records : List (SlotRecord V)) (slots : List (Slot V)) (head free count : ℕ) (read : AreRead records slots head free count)

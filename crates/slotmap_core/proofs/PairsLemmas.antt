@@ -3,7 +3,7 @@ use Rattle.std.proofs.Common.{◌≡◌, ℕ, zero, suc, ◌+◌, ◌-◌, ◌<�
 use Rattle.std.proofs.lemmas.Option.{slice_get_within, get_or_from_slice_get}
 use Rattle.std.proofs.lemmas.List.{length-set, length-drop, drop_more, drop-set-lt}
 use Rattle.std.specs.FinMap as map
-use Rattle.slotmap_core.specs.Columns.{zip_slots, AllEven}
+use Rattle.slotmap_core.specs.Columns.{zip_slots, AllEven, IsNextOdd}
 use Rattle.slotmap_core.specs.Key.{IsKey}
 use Rattle.slotmap_core.specs.Places.{live}
 use Rattle.slotmap_core.specs.Slot.{Slot, IsSlot, IsSound, places_of}
@@ -124,11 +124,11 @@ pass_all vs xs left (suc n) i walk within even =
 
 -- while a value is left, the next one is at the first odd version, also if the versions were read as another list
 pub next_on : {V : Type 0} {vs : List ℕ} {xs : List (Option V)} {i left : ℕ} → IsWalk vs xs i left → 0 < left → {seen : List ℕ} → seen ≡ vs
-    → {end : ℕ} → i ≤ end → end ≤ length seen → AllEven seen i end → ((v : ℕ) → slice_get seen end ≡ Some v → v % 2 ≡ 1) → Next vs xs i left end
-next_on {V} {vs} {xs} {i} {left} walk some {seen} whole {end} on within even odd =
-    let stop : i + (end - i) ≡ end = omega arith in
-    let past = pass_all vs xs left (end - i) i walk (omega (arith, ap length whole)) (λ j v from below at. even j v from (omega arith) (ap (λ vs. slice_get vs j) whole ∙ at)) in
+    → {end : ℕ} → IsNextOdd seen i end → Next vs xs i left end
+next_on {V} {vs} {xs} {i} {left} walk some {seen} whole {end} found =
+    let stop : i + (end - i) ≡ end = omega (arith, found.on) in
+    let past = pass_all vs xs left (end - i) i walk (omega (arith, ap length whole, found.on, found.within)) (λ j v from below at. found.passed j v from (omega (arith, found.on)) (ap (λ vs. slice_get vs j) whole ∙ at)) in
     let to : IsWalk vs xs end left × (pairs_left end vs xs ≡ pairs_left i vs xs) = subst (λ m. IsWalk vs xs m left × (pairs_left m vs xs ≡ pairs_left i vs xs)) stop past in
-    let version = found_within vs end (omega (arith, to.0.counted, length-pairs end (drop end vs) (drop end xs), length-drop end vs)) in
+    let version = found_within vs end (omega (arith, found.within, ap length whole, to.0.counted, length-pairs end (drop end vs) (drop end xs), length-drop end vs)) in
     let value = found_within xs end (omega (arith, slice_get_within vs end version.0 version.1, walk.values_length)) in
-    comes vs xs end left to.0 i to.1 version.0 value.0 version.1 value.1 (odd version.0 (ap (λ vs. slice_get vs end) whole ∙ version.1))
+    comes vs xs end left to.0 i to.1 version.0 value.0 version.1 value.1 (found.odd version.0 (ap (λ vs. slice_get vs end) whole ∙ version.1))

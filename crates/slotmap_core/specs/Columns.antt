@@ -7,6 +7,13 @@ use Rattle.slotmap_core.specs.declared.layout.Link.{Link}
 abbrev pub AllEven : List ℕ → ℕ → ℕ → Type 0
 AllEven versions start end = (i v : ℕ) → start ≤ i → i < end → slice_get versions i ≡ Some v → v % 2 ≡ 0
 
+-- `found` is the first index from `start` on with an odd version, or the number of versions
+pub record IsNextOdd (versions : List ℕ) (start found : ℕ) : Type 0 where
+  pub on : start ≤ found
+  pub within : found ≤ length versions
+  pub passed : AllEven versions start found
+  pub odd : (v : ℕ) → slice_get versions found ≡ Some v → v % 2 ≡ 1
+
 module _ {P : Type 0} where
   -- there is a payload at each odd version
   abbrev pub HasEachOdd : List ℕ → List (Option P) → Type 0

@@ -14,15 +14,15 @@ use Rattle.slotmap_sparse.specs.Content.{Content}
 use Rattle.slotmap_sparse.specs.Entries.{pairs_of, content_of, IsSound}
 use Rattle.slotmap_sparse.proofs.EntriesLemmas.{get-pairs, found_pair, pairs_taken, IsSound-taken}
 use Rattle.slotmap_sparse.specs.declared.drain.Drain.{Drain}
-use Rattle.slotmap_sparse.specs.Drain.{TakesPair, drain_map, drain_count}
+use Rattle.slotmap_sparse.specs.Drain.{TakesPair, drain_count}
 
 module _ {K V S Z : Type 0} (data_of : K → Key) where
   -- a step leaves fewer pairs
-  pub Drain-goes : (can : Drain K V S Z → Type 0) → ((d : Drain K V S Z) → can d) → (old new : Drain K V S Z) (item : Option (K × V)) → TakesPair data_of (drain_map old) item (drain_map new)
+  pub Drain-goes : (can : Drain K V S Z → Type 0) → ((d : Drain K V S Z) → can d) → (old new : Drain K V S Z) (item : Option (K × V)) → TakesPair data_of old.map.now item new.map.now
       → MakesProgress can drain_count old item new
   Drain-goes can always old new None taken = record { on = λ _. tt; keeps = tt; rests = λ finite. finite }
   Drain-goes can always old new (Some item) taken =
-      let fewer = len_taken (drain_map old).pairs (data_of item.0) (ap is_some taken.0) in
+      let fewer = len_taken old.map.now.pairs (data_of item.0) (ap is_some taken.0) in
       record { on = λ finite. (always new, finite, omega (arith, fewer, ap map.len taken.1)); keeps = always new; rests = λ _. tt }
 
 last_found : {X : Type 0} (t : ℕ → Bool) (es : List (ℕ × X)) (e : ℕ × X) → lookup t es ≡ None → t e.0 ≡ true → lookup t (es ++ e ∷ []) ≡ Some e.1

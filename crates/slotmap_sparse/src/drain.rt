@@ -19,11 +19,11 @@ pub struct Drain<'a, K: Key, V, S: BuildHasher> {
 }
 
 impl<'a, K: Key, V: Drop, S: BuildHasher + Drop> Drop for Drain<'a, K, V, S> {
-    ghost use Rattle.slotmap_sparse.specs.Drain.{drain_map};
+    ghost use Rattle.slotmap_sparse.specs.Drain.{drain_loan};
 
     fn drop(self)
         ensures ends { self.exit.0.now.pairs ≡ map.empty }
-        ensures capacity { (drain_map self.entry).capacity ≤ self.exit.0.now.capacity }
+        ensures capacity { (drain_loan self.entry).now.capacity ≤ self.exit.0.now.capacity }
         ensures valid { IsContent self.exit.0.now }
     {
         let Drain { map } = self;
@@ -71,7 +71,9 @@ impl<'a, K: Key, V: Drop, S: BuildHasher + Drop> fmt::Debug for Drain<'a, K, V, 
 }
 
 impl<K: Key, V: Drop, S: BuildHasher + Drop> SparseSecondaryMap<K, V, S> {
-    ghost use Rattle.slotmap_sparse.specs.Drain.{drain_map, drain_lender, DrainKeepsAlong, DrainLists};
+    ghost use Rattle.slotmap_core.specs.Draining.{KeepsAlong, ListsAlong};
+    ghost use Rattle.slotmap_core.specs.Secondary.{keyed};
+    ghost use Rattle.slotmap_sparse.specs.Drain.{drain_loan, DrainKeeps, DrainSteps};
 
     /// Returns an iterator that removes the keys and yields them with their values, in any order.
     ///
@@ -85,12 +87,12 @@ impl<K: Key, V: Drop, S: BuildHasher + Drop> SparseSecondaryMap<K, V, S> {
     /// assert!(rt; map.is_empty());
     /// ```
     pub fn drain(&mut self) -> Drain<'_, K, V, S>
-        ensures map { drain_map result ≡ self.old }
-        ensures same_reference { drain_lender result ≡ self.entry.ghost_name }
+        ensures map { (drain_loan result).now ≡ self.old }
+        ensures same_reference { (drain_loan result).ghost_name ≡ self.entry.ghost_name }
 
         // Laws of the steps, for callers that go on with the iterator.
-        ensures stays { DrainKeepsAlong K.data_of result }
-        ensures lists { DrainLists K.data_of result }
+        ensures stays { KeepsAlong (DrainSteps K.data_of) DrainKeeps result }
+        ensures lists { ListsAlong K.data_of (λ d. keyed (drain_loan d).now.pairs) (DrainSteps K.data_of) result }
     {
         Drain { map: self }
     }

@@ -1,7 +1,8 @@
 //! Slots in three vectors of one length.
 
 ghost use Rattle.std.specs.Prelude.{◌≡◌, ◌<◌, ◌≤◌, ◌%◌, ◌^◌, ℕ, List, length, slice_get, Some, IsSome, refl, vec_capacity};
-ghost use Rattle.slotmap_core.specs.Columns.{AllEven, HasEachOdd, zip_slots};
+ghost use Rattle.slotmap_core.specs.Columns.{AllEven, IsNextOdd, HasEachOdd, zip_slots};
+ghost use Rattle.slotmap_core.specs.Numbers.{links_of};
 ghost use Rattle.slotmap_core.specs.Pass.{MayPass, Passes, in_columns, in_slots, stage};
 ghost use Rattle.slotmap_core.specs.Slot.{version_at, payload_at};
 ghost use Rattle.slotmap_core.specs.declared.layout.Link.{Link as LinkOf};
@@ -74,10 +75,7 @@ fn skip_even(versions: &[u32], start: usize) -> usize
 #[inline(always)]
 pub(crate) fn next_odd(versions: &[u32], start: usize) -> usize
     requires { start ≤ length versions.now }
-    ensures on { start ≤ result }
-    ensures within { result ≤ length versions.now }
-    ensures passed { AllEven versions.now start result }
-    ensures odd { (v : ℕ) → slice_get versions.now result ≡ Some v → v % 2 ≡ 1 }
+    ensures { IsNextOdd versions.now start result }
 {
     if start < versions.len() && versions[start] % 2 == 1 {
         return start;
@@ -91,10 +89,7 @@ pub(crate) fn next_odd(versions: &[u32], start: usize) -> usize
 #[inline(never)]
 fn search_odd(versions: &[u32], start: usize) -> usize
     requires { start ≤ length versions.now }
-    ensures on { start ≤ result }
-    ensures within { result ≤ length versions.now }
-    ensures passed { AllEven versions.now start result }
-    ensures odd { (v : ℕ) → slice_get versions.now result ≡ Some v → v % 2 ≡ 1 }
+    ensures { IsNextOdd versions.now start result }
 {
     let mut index = start;
     while index < versions.len() {
@@ -113,10 +108,7 @@ fn search_odd(versions: &[u32], start: usize) -> usize
 #[inline(never)]
 fn search_blocks(versions: &[u32], start: usize) -> usize
     requires { start ≤ length versions.now }
-    ensures on { start ≤ result }
-    ensures within { result ≤ length versions.now }
-    ensures passed { AllEven versions.now start result }
-    ensures odd { (v : ℕ) → slice_get versions.now result ≡ Some v → v % 2 ≡ 1 }
+    ensures { IsNextOdd versions.now start result }
 {
     let mut index = skip_even(versions, start);
     while index < versions.len() {
@@ -229,6 +221,22 @@ impl<P> Columns<P> {
 }
 
 impl<P> Columns<P> {
+    // Returns the slots in these, with room for all that fit.
+    fn with_room(versions: Vec<u32>, numbers: Vec<u32>, payloads: Vec<Option<P>>) -> Columns<P>
+        requires numbers_length { length numbers.items ≡ length versions.items }
+        requires payloads_length { length payloads.items ≡ length versions.items }
+        ensures slots { result.slots ≡ zip_slots versions.items (links_of versions.items numbers.items) payloads.items }
+        ensures room { (n : ℕ) → n < 2 ^ 32 → n ≤ vec_capacity versions → n ≤ vec_capacity numbers → n ≤ vec_capacity payloads → n ≤ result.capacity }
+    {
+        let capacity = Columns::room(&versions, &numbers, &payloads);
+        Columns {
+            versions,
+            numbers,
+            payloads,
+            capacity,
+        }
+    }
+
     // Returns the versions and the payloads, and drops the numbers.
     pub(crate) fn into_parts(self) -> (Vec<u32>, Vec<Option<P>>)
         ensures { (links : List LinkOf) × (length links ≡ length result.0.items) × (length result.1.items ≡ length result.0.items) × (zip_slots result.0.items links result.1.items ≡ self.slots) }
@@ -258,13 +266,7 @@ impl<P> Layout<P> for Columns<P> {
         let versions = Vec::with_capacity(alloc, count)?;
         let numbers = Vec::with_capacity(alloc, count)?;
         let payloads = Vec::with_capacity(alloc, count)?;
-        let capacity = Columns::room(&versions, &numbers, &payloads);
-        Ok(Columns {
-            versions,
-            numbers,
-            payloads,
-            capacity,
-        })
+        Ok(Columns::with_room(versions, numbers, payloads))
     }
 
     fn allocator(&self) -> Global {
@@ -356,12 +358,6 @@ impl<P: Clone> CopyLayout<P> for Columns<P> {
         let versions = Vec::from_slice(alloc, &self.versions)?;
         let numbers = Vec::from_slice(alloc, &self.numbers)?;
         let payloads = self.payloads.clone()?;
-        let capacity = Columns::room(&versions, &numbers, &payloads);
-        Ok(Columns {
-            versions,
-            numbers,
-            payloads,
-            capacity,
-        })
+        Ok(Columns::with_room(versions, numbers, payloads))
     }
 }

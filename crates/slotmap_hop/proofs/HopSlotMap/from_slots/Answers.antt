@@ -2,7 +2,7 @@ use Rattle.std.proofs.Common.{◌≡◌, ◌∷◌, ◌++◌, [], length, true, 
 use Rattle.std.specs.Vec.Iter.{into_iter_items}
 use Rattle.std.proofs.lemmas.List.{with_items_is}
 use Rattle.slotmap_core.specs.Slots.{Accepts, AllFitBelow}
-use Rattle.slotmap_core.proofs.ListReadLemmas.{reads_as, taken_first, some_records}
+use Rattle.slotmap_core.proofs.ListReadLemmas.{reads_as, first_taken}
 use Rattle.slotmap_hop.proofs.SlotLemmas.{valid, same_length}
 use Rattle.slotmap_hop.proofs.ReadLemmas.{AreRead, AreRead-first, AreRead-vacant, AreRead-in_use, read_count, with_slot, can_open, IsSound-read, starts-read, reading_counted, reading_all, reading_on}
 use Rattle.slotmap_hop.proofs.HopSlotMap.from_slots.Goals.{In_ok-check_slots, In-None, After-push_reserved-in-loop-slot}
@@ -14,8 +14,7 @@ accepted g c = subst (λ l. Accepts l 4294967295) c.deref.ensures.value (c.in_ok
 pub loop-slot-init : goal.loop-slot-init
 loop-slot-init g c =
     let list = c.args.list in
-    let some = some_records list.items 4294967295 (accepted g (goal.at.loop-slot-init g c).In_ok-check_slots) in
-    let taken = taken_first _ _ _ _ c.next.result c.next.ensures.cases (omega (arith, some, c.into_iter-records.ensures.len, list.ok.0)) in
+    let taken = first_taken list.items 4294967295 (accepted g (goal.at.loop-slot-init g c).In_ok-check_slots) _ c.next.result c.next.ensures.cases (c.into_iter-records.ensures.len ∙ list.ok.0) in
     let rest = c.into_iter-slot-iterator.ensures.into_iter_gives in
     let made = c.in_ok-slots.ensures in
     let whole : taken.0 ∷ into_iter_items c.next.new.self ≡ list.items = sym taken.1 ∙ c.into_iter-records.ensures.rest in

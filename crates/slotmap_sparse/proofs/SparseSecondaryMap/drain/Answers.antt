@@ -1,10 +1,11 @@
 use Rattle.std.proofs.Common.{refl, ◌∙◌, arith}
-use Rattle.slotmap_core.proofs.SecondaryDrains.{kept_along, lists_taken}
-use Rattle.slotmap_sparse.specs.Drain.{drain_map, DrainKeeps, DrainSteps}
+use Rattle.slotmap_core.proofs.DrainingLemmas.{kept_along}
+use Rattle.slotmap_core.proofs.SecondaryDrains.{lists_taken}
+use Rattle.slotmap_sparse.specs.Drain.{drain_loan, DrainKeeps, DrainSteps}
 use Rattle.slotmap_sparse.proofs.SparseSecondaryMap.drain.Goals as goal
 
 pub returns-clause-stays : goal.returns-clause-stays
 returns-clause-stays g c = kept_along (DrainSteps g.K.Key.data_of) DrainKeeps (λ d. (refl, omega arith)) (λ _ _ _ item step rest. (rest.0 ∙ step.1.0, omega (arith, step.1.1, rest.1))) _
 
 pub returns-clause-lists : goal.returns-clause-lists
-returns-clause-lists g c = lists_taken g.K.Key.data_of (λ d. (drain_map d).pairs) (DrainSteps g.K.Key.data_of) (λ _ _ item step. step.0) _
+returns-clause-lists g c = lists_taken g.K.Key.data_of (λ d. (drain_loan d).now.pairs) (DrainSteps g.K.Key.data_of) (λ _ _ item step. step.0) _

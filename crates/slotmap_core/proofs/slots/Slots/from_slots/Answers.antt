@@ -8,7 +8,7 @@ use Rattle.slotmap_core.proofs.StartFits.{starts-stack}
 use Rattle.slotmap_core.proofs.StartLemmas.{odd_of, even_where}
 use Rattle.slotmap_core.proofs.SlotLemmas.{valid, FitsEmpty-free, head_within}
 use Rattle.slotmap_core.proofs.HeldLemmas.{vacancies-push}
-use Rattle.slotmap_core.proofs.ListReadLemmas.{AreRead, AreRead-first, AreRead-live, AreRead-retired, AreRead-vacant, next_consistent, taken_first, some_records, IsSound-read, walk-read, reads_as}
+use Rattle.slotmap_core.proofs.ListReadLemmas.{AreRead, AreRead-first, AreRead-live, AreRead-retired, AreRead-vacant, next_consistent, first_taken, IsSound-read, walk-read, reads_as}
 use Rattle.slotmap_core.proofs.slots.Slots.from_slots.Goals.{In_ok-check_slots, In-Some, In-None}
 use Rattle.slotmap_core.proofs.slots.Slots.from_slots.Goals as goal
 
@@ -17,13 +17,11 @@ accepted g c = subst (λ l. Accepts l 4294967295) c.deref.ensures.value (c.in_ok
 
 pub loop-record-init : goal.loop-record-init
 loop-record-init g c =
-    let list = c.args.list in
-    let some = some_records list.items 4294967295 (accepted g (goal.at.loop-record-init g c).In_ok-check_slots) in
-    let taken = taken_first _ _ _ _ c.next.result c.next.ensures.cases (omega (arith, some, c.into_iter-records.ensures.len, list.ok.0)) in
+    let taken = first_taken c.args.list.items 4294967295 (accepted g (goal.at.loop-record-init g c).In_ok-check_slots) _ c.next.result c.next.ensures.cases (c.into_iter-records.ensures.len ∙ c.args.list.ok.0) in
     rw c.into_iter-record-iterator.ensures.into_iter_gives (record {
       first = taken.0;
       all = sym taken.1 ∙ c.into_iter-records.ensures.rest;
-      counted = omega (arith, taken.2, c.into_iter-records.ensures.len, list.ok.0);
+      counted = omega (arith, taken.2, c.into_iter-records.ensures.len, c.args.list.ok.0);
       read = rw (c.push_empty.ensures.pushed, c.in_ok-layout.ensures.none) (AreRead-first taken.0);
       few = omega arith;
       room = grind arith;

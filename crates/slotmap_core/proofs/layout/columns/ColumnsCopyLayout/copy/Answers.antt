@@ -17,7 +17,7 @@ returns-clause-room g c =
     let few = c.requires.few in
     let len = ap (λ l. length l.slots) c.self.view_is in
     let zipped = zip-length m.versions.items (links_of m.versions.items m.numbers.items) m.payloads.items (links-length m.versions.items m.numbers.items numbers) payloads in
-    rw (vs, ns, xs) (c.room-capacity.ensures.greatest _ (omega arith)
+    rw (c.with_room.ensures.slots, vs, ns, xs) (c.with_room.ensures.room _ (omega arith)
     (omega (arith, ap length vs, c.in_ok-versions.versions.ok.0, c.in_ok-versions.versions.ok.1))
     (omega (arith, ap length ns, c.in_ok-numbers.numbers.ok.0, c.in_ok-numbers.numbers.ok.1))
     (omega (arith, ap length xs, c.in_ok-payloads.payloads.ok.0, c.in_ok-payloads.payloads.ok.1)))

@@ -6,7 +6,7 @@ use Rattle.slotmap_core.proofs.slots.walk.SlotIntoIterIterator.next.Goals.{After
 use Rattle.slotmap_core.proofs.slots.walk.SlotIntoIterIterator.next.Goals as goal
 
 next : (g : _) (c : After-next_odd-index g) → Next c.self.inside.versions.items c.self.inside.payloads.items c.self.inside.index c.self.inside.left c.next_odd-index.result
-next g c = let on = c.next_odd-index.ensures in next_on c.self.invariant (omega arith) c.deref.ensures.value on.on on.within on.passed on.odd
+next g c = next_on c.self.invariant (omega arith) c.deref.ensures.value c.next_odd-index.ensures
 
 pub index-version-requires : goal.index-version-requires
 index-version-requires g c = grind (arith, next g (goal.at.index-version-requires g c).After-next_odd-index, slice_get_within)

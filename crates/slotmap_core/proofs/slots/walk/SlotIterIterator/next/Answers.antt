@@ -6,7 +6,7 @@ use Rattle.slotmap_core.proofs.slots.walk.SlotIterIterator.next.Goals.{After-nex
 use Rattle.slotmap_core.proofs.slots.walk.SlotIterIterator.next.Goals as goal
 
 next : (g : _) (c : After-next_odd-index g) → Next c.self.inside.versions.now c.self.inside.payloads.now c.self.inside.index c.self.inside.left c.next_odd-index.result
-next g c = let on = c.next_odd-index.ensures in next_on c.self.invariant (omega arith) refl on.on on.within on.passed on.odd
+next g c = next_on c.self.invariant (omega arith) refl c.next_odd-index.ensures
 
 pub version_in-version-requires : goal.version_in-version-requires
 version_in-version-requires g c = slice_get_within c.self.inside.versions.now c.next_odd-index.result _ (next g (goal.at.version_in-version-requires g c).After-next_odd-index).version_there
