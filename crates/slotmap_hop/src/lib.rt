@@ -44,7 +44,7 @@ mod slots;
 pub use drain::Drain;
 pub use into_iter::IntoIter;
 pub use iter::{Iter, Keys, Values};
-use links::{Links, Slot, State};
+use links::{Slot, lone_slot};
 use slotmap_core::errors::ReserveError;
 use slotmap_core::keys::{DefaultKey, Key};
 use slotmap_core::limits::MOST_KEYS;
@@ -183,14 +183,7 @@ impl<K: Key, V: Drop> HopSlotMap<K, V> {
             return Err(ReserveError::TooGreat);
         }
         let mut slots = Vec::with_capacity(alloc, capacity + 1)?;
-        slots.push_reserved(Slot {
-            version: 0,
-            state: State::Free(Links {
-                next: 0,
-                prev: 0,
-                other_end: 0,
-            }),
-        });
+        slots.push_reserved(lone_slot(0, 0));
         Ok(HopSlotMap {
             slots,
             vacant_count: 0,

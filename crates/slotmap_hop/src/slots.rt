@@ -10,7 +10,7 @@ ghost use Rattle.slotmap_core.specs.Slots.{Accepts, RefusesStart};
 ghost use Rattle.slotmap_core.specs.Written.{Writes};
 
 use crate::HopSlotMap;
-use crate::links::{Links, Slot, State, open_last};
+use crate::links::{Slot, State, lone_slot, open_last};
 use slotmap_core::errors::{OutOfMemory, SlotsError};
 use slotmap_core::keys::Key;
 use slotmap_core::limits::LIST_LIMIT;
@@ -128,14 +128,7 @@ impl<K: Key, V: Drop> HopSlotMap<K, V> {
         let mut slots = Vec::with_capacity(alloc, list.len())?;
         let mut records = list.into_iter();
         records.next();
-        slots.push_reserved(Slot {
-            version: 0,
-            state: State::Free(Links {
-                next: 0,
-                prev: 0,
-                other_end: 0,
-            }),
-        });
+        slots.push_reserved(lone_slot(0, 0));
         let mut vacant_count = 0;
         let mut live_count = 0;
         for slot in records {

@@ -23,7 +23,7 @@ loop-slot-init g c =
         first = taken.0;
         all = whole;
         left_is = omega (arith, taken.2, ap length whole, c.into_iter-records.ensures.len, list.ok.0);
-        read = rw (c.push_reserved.ensures.items, made.items) (AreRead-first taken.0);
+        read = rw (c.push_reserved.ensures.items, made.items, c.lone_slot.ensures) (AreRead-first taken.0);
         few_vacant = omega arith;
         few_elems = omega arith;
       };
@@ -53,13 +53,13 @@ loop-slot-preserved-then-is_vacant g c =
     let next = with_next g (goal.at.loop-slot-preserved-then-is_vacant g c).After-push_reserved-in-loop-slot in
     let m = c.push_reserved-in-loop-slot.new.self in
     let after = rw (c.as_mut_slice.ensures.value, next, c.len-index.ensures, at.slots.ok.0) at c.open_last.ensures.places in
-    let joined = rw (c.as_mut_slice.ensures.value, next, c.len-index.ensures, at.slots.ok.0) at c.open_last.ensures.blocks in
+    let joined = rw (c.as_mut_slice.ensures.value, next, c.len-index.ensures, at.slots.ok.0) at c.open_last.ensures.blocks.are in
     let items = with_items_is m c.open_last.new.slots (same_length _ _ _ _ after ∙ ap length (sym next) ∙ sym m.ok.0) in
     record {
       reading =
           rw items (reading_on _ _ _ _ _ _ _ reading slot _ _ steps.0 steps.1 4294967295 accepts _ _ (omega arith)
           (λ consistent. AreRead-vacant _ _ _ _ reading.read slot consistent (omega arith) c.open_last.new.slots (sym c.is_vacant.ensures ∙ c.if-is_vacant.true)
-          c.open_last.ensures.list joined after));
+          c.open_last.ensures.blocks.list joined after));
       room = omega (arith, at.invariant.room, steps.1, c.push_reserved-in-loop-slot.ensures.len, c.push_reserved-in-loop-slot.ensures.capacity);
     }
 

@@ -46,7 +46,7 @@ other g c found =
     let seen = c.as_mut_slice-2.ensures.value in
     let did = c.free_slot.ensures in
     took_other c.self.inside c.self.view_is c.self.invariant found c.free_slot.result c.free_slot.new.slots
-    (rw seen at did.value) c.if-version.false did.list (rw seen at did.blocks) (rw seen at did.places)
+    (rw seen at did.value) c.if-version.false did.blocks.list (rw seen at did.blocks.are) (rw seen at did.places)
 
 pub invariant_of-self-2 : goal.invariant_of-self-2
 invariant_of-self-2 g c = let at = goal.at.invariant_of-self-2 g c in (other g at.After-free_slot (found g at.After-self)).sound_after
