@@ -1,5 +1,7 @@
 -- Calls that are each a step of the machine are a run of it, from a state of which its laws hold.
 use Rattle.std.proofs.Common.{◌≡◌, ◌+◌, ◌<◌, ◌^◌, Bool, List, ◌++◌, length, ◌∙◌, arith}
+use Rattle.std.specs.Prelude.{Result, IfOk}
+use Rattle.std.proofs.lemmas.Result.{IfOk-weaker}
 use Rattle.std.specs.FinSet as set
 use Rattle.slotmap_core.specs.Content.{Content, IsContent}
 use Rattle.slotmap_core.specs.Transition.{IsNew}
@@ -89,4 +91,39 @@ module _ {V C R : Type 0} {Step Any : State V → C → R → State V → Type 0
             (run.0, machine.unretired cs rs empty_state run.0 run.1 (run.2.retired ∙ lasts.unretired), run.2);
         goes_on = free;
         laws = machine.laws cs rs (well_anew Any cs rs new free);
+      }
+
+module _ {V C R A B : Type 0} {Step Any : State V → C → R → State V → Type 0} {Laws : List C → List R → Type 0} (machine : IsLawful Step Any Laws) (cs : List C) (result : Result A B) (told : A → List R) where
+  -- what a function ensures that runs calls on a map, a field for each clause
+  pub record RanIfOk (reuses : Bool) (old new : Content V) : Type 0 where
+    pub run : IfOk result (λ a. RunFollows Step old cs (told a) new)
+    pub goes_on : IfOk result (λ a. RunFollows Any old cs (told a) new)
+    pub continues : IfOk result (λ a. Continues Any Laws reuses old cs (told a) new)
+    pub laws : IfOk result (λ a. Laws cs (told a))
+
+  pub ran_if_ok : (reuses : Bool) (old new : Content V) → IsContent reuses old → IfOk result (λ a. Run (Follows Step) old cs (told a) new) → RanIfOk reuses old new
+  ran_if_ok reuses old new ok served =
+      let all = IfOk-weaker result _ (λ a. Ran machine cs (told a) reuses old new) (λ a run. ran machine cs (told a) reuses old new ok run) served in
+      record {
+        run = IfOk-weaker result _ _ (λ a r. r.run) all;
+        goes_on = IfOk-weaker result _ _ (λ a r. r.goes_on) all;
+        continues = IfOk-weaker result _ _ (λ a r. r.continues) all;
+        laws = IfOk-weaker result _ _ (λ a r. r.laws) all;
+      }
+
+  -- what a function ensures that runs calls on a new map, a field for each clause
+  pub record RanAnewIfOk (new : A → Content V) : Type 0 where
+    pub run : IfOk result (λ a. RunsAnew Step cs (told a) (new a))
+    pub none_retired : IfOk result (λ a. length cs < 2 ^ 32 → RunsAnew (Unretiring Step) cs (told a) (new a))
+    pub goes_on : IfOk result (λ a. RunsAnew Any cs (told a) (new a))
+    pub laws : IfOk result (λ a. Laws cs (told a))
+
+  pub anew_if_ok : (new : A → Content V) → IfOk result (λ a. (old : Content V) × IsNew old × Run (Follows Step) old cs (told a) (new a)) → RanAnewIfOk new
+  anew_if_ok new served =
+      let all = IfOk-weaker result _ (λ a. RanAnew machine cs (told a) (new a)) (λ a run. ran_anew machine cs (told a) run.0 (new a) run.1 run.2) served in
+      record {
+        run = IfOk-weaker result _ _ (λ a r. r.run) all;
+        none_retired = IfOk-weaker result _ _ (λ a r. r.none_retired) all;
+        goes_on = IfOk-weaker result _ _ (λ a r. r.goes_on) all;
+        laws = IfOk-weaker result _ _ (λ a r. r.laws) all;
       }

@@ -2,7 +2,7 @@
 use Rattle.std.proofs.Common.{◌≡◌, ℕ, zero, suc, ◌+◌, ◌^◌, List, [], ◌∷◌, ◌++◌, Option, Some, None}
 use Rattle.std.proofs.Common.{inl, inr, refl, sym, ap, ◌∙◌}
 use Rattle.std.specs.List.{slice_get}
-use Rattle.std.specs.Prelude.{OnSome, IfNone}
+use Rattle.std.specs.Prelude.{Result, Ok, Err, OnSome, IfNone, OnOk, IfErr, IsErr}
 use Rattle.std.proofs.lemmas.Option.{same_Some}
 use Rattle.std.specs.FinMap as map
 use Rattle.slotmap_core.specs.Key.{Key}
@@ -17,7 +17,9 @@ use Rattle.slotmap_core.specs.Secondary.{Pairs, get, put, remove, RefusesPut}
 use Rattle.slotmap_core.specs.SecondaryStep.{LooksAt}
 use Rattle.slotmap_core.specs.Joined.{Given, Joined, named, Step, DetachStep}
 use Rattle.slotmap_core.specs.Dictionary.{Dictionary, WithDictionary, noted, Tells, TellingStep, DetachTellingStep}
+use Rattle.slotmap_core.specs.Call.{MayGrow}
 use Rattle.slotmap_core.specs.Refusal.{Refuses, RefusesReattach}
+use Rattle.slotmap_core.specs.declared.errors.ReattachError.{ReattachError}
 use Rattle.slotmap_core.specs.declared.errors.ReattachError.TheVariants as again
 use Rattle.slotmap_core.specs.declared.errors.InsertError.TheVariants.{Full, Memory}
 use Rattle.slotmap_core.specs.declared.commands.Command.{Command}
@@ -39,6 +41,7 @@ use Rattle.slotmap_run.proofs.Moves.{keeps}
 use Rattle.slotmap_run.proofs.Fits.{stands_of}
 use Rattle.slotmap_run.proofs.Steps as first
 use Rattle.slotmap_run.specs.Order.{Served}
+use Rattle.slotmap_run.specs.Replies.{joined_reattach_reply_of}
 use Rattle.slotmap_run.specs.Ties.{joined, told_by, Known, Follows}
 
 -- calls of the primary map
@@ -123,19 +126,17 @@ module _ {K V W R : Type 0} (given : Given K W R) (old new : Content V) (m : Pai
     detached taken value some none = by_detaching _ _ (Detach key) (first_reply.Taken taken) refl (first.detached (closed given) old new ok key taken value some none)
         (λ s t step. rw (← told) ((step, refl), refl)) (λ s t d step. (step, refl))
 
-    module _ (v : V) where
-      pub reattached : Reattaches old (given.data_of key) v new → Detaching (detaching.Reattach i v) reply.Done
-      reattached r =
-          by_detaching _ _ (Reattach key v) first_reply.Done refl (first.reattached (closed given) old new ok key v r) (λ s t step. rw (← told) ((step, refl), refl)) (λ s t d step. (step, refl))
-
-      module _ (back : V) (keeps : Keeps old new) where
-        pub not_detached : RefusesReattach given.reuses old (given.data_of key) v (again.NotDetached back) → Detaching (detaching.Reattach i v) (reply.NotDetached back)
-        not_detached r = by_detaching _ _ (Reattach key v) (first_reply.NotDetached back) refl (first.not_detached (closed given) old new ok key v back r keeps)
-            (λ s t step. rw (← told) ((step, refl), refl)) (λ s t d step. (step, refl))
-
-        pub reattaches_no_memory : RefusesReattach given.reuses old (given.data_of key) v (again.Memory back) → Detaching (detaching.Reattach i v) (reply.Memory back)
-        reattaches_no_memory r = by_detaching _ _ (Reattach key v) (first_reply.Memory (Some back)) refl (first.reattaches_no_memory (closed given) old new ok key v back r keeps)
-            (λ s t step. rw (← told) ((step, refl), refl)) (λ s t d step. (step, refl))
+    -- whatever a reattach returns
+    pub reattach_served : (v : V) (r : Result (Unit {0}) (ReattachError V)) → OnOk r (Reattaches old (given.data_of key) v new)
+        → IfErr r (RefusesReattach given.reuses old (given.data_of key) v) → MayGrow given.reuses old (IsErr r) new → Detaching (detaching.Reattach i v) (joined_reattach_reply_of r)
+    reattach_served v (Ok done) does err valid = by_detaching _ _ (Reattach key v) first_reply.Done refl (first.reattached (closed given) old new ok key v does)
+        (λ s t step. rw (← told) ((step, refl), refl)) (λ s t d step. (step, refl))
+    reattach_served v (Err (again.NotDetached back)) does err valid =
+        by_detaching _ _ (Reattach key v) (first_reply.NotDetached back) refl (first.not_detached (closed given) old new ok key v back err (valid.unchanged refl))
+        (λ s t step. rw (← told) ((step, refl), refl)) (λ s t d step. (step, refl))
+    reattach_served v (Err (again.Memory back)) does err valid =
+        by_detaching _ _ (Reattach key v) (first_reply.Memory (Some back)) refl (first.reattaches_no_memory (closed given) old new ok key v back err (valid.unchanged refl))
+        (λ s t step. rw (← told) ((step, refl), refl)) (λ s t d step. (step, refl))
 
 -- the key of a number is in the list
 named_one : {K : Type 0} (keys : List K) (i : ℕ) (k : K) → named keys i ≡ Some k → (j : ℕ) × slice_get keys j ≡ Some k

@@ -1,5 +1,7 @@
 -- The laws of the two machines, and calls on maps as a run on the contents of the maps.
 use Rattle.std.proofs.Common.{◌≡◌, List, Bool, true, is_some}
+use Rattle.std.specs.Prelude.{Result, IfOk}
+use Rattle.std.proofs.lemmas.Result.{IfOk-weaker}
 use Rattle.slotmap_core.specs.Content.{Content, IsContent}
 use Rattle.slotmap_core.specs.Transition.{IsNew}
 use Rattle.slotmap_core.specs.Machine.{State}
@@ -11,10 +13,9 @@ use Rattle.slotmap_core.specs.Law.{Laws, DetachLaws, LastFreedFirst, Grows, Deta
 use Rattle.slotmap_core.specs.Lifo.{no_places}
 use Rattle.slotmap_core.specs.declared.commands.Command.{Command}
 use Rattle.slotmap_core.specs.declared.commands.DetachCommand.{DetachCommand}
-use Rattle.slotmap_core.specs.declared.commands.DetachCommand.TheVariants as detaching
 use Rattle.slotmap_core.specs.declared.commands.Reply.{Reply}
-use Rattle.slotmap_run.specs.Order.{Served}
-use Rattle.slotmap_run.proofs.Anew.{RunsWell, IsLawful, Ran, ran, RanAnew, ran_anew}
+use Rattle.slotmap_run.specs.Order.{Served, StartsNew}
+use Rattle.slotmap_run.proofs.Anew.{RunsWell, IsLawful, RanIfOk, ran_if_ok, RanAnewIfOk, anew_if_ok}
 use Rattle.slotmap_run.proofs.AnyClosures.{freed, freely, detach_freely}
 use Rattle.slotmap_run.proofs.Cases.{plain_machine, detach_machine}
 use Rattle.slotmap_run.proofs.Detached.{detached_not_reissued, detached_reattaches, reattach_binds}
@@ -49,29 +50,28 @@ module _ {K V R E : Type 0} (given : Given K V R E) where
   pub detach_lawful : IsLawful (DetachStep given) (DetachStep (any_closures given.data_of given.reuses)) (DetachLaws given.data_of given.reuses)
   detach_lawful = record { freely = detach_freely given; laws = detach_laws (freed given); unretired = unretired (detach_machine given) }
 
--- each command that is run on a map is a step of the machine on its content
-follow : {M K V R E C : Type 0} (Step : Given K V R E → State V → C → Reply K V R E → State V → Type 0) (of : C → DetachCommand K V)
-    (given : Given K V R E) (content : M → Content V) (cs : List C) (rs : List (Reply K V R E)) (old new : M)
-    → Run (λ old c r new. Served Step of given (content old) c r (content new)) old cs rs new → Run (Follows (Step given)) (content old) cs rs (content new)
-follow Step of given content cs rs old new served = run_seen _ _ content (λ s c r t h. h.follows) cs rs old new served
+module _ {M K V R E C A B : Type 0} (Machine : Given K V R E → State V → C → Reply K V R E → State V → Type 0) (of : C → DetachCommand K V) (given : Given K V R E)
+    {Any : State V → C → Reply K V R E → State V → Type 0} {Laws : List C → List (Reply K V R E) → Type 0} (machine : IsLawful (Machine given) Any Laws)
+    (content : M → Content V) (cs : List C) (result : Result A B) (told : A → List (Reply K V R E)) where
+  -- the commands are run on a map, one after the other
+  abbrev pub Serves : List (Reply K V R E) → M → M → Type 0
+  Serves rs old new = Run (λ old c r new. Served Machine of given (content old) c r (content new)) old cs rs new
 
-module _ {M K V R E : Type 0} (given : Given K V R E) (content : M → Content V) (cs : List (Command K V)) (rs : List (Reply K V R E)) (old new : M)
-    (served : Run (λ old c r new. Served Step detaching.Plain given (content old) c r (content new)) old cs rs new) where
-  pub plain_ran : IsContent given.reuses (content old) → Ran (plain_lawful given) cs rs given.reuses (content old) (content new)
-  plain_ran ok = ran (plain_lawful given) cs rs given.reuses (content old) (content new) ok (follow Step detaching.Plain given content cs rs old new served)
+  -- each command that is run on a map is a step of the machine on its content
+  follow : (rs : List (Reply K V R E)) (old new : M) → Serves rs old new → Run (Follows (Machine given)) (content old) cs rs (content new)
+  follow rs old new served = run_seen _ _ content (λ s c r t h. h.follows) cs rs old new served
 
-  pub plain_anew : IsNew (content old) → RanAnew (plain_lawful given) cs rs (content new)
-  plain_anew start = ran_anew (plain_lawful given) cs rs (content old) (content new) start (follow Step detaching.Plain given content cs rs old new served)
+  pub all_ran : (old new : M) → IsContent given.reuses (content old) → IfOk result (λ a. Serves (told a) old new) → RanIfOk machine cs result told given.reuses (content old) (content new)
+  all_ran old new ok served = ran_if_ok machine cs result told given.reuses (content old) (content new) ok (IfOk-weaker result _ _ (λ a run. follow (told a) old new run) served)
 
-module _ {M K V R E : Type 0} (given : Given K V R E) (content : M → Content V) (cs : List (DetachCommand K V)) (rs : List (Reply K V R E)) (old new : M)
-    (served : Run (λ old c r new. Served DetachStep (λ c. c) given (content old) c r (content new)) old cs rs new) where
-  pub detach_ran : IsContent given.reuses (content old) → Ran (detach_lawful given) cs rs given.reuses (content old) (content new)
-  detach_ran ok = ran (detach_lawful given) cs rs given.reuses (content old) (content new) ok (follow DetachStep (λ c. c) given content cs rs old new served)
+  pub all_anew : (reuses stacked : Bool) (new : A → M) → IfOk result (λ a. (first : M) × StartsNew reuses stacked (content first) × Serves (told a) first (new a))
+      → RanAnewIfOk machine cs result told (λ a. content (new a))
+  all_anew reuses stacked new served =
+      anew_if_ok machine cs result told (λ a. content (new a)) (IfOk-weaker result _ _ (λ a run. (content run.0, run.1.new, follow (told a) run.0 (new a) run.2)) served)
 
-  pub detach_anew : IsNew (content old) → RanAnew (detach_lawful given) cs rs (content new)
-  detach_anew start = ran_anew (detach_lawful given) cs rs (content old) (content new) start (follow DetachStep (λ c. c) given content cs rs old new served)
-
-  -- inserts reuse the slot freed last, from a new map that keeps a stack
-  pub in_order : (reuses : Bool) → IsContent reuses (content old) → IsNew (content old) → is_some (content old).stack ≡ true → LastFreedFirst given.data_of cs rs
-  in_order reuses ok start stacked basic told = lifo_run given.data_of no_places (content old) (content new) cs rs (lifo_new reuses (content old) ok start stacked)
-      (run_seen _ _ content (λ s c r t h. h.orders) cs rs old new served) basic told
+-- inserts reuse the slot freed last, from a new map that keeps a stack
+pub in_order : {M K V R E : Type 0} (given : Given K V R E) (content : M → Content V) (cs : List (DetachCommand K V)) (rs : List (Reply K V R E)) (old new : M)
+    → Run (λ old c r new. Served DetachStep (λ c. c) given (content old) c r (content new)) old cs rs new
+    → (reuses : Bool) → IsContent reuses (content old) → IsNew (content old) → is_some (content old).stack ≡ true → LastFreedFirst given.data_of cs rs
+in_order given content cs rs old new served reuses ok start stacked basic told = lifo_run given.data_of no_places (content old) (content new) cs rs (lifo_new reuses (content old) ok start stacked)
+    (run_seen _ _ content (λ s c r t h. h.orders) cs rs old new served) basic told

@@ -7,7 +7,7 @@ use Rattle.std.specs.Borrow.{Bor, MutBor}
 use Rattle.std.specs.FinMap as map
 use Rattle.std.specs.FinSet as set
 use Rattle.slotmap_core.specs.Key.{Key, key_cmp}
-use Rattle.slotmap_core.specs.Content.{Content, IsContent, used, most}
+use Rattle.slotmap_core.specs.Content.{Content, IsContent, IsLive, used, most}
 use Rattle.slotmap_core.specs.Listing.{IsListing, IsKeyListing}
 use Rattle.slotmap_core.specs.Transition.{Inserts, Keeps, Removes, Replaces, Leaves, Detaches, Reattaches, with_value}
 use Rattle.slotmap_core.specs.Call.{MayGrow, MakesRoom}
@@ -143,14 +143,26 @@ module _ {K V R E : Type 0} (given : Given K V R E) (old new : Content V) (ok : 
     orders = λ l lifo basic _. (told l, rw (same l lifo) (lifo_keeps given.reuses old new ok l lifo kept));
   }
 
+  -- a command that takes the value of a live key, and changes nothing where the key isn't live
+  takes : {C : Type 0} {Machine : Given K V R E → State V → C → Reply K V R E → State V → Type 0} {of : C → DetachCommand K V} {c : C} {after : State V → State V} {Does : Type 0}
+      → (key : K) (taken : Option V) → taken ≡ map.get old.live (given.data_of key) → OnSome taken Does → IfNone taken (new ≡ old)
+      → (IsLive old (given.data_of key) → Does → Moves after old new)
+      → (IsLive old (given.data_of key) → Does → (l : Lifo) → IsLifo l old → IsLifo (after_command given.data_of l (of c)) new)
+      → ((s : State V) (v : V) → map.get s.live (given.data_of key) ≡ Some v → Machine given s c (reply.Taken (Some v)) (after s))
+      → ((s : State V) → map.get s.live (given.data_of key) ≡ None → Machine given s c (reply.Taken None) s)
+      → ((l : Lifo) → [] ≡ answer given.data_of l (of c)) → ((l : Lifo) → set.contains l.live (given.data_of key) ≡ false → after_command given.data_of l (of c) ≡ l)
+      → Served Machine of given old c (reply.Taken taken) new
+  takes key (Some v) is some none moves orders found lacks quiet same = record {
+    follows = by (moves (ap is_some (sym is)) some) (λ s fits. found s v (rw fits.live (sym is)));
+    orders = λ l lifo basic told. (quiet l, orders (ap is_some (sym is)) some l lifo);
+  }
+  takes key None is some none moves orders found lacks quiet same =
+      unmoved (keeps_same old new none) (λ s fits. lacks s (rw fits.live (sym is))) quiet (λ l lifo. same l (lifo.live (given.data_of key) ∙ ap is_some (sym is)))
+
   pub removed : (key : K) (taken : Option V) → taken ≡ map.get old.live (given.data_of key) → OnSome taken (Removes old (given.data_of key) new)
       → IfNone taken (new ≡ old) → Answers (command.Remove key) (reply.Taken taken)
-  removed key (Some v) is some none = record {
-    follows = by (removes given.reuses old new ok (given.data_of key) (ap is_some (sym is)) some) (λ s fits. (rw fits.live (sym is), refl));
-    orders = λ l lifo basic told. (refl, lifo_removes given.reuses old new ok l lifo (given.data_of key) (ap is_some (sym is)) some);
-  }
-  removed key None is some none =
-      unmoved (keeps_same old new none) (λ s fits. (rw fits.live (sym is), refl)) (λ l. refl) (λ l lifo. rw (lifo.live (given.data_of key) ∙ ap is_some (sym is)) refl)
+  removed key taken is some none = takes key taken is some none (removes given.reuses old new ok (given.data_of key))
+      (λ live some l lifo. lifo_removes given.reuses old new ok l lifo (given.data_of key) live some) (λ s v is. (is, refl)) (λ s is. (is, refl)) (λ l. refl) (λ l none. rw none refl)
 
   may_lack_room : (m : ℕ) → used old + m ≤ most → (m ≤ old.room → ⊥) → (s : State V) → Fits s old → MayLackRoom given.reuses s m
   may_lack_room m within lacks s fits = grind (arith, used_same s old fits, ok.reused)
@@ -205,12 +217,8 @@ module _ {K V R E : Type 0} (given : Given K V R E) (old new : Content V) (ok : 
 
   pub detached : (key : K) (taken : Option V) → taken ≡ map.get old.live (given.data_of key) → OnSome taken (Detaches old (given.data_of key) new)
       → IfNone taken (new ≡ old) → DetachAnswers (detaching.Detach key) (reply.Taken taken)
-  detached key (Some v) is some none = record {
-    follows = by (detaches given.reuses old new ok (given.data_of key) (ap is_some (sym is)) some) (λ s fits. (rw fits.live (sym is), refl));
-    orders = λ l lifo basic told. (refl, lifo_detaches given.reuses old new ok l lifo (given.data_of key) (ap is_some (sym is)) some);
-  }
-  detached key None is some none =
-      unmoved (keeps_same old new none) (λ s fits. (rw fits.live (sym is), refl)) (λ l. refl) (λ l lifo. rw (lifo.live (given.data_of key) ∙ ap is_some (sym is)) refl)
+  detached key taken is some none = takes key taken is some none (detaches given.reuses old new ok (given.data_of key))
+      (λ live some l lifo. lifo_detaches given.reuses old new ok l lifo (given.data_of key) live some) (λ s v is. (is, refl)) (λ s is. (is, refl)) (λ l. refl) (λ l none. rw none refl)
 
   pub reattached : (key : K) (v : V) → Reattaches old (given.data_of key) v new → DetachAnswers (detaching.Reattach key v) reply.Done
   reattached key v r = record {

@@ -10,6 +10,8 @@ use Rattle.slotmap_core.specs.declared.errors.ReattachError.{ReattachError}
 use Rattle.slotmap_core.specs.declared.errors.ReattachError.TheVariants as reattach
 use Rattle.slotmap_core.specs.declared.commands.Reply.{Reply}
 use Rattle.slotmap_core.specs.declared.commands.Reply.TheVariants as reply
+use Rattle.slotmap_core.specs.declared.joined.JoinedReply.{JoinedReply}
+use Rattle.slotmap_core.specs.declared.joined.JoinedReply.TheVariants as joined_reply
 
 module _ {K V R E : Type 0} where
   abbrev pub insert_reply_of : Result K (InsertError V) → Reply K V R E
@@ -32,3 +34,10 @@ module _ {K V R E : Type 0} where
   reattach_reply_of (Ok done) = reply.Done
   reattach_reply_of (Err (reattach.NotDetached value)) = reply.NotDetached value
   reattach_reply_of (Err (reattach.Memory value)) = reply.Memory (Some value)
+
+module _ {K V W R : Type 0} where
+  -- the reply of a joined run to a reattach
+  abbrev pub joined_reattach_reply_of : Result (Unit {0}) (ReattachError V) → JoinedReply K V W R
+  joined_reattach_reply_of (Ok done) = joined_reply.Done
+  joined_reattach_reply_of (Err (reattach.NotDetached value)) = joined_reply.NotDetached value
+  joined_reattach_reply_of (Err (reattach.Memory value)) = joined_reply.Memory value

@@ -5,6 +5,7 @@ ghost use Rattle.slotmap_core.specs.Content.{IsContent};
 ghost use Rattle.slotmap_core.specs.Fit.{Starts};
 ghost use Rattle.slotmap_core.specs.Joined.{given_joined, named, Step, DetachStep, RunsBeside};
 ghost use Rattle.slotmap_core.specs.Dictionary.{TellingStep, DetachTellingStep, RunsTold};
+ghost use Rattle.slotmap_run.specs.Replies.{joined_reattach_reply_of};
 ghost use Rattle.slotmap_run.specs.Ties.{JoinServed};
 
 use crate::given::GivenLook;
@@ -24,6 +25,17 @@ fn key_named<K: Copy>(keys: &[K], number: usize) -> Option<K>
         return None;
     }
     Some(keys[number - 1])
+}
+
+/// The reply to a reattach.
+fn joined_reattach_reply<K, V, W, R>(done: Result<(), ReattachError<V>>) -> JoinedReply<K, V, W, R>
+    ensures { result ≡ joined_reattach_reply_of done }
+{
+    match done {
+        Ok(()) => JoinedReply::Done,
+        Err(ReattachError::NotDetached(value)) => JoinedReply::NotDetached(value),
+        Err(ReattachError::Memory(value)) => JoinedReply::Memory(value),
+    }
 }
 
 // A primary map, a secondary map beside it, and the keys that inserts returned so far.
@@ -212,11 +224,7 @@ where
                 None => JoinedReply::NoKey,
             },
             JoinedDetachCommand::Reattach(number, value) => match key_named(maps.keys, number) {
-                Some(key) => match maps.primary.reattach(key, value) {
-                    Ok(()) => JoinedReply::Done,
-                    Err(ReattachError::NotDetached(value)) => JoinedReply::NotDetached(value),
-                    Err(ReattachError::Memory(value)) => JoinedReply::Memory(value),
-                },
+                Some(key) => joined_reattach_reply(maps.primary.reattach(key, value)),
                 None => JoinedReply::NoKeyFirst(value),
             },
         }

@@ -5,8 +5,7 @@ use slotmap_core::commands::{Command, DetachCommand};
 use slotmap_core::errors::OutOfMemory;
 use slotmap_core::keys::{DefaultKey, KeyData};
 use slotmap_core::primary::{Detaching, Primary};
-use slotmap_run::detaching::run_detaching;
-use slotmap_run::primary::run;
+use slotmap_run::primary::{run, run_detaching};
 use std::alloc::Global;
 
 /// The commands that every map has.

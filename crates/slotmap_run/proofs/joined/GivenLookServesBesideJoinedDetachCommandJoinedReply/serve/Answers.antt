@@ -1,5 +1,5 @@
 use Rattle.std.proofs.Common.{refl}
-use Rattle.slotmap_run.proofs.Joins.{detached, reattached, not_detached, reattaches_no_memory, detaches_no_key, reattaches_no_key}
+use Rattle.slotmap_run.proofs.Joins.{detached, reattach_served, detaches_no_key, reattaches_no_key}
 use Rattle.slotmap_run.proofs.JoinRuns.{served}
 use Rattle.slotmap_run.proofs.joined.GivenLookServesBesideJoinedDetachCommandJoinedReply.serve.Goals as goal
 
@@ -16,24 +16,11 @@ returns-in-Some-clause-step g c =
 pub returns-in-None-clause-step : goal.returns-in-None-clause-step
 returns-in-None-clause-step g c = rw c.in-Detach.is (served (detaches_no_key _ _ _ c.args.maps.now.keys.now.items c.requires.ready.1.1 c.in-Detach.number (cc)) refl refl)
 
-pub returns-in-Ok-clause-step : goal.returns-in-Ok-clause-step
-returns-in-Ok-clause-step g c =
-    rw c.in-Reattach.is (served (reattached _ _ _ _ c.args.maps.now.keys.now.items c.requires.ready.1.1 c.in-Reattach.number c.in-Some-key_named.key (cc)
-    c.in-Reattach.value c.in-Ok.ensures.ok) refl refl)
-
-pub returns-in-Err-NotDetached-clause-step : goal.returns-in-Err-NotDetached-clause-step
-returns-in-Err-NotDetached-clause-step g c =
-    let e = c.in-Err-NotDetached.ensures in
-    rw c.in-Reattach.is (served (not_detached _ _ _ _ c.args.maps.now.keys.now.items c.requires.ready.1.1 c.in-Reattach.number c.in-Some-key_named.key (cc)
-    c.in-Reattach.value c.in-Err-NotDetached.value
-    (e.valid.unchanged refl) (rw c.in-Err-NotDetached.field-0-is at e.err)) refl refl)
-
-pub returns-in-Err-Memory-clause-step : goal.returns-in-Err-Memory-clause-step
-returns-in-Err-Memory-clause-step g c =
-    let e = c.in-Err-Memory.ensures in
-    rw c.in-Reattach.is (served (reattaches_no_memory _ _ _ _ c.args.maps.now.keys.now.items c.requires.ready.1.1 c.in-Reattach.number c.in-Some-key_named.key (cc)
-    c.in-Reattach.value c.in-Err-Memory.value
-    (e.valid.unchanged refl) (rw c.in-Err-Memory.field-0-is at e.err)) refl refl)
+pub returns-in-Some-key_named-clause-step : goal.returns-in-Some-key_named-clause-step
+returns-in-Some-key_named-clause-step g c =
+    let e = c.reattach.ensures in
+    rw (c.in-Reattach.is, c.joined_reattach_reply.ensures) (served (reattach_served _ _ _ _ c.args.maps.now.keys.now.items c.requires.ready.1.1 c.in-Reattach.number c.in-Some-key_named.key (cc)
+    c.in-Reattach.value c.reattach.result e.ok e.err e.valid) refl refl)
 
 pub returns-in-None-key_named-clause-step : goal.returns-in-None-key_named-clause-step
 returns-in-None-key_named-clause-step g c =

@@ -1,5 +1,5 @@
 use Rattle.slotmap_run.proofs.Steps.{plain, detached, reattach_served}
-use Rattle.slotmap_run.proofs.detaching.GivenServesDetachCommandReply.serve.Goals as goal
+use Rattle.slotmap_run.proofs.primary.GivenServesDetachCommandReply.serve.Goals as goal
 
 pub returns-in-Plain-clause-step : goal.returns-in-Plain-clause-step
 returns-in-Plain-clause-step g c =
