@@ -17,15 +17,7 @@ pub returns-clause-copies : goal.returns-clause-copies
 returns-clause-copies g c =
     let same = same_items g (goal.at.returns-clause-copies g c).In_ok-clone in
     let copies = c.in_ok-copy.ensures.copies in
-    rw (same.0, same.1, ← c.self.view_is) (record {
-      live = refl;
-      detached = copies.detached;
-      retired = copies.retired;
-      next = copies.next;
-      offer = copies.offer;
-      stack = copies.stack;
-      room = omega arith;
-    })
+    rw (same.0, same.1, ← c.self.view_is) (search arith)
 
 pub returns-clause-order : goal.returns-clause-order
 returns-clause-order g c = let same = same_items g (goal.at.returns-clause-order g c).In_ok-clone in rw (← c.self.view_is) (record { keys = ap (list_map g.K.Key.data_of) same.0; values = same.1 })
