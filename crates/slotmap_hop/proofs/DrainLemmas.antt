@@ -22,3 +22,6 @@ module _ {K V : Type 0} (data_of : K → Key) where
   pub Drain-in_order : (first : Drain K V) → DrainInOrder data_of first
   Drain-in_order first [] later run = ap (λ d. map.entries (drain_map d).content.live) run
   Drain-in_order first (pair ∷ pairs) later run = run.1.3 ∙ ap (λ es. (data_of pair.0, pair.1) ∷ es) (Drain-in_order run.0 pairs later run.2)
+
+-- the laws of a drain's steps
+pub ruleset step_laws = (Drain-keeps_along, Drain-lists, Drain-in_order)

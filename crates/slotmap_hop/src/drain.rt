@@ -95,6 +95,7 @@ impl<K: Key, V: Drop> HopSlotMap<K, V> {
     /// assert_eq!(rt; sum, 3);
     /// assert!(rt; map.is_empty());
     /// ```
+    #[tactic(auto, using(crate::proofs::DrainLemmas::step_laws))]
     pub fn drain(&mut self) -> Drain<'_, K, V>
         ensures map { drain_map result ≡ self.old }
         ensures same_reference { drain_lender result ≡ self.entry.ghost_name }

@@ -52,6 +52,7 @@ impl<K: Key, V: Drop> HopSlotMap<K, V> {
     }
 
     // Makes room for one more key, and returns the key that the next insert returns.
+    #[inline(always)]
     fn offer(&mut self) -> Result<K, InsertWithError>
         ensures key { IfOk result (λ key. K.data_of key ≡ self.new.content.offer) }
         ensures err { IfErr result (RefusesInsert self.old.content) }
