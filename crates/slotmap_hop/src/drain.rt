@@ -5,6 +5,7 @@ ghost use Rattle.std.specs.Iterator.{size, UpTo};
 ghost use Rattle.slotmap_hop.specs.HopContent.{IsHopContent};
 
 use crate::HopSlotMap;
+use crate::iter::fmt_remaining;
 use slotmap_core::keys::Key;
 use std::fmt;
 use std::iter::FusedIterator;
@@ -72,9 +73,7 @@ impl<'a, K: Key, V: Drop> FusedIterator for Drain<'a, K, V> {}
 
 impl<'a, K: Key, V: Drop> fmt::Debug for Drain<'a, K, V> {
     fn fmt<W: fmt::Write>(&self, f: &mut fmt::Formatter<W>) -> fmt::Result {
-        f.debug_struct("Drain")
-            .field("remaining", &self.len())
-            .finish()
+        fmt_remaining(f, "Drain", self.len())
     }
 }
 

@@ -51,6 +51,21 @@ impl<K: Key, V: Drop> HopSlotMap<K, V> {
         self.reserve(1)
     }
 
+    // Makes room for one more key, and returns the key that the next insert returns.
+    #[inline(always)]
+    fn offer(&mut self) -> Result<K, InsertWithError>
+        ensures key { IfOk result (λ key. K.data_of key ≡ self.new.content.offer) }
+        ensures err { IfErr result (RefusesInsert self.old.content) }
+        ensures reuses { 0 < map.len self.old.content.next → IsOk result }
+        ensures makes_room { MakesHopRoom self.old 1 (IsOk result) self.new }
+    {
+        match self.make_room() {
+            Ok(()) => Ok(K::from(self.next_key())),
+            Err(ReserveError::TooGreat) => Err(InsertWithError::Full),
+            Err(ReserveError::Memory) => Err(InsertWithError::Memory),
+        }
+    }
+
     // Binds the next key to a value, and returns the key.
     #[inline(always)]
     fn fill(&mut self, value: V) -> KeyData
@@ -111,11 +126,10 @@ impl<K: Key, V: Drop> HopSlotMap<K, V> {
         ensures valid { GrowsHop self.old self.new }
     {
         match self.make_room() {
-            Ok(()) => {}
-            Err(ReserveError::TooGreat) => return Err(InsertError::Full(value)),
-            Err(ReserveError::Memory) => return Err(InsertError::Memory(value)),
+            Ok(()) => Ok(K::from(self.fill(value))),
+            Err(ReserveError::TooGreat) => Err(InsertError::Full(value)),
+            Err(ReserveError::Memory) => Err(InsertError::Memory(value)),
         }
-        Ok(K::from(self.fill(value)))
     }
 
     /// Inserts the value that a closure returns for the new key, and returns the key.
@@ -147,12 +161,7 @@ impl<K: Key, V: Drop> HopSlotMap<K, V> {
 
         ensures valid { GrowsHop self.old self.new }
     {
-        match self.make_room() {
-            Ok(()) => {}
-            Err(ReserveError::TooGreat) => return Err(InsertWithError::Full),
-            Err(ReserveError::Memory) => return Err(InsertWithError::Memory),
-        }
-        let key = K::from(self.next_key());
+        let key = self.offer()?;
         let value = f(key);
         self.fill(value);
         Ok(key)
@@ -191,12 +200,11 @@ impl<K: Key, V: Drop> HopSlotMap<K, V> {
 
         ensures valid { GrowsHop self.old self.new }
     {
-        match self.make_room() {
-            Ok(()) => {}
-            Err(ReserveError::TooGreat) => return Err(TryInsertError::Full),
-            Err(ReserveError::Memory) => return Err(TryInsertError::Memory),
-        }
-        let key = K::from(self.next_key());
+        let key = match self.offer() {
+            Ok(key) => key,
+            Err(InsertWithError::Full) => return Err(TryInsertError::Full),
+            Err(InsertWithError::Memory) => return Err(TryInsertError::Memory),
+        };
         match f(key) {
             Ok(value) => {
                 self.fill(value);

@@ -7,7 +7,7 @@ ghost use Rattle.slotmap_core.specs.Listing.{ListsByIndex};
 use crate::HopSlotMap;
 use crate::clone::clone_slots;
 use crate::counted::CountedSlots;
-use crate::iter::next_live;
+use crate::iter::{fmt_remaining, next_live};
 use crate::links::{Slot, links_at, use_up};
 use slotmap_core::keys::{Key, KeyData};
 use std::alloc::AllocError;
@@ -132,9 +132,7 @@ impl<K: Key, V: Drop> FusedIterator for IntoIter<K, V> {}
 
 impl<K, V> fmt::Debug for IntoIter<K, V> {
     fn fmt<W: fmt::Write>(&self, f: &mut fmt::Formatter<W>) -> fmt::Result {
-        f.debug_struct("IntoIter")
-            .field("remaining", &self.len())
-            .finish()
+        fmt_remaining(f, "IntoIter", self.len())
     }
 }
 

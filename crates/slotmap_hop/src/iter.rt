@@ -74,6 +74,15 @@ pub(crate) fn next_live<'a, V>(
     unreachable!()
 }
 
+// What an iterator prints with `{:?}`: its name, and how many items are left.
+pub(crate) fn fmt_remaining<W: fmt::Write>(
+    f: &mut fmt::Formatter<W>,
+    name: &str,
+    remaining: usize,
+) -> fmt::Result {
+    f.debug_struct(name).field("remaining", &remaining).finish()
+}
+
 impl<'a, K, V> Iter<'a, K, V> {
     /// Returns how many pairs are left.
     ///
@@ -178,9 +187,7 @@ impl<'a, K: Key, V> FusedIterator for Iter<'a, K, V> {}
 
 impl<'a, K, V> fmt::Debug for Iter<'a, K, V> {
     fn fmt<W: fmt::Write>(&self, f: &mut fmt::Formatter<W>) -> fmt::Result {
-        f.debug_struct("Iter")
-            .field("remaining", &self.len())
-            .finish()
+        fmt_remaining(f, "Iter", self.len())
     }
 }
 
@@ -280,9 +287,7 @@ impl<'a, K: Key, V> FusedIterator for Keys<'a, K, V> {}
 
 impl<'a, K, V> fmt::Debug for Keys<'a, K, V> {
     fn fmt<W: fmt::Write>(&self, f: &mut fmt::Formatter<W>) -> fmt::Result {
-        f.debug_struct("Keys")
-            .field("remaining", &self.len())
-            .finish()
+        fmt_remaining(f, "Keys", self.len())
     }
 }
 
@@ -382,9 +387,7 @@ impl<'a, K: Key, V> FusedIterator for Values<'a, K, V> {}
 
 impl<'a, K, V> fmt::Debug for Values<'a, K, V> {
     fn fmt<W: fmt::Write>(&self, f: &mut fmt::Formatter<W>) -> fmt::Result {
-        f.debug_struct("Values")
-            .field("remaining", &self.len())
-            .finish()
+        fmt_remaining(f, "Values", self.len())
     }
 }
 

@@ -31,11 +31,8 @@ impl<K: Key, V: Drop> HopSlotMap<K, V> {
         ensures unchanged { IfNone result (self.new ≡ self.old) }
         ensures valid { StaysHop self.old self.new }
     {
-        if self.contains_key(key) {
-            Some(self.take_live(key))
-        } else {
-            None
-        }
+        self.live_index(key)?;
+        Some(self.take_live(key))
     }
 
     // Takes out the value of a live key, without checking that the key is live. Inlined, as in Rust.

@@ -1,8 +1,8 @@
-use Rattle.std.proofs.Common.{sym, ◌∙◌}
+use Rattle.std.proofs.Common.{sym}
 use Rattle.slotmap_core.proofs.KeyLemmas.{keys_total, exact_keys}
 use Rattle.slotmap_core.proofs.Maps.{none_of}
 use Rattle.slotmap_core.proofs.MapLaws.{remove_absent}
 use Rattle.slotmap_hop.proofs.HopSlotMap.remove.Goals as goal
 
-pub returns-else-contains_key-clause-live : goal.returns-else-contains_key-clause-live
-returns-else-contains_key-clause-live g c = sym (remove_absent keys_total exact_keys c.args.self.now.content.live _ (none_of _ (sym c.contains_key.ensures.value ∙ c.if-contains_key.false)))
+pub returns-in_err-live_index-clause-live : goal.returns-in_err-live_index-clause-live
+returns-in_err-live_index-clause-live g c = sym (remove_absent keys_total exact_keys c.args.self.now.content.live _ (none_of _ c.in_err-live_index.ensures.absent))

@@ -1,4 +1,4 @@
-use Rattle.std.proofs.Common.{◌+◌, ◌-◌}
+use Rattle.std.proofs.Common.{◌-◌}
 use Rattle.slotmap_hop.specs.Links.{vacant_at, blocks_of}
 use Rattle.slotmap_hop.specs.Slots.{layout}
 use Rattle.slotmap_hop.proofs.SlotReads.{none_read, some_read, none_after}
