@@ -7,16 +7,16 @@ use Rattle.slotmap_basic.specs.declared.drain.Drain.{Drain}
 use Rattle.slotmap_basic.specs.Drain.{drain_map, DrainKeepsAlong, DrainLists, DrainInOrder}
 
 module _ {K V : Type 0} (data_of : K → Key) where
-  pub Drain-keeps_along : (first : Drain K V) → DrainKeepsAlong data_of first
-  Drain-keeps_along first [] later run = rw run (refl, λ end empties. empties)
-  Drain-keeps_along first (pair ∷ pairs) later run = let rest = Drain-keeps_along run.0 pairs later run.2 in (rest.0 ∙ run.1.1.0, λ end empties. run.1.1.1 end (rest.1 end empties))
+  pub keeps_along : (first : Drain K V) → DrainKeepsAlong data_of first
+  keeps_along first [] later run = rw run (refl, λ end empties. empties)
+  keeps_along first (pair ∷ pairs) later run = let rest = keeps_along run.0 pairs later run.2 in (rest.0 ∙ run.1.1.0, λ end empties. run.1.1.1 end (rest.1 end empties))
 
-  pub Drain-lists : (first : Drain K V) → DrainLists data_of first
-  Drain-lists first [] later run = rw run (IsListingBut-start (drain_map later).live)
-  Drain-lists first (pair ∷ pairs) later run =
+  pub lists_all : (first : Drain K V) → DrainLists data_of first
+  lists_all first [] later run = rw run (IsListingBut-start (drain_map later).live)
+  lists_all first (pair ∷ pairs) later run =
       IsListingBut-first (drain_map first).live (drain_map later).live (list_map (λ p. (data_of p.0, p.1)) pairs) (data_of pair.0) pair.1 run.1.0.0
-      (rw run.1.0.1.live at (Drain-lists run.0 pairs later run.2))
+      (rw run.1.0.1.live at (lists_all run.0 pairs later run.2))
 
-  pub Drain-in_order : (first : Drain K V) → DrainInOrder data_of first
-  Drain-in_order first [] later run = ap (λ d. map.entries (drain_map d).live) run
-  Drain-in_order first (pair ∷ pairs) later run = run.1.3 ∙ ap (λ es. (data_of pair.0, pair.1) ∷ es) (Drain-in_order run.0 pairs later run.2)
+  pub yields_in_order : (first : Drain K V) → DrainInOrder data_of first
+  yields_in_order first [] later run = ap (λ d. map.entries (drain_map d).live) run
+  yields_in_order first (pair ∷ pairs) later run = run.1.3 ∙ ap (λ es. (data_of pair.0, pair.1) ∷ es) (yields_in_order run.0 pairs later run.2)
