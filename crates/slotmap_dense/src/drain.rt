@@ -89,6 +89,7 @@ impl<K: Key, V: Drop> DenseSlotMap<K, V> {
     /// assert_eq!(rt; sum, 3);
     /// assert!(rt; map.is_empty());
     /// ```
+    #[tactic(auto, using(crate::proofs::DrainLemmas::keeps_along, crate::proofs::DrainLemmas::lists_all, crate::proofs::DrainLemmas::yields_in_order))]
     pub fn drain(&mut self) -> Drain<'_, K, V>
         ensures map { drain_map result ≡ self.old }
         ensures same_reference { drain_lender result ≡ self.entry.ghost_name }

@@ -117,12 +117,9 @@ impl<K: Key, V: Drop> DenseSlotMap<K, V> {
     /// assert!(rt; matches!(made, Err(TryInsertError::Closure(7))));
     /// assert_eq!(rt; map.len(), 2);
     /// ```
-    pub fn try_insert_with_key<F: FnOnce(K) -> Result<V, E>, E>(
-        &mut self,
-        f: F,
-    ) -> Result<K, TryInsertError<E>>
+    pub fn try_insert_with_key<F, E>(&mut self, f: F) -> Result<K, TryInsertError<E>>
     where
-        F: Drop,
+        F: FnOnce(K) -> Result<V, E> + Drop,
         requires { used self.old.content < most → (key : K) → K.data_of key ≡ self.old.content.offer → F.pre f key }
 
         ensures ok { IfOk result (λ key. (v : V) × F.post f key (Ok v)
@@ -136,12 +133,8 @@ impl<K: Key, V: Drop> DenseSlotMap<K, V> {
             Err(InsertWithError::Full) => return Err(TryInsertError::Full),
             Err(InsertWithError::Memory) => return Err(TryInsertError::Memory),
         };
-        match f(key) {
-            Ok(value) => {
-                self.append(value);
-                Ok(key)
-            }
-            Err(error) => Err(TryInsertError::Closure(error)),
-        }
+        let value = f(key).map_err(TryInsertError::Closure)?;
+        self.append(value);
+        Ok(key)
     }
 }
