@@ -73,10 +73,11 @@ impl<K: Key, V: Drop> DenseSlotMap<K, V> {
         ensures valid { MayGrow self.old (IsErr result) self.new }
     {
         match self.reserve(1) {
-            Ok(()) => Ok(self.append(value)),
-            Err(ReserveError::TooGreat) => Err(InsertError::Full(value)),
-            Err(ReserveError::Memory) => Err(InsertError::Memory(value)),
+            Ok(()) => {}
+            Err(ReserveError::TooGreat) => return Err(InsertError::Full(value)),
+            Err(ReserveError::Memory) => return Err(InsertError::Memory(value)),
         }
+        Ok(self.append(value))
     }
 
     /// Inserts the value that a closure returns for the new key, and returns the key.
