@@ -13,6 +13,7 @@ use slotmap_core::keys::Key;
 
 impl<K: Key, V: Drop> SlotMap<K, V> {
     // Makes room for one more key, and returns the key that the next insert returns.
+    #[inline(always)]
     fn offer(&mut self) -> Result<K, InsertWithError>
         ensures makes_room { MakesRoom true self.old 1 (IsOk result) self.new }
         ensures key { IfOk result (λ key. K.data_of key ≡ self.old.offer) }
