@@ -21,6 +21,7 @@ impl<K: Key, V: Drop> DenseSlotMap<K, V> {
     }
 
     // Makes room for one more key, and returns the key that the next insert returns.
+    #[inline(always)]
     fn offer(&mut self) -> Result<K, InsertWithError>
         ensures makes_room { MakesRoom self.old 1 (IsOk result) self.new }
         ensures key { IfOk result (λ key. K.data_of key ≡ self.old.content.offer) }
