@@ -13,6 +13,7 @@ use slotmap_core::keys::Key;
 
 impl<K: Key, V: Drop> SlotMap<K, V> {
     // Makes room for one more key, and returns the key that the next insert returns.
+    #[inline(always)]
     fn offer(&mut self) -> Result<K, InsertWithError>
         ensures makes_room { MakesRoom true self.old 1 (IsOk result) self.new }
         ensures key { IfOk result (λ key. K.data_of key ≡ self.old.offer) }
@@ -96,12 +97,9 @@ impl<K: Key, V: Drop> SlotMap<K, V> {
     /// assert!(rt; matches!(made, Err(TryInsertError::Closure(7))));
     /// assert_eq!(rt; map.len(), 2);
     /// ```
-    pub fn try_insert_with_key<F: FnOnce(K) -> Result<V, E>, E>(
-        &mut self,
-        f: F,
-    ) -> Result<K, TryInsertError<E>>
+    pub fn try_insert_with_key<F, E>(&mut self, f: F) -> Result<K, TryInsertError<E>>
     where
-        F: Drop,
+        F: FnOnce(K) -> Result<V, E> + Drop,
         // It is called if there is a slot, with the key that the value will have.
         requires { used self.old < most → (key : K) → K.data_of key ≡ self.old.offer → F.pre f key }
 
@@ -119,12 +117,8 @@ impl<K: Key, V: Drop> SlotMap<K, V> {
             Err(InsertWithError::Full) => return Err(TryInsertError::Full),
             Err(InsertWithError::Memory) => return Err(TryInsertError::Memory),
         };
-        match f(key) {
-            Ok(value) => {
-                self.slots.fill(value);
-                Ok(key)
-            }
-            Err(error) => Err(TryInsertError::Closure(error)),
-        }
+        let value = f(key).map_err(TryInsertError::Closure)?;
+        self.slots.fill(value);
+        Ok(key)
     }
 }

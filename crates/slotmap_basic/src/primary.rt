@@ -55,12 +55,9 @@ impl<K: Key, V: Drop> Primary<K, V> for SlotMap<K, V> {
         SlotMap::remove(self, key)
     }
 
-    fn try_insert_with_key<E, F: FnOnce(K) -> Result<V, E>>(
-        &mut self,
-        f: F,
-    ) -> Result<K, TryInsertError<E>>
+    fn try_insert_with_key<E, F>(&mut self, f: F) -> Result<K, TryInsertError<E>>
     where
-        F: Drop,
+        F: FnOnce(K) -> Result<V, E> + Drop,
     {
         SlotMap::try_insert_with_key(self, f)
     }

@@ -21,6 +21,7 @@ impl<K: Key, V: Drop> DenseSlotMap<K, V> {
     }
 
     // Makes room for one more key, and returns the key that the next insert returns.
+    #[inline(always)]
     fn offer(&mut self) -> Result<K, InsertWithError>
         ensures makes_room { MakesRoom self.old 1 (IsOk result) self.new }
         ensures key { IfOk result (λ key. K.data_of key ≡ self.old.content.offer) }
@@ -73,10 +74,11 @@ impl<K: Key, V: Drop> DenseSlotMap<K, V> {
         ensures valid { MayGrow self.old (IsErr result) self.new }
     {
         match self.reserve(1) {
-            Ok(()) => Ok(self.append(value)),
-            Err(ReserveError::TooGreat) => Err(InsertError::Full(value)),
-            Err(ReserveError::Memory) => Err(InsertError::Memory(value)),
+            Ok(()) => {}
+            Err(ReserveError::TooGreat) => return Err(InsertError::Full(value)),
+            Err(ReserveError::Memory) => return Err(InsertError::Memory(value)),
         }
+        Ok(self.append(value))
     }
 
     /// Inserts the value that a closure returns for the new key, and returns the key.
@@ -117,12 +119,9 @@ impl<K: Key, V: Drop> DenseSlotMap<K, V> {
     /// assert!(rt; matches!(made, Err(TryInsertError::Closure(7))));
     /// assert_eq!(rt; map.len(), 2);
     /// ```
-    pub fn try_insert_with_key<F: FnOnce(K) -> Result<V, E>, E>(
-        &mut self,
-        f: F,
-    ) -> Result<K, TryInsertError<E>>
+    pub fn try_insert_with_key<F, E>(&mut self, f: F) -> Result<K, TryInsertError<E>>
     where
-        F: Drop,
+        F: FnOnce(K) -> Result<V, E> + Drop,
         requires { used self.old.content < most → (key : K) → K.data_of key ≡ self.old.content.offer → F.pre f key }
 
         ensures ok { IfOk result (λ key. (v : V) × F.post f key (Ok v)
@@ -136,12 +135,8 @@ impl<K: Key, V: Drop> DenseSlotMap<K, V> {
             Err(InsertWithError::Full) => return Err(TryInsertError::Full),
             Err(InsertWithError::Memory) => return Err(TryInsertError::Memory),
         };
-        match f(key) {
-            Ok(value) => {
-                self.append(value);
-                Ok(key)
-            }
-            Err(error) => Err(TryInsertError::Closure(error)),
-        }
+        let value = f(key).map_err(TryInsertError::Closure)?;
+        self.append(value);
+        Ok(key)
     }
 }

@@ -6,8 +6,8 @@ ghost use Rattle.std.specs.FinMap as map;
 ghost use Rattle.slotmap_core.specs.Key.{Key as KeyOf};
 ghost use Rattle.slotmap_core.specs.Content.{IsContent};
 ghost use Rattle.slotmap_core.specs.Transition.{Removes};
-ghost use Rattle.slotmap_dense.specs.Dense.{ClosesGap, TakesOut};
 ghost use Rattle.slotmap_core.specs.Call.{StaysValid as SlotsStayValid};
+ghost use Rattle.slotmap_dense.specs.Dense.{ClosesGap, TakesOut};
 ghost use Rattle.slotmap_dense.specs.Call.{StaysValid};
 ghost use Rattle.slotmap_dense.specs.Packed.{IsPacked, IsGapped};
 

@@ -1,5 +1,5 @@
 use Rattle.std.proofs.Common.{rules}
 use Rattle.slotmap_basic.proofs.SlotMap.try_insert_with_key.Goals as goal
 
-pub returns-in-Err-clause-valid : goal.returns-in-Err-clause-valid
-returns-in-Err-clause-valid g c = search rules
+pub returns-in_err-value-clause-valid : goal.returns-in_err-value-clause-valid
+returns-in_err-value-clause-valid g c = search rules
