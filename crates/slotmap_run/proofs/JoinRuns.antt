@@ -105,19 +105,21 @@ module _ {M S K V W : Type 0} (content : M → Content V) (pairs : S → Pairs W
     ap pairs (is_q (ap (λ maps. maps.secondary.ghost_name) same) ∙ ap (λ maps. maps.secondary.now) same),
   )
 
-module _ {M S K V W C R A B : Type 0} (data_of : K → Key) (content : M → Content V) (pairs : S → Pairs W)
+-- what a function ensures that runs commands on two maps, a field for each clause
+pub record JoinedIfOk {M S K V W C R A B : Type 0} (content : M → Content V) (pairs : S → Pairs W)
     (Step : Joined K V W → C → R → Joined K V W → Type 0) (Telling : WithDictionary K V W → C → R → WithDictionary K V W → Type 0)
-    (cs : List C) (result : Result A B) (told : A → List R) (old : Beside M S K) (p : M) (q : S) where
-  -- what a function ensures that runs commands on two maps, a field for each clause
-  pub record JoinedIfOk : Type 0 where
-    pub run : IfOk result (λ a. RunsBeside Step (content old.primary.now) (pairs old.secondary.now) cs (told a) (content p) (pairs q))
-    pub dictionary : IfOk result (λ a. RunsTold Telling (content old.primary.now) (pairs old.secondary.now) cs (told a) (content p) (pairs q))
-    pub unchanged : OnErr result ((content p ≡ content old.primary.now) × (pairs q ≡ pairs old.secondary.now))
+    (cs : List C) (result : Result A B) (told : A → List R) (old : Beside M S K) (p : M) (q : S) : Type 0 where
+  pub run : IfOk result (λ a. RunsBeside Step (content old.primary.now) (pairs old.secondary.now) cs (told a) (content p) (pairs q))
+  pub dictionary : IfOk result (λ a. RunsTold Telling (content old.primary.now) (pairs old.secondary.now) cs (told a) (content p) (pairs q))
+  pub unchanged : OnErr result ((content p ≡ content old.primary.now) × (pairs q ≡ pairs old.secondary.now))
 
-  pub joined_if_ok : (new : Beside M S K) → (new.primary.ghost_name ≡ old.primary.ghost_name → p ≡ new.primary.now) → (new.secondary.ghost_name ≡ old.secondary.ghost_name → q ≡ new.secondary.now)
-      → old.keys.now.items ≡ [] → IfOk result (λ a. Run (Served data_of content pairs Step Telling) old cs (told a) new) → OnErr result (new ≡ old) → JoinedIfOk
-  joined_if_ok new is_p is_q none ran same = record {
-    run = IfOk-weaker result _ _ (λ a run. joined_run data_of content pairs Step Telling cs (told a) old new run none p q is_p is_q) ran;
-    dictionary = IfOk-weaker result _ _ (λ a run. told_run data_of content pairs Step Telling cs (told a) old new run none p q is_p is_q) ran;
-    unchanged = on_err_weaker result (λ same. joined_kept content pairs same is_p is_q) same;
-  }
+pub joined_if_ok : {M S K V W C R A B : Type 0} (data_of : K → Key) {content : M → Content V} {pairs : S → Pairs W}
+    {Step : Joined K V W → C → R → Joined K V W → Type 0} {Telling : WithDictionary K V W → C → R → WithDictionary K V W → Type 0} {cs : List C} {old : Beside M S K} (new : Beside M S K)
+    → (result : Result A B) (told : A → List R) (p : M) (q : S) → IfOk result (λ a. Run (JoinServed data_of content pairs Step Telling) old cs (told a) new) → OnErr result (new ≡ old)
+    → old.keys.now.items ≡ [] → (new.primary.ghost_name ≡ old.primary.ghost_name → p ≡ new.primary.now) → (new.secondary.ghost_name ≡ old.secondary.ghost_name → q ≡ new.secondary.now)
+    → JoinedIfOk content pairs Step Telling cs result told old p q
+joined_if_ok data_of {content} {pairs} {Step} {Telling} {cs} {old} new result told p q ran same none is_p is_q = record {
+  run = IfOk-weaker result _ _ (λ a run. joined_run data_of content pairs Step Telling cs (told a) old new run none p q is_p is_q) ran;
+  dictionary = IfOk-weaker result _ _ (λ a run. told_run data_of content pairs Step Telling cs (told a) old new run none p q is_p is_q) ran;
+  unchanged = on_err_weaker result (λ same. joined_kept content pairs same is_p is_q) same;
+}

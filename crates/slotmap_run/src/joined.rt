@@ -9,7 +9,7 @@ ghost use Rattle.slotmap_run.specs.Replies.{joined_reattach_reply_of};
 ghost use Rattle.slotmap_run.specs.Ties.{JoinServed};
 
 use crate::given::GivenLook;
-use crate::serves::{Serves, run_all};
+use crate::serves::{Serves, may_start, run_all};
 use slotmap_core::errors::{InsertError, PutError, ReattachError};
 use slotmap_core::joined::{JoinedCommand, JoinedDetachCommand, JoinedReply};
 use slotmap_core::keys::Key;
@@ -178,8 +178,7 @@ where
     ensures unchanged { OnErr result ((M.content primary.new ≡ M.content primary.old)
         × (S.pairs secondary.new ≡ S.pairs secondary.old)) }
 {
-    // `len` ensures that the map's content is well formed.
-    let _ = primary.len();
+    may_start(primary);
     let Ok(mut keys) = Vec::with_capacity(alloc, commands.len()) else {
         return Err(commands);
     };
@@ -286,8 +285,7 @@ where
     ensures unchanged { OnErr result ((M.content primary.new ≡ M.content primary.old)
         × (S.pairs secondary.new ≡ S.pairs secondary.old)) }
 {
-    // `len` ensures that the map's content is well formed.
-    let _ = primary.len();
+    may_start(primary);
     let Ok(mut keys) = Vec::with_capacity(alloc, commands.len()) else {
         return Err(commands);
     };

@@ -15,7 +15,7 @@ ghost use Rattle.slotmap_core.specs.declared.commands.DetachCommand.TheVariants 
 ghost use Rattle.slotmap_run.specs.Order.{Served};
 
 use crate::replies::{insert_reply, insert_with_reply, or_memory, reattach_reply, reserve_reply};
-use crate::serves::{Serves, run_all, run_all_new};
+use crate::serves::{Serves, may_start, run_all, run_all_new};
 use slotmap_core::commands::{Command, DetachCommand, Reply};
 use slotmap_core::errors::TryInsertError;
 use slotmap_core::keys::Key;
@@ -171,8 +171,8 @@ where
     ensures err { IfErr result (λ back. back ≡ commands) }
     ensures unchanged { OnErr result (M.content map.new ≡ M.content map.old) }
 {
-    // `len` ensures that the map's content is well formed.
-    let _ = map.len();
+    // The map's content is well formed.
+    may_start(map);
     let given = Given {
         alloc,
         look,
@@ -349,8 +349,8 @@ where
     ensures err { IfErr result (λ back. back ≡ commands) }
     ensures unchanged { OnErr result (M.content map.new ≡ M.content map.old) }
 {
-    // As in `run`, so that the map's content is known to be well formed.
-    let _ = map.len();
+    // As in `run`, the map's content is well formed.
+    may_start(map);
     let given = Given {
         alloc,
         look,

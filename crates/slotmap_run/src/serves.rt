@@ -3,6 +3,7 @@
 ghost use Rattle.std.specs.Prelude.{◌≡◌, ℕ, ◌+◌, ◌≤◌, [], vec_capacity, length, IfOk, IfErr, OnErr};
 ghost use Rattle.slotmap_core.specs.Content.{IsContent};
 ghost use Rattle.slotmap_core.specs.Run.{Run};
+ghost use Rattle.slotmap_core.specs.Fit.{Starts};
 ghost use Rattle.slotmap_run.specs.Order.{StartsNew};
 
 use slotmap_core::keys::Key;
@@ -47,6 +48,17 @@ where
         }
     }
     replies
+}
+
+/// A run may start from any map, since `len` ensures that its content is well formed.
+pub(crate) fn may_start<M, K, V>(map: &M)
+where
+    M: Primary<K, V>,
+    K: Key,
+    ensures valid { IsContent M.REUSES (M.content map.now) }
+    ensures starts { Starts M.REUSES (M.content map.now) }
+{
+    let _ = map.len();
 }
 
 /// Runs commands on a map and returns the replies, or the commands as an error.
