@@ -7,8 +7,10 @@ use Rattle.std.specs.FinMap as map
 use Rattle.slotmap.specs.Words.{Key, key_cmp}
 use Rattle.slotmap.proofs.Callers.{keys_total, exact_keys, tied, untied, itself, len_removed, still_in, left_in}
 use Rattle.slotmap_uses.specs.declared.stable_list.Node.{Node}
+use Rattle.slotmap_uses.specs.declared.stable_list.links.Side.{Side}
+use Rattle.slotmap_uses.specs.declared.stable_list.links.Side.TheVariants.{Before, After}
 use Rattle.slotmap_uses.specs.Sequence.{Sequence, value_of, first_or, last_or, key_after, key_before, put_after, put_before, without, IsOnce, IsGap, PutsBetween}
-use Rattle.slotmap_uses.specs.Chain.{Nodes, follow_node, follow, node_at, IsChain, with_next, with_prev, with_next_of, with_prev_of, outer}
+use Rattle.slotmap_uses.specs.Chain.{Nodes, follow_node, follow, node_at, IsChain, link_to, with_link, with_link_of, with_next, with_prev, outer, BothStand, Relinks}
 
 abbrev same : Key → Key → Bool
 same q k = eq_by_cmp key_cmp q k
@@ -43,6 +45,10 @@ map_or f (Some x) p = refl
 map_cond : {A B : Type 0} (f : A → B) (b : Bool) (x : A) (o : Option A) → option_map f (cond b (Some x) o) ≡ cond b (Some (f x)) (option_map f o)
 map_cond f true x o = refl
 map_cond f false x o = refl
+
+pub if_some_so : {A : Type 0} (P Q : A → Type 0) (o : Option A) → ((x : A) → P x → Q x) → IfSome o P → IfSome o Q
+if_some_so P Q None so h = tt
+if_some_so P Q (Some x) so h = so x h
 
 pub if_some : {A : Type 0} (P : A → Type 0) (o : Option A) → ((x : A) → o ≡ Some x → P x) → IfSome o P
 if_some P None f = tt
@@ -139,12 +145,6 @@ module _ {T : Type 0} where
   relinked f None nodes q = nodes q
   relinked f (Some k) nodes q = cond (same q k) (option_map f (nodes k)) (nodes q)
 
-  abbrev to_next : Option Key → Node T → Node T
-  to_next next node = record node { next = next }
-
-  abbrev to_prev : Option Key → Node T → Node T
-  to_prev prev node = record node { prev = prev }
-
   get_written : (nodes : Nodes T) (k : Key) (f : Node T → Node T) (node : Node T) (q : Key) → map.get nodes k ≡ Some node
       → map.get (map.insert nodes k (f node)) q ≡ relinked f (Some k) (map.get nodes) q
   unfolding relinked
@@ -155,23 +155,14 @@ module _ {T : Type 0} where
   get_unwritten nodes k f q none =
       by_key (λ b. map.get nodes q ≡ cond b (option_map f (map.get nodes k)) (map.get nodes q)) q k (λ e. ap (map.get nodes) e ∙ none ∙ ap (option_map f) (sym none)) (λ _ _. refl)
 
-  get-with_next : (nodes : Nodes T) (at next : Option Key) (q : Key) → map.get (with_next nodes at next) q ≡ relinked (to_next next) at (map.get nodes) q
+  get-with_link : (side : Side) (nodes : Nodes T) (at to : Option Key) (q : Key) → map.get (with_link side nodes at to) q ≡ relinked (link_to side to) at (map.get nodes) q
   unfolding relinked
-  get-with_next nodes None next q = refl
-  get-with_next nodes (Some k) next q = by (map.get nodes k) refl
+  get-with_link side nodes None to q = refl
+  get-with_link side nodes (Some k) to q = by (map.get nodes k) refl
     where
-      by : (o : Option (Node T)) → map.get nodes k ≡ o → map.get (with_next_of nodes k o next) q ≡ relinked (to_next next) (Some k) (map.get nodes) q
-      by None is = get_unwritten nodes k (to_next next) q is
-      by (Some node) is = get_written nodes k (to_next next) node q is
-
-  get-with_prev : (nodes : Nodes T) (at prev : Option Key) (q : Key) → map.get (with_prev nodes at prev) q ≡ relinked (to_prev prev) at (map.get nodes) q
-  unfolding relinked
-  get-with_prev nodes None prev q = refl
-  get-with_prev nodes (Some k) prev q = by (map.get nodes k) refl
-    where
-      by : (o : Option (Node T)) → map.get nodes k ≡ o → map.get (with_prev_of nodes k o prev) q ≡ relinked (to_prev prev) (Some k) (map.get nodes) q
-      by None is = get_unwritten nodes k (to_prev prev) q is
-      by (Some node) is = get_written nodes k (to_prev prev) node q is
+      by : (o : Option (Node T)) → map.get nodes k ≡ o → map.get (with_link_of side nodes k o to) q ≡ relinked (link_to side to) (Some k) (map.get nodes) q
+      by None is = get_unwritten nodes k (link_to side to) q is
+      by (Some node) is = get_written nodes k (link_to side to) node q is
 
   relinked_same : (f : Node T → Node T) (at : Option Key) (a b : Key → Option (Node T)) → ((q : Key) → a q ≡ b q) → (q : Key) → relinked f at a q ≡ relinked f at b q
   unfolding relinked
@@ -198,14 +189,14 @@ module _ {T : Type 0} where
       (λ _ _. refl)
 
   -- the last link out of a part, and the first link back
-  node_at-next : (p n m : Option Key) (xs : List (Key × T)) → IsOnce xs → (q : Key) → node_at p xs m q ≡ relinked (to_next m) (last_or xs None) (node_at p xs n) q
+  node_at-next : (p n m : Option Key) (xs : List (Key × T)) → IsOnce xs → (q : Key) → node_at p xs m q ≡ relinked (link_to After m) (last_or xs None) (node_at p xs n) q
   unfolding relinked
   node_at-next p n m xs once q = elim (snoc_view xs) [
-    | inl none ↦ subst (λ (l : List (Key × T)). node_at p l m q ≡ relinked (to_next m) (last_or l None) (node_at p l n) q) (sym none) refl
-    | inr some ↦ subst (λ (l : List (Key × T)). IsOnce l → node_at p l m q ≡ relinked (to_next m) (last_or l None) (node_at p l n) q) (sym some.1.1) (by some.0 some.1.0) once
+    | inl none ↦ subst (λ (l : List (Key × T)). node_at p l m q ≡ relinked (link_to After m) (last_or l None) (node_at p l n) q) (sym none) refl
+    | inr some ↦ subst (λ (l : List (Key × T)). IsOnce l → node_at p l m q ≡ relinked (link_to After m) (last_or l None) (node_at p l n) q) (sym some.1.1) (by some.0 some.1.0) once
   ]
     where
-      by : (ys : List (Key × T)) (e : Key × T) → IsOnce (ys ++ e ∷ []) → node_at p (ys ++ e ∷ []) m q ≡ relinked (to_next m) (last_or (ys ++ e ∷ []) None) (node_at p (ys ++ e ∷ []) n) q
+      by : (ys : List (Key × T)) (e : Key × T) → IsOnce (ys ++ e ∷ []) → node_at p (ys ++ e ∷ []) m q ≡ relinked (link_to After m) (last_or (ys ++ e ∷ []) None) (node_at p (ys ++ e ∷ []) n) q
       by ys e h =
           let one = itself keys_total exact_keys e.0 in
           let apart = once_apart ys (e ∷ []) e.0 e.1 h (ap (λ b. cond b (Some e.1) None) one) in
@@ -219,10 +210,10 @@ module _ {T : Type 0} where
           (λ _ _. refl) in
           node_at-append p m ys (e ∷ []) q ∙ goal
           ∙ ap (cond (same q e.0) (Some (record { value = e.1; prev = last_or ys p; next = m }))) (sym (node_at-append p n ys (e ∷ []) q))
-          ∙ ap (λ o. cond (same q e.0) (option_map (to_next m) o) (node_at p (ys ++ e ∷ []) n q)) (sym here)
-          ∙ ap (λ l. relinked (to_next m) l (node_at p (ys ++ e ∷ []) n) q) (sym (last_or-append ys (e ∷ []) None))
+          ∙ ap (λ o. cond (same q e.0) (option_map (link_to After m) o) (node_at p (ys ++ e ∷ []) n q)) (sym here)
+          ∙ ap (λ l. relinked (link_to After m) l (node_at p (ys ++ e ∷ []) n) q) (sym (last_or-append ys (e ∷ []) None))
 
-  node_at-prev : (p o n : Option Key) (xs : List (Key × T)) (q : Key) → node_at o xs n q ≡ relinked (to_prev o) (first_or xs None) (node_at p xs n) q
+  node_at-prev : (p o n : Option Key) (xs : List (Key × T)) (q : Key) → node_at o xs n q ≡ relinked (link_to Before o) (first_or xs None) (node_at p xs n) q
   unfolding relinked
   node_at-prev p o n [] q = refl
   node_at-prev p o n (x ∷ xs) q =
@@ -230,7 +221,7 @@ module _ {T : Type 0} where
       by_key (λ t. cond t (Some (record { value = x.1; prev = o; next = first_or xs n })) (node_at (Some x.0) xs n q) ≡ cond t
       (Some (record { value = x.1; prev = o; next = first_or xs n }))
       (cond t (Some (record { value = x.1; prev = p; next = first_or xs n })) (node_at (Some x.0) xs n q))) q x.0 (λ _. refl) (λ _ _. refl)
-      ∙ ap (λ t. cond (same q x.0) (option_map (to_prev o) (cond t (Some (record { value = x.1; prev = p; next = first_or xs n })) (node_at (Some x.0) xs n x.0))) (node_at p (x ∷ xs) n q)) (sym one)
+      ∙ ap (λ t. cond (same q x.0) (option_map (link_to Before o) (cond t (Some (record { value = x.1; prev = p; next = first_or xs n })) (node_at (Some x.0) xs n x.0))) (node_at p (x ∷ xs) n q)) (sym one)
 
   -- the key at an end stands in the list
   pub last_stands : (xs : List (Key × T)) (k : Key) → last_or xs None ≡ Some k → (v : T) × (value_of k xs ≡ Some v)
@@ -284,7 +275,7 @@ module _ {T : Type 0} where
   relink : (ys zs : List (Key × T)) (mid : Key → Option (Node T)) (n0 n1 p0 p1 : Option Key) (f : Key → Option (Node T)) → IsOnce (ys ++ zs)
       → ((l : Key) → last_or ys None ≡ Some l → mid l ≡ None) → ((b : Key) → first_or zs None ≡ Some b → mid b ≡ None)
       → ((q : Key) → f q ≡ option_or (node_at None ys n0 q) (option_or (mid q) (node_at p0 zs None q)))
-      → (q : Key) → relinked (to_prev p1) (first_or zs None) (relinked (to_next n1) (last_or ys None) f) q ≡ option_or (node_at None ys n1 q) (option_or (mid q) (node_at p1 zs None q))
+      → (q : Key) → relinked (link_to Before p1) (first_or zs None) (relinked (link_to After n1) (last_or ys None) f) q ≡ option_or (node_at None ys n1 q) (option_or (mid q) (node_at p1 zs None q))
   relink ys zs mid n0 n1 p0 p1 f once left right is q =
       let rest : Key → Option (Node T) = λ k. option_or (mid k) (node_at p0 zs None k) in
       let none_left : (l : Key) → last_or ys None ≡ Some l → option_or (mid l) (node_at p0 zs None l) ≡ None = λ l e. let there = last_stands ys l e in
@@ -292,40 +283,32 @@ module _ {T : Type 0} where
       let none_right : (b : Key) → first_or zs None ≡ Some b
       → node_at None ys n1 b ≡ None = λ b e. let there = first_stands zs b e in absent_node None n1 ys b
       (once_apart ys zs b there.0 once there.1) in
-      let step : (k : Key) → relinked (to_next n1) (last_or ys None) f k ≡ option_or (node_at None ys n1 k) (option_or (mid k) (node_at p0 zs None k)) = λ k.
-      relinked_same (to_next n1) (last_or ys None) f (λ j. option_or (node_at None ys n0 j) (option_or (mid j) (node_at p0 zs None j))) is k
-      ∙ relinked_left (to_next n1) (last_or ys None) (node_at None ys n0) (λ j. option_or (mid j) (node_at p0 zs None j)) none_left k
+      let step : (k : Key) → relinked (link_to After n1) (last_or ys None) f k ≡ option_or (node_at None ys n1 k) (option_or (mid k) (node_at p0 zs None k)) = λ k.
+      relinked_same (link_to After n1) (last_or ys None) f (λ j. option_or (node_at None ys n0 j) (option_or (mid j) (node_at p0 zs None j))) is k
+      ∙ relinked_left (link_to After n1) (last_or ys None) (node_at None ys n0) (λ j. option_or (mid j) (node_at p0 zs None j)) none_left k
       ∙ ap (λ o. option_or o (option_or (mid k) (node_at p0 zs None k))) (sym (node_at-next None n0 n1 ys (once_left ys zs once) k)) in
-      relinked_same (to_prev p1) (first_or zs None) (relinked (to_next n1) (last_or ys None) f) (λ j. option_or (node_at None ys n1 j) (option_or (mid j) (node_at p0 zs None j))) step q
-      ∙ relinked_right (to_prev p1) (first_or zs None) (node_at None ys n1) (λ j. option_or (mid j) (node_at p0 zs None j)) none_right q
-      ∙ ap (option_or (node_at None ys n1 q)) (relinked_right (to_prev p1) (first_or zs None) mid (node_at p0 zs None) right q)
+      relinked_same (link_to Before p1) (first_or zs None) (relinked (link_to After n1) (last_or ys None) f) (λ j. option_or (node_at None ys n1 j) (option_or (mid j) (node_at p0 zs None j))) step q
+      ∙ relinked_right (link_to Before p1) (first_or zs None) (node_at None ys n1) (λ j. option_or (mid j) (node_at p0 zs None j)) none_right q
+      ∙ ap (option_or (node_at None ys n1 q)) (relinked_right (link_to Before p1) (first_or zs None) mid (node_at p0 zs None) right q)
       ∙ ap (λ o. option_or (node_at None ys n1 q) (option_or (mid q) o)) (sym (node_at-prev p0 p1 None zs q))
 
   get-relinked : (nodes : Nodes T) (at next at' prev : Option Key) (q : Key)
-      → map.get (with_prev (with_next nodes at next) at' prev) q ≡ relinked (to_prev prev) at' (relinked (to_next next) at (map.get nodes)) q
+      → map.get (with_prev (with_next nodes at next) at' prev) q ≡ relinked (link_to Before prev) at' (relinked (link_to After next) at (map.get nodes)) q
   get-relinked nodes at next at' prev q =
-      get-with_prev (with_next nodes at next) at' prev q
-      ∙ relinked_same (to_prev prev) at' (map.get (with_next nodes at next)) (relinked (to_next next) at (map.get nodes))
-      (get-with_next nodes at next) q
+      get-with_link Before (with_next nodes at next) at' prev q
+      ∙ relinked_same (link_to Before prev) at' (map.get (with_next nodes at next)) (relinked (link_to After next) at (map.get nodes))
+      (get-with_link After nodes at next) q
 
   pub len_written : (nodes : Nodes T) (k : Key) (node old : Node T) → map.get nodes k ≡ Some old → map.len (map.insert nodes k node) ≡ map.len nodes
   len_written nodes k node old found = map.len-insert keys_total nodes k node ∙ ap (λ o. cond (is_some o) (map.len nodes) (map.len nodes + 1)) found
 
-  len-with_next : (nodes : Nodes T) (at next : Option Key) → map.len (with_next nodes at next) ≡ map.len nodes
-  len-with_next nodes None next = refl
-  len-with_next nodes (Some k) next = by (map.get nodes k) refl
+  len-with_link : (side : Side) (nodes : Nodes T) (at to : Option Key) → map.len (with_link side nodes at to) ≡ map.len nodes
+  len-with_link side nodes None to = refl
+  len-with_link side nodes (Some k) to = by (map.get nodes k) refl
     where
-      by : (o : Option (Node T)) → map.get nodes k ≡ o → map.len (with_next_of nodes k o next) ≡ map.len nodes
+      by : (o : Option (Node T)) → map.get nodes k ≡ o → map.len (with_link_of side nodes k o to) ≡ map.len nodes
       by None is = refl
-      by (Some node) is = len_written nodes k (to_next next node) node is
-
-  len-with_prev : (nodes : Nodes T) (at prev : Option Key) → map.len (with_prev nodes at prev) ≡ map.len nodes
-  len-with_prev nodes None prev = refl
-  len-with_prev nodes (Some k) prev = by (map.get nodes k) refl
-    where
-      by : (o : Option (Node T)) → map.get nodes k ≡ o → map.len (with_prev_of nodes k o prev) ≡ map.len nodes
-      by None is = refl
-      by (Some node) is = len_written nodes k (to_prev prev node) node is
+      by (Some node) is = len_written nodes k (link_to side to node) node is
 
   some_last : (ys : List (Key × T)) (k : Key) → (l : Key) × (last_or ys (Some k) ≡ Some l)
   some_last [] k = (k, refl)
@@ -436,8 +419,8 @@ module _ {T : Type 0} where
             ∙ sym (node_at-append None None ys ((k, v) ∷ zs) q);
         once = once_put ys (k, v) zs chain.once absent;
         count = length-append ys ((k, v) ∷ zs) ∙ (let e = length-append ys zs in let c = chain.count in omega arith)
-            ∙ sym (len-with_prev (with_next (map.insert nodes k node) (last_or ys None) (Some k)) (first_or zs None) (Some k)
-            ∙ len-with_next (map.insert nodes k node) (last_or ys None) (Some k) ∙ map.len-insert keys_total nodes k node
+            ∙ sym (len-with_link Before (with_next (map.insert nodes k node) (last_or ys None) (Some k)) (first_or zs None) (Some k)
+            ∙ len-with_link After (map.insert nodes k node) (last_or ys None) (Some k) ∙ map.len-insert keys_total nodes k node
             ∙ ap (λ o. cond (is_some o) (map.len nodes) (map.len nodes + 1)) new);
         first_is = outer_first ys zs ((k, v) ∷ zs) first chain.first_is;
         last_is = outer_last zs ys last (Some k) chain.last_is ∙ sym (last_or-append ys ((k, v) ∷ zs) None);
@@ -465,8 +448,8 @@ module _ {T : Type 0} where
             ∙ sym (node_at-append None None ys zs q);
         once = once;
         count = length-append ys zs ∙ (let e = length-append ys ((k, v) ∷ zs) in let c = chain.count in let r = len_removed keys_total exact_keys nodes k (ap is_some found) in omega arith)
-            ∙ sym (len-with_prev (with_next (map.remove nodes k) (last_or ys None) (first_or zs None)) (first_or zs None) (last_or ys None)
-            ∙ len-with_next (map.remove nodes k) (last_or ys None) (first_or zs None));
+            ∙ sym (len-with_link Before (with_next (map.remove nodes k) (last_or ys None) (first_or zs None)) (first_or zs None) (last_or ys None)
+            ∙ len-with_link After (map.remove nodes k) (last_or ys None) (first_or zs None));
         first_is = outer_first ys ((k, v) ∷ zs) zs first chain.first_is;
         last_is = outer_last zs (ys ++ (k, v) ∷ []) last (last_or ys None) (chain.last_is ∙ ap (λ l. last_or l None) (sym (append_assoc ys ((k, v) ∷ []) zs))) ∙ sym (last_or-append ys zs None);
       }
@@ -478,13 +461,13 @@ module _ {T : Type 0} where
   pub chain_new : (nodes : Nodes T) → nodes ≡ map.empty → IsChain nodes None None []
   chain_new nodes e = subst (λ (n : Nodes T). IsChain n None None []) (sym e) chain_empty
 
-  pub stands-with_next : (nodes : Nodes T) (at next : Option Key) (q : Key) → map.contains_key nodes q ≡ true → map.contains_key (with_next nodes at next) q ≡ true
-  stands-with_next nodes None next q there = there
-  stands-with_next nodes (Some k) next q there = by (map.get nodes k)
+  pub stands-with_link : (side : Side) (nodes : Nodes T) (at to : Option Key) (q : Key) → map.contains_key nodes q ≡ true → map.contains_key (with_link side nodes at to) q ≡ true
+  stands-with_link side nodes None to q there = there
+  stands-with_link side nodes (Some k) to q there = by (map.get nodes k)
     where
-      by : (o : Option (Node T)) → map.contains_key (with_next_of nodes k o next) q ≡ true
+      by : (o : Option (Node T)) → map.contains_key (with_link_of side nodes k o to) q ≡ true
       by None = there
-      by (Some node) = still_in keys_total exact_keys nodes k (to_next next node) q there
+      by (Some node) = still_in keys_total exact_keys nodes k (link_to side to node) q there
 
   stands_in : (nodes : Nodes T) (first last : Option Key) (xs : List (Key × T)) (q : Key) (v : T) → IsChain nodes first last xs → value_of q xs ≡ Some v → map.contains_key nodes q ≡ true
   stands_in nodes first last xs q v chain there = by (map.get nodes q) (value_found nodes first last xs q chain ∙ there)
@@ -526,24 +509,30 @@ module _ {T : Type 0} where
       → map.get nodes k ≡ Some node → (l : Key) → node.prev ≡ Some l → map.contains_key (map.remove nodes k) l ≡ true
   removed_prev nodes first last xs k node chain found l is =
       let s = split_at nodes first last xs k node chain found in
-      let end = sym s.prev ∙ is in
-      let there = last_stands s.before l end in
+      let there = last_stands s.before l (sym s.prev ∙ is) in
       left_in keys_total exact_keys nodes k l
       (λ e. let none = s.absent in let some = there.1 in let same_value : value_of l s.before ≡ value_of k s.before = ap (λ j. value_of j s.before) e in absurd (cc))
-      (prev_stands nodes first last s.before ((k, node.value) ∷ s.after) (subst (IsChain nodes first last) s.list chain) l end)
+      (prev_stands nodes first last s.before ((k, node.value) ∷ s.after) (subst (IsChain nodes first last) s.list chain) l (sym s.prev ∙ is))
 
   pub removed_next : (nodes : Nodes T) (first last : Option Key) (xs : List (Key × T)) (k : Key) (node : Node T) → IsChain nodes first last xs
       → map.get nodes k ≡ Some node → (b : Key) → node.next ≡ Some b → map.contains_key (map.remove nodes k) b ≡ true
   removed_next nodes first last xs k node chain found b is =
       let s = split_at nodes first last xs k node chain found in
-      let start = sym s.next ∙ is in
-      let there = first_stands s.after b start in
+      let there = first_stands s.after b (sym s.next ∙ is) in
       let chain' = subst (IsChain nodes first last) s.list chain in
       let after = (once_right s.before ((k, node.value) ∷ s.after) chain'.once).0 in
       let other : b ≢ k = (λ e. let none = after in let some = there.1 in let same_value : value_of b s.after ≡ value_of k s.after = ap (λ j. value_of j s.after) e in absurd (cc)) in
       left_in keys_total exact_keys nodes k b other
       (stands_in nodes first last (s.before ++ (k, node.value) ∷ s.after) b there.0 chain'
       (in_right s.before ((k, node.value) ∷ s.after) b there.0 chain'.once (ap (λ t. cond t (Some node.value) (value_of b s.after)) (other_key b k other) ∙ there.1)))
+
+  -- the neighbours of an element have nodes once it is removed
+  pub removed_stands : (nodes : Nodes T) (first last : Option Key) (xs : List (Key × T)) (k : Key) (node : Node T) → IsChain nodes first last xs
+      → map.get nodes k ≡ Some node → BothStand (map.remove nodes k) node.prev node.next
+  removed_stands nodes first last xs k node chain found = (
+    if_some (λ p. map.contains_key (map.remove nodes k) p ≡ true) node.prev (removed_prev nodes first last xs k node chain found),
+    if_some (λ n. map.contains_key (map.remove nodes k) n ≡ true) node.next (removed_next nodes first last xs k node chain found),
+  )
 
   pub removal : (nodes : Nodes T) (first last : Option Key) (xs : List (Key × T)) (k : Key) (node : Node T) → IsChain nodes first last xs → map.get nodes k ≡ Some node
       → IsChain (with_prev (with_next (map.remove nodes k) node.prev node.next) node.next node.prev) (outer node.prev first node.next) (outer node.next last node.prev) (without k xs)
@@ -568,13 +557,34 @@ module _ {T : Type 0} where
       subst (λ (n : Option Key). IsChain (with_prev (with_next (map.insert nodes k (record { value = v; prev = prev; next = n })) prev (Some k)) n
       (Some k)) (outer prev first (Some k)) (outer n last (Some k)) (gap.0 ++ (k, v) ∷ gap.1.0)) gap.1.3 by_prev
 
-  pub gap_prev : (nodes : Nodes T) (first last prev next : Option Key) (xs : List (Key × T)) → IsGap xs prev next → IsChain nodes first last xs
-      → (l : Key) → prev ≡ Some l → map.contains_key nodes l ≡ true
-  gap_prev nodes first last prev next xs gap chain l is = prev_stands nodes first last gap.0 gap.1.0 (subst (IsChain nodes first last) gap.1.1 chain) l (gap.1.2 ∙ is)
+  -- the list once the node of an element was added between two neighbours, and these were linked to it
+  pub put_chain : (nodes mid new : Nodes T) (first last prev next new_first new_last : Option Key) (xs : List (Key × T)) (gap : IsGap xs prev next) (k : Key) (v : T)
+      → IsChain nodes first last xs → map.get nodes k ≡ None → mid ≡ map.insert nodes k (record { value = v; prev = prev; next = next })
+      → Relinks mid first last prev next (Some k) (Some k) new new_first new_last → IsChain new new_first new_last (gap.0 ++ (k, v) ∷ gap.1.0)
+  put_chain nodes mid new first last prev next new_first new_last xs gap k v chain fresh added r =
+      rw (r.nodes, r.first_is, r.last_is, added) (put_in nodes first last prev next xs gap k v chain fresh)
 
-  pub gap_next : (nodes : Nodes T) (first last prev next : Option Key) (xs : List (Key × T)) → IsGap xs prev next → IsChain nodes first last xs
-      → (b : Key) → next ≡ Some b → map.contains_key nodes b ≡ true
-  gap_next nodes first last prev next xs gap chain b is = next_stands nodes first last gap.0 gap.1.0 (subst (IsChain nodes first last) gap.1.1 chain) b (gap.1.3 ∙ is)
+  -- the list once the node of an element was removed, and its neighbours were linked to each other
+  pub removed_chain : (nodes mid new : Nodes T) (first last new_first new_last : Option Key) (xs ys : List (Key × T)) (k : Key) (node : Node T)
+      → IsChain nodes first last xs → map.get nodes k ≡ Some node → xs ≡ ys → mid ≡ map.remove nodes k
+      → Relinks mid first last node.prev node.next node.next node.prev new new_first new_last → IsChain new new_first new_last (without k ys)
+  removed_chain nodes mid new first last new_first new_last xs ys k node chain found same_list removed r =
+      rw (r.nodes, r.first_is, r.last_is, removed, ← same_list) (removal nodes first last xs k node chain found)
+
+  -- the neighbours of a place have nodes
+  pub gap_stands : (nodes : Nodes T) (first last prev next : Option Key) (xs : List (Key × T)) → IsGap xs prev next → IsChain nodes first last xs → BothStand nodes prev next
+  gap_stands nodes first last prev next xs gap chain =
+      let chain' = subst (IsChain nodes first last) gap.1.1 chain in (
+        if_some (λ p. map.contains_key nodes p ≡ true) prev (λ p is. prev_stands nodes first last gap.0 gap.1.0 chain' p (gap.1.2 ∙ is)),
+        if_some (λ n. map.contains_key nodes n ≡ true) next (λ n is. next_stands nodes first last gap.0 gap.1.0 chain' n (gap.1.3 ∙ is)),
+      )
+
+  -- what has a node in one map has a node in another one
+  pub both_so : (a b : Nodes T) (prev next : Option Key) → ((q : Key) → map.contains_key a q ≡ true → map.contains_key b q ≡ true) → BothStand a prev next → BothStand b prev next
+  both_so a b prev next so both = (
+    if_some_so (λ p. map.contains_key a p ≡ true) (λ p. map.contains_key b p ≡ true) prev so both.0,
+    if_some_so (λ n. map.contains_key a n ≡ true) (λ n. map.contains_key b n ≡ true) next so both.1,
+  )
 
   -- what the node of a key says of the key after it
   pub next_found : (nodes : Nodes T) (first last : Option Key) (xs : List (Key × T)) (k : Key) (node : Node T) → IsChain nodes first last xs → map.get nodes k ≡ Some node → node.next ≡ key_after k xs
@@ -610,6 +620,12 @@ module _ {T : Type 0} where
 
   pub stands-insert : (nodes : Nodes T) (k : Key) (node : Node T) (q : Key) → map.contains_key nodes q ≡ true → map.contains_key (map.insert nodes k node) q ≡ true
   stands-insert nodes k node q there = still_in keys_total exact_keys nodes k node q there
+
+  -- the neighbours of a place have nodes once one more is added
+  pub added_stands : (nodes mid : Nodes T) (first last prev next : Option Key) (xs : List (Key × T)) (k : Key) (node : Node T) → IsGap xs prev next → IsChain nodes first last xs
+      → mid ≡ map.insert nodes k node → BothStand mid prev next
+  added_stands nodes mid first last prev next xs k node gap chain added =
+      rw added (both_so nodes (map.insert nodes k node) prev next (stands-insert nodes k node) (gap_stands nodes first last prev next xs gap chain))
 
   -- between which neighbours an element stands
   pub gap_last : (xs : List (Key × T)) (last : Option Key) → last ≡ last_or xs None → IsGap xs last None

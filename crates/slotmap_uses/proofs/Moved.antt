@@ -195,3 +195,11 @@ module _ {T : Type 0} where
     pub scene_moved : IsScene (attached (detached nodes k) k p)
     scene_moved = scene_attached (detached nodes k) k p ((detached_parents nodes k).same_keys k ∙ live) (detached_parents nodes k).here ((detached_parents nodes k).same_keys p ∙ there)
         (λ w. out (within_before nodes k p k w)) (scene_detached nodes k live scene)
+
+    -- by what the three calls say that move it
+    module _ (more fewer new : Nodes T) (push : more ≡ pushed) (leave : fewer ≡ without_child more (parent_of more k) k) (set : new ≡ with_parent fewer k (Some p)) where
+      pub reparented : new ≡ attached (detached nodes k) k p
+      reparented = set ∙ ap (λ m. with_parent m k (Some p)) leave ∙ ap (λ m. with_parent (without_child m (parent_of m k) k) k (Some p)) push ∙ moved_is
+
+      pub scene_reparented : IsScene new
+      scene_reparented = subst IsScene (sym reparented) scene_moved

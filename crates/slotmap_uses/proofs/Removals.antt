@@ -51,25 +51,19 @@ module _ {T : Type 0} where
       let few = short old n at leads in
       (few, ap (λ i. 2 * map.len now + (map.len old - i)) (up_is (map.len old) old n at leads (omega arith)))
 
-  pub down_smaller : (old now new : Nodes T) → IsTree old → (at child : Key) → has_node old at → parent_of old child ≡ Some at → map.len new ≡ map.len now → to_do old new child < to_do old now at
-  down_smaller old now new tree at child live is same_len =
+  -- what there is to do at a node and at its child, by how many nodes are above it
+  by_depth : (old a b : Nodes T) → IsTree old → (at child : Key) → has_node old at → parent_of old child ≡ Some at
+      → (n : ℕ) × (suc n < map.len old) × (to_do old a at ≡ 2 * map.len a + (map.len old - n)) × (to_do old b child ≡ 2 * map.len b + (map.len old - suc n))
+  by_depth old a b tree at child live is =
       let up = tree at live in
-      let before = to_do_is old now at up.0 up.1 in
-      let after = to_do_is old new child (suc up.0) (at, (has_parent old child at is, is, up.1)) in
-      let more = after.0 in
-      let was = before.1 in
-      let now_is = after.1 in
-      omega arith
+      let below = to_do_is old b child (suc up.0) (at, (has_parent old child at is, is, up.1)) in
+      (up.0, below.0, (to_do_is old a at up.0 up.1).1, below.1)
+
+  pub down_smaller : (old now new : Nodes T) → IsTree old → (at child : Key) → has_node old at → parent_of old child ≡ Some at → map.len new ≡ map.len now → to_do old new child < to_do old now at
+  down_smaller old now new tree at child live is same_len = let both = by_depth old now new tree at child live is in omega (arith, same_len, both.1, both.2, both.3)
 
   pub up_smaller : (old now new : Nodes T) → IsTree old → (at p : Key) → has_node old p → parent_of old at ≡ Some p → map.len new + 1 ≡ map.len now → to_do old new p < to_do old now at
-  up_smaller old now new tree at p live is less =
-      let up = tree p live in
-      let after = to_do_is old new p up.0 up.1 in
-      let before = to_do_is old now at (suc up.0) (p, (has_parent old at p is, is, up.1)) in
-      let more = before.0 in
-      let was = before.1 in
-      let now_is = after.1 in
-      omega arith
+  up_smaller old now new tree at p live is less = let both = by_depth old new now tree p at live is in omega (arith, less, both.1, both.2, both.3)
 
   at_some : (nodes : Nodes T) (k : Key) (o : Option (Node T)) → map.get nodes k ≡ o → is_some o ≡ true → (n : Node T) × (map.get nodes k ≡ Some n)
   at_some nodes k None is there = absurd (cc)

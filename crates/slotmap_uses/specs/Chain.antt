@@ -5,6 +5,8 @@ use Rattle.std.specs.FinMap as map
 use Rattle.slotmap.specs.Words.{Key, key_cmp}
 use Rattle.slotmap_uses.specs.Sequence.{first_or, last_or, IsOnce}
 use Rattle.slotmap_uses.specs.declared.stable_list.Node.{Node}
+use Rattle.slotmap_uses.specs.declared.stable_list.links.Side.{Side}
+use Rattle.slotmap_uses.specs.declared.stable_list.links.Side.TheVariants.{Before, After}
 
 abbrev pub Nodes : Type 0 → Type 0
 Nodes T = map.FinMap key_cmp (Node T)
@@ -41,44 +43,52 @@ module _ {T : Type 0} where
     pub first_is : first ≡ first_or es None
     pub last_is : last ≡ last_or es None
 
-  abbrev pub with_next_of : Nodes T → Key → Option (Node T) → Option Key → Nodes T
-  with_next_of nodes k None next = nodes
-  with_next_of nodes k (Some node) next = map.insert nodes k (record node { next = next })
+  -- a node whose link on this side leads to `to`
+  abbrev pub link_to : Side → Option Key → Node T → Node T
+  link_to Before to node = record node { prev = to }
+  link_to After to node = record node { next = to }
 
-  -- the nodes once the link out of `at` leads to `next`
+  abbrev pub with_link_of : Side → Nodes T → Key → Option (Node T) → Option Key → Nodes T
+  with_link_of side nodes k None to = nodes
+  with_link_of side nodes k (Some node) to = map.insert nodes k (link_to side to node)
+
+  -- the nodes once the link on this side of `at` leads to `to`
+  abbrev pub with_link : Side → Nodes T → Option Key → Option Key → Nodes T
+  with_link side nodes None to = nodes
+  with_link side nodes (Some k) to = with_link_of side nodes k (map.get nodes k) to
+
+  -- the nodes once the link after `at` leads to `next`, and once the link before it leads to `prev`
   abbrev pub with_next : Nodes T → Option Key → Option Key → Nodes T
-  with_next nodes None next = nodes
-  with_next nodes (Some k) next = with_next_of nodes k (map.get nodes k) next
+  with_next nodes at next = with_link After nodes at next
 
-  abbrev pub with_prev_of : Nodes T → Key → Option (Node T) → Option Key → Nodes T
-  with_prev_of nodes k None prev = nodes
-  with_prev_of nodes k (Some node) prev = map.insert nodes k (record node { prev = prev })
-
-  -- the same of the link back
   abbrev pub with_prev : Nodes T → Option Key → Option Key → Nodes T
-  with_prev nodes None prev = nodes
-  with_prev nodes (Some k) prev = with_prev_of nodes k (map.get nodes k) prev
+  with_prev nodes at prev = with_link Before nodes at prev
+
+  -- these two, if they are there, have nodes
+  abbrev pub BothStand : Nodes T → Option Key → Option Key → Type 0
+  BothStand nodes prev next = IfSome prev (λ p. map.contains_key nodes p ≡ true) × IfSome next (λ n. map.contains_key nodes n ≡ true)
 
   -- the neighbours of k have nodes
   abbrev pub HasNeighbours : Nodes T → Key → Type 0
-  HasNeighbours nodes k = (node : Node T) → map.get nodes k ≡ Some node
-      → IfSome node.prev (λ p. map.contains_key nodes p ≡ true) × IfSome node.next (λ n. map.contains_key nodes n ≡ true)
+  HasNeighbours nodes k = (node : Node T) → map.get nodes k ≡ Some node → BothStand nodes node.prev node.next
 
-  -- the neighbours of k's node are linked to each other; the nodes, and the ends of the list, before and after
+  -- the link after `prev` leads on to `on`, and the link before `next` back to `back`; the nodes, and the ends of the list, before and after
+  pub record Relinks (old : Nodes T) (first last prev next on back : Option Key) (new : Nodes T) (new_first new_last : Option Key) : Type 0 where
+    pub nodes : new ≡ with_prev (with_next old prev on) next back
+    pub first_is : new_first ≡ outer prev first on
+    pub last_is : new_last ≡ outer next last back
+
+  -- the neighbours of k's node are linked to each other
   pub record Unlinks (old : Nodes T) (first last : Option Key) (k : Key) (new : Nodes T) (new_first new_last : Option Key) : Type 0 where
     pub node : Node T
     pub found : map.get old k ≡ Some node
-    pub nodes : new ≡ with_prev (with_next old node.prev node.next) node.next node.prev
-    pub first_is : new_first ≡ outer node.prev first node.next
-    pub last_is : new_last ≡ outer node.next last node.prev
+    pub links : Relinks old first last node.prev node.next node.next node.prev new new_first new_last
 
   -- k's node is linked between these two
   pub record Links (old : Nodes T) (first last : Option Key) (k : Key) (prev next : Option Key) (new : Nodes T) (new_first new_last : Option Key) : Type 0 where
     pub node : Node T
     pub found : map.get old k ≡ Some node
-    pub nodes : new ≡ with_prev (with_next (map.insert old k (record { value = node.value; prev = prev; next = next })) prev (Some k)) next (Some k)
-    pub first_is : new_first ≡ outer prev first (Some k)
-    pub last_is : new_last ≡ outer next last (Some k)
+    pub links : Relinks (map.insert old k (record { value = node.value; prev = prev; next = next })) first last prev next (Some k) (Some k) new new_first new_last
 
   -- these elements are those that an iterator has left: what stands before them and after them in the list, and its two ends
   pub record IsWalk (nodes : Nodes T) (left : ℕ) (first last : Option Key) : Type 0 where

@@ -25,11 +25,12 @@ ghost use Rattle.std.specs.Prelude.{◌≡◌, ◌≢◌, Some, None, IfOk, OnOk
 ghost use Rattle.std.specs.FinMap as map;
 ghost use Rattle.std.specs.List.{filter};
 ghost use Rattle.slotmap.specs.Words.{Key as KeyOf, IsLive, IsNew, IsSpent, KeepsSpent, Refuses, get, contains_key};
-ghost use Rattle.slotmap.specs.Words.{Appends, ClosesGap, SameOrder, IsEmpty};
+ghost use Rattle.slotmap.specs.Words.{Appends, ClosesGap, IsBeside, SameOrder, IsEmpty};
 ghost use Rattle.slotmap_uses.specs.World.{RefusesAttach, has_both};
 
 use slotmap::{
-    DefaultKey, DenseSlotMap, InsertError, PutError, ReserveError, SecondaryMap, SparseSecondaryMap,
+    DefaultKey, DenseSlotMap, InsertError, PutError, ReserveError, Secondary, SecondaryMap,
+    SparseSecondaryMap,
 };
 use std::alloc::{AllocError, Global};
 use std::marker::Model;
@@ -81,6 +82,31 @@ fn is_in_both<P: Drop, N: Drop>(
     ensures { result ≡ contains_key positions.now.pairs key && contains_key names.now.pairs key }
 {
     positions.contains_key(key) && names.contains_key(key)
+}
+
+// Puts a component beside an entity, into the table of its kind, and returns the one that it had.
+fn attach<E: Drop, C: Drop, T: Secondary<DefaultKey, C>>(
+    entities: &DenseSlotMap<DefaultKey, E>,
+    table: &mut T,
+    key: DefaultKey,
+    component: C,
+) -> Result<Option<C>, AttachError<C>>
+    requires { IsBeside entities.now.content (T.pairs table.old) }
+    ensures before { IfOk result (λ before. before ≡ get (T.pairs table.old) key) }
+    ensures there { OnOk result (get (T.pairs table.new) key ≡ Some component) }
+    ensures live { OnOk result (IsLive entities.now.content key) }
+    ensures err { IfErr result (RefusesAttach entities.now.content key component) }
+    ensures unchanged { OnErr result (T.pairs table.new ≡ T.pairs table.old) }
+    ensures others { (q : KeyOf) → q ≢ key → get (T.pairs table.new) q ≡ get (T.pairs table.old) q }
+    ensures beside { IsBeside entities.now.content (T.pairs table.new) }
+{
+    if !entities.contains_key(key) {
+        return Err(AttachError::Gone(component));
+    }
+    match table.insert(key, component) {
+        Ok(before) => Ok(before),
+        Err(PutError(component)) => Err(AttachError::Memory(component)),
+    }
 }
 
 impl<E: Drop, P: Drop, N: Drop> World<E, P, N> {
@@ -186,13 +212,7 @@ impl<E: Drop, P: Drop, N: Drop> World<E, P, N> {
         ensures entities { self.new.entities ≡ self.old.entities }
         ensures names { self.new.names ≡ self.old.names }
     {
-        if !self.entities.contains_key(key) {
-            return Err(AttachError::Gone(position));
-        }
-        match self.positions.insert(key, position) {
-            Ok(before) => Ok(before),
-            Err(PutError(position)) => Err(AttachError::Memory(position)),
-        }
+        attach(&self.entities, &mut self.positions, key, position)
     }
 
     /// Gives an entity a name, and returns the one that it had.
@@ -213,13 +233,7 @@ impl<E: Drop, P: Drop, N: Drop> World<E, P, N> {
         ensures entities { self.new.entities ≡ self.old.entities }
         ensures positions { self.new.positions ≡ self.old.positions }
     {
-        if !self.entities.contains_key(key) {
-            return Err(AttachError::Gone(name));
-        }
-        match self.names.insert(key, name) {
-            Ok(before) => Ok(before),
-            Err(PutError(name)) => Err(AttachError::Memory(name)),
-        }
+        attach(&self.entities, &mut self.names, key, name)
     }
 
     /// Takes the position off an entity, and returns it, if it has one.

@@ -1,12 +1,13 @@
 //! Callers of the library, each proved from its contracts alone.
 #![tactic(auto, using(slotmap::proofs::Callers::keys))]
 
+pub mod any_map;
 pub mod arm;
 pub mod drains;
 pub mod exchange;
 pub mod hops;
 pub mod lookups;
-pub mod own_key;
+pub mod null_key;
 pub mod packed;
 pub mod registry;
 pub mod retains;

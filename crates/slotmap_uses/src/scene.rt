@@ -34,7 +34,6 @@
 ghost use Rattle.std.specs.Prelude.{◌≡◌, ◌↔◌, Some, None, IfOk, IfErr, OnOk, OnErr, IfSome, IfNone, IsTrue, false, true, option_copied, option_map};
 ghost use Rattle.std.specs.FinMap as map;
 ghost use Rattle.slotmap.specs.Words.{Key as KeyOf};
-ghost use Rattle.slotmap_uses.specs.declared.scene.ReparentError.TheVariants as move_error;
 ghost use Rattle.slotmap_uses.specs.Climb.{HandsBack, IsNotGone, RefusesChild, RefusesParent, Leads, IsWithin, has_node, lacks_node, parent_of};
 ghost use Rattle.slotmap_uses.specs.Family.{attached, children_of, detached, forgets, is_parent, leaf, value_of};
 ghost use Rattle.slotmap_uses.specs.GraphParts.{times};
@@ -42,7 +41,7 @@ ghost use Rattle.slotmap_uses.specs.GraphParts.{times};
 pub use crate::scene::children::Children;
 use crate::scene::links::{add, add_below, leave_parent, push_child, remove_tree, set_parent};
 use slotmap::{DefaultKey, ReserveError, SlotMap};
-use std::alloc::{AllocError, Global};
+use std::alloc::Global;
 use std::marker::Model;
 use thiserror::Error;
 
@@ -114,14 +113,6 @@ pub enum ReparentError {
     /// The allocation fails.
     #[error("out of memory")]
     Memory,
-}
-
-impl From<AllocError> for ReparentError {
-    ghost from_gives = { λ a e. e ≡ move_error.Memory };
-
-    fn from(_: AllocError) -> ReparentError {
-        ReparentError::Memory
-    }
 }
 
 impl<T: Drop> Scene<T> {
@@ -260,7 +251,9 @@ impl<T: Drop> Scene<T> {
         if self.is_within(parent, node) {
             return Err(ReparentError::Cycle);
         }
-        push_child(&mut self.nodes, parent, node)?;
+        if push_child(&mut self.nodes, parent, node).is_err() {
+            return Err(ReparentError::Memory);
+        }
         leave_parent(&mut self.nodes, node);
         set_parent(&mut self.nodes, node, Some(parent));
         Ok(())

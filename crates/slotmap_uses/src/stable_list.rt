@@ -35,6 +35,7 @@ ghost use Rattle.std.specs.FinMap as map;
 ghost use Rattle.slotmap.specs.Words.{Key as KeyOf, IsLive, IsNew, IsSpent, KeepsSpent};
 ghost use Rattle.slotmap_uses.specs.Sequence.{value_of, first_or, last_or, key_after, key_before, put_after, put_before, without, IsGap, PutsBetween, IsOnce};
 ghost use Rattle.slotmap_uses.specs.Sequence.{moved_to_front, moved_to_back, moved_after, moved_before, are_two, TakesFront, TakesBack};
+ghost use Rattle.slotmap_uses.specs.Places.{put_beside};
 ghost use Rattle.slotmap_uses.specs.Refused.{IsRefused, HandsBack};
 
 use slotmap::{ReserveError, SlotMap};
@@ -50,7 +51,7 @@ mod moves;
 
 pub use cursor::Cursor;
 pub use iter::Iter;
-use links::{add, same, set_next, set_prev};
+use links::{Side, add, beside, relink, same};
 
 #[derive(Drop)]
 struct Node<T> {
@@ -200,8 +201,15 @@ impl<T: Drop> StableList<T> {
             next: same(&next),
         };
         let key = add(&mut self.nodes, node)?;
-        set_next(&mut self.nodes, &mut self.first, prev, Some(key));
-        set_prev(&mut self.nodes, &mut self.last, next, Some(key));
+        relink(
+            &mut self.nodes,
+            &mut self.first,
+            &mut self.last,
+            prev,
+            next,
+            Some(key),
+            Some(key),
+        );
         Ok(key)
     }
 
@@ -235,6 +243,26 @@ impl<T: Drop> StableList<T> {
         self.put(None, first, value)
     }
 
+    // Adds an element on this side of that of a cursor.
+    fn insert(&mut self, side: Side, cursor: Cursor, value: T) -> Result<Cursor, PlaceError<T>>
+        ensures ok { IfOk result (λ key. self.new.elements ≡ put_beside side cursor (key, value) self.old.elements) }
+        ensures fresh { IfOk result (λ key. value_of key self.old.elements ≡ None) }
+        ensures unspent { IfOk result (λ key. IsSpent self.old.cursors key → ⊥) }
+        ensures stands { OnOk result (IsSome (value_of cursor self.old.elements)) }
+        ensures err { IfErr result (λ error. IsRefused cursor self.old.elements value error) }
+        ensures unchanged { OnErr result (self.new.elements ≡ self.old.elements) }
+        ensures gone { KeepsSpent self.old.cursors self.new.cursors }
+    {
+        let Some((prev, next)) = beside(&self.nodes, side, cursor) else {
+            return Err(PlaceError::Gone(value));
+        };
+        match self.put(prev, next, value) {
+            Ok(key) => Ok(key),
+            Err(PushError::Full(value)) => Err(PlaceError::Full(value)),
+            Err(PushError::Memory(value)) => Err(PlaceError::Memory(value)),
+        }
+    }
+
     /// Adds an element after that of a cursor, and returns its cursor.
     ///
     /// If the call fails, the error holds the value, and the list has the same elements.
@@ -247,15 +275,7 @@ impl<T: Drop> StableList<T> {
         ensures unchanged { OnErr result (self.new.elements ≡ self.old.elements) }
         ensures gone { KeepsSpent self.old.cursors self.new.cursors }
     {
-        let next = match self.nodes.get(cursor) {
-            Some(node) => node.next,
-            None => return Err(PlaceError::Gone(value)),
-        };
-        match self.put(Some(cursor), next, value) {
-            Ok(key) => Ok(key),
-            Err(PushError::Full(value)) => Err(PlaceError::Full(value)),
-            Err(PushError::Memory(value)) => Err(PlaceError::Memory(value)),
-        }
+        self.insert(Side::After, cursor, value)
     }
 
     /// Adds an element before that of a cursor, and returns its cursor.
@@ -270,15 +290,7 @@ impl<T: Drop> StableList<T> {
         ensures unchanged { OnErr result (self.new.elements ≡ self.old.elements) }
         ensures gone { KeepsSpent self.old.cursors self.new.cursors }
     {
-        let prev = match self.nodes.get(cursor) {
-            Some(node) => node.prev,
-            None => return Err(PlaceError::Gone(value)),
-        };
-        match self.put(prev, Some(cursor), value) {
-            Ok(key) => Ok(key),
-            Err(PushError::Full(value)) => Err(PlaceError::Full(value)),
-            Err(PushError::Memory(value)) => Err(PlaceError::Memory(value)),
-        }
+        self.insert(Side::Before, cursor, value)
     }
 
     /// Removes the element of a cursor, and returns its value, or `None` if the cursor isn't in the
@@ -291,8 +303,15 @@ impl<T: Drop> StableList<T> {
         ensures stale { IfNone result (self.new ≡ self.old) }
     {
         let node = self.nodes.remove(cursor)?;
-        set_next(&mut self.nodes, &mut self.first, node.prev, node.next);
-        set_prev(&mut self.nodes, &mut self.last, node.next, node.prev);
+        relink(
+            &mut self.nodes,
+            &mut self.first,
+            &mut self.last,
+            node.prev,
+            node.next,
+            node.next,
+            node.prev,
+        );
         Some(node.value)
     }
 

@@ -1,8 +1,8 @@
 //! Values by their keys: stored, read, written and removed.
 
-ghost use Rattle.std.specs.Prelude.{◌≡◌, ◌≢◌, ℕ, ◌+◌, ◌<◌, ◌^◌, IfOk, OnOk, IfErr, Some, None, true, false, if◌then◌else◌};
+ghost use Rattle.std.specs.Prelude.{◌≡◌, ◌≢◌, ℕ, ◌+◌, ◌<◌, ◌^◌, IfOk, OnOk, Some, None, if◌then◌else◌};
 ghost use Rattle.std.specs.FinMap as map;
-ghost use Rattle.slotmap.specs.Words.{Key as KeyOf, IsLive, with_value, Refuses};
+ghost use Rattle.slotmap.specs.Words.{Key as KeyOf, IsLive, with_value};
 
 use slotmap::{DefaultKey, InsertError, Key, SlotMap};
 
@@ -27,19 +27,6 @@ pub fn store_two<K: Key>(store: &mut SlotMap<K, u32>) -> Result<(K, K), InsertEr
     let first = store.insert(1)?;
     let second = store.insert(2)?;
     Ok((first, second))
-}
-
-/// Inserts a value, and removes its key again.
-pub fn push_pop<K: Key>(
-    store: &mut SlotMap<K, u64>,
-    value: u64,
-) -> Result<Option<u64>, InsertError<u64>>
-    ensures ok { IfOk result (λ back. back ≡ Some value) }
-    ensures err { IfErr result (λ error. Refuses store.old value error) }
-    ensures live { store.new.live ≡ store.old.live }
-{
-    let key = store.insert(value)?;
-    Ok(store.remove(key))
 }
 
 /// Sets the value of a key, and returns whether the key is live.

@@ -1,10 +1,8 @@
-//! Values packed in one vector: what the slices of a dense map are good for, and the calls that all
-//! maps have.
+//! Values packed in one vector: what the slices of a dense map are good for.
 
-ghost use Rattle.std.specs.Prelude.{◌≡◌, ◌≢◌, ◌+◌, ◌++◌, ◌∷◌, [], ◌%◌, ◌==◌, IfOk, OnOk, IfErr, Some, None, if◌then◌else◌};
-ghost use Rattle.std.specs.Option.{option_and_then};
+ghost use Rattle.std.specs.Prelude.{◌≡◌, ◌≢◌, ◌+◌, ◌++◌, ◌∷◌, [], IfOk, OnOk};
 ghost use Rattle.std.specs.FinMap as map;
-ghost use Rattle.slotmap.specs.Words.{Key as KeyOf, IsLive, IsSpent, Refuses, with_value_of};
+ghost use Rattle.slotmap.specs.Words.{IsLive, IsSpent, with_value_of};
 
 use slotmap::{DefaultKey, DenseSlotMap, InsertError, Key};
 
@@ -51,39 +49,12 @@ pub fn append_two<K: Key>(store: &mut DenseSlotMap<K, u32>) -> Result<(K, K), In
     Ok((first, second))
 }
 
-/// Inserts a value, and removes its key again.
-pub fn push_pop<K: Key>(
-    store: &mut DenseSlotMap<K, u64>,
-    value: u64,
-) -> Result<Option<u64>, InsertError<u64>>
-    ensures ok { IfOk result (λ back. back ≡ Some value) }
-    ensures err { IfErr result (λ error. Refuses store.old.content value error) }
-    ensures live { store.new.content.live ≡ store.old.content.live }
+/// Sets the value of a live key. The packed order stays.
+pub fn set<K: Key>(store: &mut DenseSlotMap<K, u64>, key: K, value: u64)
+    requires { IsLive store.old.content (K.data_of key) }
+    ensures { store.new ≡ with_value_of store.old (K.data_of key) value }
 {
-    let key = store.insert(value)?;
-    Ok(store.remove(key))
-}
-
-/// Sets the value of a key, and returns whether the key is live.
-pub fn set<K: Key>(store: &mut DenseSlotMap<K, u64>, key: K, value: u64) -> bool
-    ensures which { result ≡ map.contains_key store.old.content.live (K.data_of key) }
-    ensures new { store.new ≡ if result then with_value_of store.old (K.data_of key) value else store.old }
-{
-    match store.get_mut(key) {
-        Some(place) => {
-            *place = value;
-            true
-        }
-        None => false,
-    }
-}
-
-/// Keeps the keys with even values.
-pub fn keep_even<K: Key>(store: &mut DenseSlotMap<K, u64>)
-    ensures { (k : KeyOf) → map.get store.new.content.live k ≡ option_and_then
-        (λ value. if value % 2 == 0 then Some value else None) (map.get store.old.content.live k) }
-{
-    store.retain(|_, value| *value % 2 == 0);
+    store[key] = value;
 }
 
 /// Takes a value out, and stores another one: the old key is gone for good.

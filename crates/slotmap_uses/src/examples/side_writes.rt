@@ -1,7 +1,7 @@
 //! Values of side tables changed in place, by a closure that may be called on small values alone.
 
-ghost use Rattle.std.specs.Prelude.{◌≡◌, ◌<◌, ◌+◌, ℕ, Some, IfOk, unwrap_or};
-ghost use Rattle.std.specs.Option.{option_map};
+ghost use Rattle.std.specs.Prelude.{◌≡◌, ◌<◌, ◌+◌, ℕ, Some, None, IfOk, unwrap_or, nat_lt, if◌then◌else◌};
+ghost use Rattle.std.specs.Option.{option_and_then, option_map};
 ghost use Rattle.slotmap.specs.Words.{Key as KeyOf, get};
 
 use slotmap::{DefaultKey, Key, NoEntry, SecondaryMap, SparseSecondaryMap};
@@ -42,14 +42,11 @@ pub fn count_sparse_up(
     }
 }
 
-/// Adds one to each count, and keeps every key.
+/// Keeps the keys whose counts are small.
 #[tactic(auto, using(slotmap::proofs::Callers::secondary))]
-pub fn raise_sparse_counts<K: Key>(counts: &mut SparseSecondaryMap<K, u8>)
-    requires small { (k : KeyOf) (n : ℕ) → get counts.old.pairs k ≡ Some n → n < 10 }
-    ensures { (k : KeyOf) → get counts.new.pairs k ≡ option_map (λ n. n + 1) (get counts.old.pairs k) }
+pub fn keep_small<K: Key>(counts: &mut SparseSecondaryMap<K, u8>)
+    ensures { (k : KeyOf) → get counts.new.pairs k ≡ option_and_then
+        (λ n. if nat_lt n 10 then Some n else None) (get counts.old.pairs k) }
 {
-    counts.retain(|_, n| {
-        *n += 1;
-        true
-    });
+    counts.retain(|_, n| *n < 10);
 }

@@ -1,48 +1,62 @@
 //! Links between nodes.
 
 ghost use Rattle.std.specs.Prelude.{◌≡◌, IfSome, IfOk, IfErr, IsErr, OnErr, Some, None, true};
+ghost use Rattle.std.specs.Option.{option_map};
 ghost use Rattle.std.specs.FinMap as map;
 ghost use Rattle.slotmap.specs.Words.{IsLive, Inserts, MayGrow, without_values};
-ghost use Rattle.slotmap_uses.specs.Chain.{with_next, with_prev, outer, HasNeighbours, Unlinks, Links};
+ghost use Rattle.slotmap_uses.specs.Chain.{with_link, outer, HasNeighbours, Relinks, Unlinks, Links};
+ghost use Rattle.slotmap_uses.specs.Places.{gap_beside};
 ghost use Rattle.slotmap_uses.specs.Refused.{HandsBack};
 
 use crate::stable_list::{Cursor, Node, PushError};
 use slotmap::{InsertError, SlotMap};
 
-// Lets the link out of `at`, or else the list's own, lead to `next`.
-pub(crate) fn set_next<T: Drop>(
+// A side of a node.
+#[derive(Drop)]
+pub(crate) enum Side {
+    Before,
+    After,
+}
+
+// Lets the link on this side of `at`, or else the list's own, lead to `to`.
+fn set_link<T: Drop>(
     nodes: &mut SlotMap<Cursor, Node<T>>,
-    first: &mut Option<Cursor>,
+    side: Side,
+    end: &mut Option<Cursor>,
     at: Option<Cursor>,
-    next: Option<Cursor>,
+    to: Option<Cursor>,
 )
     requires { IfSome at (λ key. IsLive nodes.old key) }
-    ensures nodes { nodes.new.live ≡ with_next nodes.old.live at next }
+    ensures nodes { nodes.new.live ≡ with_link side nodes.old.live at to }
     ensures keys { without_values nodes.new ≡ without_values nodes.old }
-    ensures first { first.new ≡ outer at first.old next }
+    ensures end { end.new ≡ outer at end.old to }
 {
     match at {
-        Some(key) => nodes[key].next = next,
-        None => *first = next,
+        Some(key) => match side {
+            Side::Before => nodes[key].prev = to,
+            Side::After => nodes[key].next = to,
+        },
+        None => *end = to,
     }
 }
 
-// Lets the link back from `at`, or else the list's own, lead to `prev`.
-pub(crate) fn set_prev<T: Drop>(
+// Lets the link after `prev` lead on to `on`, and the link before `next` back to `back`.
+pub(crate) fn relink<T: Drop>(
     nodes: &mut SlotMap<Cursor, Node<T>>,
+    first: &mut Option<Cursor>,
     last: &mut Option<Cursor>,
-    at: Option<Cursor>,
     prev: Option<Cursor>,
+    next: Option<Cursor>,
+    on: Option<Cursor>,
+    back: Option<Cursor>,
 )
-    requires { IfSome at (λ key. IsLive nodes.old key) }
-    ensures nodes { nodes.new.live ≡ with_prev nodes.old.live at prev }
+    requires prev_stands { IfSome prev (λ key. IsLive nodes.old key) }
+    requires next_stands { IfSome next (λ key. IsLive nodes.old key) }
+    ensures links { Relinks nodes.old.live first.old last.old prev next on back nodes.new.live first.new last.new }
     ensures keys { without_values nodes.new ≡ without_values nodes.old }
-    ensures last { last.new ≡ outer at last.old prev }
 {
-    match at {
-        Some(key) => nodes[key].prev = prev,
-        None => *last = prev,
-    }
+    set_link(nodes, Side::After, first, prev, on);
+    set_link(nodes, Side::Before, last, next, back);
 }
 
 // Adds a node, or hands its value back.
@@ -63,6 +77,21 @@ pub(crate) fn add<T: Drop>(
     }
 }
 
+// The neighbours of the place on this side of an element, or `None` if it isn't in the list.
+pub(crate) fn beside<T: Drop>(
+    nodes: &SlotMap<Cursor, Node<T>>,
+    side: Side,
+    key: Cursor,
+) -> Option<(Option<Cursor>, Option<Cursor>)>
+    ensures { result ≡ option_map (gap_beside side key) (map.get nodes.now.live key) }
+{
+    let node = nodes.get(key)?;
+    match side {
+        Side::Before => Some((node.prev, Some(key))),
+        Side::After => Some((Some(key), node.next)),
+    }
+}
+
 // Links the neighbours of a node to each other. The node stays in the map.
 pub(crate) fn unlink<T: Drop>(
     nodes: &mut SlotMap<Cursor, Node<T>>,
@@ -78,8 +107,7 @@ pub(crate) fn unlink<T: Drop>(
     let node = &nodes[key];
     let prev = same(&node.prev);
     let next = same(&node.next);
-    set_next(nodes, first, same(&prev), same(&next));
-    set_prev(nodes, last, next, prev);
+    relink(nodes, first, last, same(&prev), same(&next), next, prev);
 }
 
 // Links a node that stands in the map between two others.
@@ -100,8 +128,7 @@ pub(crate) fn link<T: Drop>(
     let node = &mut nodes[key];
     node.prev = same(&prev);
     node.next = same(&next);
-    set_next(nodes, first, prev, Some(key));
-    set_prev(nodes, last, next, Some(key));
+    relink(nodes, first, last, prev, next, Some(key), Some(key));
 }
 
 // The same link: the prover does not follow a second use of an `Option` of a key.

@@ -4,9 +4,35 @@ ghost use Rattle.std.specs.Prelude.{◌≡◌, is_some, if◌then◌else◌};
 ghost use Rattle.std.specs.Borrow.{sem};
 ghost use Rattle.std.specs.Option.{option_copied_mut};
 ghost use Rattle.slotmap_uses.specs.Sequence.{value_of, moved_to_front, moved_to_back, moved_after, moved_before, are_two};
+ghost use Rattle.slotmap_uses.specs.Places.{gap_at, is_move, moved_to};
 
-use crate::stable_list::links::{link, unlink};
-use crate::stable_list::{Cursor, StableList};
+use crate::stable_list::links::{Side, beside, link, unlink};
+use crate::stable_list::{Cursor, Node, StableList};
+use slotmap::SlotMap;
+
+// A place in a list: at an end, or on a side of an element.
+#[derive(Drop)]
+enum Place {
+    Front,
+    Back,
+    Beside(Side, Cursor),
+}
+
+// The neighbours of a place, or `None` if it isn't there.
+fn gap<T: Drop>(
+    nodes: &SlotMap<Cursor, Node<T>>,
+    first: &Option<Cursor>,
+    last: &Option<Cursor>,
+    place: Place,
+) -> Option<(Option<Cursor>, Option<Cursor>)>
+    ensures { result ≡ gap_at nodes.now.live first.now last.now place }
+{
+    match place {
+        Place::Front => Some((None, *first)),
+        Place::Back => Some((*last, None)),
+        Place::Beside(side, key) => beside(nodes, side, key),
+    }
+}
 
 impl<T: Drop> StableList<T> {
     ghost use Rattle.slotmap_uses.specs.ListLends.{lends_element};
@@ -40,20 +66,7 @@ impl<T: Drop> StableList<T> {
         ensures which { result ≡ is_some (value_of cursor self.old.elements) }
         ensures moved { self.new ≡ record self.old { elements = moved_to_front cursor self.old.elements } }
     {
-        if !self.nodes.contains_key(cursor) {
-            return false;
-        }
-        unlink(&mut self.nodes, &mut self.first, &mut self.last, cursor);
-        let first = self.first;
-        link(
-            &mut self.nodes,
-            &mut self.first,
-            &mut self.last,
-            cursor,
-            None,
-            first,
-        );
-        true
+        self.move_to(cursor, Place::Front)
     }
 
     /// Moves the element of a cursor to the back. It returns `false` if the cursor isn't in the list.
@@ -63,20 +76,7 @@ impl<T: Drop> StableList<T> {
         ensures which { result ≡ is_some (value_of cursor self.old.elements) }
         ensures moved { self.new ≡ record self.old { elements = moved_to_back cursor self.old.elements } }
     {
-        if !self.nodes.contains_key(cursor) {
-            return false;
-        }
-        unlink(&mut self.nodes, &mut self.first, &mut self.last, cursor);
-        let last = self.last;
-        link(
-            &mut self.nodes,
-            &mut self.first,
-            &mut self.last,
-            cursor,
-            last,
-            None,
-        );
-        true
+        self.move_to(cursor, Place::Back)
     }
 
     /// Moves the element of a cursor to the place after another one. It returns `false`, and changes
@@ -88,20 +88,7 @@ impl<T: Drop> StableList<T> {
         ensures moved { self.new ≡ record self.old
             { elements = if result then moved_after cursor other self.old.elements else self.old.elements } }
     {
-        if !self.has_two(cursor, other) {
-            return false;
-        }
-        unlink(&mut self.nodes, &mut self.first, &mut self.last, cursor);
-        let next = self.nodes[other].next;
-        link(
-            &mut self.nodes,
-            &mut self.first,
-            &mut self.last,
-            cursor,
-            Some(other),
-            next,
-        );
-        true
+        self.move_to(cursor, Place::Beside(Side::After, other))
     }
 
     /// Moves the element of a cursor to the place before another one. It returns `false`, and changes
@@ -122,20 +109,41 @@ impl<T: Drop> StableList<T> {
         ensures moved { self.new ≡ record self.old
             { elements = if result then moved_before cursor other self.old.elements else self.old.elements } }
     {
-        if !self.has_two(cursor, other) {
+        self.move_to(cursor, Place::Beside(Side::Before, other))
+    }
+
+    // Moves the element of a cursor to a place, if it can.
+    fn move_to(&mut self, cursor: Cursor, place: Place) -> bool
+        ensures which { result ≡ is_move cursor place self.old.elements }
+        ensures moved { self.new ≡ record self.old { elements = moved_to place cursor self.old.elements } }
+    {
+        if !self.can_move(cursor, &place) {
             return false;
         }
         unlink(&mut self.nodes, &mut self.first, &mut self.last, cursor);
-        let prev = self.nodes[other].prev;
+        let Some((prev, next)) = gap(&self.nodes, &self.first, &self.last, place) else {
+            unreachable!()
+        };
         link(
             &mut self.nodes,
             &mut self.first,
             &mut self.last,
             cursor,
             prev,
-            Some(other),
+            next,
         );
         true
+    }
+
+    // Whether the element of a cursor is in the list, and can move to a place.
+    fn can_move(&self, cursor: Cursor, place: &Place) -> bool
+        ensures { result ≡ is_move cursor place.now self.now.elements }
+    {
+        match place {
+            Place::Front => self.nodes.contains_key(cursor),
+            Place::Back => self.nodes.contains_key(cursor),
+            Place::Beside(_, other) => self.has_two(cursor, *other),
+        }
     }
 
     // Whether both cursors are in the list, and are two.

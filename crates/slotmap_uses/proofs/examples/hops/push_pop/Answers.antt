@@ -1,6 +1,0 @@
-use Rattle.std.proofs.Common.{true}
-use Rattle.slotmap.proofs.Callers.{insert_undone}
-use Rattle.slotmap_uses.proofs.examples.hops.push_pop.Goals as goal
-
-pub returns-clause-live : goal.returns-clause-live
-returns-clause-live g c = insert_undone true _ _ _ _ _ c.insert.ensures.valid.before.valid c.in_ok-key.ensures.ok c.remove.ensures.live
