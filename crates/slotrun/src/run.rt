@@ -88,27 +88,6 @@ where
 // Runs the stretches. Replies are gathered before they are written.
 pub(crate) fn run_stretches<M, C>(
     alloc: Global,
-    map: M,
-    stretches: Vec<Stretch<'_, C>>,
-    output: &mut impl Write,
-) -> Result<(), Stop>
-where
-    M: Listed + Drop,
-    C: Commands<M>,
-{
-    let mut gathered = BufWriter::new(alloc, output).map_err(|_| Stop::NoScript)?;
-    let ended = match print_stretches(alloc, map, stretches, &mut gathered) {
-        Err(Stop::Output) => Err(Stop::Output),
-        ended => gathered.flush().map_err(|_| Stop::Output).and(ended),
-    };
-    // What a failed write left unwritten is dropped.
-    let (_output, _unwritten) = gathered.into_parts();
-    ended
-}
-
-// Runs each stretch of commands, prints the replies, and then prints or reads the list of slots.
-fn print_stretches<M, C>(
-    alloc: Global,
     mut map: M,
     stretches: Vec<Stretch<'_, C>>,
     output: &mut impl Write,
@@ -117,17 +96,38 @@ where
     M: Listed + Drop,
     C: Commands<M>,
 {
+    let mut gathered = BufWriter::new(alloc, output).map_err(|_| Stop::NoScript)?;
+    let mut ended = Ok(());
     for stretch in stretches {
-        let mut replies = C::run(alloc, &mut map, stretch.commands).ok_or(Stop::NoScript)?;
-        for reply in &mut replies {
-            write_reply(output, reply).map_err(|_| Stop::Output)?;
+        ended = print_stretch(alloc, &mut map, stretch, &mut gathered);
+        if ended.is_err() {
+            break;
         }
-        let written = match stretch.end {
-            End::Slots => write_slots(&map, output),
-            End::Load(text) => load(alloc, &mut map, text, output),
-            End::Script => Ok(()),
-        };
-        written.map_err(|_| Stop::Output)?;
     }
-    Ok(())
+    let ended = match ended {
+        Err(Stop::Output) => Err(Stop::Output),
+        ended => gathered.flush().map_err(|_| Stop::Output).and(ended),
+    };
+    // What a failed write left unwritten is dropped.
+    let (_output, _unwritten) = gathered.into_parts();
+    ended
+}
+
+// Runs the commands of a stretch, prints the replies, and then prints or reads the list of slots.
+fn print_stretch<M: Listed + Drop, C: Commands<M>>(
+    alloc: Global,
+    map: &mut M,
+    stretch: Stretch<'_, C>,
+    output: &mut impl Write,
+) -> Result<(), Stop> {
+    let mut replies = C::run(alloc, map, stretch.commands).ok_or(Stop::NoScript)?;
+    for reply in &mut replies {
+        write_reply(output, reply).map_err(|_| Stop::Output)?;
+    }
+    let written = match stretch.end {
+        End::Slots => write_slots(map, output),
+        End::Load(text) => load(alloc, map, text, output),
+        End::Script => Ok(()),
+    };
+    written.map_err(|_| Stop::Output)
 }

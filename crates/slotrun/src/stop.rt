@@ -1,6 +1,6 @@
 //! Why a script ends before its last reply.
 
-use std::alloc::{AllocError, AllocFailed};
+use std::alloc::AllocFailed;
 
 /// Why a script ends early.
 #[derive(Drop)]
@@ -13,12 +13,6 @@ pub enum Stop {
     BadLine(usize),
     /// The output can't be written.
     Output,
-}
-
-impl From<AllocError> for Stop {
-    fn from(_error: AllocError) -> Stop {
-        Stop::NoScript
-    }
 }
 
 impl<T: Drop> From<AllocFailed<T>> for Stop {

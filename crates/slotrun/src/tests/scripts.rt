@@ -1,21 +1,13 @@
 //! Scripts with the reply to each line, and lines that are bad.
 
 use super::outcome;
-use std::alloc::Global;
+use std::alloc::{AllocError, Global};
 use std::process::Abort;
 use std::test::Fail;
 
 // Each line of a script, and its reply.
-static SCRIPTS: [&[(&str, &str)]; 16] = [
+static SCRIPTS: [&[(&str, &str)]; 14] = [
     &[],
-    &[
-        ("insert 5", "key 4294967297"),
-        ("insert 6", "key 4294967298"),
-        ("remove 4294967298", "value 6"),
-        ("insert 7", "key 12884901890"),
-        ("get 4294967298", "none"),
-        ("len", "len 2"),
-    ],
     // A look-up leaves the value; a removal and a detach take it.
     &[
         ("insert 5", "key 4294967297"),
@@ -79,6 +71,7 @@ static SCRIPTS: [&[(&str, &str)]; 16] = [
         ("remove 4294967298", "value 6"),
         ("insert 7", "key 12884901890"),
         ("get 4294967298", "none"),
+        ("len", "len 2"),
         ("keys", "keys 4294967297 12884901890"),
         (
             "slots",
@@ -125,23 +118,6 @@ static SCRIPTS: [&[(&str, &str)]; 16] = [
         ("insert 2", "key 12884901891"),
         ("insert 3", "key 12884901889"),
         ("insert 4", "key 4294967301"),
-    ],
-    // A slot whose versions are used up is retired.
-    &[
-        (
-            "load [{\"value\":null,\"version\":0},{\"value\":7,\"version\":4294967295}]",
-            "done",
-        ),
-        ("remove 18446744069414584321", "value 7"),
-        ("insert 8", "key 4294967298"),
-        (
-            "slots",
-            "[{\"value\":null,\"version\":0},{\"value\":null,\"version\":0},{\"value\":8,\"version\":1}]",
-        ),
-        ("load []", "first not empty"),
-        ("load [{\"version\":0},{\"version\":1}]", "inconsistent 1"),
-        ("load x", "shape"),
-        ("len", "len 1"),
     ],
     // The text of a list may have blanks, other members and an even first version.
     &[
@@ -243,7 +219,7 @@ static DENSE_SCRIPTS: [&[(&str, &str)]; 1] = [&[
 ]];
 
 // The same on a `HopSlotMap`.
-static HOP_SCRIPTS: [&[(&str, &str)]; 3] = [
+static HOP_SCRIPTS: [&[(&str, &str)]; 2] = [
     &[
         ("insert 5", "key 4294967297"),
         ("insert 6", "key 4294967298"),
@@ -272,27 +248,28 @@ static HOP_SCRIPTS: [&[(&str, &str)]; 3] = [
         ("clear", "done"),
         ("insert 9", "key 12884901894"),
     ],
-    // A slot is retired after its last key.
-    &[
-        (
-            "load [{\"value\":null,\"version\":0},{\"value\":7,\"version\":4294967295}]",
-            "done",
-        ),
-        ("remove 18446744069414584321", "value 7"),
-        ("insert 8", "key 4294967298"),
-        (
-            "slots",
-            "[{\"value\":null,\"version\":0},{\"value\":null,\"version\":0},{\"value\":8,\"version\":1}]",
-        ),
-        ("load []", "first not empty"),
-        ("load [{\"version\":0},{\"version\":1}]", "inconsistent 1"),
-        ("load x", "shape"),
-        ("len", "len 1"),
-    ],
 ];
 
+// A slot whose versions are used up is retired.
+static RETIRED: [&[(&str, &str)]; 1] = [&[
+    (
+        "load [{\"value\":null,\"version\":0},{\"value\":7,\"version\":4294967295}]",
+        "done",
+    ),
+    ("remove 18446744069414584321", "value 7"),
+    ("insert 8", "key 4294967298"),
+    (
+        "slots",
+        "[{\"value\":null,\"version\":0},{\"value\":null,\"version\":0},{\"value\":8,\"version\":1}]",
+    ),
+    ("load []", "first not empty"),
+    ("load [{\"version\":0},{\"version\":1}]", "inconsistent 1"),
+    ("load x", "shape"),
+    ("len", "len 1"),
+]];
+
 // Which slot an insert reuses depends on the kind of map. These replies are the Rust crate's.
-static STACK_SLOTS: [&[(&str, &str)]; 1] = [&[
+static REMOVED: [(&str, &str); 7] = [
     ("insert 1", "key 4294967297"),
     ("insert 2", "key 4294967298"),
     ("insert 3", "key 4294967299"),
@@ -300,39 +277,34 @@ static STACK_SLOTS: [&[(&str, &str)]; 1] = [&[
     ("remove 4294967298", "value 2"),
     ("remove 4294967300", "value 4"),
     ("remove 4294967299", "value 3"),
+];
+
+// The slot of the last removal is reused first.
+static STACK_SLOTS: [(&str, &str); 4] = [
     ("insert 5", "key 12884901891"),
     ("insert 6", "key 12884901892"),
     ("insert 7", "key 12884901890"),
     ("insert 8", "key 4294967301"),
-]];
+];
 
-static BASIC_SLOTS: [&[(&str, &str)]; 1] = [&[
-    ("insert 1", "key 4294967297"),
-    ("insert 2", "key 4294967298"),
-    ("clear", "done"),
-    ("insert 3", "key 12884901890"),
-]];
-
-static DENSE_SLOTS: [&[(&str, &str)]; 1] = [&[
-    ("insert 1", "key 4294967297"),
-    ("insert 2", "key 4294967298"),
-    ("clear", "done"),
-    ("insert 3", "key 12884901889"),
-]];
-
-static HOP_SLOTS: [&[(&str, &str)]; 1] = [&[
-    ("insert 1", "key 4294967297"),
-    ("insert 2", "key 4294967298"),
-    ("insert 3", "key 4294967299"),
-    ("insert 4", "key 4294967300"),
-    ("remove 4294967298", "value 2"),
-    ("remove 4294967300", "value 4"),
-    ("remove 4294967299", "value 3"),
+// The removed slots are one block, which is reused from its back.
+static HOP_SLOTS: [(&str, &str); 4] = [
     ("insert 5", "key 12884901892"),
     ("insert 6", "key 12884901891"),
     ("insert 7", "key 12884901890"),
     ("insert 8", "key 4294967301"),
-]];
+];
+
+static CLEARED: [(&str, &str); 3] = [
+    ("insert 1", "key 4294967297"),
+    ("insert 2", "key 4294967298"),
+    ("clear", "done"),
+];
+
+// The key of the first insert then.
+static BASIC_FIRST: [(&str, &str); 1] = [("insert 3", "key 12884901890")];
+
+static DENSE_FIRST: [(&str, &str); 1] = [("insert 3", "key 12884901889")];
 
 // A list of eight records, which is longer than 200 bytes, and an insert whose line is as well.
 static LONG_LINES: [&[(&str, &str)]; 1] = [&[
@@ -360,6 +332,47 @@ static LONG_LINES: [&[(&str, &str)]; 1] = [&[
     ("insert 8", "key 4294967304"),
 ]];
 
+// Runs a script, which must end with a status and print a text.
+fn hold_outcome(
+    rt: &impl Abort,
+    alloc: Global,
+    kind: &str,
+    script: &[u8],
+    want: (u8, &str),
+) -> Result<(), Fail> {
+    let (status, text) = outcome(alloc, &[kind], script)?;
+    assert_eq!(rt; text.as_str(), want.1, "{script:?}");
+    assert_eq!(rt; status, want.0, "{script:?}");
+    Ok(())
+}
+
+// Adds lines to a script, and their replies to what it must print.
+fn add_lines(
+    script: &mut String,
+    want: &mut String,
+    lines: &[(&str, &str)],
+) -> Result<(), AllocError> {
+    for (line, reply) in lines {
+        writeln!(script, "{line}")?;
+        writeln!(want, "{reply}")?;
+    }
+    Ok(())
+}
+
+// Holds a map to a script in two parts.
+fn hold_script(
+    rt: &impl Abort,
+    alloc: Global,
+    kind: &str,
+    parts: [&[(&str, &str)]; 2],
+) -> Result<(), Fail> {
+    let mut script = String::new(alloc);
+    let mut want = String::new(alloc);
+    add_lines(&mut script, &mut want, parts[0])?;
+    add_lines(&mut script, &mut want, parts[1])?;
+    hold_outcome(rt, alloc, kind, script.as_bytes(), (0, want.as_str()))
+}
+
 fn hold_replies(
     rt: &impl Abort,
     alloc: Global,
@@ -367,15 +380,7 @@ fn hold_replies(
     scripts: &[&[(&str, &str)]],
 ) -> Result<(), Fail> {
     for lines in scripts {
-        let mut script = String::new(alloc);
-        let mut want = String::new(alloc);
-        for (line, reply) in *lines {
-            writeln!(script, "{line}")?;
-            writeln!(want, "{reply}")?;
-        }
-        let (status, text) = outcome(alloc, &[kind], script.as_bytes())?;
-        assert_eq!(rt; text.as_str(), want.as_str(), "{script}");
-        assert_eq!(rt; status, 0, "{script}");
+        hold_script(rt, alloc, kind, [lines, &[]])?;
     }
     Ok(())
 }
@@ -388,12 +393,22 @@ fn replies(rt: HostRuntime) -> Result<(), Fail> {
 }
 
 #[test]
-fn kinds(rt: HostRuntime) -> Result<(), Fail> {
-    hold_replies(&rt, rt.alloc(), "basic", &STACK_SLOTS)?;
-    hold_replies(&rt, rt.alloc(), "dense", &STACK_SLOTS)?;
-    hold_replies(&rt, rt.alloc(), "basic", &BASIC_SLOTS)?;
-    hold_replies(&rt, rt.alloc(), "dense", &DENSE_SLOTS)?;
-    hold_replies(&rt, rt.alloc(), "hop", &HOP_SLOTS)
+fn used_up_versions(rt: HostRuntime) -> Result<(), Fail> {
+    hold_replies(&rt, rt.alloc(), "basic", &RETIRED)?;
+    hold_replies(&rt, rt.alloc(), "hop", &RETIRED)
+}
+
+#[test]
+fn reused_slots(rt: HostRuntime) -> Result<(), Fail> {
+    hold_script(&rt, rt.alloc(), "basic", [&REMOVED, &STACK_SLOTS])?;
+    hold_script(&rt, rt.alloc(), "dense", [&REMOVED, &STACK_SLOTS])?;
+    hold_script(&rt, rt.alloc(), "hop", [&REMOVED, &HOP_SLOTS])
+}
+
+#[test]
+fn slots_of_a_cleared_map(rt: HostRuntime) -> Result<(), Fail> {
+    hold_script(&rt, rt.alloc(), "basic", [&CLEARED, &BASIC_FIRST])?;
+    hold_script(&rt, rt.alloc(), "dense", [&CLEARED, &DENSE_FIRST])
 }
 
 #[test]
@@ -472,26 +487,24 @@ fn hold_bad_lines(
 ) -> Result<(), Fail> {
     for (script, number) in scripts {
         let want = format!(in alloc; "bad line {number}\n")?;
-        let (status, text) = outcome(alloc, &[kind], script)?;
-        assert_eq!(rt; text.as_str(), want.as_str(), "{script:?}");
-        assert_eq!(rt; status, 2, "{script:?}");
+        hold_outcome(rt, alloc, kind, script, (2, want.as_str()))?;
     }
     Ok(())
 }
 
 #[test]
 fn bad_lines(rt: HostRuntime) -> Result<(), Fail> {
-    hold_bad_lines(&rt, rt.alloc(), "basic", &BAD)?;
-    hold_bad_lines(&rt, rt.alloc(), "hop", &BAD)?;
+    for kind in ["basic", "hop"] {
+        hold_bad_lines(&rt, rt.alloc(), kind, &BAD)?;
+    }
     hold_bad_lines(&rt, rt.alloc(), "hop", &BAD_HOP)
 }
 
 #[test]
 fn last_line_feed(rt: HostRuntime) -> Result<(), Fail> {
     for script in ["insert 5\nlen", "insert 5\nlen\n"] {
-        let (status, text) = outcome(rt.alloc(), &["basic"], script.as_bytes())?;
-        assert_eq!(rt; text.as_str(), "key 4294967297\nlen 1\n");
-        assert_eq!(rt; status, 0);
+        let want = "key 4294967297\nlen 1\n";
+        hold_outcome(&rt, rt.alloc(), "basic", script.as_bytes(), (0, want))?;
     }
     Ok(())
 }
