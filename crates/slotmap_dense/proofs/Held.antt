@@ -1,5 +1,5 @@
 -- What the calls know of the slots and the vectors by what the map holds.
-use Rattle.std.proofs.Common.{◌≡◌, ℕ, ◌+◌, ◌<◌, ◌≤◌, ◌∷◌, [], ◌++◌, min, Bool, true, false, List, Some, None}
+use Rattle.std.proofs.Common.{◌≡◌, ℕ, ◌+◌, ◌<◌, ◌≤◌, ◌∷◌, [], ◌++◌, min, true, List, Some, None}
 use Rattle.std.proofs.Common.{length, take, drop, slice_get, get_or, option_map, map as list_map, vec_capacity, vec_len, refl, sym, ap, subst, ◌∙◌, arith}
 use Rattle.std.specs.Global.{Vec}
 use Rattle.std.specs.Vec.{with_items}
@@ -15,24 +15,13 @@ use Rattle.slotmap_core.proofs.GatherLemmas.{slice_get_push}
 use Rattle.slotmap_core.proofs.KeyLemmas.{keys_total, exact_keys}
 use Rattle.slotmap_core.proofs.MapLaws.{remove_absent}
 use Rattle.slotmap_dense.specs.declared.DenseSlotMap.TheInside.{Inside}
-use Rattle.slotmap_dense.specs.Dense.{Dense, IsDense, ClosesGap, TakesOut, refilled, with_values_in}
+use Rattle.slotmap_dense.specs.Dense.{Dense, IsDense, ClosesGap, refilled, with_values_in}
 use Rattle.slotmap_dense.specs.Call.{StaysValid, MayGrow, MakesRoom}
 use Rattle.slotmap_dense.specs.Rest.{rest_of, LeavesFrom}
 use Rattle.slotmap_dense.specs.Packed.{IsPacked, IsSound, dense_of, live_of, at_position}
 use Rattle.slotmap_dense.proofs.PackedLemmas.{IsPacked-cut, IsGapped-removed, get-packed, rest-closed, value_there}
 use Rattle.slotmap_dense.proofs.WellFormed.{dense_well, same_keys, IsSound-other}
 use Rattle.slotmap_dense.proofs.MoveLemmas.{swap_remove_last, IsSound-appended, inserts-dense, reattaches-dense, IsSound-closed, removes-dense, detaches-dense}
-
--- a key is taken out of one content, if out of another: by a removal as by a detachment
-either_way : {A B : Type 0} {c c' : Content A} {d d' : Content B} {k : Key} (keeps : Bool) → (Removes c k c' → Removes d k d') → (Detaches c k c' → Detaches d k d')
-    → TakesOut keeps c k c' → TakesOut keeps d k d'
-either_way true removes detaches = detaches
-either_way false removes detaches = removes
-
--- the live keys, once one of them is taken out
-pub live_less : {A : Type 0} (c : Content A) (k : Key) (c' : Content A) (keeps : Bool) → TakesOut keeps c k c' → c'.live ≡ map.remove c.live k
-live_less c k c' true taken = taken.live
-live_less c k c' false taken = taken.live
 
 module _ {K V : Type 0} (data_of : K → Key) where
   -- what a map with these parts holds
@@ -142,7 +131,7 @@ module _ {K V : Type 0} (data_of : K → Key) (m : Inside K V) {now : Dense V} (
       pub value : map.get now.content.live k ≡ Some v
       pub order : ClosesGap now k v new
       pub removes : Removes m.slots k left → Removes now.content k new.content
-      pub takes : (keeps : Bool) → TakesOut keeps m.slots k left → TakesOut keeps now.content k new.content
+      pub detaches : Detaches m.slots k left → Detaches now.content k new.content
       pub leaves : Removes m.slots k left → LeavesFrom now i k new
       pub valid : left.capacity ≡ m.slots.capacity → StaysValid now new
 
@@ -160,14 +149,12 @@ module _ {K V : Type 0} (data_of : K → Key) (m : Inside K V) {now : Dense V} (
         λ j. dense_of slots' (sym keys j) (sym values j) (min (sym keys_same j) (sym values_same j)) in
         let removes : Removes m.slots k left → Removes now.content k new.content =
         λ rem. subst (λ d. Removes now.content k d.content) is (rw (← view) (removes-dense m.slots _ _ sound left slots' k v i at closes spare rem rest)) in
-        let detaches : Detaches m.slots k left → Detaches now.content k new.content =
-        λ det. subst (λ d. Detaches now.content k d.content) is (rw (← view) (detaches-dense m.slots _ _ sound left slots' k v i at closes spare det rest)) in
         record {
           sound_after = after;
           value = found k ∙ ap (at_position m.values.items) at ∙ there;
           order = rw (← view) (record { position = i; stood = stood; value = there; keys = keys; values = values });
           removes = removes;
-          takes = λ keeps. either_way keeps removes detaches;
+          detaches = λ det. subst (λ d. Detaches now.content k d.content) is (rw (← view) (detaches-dense m.slots _ _ sound left slots' k v i at closes spare det rest));
           leaves = λ rem. record {
             removes = removes rem;
             keys = rw (← view) keys;

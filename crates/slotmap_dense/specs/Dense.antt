@@ -1,5 +1,5 @@
 -- The model of a dense slot map: a content, and the live keys and their values in packed order.
-use Rattle.std.specs.Prelude.{◌≡◌, ℕ, Bool, refl, true, false, List, [], ◌∷◌, ◌++◌, length, Option, None, Some, reverse, slice_get, take, drop, if◌then◌else◌}
+use Rattle.std.specs.Prelude.{◌≡◌, ℕ, refl, false, List, [], ◌∷◌, ◌++◌, length, Option, None, Some, reverse, slice_get, take, drop, if◌then◌else◌}
 use Rattle.std.specs.Option.{option_map}
 use Rattle.std.specs.FinMap as map
 use Rattle.std.specs.List.{zip, swap_remove}
@@ -8,7 +8,7 @@ use Rattle.std.specs.Coded.{Coded, code_by, coded×, coded_list}
 use Rattle.slotmap_core.specs.Key.{Key, key_cmp, coded_key}
 use Rattle.slotmap_core.specs.Content.{Content, content_code, IsContent}
 use Rattle.slotmap_core.specs.Listing.{IsListing}
-use Rattle.slotmap_core.specs.Transition.{Removes, Detaches, Leaves, with_value, pushed_all}
+use Rattle.slotmap_core.specs.Transition.{Removes, Leaves, with_value, pushed_all}
 
 pub record Dense (V : Type 0) : Type 0 where
   pub content : Content V
@@ -51,11 +51,6 @@ module _ {V : Type 0} where
   pub record Appends (old : Dense V) (k : Key) (v : V) (new : Dense V) : Type 0 where
     pub keys : new.keys ≡ old.keys ++ k ∷ []
     pub values : new.values ≡ old.values ++ v ∷ []
-
-  -- the live key k isn't live any more: detached if `keeps`, else removed
-  abbrev pub TakesOut : Bool → Content V → Key → Content V → Type 0
-  TakesOut true old k new = Detaches old k new
-  TakesOut false old k new = Removes old k new
 
   -- the key k and its value v are gone; the last key and its value have moved to their position
   pub record ClosesGap (old : Dense V) (k : Key) (v : V) (new : Dense V) : Type 0 where

@@ -7,6 +7,7 @@ ghost use Rattle.slotmap_core.specs.Refusal.{RefusesReattach};
 ghost use Rattle.slotmap_dense.specs.Dense.{Appends, ClosesGap};
 ghost use Rattle.slotmap_dense.specs.Call.{StaysValid, MayGrow};
 
+use crate::remove::close_gap;
 use crate::{DenseSlotMap, make_room_in};
 use slotmap_core::errors::ReattachError;
 use slotmap_core::keys::Key;
@@ -35,7 +36,8 @@ impl<K: Key, V: Drop> DenseSlotMap<K, V> {
         ensures unchanged { IfNone result (self.new ≡ self.old) }
         ensures valid { StaysValid self.old self.new }
     {
-        self.take_out(key, true)
+        let position = self.slots.detach(key.data())?;
+        Some(close_gap(&mut self.slots, &mut self.keys, &mut self.values, position))
     }
 
     /// Binds a detached key to a value again.

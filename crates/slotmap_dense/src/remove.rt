@@ -6,13 +6,12 @@ ghost use Rattle.std.specs.FinMap as map;
 ghost use Rattle.slotmap_core.specs.Key.{Key as KeyOf};
 ghost use Rattle.slotmap_core.specs.Content.{IsContent};
 ghost use Rattle.slotmap_core.specs.Transition.{Removes};
-ghost use Rattle.slotmap_core.specs.Call.{StaysValid as SlotsStayValid};
-ghost use Rattle.slotmap_dense.specs.Dense.{ClosesGap, TakesOut};
+ghost use Rattle.slotmap_dense.specs.Dense.{ClosesGap};
 ghost use Rattle.slotmap_dense.specs.Call.{StaysValid};
 ghost use Rattle.slotmap_dense.specs.Packed.{IsPacked, IsGapped};
 
 use crate::DenseSlotMap;
-use slotmap_core::keys::{Key, KeyData};
+use slotmap_core::keys::Key;
 use slotmap_core::layout::Rows;
 use slotmap_core::slots::Slots;
 
@@ -45,37 +44,7 @@ pub(crate) fn close_gap<K: Key, V: Drop>(
     value
 }
 
-// Detaches a live key if `keeps`, else removes it, and returns its position.
-#[inline(always)]
-fn vacate(slots: &mut Slots<u32, Rows>, key: KeyData, keeps: bool) -> Option<u32>
-    ensures value { result ≡ map.get slots.old.live key }
-    ensures takes { OnSome result (TakesOut keeps slots.old key slots.new) }
-    ensures live { slots.new.live ≡ map.remove slots.old.live key }
-    ensures unchanged { IfNone result (slots.new ≡ slots.old) }
-    ensures valid { SlotsStayValid true slots.old slots.new }
-{
-    if keeps {
-        slots.detach(key)
-    } else {
-        slots.remove(key)
-    }
-}
-
 impl<K: Key, V: Drop> DenseSlotMap<K, V> {
-    // Detaches a live key if `keeps`, else removes it, and returns its value.
-    #[inline(always)]
-    pub(crate) fn take_out(&mut self, key: K, keeps: bool) -> Option<V>
-        ensures value { result ≡ map.get self.old.content.live (K.data_of key) }
-        ensures takes { OnSome result (TakesOut keeps self.old.content (K.data_of key) self.new.content) }
-        ensures order { IfSome result (λ value. ClosesGap self.old (K.data_of key) value self.new) }
-        ensures live { self.new.content.live ≡ map.remove self.old.content.live (K.data_of key) }
-        ensures unchanged { IfNone result (self.new ≡ self.old) }
-        ensures valid { StaysValid self.old self.new }
-    {
-        let position = vacate(&mut self.slots, key.data(), keeps)?;
-        Some(close_gap(&mut self.slots, &mut self.keys, &mut self.values, position))
-    }
-
     /// Removes a live key and returns its value, or `None` if the key isn't live.
     ///
     /// The last pair moves to the position of the removed one in the packed order. The next insert
@@ -97,6 +66,7 @@ impl<K: Key, V: Drop> DenseSlotMap<K, V> {
         ensures unchanged { IfNone result (self.new ≡ self.old) }
         ensures valid { StaysValid self.old self.new }
     {
-        self.take_out(key, false)
+        let position = self.slots.remove(key.data())?;
+        Some(close_gap(&mut self.slots, &mut self.keys, &mut self.values, position))
     }
 }

@@ -1,29 +1,29 @@
 use Rattle.std.proofs.Common.{◌≡◌, Some, sym, ap, ◌∙◌}
 use Rattle.std.specs.FinMap as map
 use Rattle.slotmap_dense.proofs.PackedLemmas.{IsGapped-removed}
-use Rattle.slotmap_dense.proofs.Held.{live_less, absent, unchanged, Closed, closed}
-use Rattle.slotmap_dense.proofs.DenseSlotMap.take_out.Goals.{After-close_gap}
-use Rattle.slotmap_dense.proofs.DenseSlotMap.take_out.Goals as goal
+use Rattle.slotmap_dense.proofs.Held.{absent, unchanged, Closed, closed}
+use Rattle.slotmap_dense.proofs.DenseSlotMap.remove.Goals.{After-close_gap}
+use Rattle.slotmap_dense.proofs.DenseSlotMap.remove.Goals as goal
 
 pub returns-in_err-position-clause-value : goal.returns-in_err-position-clause-value
 returns-in_err-position-clause-value g c =
-    rw (← c.data.ensures.value) (c.from_residual.ensures ∙ sym (absent _ c.self.inside c.self.view_is c.self.invariant c.data.result (sym c.vacate.ensures.value ∙ c.in_err-position.was)).0)
+    rw (← c.data.ensures.value) (c.from_residual.ensures ∙ sym (absent _ c.self.inside c.self.view_is c.self.invariant c.data.result (sym c.remove.ensures.value ∙ c.in_err-position.was)).0)
 
 pub returns-in_err-position-clause-valid : goal.returns-in_err-position-clause-valid
 returns-in_err-position-clause-valid g c = rw c.in_err-position.ensures.unchanged (unchanged _ c.self.inside c.self.view_is c.self.invariant)
 
 pub close_gap-requires-clause-gapped : goal.close_gap-requires-clause-gapped
 close_gap-requires-clause-gapped g c =
-    rw c.vacate.ensures.live (IsGapped-removed _ _ c.self.invariant.packed c.data.result _ (sym c.vacate.ensures.value ∙ c.in_ok-position.was))
+    rw c.in_ok-position.ensures.removes.live (IsGapped-removed _ _ c.self.invariant.packed c.data.result _ (sym c.remove.ensures.value ∙ c.in_ok-position.was))
 
 closes : (g : _) (c : After-close_gap g) → Closed g.K.Key.data_of c.self.inside c.self.view_is c.self.invariant c.close_gap.new.slots c.close_gap.new.keys
-    c.close_gap.new.values (g.K.Key.data_of c.args.key) c.in_ok-position.position c.close_gap.result c.vacate.new.slots
+    c.close_gap.new.values (g.K.Key.data_of c.args.key) c.in_ok-position.position c.close_gap.result c.remove.new.self
 closes g c =
     let key = c.data.result in
-    let at : map.get c.self.inside.slots.live key ≡ Some c.in_ok-position.position = sym c.vacate.ensures.value ∙ c.in_ok-position.was in
+    let at : map.get c.self.inside.slots.live key ≡ Some c.in_ok-position.position = sym c.remove.ensures.value ∙ c.in_ok-position.was in
     let did = c.close_gap.ensures in
     rw (← c.data.ensures.value) (closed _ c.self.inside c.self.view_is c.self.invariant c.close_gap.new.slots c.close_gap.new.keys c.close_gap.new.values
-    key _ c.close_gap.result c.vacate.new.slots at did.value (did.keys key (c.self.invariant.packed.stands key _ at)) did.values did.packed did.well
+    key _ c.close_gap.result c.remove.new.self at did.value (did.keys key (c.self.invariant.packed.stands key _ at)) did.values did.packed did.well
     did.rest did.keys_capacity did.values_capacity)
 
 pub invariant_of-self-2 : goal.invariant_of-self-2
@@ -32,19 +32,19 @@ invariant_of-self-2 g c = (closes g (goal.at.invariant_of-self-2 g c).After-clos
 pub returns-clause-value : goal.returns-clause-value
 returns-clause-value g c = sym (closes g (goal.at.returns-clause-value g c).After-close_gap).value
 
-pub returns-clause-takes : goal.returns-clause-takes
-returns-clause-takes g c = (closes g (goal.at.returns-clause-takes g c).After-close_gap).takes c.args.keeps (rw c.data.ensures.value at c.in_ok-position.ensures.takes)
+pub returns-clause-removes : goal.returns-clause-removes
+returns-clause-removes g c = (closes g (goal.at.returns-clause-removes g c).After-close_gap).removes (rw c.data.ensures.value at c.in_ok-position.ensures.removes)
 
 pub returns-clause-order : goal.returns-clause-order
 returns-clause-order g c = (closes g (goal.at.returns-clause-order g c).After-close_gap).order
 
 pub returns-clause-valid : goal.returns-clause-valid
-returns-clause-valid g c = (closes g (goal.at.returns-clause-valid g c).After-close_gap).valid c.vacate.ensures.valid.capacity
+returns-clause-valid g c = (closes g (goal.at.returns-clause-valid g c).After-close_gap).valid c.remove.ensures.valid.capacity
 
 pub returns-in_err-position-clause-live : goal.returns-in_err-position-clause-live
 returns-in_err-position-clause-live g c =
     rw (← c.data.ensures.value) (ap (λ d. d.content.live) c.self.view_is
-    ∙ sym (absent _ c.self.inside c.self.view_is c.self.invariant c.data.result (sym c.vacate.ensures.value ∙ c.in_err-position.was)).1)
+    ∙ sym (absent _ c.self.inside c.self.view_is c.self.invariant c.data.result (sym c.remove.ensures.value ∙ c.in_err-position.was)).1)
 
 pub returns-clause-live : goal.returns-clause-live
-returns-clause-live g c = live_less _ _ _ c.args.keeps (returns-clause-takes g c)
+returns-clause-live g c = (returns-clause-removes g c).live
