@@ -10,65 +10,65 @@ append-requires-clause-can g c = mid_last c.requires.can.vacate c.free-value.ens
 
 pub join_ends-requires-clause-front_vacant : goal.join_ends-requires-clause-front_vacant
 join_ends-requires-clause-front_vacant g c =
-    mid_front c.requires.can.vacate c.free-value.ensures.links (some_read (layout c.args.slots.now) (c.args.place - 1) c.read_links-left.ensures c.in-Some-left.is)
+    mid_front c.requires.can.vacate c.free-value-in-Some-read_links.ensures.links (some_read (layout c.args.slots.now) (c.args.place - 1) c.read_links.ensures c.in-Some-read_links.is)
 
 pub put_between-requires-clause-can : goal.put_between-requires-clause-can
 put_between-requires-clause-can g c =
-    mid_right c.requires.can.vacate c.free-value.ensures.links (some_read (layout c.args.slots.now) (c.args.place + 1) c.links_after-right.ensures c.in-Some.is)
+    mid_right c.requires.can.vacate c.free-value-in-None-read_links-2.ensures.links (some_read (layout c.args.slots.now) (c.args.place + 1) c.links_after.ensures c.in-Some.is)
 
-pub join_ends-requires-in-None-left-2-clause-back_vacant : goal.join_ends-requires-in-None-left-2-clause-back_vacant
-join_ends-requires-in-None-left-2-clause-back_vacant g c =
-    let right = some_read (layout c.args.slots.now) (c.args.place + 1) c.links_after-right.ensures c.in-Some.is in
-    rw c.put_between.ensures.ends.vacant (mid_back c.requires.can.vacate c.free-value.ensures.links right)
+pub join_ends-requires-in-None-read_links-2-clause-back_vacant : goal.join_ends-requires-in-None-read_links-2-clause-back_vacant
+join_ends-requires-in-None-read_links-2-clause-back_vacant g c =
+    let right = some_read (layout c.args.slots.now) (c.args.place + 1) c.links_after.ensures c.in-Some.is in
+    rw c.put_between.ensures.ends.vacant (mid_back c.requires.can.vacate c.free-value-in-None-read_links-2.ensures.links right)
 
 pub join_blocks-requires-clause-before_vacant : goal.join_blocks-requires-clause-before_vacant
 join_blocks-requires-clause-before_vacant g c =
-    (mid_right c.requires.can.vacate c.free-value.ensures.links (some_read (layout c.args.slots.now) (c.args.place + 1) c.links_after-right.ensures c.in-Some.is)).before_vacant
+    (mid_right c.requires.can.vacate c.free-value-in-Some-read_links-2.ensures.links (some_read (layout c.args.slots.now) (c.args.place + 1) c.links_after.ensures c.in-Some.is)).before_vacant
 
 pub join_blocks-requires-clause-after_vacant : goal.join_blocks-requires-clause-after_vacant
 join_blocks-requires-clause-after_vacant g c =
-    (mid_right c.requires.can.vacate c.free-value.ensures.links (some_read (layout c.args.slots.now) (c.args.place + 1) c.links_after-right.ensures c.in-Some.is)).after_vacant
+    (mid_right c.requires.can.vacate c.free-value-in-Some-read_links-2.ensures.links (some_read (layout c.args.slots.now) (c.args.place + 1) c.links_after.ensures c.in-Some.is)).after_vacant
 
-pub join_ends-requires-in-Some-left-2-clause-front_vacant : goal.join_ends-requires-in-Some-left-2-clause-front_vacant
-join_ends-requires-in-Some-left-2-clause-front_vacant g c =
-    let left = some_read (layout c.args.slots.now) (c.args.place - 1) c.read_links-left.ensures c.in-Some-left-2.is in
-    rw c.join_blocks.ensures.ends.vacant (mid_front c.requires.can.vacate c.free-value.ensures.links left)
+pub join_ends-requires-in-Some-read_links-2-clause-front_vacant : goal.join_ends-requires-in-Some-read_links-2-clause-front_vacant
+join_ends-requires-in-Some-read_links-2-clause-front_vacant g c =
+    let left = some_read (layout c.args.slots.now) (c.args.place - 1) c.read_links-in-Some.ensures c.in-Some-read_links-2.is in
+    rw c.join_blocks.ensures.ends.vacant (mid_front c.requires.can.vacate c.free-value-in-Some-read_links-2.ensures.links left)
 
-pub join_ends-requires-in-Some-left-2-clause-back_vacant : goal.join_ends-requires-in-Some-left-2-clause-back_vacant
-join_ends-requires-in-Some-left-2-clause-back_vacant g c =
-    let right = some_read (layout c.args.slots.now) (c.args.place + 1) c.links_after-right.ensures c.in-Some.is in
-    rw c.join_blocks.ensures.ends.vacant (mid_back c.requires.can.vacate c.free-value.ensures.links right)
+pub join_ends-requires-in-Some-read_links-2-clause-back_vacant : goal.join_ends-requires-in-Some-read_links-2-clause-back_vacant
+join_ends-requires-in-Some-read_links-2-clause-back_vacant g c =
+    let right = some_read (layout c.args.slots.now) (c.args.place + 1) c.links_after.ensures c.in-Some.is in
+    rw c.join_blocks.ensures.ends.vacant (mid_back c.requires.can.vacate c.free-value-in-Some-read_links-2.ensures.links right)
 
-pub returns-in-None-left-clause-blocks : goal.returns-in-None-left-clause-blocks
-returns-in-None-left-clause-blocks g c =
+pub returns-in-None-read_links-clause-blocks : goal.returns-in-None-read_links-clause-blocks
+returns-in-None-read_links-clause-blocks g c =
     let old = layout c.args.slots.now in
-    let left = none_read old (c.args.place - 1) c.read_links-left.ensures c.in-None-left.is in
-    let right = none_read old (c.args.place + 1) c.links_after-right.ensures c.in-None.is in
+    let left = none_read old (c.args.place - 1) c.read_links.ensures c.in-None-read_links.is in
+    let right = none_read old (c.args.place + 1) c.links_after.ensures c.in-None.is in
     in_case (vacant_at old) (blocks_of old) c.args.place left right
     (alone c.requires.can.vacate c.free-value.ensures.links (layout c.append.new.slots) left right c.append.ensures.links c.append.ensures.ends)
 
-pub returns-in-Some-left-clause-blocks : goal.returns-in-Some-left-clause-blocks
-returns-in-Some-left-clause-blocks g c =
+pub returns-in-Some-read_links-clause-blocks : goal.returns-in-Some-read_links-clause-blocks
+returns-in-Some-read_links-clause-blocks g c =
     let old = layout c.args.slots.now in
-    let left = some_read old (c.args.place - 1) c.read_links-left.ensures c.in-Some-left.is in
-    let right = none_read old (c.args.place + 1) c.links_after-right.ensures c.in-None.is in
+    let left = some_read old (c.args.place - 1) c.read_links.ensures c.in-Some-read_links.is in
+    let right = none_read old (c.args.place + 1) c.links_after.ensures c.in-None.is in
     in_case (vacant_at old) (blocks_of old) c.args.place left.vacant right
-    (after c.requires.can.vacate c.free-value.ensures.links (layout c.join_ends.new.slots) left right c.join_ends.ensures.ends)
+    (after c.requires.can.vacate c.free-value-in-Some-read_links.ensures.links (layout c.join_ends.new.slots) left right c.join_ends.ensures.ends)
 
-pub returns-in-None-left-2-clause-blocks : goal.returns-in-None-left-2-clause-blocks
-returns-in-None-left-2-clause-blocks g c =
+pub returns-in-None-read_links-2-clause-blocks : goal.returns-in-None-read_links-2-clause-blocks
+returns-in-None-read_links-2-clause-blocks g c =
     let old = layout c.args.slots.now in
-    let left = none_read old (c.args.place - 1) c.read_links-left.ensures c.in-None-left-2.is in
-    let right = some_read old (c.args.place + 1) c.links_after-right.ensures c.in-Some.is in
+    let left = none_read old (c.args.place - 1) c.read_links-in-Some.ensures c.in-None-read_links-2.is in
+    let right = some_read old (c.args.place + 1) c.links_after.ensures c.in-Some.is in
     in_case (vacant_at old) (blocks_of old) c.args.place left right.vacant
-    (before c.requires.can.vacate c.free-value.ensures.links (layout c.put_between.new.slots) (layout c.join_ends-in-None-left-2.new.slots) left right
-    c.put_between.ensures.links c.put_between.ensures.ends c.join_ends-in-None-left-2.ensures.ends)
+    (before c.requires.can.vacate c.free-value-in-None-read_links-2.ensures.links (layout c.put_between.new.slots) (layout c.join_ends-in-None-read_links-2.new.slots) left right
+    c.put_between.ensures.links c.put_between.ensures.ends c.join_ends-in-None-read_links-2.ensures.ends)
 
-pub returns-in-Some-left-2-clause-blocks : goal.returns-in-Some-left-2-clause-blocks
-returns-in-Some-left-2-clause-blocks g c =
+pub returns-in-Some-read_links-2-clause-blocks : goal.returns-in-Some-read_links-2-clause-blocks
+returns-in-Some-read_links-2-clause-blocks g c =
     let old = layout c.args.slots.now in
-    let left = some_read old (c.args.place - 1) c.read_links-left.ensures c.in-Some-left-2.is in
-    let right = some_read old (c.args.place + 1) c.links_after-right.ensures c.in-Some.is in
+    let left = some_read old (c.args.place - 1) c.read_links-in-Some.ensures c.in-Some-read_links-2.is in
+    let right = some_read old (c.args.place + 1) c.links_after.ensures c.in-Some.is in
     in_case (vacant_at old) (blocks_of old) c.args.place left.vacant right.vacant
-    (between c.requires.can.vacate c.free-value.ensures.links (layout c.join_blocks.new.slots) (layout c.join_ends-in-Some-left-2.new.slots) left right
-    c.join_blocks.ensures.links c.join_blocks.ensures.ends c.join_ends-in-Some-left-2.ensures.ends)
+    (between c.requires.can.vacate c.free-value-in-Some-read_links-2.ensures.links (layout c.join_blocks.new.slots) (layout c.join_ends-in-Some-read_links-2.new.slots) left right
+    c.join_blocks.ensures.links c.join_blocks.ensures.ends c.join_ends-in-Some-read_links-2.ensures.ends)
