@@ -2,22 +2,24 @@
 use Rattle.std.proofs.Common.{◌≡◌, ◌≢◌, ℕ, ◌+◌, ◌^◌, ◌<◌, ◌≤◌, Bool, cond, List, [], ◌∷◌, ◌++◌, length, take, slice_get, Option, None, Some, option_map, is_some, refl, sym, ap, subst, ◌∙◌, arith}
 use Rattle.std.proofs.lemmas.Bool.Decides.{nat_tests}
 use Rattle.std.proofs.lemmas.Grind.{common_steps}
-use Rattle.std.proofs.lemmas.List.{length_push, length-map, map_push, take_more, take_all}
-use Rattle.std.proofs.lemmas.Option.{slice_get-get_or, slice_get_within, slice_get-map, get_or_from_slice_get}
+use Rattle.std.proofs.lemmas.List.{length_push, length-map, map_push, take_all}
+use Rattle.std.proofs.lemmas.Option.{slice_get-get_or, slice_get_within, slice_get-map}
 use Rattle.std.specs.FinMap as map
 use Rattle.std.specs.Option.{MatchOption}
+use Rattle.slotmap_core.specs.Clones.{IsCloneOf}
 use Rattle.slotmap_core.specs.Content.{Content, IsContent}
 use Rattle.slotmap_core.specs.Contents.{vacant_slot, place_of as start_place, start_places, start_stack, StartsFrom}
 use Rattle.slotmap_core.specs.ListRead.{ReadsAs}
 use Rattle.slotmap_core.specs.Places.{live, live_entry}
 use Rattle.slotmap_core.specs.Slots.{IsConsistent, Accepts, AllFitBelow}
 use Rattle.slotmap_core.specs.StackMap.{IsStacked}
-use Rattle.slotmap_core.specs.Written.{Writes, slot_of, slots_of}
+use Rattle.slotmap_core.specs.Written.{Writes, IsRecordClone, AreRecordClones, slot_of, slots_of}
 use Rattle.slotmap_core.specs.Slot.{Slot, full, empty, version_at, payload_at, place_of, places_of, walk, IsFreeList, IsSlot, IsSound}
 use Rattle.slotmap_core.specs.declared.layout.Link.TheVariants.{Free, Retired}
 use Rattle.slotmap_core.specs.declared.serial.SlotRecord.{SlotRecord}
 use Rattle.slotmap_core.proofs.ContentsLemmas.{slot_vacant}
 use Rattle.slotmap_core.proofs.GatherLemmas.{slice_get_push}
+use Rattle.slotmap_core.proofs.ListLemmas.{zip_next}
 use Rattle.slotmap_core.proofs.PlacesLemmas.{len-live-push}
 use Rattle.slotmap_core.proofs.StartFits.{starts-fit}
 use Rattle.slotmap_core.proofs.StartLemmas.{odd_of, even_where, vacant_place, start_places-push, live-start_places, retired-start_places}
@@ -47,15 +49,16 @@ module _ {P : Type 0} where
   record_is : (s : Slot P) → IsSlot s → s.version < 2 ^ 32 → slot_of (place_of s) ≡ record { value = s.payload; version = s.version }
   record_is s slot fits = grind (arith, nat_tests)
 
-  -- a loop that writes the records in order goes on to the next one
-  pub records-next : (slots : List (Slot P)) → ((i : ℕ) (s : Slot P) → slice_get slots i ≡ Some s → IsSlot s) → (i : ℕ) (made : SlotRecord P)
-      → version_at slots i ≡ Some made.version → payload_at slots i ≡ made.value → made.version < 2 ^ 32
-      → take (i + 1) (slots_of (places_of slots)) ≡ take i (slots_of (places_of slots)) ++ made ∷ []
-  records-next slots each i made version value fits =
+  -- a loop that writes the records in order, with clones of the payloads, goes on to the next one
+  pub records-next : (is_clone : P → P → Type 0) (slots : List (Slot P)) → ((i : ℕ) (s : Slot P) → slice_get slots i ≡ Some s → IsSlot s) → (i : ℕ) (list : List (SlotRecord P)) (made : SlotRecord P)
+      → AreRecordClones is_clone (take i (slots_of (places_of slots))) list → version_at slots i ≡ Some made.version → IsCloneOf is_clone (payload_at slots i) made.value → made.version < 2 ^ 32
+      → AreRecordClones is_clone (take (i + 1) (slots_of (places_of slots))) (list ++ made ∷ [])
+  records-next is_clone slots each i list made all version value fits =
       let records = slots_of (places_of slots) in
       let s = slot_at slots i made.version version in
-      let there : slice_get records i ≡ Some made = grind (arith, record_is s.0 (each i s.0 s.1), slice_get-map slot_of (places_of slots) i, slice_get-map place_of slots i) in
-      take_more records i made (slice_get_within records i made there) ∙ ap (λ y. take i records ++ y ∷ []) (get_or_from_slice_get records i made made there)
+      let slot : SlotRecord P = record { value = s.0.payload; version = s.0.version } in
+      let there : slice_get records i ≡ Some slot = grind (arith, record_is s.0 (each i s.0 s.1), slice_get-map slot_of (places_of slots) i, slice_get-map place_of slots i) in
+      zip_next (IsRecordClone is_clone) records list i slot made all there (record { version = sym s.2; value = rw s.1 at value })
 
   pub records-all : (slots : List (Slot P)) (i : ℕ) → length slots ≤ i → take i (slots_of (places_of slots)) ≡ slots_of (places_of slots)
   records-all slots i past = take_all i (slots_of (places_of slots)) (omega (arith, length-map (places_of slots) slot_of, length-map slots place_of))

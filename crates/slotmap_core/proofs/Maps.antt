@@ -1,5 +1,5 @@
 -- Finite maps from numbers or keys: what holds after a change held before, or is the change.
-use Rattle.std.proofs.Common.{◌≡◌, ◌≢◌, ◌+◌, ◌≤◌, Option, Some, None, Bool, true, false, not, ◌⊎◌, inl, inr, sym, ◌∙◌, subst, ap, arith, is_some}
+use Rattle.std.proofs.Common.{◌≡◌, ◌≢◌, ℕ, zero, suc, ◌+◌, ◌≤◌, Option, Some, None, Bool, true, false, not, List, [], ◌∷◌, length, ◌⊎◌, inl, inr, refl, sym, ◌∙◌, subst, ap, arith, is_some}
 use Rattle.std.specs.declared.cmp.Ordering.{Ordering}
 use Rattle.std.specs.FinMap as map
 use Rattle.std.specs.FinSet as set
@@ -102,3 +102,26 @@ module _ {K : Type 0} {R : K → K → Ordering} (total : IsTotalOrder R) (exact
 
   pub len_item_removed : (s : set.FinSet R) (k : K) → set.contains s k ≡ true → set.len (set.remove s k) + 1 ≡ set.len s
   len_item_removed s k h = grind (arith, set.len-remove total s k, set.empty_of_len s, set.contains-empty R k)
+
+module _ {K : Type 0} {R : K → K → Ordering} (total : IsTotalOrder R) (exact : CmpEqualImpliesEq R) where
+  no_keys : {X : Type 0} (m : map.FinMap R X) → ((k : K) → map.contains_key m k ≡ false) → map.len m ≡ 0
+  no_keys {X} m none =
+      ap map.len (map.same_map total exact m map.empty (λ k. none_of (map.get m k) (none k) ∙ sym (map.get-empty {X = X} R k))) ∙ map.len-empty R X
+
+  a_key : {X : Type 0} (m : map.FinMap R X) (count : ℕ) → map.len m ≡ count + 1 → (k : K) × (map.contains_key m k ≡ true)
+  a_key {X} m count is = by (map.entries m) refl
+    where
+      by : (es : List (K × X)) → map.entries m ≡ es → (k : K) × (map.contains_key m k ≡ true)
+      by [] same = absurd (let len = map.len-entries m in omega (arith, ap length same))
+      by (e ∷ es) same = (e.0, ap is_some (map.get-entries m e.0) ∙ ap (λ es. is_some (map.find R e.0 es)) same ∙ (grind (arith, itself total exact e.0)))
+
+  -- maps with the same keys have as many
+  pub same_len : {X Y : Type 0} (count : ℕ) (m : map.FinMap R X) (n : map.FinMap R Y) → map.len m ≡ count
+      → ((k : K) → map.contains_key m k ≡ map.contains_key n k) → map.len m ≡ map.len n
+  same_len zero m n is same = is ∙ sym (no_keys n (λ k. sym (same k) ∙ false_of (map.contains_key m k) (λ there. let some = some_entry total exact m k there in absurd (omega arith))))
+  same_len (suc count) m n is same =
+      let there = a_key m count (omega (arith, is)) in
+      let k = there.0 in
+      let both : (q : K) → map.contains_key (map.remove m k) q ≡ map.contains_key (map.remove n k) q = λ q. grind (arith, map.get-remove total m k q, map.get-remove total n k q, same q) in
+      let here = len_removed total exact m k there.1 in
+      omega (arith, here, len_removed total exact n k (sym (same k) ∙ there.1), same_len count (map.remove m k) (map.remove n k) (omega arith) both)

@@ -13,6 +13,7 @@ use Rattle.slotmap_core.specs.declared.layout.Link.TheVariants.{InUse}
 use Rattle.slotmap_core.proofs.ColumnLemmas.{zip-length, zip-at}
 use Rattle.slotmap_core.proofs.GatherLemmas.{slice_get-set_other}
 use Rattle.slotmap_core.proofs.ListLemmas.{found_within}
+use Rattle.slotmap_core.proofs.OddsLemmas.{next_none}
 use Rattle.slotmap_core.proofs.PlacesLemmas.{key}
 use Rattle.slotmap_core.proofs.SlotLemmas.{slots_fit}
 use Rattle.slotmap_core.proofs.WalkLemmas.{entries_from, entries-live}
@@ -132,3 +133,10 @@ next_on {V} {vs} {xs} {i} {left} walk some {seen} whole {end} found =
     let version = found_within vs end (omega (arith, found.within, ap length whole, to.0.counted, length-pairs end (drop end vs) (drop end xs), length-drop end vs)) in
     let value = found_within xs end (omega (arith, slice_get_within vs end version.0 version.1, walk.values_length)) in
     comes vs xs end left to.0 i to.1 version.0 value.0 version.1 value.1 (found.odd version.0 (ap (λ vs. slice_get vs end) whole ∙ version.1))
+
+-- while a value is left, a version is odd
+pub some_left : {V : Type 0} {vs : List ℕ} {xs : List (Option V)} {i left : ℕ} → IsWalk vs xs i left → 0 < left → {seen : List ℕ} → seen ≡ vs
+    → i ≤ length seen → AllEven seen i (length seen) → ⊥
+some_left {V} {vs} {xs} {i} {left} walk some {seen} whole within even =
+    let n = next_on walk some whole (next_none seen i within even) in
+    omega (arith, slice_get_within vs (length seen) n.version n.version_there, ap length whole)

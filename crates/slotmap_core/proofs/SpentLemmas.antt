@@ -6,11 +6,12 @@ use Rattle.std.proofs.lemmas.List.Elements.{All-head, All-tail}
 use Rattle.slotmap_core.specs.Key.{Key, key_cmp, next_version}
 use Rattle.slotmap_core.specs.Content.{Content, IsContent, IsLive, IsDetached, Stands, places}
 use Rattle.slotmap_core.specs.Call.{StaysValid, MayGrow}
-use Rattle.slotmap_core.specs.Copy.{IsCopy}
+use Rattle.slotmap_core.specs.Copy.{IsCopy, IsCloneBy}
 use Rattle.slotmap_core.specs.Disjoint.{CanReplace, with_values}
 use Rattle.slotmap_core.specs.Spent.{IsSpent, KeepsSpent}
 use Rattle.slotmap_core.specs.Transition.{Inserts, Removes, Detaches, Reattaches, Keeps, Leaves, with_value}
 use Rattle.slotmap_core.specs.Written.{Restores}
+use Rattle.slotmap_core.proofs.CloneLemmas.{clone_live, clone_places}
 use Rattle.slotmap_core.proofs.LeaveLemmas.{Leaves-refl, Leaves-keeps, Leaves-with_value, Leaves-trans, Leaves-removes, was_live, same_live, live_no_more}
 use Rattle.slotmap_core.proofs.Maps.{false_of, none_of}
 use Rattle.slotmap_core.proofs.PlaceCount.{offers, places_grow, detached_places, reattached_places}
@@ -72,6 +73,13 @@ module _ {V : Type 0} where
 
     pub spent_copy : IsCopy old new → KeepsSpent old new
     spent_copy copy = grind arith
+
+    pub spent_clone : (is_clone : V → V → Type 0) → IsCloneBy is_clone old new → KeepsSpent old new
+    spent_clone is_clone clones k spent = record {
+      within = omega (arith, clone_places is_clone old new clones, spent.within);
+      vacant = λ v is. spent.vacant v (rw clones.next at is);
+      stands = λ u there. spent.stands u (⊎_elim (λ h. inl (sym (clone_live is_clone old new clones u) ∙ h)) (λ h. inr (rw clones.detached at h)) there);
+    }
 
     -- a map that is read back from the list that a map was written as
     pub spent_restores : Restores old new → KeepsSpent old new

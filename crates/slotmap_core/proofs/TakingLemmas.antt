@@ -1,8 +1,9 @@
 -- The elements of a vector are taken one after another, by an iterator that owns them.
-use Rattle.std.proofs.Common.{◌≡◌, List, [], ◌∷◌, ◌++◌, length, slice_get, Some, refl, sym, ap, ◌∙◌, append_assoc, append-nil, arith}
+use Rattle.std.proofs.Common.{◌≡◌, List, [], ◌∷◌, ◌++◌, length, slice_get, Some, sym, ap, ◌∙◌, append_assoc, append-nil, arith}
 use Rattle.std.specs.declared.vec.IntoIter.{IntoIter}
 use Rattle.std.specs.Vec.Iter.{into_iter_items, into_iter_len, into_iter_steps}
 use Rattle.std.proofs.lemmas.List.{nil_from_length}
+use Rattle.slotmap_core.proofs.Positions.{at_seam}
 
 module _ {X Z : Type 0} where
   -- those that were taken and those that are left are all of them
@@ -19,11 +20,7 @@ module _ {X Z : Type 0} where
 
     -- the next one is at the position after those that were taken
     pub Taking-here : {x : X} {rest : List X} → into_iter_items it ≡ x ∷ rest → slice_get all (length taken) ≡ Some x
-    Taking-here {x} {rest} is = ap (λ xs. slice_get xs (length taken)) (sym before.both ∙ ap (λ xs. taken ++ xs) is) ∙ next_of taken rest x
-      where
-        next_of : (xs ys : List X) (x : X) → slice_get (xs ++ x ∷ ys) (length xs) ≡ Some x
-        next_of [] ys x = refl
-        next_of (z ∷ xs) ys x = next_of xs ys x
+    Taking-here {x} {rest} is = ap (λ xs. slice_get xs (length taken)) (sym before.both ∙ ap (λ xs. taken ++ xs) is) ∙ at_seam taken rest x
 
     -- if there is no next one, all were taken
     pub Taking-end : into_iter_len it ≡ 0 → taken ≡ all

@@ -18,6 +18,6 @@ module _ {V : Type 0} where
   abbrev pub AreValuesOf : Content V → List Key → List V → Type 0
   AreValuesOf c keys values = several.AreValuesOf value_of c keys values
 
-  -- each key has the value at its position in the list, and all else is as before
+  -- each key has the value at its position in the list, and nothing else changed
   abbrev pub with_values : Content V → List Key → List V → Content V
   with_values c keys values = several.with_values with_value c keys values

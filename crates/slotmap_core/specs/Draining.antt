@@ -12,11 +12,11 @@ module _ {D C E : Type 0} (loan : D → MutBor C) (Ends : C → E → Type 0) wh
   KeepsLoan old new = ((loan new).ghost_name ≡ (loan old).ghost_name) × ((end : E) → Ends (loan new).now end → Ends (loan old).now end)
 
 module _ {D A : Type 0} (Steps : D → Option A → D → Type 0) where
-  -- R holds of the first state, the items that calls of `next` yield from there, and the state that they lead to
+  -- R holds of the first state, the items that calls of `next` yield from there, and the state after them
   abbrev pub Along : (D → List A → D → Type 0) → D → Type 0
   Along R first = (items : List A) (later : D) → Yields Steps first items later → R first items later
 
-  -- each state that calls of `next` lead to keeps what the first one keeps
+  -- each state after calls of `next` keeps what the first one keeps
   abbrev pub KeepsAlong : (D → D → Type 0) → D → Type 0
   KeepsAlong Keeps = Along (λ first items later. Keeps first later)
 

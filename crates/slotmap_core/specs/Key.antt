@@ -18,7 +18,7 @@ key_cmp a b = ordering_then (nat_cmp a.index b.index) (nat_cmp a.version b.versi
 abbrev pub coded_key : Coded Key
 coded_key = code_by (ℕ × ℕ) (coded× coded_ℕ coded_ℕ) (λ k. (k.index, k.version)) (λ p. record { index = p.0; version = p.1 }) (λ _. refl)
 
--- both parts are numbers of 32 bits, the version is odd, and the largest index has one key alone
+-- both parts are numbers of 32 bits, the version is odd, and the largest index has only one key
 pub record IsKey (k : Key) : Type 0 where
   pub index_fits : k.index < 2 ^ 32
   pub version_fits : k.version < 2 ^ 32
@@ -47,7 +47,7 @@ ffi k = k.version * 2 ^ 32 + k.index
 abbrev pub made_odd : ℕ → ℕ
 made_odd v = v / 2 * 2 + 1
 
--- the key of an index and a version: the largest index has version 1 alone
+-- the key of an index and a version: the largest index has only version 1
 abbrev pub key_from : ℕ → ℕ → Key
 key_from index version = record { index = index; version = if nat_eq index (2 ^ 32 - 1) then 1 else made_odd version }
 

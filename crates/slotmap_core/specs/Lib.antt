@@ -5,6 +5,7 @@ pub mod Draining
 pub mod Transition
 pub mod Spent
 pub mod Call
+pub mod Clones
 pub mod Copy
 pub mod Disjoint
 pub mod Refusal
@@ -19,11 +20,13 @@ pub mod Lifo
 pub mod Law
 pub mod Gather
 pub mod Places
+pub mod PlaceClones
 pub mod StackMap
 pub mod Slot
 pub mod LayoutLends
 pub mod Numbers
 pub mod Columns
+pub mod Odds
 pub mod Rows
 pub mod SlotsLend
 pub mod Walk
@@ -42,4 +45,5 @@ pub mod Several
 pub mod SecondaryEqual
 pub mod SecondaryExtend
 pub mod SecondaryWritten
+pub mod SecondaryClones
 pub mod ListRead

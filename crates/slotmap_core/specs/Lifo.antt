@@ -1,4 +1,4 @@
--- The machine of the maps that reuse the place freed last first. The commands alone decide its states and the keys that
+-- The machine of the maps that reuse the place freed last first. Only the commands decide its states and the keys that
 -- inserts return.
 use Rattle.std.specs.Prelude.{ℕ, ◌+◌, List, [], ◌∷◌, ◌++◌, drop, if◌then◌else◌, ⊤}
 use Rattle.std.specs.Option.{unwrap_or}

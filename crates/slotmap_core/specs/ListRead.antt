@@ -12,7 +12,7 @@ pub record ReadsAs {V : Type 0} (reuses : Bool) (slots : List (SlotRecord V)) (c
   pub valid : IsContent reuses c
   -- runs of commands go on from the list's state: no key that counts as returned in it is returned again
   pub fits : Fits (start_state slots) c
-  -- if a map wrote this list, what was live there is live here, and what was detached is gone
+  -- if a map wrote this list, its live keys are live here, and its detached keys are removed
   pub restores : (any : Bool) (old : Content V) → IsContent any old → Writes old slots → Restores old c
   -- the map is written as this list again, except for the version of the first slot
   pub writes_back : Writes c (read_slots slots)

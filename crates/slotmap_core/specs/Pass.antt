@@ -11,7 +11,7 @@ use Rattle.slotmap_core.specs.Retain.{Visit, CallsAt}
 use Rattle.slotmap_core.specs.Slot.{Slot, version_at, payload_at, with_payload, NoneLive}
 use Rattle.slotmap_core.specs.Transition.{with_value}
 
--- how far a pass is: the position from which it goes on, what is held, and the state of the closure
+-- how far a pass is: the position from which it continues, what is held, and the state of the closure
 pub record Stage (F D : Type 0) : Type 0 where
   pub position : ℕ
   pub held : D
@@ -29,7 +29,7 @@ pub record Holding (D K V : Type 0) : Type 1 where
   pub put : D → ℕ → K → V → D
   -- the position from which to go on if this pair stays, or that of the pair if it is rejected
   pub next : ℕ → K → Bool → ℕ
-  -- no pair is there from a position on; the second position is the end
+  -- there is no pair from a position on; the second position is the end
   pub IsEnd : D → ℕ → ℕ → Type 0
 
 module _ {F D K V : Type 0} (holding : Holding D K V) (g : Mut F (K × (MutBor V × Unit {0})) (Bool × (MutBor V × Unit {0}))) where
@@ -64,7 +64,7 @@ module _ {F D K V : Type 0} (holding : Holding D K V) (g : Mut F (K × (MutBor V
     pub kept : FoldsTo Keeps s visits last
     pub ends : Ends last t ⊎ Rejects last t
 
-  -- the closure may be called for each pair that a pass from s on comes to
+  -- the closure may be called for each pair that a pass from s on reaches
   pub record MayPass (s : Stage F D) : Type 0 where
     pub at : (visits : List (Visit K V)) (t : Stage F D) (key : K) (shown : MutBor V) → FoldsTo Keeps s visits t
         → holding.Shows t.held t.position key shown.now → Takes g t.closure (key, (shown, tt))

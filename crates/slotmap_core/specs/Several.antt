@@ -15,7 +15,7 @@ module _ {M V : Type 0} (get : M → Key → Option V) where
   AreValuesOf m keys values = map_list (get m) keys ≡ map_list Some values
 
 module _ {M V : Type 0} (put : M → Key → V → M) where
-  -- each key has the value at its position in the list, and all else is as before
+  -- each key has the value at its position in the list, and nothing else changed
   abbrev pub with_values : M → List Key → List V → M
   with_values m [] values = m
   with_values m (k ∷ keys) [] = m

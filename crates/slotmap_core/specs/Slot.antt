@@ -1,6 +1,8 @@
 -- The slots of a map: what code keeps at each index. No public clause of a map cites this module.
 use Rattle.std.specs.Prelude.{◌≡◌, ◌≢◌, ◌↔◌, ℕ, zero, suc, ◌+◌, ◌-◌, ◌%◌, ◌^◌, ◌<◌, ◌≤◌, List, [], ◌∷◌, length, map as list_map, Option, Some, None, IsSome, option_map, option_and_then, slice_get}
 use Rattle.std.specs.FinMap as map
+use Rattle.std.specs.List.{AllZip}
+use Rattle.slotmap_core.specs.Clones.{IsCloneOf}
 use Rattle.slotmap_core.specs.Places.{Place, Live, Detached as Kept, Vacant, Retired as UsedUp, live}
 use Rattle.slotmap_core.specs.StackMap.{StackMap, IsStacked}
 use Rattle.slotmap_core.specs.declared.layout.Link.{Link}
@@ -60,6 +62,17 @@ module _ {P : Type 0} where
   -- each slot from the one index to the other has an even version
   abbrev pub NoneLive : List (Slot P) → ℕ → ℕ → Type 0
   NoneLive slots start end = (i v : ℕ) → start ≤ i → i < end → version_at slots i ≡ Some v → v % 2 ≡ 0
+
+module _ {P : Type 0} (is_clone : P → P → Type 0) where
+  -- the same version and use, with a clone of the payload
+  pub record IsSlotClone (s copy : Slot P) : Type 0 where
+    pub version : copy.version ≡ s.version
+    pub link : copy.link ≡ s.link
+    pub payload : IsCloneOf is_clone s.payload copy.payload
+
+  -- the same for each slot
+  abbrev pub AreSlotClones : List (Slot P) → List (Slot P) → Type 0
+  AreSlotClones slots copies = AllZip IsSlotClone slots copies
 
 -- slots as they lie in memory: from slot 0 on, and how many fit without allocating
 pub record Laid (P : Type 0) : Type 0 where

@@ -1,5 +1,5 @@
--- The steps of the machine: which replies may come to a command, and what state each leaves. Only the replies that are named
--- here may come.
+-- The steps of the machine: the possible replies to a command, and the state after each. No other reply than those named
+-- here is possible.
 use Rattle.std.specs.Prelude.{◌≡◌, ◌≢◌, ℕ, ◌+◌, ◌<◌, ◌≤◌, Some, None, Bool, true, false, Ok, Err, if◌then◌else◌, map as list_map}
 use Rattle.std.specs.FinMap as map
 use Rattle.std.specs.FinSet as set
@@ -35,7 +35,7 @@ module _ {V : Type 0} (reuses : Bool) (s : State V) where
     pub beyond_peak : reuses ≡ true → s.peak < used s + n
 
 module _ {K V R E : Type 0} (given : Given K V R E) where
-  -- a fresh key is returned, and bound to v; `Full` comes if and only if the limit is reached; both errors have v
+  -- a fresh key is returned, and bound to v; the reply is `Full` if and only if the limit is reached; both errors have v
   abbrev pub StepInsert : State V → V → Reply K V R E → State V → Type 0
   StepInsert old v (reply.Key k) new = (used old ≢ most) × Fresh old (given.data_of k) × (new ≡ after_insert old (given.data_of k) v)
   StepInsert old v (reply.Full back) new = (used old ≡ most) × (back ≡ Some v) × (new ≡ old)
@@ -50,7 +50,7 @@ module _ {K V R E : Type 0} (given : Given K V R E) where
   StepInsertWith old (reply.Failed e) new = (used old ≢ most) × ((k : K) × Fresh old (given.data_of k) × given.makes k (Err e)) × (new ≡ old)
   StepInsertWith old _ new = ⊥
 
-  -- `TooGreat` comes if and only if n more keys are over the limit; `Done` promises n inserts or reattaches
+  -- the reply is `TooGreat` if and only if n more keys are over the limit; `Done` promises n inserts or reattaches
   abbrev pub StepReserve : State V → ℕ → Reply K V R E → State V → Type 0
   StepReserve old n reply.Done new = (used old + n ≤ most) × (new ≡ after_reserve old n)
   StepReserve old n reply.TooGreat new = (most < used old + n) × (new ≡ old)
@@ -105,7 +105,7 @@ module _ {K V R E : Type 0} (given : Given K V R E) where
         × given.keeps key v w stays × (map.get new.live k ≡ (if stays then Some w else None))
     -- no other key becomes live
     pub no_more : (k : Key) → map.get old.live k ≡ None → map.get new.live k ≡ None
-    -- the rest of the state is as before
+    -- the rest of the state is unchanged
     pub rest : new ≡ record old { live = new.live }
 
   -- `keep` decides for each live key

@@ -1,9 +1,12 @@
 -- The list of slots that a map is written as, and the content of a map that is read from it.
-use Rattle.std.specs.Prelude.{◌≡◌, ℕ, ◌+◌, ◌-◌, ◌%◌, ◌^◌, ◌≤◌, ◌↔◌, ◌⊎◌, true, false, List, [], ◌∷◌, length, slice_get, map as list_map, Some, None}
+use Rattle.std.specs.Prelude.{◌≡◌, ℕ, ◌+◌, ◌-◌, ◌%◌, ◌^◌, ◌≤◌, ◌↔◌, ◌⊎◌, Bool, true, false, List, [], ◌∷◌, length, slice_get, map as list_map, Some, None}
 use Rattle.std.specs.FinMap as map
 use Rattle.std.specs.FinSet as set
+use Rattle.std.specs.List.{AllZip}
+use Rattle.slotmap_core.specs.Clones.{IsCloneOf}
+use Rattle.slotmap_core.specs.Copy.{IsCloneBy}
 use Rattle.slotmap_core.specs.Key.{Key, is_last, next_version}
-use Rattle.slotmap_core.specs.Content.{Content, IsDetached, IsRetired, IsVacant, Uses, places}
+use Rattle.slotmap_core.specs.Content.{Content, IsContent, IsDetached, IsRetired, IsVacant, Uses, places}
 use Rattle.slotmap_core.specs.Places.{Place, Live, Detached, Vacant, Retired}
 use Rattle.slotmap_core.specs.declared.serial.SlotRecord.{SlotRecord}
 
@@ -32,7 +35,7 @@ module _ {V : Type 0} where
     pub each : (i : ℕ) → 1 ≤ i → i ≤ places c → IsVacant c i ⊎ ((k : Key) × (k.index ≡ i) × Uses c k)
 
   -- new is the content of a map that is read from the list that old is written as. The live keys are the same. Each detached
-  -- key is gone: its place is vacant, or retired after the last version
+  -- key is removed: its place is vacant, or retired after the last version
   pub record Restores (old new : Content V) : Type 0 where
     pub live : new.live ≡ old.live
     pub detached : new.detached ≡ set.empty
@@ -56,3 +59,20 @@ module _ {V : Type 0} where
   abbrev pub read_slots : List (SlotRecord V) → List (SlotRecord V)
   read_slots [] = []
   read_slots (first ∷ rest) = empty_slot 0 ∷ rest
+
+module _ {V : Type 0} (is_clone : V → V → Type 0) where
+  -- the list that a map with the content c is written as has clones of the values: it is the list of a copy of the map
+  pub record WritesClones (reuses : Bool) (c : Content V) (slots : List (SlotRecord V)) : Type 0 where
+    pub copy : Content V
+    pub clones : IsCloneBy is_clone c copy
+    pub valid : IsContent reuses copy
+    pub writes : Writes copy slots
+
+  -- the same version, with a clone of the value, if there is one
+  pub record IsRecordClone (slot copy : SlotRecord V) : Type 0 where
+    pub version : copy.version ≡ slot.version
+    pub value : IsCloneOf is_clone slot.value copy.value
+
+  -- the same for each slot
+  abbrev pub AreRecordClones : List (SlotRecord V) → List (SlotRecord V) → Type 0
+  AreRecordClones slots copies = AllZip IsRecordClone slots copies

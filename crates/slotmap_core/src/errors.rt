@@ -1,6 +1,6 @@
 //! The errors of the maps.
 //!
-//! A call that fails leaves the contents of the map as they were. (`extend` of the secondary maps is
+//! A call that fails leaves the contents of the map unchanged. (`extend` of the secondary maps is
 //! the exception: it keeps what it put before memory ran out.) A value that was to be stored is
 //! returned in the error; a closure or a list is dropped. Each type is an `Error` with a short
 //! message, so `?` passes it on, to `anyhow` too.
@@ -173,7 +173,7 @@ impl<V> InsertError<V> {
         }
     }
 
-    /// Changes the value in the error by a closure, and leaves the cause as it is: for a type that
+    /// Changes the value in the error by a closure, and keeps the cause: for a type that
     /// stores the caller's value inside one of its own.
     ///
     /// One call of the closure.
@@ -210,7 +210,7 @@ impl<V> ReattachError<V> {
         }
     }
 
-    /// Changes the value in the error by a closure, and leaves the cause as it is.
+    /// Changes the value in the error by a closure, and keeps the cause.
     ///
     /// One call of the closure.
     ///

@@ -74,7 +74,8 @@ impl KeyData {
 
     /// Returns the key data of an index and a version that are those of a key.
     ///
-    /// The contract asks for an odd version and, at the greatest index, for version 1. In contrast to
+    /// It is for maps, which know that the parts of a slot's key are such; others call `new`. The
+    /// contract asks for an odd version and, at the greatest index, for version 1. In contrast to
     /// `new` nothing is tested or changed. Constant time. Rust lacks this call.
     ///
     /// ```

@@ -2,17 +2,19 @@
 
 ghost use Rattle.std.specs.Prelude.{◌≡◌, ◌+◌, ◌<◌, ◌≤◌, ◌%◌, ◌^◌, ◌++◌, ◌∷◌, [], ℕ, List, length, Some, None, Option, IsSome, IfOk, OnOk, IfSome, IfNone, slice_get, slice_set};
 ghost use Rattle.std.specs.Borrow.{sem};
-ghost use Rattle.slotmap_core.specs.Slot.{Slot, FitsEmpty, full, empty, version_at, link_at, next_at, payload_at, with_payload, NoneLive};
+ghost use Rattle.slotmap_core.specs.Slot.{Slot, FitsEmpty, full, empty, version_at, link_at, next_at, payload_at, with_payload, NoneLive, AreSlotClones};
 ghost use Rattle.slotmap_core.specs.LayoutLends.{lends_payload};
 
 use std::alloc::{AllocError, Global};
 
 mod columns;
 mod numbers;
+mod odds;
 mod rows;
 
 pub use columns::Columns;
-pub(crate) use columns::{next_odd, version_in};
+pub(crate) use columns::version_in;
+pub(crate) use odds::{Odds, step};
 pub use rows::Rows;
 
 /// What a slot is used for.
@@ -145,8 +147,7 @@ pub trait Layout<P>: Sized {
 pub trait CopyLayout<P: Clone>: Layout<P> {
     /// Returns a copy of the slots, with clones of the payloads.
     fn copy(&self) -> Result<Self, AllocError>
-        requires clones { (x y : P) → P.is_clone x y → y ≡ x }
         requires few { length (Self.slots self.now) < 2 ^ 32 }
-        ensures same { IfOk result (λ copy. Self.slots copy ≡ Self.slots self.now) }
+        ensures clones { IfOk result (λ copy. AreSlotClones P.is_clone (Self.slots self.now) (Self.slots copy)) }
         ensures room { IfOk result (λ copy. length (Self.slots copy) ≤ Self.fits copy) };
 }

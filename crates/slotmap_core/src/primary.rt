@@ -1,6 +1,6 @@
 //! What the primary maps have in common: the maps that make keys.
 //!
-//! A clause here sees a map by its content alone:
+//! A clause here sees a map as its content:
 //!
 //! - the live keys with their values, the detached keys and the retired keys
 //! - the version that the next key at each vacant index will have

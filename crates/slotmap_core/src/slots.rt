@@ -1,4 +1,4 @@
-//! The slots of a map that reuses the slot freed last first, by key data alone.
+//! The slots of a map that reuses the slot freed last first, by key data.
 //!
 //! The free list, retired and detached slots, room and growth are here, once for every map that has
 //! slots. `SlotMap` is slots with a key type of its own, `DenseSlotMap` is slots that hold

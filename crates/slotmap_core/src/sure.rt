@@ -6,10 +6,10 @@ ghost use Rattle.std.specs.Prelude.{◌≡◌, IsSome, Some, false};
 ghost use Rattle.std.specs.Borrow.{sem, Lends};
 ghost use Rattle.std.specs.contracts.option.Option.{the_row};
 
-/// Rules a case out, which is proved never to come: it stands before `unreachable!`.
+/// Rules out a case that is proved impossible: call it before `unreachable!`.
 ///
-/// The code of `unreachable!` alone is a trap, so a test leads there. Here a write to a place that
-/// no slice has comes before it. LLVM knows that no such write runs, and leaves out the test.
+/// The code of `unreachable!` is a trap behind a test. Here an impossible write, beyond every slice,
+/// precedes it. LLVM knows that no such write runs, and drops the test.
 #[inline(always)]
 pub fn rule_out(case: bool)
     requires { case ≡ false }

@@ -1,13 +1,14 @@
 //! Slots in three vectors of one length.
 
 ghost use Rattle.std.specs.Prelude.{◌≡◌, ◌<◌, ◌≤◌, ◌%◌, ◌^◌, ℕ, List, length, slice_get, Some, IsSome, refl, vec_capacity};
-ghost use Rattle.slotmap_core.specs.Columns.{AllEven, IsNextOdd, HasEachOdd, zip_slots};
+ghost use Rattle.slotmap_core.specs.Columns.{HasEachOdd, zip_slots};
 ghost use Rattle.slotmap_core.specs.Numbers.{links_of};
 ghost use Rattle.slotmap_core.specs.Pass.{MayPass, Passes, in_columns, in_slots, stage};
 ghost use Rattle.slotmap_core.specs.Slot.{version_at, payload_at};
 ghost use Rattle.slotmap_core.specs.declared.layout.Link.{Link as LinkOf};
 
 use super::numbers::{link_for, number_for};
+use super::odds::next_odd;
 use super::{CopyLayout, Layout, Link};
 use crate::keys::{Key, KeyData};
 use crate::sure::{sure, sure_mut};
@@ -16,7 +17,7 @@ use std::marker::Model;
 
 /// Versions, links and payloads, each in a vector of its own. A link takes 4 bytes.
 ///
-/// An iterator reads the versions alone, and a look-up a version and a payload.
+/// An iterator reads only the versions, and a look-up a version and a payload.
 #[derive(Drop)]
 pub struct Columns<P> {
     versions: Vec<u32>,
@@ -45,83 +46,6 @@ const LIMIT: usize = 4294967295;
 
 // With fewer slots than this the three vectors grow to four times their length, with more to twice.
 const FEW: usize = 512;
-
-// How many versions are looked at together.
-const BLOCK: usize = 16;
-
-// Skips whole blocks of even versions, from this index on.
-#[inline(never)]
-fn skip_even(versions: &[u32], start: usize) -> usize
-    requires { start ≤ length versions.now }
-    ensures on { start ≤ result }
-    ensures within { result ≤ length versions.now }
-    ensures passed { AllEven versions.now start result }
-{
-    let mut at = start;
-    while versions.len() - at >= BLOCK {
-        let mut odd: u32 = 0;
-        for i in 0..BLOCK {
-            odd += versions[at + i] % 2;
-        }
-        if odd != 0 {
-            return at;
-        }
-        at += BLOCK;
-    }
-    at
-}
-
-// Returns the first index from `start` on with an odd version, or the number of versions.
-#[inline(always)]
-pub(crate) fn next_odd(versions: &[u32], start: usize) -> usize
-    requires { start ≤ length versions.now }
-    ensures { IsNextOdd versions.now start result }
-{
-    if start < versions.len() && versions[start] % 2 == 1 {
-        return start;
-    }
-    search_odd(versions, start)
-}
-
-// Returns the same, where the version at `start` is mostly even. It looks no further than the next
-// block, and the call at its end is a jump, so nothing is saved and restored.
-#[cold]
-#[inline(never)]
-fn search_odd(versions: &[u32], start: usize) -> usize
-    requires { start ≤ length versions.now }
-    ensures { IsNextOdd versions.now start result }
-{
-    let mut index = start;
-    while index < versions.len() {
-        if versions[index] % 2 == 1 {
-            return index;
-        }
-        index += 1;
-        if index % BLOCK == 0 {
-            return search_blocks(versions, index);
-        }
-    }
-    index
-}
-
-// Returns the same, where a block begins at `start`.
-#[inline(never)]
-fn search_blocks(versions: &[u32], start: usize) -> usize
-    requires { start ≤ length versions.now }
-    ensures { IsNextOdd versions.now start result }
-{
-    let mut index = skip_even(versions, start);
-    while index < versions.len() {
-        if versions[index] % 2 == 1 {
-            return index;
-        }
-        index += 1;
-        if index % BLOCK == 0 {
-            index = skip_even(versions, index);
-        }
-    }
-    index
-}
 
 // Returns the version at an index.
 pub(crate) fn version_in(versions: &[u32], index: usize) -> u32

@@ -47,7 +47,7 @@ impl<P, L: Layout<P>> Slots<P, L> {
         Some(self.layout.payload(index))
     }
 
-    /// Returns the payload of a live key, with no look-up.
+    /// Returns the payload of a live key, without checking its version.
     pub fn get_unchecked(&self, key: KeyData) -> &P
         requires { IsLive self.now key }
         ensures value { map.get self.now.live key ≡ Some result.now }
@@ -56,7 +56,8 @@ impl<P, L: Layout<P>> Slots<P, L> {
         self.layout.payload(key.idx() as usize)
     }
 
-    /// Returns a mutable reference to the payload of a live key, with no look-up.
+    /// Returns a mutable reference to the payload of a live key, without checking its
+    /// version.
     pub fn get_unchecked_mut(&mut self, key: KeyData) -> &mut P
         requires { IsLive self.old key }
         ensures* writes_back { sem 𝓛 (lends_value P.row L.row L.Layout self.entry key result) }

@@ -1,12 +1,14 @@
 //! Lists of slots: slots are written out, and read back.
 
 ghost use Rattle.std.specs.Prelude.{◌≡◌, ◌<◌, ◌^◌, ◌↔◌, ◌%◌, ℕ, length, IfOk, IsOk, IfErr, IsSome, true, Some};
-ghost use Rattle.slotmap_core.specs.Content.{IsContent};
+ghost use Rattle.std.specs.FinMap as map;
+ghost use Rattle.slotmap_core.specs.Clones.{ClonesEqual, IsCloneOf};
+ghost use Rattle.slotmap_core.specs.Key.{Key as KeyOf};
 ghost use Rattle.slotmap_core.specs.Contents.{contents, start_stack};
 ghost use Rattle.slotmap_core.specs.Slot.{version_at, payload_at};
 ghost use Rattle.slotmap_core.specs.ListRead.{ReadsAs};
 ghost use Rattle.slotmap_core.specs.Slots.{Accepts, RefusesStart};
-ghost use Rattle.slotmap_core.specs.Written.{Writes};
+ghost use Rattle.slotmap_core.specs.Written.{Writes, WritesClones};
 
 use super::Slots;
 use crate::errors::{OutOfMemory, SlotsError};
@@ -18,11 +20,10 @@ use std::marker::PhantomData;
 
 // Returns the record of a slot, with a clone of its payload.
 fn record_at<P: Clone, L: Layout<P>>(layout: &L, index: usize) -> Result<SlotRecord<P>, OutOfMemory>
-    requires clones { (x y : P) → P.is_clone x y → y ≡ x }
     requires within { index < length (L.slots layout.now) }
     requires odd { (version : ℕ) → version_at (L.slots layout.now) index ≡ Some version → IsSome (payload_at (L.slots layout.now) index) ↔ version % 2 ≡ 1 }
     ensures version { IfOk result (λ made. version_at (L.slots layout.now) index ≡ Some made.version) }
-    ensures value { IfOk result (λ made. payload_at (L.slots layout.now) index ≡ made.value) }
+    ensures value { IfOk result (λ made. IsCloneOf P.is_clone (payload_at (L.slots layout.now) index) made.value) }
     ensures fits { IfOk result (λ made. made.version < 2 ^ 32) }
 {
     let version = layout.version(index);
@@ -41,9 +42,10 @@ impl<P, L: Layout<P>> Slots<P, L> {
     pub fn to_slots(&self) -> Result<Vec<SlotRecord<P>>, OutOfMemory>
     where
         P: Clone,
-        requires { (x y : P) → P.is_clone x y → y ≡ x }
-        ensures writes { IfOk result (λ list. Writes self.now list.items) }
-        ensures contents { IfOk result (λ list. contents list.items ≡ self.now.live) }
+        ensures writes { IfOk result (λ list. WritesClones P.is_clone true self.now list.items) }
+        ensures contents { IfOk result (λ list. (k : KeyOf) → IsCloneOf P.is_clone (map.get self.now.live k) (map.get (contents list.items) k)) }
+        ensures writes_if_clones_equal { IfOk result (λ list. ClonesEqual P.is_clone → Writes self.now list.items) }
+        ensures contents_if_clones_equal { IfOk result (λ list. ClonesEqual P.is_clone → contents list.items ≡ self.now.live) }
     {
         let mut list = Vec::with_capacity(self.layout.allocator(), self.layout.len())?;
         for index in 0..self.layout.len() {

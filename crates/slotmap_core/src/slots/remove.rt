@@ -29,7 +29,7 @@ impl<P, L: Layout<P>> Slots<P, L> {
         }
     }
 
-    /// Removes a live key and returns its payload, with no look-up.
+    /// Removes a live key and returns its payload, without checking its version.
     pub fn take(&mut self, key: KeyData) -> P
         requires { IsLive self.old key }
         ensures value { map.get self.old.live key ≡ Some result }

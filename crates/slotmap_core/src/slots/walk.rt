@@ -3,10 +3,11 @@
 ghost use Rattle.std.specs.Prelude.{◌≡◌, ◌≤◌, length, Some, IfSome, IfOk, ⊤};
 ghost use Rattle.std.specs.Iterator.{YieldsFirstBy, item_count, at_most, UpTo};
 ghost use Rattle.std.specs.FinMap as map;
+ghost use Rattle.slotmap_core.specs.Clones.{ClonesEqual, AreClones};
 
 use super::Slots;
 use crate::keys::KeyData;
-use crate::layout::{Columns, next_odd, version_in};
+use crate::layout::{Columns, Odds, step, version_in};
 use crate::sure::sure;
 use std::alloc::AllocError;
 use std::marker::Model;
@@ -19,6 +20,8 @@ pub struct SlotIter<'a, P> {
     payloads: &'a [Option<P>],
     // The next slot to look at.
     index: usize,
+    // What is left of the block that this slot is in.
+    odds: Odds,
     // How many payloads are left.
     left: usize,
 }
@@ -26,13 +29,14 @@ pub struct SlotIter<'a, P> {
 impl<'a, P> Model for SlotIter<'a, P> {
     ghost use Rattle.std.specs.Prelude.{List};
     ghost use Rattle.slotmap_core.specs.Key.{Key};
+    ghost use Rattle.slotmap_core.specs.Odds.{HasOdds};
     ghost use Rattle.slotmap_core.specs.Walk.{pairs_left, IsWalk};
 
     ghost Value = { List (Key × P) };
 
     ghost view = { λ it. pairs_left it.index it.versions.now it.payloads.now };
 
-    ghost invariant = { λ it. IsWalk it.versions.now it.payloads.now it.index it.left };
+    ghost invariant = { λ it. IsWalk it.versions.now it.payloads.now it.index it.left × HasOdds it.versions.now it.odds.end it.index it.odds.bits };
 }
 
 impl<'a, P> SlotIter<'a, P> {
@@ -54,6 +58,7 @@ impl<'a, P> Clone for SlotIter<'a, P> {
             versions: self.versions,
             payloads: self.payloads,
             index: self.index,
+            odds: self.odds,
             left: self.left,
         })
     }
@@ -71,7 +76,8 @@ impl<'a, P> Iterator for SlotIter<'a, P> {
         if self.left == 0 {
             return None;
         }
-        let index = next_odd(self.versions, self.index);
+        let (index, odds) = step(self.versions, self.odds, self.index);
+        self.odds = odds;
         self.index = index + 1;
         self.left -= 1;
         let version = version_in(self.versions, index);
@@ -97,6 +103,8 @@ pub struct SlotIntoIter<P> {
     payloads: Vec<Option<P>>,
     // The next slot to look at.
     index: usize,
+    // What is left of the block that this slot is in.
+    odds: Odds,
     // How many payloads are left.
     left: usize,
 }
@@ -104,13 +112,14 @@ pub struct SlotIntoIter<P> {
 impl<P> Model for SlotIntoIter<P> {
     ghost use Rattle.std.specs.Prelude.{List};
     ghost use Rattle.slotmap_core.specs.Key.{Key};
+    ghost use Rattle.slotmap_core.specs.Odds.{HasOdds};
     ghost use Rattle.slotmap_core.specs.Walk.{pairs_left, IsWalk};
 
     ghost Value = { List (Key × P) };
 
     ghost view = { λ it. pairs_left it.index it.versions.items it.payloads.items };
 
-    ghost invariant = { λ it. IsWalk it.versions.items it.payloads.items it.index it.left };
+    ghost invariant = { λ it. IsWalk it.versions.items it.payloads.items it.index it.left × HasOdds it.versions.items it.odds.end it.index it.odds.bits };
 }
 
 impl<P> SlotIntoIter<P> {
@@ -125,13 +134,14 @@ impl<P> SlotIntoIter<P> {
 impl<P: Clone> SlotIntoIter<P> {
     /// Returns a second iterator over the pairs that are left, with clones of the payloads.
     pub fn copy(&self) -> Result<Self, AllocError>
-        requires { (x y : P) → P.is_clone x y → y ≡ x }
-        ensures { IfOk result (λ copy. copy ≡ self.now) }
+        ensures clones { IfOk result (AreClones P.is_clone self.now) }
+        ensures copies_if_clones_equal { IfOk result (λ copy. ClonesEqual P.is_clone → copy ≡ self.now) }
     {
         Ok(SlotIntoIter {
             versions: self.versions.clone()?,
             payloads: self.payloads.clone()?,
             index: self.index,
+            odds: self.odds,
             left: self.left,
         })
     }
@@ -148,7 +158,8 @@ impl<P: Drop> Iterator for SlotIntoIter<P> {
         if self.left == 0 {
             return None;
         }
-        let index = next_odd(&self.versions, self.index);
+        let (index, odds) = step(&self.versions, self.odds, self.index);
+        self.odds = odds;
         self.index = index + 1;
         self.left -= 1;
         let version = self.versions[index];
@@ -176,6 +187,7 @@ impl<P> Slots<P, Columns<P>> {
             versions,
             payloads,
             index: 0,
+            odds: Odds::ahead_of(0),
             left: self.live_count as usize,
         }
     }
@@ -190,6 +202,7 @@ impl<P> Slots<P, Columns<P>> {
             versions,
             payloads,
             index: 0,
+            odds: Odds::ahead_of(0),
             left,
         }
     }

@@ -2,7 +2,8 @@ use Rattle.std.proofs.Common.{true, arith}
 use Rattle.slotmap_core.proofs.HeldLemmas.{held_valid}
 use Rattle.slotmap_core.proofs.ListReadLemmas.{records-next, records-all}
 use Rattle.slotmap_core.proofs.SlotLemmas.{stacked_walk}
-use Rattle.slotmap_core.proofs.WrittenLemmas.{writes-stack, written-contents}
+use Rattle.slotmap_core.proofs.WrittenClones.{writes_clones, clones_contents, equal_writes, equal_contents}
+use Rattle.slotmap_core.proofs.WrittenLemmas.{writes-stack}
 use Rattle.slotmap_core.proofs.slots.Slots.to_slots.Goals as goal
 
 pub loop-index-preserved : goal.loop-index-preserved
@@ -10,8 +11,15 @@ loop-index-preserved g c = grind (arith, records-next)
 
 pub returns-clause-writes : goal.returns-clause-writes
 returns-clause-writes g c =
-    let all = records-all (g.L.Layout.slots c.self.inside.layout) c.loop-index.index (omega (arith, c.loop-index-test.false, c.len-index-end.ensures)) in
-    rw (c.loop-index.invariant.written, all, ← c.self.view_is) (writes-stack _ (stacked_walk _ _ _ _ c.self.invariant.sound))
+    let slots = g.L.Layout.slots c.self.inside.layout in
+    let all = records-all slots c.loop-index.index (omega (arith, c.loop-index-test.false, c.len-index-end.ensures)) in
+    writes_clones _ true _ (held_valid _ _ _ _ _ c.self.invariant c.self.view_is) _ (rw (← c.self.view_is) (writes-stack _ (stacked_walk slots _ _ _ c.self.invariant.sound))) _ (rw all at c.loop-index.invariant.written)
 
 pub returns-clause-contents : goal.returns-clause-contents
-returns-clause-contents g c = written-contents true _ (held_valid _ _ _ _ _ c.self.invariant c.self.view_is) _ (returns-clause-writes g c)
+returns-clause-contents g c = clones_contents _ true _ _ (returns-clause-writes g c)
+
+pub returns-clause-writes_if_clones_equal : goal.returns-clause-writes_if_clones_equal
+returns-clause-writes_if_clones_equal g c = equal_writes _ true _ _ (returns-clause-writes g c)
+
+pub returns-clause-contents_if_clones_equal : goal.returns-clause-contents_if_clones_equal
+returns-clause-contents_if_clones_equal g c = equal_contents _ true _ _ (returns-clause-writes g c)

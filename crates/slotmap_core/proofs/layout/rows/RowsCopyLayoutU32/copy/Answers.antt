@@ -1,7 +1,11 @@
-use Rattle.std.proofs.Common.{length, ap, ◌∙◌, arith}
+use Rattle.std.proofs.Common.{length, refl, ap, ◌∙◌, arith}
 use Rattle.std.proofs.lemmas.List.{length-map}
 use Rattle.slotmap_core.specs.Rows.{slot_of, slots_of}
+use Rattle.slotmap_core.proofs.SlotClones.{clones-self}
 use Rattle.slotmap_core.proofs.layout.rows.RowsCopyLayoutU32.copy.Goals as goal
+
+pub returns-clause-clones : goal.returns-clause-clones
+returns-clause-clones c = rw (c.in_ok-rows.ensures.items, c.deref.ensures.value, ← c.self.view_is) (clones-self _ (λ p. refl) (slots_of c.self.inside.rows.items))
 
 pub returns-clause-room : goal.returns-clause-room
 returns-clause-room c =

@@ -1,32 +1,37 @@
-use Rattle.std.proofs.Common.{arith}
+use Rattle.std.proofs.Common.{length, ap, arith}
 use Rattle.std.proofs.lemmas.Option.{same_Some, slice_get_within}
 use Rattle.slotmap_core.proofs.ListLemmas.{same_read}
-use Rattle.slotmap_core.proofs.PairsLemmas.{Next, next_on, IsWalk-taken, left-taken}
-use Rattle.slotmap_core.proofs.slots.walk.SlotIntoIterIterator.next.Goals.{After-next_odd-index}
+use Rattle.slotmap_core.proofs.PairsLemmas.{Next, next_on, some_left, IsWalk-taken, left-taken}
+use Rattle.slotmap_core.proofs.slots.walk.SlotIntoIterIterator.next.Goals.{After-step-index}
 use Rattle.slotmap_core.proofs.slots.walk.SlotIntoIterIterator.next.Goals as goal
 
-next : (g : _) (c : After-next_odd-index g) → Next c.self.inside.versions.items c.self.inside.payloads.items c.self.inside.index c.self.inside.left c.next_odd-index.result
-next g c = next_on c.self.invariant (omega arith) c.deref.ensures.value c.next_odd-index.ensures
+next : (g : _) (c : After-step-index g) → Next c.self.inside.versions.items c.self.inside.payloads.items c.self.inside.index c.self.inside.left c.step-index.result.0
+next g c = next_on c.self.invariant.0 (omega arith) c.deref.ensures.value c.step-index.ensures.next
+
+pub step-index-requires-clause-some : goal.step-index-requires-clause-some
+step-index-requires-clause-some g c = some_left c.self.invariant.0 (omega arith) c.deref.ensures.value (omega (arith, c.self.invariant.1.within, ap length c.deref.ensures.value))
 
 pub index-version-requires : goal.index-version-requires
-index-version-requires g c = grind (arith, next g (goal.at.index-version-requires g c).After-next_odd-index, slice_get_within)
+index-version-requires g c = grind (arith, next g (goal.at.index-version-requires g c).After-step-index, slice_get_within)
 
 pub exact-key-requires : goal.exact-key-requires
 exact-key-requires g c =
-    let n = next g (goal.at.exact-key-requires g c).After-next_odd-index in n.is_key _
-    (same_read c.self.inside.versions.items c.next_odd-index.result _ _ c.index-version.ensures n.version_there) c.type_inv.version.fits
+    let n = next g (goal.at.exact-key-requires g c).After-step-index in n.is_key _
+    (same_read c.self.inside.versions.items c.step-index.result.0 _ _ c.index-version.ensures n.version_there) c.type_inv.version.fits
 
 pub index_mut-requires : goal.index_mut-requires
-index_mut-requires g c = grind (arith, next g (goal.at.index_mut-requires g c).After-next_odd-index, slice_get_within)
+index_mut-requires g c = grind (arith, next g (goal.at.index_mut-requires g c).After-step-index, slice_get_within)
 
 pub sure-payload-requires : goal.sure-payload-requires
-sure-payload-requires g c = grind (arith, next g (goal.at.sure-payload-requires g c).After-next_odd-index, same_read)
+sure-payload-requires g c = grind (arith, next g (goal.at.sure-payload-requires g c).After-step-index, same_read)
 
 pub invariant_of-self : goal.invariant_of-self
-invariant_of-self g c = IsWalk-taken _ _ _ _ _ (next g (goal.at.invariant_of-self g c).After-next_odd-index).walk_on
+invariant_of-self g c =
+    let n = next g (goal.at.invariant_of-self g c).After-step-index in
+    (IsWalk-taken _ _ _ _ _ n.walk_on, rw c.deref.ensures.value at c.step-index.ensures.odds)
 
 pub returns-clause-steps : goal.returns-clause-steps
-returns-clause-steps g c = grind (arith, next g (goal.at.returns-clause-steps g c).After-next_odd-index, same_read, same_Some, left-taken)
+returns-clause-steps g c = grind (arith, next g (goal.at.returns-clause-steps g c).After-step-index, same_read, same_Some, left-taken)
 
 pub returns-clause-goes : goal.returns-clause-goes
 returns-clause-goes g c = grind (arith, returns-clause-steps)

@@ -1,6 +1,6 @@
 use Rattle.std.proofs.Common.{◌≤◌, ◌-◌, length}
 use Rattle.slotmap_core.specs.Columns.{AllEven}
-use Rattle.slotmap_core.proofs.layout.columns.search_odd.Given as goal
+use Rattle.slotmap_core.proofs.layout.odds.search_odd.Given as goal
 
 -- only even versions were skipped
 abbrev pub invariant-loop-index : goal.invariant-loop-index

@@ -1,9 +1,6 @@
-use Rattle.std.proofs.Common.{◌≡◌, ◌≤◌, ◌+◌, ◌-◌, length}
+use Rattle.std.proofs.Common.{◌-◌, ◌≤◌, length}
 use Rattle.slotmap_core.specs.Columns.{AllEven}
-use Rattle.slotmap_core.proofs.layout.columns.skip_even.Given as goal
-
-abbrev pub invariant-loop-i : goal.invariant-loop-i
-invariant-loop-i l = (l.odd ≤ l.i) × (l.odd ≡ 0 → AllEven l.versions l.at (l.at + l.i))
+use Rattle.slotmap_core.proofs.layout.odds.next_block.Given as goal
 
 abbrev pub invariant-loop-at : goal.invariant-loop-at
 invariant-loop-at l = (l.start ≤ l.at) × ((l.at ≤ length l.versions) × AllEven l.versions l.start l.at)
