@@ -11,6 +11,6 @@ module _ (K V : RattleType) (m : MutBor (Content V.Denot)) (k : Key) where
   abbrev pub lends_value : MutBor V.Denot → Fml
   lends_value r = Lends (the_row K V) V m r (with_value m.now k)
 
-  -- the same for an optional reference; at `None` the map stays as it is
+  -- the same for an optional reference; at `None` the map is unchanged
   abbrev pub lends_get : Option (MutBor V.Denot) → Fml
   lends_get r = LendsIf (the_row K V) V m r (with_value m.now k) m.now

@@ -51,7 +51,7 @@ impl<K: Key, V: Drop> SlotMap<K, V> {
         self.slots.get(key.data())
     }
 
-    /// Returns the value of a key that is live, with no look-up.
+    /// Returns the value of a live key, without checking its version.
     ///
     /// The contract requires that the key is live. So this call is safe; Rust's is `unsafe`.
     /// Constant time.
@@ -90,7 +90,7 @@ impl<K: Key, V: Drop> SlotMap<K, V> {
         }
     }
 
-    /// Returns a mutable reference to the value of a key that is live, with no look-up.
+    /// Returns a mutable reference to the value of a live key, without checking its version.
     ///
     /// The contract requires that the key is live. So this call is safe; Rust's is `unsafe`.
     /// Constant time.
@@ -197,7 +197,7 @@ impl<K: Key, V: Drop> Index<K> for SlotMap<K, V> {
 
     ghost index_gives = { λ m key value. map.get m.live (K.data_of key) ≡ Some value };
 
-    /// Returns the value of a key that is live, with no look-up.
+    /// Returns the value of a live key, without checking its version.
     ///
     /// The contract requires that the key is live; in Rust any other key panics. Constant time.
     ///
@@ -212,7 +212,7 @@ impl<K: Key, V: Drop> Index<K> for SlotMap<K, V> {
 impl<K: Key, V: Drop> IndexMut<K> for SlotMap<K, V> {
     ghost use Rattle.slotmap_basic.specs.Lends.{lends_value};
 
-    /// Returns a mutable reference to the value of a key that is live, with no look-up.
+    /// Returns a mutable reference to the value of a live key, without checking its version.
     ///
     /// The contract requires that the key is live; in Rust any other key panics. Constant time.
     ///

@@ -1,8 +1,9 @@
 //! Copies of a map.
 
 ghost use Rattle.std.specs.Prelude.{◌≡◌, true, IfOk, OnOk, OnErr};
+ghost use Rattle.slotmap_core.specs.Clones.{ClonesEqual};
 ghost use Rattle.slotmap_core.specs.Content.{IsContent};
-ghost use Rattle.slotmap_core.specs.Copy.{IsCopy};
+ghost use Rattle.slotmap_core.specs.Copy.{IsCopy, IsCloneBy};
 
 use crate::SlotMap;
 use slotmap_core::keys::Key;
@@ -14,8 +15,8 @@ impl<K: Key, V: Clone> SlotMap<K, V> {
     /// The same keys are live, the same keys are detached, and both maps will return the same new
     /// keys. The copy has room for the keys of the vacant slots, and perhaps for no more.
     ///
-    /// The contract requires that a clone of a value equals the value. The trait `Clone` can't
-    /// require that, so this is a method and not an impl of `Clone`.
+    /// Each value is a clone by the `is_clone` of its type. Where clones equal their values, the copy
+    /// equals the map, except for its room and its capacity.
     ///
     /// If memory runs out, the call fails, and what was copied is dropped. Linear in the number of
     /// slots.
@@ -27,8 +28,8 @@ impl<K: Key, V: Clone> SlotMap<K, V> {
     /// assert_eq!(rt; map.get(a), Some(&1));
     /// ```
     pub fn clone(&self) -> Result<Self, AllocError>
-        requires { (x y : V) → V.is_clone x y → y ≡ x }
-        ensures copies { IfOk result (IsCopy self.now) }
+        ensures clones { IfOk result (IsCloneBy V.is_clone self.now) }
+        ensures copies_if_clones_equal { IfOk result (λ copy. ClonesEqual V.is_clone → IsCopy self.now copy) }
         ensures valid { IfOk result (IsContent true) }
     {
         Ok(SlotMap::over(self.slots.copy()?))
@@ -49,12 +50,20 @@ impl<K: Key, V: Clone> SlotMap<K, V> {
     pub fn clone_from(&mut self, source: &Self) -> Result<(), AllocError>
     where
         V: Drop,
-        requires { (x y : V) → V.is_clone x y → y ≡ x }
-        ensures copies { OnOk result (IsCopy source.now self.new) }
+        ensures clones { OnOk result (IsCloneBy V.is_clone source.now self.new) }
+        ensures copies_if_clones_equal { OnOk result (ClonesEqual V.is_clone → IsCopy source.now self.new) }
         ensures unchanged { OnErr result (self.new ≡ self.old) }
         ensures valid { OnOk result (IsContent true self.new) }
     {
         *self = source.clone()?;
         Ok(())
+    }
+}
+
+impl<K: Key, V: Clone> Clone for SlotMap<K, V> {
+    ghost is_clone = { λ m copy. IsCloneBy V.is_clone m copy };
+
+    fn clone(&self) -> Result<Self, AllocError> {
+        SlotMap::clone(self)
     }
 }

@@ -2,6 +2,7 @@
 
 ghost use Rattle.std.specs.Prelude.{◌≡◌, ◌≤◌, length, Some, IfSome, IfOk};
 ghost use Rattle.std.specs.Iterator.{YieldsFirstBy, item_count, at_most, UpTo};
+ghost use Rattle.slotmap_core.specs.Clones.{ClonesEqual, AreClones};
 ghost use Rattle.slotmap_core.specs.Listing.{ListsByIndex};
 
 use crate::SlotMap;
@@ -59,8 +60,8 @@ impl<K, V> IntoIter<K, V> {
 impl<K, V: Clone> IntoIter<K, V> {
     /// Returns a second iterator over the pairs that are left, with clones of the values.
     ///
-    /// The contract requires that a clone of a value equals the value. If memory runs out, the call
-    /// fails, and this iterator stays as it is. Linear in the number of slots of the map.
+    /// If memory runs out, the call fails, and this iterator is unchanged. Linear in the number of
+    /// slots of the map.
     ///
     /// ```
     /// let pairs = map.into_iter();
@@ -69,13 +70,21 @@ impl<K, V: Clone> IntoIter<K, V> {
     /// assert_eq!(rt; pairs.len(), 2);
     /// ```
     pub fn clone(&self) -> Result<Self, AllocError>
-        requires { (x y : V) → V.is_clone x y → y ≡ x }
-        ensures { IfOk result (λ copy. copy ≡ self.now) }
+        ensures clones { IfOk result (AreClones V.is_clone self.now) }
+        ensures copies_if_clones_equal { IfOk result (λ copy. ClonesEqual V.is_clone → copy ≡ self.now) }
     {
         Ok(IntoIter {
             pairs: self.pairs.copy()?,
             key_type: PhantomData,
         })
+    }
+}
+
+impl<K, V: Clone> Clone for IntoIter<K, V> {
+    ghost is_clone = { λ it copy. AreClones V.is_clone it copy };
+
+    fn clone(&self) -> Result<Self, AllocError> {
+        IntoIter::clone(self)
     }
 }
 

@@ -1,11 +1,14 @@
 //! Lists of slots: a map written out, and a map read back.
 
 ghost use Rattle.std.specs.Prelude.{◌≡◌, IfOk, IsOk, IfErr, true, Some};
+ghost use Rattle.std.specs.FinMap as map;
+ghost use Rattle.slotmap_core.specs.Clones.{ClonesEqual, IsCloneOf};
 ghost use Rattle.slotmap_core.specs.Content.{IsContent};
 ghost use Rattle.slotmap_core.specs.Contents.{contents, start_stack};
+ghost use Rattle.slotmap_core.specs.Key.{Key as KeyOf};
 ghost use Rattle.slotmap_core.specs.ListRead.{ReadsAs};
 ghost use Rattle.slotmap_core.specs.Slots.{Accepts, RefusesStart};
-ghost use Rattle.slotmap_core.specs.Written.{Writes};
+ghost use Rattle.slotmap_core.specs.Written.{Writes, WritesClones};
 
 use crate::SlotMap;
 use slotmap_core::errors::{OutOfMemory, SlotsError};
@@ -34,10 +37,14 @@ impl<K: Key, V: Drop> SlotMap<K, V> {
     pub fn to_slots(&self) -> Result<Vec<SlotRecord<V>>, OutOfMemory>
     where
         V: Clone,
-        // A clone has to equal its value.
-        requires { (x y : V) → V.is_clone x y → y ≡ x }
-        ensures writes { IfOk result (λ slots. Writes self.now slots.items) }
-        ensures contents { IfOk result (λ slots. contents slots.items ≡ self.now.live) }
+        // The list is that of a copy, and has a clone under each live key.
+        ensures writes { IfOk result (λ slots. WritesClones V.is_clone true self.now slots.items) }
+        ensures contents { IfOk result (λ slots. (k : KeyOf) → IsCloneOf V.is_clone (map.get self.now.live k) (map.get (contents slots.items) k)) }
+
+        // Where clones equal their values, it is the map's own list.
+        ensures writes_if_clones_equal { IfOk result (λ slots. ClonesEqual V.is_clone → Writes self.now slots.items) }
+        ensures contents_if_clones_equal { IfOk result (λ slots. ClonesEqual V.is_clone → contents slots.items ≡ self.now.live) }
+
         ensures valid { IsContent true self.now }
     {
         self.slots.note_valid();

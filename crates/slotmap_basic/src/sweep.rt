@@ -1,4 +1,4 @@
-//! The calls that go over all live keys of a map, by ascending index.
+//! The calls that visit all live keys of a map, by ascending index.
 
 ghost use Rattle.std.specs.Prelude.{◌≡◌, ◌++◌, OnOk, OnErr, true, List, map as list_map};
 ghost use Rattle.std.specs.FinMap as map;

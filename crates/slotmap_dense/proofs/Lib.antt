@@ -10,6 +10,7 @@ pub mod RestLemmas
 pub mod DrainLemmas
 pub mod RetainLemmas
 pub mod PassLemmas
+pub mod CloneLemmas
 pub mod ListSlots
 pub mod OrderLemmas
 pub mod ListReads

@@ -2,7 +2,7 @@
 use Rattle.std.specs.Prelude.{◌≡◌, ℕ, refl, false, List, [], ◌∷◌, ◌++◌, length, Option, None, Some, reverse, slice_get, take, drop, if◌then◌else◌}
 use Rattle.std.specs.Option.{option_map}
 use Rattle.std.specs.FinMap as map
-use Rattle.std.specs.List.{zip, swap_remove}
+use Rattle.std.specs.List.{AllZip, zip, swap_remove}
 use Rattle.std.specs.Ordering.{eq_by_cmp}
 use Rattle.std.specs.Coded.{Coded, code_by, coded×, coded_list}
 use Rattle.slotmap_core.specs.Key.{Key, key_cmp, coded_key}
@@ -47,12 +47,17 @@ module _ {V : Type 0} where
     pub keys : new.keys ≡ old.keys
     pub values : new.values ≡ old.values
 
+  -- the same keys in the same packed order, each with a clone of its value
+  pub record ClonesInOrder (is_clone : V → V → Type 0) (old new : Dense V) : Type 0 where
+    pub keys : new.keys ≡ old.keys
+    pub values : AllZip is_clone old.values new.values
+
   -- the key k and its value v are appended
   pub record Appends (old : Dense V) (k : Key) (v : V) (new : Dense V) : Type 0 where
     pub keys : new.keys ≡ old.keys ++ k ∷ []
     pub values : new.values ≡ old.values ++ v ∷ []
 
-  -- the key k and its value v are gone; the last key and its value have moved to their position
+  -- the key k and its value v are removed; the last key and its value have moved to their position
   pub record ClosesGap (old : Dense V) (k : Key) (v : V) (new : Dense V) : Type 0 where
     pub position : ℕ
     pub stood : slice_get old.keys position ≡ Some k

@@ -34,7 +34,7 @@ module _ (K V : RattleType) (key : KeyMembers K.Denot) where
     abbrev pub lends_value : MutBor V.Denot → Fml
     lends_value r = Lends map_row V m r (with_value_of m.now k)
 
-    -- the same for an optional reference; at `None` the map stays as it is
+    -- the same for an optional reference; at `None` the map is unchanged
     abbrev pub lends_get : Option (MutBor V.Denot) → Fml
     lends_get r = LendsIf map_row V m r (with_value_of m.now k) m.now
 

@@ -71,7 +71,7 @@ impl<K: Key, V: Drop> DenseSlotMap<K, V> {
         Some(&self.values[position as usize])
     }
 
-    /// Returns the value of a key that is live, with no look-up.
+    /// Returns the value of a live key, without checking its version.
     ///
     /// The contract requires that the key is live. So this call is safe; Rust's is `unsafe`.
     /// Constant time.
@@ -111,7 +111,7 @@ impl<K: Key, V: Drop> DenseSlotMap<K, V> {
         }
     }
 
-    /// Returns a mutable reference to the value of a key that is live, with no look-up.
+    /// Returns a mutable reference to the value of a live key, without checking its version.
     ///
     /// The contract requires that the key is live. So this call is safe; Rust's is `unsafe`.
     /// Constant time.
@@ -290,7 +290,7 @@ impl<K: Key, V: Drop> Index<K> for DenseSlotMap<K, V> {
 
     ghost index_gives = { λ m key value. map.get m.content.live (K.data_of key) ≡ Some value };
 
-    /// Returns the value of a key that is live, with no look-up.
+    /// Returns the value of a live key, without checking its version.
     ///
     /// The contract requires that the key is live; in Rust any other key panics. Constant time.
     ///
@@ -305,7 +305,7 @@ impl<K: Key, V: Drop> Index<K> for DenseSlotMap<K, V> {
 impl<K: Key, V: Drop> IndexMut<K> for DenseSlotMap<K, V> {
     ghost use Rattle.slotmap_dense.specs.Lends.{lends_value};
 
-    /// Returns a mutable reference to the value of a key that is live, with no look-up.
+    /// Returns a mutable reference to the value of a live key, without checking its version.
     ///
     /// The contract requires that the key is live; in Rust any other key panics. Constant time.
     ///

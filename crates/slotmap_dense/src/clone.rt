@@ -1,8 +1,9 @@
 //! Copies of a map.
 
 ghost use Rattle.std.specs.Prelude.{◌≡◌, IfOk, OnOk, OnErr};
-ghost use Rattle.slotmap_core.specs.Copy.{IsCopy};
-ghost use Rattle.slotmap_dense.specs.Dense.{IsDense, SameOrder};
+ghost use Rattle.slotmap_core.specs.Clones.{ClonesEqual};
+ghost use Rattle.slotmap_core.specs.Copy.{IsCopy, IsCloneBy};
+ghost use Rattle.slotmap_dense.specs.Dense.{IsDense, SameOrder, ClonesInOrder};
 
 use crate::DenseSlotMap;
 use slotmap_core::keys::Key;
@@ -15,8 +16,8 @@ impl<K: Key, V: Clone> DenseSlotMap<K, V> {
     /// will return the same new keys. The copy has room for what the map holds, and perhaps for no
     /// more.
     ///
-    /// The contract requires that a clone of a value equals the value. The trait `Clone` can't
-    /// require that, so this is a method and not an impl of `Clone`.
+    /// Each value is a clone by the `is_clone` of its type. Where clones equal their values, the copy
+    /// equals the map, except for its room and its capacity.
     ///
     /// If memory runs out, the call fails, and what was copied is dropped. Linear in the number of
     /// slots.
@@ -28,9 +29,13 @@ impl<K: Key, V: Clone> DenseSlotMap<K, V> {
     /// assert_eq!(rt; map.get(a), Some(&1));
     /// ```
     pub fn clone(&self) -> Result<Self, AllocError>
-        requires { (x y : V) → V.is_clone x y → y ≡ x }
-        ensures copies { IfOk result (λ copy. IsCopy self.now.content copy.content) }
-        ensures order { IfOk result (SameOrder self.now) }
+        ensures clones { IfOk result (λ copy. IsCloneBy V.is_clone self.now.content copy.content) }
+        ensures order { IfOk result (ClonesInOrder V.is_clone self.now) }
+
+        // Where clones equal their values.
+        ensures copies_if_clones_equal { IfOk result (λ copy. ClonesEqual V.is_clone → IsCopy self.now.content copy.content) }
+        ensures order_if_clones_equal { IfOk result (λ copy. ClonesEqual V.is_clone → SameOrder self.now copy) }
+
         ensures valid { IfOk result IsDense }
     {
         Ok(DenseSlotMap {
@@ -55,13 +60,25 @@ impl<K: Key, V: Clone> DenseSlotMap<K, V> {
     pub fn clone_from(&mut self, source: &Self) -> Result<(), AllocError>
     where
         V: Drop,
-        requires { (x y : V) → V.is_clone x y → y ≡ x }
-        ensures copies { OnOk result (IsCopy source.now.content self.new.content) }
-        ensures order { OnOk result (SameOrder source.now self.new) }
+        ensures clones { OnOk result (IsCloneBy V.is_clone source.now.content self.new.content) }
+        ensures order { OnOk result (ClonesInOrder V.is_clone source.now self.new) }
+
+        // Where clones equal their values.
+        ensures copies_if_clones_equal { OnOk result (ClonesEqual V.is_clone → IsCopy source.now.content self.new.content) }
+        ensures order_if_clones_equal { OnOk result (ClonesEqual V.is_clone → SameOrder source.now self.new) }
+
         ensures unchanged { OnErr result (self.new ≡ self.old) }
         ensures valid { OnOk result (IsDense self.new) }
     {
         *self = source.clone()?;
         Ok(())
+    }
+}
+
+impl<K: Key, V: Clone> Clone for DenseSlotMap<K, V> {
+    ghost is_clone = { λ m copy. IsCloneBy V.is_clone m.content copy.content × ClonesInOrder V.is_clone m copy };
+
+    fn clone(&self) -> Result<Self, AllocError> {
+        DenseSlotMap::clone(self)
     }
 }

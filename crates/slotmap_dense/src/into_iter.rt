@@ -2,6 +2,7 @@
 
 ghost use Rattle.std.specs.Prelude.{◌≡◌, ◌≤◌, length, Some, IfSome, IfOk};
 ghost use Rattle.std.specs.Iterator.{YieldsFirstBy, item_count, at_most, UpTo};
+ghost use Rattle.slotmap_core.specs.Clones.{ClonesEqual, AreClones};
 ghost use Rattle.slotmap_dense.specs.Dense.{ListsPairs};
 
 use crate::DenseSlotMap;
@@ -65,9 +66,8 @@ impl<K: Key, V> IntoIter<K, V> {
 impl<K: Key, V: Clone> IntoIter<K, V> {
     /// Returns a second iterator over the pairs that are left, with clones of the values.
     ///
-    /// The contract requires that a clone of a value equals the value. If memory runs out, the call
-    /// fails, and this iterator stays as it is. It copies every key of the map, and clones the
-    /// values that are left.
+    /// If memory runs out, the call fails, and this iterator is unchanged. It copies every key of
+    /// the map, and clones the values that are left.
     ///
     /// ```
     /// let pairs = map.into_iter();
@@ -76,14 +76,22 @@ impl<K: Key, V: Clone> IntoIter<K, V> {
     /// assert_eq!(rt; pairs.len(), 2);
     /// ```
     pub fn clone(&self) -> Result<Self, AllocError>
-        requires { (x y : V) → V.is_clone x y → y ≡ x }
-        ensures { IfOk result (λ copy. copy ≡ self.now) }
+        ensures clones { IfOk result (AreClones V.is_clone self.now) }
+        ensures copies_if_clones_equal { IfOk result (λ copy. ClonesEqual V.is_clone → copy ≡ self.now) }
     {
         Ok(IntoIter {
             keys: self.keys.clone()?,
             position: self.position,
             values: self.values.clone()?,
         })
+    }
+}
+
+impl<K: Key, V: Clone> Clone for IntoIter<K, V> {
+    ghost is_clone = { λ it copy. AreClones V.is_clone it copy };
+
+    fn clone(&self) -> Result<Self, AllocError> {
+        IntoIter::clone(self)
     }
 }
 

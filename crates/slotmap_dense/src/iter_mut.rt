@@ -148,7 +148,7 @@ impl<K: Key, V: Drop> DenseSlotMap<K, V> {
     /// order.
     ///
     /// Once the iterator ends, each key has the last value written through its reference. All else
-    /// is as before. It is made in constant time and allocates nothing.
+    /// is unchanged. It is made in constant time and allocates nothing.
     ///
     /// ```
     /// for (_, value) in map.iter_mut() {

@@ -58,7 +58,7 @@ use std::marker::Model;
 ///
 /// The live keys are in one list, and their values are at the same positions in another list. This
 /// is the packed order. An insert appends to both lists. A removal moves the last pair to the
-/// position of the removed one. Iterators read these two lists alone, so vacant slots cost them
+/// position of the removed one. Iterators read only these two lists, so vacant slots cost them
 /// nothing.
 ///
 /// A live key can be detached: its value is taken out, and its slot is kept until `reattach` binds

@@ -1,4 +1,4 @@
-//! The calls that go over all live keys of a map.
+//! The calls that visit all live keys of a map.
 
 ghost use Rattle.std.specs.Prelude.{◌≡◌, ◌<◌, ◌≤◌, ◌+◌, ◌++◌, ◌∷◌, [], IfSome, IfNone, OnOk, OnErr, Some, List, map as list_map, length, slice_get, reverse};
 ghost use Rattle.std.specs.FinMap as map;

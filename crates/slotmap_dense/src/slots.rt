@@ -2,10 +2,12 @@
 
 ghost use Rattle.std.specs.Prelude.{◌≡◌, ◌<◌, ◌^◌, IfOk, IsOk, IfErr, IfSome, Some, false, length};
 ghost use Rattle.std.specs.FinMap as map;
+ghost use Rattle.slotmap_core.specs.Clones.{ClonesEqual, IsCloneOf};
 ghost use Rattle.slotmap_core.specs.Contents.{contents, start_stack};
+ghost use Rattle.slotmap_core.specs.Key.{Key as KeyOf};
 ghost use Rattle.slotmap_core.specs.ListRead.{ReadsAs};
 ghost use Rattle.slotmap_core.specs.Slots.{Accepts, RefusesStart};
-ghost use Rattle.slotmap_core.specs.Written.{Writes};
+ghost use Rattle.slotmap_core.specs.Written.{Writes, WritesClones, IsRecordClone};
 ghost use Rattle.slotmap_dense.specs.Dense.{IsDense};
 ghost use Rattle.slotmap_dense.specs.Packed.{filled};
 
@@ -19,9 +21,8 @@ use std::alloc::Global;
 
 // The record of a slot, with a clone of the value at its position.
 fn record_of<V: Clone>(values: &[V], slot: &SlotRecord<u32>) -> Result<SlotRecord<V>, OutOfMemory>
-    requires clones { (x y : V) → V.is_clone x y → y ≡ x }
-    requires within { IfSome slot.now.value (λ i. i < length values.now) }
-    ensures { IfOk result (λ made. made ≡ filled values.now slot.now) }
+    requires { IfSome slot.now.value (λ i. i < length values.now) }
+    ensures { IfOk result (IsRecordClone V.is_clone (filled values.now slot.now)) }
 {
     let value = match slot.value {
         Some(position) => Some(values[position as usize].clone()?),
@@ -53,10 +54,14 @@ impl<K: Key, V: Drop> DenseSlotMap<K, V> {
     pub fn to_slots(&self) -> Result<Vec<SlotRecord<V>>, OutOfMemory>
     where
         V: Clone,
-        // A clone has to equal its value.
-        requires { (x y : V) → V.is_clone x y → y ≡ x }
-        ensures writes { IfOk result (λ list. Writes self.now.content list.items) }
-        ensures contents { IfOk result (λ list. contents list.items ≡ self.now.content.live) }
+        // The list is that of a copy, and has a clone under each live key.
+        ensures writes { IfOk result (λ list. WritesClones V.is_clone false self.now.content list.items) }
+        ensures contents { IfOk result (λ list. (k : KeyOf) → IsCloneOf V.is_clone (map.get self.now.content.live k) (map.get (contents list.items) k)) }
+
+        // Where clones equal their values, it is the map's own list.
+        ensures writes_if_clones_equal { IfOk result (λ list. ClonesEqual V.is_clone → Writes self.now.content list.items) }
+        ensures contents_if_clones_equal { IfOk result (λ list. ClonesEqual V.is_clone → contents list.items ≡ self.now.content.live) }
+
         ensures valid { IsDense self.now }
     {
         self.note_valid();

@@ -1,29 +1,57 @@
-use Rattle.std.proofs.Common.{◌≡◌, ◌<◌, false, length, map as list_map, min, vec_capacity, refl, ap, ◌∙◌, arith}
-use Rattle.std.proofs.lemmas.List.{take_all}
-use Rattle.std.proofs.lemmas.Option.{slice_get_read}
-use Rattle.slotmap_core.proofs.WrittenLemmas.{written-contents}
+use Rattle.std.proofs.Common.{◌≡◌, ◌<◌, false, length, take, map as list_map, slice_get, Some, option_map, min, vec_capacity, refl, ap, ◌∙◌, arith}
+use Rattle.std.proofs.lemmas.List.{take_all, length-map}
+use Rattle.std.proofs.lemmas.Option.{slice_get_read, slice_get-map}
+use Rattle.slotmap_core.specs.Written.{Writes, IsRecordClone}
+use Rattle.slotmap_core.proofs.ListLemmas.{zip_next}
+use Rattle.slotmap_core.proofs.WrittenClones.{writes_clones, clones_contents, equal_writes, equal_contents}
 use Rattle.slotmap_dense.specs.Packed.{filled}
 use Rattle.slotmap_dense.proofs.ListSlots.{position_within, writes-filled}
 use Rattle.slotmap_dense.proofs.Held.{well_formed}
+use Rattle.slotmap_dense.proofs.DenseSlotMap.to_slots.Goals.{In_ok-positions}
 use Rattle.slotmap_dense.proofs.DenseSlotMap.to_slots.Goals as goal
 
-pub record_of-requires-clause-within : goal.record_of-requires-clause-within
-record_of-requires-clause-within g c =
+-- the list of positions is that of the slots
+positions_written : (g : _) (c : In_ok-positions g) → Writes c.self.inside.slots c.in_ok-positions.positions.items
+positions_written g c = c.in_ok-positions.ensures.writes_if_clones_equal (λ x y r. r)
+
+pub record_of-requires : goal.record_of-requires
+record_of-requires g c =
     let m = c.self.inside in
     let list = c.in_ok-positions.positions in
     let within : c.loop-index.index < length list.items = omega (arith, c.loop-index-test.true, c.len-index-end.ensures, list.ok.0) in
-    rw (c.deref.ensures.value) (position_within m.slots _ m.values.items c.self.invariant list.items c.in_ok-positions.ensures.writes c.loop-index.index
+    rw (c.deref.ensures.value) (position_within m.slots _ m.values.items c.self.invariant list.items (positions_written g (goal.at.record_of-requires g c).In_ok-positions) c.loop-index.index
     _ (slice_get_read list.items _ c.loop-index.index _ refl within c.index.ensures))
+
+pub loop-index-preserved : goal.loop-index-preserved
+loop-index-preserved g c =
+    let list = c.in_ok-positions.positions in
+    let i = c.loop-index.index in
+    let values = c.self.inside.values.items in
+    let within : i < length list.items = omega (arith, c.loop-index-test.true, c.len-index-end.ensures, list.ok.0) in
+    let found : slice_get (list_map (filled values) list.items) i ≡ Some (filled values c.index.result.now) =
+    slice_get-map (filled values) list.items i ∙ ap (option_map (filled values)) (slice_get_read list.items _ i _ refl within c.index.ensures) in
+    let made : IsRecordClone g.V.Clone.is_clone (filled values c.index.result.now) c.in_ok-record_of.field-0 = rw c.deref.ensures.value at c.in_ok-record_of.ensures in
+    record {
+      written = rw (c.push_reserved.ensures.items) (zip_next (IsRecordClone g.V.Clone.is_clone) _ _ i _ _ c.loop-index.invariant.written found made);
+      room = omega (arith, c.loop-index.invariant.room, c.push_reserved.ensures.len, c.push_reserved.ensures.capacity);
+    }
 
 pub returns-clause-writes : goal.returns-clause-writes
 returns-clause-writes g c =
     let m = c.self.inside in
     let list = c.in_ok-positions.positions in
-    let all = take_all c.loop-index.index list.items (omega (arith, c.loop-index-test.false, c.len-index-end.ensures, list.ok.0)) in
-    let is : c.loop-index.list.items ≡ list_map (filled m.values.items) list.items = c.loop-index.invariant.written ∙ ap (list_map (filled m.values.items)) all in
-    rw (is, ← c.self.view_is) (writes-filled m.slots (list_map g.K.Key.data_of m.keys.items) m.values.items c.self.invariant list.items
-    c.in_ok-positions.ensures.writes (min (vec_capacity m.keys) (vec_capacity m.values)))
+    let records = list_map (filled m.values.items) list.items in
+    let all : take c.loop-index.index records ≡ records = take_all c.loop-index.index records (omega (arith, c.loop-index-test.false, c.len-index-end.ensures, list.ok.0, length-map list.items (filled m.values.items))) in
+    let valid = well_formed _ c.self.inside c.self.view_is c.self.invariant in
+    let writes = writes-filled m.slots (list_map g.K.Key.data_of m.keys.items) m.values.items c.self.invariant list.items
+    (positions_written g (goal.at.returns-clause-writes g c).In_ok-positions) (min (vec_capacity m.keys) (vec_capacity m.values)) in
+    writes_clones _ false _ valid.content _ (rw (← c.self.view_is) writes) _ (rw all at c.loop-index.invariant.written)
 
 pub returns-clause-contents : goal.returns-clause-contents
-returns-clause-contents g c =
-    let valid = well_formed _ c.self.inside c.self.view_is c.self.invariant in written-contents false _ valid.content _ (returns-clause-writes g c)
+returns-clause-contents g c = clones_contents _ false _ _ (returns-clause-writes g c)
+
+pub returns-clause-writes_if_clones_equal : goal.returns-clause-writes_if_clones_equal
+returns-clause-writes_if_clones_equal g c = equal_writes _ false _ _ (returns-clause-writes g c)
+
+pub returns-clause-contents_if_clones_equal : goal.returns-clause-contents_if_clones_equal
+returns-clause-contents_if_clones_equal g c = equal_contents _ false _ _ (returns-clause-writes g c)
