@@ -18,6 +18,7 @@ pub mod Held
 pub mod RoomLemmas
 pub mod Walking
 pub mod Iterators
+pub mod CloneLemmas
 pub mod Sweeping
 pub mod Retaining
 pub mod ReadLemmas

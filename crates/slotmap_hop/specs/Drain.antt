@@ -23,7 +23,7 @@ module _ {K V : Type 0} where
   drain_live d = d.map.now.content.live
 
   module _ (data_of : K → Key) where
-    -- the key that comes next is the live key of the smallest index
+    -- the next key is the live key of the smallest index
     abbrev pub DrainCanStep : Drain K V → Type 0
     DrainCanStep d = IsHopContent d.map.now × IsNextLive data_of d.map.now.content 0 d.next
 

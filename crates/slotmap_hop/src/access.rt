@@ -76,7 +76,7 @@ impl<K: Key, V: Drop> HopSlotMap<K, V> {
         }
     }
 
-    /// Returns the value of a key that is live, with no look-up.
+    /// Returns the value of a live key, without checking its version.
     ///
     /// The contract requires that the key is live. So this call is safe; Rust's is `unsafe`.
     /// Constant time.
@@ -123,7 +123,7 @@ impl<K: Key, V: Drop> HopSlotMap<K, V> {
         }
     }
 
-    /// Returns a mutable reference to the value of a key that is live, with no look-up.
+    /// Returns a mutable reference to the value of a live key, without checking its version.
     ///
     /// The contract requires that the key is live. So this call is safe; Rust's is `unsafe`.
     /// Constant time.
@@ -238,7 +238,7 @@ impl<K: Key, V: Drop> Index<K> for HopSlotMap<K, V> {
 
     ghost index_gives = { λ m key value. map.get m.content.live (K.data_of key) ≡ Some value };
 
-    /// Returns the value of a key that is live, with no look-up.
+    /// Returns the value of a live key, without checking its version.
     ///
     /// The contract requires that the key is live; in Rust any other key panics. Constant time.
     ///
@@ -253,7 +253,7 @@ impl<K: Key, V: Drop> Index<K> for HopSlotMap<K, V> {
 impl<K: Key, V: Drop> IndexMut<K> for HopSlotMap<K, V> {
     ghost use Rattle.slotmap_hop.specs.Lends.{lends_value};
 
-    /// Returns a mutable reference to the value of a key that is live, with no look-up.
+    /// Returns a mutable reference to the value of a live key, without checking its version.
     ///
     /// The contract requires that the key is live; in Rust any other key panics. Constant time.
     ///

@@ -1,8 +1,10 @@
 //! Copies of a map.
 
 ghost use Rattle.std.specs.Prelude.{◌≡◌, IfOk, OnOk, OnErr};
-ghost use Rattle.slotmap_core.specs.Copy.{IsCopy};
+ghost use Rattle.slotmap_core.specs.Clones.{ClonesEqual};
+ghost use Rattle.slotmap_core.specs.Copy.{IsCopy, IsCloneBy};
 ghost use Rattle.slotmap_hop.specs.HopContent.{IsHopContent};
+ghost use Rattle.slotmap_hop.specs.Slots.{IsSlotClone, AreSlotClones};
 
 use crate::HopSlotMap;
 use crate::links::{Slot, State};
@@ -12,8 +14,7 @@ use std::marker::PhantomData;
 
 // A slot with a clone of its value.
 fn clone_slot<V: Clone>(slot: &Slot<V>) -> Result<Slot<V>, AllocError>
-    requires { (x y : V) → V.is_clone x y → y ≡ x }
-    ensures { IfOk result (λ copy. copy ≡ slot.now) }
+    ensures { IfOk result (IsSlotClone V.is_clone slot.now) }
 {
     let state = match &slot.state {
         State::Occupied(value) => State::Occupied(value.clone()?),
@@ -28,8 +29,7 @@ fn clone_slot<V: Clone>(slot: &Slot<V>) -> Result<Slot<V>, AllocError>
 
 // The same slots, with clones of their values. The address of a slice stays in a register.
 pub(crate) fn clone_slots<V: Clone>(slots: &Vec<Slot<V>>) -> Result<Vec<Slot<V>>, AllocError>
-    requires { (x y : V) → V.is_clone x y → y ≡ x }
-    ensures { IfOk result (λ copy. copy.items ≡ slots.now.items) }
+    ensures { IfOk result (λ copy. AreSlotClones V.is_clone slots.now.items copy.items) }
 {
     let mut copy = Vec::with_capacity(*slots.allocator(), slots.len())?;
     let from = slots.as_slice();
@@ -45,11 +45,11 @@ impl<K: Key, V: Clone> HopSlotMap<K, V> {
     /// The same keys are live, and both maps will return the same new keys. The copy has room for
     /// the keys of the vacant slots, and perhaps for no more.
     ///
-    /// The contract requires that a clone of a value equals the value. The trait `Clone` can't
-    /// require that, so this is a method and not an impl of `Clone`.
+    /// Each value is a clone by the `is_clone` of its type. Where clones equal their values, the copy
+    /// equals the map, except for its room and its capacity.
     ///
-    /// If memory runs out, the call fails, and what was copied is dropped. Linear in the number of
-    /// slots.
+    /// If memory runs out, or the clone of a value fails, the call fails, and what was copied is
+    /// dropped. Linear in the number of slots.
     ///
     /// ```
     /// let mut copy = map.clone()?;
@@ -58,9 +58,13 @@ impl<K: Key, V: Clone> HopSlotMap<K, V> {
     /// assert_eq!(rt; map.get(a), Some(&1));
     /// ```
     pub fn clone(&self) -> Result<Self, AllocError>
-        requires { (x y : V) → V.is_clone x y → y ≡ x }
-        ensures copies { IfOk result (λ copy. IsCopy self.now.content copy.content) }
+        ensures clones { IfOk result (λ copy. IsCloneBy V.is_clone self.now.content copy.content) }
         ensures blocks { IfOk result (λ copy. copy.blocks ≡ self.now.blocks) }
+
+        // Where clones equal their values, the copy holds the same.
+        ensures copies_if_clones_equal { IfOk result (λ copy.
+            ClonesEqual V.is_clone → IsCopy self.now.content copy.content) }
+
         ensures valid { IfOk result IsHopContent }
     {
         Ok(HopSlotMap {
@@ -74,8 +78,8 @@ impl<K: Key, V: Clone> HopSlotMap<K, V> {
     /// Makes this map a copy of another, as [`HopSlotMap::clone`] does, and drops what it had.
     ///
     /// A key that this map returned earlier may then have another value. The copy is made before
-    /// the old content is dropped. So if memory runs out, the call fails and the map stays as it
-    /// was. Linear in the number of slots of the source.
+    /// the old content is dropped. So if the call fails, the map is unchanged. Linear in the
+    /// number of slots of the source.
     ///
     /// ```
     /// let mut copy: HopSlotMap<DefaultKey, u64> = HopSlotMap::new(alloc)?;
@@ -86,13 +90,26 @@ impl<K: Key, V: Clone> HopSlotMap<K, V> {
     pub fn clone_from(&mut self, source: &Self) -> Result<(), AllocError>
     where
         V: Drop,
-        requires { (x y : V) → V.is_clone x y → y ≡ x }
-        ensures copies { OnOk result (IsCopy source.now.content self.new.content) }
+        ensures clones { OnOk result (IsCloneBy V.is_clone source.now.content self.new.content) }
         ensures blocks { OnOk result (self.new.blocks ≡ source.now.blocks) }
+
+        // Where clones equal their values, this map holds what the source holds.
+        ensures copies_if_clones_equal { OnOk result (
+            ClonesEqual V.is_clone → IsCopy source.now.content self.new.content) }
+
         ensures unchanged { OnErr result (self.new ≡ self.old) }
         ensures valid { OnOk result (IsHopContent self.new) }
     {
         *self = source.clone()?;
         Ok(())
+    }
+}
+
+/// By the method `clone`, for what is generic over clones, as a derived `Clone` of a struct.
+impl<K: Key, V: Clone> Clone for HopSlotMap<K, V> {
+    ghost is_clone = { λ m copy. IsCloneBy V.is_clone m.content copy.content × (copy.blocks ≡ m.blocks) × IsHopContent copy };
+
+    fn clone(&self) -> Result<Self, AllocError> {
+        HopSlotMap::clone(self)
     }
 }

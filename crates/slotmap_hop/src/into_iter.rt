@@ -2,6 +2,7 @@
 
 ghost use Rattle.std.specs.Prelude.{◌≡◌, ◌≤◌, length, Some, IfSome, IfOk};
 ghost use Rattle.std.specs.Iterator.{YieldsFirstBy, item_count, at_most, UpTo};
+ghost use Rattle.slotmap_core.specs.Clones.{ClonesEqual, AreClones};
 ghost use Rattle.slotmap_core.specs.Listing.{ListsByIndex};
 
 use crate::HopSlotMap;
@@ -70,8 +71,8 @@ impl<K, V> IntoIter<K, V> {
 impl<K, V: Clone> IntoIter<K, V> {
     /// Returns a second iterator over the pairs that are left, with clones of the values.
     ///
-    /// The contract requires that a clone of a value equals the value. If memory runs out, the call
-    /// fails, and this iterator stays as it is. Linear in the number of slots of the map.
+    /// If memory runs out, or the clone of a value fails, the call fails, and this iterator stays as
+    /// it is. Linear in the number of slots of the map.
     ///
     /// ```
     /// let pairs = map.into_iter();
@@ -80,8 +81,9 @@ impl<K, V: Clone> IntoIter<K, V> {
     /// assert_eq!(rt; pairs.len(), 2);
     /// ```
     pub fn clone(&self) -> Result<Self, AllocError>
-        requires { (x y : V) → V.is_clone x y → y ≡ x }
-        ensures { IfOk result (λ copy. copy ≡ self.now) }
+        ensures clones { IfOk result (AreClones V.is_clone self.now) }
+        // Where clones equal their values, the second one yields the same pairs.
+        ensures copies_if_clones_equal { IfOk result (λ copy. ClonesEqual V.is_clone → copy ≡ self.now) }
     {
         Ok(IntoIter {
             slots: clone_slots(&self.slots)?,
@@ -89,6 +91,15 @@ impl<K, V: Clone> IntoIter<K, V> {
             left: self.left,
             keys: PhantomData,
         })
+    }
+}
+
+/// By the method `clone`, for what is generic over clones.
+impl<K, V: Clone> Clone for IntoIter<K, V> {
+    ghost is_clone = { λ it copy. AreClones V.is_clone it copy };
+
+    fn clone(&self) -> Result<Self, AllocError> {
+        IntoIter::clone(self)
     }
 }
 

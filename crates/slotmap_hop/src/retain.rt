@@ -1,4 +1,4 @@
-//! The calls that go over all live keys of a map, by ascending index, and skip vacant slots.
+//! The calls that visit all live keys of a map, by ascending index, and skip vacant slots.
 
 ghost use Rattle.std.specs.Prelude.{◌≡◌, ◌++◌, IfSome, IfNone, OnOk, OnErr, List, map as list_map};
 ghost use Rattle.std.specs.FinMap as map;

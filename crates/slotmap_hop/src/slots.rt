@@ -5,9 +5,12 @@ ghost use Rattle.slotmap_core.specs.Contents.{contents, is_vacant_version};
 ghost use Rattle.slotmap_hop.specs.Blocks.{Ascend};
 ghost use Rattle.slotmap_hop.specs.HopContent.{IsHopContent};
 ghost use Rattle.slotmap_hop.specs.Slots.{value_in, read_state};
+ghost use Rattle.slotmap_core.specs.Clones.{ClonesEqual, IsCloneOf};
+ghost use Rattle.slotmap_core.specs.Key.{Key};
 ghost use Rattle.slotmap_core.specs.ListRead.{ReadsAs};
 ghost use Rattle.slotmap_core.specs.Slots.{Accepts, RefusesStart};
-ghost use Rattle.slotmap_core.specs.Written.{Writes};
+ghost use Rattle.slotmap_core.specs.Written.{Writes, WritesClones, IsRecordClone};
+ghost use Rattle.std.specs.FinMap as map;
 
 use crate::HopSlotMap;
 use crate::links::{Slot, State, lone_slot, open_last};
@@ -27,8 +30,7 @@ fn is_vacant(version: u32) -> bool
 
 // The record of a slot, with a clone of its value.
 fn record_of<V: Clone>(slot: &Slot<V>) -> Result<SlotRecord<V>, OutOfMemory>
-    requires { (x y : V) → V.is_clone x y → y ≡ x }
-    ensures same { IfOk result (λ made. made ≡ record { value = value_in slot.now.state; version = slot.now.version }) }
+    ensures clones { IfOk result (IsRecordClone V.is_clone (record { value = value_in slot.now.state; version = slot.now.version })) }
     ensures fits { slot.now.version < 2 ^ 32 }
 {
     let version = slot.version;
@@ -68,10 +70,17 @@ impl<K: Key, V: Drop> HopSlotMap<K, V> {
     pub fn to_slots(&self) -> Result<Vec<SlotRecord<V>>, OutOfMemory>
     where
         V: Clone,
-        // A clone has to equal its value.
-        requires { (x y : V) → V.is_clone x y → y ≡ x }
-        ensures writes { IfOk result (λ slots. Writes self.now.content slots.items) }
-        ensures contents { IfOk result (λ slots. contents slots.items ≡ self.now.content.live) }
+        // The list is that of a copy, and has a clone under each live key.
+        ensures writes { IfOk result (λ slots. WritesClones V.is_clone true self.now.content slots.items) }
+        ensures contents { IfOk result (λ slots.
+            (k : Key) → IsCloneOf V.is_clone (map.get self.now.content.live k) (map.get (contents slots.items) k)) }
+
+        // Where clones equal their values, it is the map's own list.
+        ensures writes_if_clones_equal { IfOk result (λ slots.
+            ClonesEqual V.is_clone → Writes self.now.content slots.items) }
+        ensures contents_if_clones_equal { IfOk result (λ slots.
+            ClonesEqual V.is_clone → contents slots.items ≡ self.now.content.live) }
+
         ensures valid { IsHopContent self.now }
     {
         self.note_valid();
