@@ -1,27 +1,24 @@
 -- The entries of a hash map as a finite map.
 use Rattle.std.proofs.Common.{◌≢◌, ne_eqb, eq-eqb}
-use Rattle.std.proofs.Common.{◌≡◌, ℕ, ◌+◌, true, false, cond, nat_eq, List, [], ◌∷◌, length, Option, Some, None, is_some, refl, sym, ap, subst, ◌∙◌, nat_cmp, arith, inl, inr, MutBor, Result, Ok, OnOk, slice_get, ◌≤◌}
-use Rattle.std.specs.Option.{option_copied_mut, option_map}
+use Rattle.std.proofs.Common.{◌≡◌, ℕ, ◌+◌, true, false, cond, nat_eq, List, [], ◌∷◌, length, Option, Some, None, is_some, refl, sym, ap, subst, ◌∙◌, nat_cmp, arith, inl, inr, MutBor, Result, Ok, OnOk, ◌≤◌}
+use Rattle.std.specs.Option.{option_copied_mut}
 use Rattle.std.specs.Ordering.{eq_by_cmp}
 use Rattle.std.specs.Cmp.{nat_cmp_total, unsigned_tied, nat_eq_equiv}
 use Rattle.std.specs.List.{IsDistinct}
 use Rattle.std.specs.FinMap as map
 use Rattle.std.specs.FinMap.Entries.{find}
 use Rattle.std.specs.HashMap.{HashMap, hash_map_len, spare, WritesThrough}
-use Rattle.std.specs.Map.{lookup, keys_of, values_of}
-use Rattle.indexmap.specs.IndexMap.{with_value_at}
-use Rattle.indexmap.proofs.CallerLemmas.{keys-with_value_at, index_map_len-with_value_at, updates-with_value_at}
+use Rattle.std.specs.Map.{lookup, keys_of}
 use Rattle.std.proofs.lemmas.Map.Lookups.{exact_unsigned}
 use Rattle.std.proofs.lemmas.Map.{lookup-none}
-use Rattle.std.proofs.lemmas.Map.Entries.{none_past_head, hash_map_get_place}
-use Rattle.std.proofs.lemmas.Option.{same_Some, slice_get-map}
+use Rattle.std.proofs.lemmas.Map.Entries.{none_past_head}
 use Rattle.slotmap_core.proofs.Maps.{len_inserted, get_after_insert, insert_same}
 use Rattle.slotmap_core.specs.Key.{Key, IsKey}
 use Rattle.slotmap_core.specs.Secondary.{Pairs, IsSecondary, is_null, bind, put, get, contains_key, value_at}
 use Rattle.slotmap_sparse.specs.Content.{Content, IsContent, with_value, room}
 use Rattle.slotmap_sparse.specs.Found.{put_over}
 use Rattle.slotmap_sparse.specs.Entries.{pairs_of, content_of, IsSound}
-use Rattle.slotmap_core.proofs.StandLemmas.{get_here, get_stands, IsSecondary-empty, IsSecondary-bind, IsSecondary-put, IsSecondary-remove, same_version, not_null_at, put_at}
+use Rattle.slotmap_core.proofs.StandLemmas.{get_here, IsSecondary-empty, IsSecondary-bind, IsSecondary-put, IsSecondary-remove, same_version, not_null_at, put_at}
 
 turned : (k q : ℕ) → nat_eq k q ≡ eq_by_cmp nat_cmp q k
 turned k q = nat_eq_equiv.symm k q ∙ sym (unsigned_tied q k)
@@ -45,10 +42,6 @@ module _ {V : Type 0} where
   pub stands_at : {S : Type 0} (m : HashMap ℕ (ℕ × V) S) (c : Content V) → content_of m ≡ c → (k : Key) (i : ℕ) → i ≡ k.index → (o : Option (ℕ × V)) → lookup (nat_eq i) m.entries ≡ o
       → map.get c.pairs k.index ≡ o
   stands_at m c is k i at o found = sym (found_pair m.entries c.pairs (ap (λ (x : Content V). x.pairs) is) i ∙ ap (map.get c.pairs) at) ∙ found
-
-  -- what a look-up of an index returned is there
-  pub found_there : (es : Entries V) (i k : ℕ) → i ≡ k → (o : Option (ℕ × V)) → o ≡ lookup (nat_eq i) es → map.get (pairs_of es) k ≡ o
-  found_there es i k at o found = ap (map.get (pairs_of es)) (sym at) ∙ get-pairs es i ∙ sym found
 
   -- what a key finds at a pair that a look-up of its index lends
   module _ {S : Type 0} (m : HashMap ℕ (ℕ × V) S) (c : Content V) (is : content_of m ≡ c) (k : Key) (i : ℕ) (at : i ≡ k.index) (p : ℕ × V)
@@ -131,45 +124,6 @@ module _ {V : Type 0} where
     unique = unique;
     keys = rw put (λ j r h. elim (get_after_insert nat_cmp_total exact_unsigned (pairs_of es) i q j r h) [ inl e ↦ rw (e.0, e.1, same) (sound.keys i p at) | inr e ↦ sound.keys j r e.1 ]);
   }
-
-  -- the pair that is lent is that of the entry
-  pub lent_there : (es : Entries V) (place i : ℕ) (q : ℕ × V) (o : Option (MutBor (ℕ × V))) (r : MutBor (ℕ × V)) → slice_get es place ≡ Some (i, q)
-      → option_copied_mut o ≡ slice_get (values_of es) place → o ≡ Some r → slice_get es place ≡ Some (i, r.now)
-  lent_there es place i q o r at value is =
-      let same = sym (ap option_copied_mut is) ∙ value ∙ slice_get-map (λ (e : ℕ × (ℕ × V)). e.1) es place ∙ ap (option_map (λ (e : ℕ × (ℕ × V)). e.1)) at in
-      at ∙ ap (λ (x : ℕ × V). Some (i, x)) (sym (same_Some r.now q same))
-
-  -- what a write through a reference to the value at a position leaves
-  module _ {S : Type 0} (m : HashMap ℕ (ℕ × V) S) (sound : IsSound m.entries) (k : Key) (i : ℕ) (at : i ≡ k.index) (place : ℕ) (p : ℕ × V)
-      (there : slice_get m.entries place ≡ Some (i, p)) where
-    stood : lookup (nat_eq i) m.entries ≡ Some p
-    stood = hash_map_get_place nat_eq_equiv m place i p sound.unique there
-
-    module _ (w : V) where
-      abbrev pub written_at : HashMap ℕ (ℕ × V) S
-      written_at = with_value_at m place (p.0, w)
-
-      put_at_place : pairs_of written_at.entries ≡ map.insert (pairs_of m.entries) i (p.0, w)
-      put_at_place = pairs_put m.entries written_at.entries i (p.0, w) (updates-with_value_at m place (p.0, w) nat_eq_equiv sound.unique i p there).0
-
-      pub IsSound-at : IsSound written_at.entries
-      IsSound-at =
-          let unique = subst (IsDistinct nat_eq) (sym (keys-with_value_at m place (p.0, w))) sound.unique in
-          IsSound-written m.entries written_at.entries sound unique i p (p.0, w) (get-pairs m.entries i ∙ stood) refl put_at_place
-
-    module _ (c : Content V) (is : content_of m ≡ c) where
-      here : map.get c.pairs k.index ≡ Some p
-      here = stands_at m c is k i at (Some p) stood
-
-      module _ (stands : contains_key c.pairs k ≡ true) where
-        pub content-at : (w : V) → content_of (written_at w) ≡ with_value c k w
-        content-at w =
-            let version : p.0 ≡ k.version = same_version c.pairs k stands p here in
-            let memory : hash_map_len (written_at w) + spare m ≡ c.capacity = ap (λ n. n + spare m) (index_map_len-with_value_at m place (p.0, w)) ∙ ap (λ (x : Content V). x.capacity) is in
-            λ j. record { pairs = (put_at_place w ∙ (λ l. map.insert (is l).pairs (at l) (version l, w))) j; capacity = memory j }
-
-        pub found-at : get c.pairs k ≡ Some p.1
-        found-at = get_stands c.pairs k stands p here
 
   -- what a write through a reference to the value of a key leaves
   module _ {S : Type 0} (m n : HashMap ℕ (ℕ × V) S) (sound : IsSound m.entries) (k : Key) (i : ℕ) (at : i ≡ k.index) (p : ℕ × V) (w : V)

@@ -6,3 +6,5 @@ pub mod RetainLemmas
 pub mod EntryLemmas
 pub mod EqualLemmas
 pub mod SlotsLemmas
+pub mod CloneLemmas
+pub mod WrittenLemmas

@@ -1,5 +1,7 @@
 -- The entries of a hash map as keys with their values.
-use Rattle.std.proofs.Common.{◌≡◌, ℕ, true, false, cond, nat_eq, eqb-true, List, [], ◌∷◌, Some, None, refl, sym, ap, ◌∙◌, nat_cmp, arith}
+use Rattle.std.proofs.Common.{◌≡◌, ℕ, true, false, cond, nat_eq, eqb-true, List, [], ◌∷◌, length, Some, None, refl, sym, ap, ◌∙◌, nat_cmp, arith}
+use Rattle.std.specs.Iterator.{YieldsFirstBy}
+use Rattle.std.specs.FinSet as set
 use Rattle.std.specs.List.{IsDistinct, AllByRecursion}
 use Rattle.std.specs.Cmp.{nat_eq_equiv, unsigned_tied}
 use Rattle.std.specs.FinMap as map
@@ -10,10 +12,11 @@ use Rattle.std.proofs.lemmas.Option.{same_Some}
 use Rattle.std.proofs.lemmas.Map.{lookup-none}
 use Rattle.std.proofs.lemmas.Map.Entries.{none_past_head, lookup_head}
 use Rattle.slotmap_core.specs.Key.{Key, key_cmp}
-use Rattle.slotmap_core.specs.Listing.{IsListing}
-use Rattle.slotmap_core.specs.Secondary.{Pairs, IsSecondary, keyed_entry, keyed, value_at}
+use Rattle.slotmap_core.specs.Listing.{IsListing, IsKeyListing}
+use Rattle.slotmap_core.specs.Secondary.{Pairs, IsSecondary, keyed_entry, keyed, contains_key, value_at}
 use Rattle.slotmap_core.proofs.KeyLemmas.{keys_total, exact_keys}
-use Rattle.slotmap_core.proofs.KeyedLemmas.{tie_parts, get-keyed, len-keyed}
+use Rattle.slotmap_core.proofs.KeyedLemmas.{tie_parts, get-keyed, contains-keyed, len-keyed}
+use Rattle.slotmap_core.proofs.Maps.{item_inserted}
 use Rattle.slotmap_sparse.specs.Entries.{pairs_of, IsSound}
 use Rattle.slotmap_sparse.specs.Walk.{key_pairs, IsOfKey, AreOfKeys}
 use Rattle.slotmap_sparse.proofs.EntriesLemmas.{get-pairs, len-pairs}
@@ -71,3 +74,14 @@ module _ {V : Type 0} where
         | true ↦ λ t is. rw (eqb-true i e.0 t, ← same_Some _ _ is) of.0
         | false ↦ λ t is. at_lookup es of.1 is
       ] refl h
+
+  module _ {K : Type 0} (data_of : K → Key) (m : Pairs V) (keys rest : List Key) (listing : IsKeyListing (keyed m) keys) where
+    -- the first key of a listing is in the map
+    pub listed_key : (key : K) → YieldsFirstBy data_of (λ x. x) keys (Some key) rest → contains_key m (data_of key) ≡ true
+    listed_key key steps =
+        sym (contains-keyed m (data_of key)) ∙ sym (listing.all (data_of key)) ∙ ap (λ ks. set.contains (set.from_list {R = key_cmp} ks) (data_of key)) steps
+        ∙ item_inserted keys_total exact_keys (set.from_list rest) (data_of key)
+
+    -- and if there is none, the map is empty
+    pub listed_none : YieldsFirstBy data_of (λ x. x) keys None rest → m ≡ map.empty
+    listed_none steps = map.empty_of_len m (sym (len-keyed m) ∙ sym listing.once ∙ ap length steps.0)

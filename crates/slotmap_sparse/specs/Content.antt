@@ -26,7 +26,7 @@ RefusesRoom n reserve.TooGreat = most_keys < n
 RefusesRoom n reserve.Memory = n ≤ most_keys
 
 module _ {V : Type 0} where
-  -- k has the value v, and all else is as before
+  -- k has the value v, and nothing else changed
   abbrev pub with_value : Content V → Key → V → Content V
   with_value c k v = record c { pairs = bind c.pairs k v }
 
@@ -46,5 +46,7 @@ module _ {V : Type 0} where
     -- in either case the map holds what it held
     pub keeps : new.pairs ≡ old.pairs
     pub capacity : old.capacity ≤ new.capacity
+    -- if the number is too great, it doesn't ask for memory
+    pub too_great : IfErr result (λ error. error ≡ reserve.TooGreat → new ≡ old)
     -- if there is memory already, it succeeds
     pub room : map.len old.pairs + n ≤ old.capacity → map.len old.pairs + n ≤ most_keys → IsOk result

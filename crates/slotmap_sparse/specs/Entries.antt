@@ -1,5 +1,5 @@
 -- How a `SparseSecondaryMap` stores its pairs in a hash map. No public clause cites this module.
-use Rattle.std.specs.Prelude.{◌≡◌, ℕ, ◌+◌, Bool, List, Option, None, Some, nat_eq, slice_get}
+use Rattle.std.specs.Prelude.{◌≡◌, ℕ, ◌+◌, Bool, List, nat_eq}
 use Rattle.std.specs.Fn.{Mut, Takes}
 use Rattle.std.specs.Borrow.{MutBor}
 use Rattle.std.specs.FinMap as map
@@ -7,7 +7,7 @@ use Rattle.std.specs.HashMap.{HashMap, hash_map_len, spare}
 use Rattle.std.specs.List.{IsDistinct}
 use Rattle.std.specs.Map.{keys_of}
 use Rattle.slotmap_core.specs.Key.{Key, key_from}
-use Rattle.slotmap_core.specs.Secondary.{Pairs, IsSecondary, get}
+use Rattle.slotmap_core.specs.Secondary.{Pairs, IsSecondary}
 use Rattle.slotmap_sparse.specs.Content.{Content}
 
 module _ {V : Type 0} where
@@ -18,15 +18,10 @@ module _ {V : Type 0} where
   abbrev pub content_of : {S : Type 0} → HashMap ℕ (ℕ × V) S → Content V
   content_of slots = record { pairs = pairs_of slots.entries; capacity = hash_map_len slots + spare slots }
 
-  -- no index is there twice, and each is that of a key with its version
+  -- no index occurs twice, and each is that of a key with its version
   pub record IsSound (entries : List (ℕ × (ℕ × V))) : Type 0 where
     pub unique : IsDistinct nat_eq (keys_of entries)
     pub keys : IsSecondary (pairs_of entries)
-
-  -- the position of the pair of k; `None` if k isn't in the map
-  abbrev pub IsPlaceOf : List (ℕ × (ℕ × V)) → Key → Option ℕ → Type 0
-  IsPlaceOf entries k None = get (pairs_of entries) k ≡ None
-  IsPlaceOf entries k (Some place) = (v : V) × (slice_get entries place ≡ Some (k.index, (k.version, v))) × (get (pairs_of entries) k ≡ Some v)
 
 -- the closure f may be called on the key of this index and version, and on its value
 abbrev pub TakesPair : {F K V : Type 0} → Mut F (K × (MutBor V × Unit {0})) (Bool × (MutBor V × Unit {0})) → (K → Key) → F → ℕ → ℕ × V → Type 0

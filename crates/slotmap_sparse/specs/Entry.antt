@@ -75,7 +75,7 @@ module _ {K V S Z : Type 0} where
       pub key : entry_key e ≡ k
       pub pairs : (entry_map e).pairs ≡ entry_leaves m.now.pairs (data_of k)
       pub room : room m.now ≤ room (entry_map e)
-      -- if no older pair is at k's index, the map is as it was
+      -- if no older pair is at k's index, the map is unchanged
       pub occupied : contains_key m.now.pairs (data_of k) ≡ true → entry_map e ≡ m.now
       pub empty : map.get m.now.pairs (data_of k).index ≡ None → entry_map e ≡ m.now
       pub value : entry_value e ≡ get m.now.pairs (data_of k)
@@ -104,7 +104,7 @@ module _ {K V S Z : Type 0} where
   IfEntry (Err error) P = Unit {0}
 
 module _ (K V S H : RattleType) (build : builder.Ghosts S.Denot H.Denot) (hash : hasher.Ghosts H.Denot) where
-  -- at `Err` the map is as it was
+  -- at `Err` the map is unchanged
   abbrev pub rests_if_err : MutBor (Content V.Denot) → Result (Entry K.Denot V.Denot S.Denot H.Denot) NoEntry → Fml
   rests_if_err s r = RestsIfErr (the_row K V S H build hash) s entry_lender r (λ n. n ≡ s.now)
 

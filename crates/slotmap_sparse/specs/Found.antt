@@ -7,7 +7,7 @@ use Rattle.slotmap_sparse.specs.declared.find.Found.TheVariants as found
 -- what `find` returns, by the pair at the key's index and the key's entry
 abbrev pub is_found : {V : Type 0} → Found → Option (ℕ × V) → Entry V → Type 0
 is_found found.No stands e = e ≡ no_entry
-is_found {V} (found.Occupied place) stands e = (v : V) × (e ≡ occupied v)
+is_found {V} found.Occupied stands e = (v : V) × (e ≡ occupied v)
 is_found {V} found.Outdated stands e = (e ≡ vacant) × ((p : ℕ × V) × (stands ≡ Some p))
 is_found found.Empty stands e = (e ≡ vacant) × (stands ≡ None)
 

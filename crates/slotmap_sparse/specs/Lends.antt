@@ -12,6 +12,6 @@ module _ (K V S H : RattleType) (build : builder.Ghosts S.Denot H.Denot) (hash :
   abbrev pub lends_value : MutBor V.Denot → Fml
   lends_value r = Lends (the_row K V S H build hash) V m r (with_value m.now k)
 
-  -- the same if r is a reference; at `None` the map stays as it is
+  -- the same if r is a reference; at `None` the map is unchanged
   abbrev pub lends_get : Option (MutBor V.Denot) → Fml
   lends_get r = LendsIf (the_row K V S H build hash) V m r (with_value m.now k) m.now

@@ -6,3 +6,4 @@ pub mod Walk
 pub mod Drain
 pub mod Entry
 pub mod Written
+pub mod Extend

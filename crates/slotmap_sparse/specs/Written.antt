@@ -1,7 +1,8 @@
 -- The list of slots that a `SparseSecondaryMap` is written as.
 use Rattle.std.specs.Prelude.{◌≡◌, ◌-◌, ℕ, ◌<◌, List, length, slice_get, Option, None, Some, true, ◌⊎◌}
 use Rattle.std.specs.FinMap as map
-use Rattle.slotmap_core.specs.Secondary.{Pairs}
+use Rattle.slotmap_core.specs.Secondary.{Pairs, IsSecondary}
+use Rattle.slotmap_core.specs.SecondaryClones.{HasClones}
 use Rattle.slotmap_core.specs.SecondaryWritten.{slot_of}
 use Rattle.slotmap_core.specs.declared.serial.SlotRecord.{SlotRecord}
 
@@ -16,6 +17,19 @@ module _ {V : Type 0} where
   pub record Writes (pairs : Pairs V) (slots : List (SlotRecord V)) : Type 0 where
     pub all : Reaches pairs (length slots)
     pub each : (i : ℕ) → i < length slots → slice_get slots i ≡ Some (slot_of (map.get pairs i))
+
+  -- the list that a copy of the map is written as
+  pub record WritesClones (is_clone : V → V → Type 0) (pairs : Pairs V) (slots : List (SlotRecord V)) : Type 0 where
+    pub copy : Pairs V
+    -- the copy has the same keys, each with a clone of its value
+    pub clones : HasClones is_clone pairs copy
+    pub valid : IsSecondary copy
+    pub writes : Writes copy slots
+
+  -- the record of an index that holds this, with a clone of the value
+  abbrev pub IsCloneSlot : (V → V → Type 0) → Option (ℕ × V) → SlotRecord V → Type 0
+  IsCloneSlot is_clone None slot = slot ≡ slot_of None
+  IsCloneSlot is_clone (Some p) slot = (v : V) × is_clone p.1 v × (slot ≡ slot_of (Some (p.0, v)))
 
   -- the pairs once the record of index i was read
   abbrev pub with_value_at : Pairs V → ℕ → ℕ → Option V → Pairs V

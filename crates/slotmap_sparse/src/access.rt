@@ -8,7 +8,6 @@ ghost use Rattle.slotmap_core.specs.Several.{CanReplace, AreValuesOf, with_value
 ghost use Rattle.slotmap_sparse.specs.Content.{IsContent, with_value};
 
 use crate::SparseSecondaryMap;
-use crate::find::place_near;
 use slotmap_core::keys::Key;
 use std::hash::BuildHasher;
 use std::mem;
@@ -45,7 +44,7 @@ impl<K: Key, V: Drop, S: BuildHasher + Drop> SparseSecondaryMap<K, V, S> {
         ensures valid { IsContent self.now }
     {
         match self.slot(key) {
-            Some((_, (version, value))) => {
+            Some((version, value)) => {
                 if *version == key.data().version() {
                     Some(value)
                 } else {
@@ -59,7 +58,7 @@ impl<K: Key, V: Drop, S: BuildHasher + Drop> SparseSecondaryMap<K, V, S> {
     /// Returns a reference to the value of a key that is in the map.
     ///
     /// The caller has to prove that the key is in the map. So the call is safe, where Rust's is
-    /// `unsafe`. Takes constant time.
+    /// `unsafe`. It looks the key up, as Rust's does. Takes constant time.
     ///
     /// ```
     /// map.insert(b, 2)?;
@@ -102,7 +101,7 @@ impl<K: Key, V: Drop, S: BuildHasher + Drop> SparseSecondaryMap<K, V, S> {
     /// Returns a mutable reference to the value of a key that is in the map.
     ///
     /// The caller has to prove that the key is in the map. So the call is safe, where Rust's is
-    /// `unsafe`. Takes constant time.
+    /// `unsafe`. It looks the key up, as Rust's does. Takes constant time.
     ///
     /// ```
     /// *map.get_unchecked_mut(a) = 8;
@@ -116,18 +115,6 @@ impl<K: Key, V: Drop, S: BuildHasher + Drop> SparseSecondaryMap<K, V, S> {
     {
         let index = key.data().idx();
         &mut self.slots.get_mut(&index).unwrap().1
-    }
-
-    // The value of a key that is in the map. Its pair is looked for at position `near` first.
-    #[inline(always)]
-    pub(crate) fn value_near(&mut self, near: usize, key: K) -> &mut V
-        requires { contains_key self.old.pairs (K.data_of key) ≡ true }
-        ensures* writes_back { sem 𝓛 (lends_value K.row V.row S.row S.Hasher.row S.BuildHasher S.Hasher.Hasher self.entry (K.data_of key) result) }
-        ensures value { get self.old.pairs (K.data_of key) ≡ Some result.now }
-        ensures was_valid { IsContent self.old }
-    {
-        let place = place_near(&self.slots, near, key.data());
-        &mut self.slots.get_index_mut(place).unwrap().1
     }
 
     /// Replaces the value of `keys[i]` by `values[i]`, for each i, and returns the old values.

@@ -1,6 +1,8 @@
 //! Copies of a map.
 
 ghost use Rattle.std.specs.Prelude.{◌≡◌, IfOk, OnOk, OnErr};
+ghost use Rattle.slotmap_core.specs.Clones.{ClonesEqual};
+ghost use Rattle.slotmap_core.specs.SecondaryClones.{HasClones};
 ghost use Rattle.slotmap_sparse.specs.Content.{IsContent};
 
 use crate::SparseSecondaryMap;
@@ -10,14 +12,11 @@ use std::hash::BuildHasher;
 use std::marker::PhantomData;
 
 impl<K: Key, V: Clone, S: BuildHasher + Clone> SparseSecondaryMap<K, V, S> {
-    /// Returns a copy of the map: the same keys, with clones of their values.
+    /// Returns a copy of the map: the same keys, each with a clone of its value.
     ///
-    /// The caller has to prove that a clone of a value equals the value. The trait `Clone` can't
-    /// require that; so this is a method, and no impl of `Clone`.
-    ///
-    /// If an allocation fails there is no copy, and what was copied by then is dropped. It also
-    /// fails if the clone of the hasher hashes in another way. Takes time linear in the number of
-    /// keys. The copy has memory for its keys, and maybe for no more.
+    /// If an allocation fails, or the clone of a value does, there is no copy, and what was copied
+    /// by then is dropped. It also fails if the clone of the hasher hashes in another way. Takes
+    /// time linear in the number of keys. The copy has memory for its keys, and maybe for no more.
     ///
     /// ```
     /// let mut copy = map.clone()?;
@@ -25,8 +24,10 @@ impl<K: Key, V: Clone, S: BuildHasher + Clone> SparseSecondaryMap<K, V, S> {
     /// assert!(rt; map.contains_key(a));
     /// ```
     pub fn clone(&self) -> Result<Self, AllocError>
-        requires { (x y : V) → V.is_clone x y → y ≡ x }
-        ensures copies { IfOk result (λ copy. copy.pairs ≡ self.now.pairs) }
+        ensures clones { IfOk result (λ copy. HasClones V.is_clone self.now.pairs copy.pairs) }
+        // If a clone of a value always equals it, the copy holds what the map holds.
+        ensures copies_if_clones_equal { IfOk result (λ copy. ClonesEqual V.is_clone → copy.pairs ≡ self.now.pairs) }
+
         ensures valid { IfOk result IsContent }
     {
         let slots = self.slots.clone()?;
@@ -40,8 +41,8 @@ impl<K: Key, V: Clone, S: BuildHasher + Clone> SparseSecondaryMap<K, V, S> {
     /// Makes this map a copy of another, as [`SparseSecondaryMap::clone`] does, and drops what it
     /// held.
     ///
-    /// If an allocation fails, nothing changes. The copy is made first, so for a while there are
-    /// both. Takes time linear in the number of the source's keys.
+    /// If it fails, nothing changes. The copy is made first, so for a while there are both. Takes
+    /// time linear in the number of the source's keys.
     ///
     /// ```
     /// let mut copy: SparseSecondaryMap<DefaultKey, u64> = SparseSecondaryMap::new(alloc)?;
@@ -52,12 +53,23 @@ impl<K: Key, V: Clone, S: BuildHasher + Clone> SparseSecondaryMap<K, V, S> {
     where
         V: Drop,
         S: Drop,
-        requires { (x y : V) → V.is_clone x y → y ≡ x }
-        ensures copies { OnOk result (self.new.pairs ≡ source.now.pairs) }
+        ensures clones { OnOk result (HasClones V.is_clone source.now.pairs self.new.pairs) }
+        // If a clone of a value always equals it, this map holds what the source holds.
+        ensures copies_if_clones_equal { OnOk result (ClonesEqual V.is_clone → self.new.pairs ≡ source.now.pairs) }
+
         ensures unchanged { OnErr result (self.new ≡ self.old) }
         ensures valid { OnOk result (IsContent self.new) }
     {
         *self = source.clone()?;
         Ok(())
+    }
+}
+
+/// By the method `clone`, for what is generic over clones, as a derived `Clone` of a struct.
+impl<K: Key, V: Clone, S: BuildHasher + Clone> Clone for SparseSecondaryMap<K, V, S> {
+    ghost is_clone = { λ m copy. HasClones V.is_clone m.pairs copy.pairs × IsContent copy };
+
+    fn clone(&self) -> Result<Self, AllocError> {
+        SparseSecondaryMap::clone(self)
     }
 }

@@ -5,7 +5,7 @@ ghost use Rattle.std.specs.Iterator.{size, UpTo};
 ghost use Rattle.std.specs.FinMap as map;
 ghost use Rattle.slotmap_sparse.specs.Content.{IsContent};
 
-use crate::SparseSecondaryMap;
+use crate::{DefaultHasher, SparseSecondaryMap};
 use slotmap_core::keys::Key;
 use std::fmt;
 use std::hash::BuildHasher;
@@ -14,7 +14,7 @@ use std::iter::FusedIterator;
 /// An iterator that removes the pairs of a map, in any order. Once it is dropped, the map is empty.
 ///
 /// [`SparseSecondaryMap::drain`] returns it. Dropping it removes the pairs that are left.
-pub struct Drain<'a, K: Key, V, S: BuildHasher> {
+pub struct Drain<'a, K: Key, V, S: BuildHasher = DefaultHasher> {
     map: &'a mut SparseSecondaryMap<K, V, S>,
 }
 
@@ -41,7 +41,7 @@ impl<'a, K: Key, V: Drop, S: BuildHasher + Drop> Iterator for Drain<'a, K, V, S>
     ghost remaining = { drain_count };
 
     fn next(&mut self) -> Option<(K, V)> {
-        self.map.take_last()
+        self.map.take_first()
     }
 
     fn size_hint(&self) -> (usize, Option<usize>)
@@ -93,7 +93,11 @@ impl<K: Key, V: Drop, S: BuildHasher + Drop> SparseSecondaryMap<K, V, S> {
         // Laws of the steps, for callers that go on with the iterator.
         ensures stays { KeepsAlong (DrainSteps K.data_of) DrainKeeps result }
         ensures lists { ListsAlong K.data_of (λ d. keyed (drain_loan d).now.pairs) (DrainSteps K.data_of) result }
+
+        ensures valid { IsContent self.old }
     {
+        // Reads the map, for the clause `valid`.
+        let _ = self.len();
         Drain { map: self }
     }
 }

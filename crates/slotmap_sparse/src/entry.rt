@@ -5,10 +5,10 @@ ghost use Rattle.std.specs.FinMap as map;
 ghost use Rattle.std.specs.Option.{UnwrapsOrElse};
 ghost use Rattle.std.specs.Borrow.{sem, MutBor};
 ghost use Rattle.std.specs.Map.Calls.{ModifiesValue};
-ghost use Rattle.slotmap_sparse.specs.Content.{room};
+ghost use Rattle.slotmap_sparse.specs.Content.{IsContent, room};
 
-use crate::SparseSecondaryMap;
 use crate::find::Found;
+use crate::{DefaultHasher, SparseSecondaryMap};
 use slotmap_core::errors::{OutOfMemory, PutError};
 use slotmap_core::keys::Key;
 use slotmap_core::secondary::NoEntry;
@@ -20,7 +20,7 @@ use std::{fmt, mem};
 /// [`SparseSecondaryMap::entry`] and [`SparseSecondaryMap::try_entry`] return it. The contracts of
 /// its calls require `IsInPlace`, which these two ensure.
 #[derive(Drop)]
-pub enum Entry<'a, K, V, S: BuildHasher> {
+pub enum Entry<'a, K, V, S: BuildHasher = DefaultHasher> {
     /// The key is in the map.
     Occupied(OccupiedEntry<'a, K, V, S>),
     /// The key isn't in the map, and its index has no newer key.
@@ -29,18 +29,16 @@ pub enum Entry<'a, K, V, S: BuildHasher> {
 
 /// The entry of a key that is in the map.
 #[derive(Drop)]
-pub struct OccupiedEntry<'a, K, V, S: BuildHasher> {
+pub struct OccupiedEntry<'a, K, V, S: BuildHasher = DefaultHasher> {
     map: &'a mut SparseSecondaryMap<K, V, S>,
     key: K,
-    // Where the pair of the key was found. It is looked for there first.
-    place: usize,
 }
 
 /// The entry of a key that isn't in the map and can be inserted.
 ///
 /// Nothing is at its index: an older key is removed already.
 #[derive(Drop)]
-pub struct VacantEntry<'a, K, V, S: BuildHasher> {
+pub struct VacantEntry<'a, K, V, S: BuildHasher = DefaultHasher> {
     map: &'a mut SparseSecondaryMap<K, V, S>,
     key: K,
 }
@@ -57,7 +55,7 @@ impl<K: Key, V: Drop, S: BuildHasher + Drop> SparseSecondaryMap<K, V, S> {
     /// `SecondaryMap` keeps the older key. The call allocates nothing and always returns `Ok`.
     /// Takes constant time.
     ///
-    /// If there is no entry, the map is as before. A proof gets this from the contract of
+    /// If there is no entry, the map is unchanged. A proof gets this from the contract of
     /// `try_entry`.
     ///
     /// ```
@@ -71,6 +69,7 @@ impl<K: Key, V: Drop, S: BuildHasher + Drop> SparseSecondaryMap<K, V, S> {
         ensures never_refused { IsOk result }
         ensures which { IfOk result (IsEntryOf K.data_of self.old.pairs (K.data_of key)) }
         ensures ok { IfEntry result (Enters K.data_of self.entry key) }
+        ensures was_valid { IsContent self.old }
     {
         match self.try_entry(key) {
             Ok(entry) => Ok(Some(entry)),
@@ -80,7 +79,7 @@ impl<K: Key, V: Drop, S: BuildHasher + Drop> SparseSecondaryMap<K, V, S> {
 
     /// Returns the entry of a key, with `Older` as an error if `entry` would return `None`.
     ///
-    /// Then the map is as before. It never fails with `Memory`. Apart from that it does the same as
+    /// Then the map is unchanged. It never fails with `Memory`. Apart from that it does the same as
     /// `entry`. Rust lacks this call.
     ///
     /// ```
@@ -94,16 +93,11 @@ impl<K: Key, V: Drop, S: BuildHasher + Drop> SparseSecondaryMap<K, V, S> {
 
         ensures err { IfErr result (λ error. (error ≡ no_entry.Older) × (entry self.old.pairs (K.data_of key) ≡ no_entry)) }
         ensures* unchanged { sem 𝓛 (rests_if_err K.row V.row S.row S.Hasher.row S.BuildHasher S.Hasher.Hasher self.entry result) }
+        ensures was_valid { IsContent self.old }
     {
         match self.find(key) {
             Found::No => return Err(NoEntry::Older),
-            Found::Occupied(place) => {
-                return Ok(Entry::Occupied(OccupiedEntry {
-                    map: self,
-                    key,
-                    place,
-                }));
-            }
+            Found::Occupied => return Ok(Entry::Occupied(OccupiedEntry { map: self, key })),
             Found::Empty => return Ok(Entry::Vacant(VacantEntry { map: self, key })),
             Found::Outdated => {}
         }
@@ -155,9 +149,9 @@ impl<'a, K: Key, V: Drop, S: BuildHasher + Drop> Entry<'a, K, V, S> {
         match self {
             Entry::Vacant(entry) => Entry::Vacant(entry),
             Entry::Occupied(entry) => {
-                let OccupiedEntry { map, key, place } = entry;
-                f(map.value_near(place, key));
-                Entry::Occupied(OccupiedEntry { map, key, place })
+                let OccupiedEntry { map, key } = entry;
+                f(map.get_unchecked_mut(key));
+                Entry::Occupied(OccupiedEntry { map, key })
             }
         }
     }
@@ -272,9 +266,8 @@ impl<'a, K: Key, V: Drop, S: BuildHasher + Drop> VacantEntry<'a, K, V, S> {
         ensures room { map.len (entry_map (Vacant self.entry)).pairs < (entry_map (Vacant self.entry)).capacity → IsOk result }
     {
         let VacantEntry { map, key } = self;
-        let place = map.len();
         map.add(key, value)?;
-        Ok(map.value_near(place, key))
+        Ok(map.get_unchecked_mut(key))
     }
 
     // Inserts the result of the closure, once there is memory for it.
@@ -291,9 +284,8 @@ impl<'a, K: Key, V: Drop, S: BuildHasher + Drop> VacantEntry<'a, K, V, S> {
         if map.make_room(1).is_err() {
             return Err(OutOfMemory);
         }
-        let place = map.len();
         map.add(key, f()).unwrap();
-        Ok(map.value_near(place, key))
+        Ok(map.get_unchecked_mut(key))
     }
 }
 
@@ -342,9 +334,8 @@ impl<'a, K: Key, V: Drop, S: BuildHasher + Drop> OccupiedEntry<'a, K, V, S> {
         ensures value { entry_value K.data_of (Occupied self.old) ≡ Some result.now }
         ensures written { (w : V) → IsWritten K.data_of (Occupied self.old) w (Occupied (occupied_with K.data_of self.old w)) }
     {
-        let place = self.place;
         let key = self.key;
-        self.map.value_near(place, key)
+        self.map.get_unchecked_mut(key)
     }
 
     /// Returns a mutable reference to the value, valid for as long as the map is borrowed.
@@ -362,8 +353,8 @@ impl<'a, K: Key, V: Drop, S: BuildHasher + Drop> OccupiedEntry<'a, K, V, S> {
         ensures* writes_back { sem 𝓛 (entry_lends K.row V.row S.row S.Hasher.row S.BuildHasher S.Hasher.Hasher K.data_of (Occupied self.entry) result) }
         ensures value { entry_value K.data_of (Occupied self.entry) ≡ Some result.now }
     {
-        let OccupiedEntry { map, key, place } = self;
-        map.value_near(place, key)
+        let OccupiedEntry { map, key } = self;
+        map.get_unchecked_mut(key)
     }
 
     /// Sets the value and returns the one before, in constant time.
@@ -397,7 +388,7 @@ impl<'a, K: Key, V: Drop, S: BuildHasher + Drop> OccupiedEntry<'a, K, V, S> {
         ensures removes { self.exit.0.now.pairs ≡ entry_without K.data_of (Occupied self.entry) }
         ensures room { room (entry_map (Occupied self.entry)) ≤ room self.exit.0.now }
     {
-        let OccupiedEntry { map, key, .. } = self;
+        let OccupiedEntry { map, key } = self;
         (key, map.take_live(key))
     }
 

@@ -1,10 +1,11 @@
 //! Many pairs at once.
 
-ghost use Rattle.std.specs.Prelude.{◌≡◌, ◌≤◌, List, IfOk, IfErr, OnErr, Some};
+ghost use Rattle.std.specs.Prelude.{◌≡◌, ◌≤◌, List, IfOk, IfErr, OnErr, Some, None};
 ghost use Rattle.std.specs.Iterator.{IsFinite, Drains, YieldsThen};
 ghost use Rattle.std.specs.FinMap as map;
 ghost use Rattle.slotmap_sparse.specs.Content.{IsContent};
 ghost use Rattle.slotmap_core.specs.SecondaryExtend.{AllPut, Extends, ExtendsBy};
+ghost use Rattle.slotmap_sparse.specs.Extend.{LacksRoom};
 
 use crate::SparseSecondaryMap;
 use slotmap_core::keys::Key;
@@ -30,8 +31,10 @@ impl<K: Key, V: Drop, S: BuildHasher + Drop> SparseSecondaryMap<K, V, S> {
             × Extends K.data_of it self.old.pairs result self.new.pairs I.IntoIter.next_gives }
         ensures capacity { self.old.capacity ≤ self.new.capacity }
 
-        // A pair is returned only once the map holds as many keys as it had memory for.
+        // A pair is returned only once the map holds as many keys as it had memory for, and if
+        // nothing is at its index.
         ensures full { OnErr result (self.old.capacity ≤ map.len self.new.pairs) }
+        ensures absent { IfErr result (λ back. map.get self.new.pairs (K.data_of back.0).index ≡ None) }
 
         ensures valid { IsContent self.new }
     {
@@ -65,8 +68,10 @@ impl<K: Key, V: Drop, S: BuildHasher + Drop> SparseSecondaryMap<K, V, S> {
             × ExtendsBy K.data_of it self.old.pairs result self.new.pairs I.IntoIter.next_gives }
         ensures capacity { self.old.capacity ≤ self.new.capacity }
 
-        // A pair is returned only once the map holds as many keys as it had memory for.
+        // A pair is returned only once the map holds as many keys as it had memory for, and if
+        // nothing is at its index.
         ensures full { OnErr result (self.old.capacity ≤ map.len self.new.pairs) }
+        ensures absent { IfErr result (λ back. map.get self.new.pairs (K.data_of back.0).index ≡ None) }
 
         ensures valid { IsContent self.new }
     {
@@ -105,7 +110,8 @@ impl<K: Key, V: Drop, S: BuildHasher + Drop> SparseSecondaryMap<K, V, S> {
         ensures ok { IfOk result (λ all. (it : I.IntoIter) × (pairs : List (K × V)) × I.into_iter_gives iter it
             × Drains I.IntoIter.next_gives it pairs × AllPut K.data_of map.empty pairs all.pairs) }
         ensures err { IfErr result (λ back. (pair : K × V) × (back ≡ Some pair) × (it : I.IntoIter) × (pairs : List (K × V)) × (rest : I.IntoIter)
-            × I.into_iter_gives iter it × YieldsThen I.IntoIter.next_gives it pairs (Some pair) rest) }
+            × I.into_iter_gives iter it × YieldsThen I.IntoIter.next_gives it pairs (Some pair) rest
+            × LacksRoom K.data_of pairs pair) }
         ensures valid { IfOk result IsContent }
     {
         let mut all = SparseSecondaryMap::empty(alloc, hash_builder);
@@ -141,7 +147,8 @@ impl<K: Key, V: Drop> SparseSecondaryMap<K, V> {
         ensures ok { IfOk result (λ all. (it : I.IntoIter) × (pairs : List (K × V)) × I.into_iter_gives iter it
             × Drains I.IntoIter.next_gives it pairs × AllPut K.data_of map.empty pairs all.pairs) }
         ensures err { IfErr result (λ back. (pair : K × V) × (back ≡ Some pair) × (it : I.IntoIter) × (pairs : List (K × V)) × (rest : I.IntoIter)
-            × I.into_iter_gives iter it × YieldsThen I.IntoIter.next_gives it pairs (Some pair) rest) }
+            × I.into_iter_gives iter it × YieldsThen I.IntoIter.next_gives it pairs (Some pair) rest
+            × LacksRoom K.data_of pairs pair) }
         ensures valid { IfOk result IsContent }
     {
         SparseSecondaryMap::from_iter_with_hasher(alloc, iter, BuildHasherDefault::new())

@@ -29,8 +29,7 @@ impl<K: Key, V: Drop, S: BuildHasher + Drop> SparseSecondaryMap<K, V, S> {
         self.slots.reserve(additional)
     }
 
-    // Puts the value under a key whose index is vacant, if there is memory for it. Its pair is then
-    // the last of the hash map.
+    // Puts the value under a key whose index is vacant, if there is memory for it.
     #[inline(always)]
     pub(crate) fn add(&mut self, key: K, value: V) -> Result<(), PutError<V>>
         requires not_null { is_null (K.data_of key) ≡ false }
@@ -140,6 +139,7 @@ impl<K: Key, V: Drop, S: BuildHasher + Drop> SparseSecondaryMap<K, V, S> {
     pub fn or_put(&mut self, key: K, value: V) -> OrPut<V>
         ensures does { OrPuts self.old.pairs (K.data_of key) value result self.new.pairs }
         ensures room { result ≡ or_put.Memory value → self.old.capacity ≤ map.len self.old.pairs }
+        ensures absent { result ≡ or_put.Memory value → map.get self.old.pairs (K.data_of key).index ≡ None }
 
         // Allocates only if nothing is at the index, and never for the null key.
         ensures stood { map.contains_key self.old.pairs (K.data_of key).index ≡ true
@@ -150,7 +150,7 @@ impl<K: Key, V: Drop, S: BuildHasher + Drop> SparseSecondaryMap<K, V, S> {
     {
         match self.find(key) {
             Found::No => OrPut::NoEntry(value),
-            Found::Occupied(_) => OrPut::Kept(value),
+            Found::Occupied => OrPut::Kept(value),
             Found::Outdated | Found::Empty => match self.insert(key, value) {
                 Ok(_) => OrPut::Placed,
                 Err(PutError(value)) => OrPut::Memory(value),

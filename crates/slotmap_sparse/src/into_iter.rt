@@ -6,9 +6,9 @@ ghost use Rattle.slotmap_core.specs.Secondary.{keyed};
 ghost use Rattle.slotmap_core.specs.Listing.{IsListing};
 
 use crate::SparseSecondaryMap;
-use indexmap::map;
 use slotmap_core::keys::{Key, KeyData};
 use std::alloc::Global;
+use std::collections::hash_map;
 use std::fmt;
 use std::hash::BuildHasher;
 use std::iter::FusedIterator;
@@ -22,7 +22,7 @@ use std::marker::{Model, PhantomData};
 /// with it.
 #[derive(Drop)]
 pub struct IntoIter<K, V> {
-    pairs: map::IntoIter<u32, (u32, V), Global>,
+    pairs: hash_map::IntoIter<u32, (u32, V), Global>,
     keys: PhantomData<K>,
 }
 

@@ -8,9 +8,9 @@ ghost use Rattle.slotmap_core.specs.Listing.{IsListing, IsKeyListing, IsValueLis
 ghost use Rattle.slotmap_sparse.specs.Content.{IsContent};
 
 use crate::SparseSecondaryMap;
-use indexmap::map;
 use slotmap_core::keys::{Key, KeyData};
 use std::alloc::AllocError;
+use std::collections::hash_map;
 use std::fmt;
 use std::hash::BuildHasher;
 use std::iter::FusedIterator;
@@ -23,7 +23,7 @@ use std::marker::{Model, PhantomData};
 /// A clone of it yields the same pairs; cloning allocates nothing.
 #[derive(Drop)]
 pub struct Iter<'a, K, V> {
-    pairs: map::Iter<'a, u32, (u32, V)>,
+    pairs: hash_map::Iter<'a, u32, (u32, V)>,
     keys: PhantomData<K>,
 }
 

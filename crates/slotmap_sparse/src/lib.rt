@@ -41,12 +41,12 @@ mod slots;
 
 pub use drain::Drain;
 pub use entry::{Entry, OccupiedEntry, VacantEntry};
-use indexmap::IndexMap;
 pub use into_iter::IntoIter;
 pub use iter::{Iter, Keys, Values};
 use slotmap_core::errors::ReserveError;
 use slotmap_core::keys::Key;
 use std::alloc::Global;
+use std::collections::HashMap;
 use std::fmt;
 use std::hash::{BuildHasher, BuildHasherDefault, FoldHasher};
 use std::marker::{Model, PhantomData};
@@ -68,7 +68,7 @@ pub type DefaultHasher = BuildHasherDefault<FoldHasher>;
 /// - Versions wrap around: of two versions more than 2147483648 apart, the larger one is the older.
 /// - Index 0, which no primary map hands out, is an index like any other here.
 ///
-/// It needs memory for its own keys alone, where `SecondaryMap` needs it for each index up to the
+/// It needs memory only for its own keys, where `SecondaryMap` needs it for each index up to the
 /// largest. A call on one key takes constant time if the hasher spreads the indices. Iterators
 /// yield in any order.
 ///
@@ -88,7 +88,7 @@ pub type DefaultHasher = BuildHasherDefault<FoldHasher>;
 #[derive(Drop)]
 pub struct SparseSecondaryMap<K, V, S: BuildHasher = DefaultHasher> {
     // For each index the version of its key, and the value.
-    slots: IndexMap<u32, (u32, V), S, Global>,
+    slots: HashMap<u32, (u32, V), S, Global>,
     // For the lists that the map is written as.
     alloc: Global,
     keys: PhantomData<K>,
@@ -180,7 +180,7 @@ impl<K: Key, V: Drop, S: BuildHasher + Drop> SparseSecondaryMap<K, V, S> {
         ensures valid { IsContent result }
     {
         SparseSecondaryMap {
-            slots: IndexMap::with_hasher(alloc, hash_builder),
+            slots: HashMap::with_hasher(alloc, hash_builder),
             alloc,
             keys: PhantomData,
         }
@@ -212,7 +212,7 @@ impl<K: Key, V: Drop, S: BuildHasher + Drop> SparseSecondaryMap<K, V, S> {
             return Err(ReserveError::TooGreat);
         }
         Ok(SparseSecondaryMap {
-            slots: IndexMap::with_capacity_and_hasher(alloc, capacity, hash_builder)?,
+            slots: HashMap::with_capacity_and_hasher(alloc, capacity, hash_builder)?,
             alloc,
             keys: PhantomData,
         })

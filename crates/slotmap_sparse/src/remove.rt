@@ -7,7 +7,7 @@ ghost use Rattle.slotmap_sparse.specs.Content.{IsContent, room};
 ghost use Rattle.slotmap_sparse.specs.Drain.{TakesPair};
 
 use crate::SparseSecondaryMap;
-use slotmap_core::keys::{Key, KeyData};
+use slotmap_core::keys::Key;
 use std::hash::BuildHasher;
 
 impl<K: Key, V: Drop, S: BuildHasher + Drop> SparseSecondaryMap<K, V, S> {
@@ -56,19 +56,19 @@ impl<K: Key, V: Drop, S: BuildHasher + Drop> SparseSecondaryMap<K, V, S> {
         ensures room { room self.old ≤ room self.new }
         ensures valid { IsContent self.new }
     {
-        self.slots.swap_remove(&key.data().idx())
+        self.slots.remove(&key.data().idx())
     }
 
-    // Removes the last key of the hash map, and returns it with its value.
-    pub(crate) fn take_last(&mut self) -> Option<(K, V)>
+    // Removes the first key of the hash map, and returns it with its value.
+    #[inline(always)]
+    pub(crate) fn take_first(&mut self) -> Option<(K, V)>
         ensures takes { TakesPair K.data_of self.old result self.new }
         ensures room { room self.old ≤ room self.new }
         ensures valid { IsContent self.new }
     {
-        if self.slots.is_empty() {
+        let Some(key) = self.keys().next() else {
             return None;
-        }
-        let (index, (version, value)) = self.slots.pop().unwrap();
-        Some((K::from(KeyData::new(index, version)), value))
+        };
+        Some((key, self.take_live(key)))
     }
 }

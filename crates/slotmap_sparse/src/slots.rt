@@ -2,13 +2,13 @@
 
 ghost use Rattle.std.specs.Prelude.{◌≡◌, ◌<◌, ◌≤◌, ◌^◌, ◌%◌, None, IfOk, OnOk, IsOk, IfErr, IsSome};
 ghost use Rattle.std.specs.FinMap as map;
-ghost use Rattle.slotmap_core.specs.Key.{null_key};
-ghost use Rattle.slotmap_core.specs.Secondary.{keyed};
-ghost use Rattle.slotmap_core.specs.SecondaryWritten.{slot_of};
+ghost use Rattle.slotmap_core.specs.Clones.{ClonesEqual, IsCloneOf};
+ghost use Rattle.slotmap_core.specs.Key.{Key, null_key};
+ghost use Rattle.slotmap_core.specs.Secondary.{get, keyed};
 ghost use Rattle.slotmap_core.specs.Contents.{contents};
 ghost use Rattle.slotmap_core.specs.Slots.{Accepts, RefusesStart};
 ghost use Rattle.slotmap_sparse.specs.Content.{IsContent};
-ghost use Rattle.slotmap_sparse.specs.Written.{Reaches, Writes, with_slot};
+ghost use Rattle.slotmap_sparse.specs.Written.{Reaches, Writes, WritesClones, IsCloneSlot, with_slot};
 
 use crate::SparseSecondaryMap;
 use slotmap_core::errors::{OutOfMemory, SlotsError};
@@ -25,11 +25,11 @@ impl<K: Key, V: Drop, S: BuildHasher + Drop> SparseSecondaryMap<K, V, S> {
     ///
     /// The list has one record for index 0, and one for each further index up to the largest of a
     /// key. The slot of a key has the value and the odd version; every other slot has no value and
-    /// version 0. The map that `from_slots` reads from the list holds the same.
+    /// version 0. The map that `from_slots` reads from the list holds the same keys with these clones.
     ///
     /// It fails with `OutOfMemory` if memory runs out, for the list or for a clone. Memory for the
     /// whole list is allocated first. Takes time linear in the largest index, and clones each value
-    /// once. A map that holds a key of index 0, or one of index 4294967293, writes a list that
+    /// once. A map that holds a key of index 0, or of an index from 4294967293 on, writes a list that
     /// `from_slots` rejects. In Rust `Serialize` writes the same records.
     ///
     /// ```
@@ -41,10 +41,16 @@ impl<K: Key, V: Drop, S: BuildHasher + Drop> SparseSecondaryMap<K, V, S> {
     pub fn to_slots(&self) -> Result<Vec<SlotRecord<V>>, OutOfMemory>
     where
         V: Clone,
-        // A clone has to equal its value.
-        requires { (x y : V) → V.is_clone x y → y ≡ x }
-        ensures writes { IfOk result (λ slots. Writes self.now.pairs slots.items) }
-        ensures contents { IfOk result (λ slots. contents slots.items ≡ keyed self.now.pairs) }
+        ensures writes { IfOk result (λ slots. WritesClones V.is_clone self.now.pairs slots.items) }
+        ensures contents { IfOk result (λ slots.
+            (k : Key) → IsCloneOf V.is_clone (get self.now.pairs k) (map.get (contents slots.items) k)) }
+
+        // If a clone of a value always equals it, the list is that of the map itself.
+        ensures writes_if_clones_equal { IfOk result (λ slots.
+            ClonesEqual V.is_clone → Writes self.now.pairs slots.items) }
+        ensures contents_if_clones_equal { IfOk result (λ slots.
+            ClonesEqual V.is_clone → contents slots.items ≡ keyed self.now.pairs) }
+
         ensures valid { IsContent self.now }
     {
         let count = self.place_count();
@@ -75,8 +81,7 @@ impl<K: Key, V: Drop, S: BuildHasher + Drop> SparseSecondaryMap<K, V, S> {
     fn record(&self, index: u32) -> Result<SlotRecord<V>, OutOfMemory>
     where
         V: Clone,
-        requires { (x y : V) → V.is_clone x y → y ≡ x }
-        ensures { IfOk result (λ slot. slot ≡ slot_of (map.get self.now.pairs index)) }
+        ensures { IfOk result (IsCloneSlot V.is_clone (map.get self.now.pairs index)) }
     {
         match self.slots.get(&index) {
             Some((version, value)) => Ok(SlotRecord {

@@ -1,20 +1,16 @@
-use Rattle.std.proofs.Common.{◌≡◌, ℕ, refl, ap, ◌∙◌}
-use Rattle.std.proofs.lemmas.Map.Entries.{entries_from_clone}
-use Rattle.slotmap_sparse.specs.Entries.{pairs_of}
+use Rattle.std.proofs.Common.{refl, ap}
 use Rattle.slotmap_sparse.proofs.EntriesLemmas.{well_formed}
+use Rattle.slotmap_sparse.proofs.CloneLemmas.{has_clones, IsSound-cloned, same_if_equal}
 use Rattle.slotmap_sparse.proofs.SparseSecondaryMap.clone.Goals as goal
 
 pub invariant_of-result : goal.invariant_of-result
-invariant_of-result g c =
-    let same : c.in_ok-slots.slots.entries ≡ c.self.inside.slots.entries = entries_from_clone _ _ (λ x y r. r)
-    (λ (x y : ℕ × g.row.V.Denot) r i. (r.0 i, c.requires x.1 y.1 r.1 i)) _ _ c.in_ok-slots.ensures.cases in
-    rw same c.self.invariant
+invariant_of-result g c = IsSound-cloned g.V.Clone.is_clone _ _ c.in_ok-slots.ensures.cases c.self.invariant
 
-pub returns-clause-copies : goal.returns-clause-copies
-returns-clause-copies g c =
-    let same : c.in_ok-slots.slots.entries ≡ c.self.inside.slots.entries = entries_from_clone _ _ (λ x y r. r)
-    (λ (x y : ℕ × g.row.V.Denot) r i. (r.0 i, c.requires x.1 y.1 r.1 i)) _ _ c.in_ok-slots.ensures.cases in
-    ap pairs_of same ∙ ap (λ m. m.pairs) c.self.view_is
+pub returns-clause-clones : goal.returns-clause-clones
+returns-clause-clones g c = has_clones g.V.Clone.is_clone _ _ c.in_ok-slots.ensures.cases _ (ap (λ m. m.pairs) c.self.view_is)
+
+pub returns-clause-copies_if_clones_equal : goal.returns-clause-copies_if_clones_equal
+returns-clause-copies_if_clones_equal g c = λ equal. same_if_equal g.V.Clone.is_clone _ _ c.in_ok-slots.ensures.cases equal _ (ap (λ m. m.pairs) c.self.view_is)
 
 pub returns-clause-valid : goal.returns-clause-valid
 returns-clause-valid g c = well_formed c.in_ok-slots.slots _ refl (invariant_of-result g c)

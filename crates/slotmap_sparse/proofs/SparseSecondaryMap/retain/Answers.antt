@@ -40,7 +40,7 @@ returns-clause-retained g c =
     retains_by g.F.FnMut g.K.Key.data_of _ (λ x. x.0) _ _ _ _ (ap (λ m. m.pairs) c.self.view_is) c.self.invariant.unique c.retain.ensures.unique done
 
 pub returns-clause-room : goal.returns-clause-room
-returns-clause-room g c = more_room c.self.inside.slots c.retain.new.self _ c.self.view_is c.self.invariant (invariant_of-self g c) c.retain.ensures.room.0
+returns-clause-room g c = more_room c.self.inside.slots c.retain.new.self _ c.self.view_is c.self.invariant (invariant_of-self g c) c.retain.ensures.spare
 
 pub returns-clause-valid : goal.returns-clause-valid
 returns-clause-valid g c = well_formed c.retain.new.self _ refl (invariant_of-self g c)

@@ -1,21 +1,12 @@
 use Rattle.std.proofs.Common.{ap, ◌∙◌}
 use Rattle.std.specs.FinMap as map
-use Rattle.std.specs.Option.{option_map}
 use Rattle.slotmap_sparse.proofs.EntriesLemmas.{found_pair, well_formed}
 use Rattle.slotmap_sparse.proofs.SparseSecondaryMap.slot.Goals as goal
-
-pub returns-in_err-place-clause-value : goal.returns-in_err-place-clause-value
-returns-in_err-place-clause-value g c =
-    let at = c.idx.ensures.value ∙ ap (λ k. k.index) c.data.ensures.value in
-    ap (option_map (λ p. p.1.now)) c.from_residual.ensures ∙ c.in_err-place.ensures.value ∙ found_pair _ _ (ap (λ m. m.pairs) c.self.view_is) _ ∙ ap (map.get c.args.self.now.pairs) at
-
-pub returns-in_err-place-clause-valid : goal.returns-in_err-place-clause-valid
-returns-in_err-place-clause-valid g c = well_formed c.self.inside.slots _ c.self.view_is c.self.invariant
 
 pub returns-clause-value : goal.returns-clause-value
 returns-clause-value g c =
     let at = c.idx.ensures.value ∙ ap (λ k. k.index) c.data.ensures.value in
-    c.in_ok-place.ensures.value ∙ found_pair _ _ (ap (λ m. m.pairs) c.self.view_is) _ ∙ ap (map.get c.args.self.now.pairs) at
+    c.get.ensures.value ∙ found_pair _ _ (ap (λ m. m.pairs) c.self.view_is) _ ∙ ap (map.get c.args.self.now.pairs) at
 
 pub returns-clause-valid : goal.returns-clause-valid
 returns-clause-valid g c = well_formed c.self.inside.slots _ c.self.view_is c.self.invariant

@@ -1,11 +1,42 @@
-use Rattle.std.proofs.Common.{arith}
-use Rattle.slotmap_core.proofs.SecondaryWrittenLemmas.{contents_written}
+use Rattle.std.proofs.Common.{◌+◌, length, sym, ap, subst, ◌∙◌, arith}
+use Rattle.std.specs.FinMap as map
+use Rattle.std.proofs.lemmas.List.{length_push}
+use Rattle.slotmap_sparse.specs.Written.{Reaches, IsCloneSlot}
+use Rattle.slotmap_sparse.proofs.WrittenLemmas.{Copies-start, Copies-push, writes_clones, contents_clones, writes_equal, contents_equal}
+use Rattle.slotmap_sparse.proofs.SparseSecondaryMap.to_slots.Goals.{After-loop-index}
 use Rattle.slotmap_sparse.proofs.SparseSecondaryMap.to_slots.Goals as goal
 
-pub returns-clause-contents : goal.returns-clause-contents
-returns-clause-contents g c =
+pub loop-index-init : goal.loop-index-init
+loop-index-init g c = record {
+  long = ap length c.in_ok-slots.ensures.items;
+  copied = rw (c.in_ok-slots.ensures.items) (Copies-start g.V.Clone.is_clone c.args.self.now.pairs);
+  room = omega (arith, c.in_ok-slots.ensures.len, c.in_ok-slots.ensures.capacity);
+}
+
+pub loop-index-preserved : goal.loop-index-preserved
+loop-index-preserved g c =
     let at = c.loop-index in
-    let counted = c.place_count-count.ensures in
-    contents_written at.slots.items c.args.self.now.pairs counted.valid.keys
-    (λ i has. omega (arith, counted.count.within i has, c.loop-index-test.false, at.invariant.long))
-    (λ i less. at.invariant.each i (omega (arith, at.invariant.long)))
+    let pairs = c.args.self.now.pairs in
+    let slot = c.in_ok-record.field-0 in
+    let made = subst (λ i. IsCloneSlot g.V.Clone.is_clone (map.get pairs i) slot) (sym at.invariant.long) c.in_ok-record.ensures in
+    record {
+      long = ap length c.push_reserved.ensures.items ∙ length_push at.slots.items slot ∙ ap (λ n. n + 1) at.invariant.long;
+      copied = rw (c.push_reserved.ensures.items) (Copies-push g.V.Clone.is_clone pairs at.slots.items at.invariant.copied slot made);
+      room = omega (arith, at.invariant.room, c.push_reserved.ensures.len, c.push_reserved.ensures.capacity);
+    }
+
+-- at the end of the loop the records reach up to the largest index
+reaches : (g : _) (c : After-loop-index g) → Reaches c.args.self.now.pairs (length c.loop-index.slots.items)
+reaches g c = subst (Reaches c.args.self.now.pairs) (omega (arith, c.loop-index.invariant.long, c.loop-index-test.false)) c.place_count-count.ensures.count
+
+pub returns-clause-writes : goal.returns-clause-writes
+returns-clause-writes g c = writes_clones g.V.Clone.is_clone _ _ c.loop-index.invariant.copied (reaches g c) c.place_count-count.ensures.valid.keys
+
+pub returns-clause-contents : goal.returns-clause-contents
+returns-clause-contents g c = contents_clones g.V.Clone.is_clone _ _ c.loop-index.invariant.copied (reaches g c) c.place_count-count.ensures.valid.keys
+
+pub returns-clause-writes_if_clones_equal : goal.returns-clause-writes_if_clones_equal
+returns-clause-writes_if_clones_equal g c = writes_equal g.V.Clone.is_clone _ _ c.loop-index.invariant.copied (reaches g c)
+
+pub returns-clause-contents_if_clones_equal : goal.returns-clause-contents_if_clones_equal
+returns-clause-contents_if_clones_equal g c = λ equal. contents_equal g.V.Clone.is_clone _ _ c.loop-index.invariant.copied (reaches g c) equal c.place_count-count.ensures.valid.keys

@@ -1,11 +1,10 @@
-use Rattle.std.proofs.Common.{◌≡◌, ◌<◌, ◌≤◌, ◌+◌, ℕ, length, slice_get, Some, vec_len, vec_capacity}
-use Rattle.std.specs.FinMap as map
-use Rattle.slotmap_core.specs.SecondaryWritten.{slot_of}
+use Rattle.std.proofs.Common.{◌≡◌, ◌≤◌, ◌+◌, length, vec_len, vec_capacity}
+use Rattle.slotmap_sparse.proofs.WrittenLemmas.{Copies}
 use Rattle.slotmap_sparse.proofs.SparseSecondaryMap.to_slots.Given as goal
 
 abbrev pub invariant-loop-index : goal.invariant-loop-index
 invariant-loop-index g l = record {
   long : length l.slots.items ≡ l.index;
-  each : (i : ℕ) → i < l.index → slice_get l.slots.items i ≡ Some (slot_of (map.get l.self.pairs i));
+  copied : Copies g.V.Clone.is_clone l.self.pairs l.slots.items;
   room : vec_len l.slots + l.count ≤ vec_capacity l.slots + l.index;
 }

@@ -27,6 +27,7 @@ returns g c =
         };
         err = tt;
         unchanged = tt;
+        was_valid = c.find.ensures.valid;
       },
     )
 
@@ -51,5 +52,6 @@ returns-in-Empty g c =
         };
         err = tt;
         unchanged = tt;
+        was_valid = c.find.ensures.valid;
       },
     )

@@ -16,4 +16,4 @@ returns-in-Occupied-clause-same_removal g c = grind (arith, without_own, c.requi
 
 pub returns-in-Occupied-clause-value : goal.returns-in-Occupied-clause-value
 returns-in-Occupied-clause-value g c =
-    rw (c.in-Occupied.is, c.value_near.ensures.value, get_bound) (record { lent = c.value_near.result; result = c.f.result; left = _; before = refl; met = c.f.ensures; after = refl })
+    rw (c.in-Occupied.is, c.get_unchecked_mut.ensures.value, get_bound) (record { lent = c.get_unchecked_mut.result; result = c.f.result; left = _; before = refl; met = c.f.ensures; after = refl })

@@ -3,8 +3,8 @@ use Rattle.slotmap_core.specs.Secondary.{bind, contains_key}
 use Rattle.slotmap_core.proofs.StandLemmas.{in_own, bind_twice, lent_is}
 use Rattle.slotmap_sparse.proofs.entry.VacantEntry.insert.Goals as goal
 
-pub value_near-requires : goal.value_near-requires
-value_near-requires g c =
+pub get_unchecked_mut-requires : goal.get_unchecked_mut-requires
+get_unchecked_mut-requires g c =
     let k = g.K.Key.data_of c.args.self.key in
     ap (λ m. contains_key m k) c.in_ok-add.ensures.ok ∙ in_own c.args.self.map.now.pairs k c.args.value
 
@@ -24,7 +24,7 @@ returns g c =
       ),
       record {
         writes_back = tt;
-        value = lent_is e.map.now.pairs c.add.new.self.pairs k v _ puts c.value_near.ensures.value;
+        value = lent_is e.map.now.pairs c.add.new.self.pairs k v _ puts c.get_unchecked_mut.ensures.value;
         err = tt;
         room = λ enough. refl;
       },

@@ -4,8 +4,8 @@ use Rattle.slotmap_core.proofs.StandLemmas.{in_own, bind_twice, lent_is}
 use Rattle.slotmap_sparse.proofs.EntriesLemmas.{of_ok}
 use Rattle.slotmap_sparse.proofs.entry.VacantEntry.insert_with.Goals as goal
 
-pub value_near-requires : goal.value_near-requires
-value_near-requires g c =
+pub get_unchecked_mut-requires : goal.get_unchecked_mut-requires
+get_unchecked_mut-requires g c =
     let k = g.K.Key.data_of c.args.self.key in
     let v = c.f.result in
     ap (λ m. contains_key m k) (of_ok _ _ _ c.unwrap.ensures c.add.ensures.ok) ∙ in_own c.make_room.new.self.pairs k v
@@ -26,7 +26,7 @@ returns g c =
       ),
       record {
         writes_back = tt;
-        value = rw (lent_is e.map.now.pairs c.add.new.self.pairs k v _ puts c.value_near.ensures.value) c.f.ensures;
+        value = rw (lent_is e.map.now.pairs c.add.new.self.pairs k v _ puts c.get_unchecked_mut.ensures.value) c.f.ensures;
         room = λ enough. refl;
       },
     )
