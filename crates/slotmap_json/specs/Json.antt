@@ -103,3 +103,8 @@ module _ {V : Type 0} where
   abbrev pub IsRefused : (Data → Result V JsonError → Type 0) → Data → JsonError → Type 0
   IsRefused reads d Shape = (as_array d ≡ None) ⊎ HasRefusal reads d Shape
   IsRefused reads d Memory = HasElements d
+
+  -- what g may read of the JSON that f may give for a value is that value; and f gives null for none
+  pub record ReadsBack (gives : V → Data → Type 0) (reads : Data → Result V JsonError → Type 0) : Type 0 where
+    pub kept : (v : V) (x : Data) → gives v x → not_null x ≡ Some x
+    pub same : (v : V) (x : Data) (read : Result V JsonError) → gives v x → reads x read → read ≡ Ok v

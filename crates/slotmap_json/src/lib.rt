@@ -1,6 +1,6 @@
 //! JSON of keys and of lists of slots.
 //!
-//! It is a crate of its own, so that the maps don't stand over `serde_json`.
+//! It is a crate of its own, so that the maps don't depend on `serde_json`.
 //!
 //! Each example comes after the line `let alloc = rt.alloc();`.
 #![tactic(auto)]
@@ -9,6 +9,7 @@ ghost use Rattle.std.specs.Prelude.{◌≡◌, ◌≢◌, [], IfOk, IfErr, OnErr
 ghost use Rattle.std.specs.Result.{result_ok};
 ghost use Rattle.serde_json.specs.View.{view};
 ghost use Rattle.slotmap_json.specs.Json.{key_json, read_key, u32_at, GivesJson, IsSlotJson, IsSlotsJson, slot_json, value_at, ReadsJson, ReadsSlot, IsReadAs, IsRefused};
+ghost use Rattle.slotmap_core.specs.Key.{IsKey};
 ghost use Rattle.slotmap_core.specs.declared.errors.JsonError.TheVariants.{Shape};
 
 use serde_json::{Value, json};
@@ -26,7 +27,8 @@ use std::alloc::Global;
 /// assert_eq!(rt; value.to_string(alloc)?.as_str(), "{\"idx\":2,\"version\":3}");
 /// ```
 pub fn key_to_value<K: Key>(alloc: Global, key: K) -> Result<Value, OutOfMemory>
-    ensures { IfOk result (λ value. view value ≡ key_json (K.data_of key)) }
+    ensures value { IfOk result (λ value. view value ≡ key_json (K.data_of key)) }
+    ensures valid { IsKey (K.data_of key) }
 {
     let data = key.data();
     Ok(json!(in alloc; {"idx": data.idx(), "version": data.version()})?)

@@ -127,7 +127,7 @@ where
 /// `look` is called on the value that a `Look` finds; the reply holds what it returns.
 ///
 /// Memory for the keys and for the replies is allocated first. If that fails no command is run,
-/// both maps are as before, and the error holds the commands. After that all commands are run in
+/// both maps are unchanged, and the error holds the commands. After that all commands are run in
 /// order. A command that fails changes nothing, except perhaps the capacity, and its reply says so.
 ///
 /// Each command costs one call of one map.

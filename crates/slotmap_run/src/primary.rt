@@ -1,4 +1,4 @@
-//! Runs of commands on primary maps: the maps that hand out keys.
+//! Runs of commands on primary maps, which hand out keys.
 
 ghost use Rattle.std.specs.Prelude.{◌≡◌, ◌^◌, ◌<◌, length, Ok, IfOk, IfErr, OnErr, IsErr};
 ghost use Rattle.std.specs.Fn.{FnReturns};

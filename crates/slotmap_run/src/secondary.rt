@@ -4,7 +4,7 @@ ghost use Rattle.std.specs.Prelude.{◌≡◌, IfOk, IfErr, OnErr};
 ghost use Rattle.std.specs.List.{AllByRecursion};
 ghost use Rattle.slotmap_core.specs.Run.{Run};
 ghost use Rattle.slotmap_core.specs.SecondaryStep.{Step, given_secondary};
-ghost use Rattle.slotmap_core.specs.SecondaryLaw.{HadMemory, IsFunction, EachAgrees};
+ghost use Rattle.slotmap_core.specs.SecondaryLaw.{HadMemory, Shows, seen_by, EachAgrees};
 
 use crate::given::GivenLook;
 use crate::serves::{Serves, run_all};
@@ -49,7 +49,7 @@ where
 ///
 /// From what the map holds, the replies and the content are a run of the machine of secondary maps.
 /// Take two maps, of whichever kinds, that hold the same. They return the same replies and then
-/// hold the same again, if no allocation fails and `look` always returns the same for the same
+/// hold the same again, if no allocation fails and both closures return the same for the same
 /// value.
 ///
 /// `look` is called on the value that a `Get` finds; the reply holds what it returns.
@@ -88,10 +88,16 @@ where
         IfOk result (λ replies. Run (Step what)
         (S.pairs map.old) commands.items replies.items (S.pairs map.new)) }
 
-    // Each other map that held the same returns the same replies, if no allocation fails.
+    // If `look` always returns what f returns, each other map that held the same returns the same
+    // replies, whatever closure tells f there, and if no allocation fails.
+    ensures run_seen { let what = given_secondary K.data_of L.Fn look in
+        IfOk result (λ replies. (f : V → R) → Shows what.looks f →
+        Run (Step (seen_by K.data_of f))
+        (S.pairs map.old) commands.items replies.items (S.pairs map.new)) }
     ensures agrees { let what = given_secondary K.data_of L.Fn look in
-        IfOk result (λ replies. AllByRecursion HadMemory replies.items → IsFunction what.looks →
-        EachAgrees what (S.pairs map.old) commands.items replies.items (S.pairs map.new)) }
+        IfOk result (λ replies. (f : V → R) → Shows what.looks f →
+        AllByRecursion HadMemory replies.items → EachAgrees (seen_by K.data_of f)
+        (S.pairs map.old) commands.items replies.items (S.pairs map.new)) }
 
     // If there is no memory for the replies, nothing is run.
     ensures err { IfErr result (λ back. back ≡ commands) }
