@@ -16,7 +16,8 @@ pub use Rattle.slotmap_core.proofs.SpentLemmas.{spent_stale, spent_finds_nothing
 pub use Rattle.slotmap_core.proofs.SpentLemmas.{spent_inserts, spent_insert, inserted_not_spent, insert_not_spent}
 pub use Rattle.slotmap_core.proofs.SpentLemmas.{spent_removes, spent_remove, removed_spent, live_remove_spent, remove_spent}
 pub use Rattle.slotmap_core.proofs.SpentLemmas.{spent_leaves, left_spent, spent_keeps, spent_with_value, spent_with_values}
-pub use Rattle.slotmap_core.proofs.SpentLemmas.{spent_detach, spent_detaches, spent_reattaches, spent_copy, spent_restores, forgotten_spent}
+pub use Rattle.slotmap_core.proofs.SpentLemmas.{spent_detach, spent_detaches, spent_reattaches, spent_copy, spent_clone, spent_restores, forgotten_spent}
+pub use Rattle.slotmap_core.proofs.CloneLemmas.{same_clone, clone_live, clone_len, clone_copies}
 -- the same facts of a content by the records of a `DenseSlotMap` and of a `HopSlotMap`
 pub use Rattle.slotmap.proofs.MapContents.{if_none, on_err, of_some, some_copied, insert_undone}
 pub use Rattle.slotmap.proofs.MapContents.{dense_well, dense_stays, dense_grows, hop_well, hop_stays, hop_grows}
@@ -25,6 +26,13 @@ pub use Rattle.slotmap.proofs.MapSpent.{spent_insert-hop, insert_not_spent-hop, 
 -- a content without its values
 pub use Rattle.slotmap.proofs.KeysAlone.{contains-keys_of, len-keys_of, spent_alone, alone_spent, keeps_spent_alone}
 pub use Rattle.slotmap_core.proofs.Walks.{Walks, walk_start, walk_here, walk_next, walk_step, walk_end, none_found}
+-- the replies of runs, by their positions
+pub use Rattle.slotmap_core.proofs.RunCallers.{as_many, Begins, begins, keys_differ, removed_finds_nothing, reserved_not_refused}
+pub use Rattle.slotmap_core.proofs.RunCallers.{detached_not_returned, StaysDetached, ReattachesOther, stays_detached, detached_bound, detached_bound_or_memory, bound_value}
+pub use Rattle.slotmap_core.proofs.SecondaryRuns.{runs_agree, run_seen_by}
+pub use Rattle.slotmap_run.proofs.JoinedCallers.{RemovesNone, WritesNone, put_shown, put_seen}
+-- JSON that is written and read again
+pub use Rattle.slotmap_json.proofs.RoundTrips.{key_read_back, key_returned, slots_read_back, slots_not_refused, map_read_back}
 -- a side table beside a primary map
 pub use Rattle.slotmap_core.proofs.SideTables.{beside_absent, beside_empty, beside_kept, beside_inserted, beside_removed, beside_insert, beside_put, insert_absent}
 pub use Rattle.slotmap_core.proofs.SideTables.{live_has_entry, get-put_live, get-put_other, attach_beside, attach_finds, attach_others}

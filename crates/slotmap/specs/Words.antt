@@ -1,6 +1,20 @@
 -- The words that callers' clauses cite, all in one module. Declares nothing.
 pub use Rattle.slotmap_core.specs.Lifo.{IsBasic}
-pub use Rattle.slotmap_core.specs.Law.{IsRefusal, keys_told}
+-- replies to commands, as a caller's clauses name them
+pub use Rattle.slotmap_core.specs.declared.commands.Reply.TheVariants.{Key as KeyReply, Looked as LookedReply, Put as PutReply, Taken as TakenReply, Done as DoneReply}
+pub use Rattle.slotmap_core.specs.declared.joined.JoinedReply.TheVariants.{Old as JoinedOld, Looked as JoinedLooked}
+-- runs: the machine, what a run is given, the laws of its replies
+pub use Rattle.slotmap_core.specs.Machine.{State, IsHeld, IsIssued, Fresh, empty_state, retired}
+pub use Rattle.slotmap_core.specs.Given.{Given as RunGiven, given, any_closures}
+pub use Rattle.slotmap_core.specs.Step.{Step, DetachStep}
+pub use Rattle.slotmap_core.specs.Run.{Run, Unretiring}
+pub use Rattle.slotmap_core.specs.Fit.{Fits, Starts, RunFollows, RunsAnew, Continues}
+pub use Rattle.slotmap_core.specs.Law.{Laws, DetachLaws, NoKeyTwice, RemovedForGood, ReserveHolds, DetachedNotReissued, DetachedReattaches, ReattachBinds, LastFreedFirst}
+pub use Rattle.slotmap_core.specs.Law.{IsRefusal, Grows, DetachGrows, Spares, keys_told}
+pub use Rattle.slotmap_core.specs.SecondaryStep.{Step as SideStep, Given as SideGiven, given_secondary, LooksAt}
+pub use Rattle.slotmap_core.specs.SecondaryLaw.{HadMemory, Shows, seen_by, EachAgrees}
+pub use Rattle.slotmap_core.specs.Joined.{Step as JoinedStep, DetachStep as JoinedDetachStep, Joined, given_joined, named, RunsBeside}
+pub use Rattle.slotmap_core.specs.Dictionary.{Dictionary, WithDictionary, TellingStep, DetachTellingStep, Tells, noted, unused, RunsTold}
 pub use Rattle.slotmap_core.specs.Key.{Key, IsKey, null_key, is_last, next_version, is_older, key_cmp, coded_key, same_keys}
 pub use Rattle.slotmap_core.specs.Content.{Content, content_code, IsContent, IsLive, IsDetached, IsRetired, IsVacant, Stands, used, places, most}
 pub use Rattle.slotmap_core.specs.Spent.{IsSpent, KeepsSpent}
@@ -9,14 +23,15 @@ pub use Rattle.slotmap_core.specs.Refusal.{LacksRoom, Refuses, RefusesInsert, Re
 pub use Rattle.slotmap_core.specs.Listing.{IsListing, IsKeyListing, IsValueListing, IsListingBut, ListsByIndex, NoneBelow}
 pub use Rattle.slotmap_core.specs.Call.{StaysValid, MayGrow, MakesRoom}
 pub use Rattle.slotmap_core.specs.Retain.{RetainsBy, CallableOnEach}
-pub use Rattle.slotmap_core.specs.Copy.{IsCopy}
+pub use Rattle.slotmap_core.specs.Clones.{ClonesEqual, IsCloneOf, AreClones}
+pub use Rattle.slotmap_core.specs.Copy.{IsCopy, IsCloneBy}
 pub use Rattle.slotmap_core.specs.Disjoint.{CanReplace, AreValuesOf, with_values}
 pub use Rattle.slotmap_core.specs.Contents.{contents, StartsFrom}
-pub use Rattle.slotmap_core.specs.Written.{Writes, Restores}
+pub use Rattle.slotmap_core.specs.Written.{Writes, WritesClones, Restores}
 pub use Rattle.slotmap_core.specs.ListRead.{ReadsAs}
 pub use Rattle.slotmap.specs.KeysAlone.{keys_of, without_values, keys_code}
 -- a map whose values are packed: its model is a content with the live keys and their values in packed order
-pub use Rattle.slotmap_dense.specs.Dense.{Dense, dense_code, IsDense, ListsPairs, IsEmpty, SameOrder, Appends, ClosesGap, TakesLast, FreesFromBack, value_of, with_value_of, with_values_in}
+pub use Rattle.slotmap_dense.specs.Dense.{Dense, dense_code, IsDense, ListsPairs, IsEmpty, SameOrder, ClonesInOrder, Appends, ClosesGap, TakesLast, FreesFromBack, value_of, with_value_of, with_values_in}
 pub use Rattle.slotmap_dense.specs.Call.{StaysValid as StaysDense, MayGrow as GrowsDense, MakesRoom as MakesDenseRoom}
 pub use Rattle.slotmap_dense.specs.Retain.{RetainsPacked}
 -- a map whose iterators hop: its model is a content with the blocks that its vacant places form
@@ -26,5 +41,22 @@ pub use Rattle.slotmap_hop.specs.Blocks.{Blocks, HasMaximalBlocks, IsBlock, vaca
 pub use Rattle.slotmap_hop.specs.Walk.{Walking, StartsIter, CountsReads, CountsReadsSomewhere, ListsRetired, ReadsFew}
 pub use Rattle.slotmap_hop.specs.Retain.{RetainsByIndex}
 -- side tables
+pub use Rattle.slotmap_core.specs.SecondaryClones.{HasClones}
 pub use Rattle.slotmap_core.specs.Secondary.{Pairs, pairs_code, IsSecondary, get, contains_key, entry, has_entry, is_null, put, bind, remove, RefusesPut, keyed}
 pub use Rattle.slotmap_core.specs.Beside.{IsBeside}
+pub use Rattle.slotmap_core.specs.OrPut.{OrPuts}
+pub use Rattle.slotmap_core.specs.SecondaryEqual.{AreEqual}
+pub use Rattle.slotmap_core.specs.SecondaryExtend.{AllPut, Extends, ExtendsBy}
+-- the models of a `SecondaryMap` and of a `SparseSecondaryMap`, and what holds of each; a function with an entry as a
+-- parameter requires that it is in place
+pub use Rattle.slotmap_secondary.specs.Content.{Content as SideContent, content_code as side_code, IsContent as IsSideContent, with_value as side_with_value}
+pub use Rattle.slotmap_secondary.specs.Entry.{IsInPlace as IsSideInPlace, entry_map as side_entry_map, entry_key as side_entry_key, entry_value as side_entry_value, entry_with as side_entry_with}
+pub use Rattle.slotmap_sparse.specs.Content.{Content as SparseContent, content_code as sparse_code, IsContent as IsSparseContent, with_value as sparse_with_value}
+pub use Rattle.slotmap_sparse.specs.Entry.{IsInPlace as IsSparseInPlace, entry_map as sparse_entry_map, entry_key as sparse_entry_key, entry_value as sparse_entry_value, entry_with as sparse_entry_with}
+-- what a step of a drain, or of an iterator that lends values, requires and leaves
+pub use Rattle.slotmap_basic.specs.Drain.{DrainCanStep, DrainSteps, drain_live, drain_loan}
+pub use Rattle.slotmap_dense.specs.Drain.{DrainSteps as DenseDrainSteps, drain_live as dense_drain_live, drain_loan as dense_drain_loan}
+pub use Rattle.slotmap_dense.specs.WalkMut.{IterMutCanStep}
+pub use Rattle.slotmap_hop.specs.Drain.{DrainCanStep as HopDrainCanStep, DrainSteps as HopDrainSteps, drain_live as hop_drain_live, drain_loan as hop_drain_loan}
+pub use Rattle.slotmap_secondary.specs.Drain.{DrainCanStep as SideDrainCanStep, DrainSteps as SideDrainSteps, drain_loan as side_drain_loan}
+pub use Rattle.slotmap_sparse.specs.Drain.{DrainSteps as SparseDrainSteps, drain_loan as sparse_drain_loan}

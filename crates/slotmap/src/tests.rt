@@ -1,12 +1,14 @@
 //! Tests of what no row of calls can say: names, keys, messages, JSON, `Debug` and runs one after the other, over
 //! the names of this crate. Rows of calls lie in `crates/primary_rows` and `crates/secondary_rows`. Expected values were worked out
-//! by hand or come from the Rust crate, never from this port's own results.
+//! by hand or are from the Rust crate, never from this port's own results.
 
+mod clones;
 mod debug;
 mod errors;
 mod json;
 mod keys;
 mod lists;
 mod names;
+mod not_cloned;
 mod text;
 mod two_runs;

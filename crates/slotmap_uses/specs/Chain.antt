@@ -30,7 +30,7 @@ module _ {T : Type 0} where
   follow nodes zero at = []
   follow nodes (suc n) at = follow_key nodes at (follow nodes n)
 
-  -- the node of q where these elements stand between `prev` and `next`
+  -- the node of q where these elements are between `prev` and `next`
   abbrev pub node_at : Option Key → List (Key × T) → Option Key → Key → Option (Node T)
   node_at prev [] next q = None
   node_at prev (e ∷ es) next q = cond (eq_by_cmp key_cmp q e.0) (Some (record { value = e.1; prev = prev; next = first_or es next })) (node_at (Some e.0) es next q)

@@ -1,4 +1,4 @@
--- How the nodes of a scene lead up to their roots.
+-- The paths from the nodes of a scene up to their roots.
 use Rattle.std.specs.Prelude.{◌≡◌, ℕ, zero, suc, Option, Some, None, List, true, false, refl, ⊤}
 use Rattle.std.specs.Coded.{Coded, code_by, coded×, coded_list, coded_option}
 use Rattle.std.specs.FinMap as map
@@ -39,7 +39,7 @@ module _ {T : Type 0} where
   Leads nodes zero k = has_node nodes k × (parent_of nodes k ≡ None)
   Leads nodes (suc n) k = (p : Key) × (has_node nodes k × (parent_of nodes k ≡ Some p) × Leads nodes n p)
 
-  -- each node leads up to a root: no node is above itself
+  -- each node has a root above it: no node is above itself
   abbrev pub IsTree : Nodes T → Type 0
   IsTree nodes = (k : Key) → has_node nodes k → (n : ℕ) × Leads nodes n k
 
@@ -56,11 +56,11 @@ module _ {T : Type 0} where
   with_parent_in nodes k None parent = nodes
   with_parent_in nodes k (Some node) parent = map.insert nodes k (record node { parent = parent })
 
-  -- k has this parent, and all else is as before
+  -- k has this parent, and nothing else changed
   abbrev pub with_parent : Nodes T → Key → Option Key → Nodes T
   with_parent nodes k parent = with_parent_in nodes k (map.get nodes k) parent
 
-  -- the value comes back
+  -- the value is returned
   abbrev pub HandsBack : T → AddError T → Type 0
   HandsBack v (Gone back) = back ≡ v
   HandsBack v (Full back) = back ≡ v
@@ -72,7 +72,7 @@ module _ {T : Type 0} where
   IsNotGone (Full back) = ⊤
   IsNotGone (Memory back) = ⊤
 
-  -- `Gone` if and only if there is no such parent; the value comes back
+  -- `Gone` if and only if there is no such parent; the value is returned
   abbrev pub RefusesChild : Nodes T → Key → T → AddError T → Type 0
   RefusesChild nodes parent v (Gone back) = lacks_node nodes parent × (back ≡ v)
   RefusesChild nodes parent v (Full back) = has_node nodes parent × (back ≡ v)

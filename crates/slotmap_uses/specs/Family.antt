@@ -1,4 +1,4 @@
--- The children of each node, and what a call makes of them.
+-- The children of each node, and how a call changes them.
 use Rattle.std.specs.Prelude.{◌≡◌, ℕ, Option, Some, None, List, [], ◌∷◌, ◌++◌, if◌then◌else◌, option_map}
 use Rattle.std.specs.FinMap as map
 use Rattle.slotmap.specs.Words.{Key}
@@ -22,11 +22,11 @@ module _ {T : Type 0} where
   children_in None = []
   children_in (Some node) = node.children
 
-  -- the children of k, in order; a node that is gone has none
+  -- the children of k, in order; a removed node has none
   abbrev pub children_of : Nodes T → Key → List Key
   children_of nodes k = children_in (map.get nodes k)
 
-  -- each node stands once among the children of its parent, and nowhere else
+  -- each node appears exactly once in its parent's list of children, and in no other
   abbrev pub AreListed : Nodes T → Type 0
   AreListed nodes = (p k : Key) → times k (children_of nodes p) ≡ is_parent (parent_of nodes k) p
 
@@ -39,7 +39,7 @@ module _ {T : Type 0} where
   abbrev pub leaf : T → Node T
   leaf v = record { value = v; parent = None; children = [] }
 
-  -- the value of k, if it is there
+  -- the value of k, if k is a node
   abbrev pub value_of : Nodes T → Key → Option T
   value_of nodes k = option_map (λ n. n.value) (map.get nodes k)
 

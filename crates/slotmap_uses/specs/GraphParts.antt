@@ -11,7 +11,7 @@ use Rattle.slotmap_uses.specs.declared.graph.EdgeError.TheVariants.{Gone, Full, 
 
 pub record Seen (N : Type 0) : Type 0 where
   pub nodes : Content N
-  -- each edge leads from one node to another
+  -- each edge goes from one node to another
   pub edges : Content Edge
 
 abbrev pub edge_code : Coded Edge
@@ -39,7 +39,7 @@ touches k e = is_key e.from k || is_key e.to k
 abbrev pub avoids : Key → Edge → Bool
 avoids k e = not (touches k e)
 
--- each edge leads from a live node to a live node
+-- each edge goes from a live node to a live node
 abbrev pub EndsLive : {N : Type 0} → Content N → map.FinMap key_cmp Edge → Type 0
 EndsLive nodes edges = (k : Key) (e : Edge) → map.get edges k ≡ Some e → IsLive nodes e.from × IsLive nodes e.to
 
@@ -77,12 +77,12 @@ module _ {Z : Type 0} where
   abbrev pub HasRoom : Pairs (Vec Key Z) → Key → Type 0
   HasRoom lists k = MatchOption (get lists k) ⊥ (λ v. vec_len v < vec_capacity v)
 
--- what holds of every graph: each edge joins two live nodes, and stands in the lists of both
+-- what holds of every graph: each edge joins two live nodes, and is in the lists of both
 pub record IsGraph {N Z : Type 0} (nodes : Content N) (edges : map.FinMap key_cmp Edge) (out into : Pairs (Vec Key Z)) : Type 0 where
   pub ends : EndsLive nodes edges
   pub out_lists : IsAdjacency from edges out
   pub into_lists : IsAdjacency to edges into
-  -- no node that is gone has a list
+  -- only live nodes have lists
   pub out_beside : IsBeside nodes out
   pub into_beside : IsBeside nodes into
 
@@ -91,7 +91,7 @@ pub record PutsAlone {V : Type 0} (m : Pairs V) (k : Key) : Type 0 where
   pub here : (v : V) → get (put m k v) k ≡ Some v
   pub others : (v : V) (q : Key) → (q ≡ k → ⊥) → get (put m k v) q ≡ get m q
 
--- `Gone` if and only if one of the two nodes is gone
+-- `Gone` if and only if one of the two nodes isn't live
 abbrev pub RefusesEdge : {N : Type 0} → Content N → Key → Key → EdgeError → Type 0
 RefusesEdge nodes from to Gone = (IsLive nodes from × IsLive nodes to) → ⊥
 RefusesEdge nodes from to Full = IsLive nodes from × IsLive nodes to

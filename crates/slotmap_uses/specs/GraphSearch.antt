@@ -6,24 +6,24 @@ use Rattle.slotmap_uses.specs.declared.graph.Edge.{Edge}
 use Rattle.slotmap_uses.specs.GraphParts.{times}
 
 module _ (edges : map.FinMap key_cmp Edge) where
-  -- an edge leads from a to b
+  -- an edge goes from a to b
   abbrev pub Joins : Key → Key → Type 0
   Joins a b = (k : Key) × (e : Edge) × (map.get edges k ≡ Some e) × (e.from ≡ a) × (e.to ≡ b)
 
-  -- so many edges, one behind the other, lead from a to b
+  -- a path of so many edges goes from a to b
   abbrev pub LeadsBy : ℕ → Key → Key → Type 0
   LeadsBy zero a b = a ≡ b
   LeadsBy (suc n) a b = (c : Key) × LeadsBy n a c × Joins c b
 
-  -- a path leads from a to b: no edge, or several
+  -- b is reachable from a: by no edge, or by several
   abbrev pub Leads : Key → Key → Type 0
   Leads a b = (n : ℕ) × LeadsBy n a b
 
-  -- a path leads from a to each of these
+  -- each of these is reachable from a
   abbrev pub AllLed : Key → Pairs (Unit {0}) → Type 0
   AllLed a seen = (x : Key) → contains_key seen x ≡ true → Leads a x
 
-  -- each node to which an edge leads from a is among these
+  -- the end of each outgoing edge of a is among these
   abbrev pub HasNext : Key → Pairs (Unit {0}) → Type 0
   HasNext a seen = (b : Key) → Joins a b → contains_key seen b ≡ true
 
@@ -35,7 +35,7 @@ AreSeen seen found = (x : Key) → times x found ≡ (if contains_key seen x the
 abbrev pub GoesOn : List Key → List Key → Type 0
 GoesOn xs ys = (more : List Key) × (ys ≡ xs ++ more)
 
--- a search found more, by edges that lead from a
+-- a search found more, by outgoing edges of a
 pub record Finds {N : Type 0} (nodes : Content N) (edges : map.FinMap key_cmp Edge) (a : Key) (seen : Pairs (Unit {0})) (found : List Key) (new : Pairs (Unit {0})) (now : List Key) : Type 0 where
   pub listed : AreSeen new now
   pub live : IsBeside nodes new

@@ -1,4 +1,4 @@
--- A scheduler as its user sees it: which jobs wait, and in what order they come.
+-- A scheduler as its user sees it: which jobs wait, and in what order they are returned.
 use Rattle.std.specs.Prelude.{◌≡◌, ℕ, ◌^◌, ◌-◌, ◌<◌, ◌≤◌, ◌⊎◌, true, false, refl}
 use Rattle.std.specs.declared.cmp.Ordering.{Ordering}
 use Rattle.std.specs.Ordering.{ordering_then, nat_cmp}
@@ -52,12 +52,12 @@ module _ {T : Type 0} where
   abbrev pub scheduled : Schedule T → ℕ → T → Job T
   scheduled s time job = record { turn = (time, s.count); job = job }
 
-  -- the job comes back, and `Full` only where this is so
+  -- the job is returned, and `Full` only where this is so
   abbrev pub FullOnlyAt : Type 0 → T → ScheduleError T → Type 0
   FullOnlyAt full job (Full back) = full × (back ≡ job)
   FullOnlyAt full job (Memory back) = back ≡ job
 
-  -- `Full` only where the map has as many slots as it can, or the last turn was given out; the job comes back
+  -- `Full` only where the map has as many slots as it can, or the last turn was used; the job is returned
   abbrev pub Refuses : Schedule T → T → ScheduleError T → Type 0
   Refuses s = FullOnlyAt ((used s.jobs ≡ most) ⊎ (s.count ≡ last_count))
 

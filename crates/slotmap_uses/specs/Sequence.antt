@@ -8,7 +8,7 @@ use Rattle.slotmap.specs.Words.{Key, key_cmp, coded_key, Content, keys_code}
 pub record Sequence (T : Type 0) : Type 0 where
   -- the elements from front to back: each cursor with its value
   pub elements : List (Key × T)
-  -- the cursors without their values; `IsSpent` says which are gone for good
+  -- the cursors without their values; `IsSpent` says which are never used again
   pub cursors : Content (Unit {0})
 
 -- by which a proof tells two lists apart
@@ -97,7 +97,7 @@ module _ {T : Type 0} where
   TakesBack old None new = (old ≡ []) × (new ≡ [])
   TakesBack old (Some x) new = old ≡ new ++ x ∷ []
 
-  -- no key stands twice
+  -- no key occurs twice
   abbrev pub IsOnce : List (Key × T) → Type 0
   IsOnce [] = Unit {0}
   IsOnce (e ∷ es) = (value_of e.0 es ≡ None) × IsOnce es

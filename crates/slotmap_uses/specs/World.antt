@@ -8,7 +8,7 @@ use Rattle.slotmap_uses.specs.declared.entities.AttachError.TheVariants.{Gone, M
 
 pub record World (E P N : Type 0) : Type 0 where
   -- `content.live` has the value of each entity, `keys` are the entities in packed order, and `IsSpent` says which keys of
-  -- `content` are gone for good
+  -- `content` are never used again
   pub entities : Dense E
   -- the two components
   pub positions : Pairs P
@@ -27,7 +27,7 @@ world_code {E} {P} {N} e p n =
 abbrev pub has_both : {E P N : Type 0} → World E P N → Key → Bool
 has_both w k = contains_key w.positions k && contains_key w.names k
 
--- `Gone` if and only if the entity is gone; the component comes back
+-- `Gone` if and only if the entity doesn't exist; the component is returned
 abbrev pub RefusesAttach : {E C : Type 0} → Content E → Key → C → AttachError C → Type 0
 RefusesAttach entities k c (Gone back) = (map.contains_key entities.live k ≡ false) × (back ≡ c)
 RefusesAttach entities k c (Memory back) = IsLive entities k × (back ≡ c)

@@ -1,14 +1,14 @@
 //! Entities with components: an entity store.
 //!
-//! An entity of a [`World`] is a key that no other entity ever had. Its components stand in side
-//! tables beside the entities, under the same keys, and leave with it. What is proved of it:
+//! An entity of a [`World`] is a key that no other entity ever had. Its components are in side
+//! tables, under the same keys, and are removed with it. What is proved of it:
 //!
 //! - A component is never seen under a later entity, even if that has the same slot.
-//! - Whoever has a component is alive.
+//! - Only live entities have components.
 //! - A call on one entity changes no component of another, and none of another kind.
 //!
-//! The entities stand in a `DenseSlotMap`, packed for iteration. The positions stand in a
-//! `SecondaryMap`, for most entities, and the names in a `SparseSecondaryMap`, for few. Each call
+//! The entities are in a `DenseSlotMap`, packed for iteration. The positions are in a
+//! `SecondaryMap`, since most entities have one, and the names in a `SparseSecondaryMap`. Each call
 //! takes constant time, unless a table grows.
 //!
 //! ```
@@ -65,7 +65,7 @@ impl<E, P, N> Model for World<E, P, N> {
 /// A component was not attached. The error holds it.
 #[derive(Debug, Drop, Error)]
 pub enum AttachError<C> {
-    /// The entity is gone.
+    /// The entity doesn't exist.
     #[error("the entity is gone")]
     Gone(C),
     /// The allocation fails.
@@ -138,7 +138,7 @@ impl<E: Drop, P: Drop, N: Drop> World<E, P, N> {
 
     /// Adds an entity with no component, and returns its key.
     ///
-    /// If the call fails, the error holds the value, and the world is as before.
+    /// If the call fails, the error holds the value, and the world is unchanged.
     pub fn spawn(&mut self, entity: E) -> Result<DefaultKey, InsertError<E>>
         // A new entity, with no component.
         ensures adds { IfOk result (λ key. self.new.entities.content.live ≡ map.insert self.old.entities.content.live key entity) }
@@ -161,8 +161,8 @@ impl<E: Drop, P: Drop, N: Drop> World<E, P, N> {
         self.entities.insert(entity)
     }
 
-    /// Removes an entity, and drops its components. It returns the entity's value, or `None` if it is
-    /// gone. The key is spent for good.
+    /// Removes an entity, and drops its components. It returns the entity's value, or `None` if it
+    /// doesn't exist. The key is never used again.
     pub fn despawn(&mut self, key: DefaultKey) -> Option<E>
         // The entity is gone, with its components.
         ensures value { result ≡ map.get self.old.entities.content.live key }
@@ -183,7 +183,7 @@ impl<E: Drop, P: Drop, N: Drop> World<E, P, N> {
         self.entities.remove(key)
     }
 
-    /// Returns the value of an entity, or `None` if it is gone.
+    /// Returns the value of an entity, or `None` if it doesn't exist.
     pub fn get(&self, key: DefaultKey) -> Option<&E>
         ensures { option_copied result ≡ map.get self.now.entities.content.live key }
     {
@@ -192,7 +192,7 @@ impl<E: Drop, P: Drop, N: Drop> World<E, P, N> {
 
     /// Gives an entity a position, and returns the one that it had.
     ///
-    /// If the call fails, the error holds the position, and the world is as before.
+    /// If the call fails, the error holds the position, and the world is unchanged.
     pub fn attach_position(
         &mut self,
         key: DefaultKey,
@@ -217,7 +217,7 @@ impl<E: Drop, P: Drop, N: Drop> World<E, P, N> {
 
     /// Gives an entity a name, and returns the one that it had.
     ///
-    /// If the call fails, the error holds the name, and the world is as before.
+    /// If the call fails, the error holds the name, and the world is unchanged.
     pub fn attach_name(&mut self, key: DefaultKey, name: N) -> Result<Option<N>, AttachError<N>>
         // The entity has this name now.
         ensures before { IfOk result (λ before. before ≡ get self.old.names key) }
@@ -258,7 +258,7 @@ impl<E: Drop, P: Drop, N: Drop> World<E, P, N> {
         self.names.remove(key)
     }
 
-    /// Returns the position of an entity, or `None` if it has none, or is gone.
+    /// Returns the position of an entity, or `None` if it has none or doesn't exist.
     pub fn position(&self, key: DefaultKey) -> Option<&P>
         ensures value { option_copied result ≡ get self.now.positions key }
         ensures live { IsSome result → IsLive self.now.entities.content key }
@@ -266,7 +266,7 @@ impl<E: Drop, P: Drop, N: Drop> World<E, P, N> {
         self.positions.get(key)
     }
 
-    /// Returns the name of an entity, or `None` if it has none, or is gone.
+    /// Returns the name of an entity, or `None` if it has none or doesn't exist.
     pub fn name(&self, key: DefaultKey) -> Option<&N>
         ensures value { option_copied result ≡ get self.now.names key }
         ensures live { IsSome result → IsLive self.now.entities.content key }
@@ -300,7 +300,7 @@ impl<E: Drop, P: Drop, N: Drop> World<E, P, N> {
     }
 
     /// Moves an entity that has a position to another one, and returns the old one. It allocates
-    /// nothing. If the entity has no position, the new one comes back.
+    /// nothing. If the entity has no position, the new one is returned.
     pub fn move_to(&mut self, key: DefaultKey, position: P) -> Result<P, P>
         ensures before { IfOk result (λ before. get self.old.positions key ≡ Some before) }
         ensures there { OnOk result (get self.new.positions key ≡ Some position) }

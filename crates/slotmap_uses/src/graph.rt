@@ -1,19 +1,19 @@
 //! A directed graph: nodes and edges under keys of their own.
 //!
-//! An edge of a [`Graph`] leads from a node to a node, and there may be several between the same two.
+//! An edge of a [`Graph`] goes from one node to another or to itself, and two nodes may have several.
 //! What is proved of it:
 //!
-//! - Each edge joins two nodes that are there: [`Graph::remove_node`] removes the node's edges with
-//!   it, and no others.
-//! - A key that is removed stays stale for good, that of an edge too.
+//! - Edges only join existing nodes: [`Graph::remove_node`] removes the node's edges with it, and no
+//!   others.
+//! - A removed key stays stale, also that of an edge.
 //! - A call that fails changes nothing.
 //!
-//! Each node has a list of the edges that lead from it, and one of those that lead to it. So a call
+//! Each node has a list of its outgoing edges, and one of its incoming edges. So a call
 //! takes constant time, unless a vector grows, with these exceptions:
 //!
 //! - [`Graph::neighbours`] takes time linear in the number of edges from the node.
-//! - [`Graph::remove_edge`] looks for the edge in two lists, that of the edges from its first node
-//!   and that of the edges to its second. Edges that came first are found first.
+//! - [`Graph::remove_edge`] searches two lists, the outgoing edges of its first node and the incoming
+//!   edges of its second. Edges that were added first are found first.
 //! - [`Graph::remove_node`] looks for each of the node's edges in one other list.
 //!
 //! ```
@@ -51,16 +51,16 @@ mod search;
 /// An edge from one node to another, or to itself.
 #[derive(Clone, Copy, Debug)]
 pub struct Edge {
-    /// The node that the edge leads from.
+    /// The node where the edge begins.
     pub from: NodeKey,
-    /// The node that it leads to.
+    /// The node where it ends.
     pub to: NodeKey,
 }
 
 /// Nodes with values of type `N`, and edges between them.
 ///
 /// A clause sees `nodes` and `edges`. Their `live` is the finite map from the keys to the values, or
-/// to the edges, and `IsSpent` says which keys are gone for good.
+/// to the edges, and `IsSpent` says which keys are never used again.
 #[derive(Drop)]
 pub struct Graph<N> {
     alloc: Global,
@@ -83,10 +83,10 @@ impl<N> Model for Graph<N> {
     ghost invariant = { λ g. IsGraph g.nodes g.edges.live g.out.pairs g.into.pairs };
 }
 
-/// An edge was not added. The graph is as before.
+/// An edge was not added. The graph is unchanged.
 #[derive(Clone, Copy, Debug, Drop, PartialEq, Eq, Error)]
 pub enum EdgeError {
-    /// A node that it leads from or to is gone.
+    /// One of its two nodes doesn't exist.
     #[error("a node is gone")]
     Gone,
     /// There are as many edges as a map can hold.
@@ -145,7 +145,7 @@ impl<N: Drop> Graph<N> {
 
     /// Adds a node with no edge, and returns its key.
     ///
-    /// If the call fails, the error holds the value, and the graph is as before.
+    /// If the call fails, the error holds the value, and the graph is unchanged.
     pub fn add_node(&mut self, node: N) -> Result<NodeKey, InsertError<N>>
         ensures adds { IfOk result (λ key. self.new.nodes.live ≡ map.insert self.old.nodes.live key node) }
         ensures fresh { IfOk result (λ key. map.get self.old.nodes.live key ≡ None) }
@@ -159,7 +159,7 @@ impl<N: Drop> Graph<N> {
 
     /// Adds an edge from one node to another, and returns its key, which no edge had before.
     ///
-    /// Memory is allocated before anything changes. If the call fails, the graph is as before.
+    /// Memory is allocated before anything changes. If the call fails, the graph is unchanged.
     pub fn add_edge(&mut self, from: NodeKey, to: NodeKey) -> Result<DefaultKey, EdgeError>
         // The edge is there under a new key.
         ensures adds { IfOk result (λ key. self.new.edges.live ≡ map.insert self.old.edges.live key (record { from = from; to = to })) }
@@ -186,7 +186,7 @@ impl<N: Drop> Graph<N> {
         Ok(key)
     }
 
-    /// Removes an edge, and returns it, or `None` if it is gone. Its key is spent for good.
+    /// Removes an edge, and returns it, or `None` if it doesn't exist. Its key is never used again.
     pub fn remove_edge(&mut self, edge: DefaultKey) -> Option<Edge>
         ensures value { result ≡ map.get self.old.edges.live edge }
         ensures removed { self.new.edges.live ≡ map.remove self.old.edges.live edge }
@@ -225,7 +225,7 @@ impl<N: Drop> Graph<N> {
     }
 
     /// Removes a node, and every edge from it or to it. It returns the node's value, or `None` if
-    /// the node is gone. The key of the node and those of its edges are spent for good.
+    /// the node doesn't exist. The key of the node and those of its edges are never used again.
     pub fn remove_node(&mut self, node: NodeKey) -> Option<N>
         // The node is gone.
         ensures value { result ≡ map.get self.old.nodes.live node }
@@ -245,14 +245,14 @@ impl<N: Drop> Graph<N> {
         self.nodes.remove(node)
     }
 
-    /// Returns the value of a node, or `None` if the node is gone.
+    /// Returns the value of a node, or `None` if the node doesn't exist.
     pub fn get(&self, node: NodeKey) -> Option<&N>
         ensures { option_copied result ≡ map.get self.now.nodes.live node }
     {
         self.nodes.get(node)
     }
 
-    /// Returns an edge, or `None` if the edge is gone. It joins two nodes that are there.
+    /// Returns an edge, or `None` if the edge doesn't exist. Both its nodes exist.
     pub fn edge(&self, edge: DefaultKey) -> Option<&Edge>
         ensures value { option_copied result ≡ map.get self.now.edges.live edge }
         ensures live { IfSome result (λ e. IsLive self.now.nodes e.now.from × IsLive self.now.nodes e.now.to) }
@@ -260,25 +260,25 @@ impl<N: Drop> Graph<N> {
         self.edges.get(edge)
     }
 
-    /// Returns the keys of the edges that lead from a node, each once, in no particular order.
+    /// Returns the keys of a node's outgoing edges, each once, in no particular order.
     ///
-    /// Constant time. A node that is gone has none.
+    /// Constant time. A removed node has none.
     pub fn edges_from(&self, node: NodeKey) -> &[DefaultKey]
         ensures { ListsEdges from self.now.edges.live node result.now }
     {
         list_of(&self.out, node)
     }
 
-    /// Returns the keys of the edges that lead to a node, each once, in no particular order.
+    /// Returns the keys of a node's incoming edges, each once, in no particular order.
     ///
-    /// Constant time. A node that is gone has none.
+    /// Constant time. A removed node has none.
     pub fn edges_to(&self, node: NodeKey) -> &[DefaultKey]
         ensures { ListsEdges to self.now.edges.live node result.now }
     {
         list_of(&self.into, node)
     }
 
-    /// Returns the nodes to which an edge leads from this one, one for each edge, in the order of
+    /// Returns the nodes where this node's outgoing edges end, one for each edge, in the order of
     /// [`Graph::edges_from`].
     ///
     /// It fails only if memory runs out.
@@ -311,11 +311,11 @@ impl<N: Drop> Graph<N> {
         Ok(())
     }
 
-    /// Returns the nodes to which a path of edges leads from this one, each once, the node itself
-    /// first. If the node is gone, there are none.
+    /// Returns the nodes that are reachable from this one, each once, the node itself first. If the
+    /// node doesn't exist, there are none.
     ///
-    /// It takes time linear in the number of these nodes and of the edges from them. It fails only if
-    /// memory runs out.
+    /// It takes time linear in the number of these nodes and their outgoing edges, and in the largest
+    /// index of one of them: the marks are in a `SecondaryMap`. It fails only if memory runs out.
     pub fn reachable(&self, alloc: Global, from: NodeKey) -> Result<Vec<NodeKey>, AllocError>
         ensures once { IfOk result (λ found. (x : KeyOf) → times x found.items ≤ 1) }
         ensures found_is_reachable { IfOk result (λ found. (x : KeyOf) → 0 < times x found.items → Leads self.now.edges.live from x) }

@@ -3,20 +3,20 @@
 //! A [`Scene`] gives each node a key, and keeps for each the key of its parent and those of its
 //! children. What is proved of it:
 //!
-//! - The nodes form trees: each leads up to a root in so many steps, which [`Scene::depth`] counts.
-//! - Each node stands once among the children of its parent, and nowhere else.
-//! - [`Scene::reparent`] moves a node with all that is below it, behind the children of its new
-//!   parent. Unless memory runs out, it is refused exactly if a node is gone or a cycle would close.
-//! - [`Scene::remove`] removes a node with all that is below it, and no other.
-//! - A call that fails changes nothing, and hands back what it was given.
+//! - The nodes form trees: each has a root above it, [`Scene::depth`] steps away.
+//! - Each node appears exactly once in its parent's list of children, and in no other.
+//! - [`Scene::reparent`] moves a node with its subtree, as the last child of its new parent. Unless
+//!   memory runs out, it is refused exactly if a node doesn't exist or the move would make a cycle.
+//! - [`Scene::remove`] removes a node with its subtree, and no other node.
+//! - A call that fails changes nothing, and returns what it was given.
 //!
 //! A call takes constant time, unless a vector grows, with these exceptions:
 //!
 //! - [`Scene::depth`] takes time linear in the number of nodes above the node, and
 //!   [`Scene::reparent`] in the number of those above the new parent.
-//! - [`Scene::reparent`], [`Scene::make_root`] and [`Scene::remove`] look for the node among the
-//!   children of its parent, and those behind it move up: time linear in the number of siblings.
-//! - [`Scene::remove`] takes time linear in the number of nodes that it removes, besides.
+//! - [`Scene::reparent`], [`Scene::make_root`] and [`Scene::remove`] search the children of the node's
+//!   parent, and move up those behind it: time linear in the number of siblings.
+//! - [`Scene::remove`] also takes time linear in the number of nodes that it removes.
 //!
 //! ```
 //! let mut scene = Scene::new(alloc)?;
@@ -87,7 +87,7 @@ impl<T> Model for Scene<T> {
 /// A node was not added. The error holds its value.
 #[derive(Debug, Drop, Error)]
 pub enum AddError<T> {
-    /// The parent is gone.
+    /// The parent doesn't exist.
     #[error("the parent is gone")]
     Gone(T),
     /// There are as many nodes as a map can hold.
@@ -98,13 +98,13 @@ pub enum AddError<T> {
     Memory(T),
 }
 
-/// A node was not moved. The scene is as before.
+/// A node was not moved. The scene is unchanged.
 #[derive(Clone, Copy, Debug, Drop, PartialEq, Eq, Error)]
 pub enum ReparentError {
-    /// The node is gone.
+    /// The node doesn't exist.
     #[error("the node is gone")]
     GoneNode,
-    /// The new parent is gone.
+    /// The new parent doesn't exist.
     #[error("the new parent is gone")]
     GoneParent,
     /// The new parent is the node itself, or below it.
@@ -134,7 +134,7 @@ impl<T: Drop> Scene<T> {
         self.nodes.len()
     }
 
-    /// Returns a node with its parent and its children, or `None` if it is gone.
+    /// Returns a node with its parent and its children, or `None` if it doesn't exist.
     pub fn get(&self, node: DefaultKey) -> Option<&Node<T>>
         ensures { option_copied result ≡ map.get self.now node }
     {
@@ -143,7 +143,7 @@ impl<T: Drop> Scene<T> {
 
     /// Returns the keys of the children of a node, in order: each node whose parent it is, once.
     ///
-    /// A node that is gone has none.
+    /// A removed node has none.
     pub fn children(&self, node: DefaultKey) -> &[DefaultKey]
         ensures value { result.now ≡ children_of self.now node }
         ensures listed { (k : KeyOf) → times k result.now ≡ is_parent (parent_of self.now k) node }
@@ -154,9 +154,8 @@ impl<T: Drop> Scene<T> {
         }
     }
 
-    /// Returns the key of the parent of a node, or `None` if the node is a root or is gone.
-    ///
-    /// The parent is there.
+    /// Returns the key of the parent of a node, or `None` if the node is a root or doesn't
+    /// exist. The parent exists.
     pub fn parent(&self, node: DefaultKey) -> Option<DefaultKey>
         ensures value { result ≡ parent_of self.now node }
         ensures live { IfSome result (λ parent. has_node self.now parent) }
@@ -166,7 +165,7 @@ impl<T: Drop> Scene<T> {
 
     /// Adds a root with no children, and returns its key.
     ///
-    /// If the call fails, the error holds the value, and the scene is as before.
+    /// If the call fails, the error holds the value, and the scene is unchanged.
     pub fn add_root(&mut self, value: T) -> Result<DefaultKey, AddError<T>>
         ensures adds { IfOk result (λ key. self.new ≡ map.insert self.old key (leaf value)) }
         ensures fresh { IfOk result (λ key. lacks_node self.old key) }
@@ -179,7 +178,7 @@ impl<T: Drop> Scene<T> {
 
     /// Adds a node with no children as the last child of another one, and returns its key.
     ///
-    /// If the call fails, the error holds the value, and the scene is as before.
+    /// If the call fails, the error holds the value, and the scene is unchanged.
     pub fn add_child(&mut self, parent: DefaultKey, value: T) -> Result<DefaultKey, AddError<T>>
         ensures adds { IfOk result (λ key. self.new ≡ attached (map.insert self.old key (leaf value)) key parent) }
         ensures fresh { IfOk result (λ key. lacks_node self.old key) }
@@ -193,7 +192,7 @@ impl<T: Drop> Scene<T> {
         add_below(&mut self.nodes, self.alloc, parent, value)
     }
 
-    /// Returns how many nodes are above a node, or `None` if it is gone.
+    /// Returns how many nodes are above a node, or `None` if it doesn't exist.
     pub fn depth(&self, node: DefaultKey) -> Option<usize>
         ensures some { IfSome result (λ steps. Leads self.now steps node) }
         ensures none { IfNone result (lacks_node self.now node) }
@@ -229,12 +228,12 @@ impl<T: Drop> Scene<T> {
         false
     }
 
-    /// Makes a node the last child of another one, with all that is below it.
+    /// Makes a node the last child of another one, with its subtree.
     ///
-    /// It comes last even if it was a child of the new parent before.
+    /// It is the last child even if it was a child of the new parent before.
     ///
-    /// It fails exactly if one of the two is gone, if the new parent is the node or below it, or if
-    /// memory runs out. The scene is then as before.
+    /// It fails exactly if one of the two doesn't exist, if the new parent is the node or below it, or
+    /// if memory runs out. The scene is then unchanged.
     pub fn reparent(&mut self, node: DefaultKey, parent: DefaultKey) -> Result<(), ReparentError>
         ensures moved { OnOk result (self.new ≡ attached (detached self.old node) node parent) }
         ensures nodes { OnOk result (has_node self.old node × has_node self.old parent) }
@@ -259,7 +258,7 @@ impl<T: Drop> Scene<T> {
         Ok(())
     }
 
-    /// Makes a node a root, which keeps all that is below it, and returns whether the node is there.
+    /// Makes a node a root, with its subtree, and returns whether the node exists.
     ///
     /// It allocates nothing.
     pub fn make_root(&mut self, node: DefaultKey) -> bool
@@ -274,7 +273,7 @@ impl<T: Drop> Scene<T> {
         true
     }
 
-    /// Removes a node with all that is below it, and returns its value, or `None` if it is gone.
+    /// Removes a node with its subtree, and returns its value, or `None` if it doesn't exist.
     ///
     /// It allocates nothing.
     pub fn remove(&mut self, node: DefaultKey) -> Option<T>

@@ -1,14 +1,14 @@
 //! Jobs that wait for their time, each under a handle by which it can be cancelled.
 //!
-//! A [`Scheduler`] is a timer queue. It gives out one handle for each job, and runs none itself:
-//! [`Scheduler::pop_due`] returns the job whose turn it is. What is proved of it:
+//! A [`Scheduler`] is a timer queue. It gives each job a handle, and runs none itself:
+//! [`Scheduler::pop_due`] returns the next due job. What is proved of it:
 //!
-//! - Jobs come by ascending time, and jobs of one time in the order in which they were scheduled.
-//! - A job that was cancelled or returned never comes again. Its handle is spent for good, so it
-//!   finds no later job either.
-//! - A call that fails hands the job back, and leaves the same jobs waiting. It spends no handle.
+//! - Jobs are returned by ascending time; ties go in scheduling order.
+//! - A job that was cancelled or returned is never returned again. Its handle is never used again, so
+//!   it finds no later job either.
+//! - A call that fails returns the job, and leaves the same jobs waiting. It uses up no handle.
 //!
-//! The jobs stand in a `SlotMap`, and their handles in a `BTreeMap` by time and number. So `schedule`,
+//! The jobs are in a `SlotMap`, and their handles in a `BTreeMap` by time and number. So `schedule`,
 //! `reschedule`, `cancel`, `peek` and `pop_due` take time logarithmic in the number of jobs. `len`,
 //! `is_empty` and `due` take constant time.
 //!
@@ -77,7 +77,7 @@ pub enum ScheduleError<T> {
     Memory(T),
 }
 
-/// A job was not scheduled anew. It waits as before.
+/// A job was not rescheduled. It keeps its time.
 #[derive(Clone, Copy, Debug, Drop, Error)]
 pub enum RescheduleError {
     /// No job waits under the handle.
@@ -147,9 +147,9 @@ impl<T: Drop> Scheduler<T> {
         Some(self.jobs.get(handle)?.turn.0)
     }
 
-    /// Schedules a job, and returns its handle. It comes after all jobs of its time that wait already.
+    /// Schedules a job, and returns its handle. It is behind all waiting jobs of its time.
     ///
-    /// If the call fails, the error holds the job, and the scheduler is as before: no handle is spent.
+    /// If the call fails, the error holds the job, and the scheduler is unchanged: no handle is used up.
     /// It takes time logarithmic in the number of jobs.
     pub fn schedule(&mut self, time: u64, job: T) -> Result<DefaultKey, ScheduleError<T>>
         // The job waits under a new handle, which no job had before.
@@ -187,8 +187,8 @@ impl<T: Drop> Scheduler<T> {
         }
     }
 
-    /// Cancels the job of a handle, and returns it, or `None` if no job waits under it. It never
-    /// comes, and its handle is spent for good.
+    /// Cancels the job of a handle, and returns it, or `None` if no job waits under it. It is never
+    /// returned later, and its handle is never used again.
     pub fn cancel(&mut self, handle: DefaultKey) -> Option<T>
         ensures job { result ≡ option_map (λ j. j.job) (map.get self.old.jobs.live handle) }
         ensures removed { self.new.jobs.live ≡ map.remove self.old.jobs.live handle }
@@ -201,8 +201,8 @@ impl<T: Drop> Scheduler<T> {
         Some(removed.job)
     }
 
-    /// Moves the job of a handle to another time, where it comes after all that wait already. The
-    /// handle stays the same.
+    /// Moves the job of a handle to another time, behind all jobs of that time. The handle stays the
+    /// same.
     ///
     /// If the call fails, nothing has changed.
     pub fn reschedule(&mut self, handle: DefaultKey, time: u64) -> Result<(), RescheduleError>
@@ -236,7 +236,7 @@ impl<T: Drop> Scheduler<T> {
         Ok(())
     }
 
-    /// Returns the time and the handle of the job that comes next, or `None` if no job waits. It takes
+    /// Returns the time and the handle of the next job, or `None` if no job waits. It takes
     /// time logarithmic in the number of jobs.
     ///
     /// ```
@@ -255,8 +255,8 @@ impl<T: Drop> Scheduler<T> {
         Some((turn.0, *handle))
     }
 
-    /// Removes the job that comes next, if it is due at `now`, and returns it with its handle. It
-    /// never comes again, and its handle is spent for good.
+    /// Removes the next job, if it is due at `now`, and returns it with its handle. It is never
+    /// returned again, and its handle is never used again.
     ///
     /// Of the jobs that wait it is the one of the least time, and of those of that time the one that
     /// was scheduled first. `None` means that no job is due.

@@ -1,12 +1,12 @@
 //! A doubly linked list whose elements have cursors that stay valid.
 //!
-//! Each element of a [`StableList`] has a [`Cursor`]. It leads to the element until that is removed,
-//! wherever other elements come and go, and wherever the element moves. What is proved of it:
+//! Each element of a [`StableList`] has a [`Cursor`]. It stays valid until the element is removed,
+//! whatever is inserted or removed elsewhere, and wherever the element moves. What is proved of it:
 //!
-//! - A clause sees the list as its cursors with their values, from front to back. Each call says
-//!   which list it leaves.
-//! - The cursor of a removed element is gone for good: no later element has it.
-//! - A call with a cursor that isn't in the list is refused, and hands the value back.
+//! - A clause sees the list as its cursors with their values, from front to back. Each call's
+//!   contract gives the resulting list.
+//! - The cursor of a removed element is never used again for another element.
+//! - A call with a cursor that isn't in the list is refused, and returns the value.
 //! - A call that moves an element allocates nothing, and the element keeps its cursor.
 //! - An iterator yields the elements from front to back, or from back to front.
 //!
@@ -63,7 +63,7 @@ struct Node<T> {
 /// A list whose elements have cursors.
 ///
 /// A clause sees `elements`, the list of the cursors with their values, from front to back, and
-/// `cursors`, by which it says that a cursor is gone for good.
+/// `cursors`, by which it says that a cursor is never used again.
 #[derive(Drop)]
 pub struct StableList<T> {
     nodes: SlotMap<Cursor, Node<T>>,
@@ -294,7 +294,7 @@ impl<T: Drop> StableList<T> {
     }
 
     /// Removes the element of a cursor, and returns its value, or `None` if the cursor isn't in the
-    /// list. The cursor is gone for good.
+    /// list. The cursor is never used again.
     pub fn remove(&mut self, cursor: Cursor) -> Option<T>
         ensures value { result ≡ value_of cursor self.old.elements }
         ensures removed { self.new.elements ≡ without cursor self.old.elements }
@@ -316,7 +316,7 @@ impl<T: Drop> StableList<T> {
     }
 
     /// Removes the element at the front, and returns its cursor and its value, or `None` if the list
-    /// is empty. The cursor is gone for good.
+    /// is empty. The cursor is never used again.
     pub fn pop_front(&mut self) -> Option<(Cursor, T)>
         ensures front { TakesFront self.old.elements result self.new.elements }
         ensures for_good { IfSome result (λ element. IsSpent self.new.cursors element.0) }
@@ -329,7 +329,7 @@ impl<T: Drop> StableList<T> {
     }
 
     /// Removes the element at the back, and returns its cursor and its value, or `None` if the list
-    /// is empty. The cursor is gone for good.
+    /// is empty. The cursor is never used again.
     pub fn pop_back(&mut self) -> Option<(Cursor, T)>
         ensures back { TakesBack self.old.elements result self.new.elements }
         ensures for_good { IfSome result (λ element. IsSpent self.new.cursors element.0) }
@@ -341,7 +341,7 @@ impl<T: Drop> StableList<T> {
         Some((cursor, value))
     }
 
-    /// Removes all elements. Their cursors are gone for good.
+    /// Removes all elements. Their cursors are never used again.
     pub fn clear(&mut self)
         ensures empty { self.new.elements ≡ [] }
         ensures for_good { (k : KeyOf) → IsSome (value_of k self.old.elements) → IsSpent self.new.cursors k }

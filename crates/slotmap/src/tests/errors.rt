@@ -1,8 +1,8 @@
 //! The message of each error.
 
 use crate::{
-    InsertError, InsertWithError, JsonError, OutOfMemory, PutError, ReattachError, ReserveError,
-    SlotsError, TryInsertError,
+    InsertError, InsertWithError, JsonError, NoEntry, OutOfMemory, PutError, ReattachError,
+    ReserveError, SlotsError, TryInsertError,
 };
 use std::alloc::Global;
 use std::error::Error;
@@ -57,5 +57,7 @@ fn messages(rt: HostRuntime) -> Result<(), Fail> {
     assert!(rt; says(alloc, &ReserveError::Memory, "out of memory")?);
     assert!(rt; says(alloc, &JsonError::Shape, "shape")?);
     assert!(rt; says(alloc, &JsonError::Memory, "out of memory")?);
+    assert!(rt; says(alloc, &NoEntry::Older, "no entry")?);
+    assert!(rt; says(alloc, &NoEntry::Memory, "out of memory")?);
     Ok(())
 }

@@ -174,9 +174,9 @@ fn write_and_read(alloc: Global, list: &[SlotRecord<u64>]) -> Result<(String, u6
 
 #[test]
 fn each_value_of_a_long_list_is_shown_once(rt: HostRuntime) -> Result<(), Fail> {
-    let list = full_list(rt.alloc(), 1000)?;
+    let list = full_list(rt.alloc(), 3000)?;
     let (text, shown, made) = write_and_read(rt.alloc(), &list)?;
-    assert!(rt; shown == 1000 && made == 1000);
+    assert!(rt; shown == 3000 && made == 3000);
     assert!(rt; text.as_str() == slots_text(rt.alloc(), &list)?.as_str());
     Ok(())
 }

@@ -12,7 +12,7 @@ use std::test::Fail;
 
 /// What each iterator of a map yields first, by the names in the map's module.
 trait Walked: Drop {
-    /// A map of 7 under the key 1v1. Its type stands in the module of its iterators too.
+    /// A map of 7 under the key 1v1. Its type is also in the module of its iterators.
     fn one(alloc: Global) -> Result<Self, Fail>;
 
     /// `Iter`.

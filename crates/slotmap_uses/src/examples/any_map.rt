@@ -28,7 +28,7 @@ pub fn keep_even<K: Key, M: Primary<K, u64>>(store: &mut M)
     store.retain(|_, value| *value % 2 == 0);
 }
 
-/// Takes a value out, and stores another one: the old key is gone for good.
+/// Takes a value out, and stores another one: the old key is spent.
 pub fn renew<K: Key, M: Primary<K, u64>>(
     store: &mut M,
     key: K,

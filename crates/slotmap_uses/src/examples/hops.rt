@@ -41,7 +41,7 @@ pub fn count_reads<K: Key>(store: &HopSlotMap<K, u64>) -> usize
     keys.reads()
 }
 
-/// Sets the value of a key, and returns the old one; the blocks of vacant slots stay as they are.
+/// Sets the value of a key, and returns the old one; the blocks of vacant slots stay.
 pub fn set<K: Key>(store: &mut HopSlotMap<K, u64>, key: K, value: u64) -> Result<u64, u64>
     ensures before { IfOk result (λ before. map.get store.old.content.live (K.data_of key) ≡ Some before) }
     ensures new { OnOk result (store.new ≡ hop_with_value store.old (K.data_of key) value) }

@@ -6,7 +6,7 @@ ghost use Rattle.slotmap.specs.Words.{null_key};
 
 use slotmap::{InsertError, Key, NodeKey, SlotMap};
 
-/// A page: how long it is, and the page that comes next, if the key is not null.
+/// A page: how long it is, and the next page, if the key is not null.
 #[derive(Clone, Copy, Debug)]
 pub struct Page {
     pub length: u32,

@@ -6,8 +6,8 @@ ghost use Rattle.slotmap.specs.Words.{IsLive, IsSpent, with_value_of};
 
 use slotmap::{DefaultKey, DenseSlotMap, InsertError, Key};
 
-/// Sorts the values, which move from key to key: the smallest one goes to the first key in packed
-/// order.
+/// Sorts the values, which move from key to key: the first key in packed order gets the
+/// smallest.
 pub fn sort_values(store: &mut DenseSlotMap<DefaultKey, u64>)
     ensures keys { store.new.keys ≡ store.old.keys }
 {
@@ -38,7 +38,7 @@ pub fn exchange(
     }
 }
 
-/// Stores two values under two keys. They come last in packed order.
+/// Stores two values under two keys. They are the last in packed order.
 pub fn append_two<K: Key>(store: &mut DenseSlotMap<K, u32>) -> Result<(K, K), InsertError<u32>>
     ensures differ { IfOk result (λ keys. K.data_of keys.0 ≢ K.data_of keys.1) }
     ensures order { OnOk result (store.new.values ≡ store.old.values ++ 1 ∷ 2 ∷ []) }
@@ -57,7 +57,7 @@ pub fn set<K: Key>(store: &mut DenseSlotMap<K, u64>, key: K, value: u64)
     store[key] = value;
 }
 
-/// Takes a value out, and stores another one: the old key is gone for good.
+/// Takes a value out, and stores another one: the old key is spent.
 pub fn renew(
     store: &mut DenseSlotMap<DefaultKey, u64>,
     key: DefaultKey,

@@ -21,7 +21,7 @@ pub fn note(
     notes.insert(key, text)
 }
 
-/// Puts a note beside a key whose slot another key had before: the other's note is gone.
+/// Puts a note beside a key whose slot another key had before: the other's note is removed.
 #[tactic(auto, using(slotmap::proofs::Callers::secondary))]
 pub fn note_again(
     notes: &mut SecondaryMap<DefaultKey, u32>,

@@ -1,4 +1,4 @@
-//! Values of side tables changed in place, by a closure that may be called on small values alone.
+//! Values of side tables changed in place, by a closure that may be called only on small values.
 
 ghost use Rattle.std.specs.Prelude.{◌≡◌, ◌<◌, ◌+◌, ℕ, Some, None, IfOk, unwrap_or, nat_lt, if◌then◌else◌};
 ghost use Rattle.std.specs.Option.{option_and_then, option_map};

@@ -10,7 +10,7 @@ use std::hash::RandomState;
 use std::io;
 use std::random::RandomSource;
 
-/// Marks under keys that came from outside.
+/// Marks under keys from an untrusted source.
 pub type Marks = SparseSecondaryMap<DefaultKey, u32, RandomState>;
 
 /// An empty table with a seed of its own.

@@ -1,4 +1,4 @@
-//! The search for the nodes to which a path leads.
+//! The search for the reachable nodes.
 
 ghost use Rattle.std.specs.Prelude.{◌≡◌, ◌≢◌, IfOk, OnOk, true};
 ghost use Rattle.std.specs.FinMap as map;

@@ -1,12 +1,12 @@
-//! Values that add up along the way from a node to its root, as transforms do in a scene graph.
+//! Values that are composed along the path from a node to its root, as transforms in a scene graph.
 //!
 //! [`Scene::fold_up`] folds a closure along the values from a node up to its root. [`Scene::world`]
 //! returns a node's value in the coordinates of its root, where the values are [`Transform`]s. What is
 //! proved of them:
 //!
 //! - The closure is called once for each value from the node's own to the root's, in that order.
-//! - The result of `world` is the node's own value under that of its parent, and so on up to the root.
-//! - They return `None` exactly if the node is gone.
+//! - The result of `world` is the node's own value composed with its ancestors', up to the root.
+//! - They return `None` exactly if the node doesn't exist.
 //!
 //! Both take time linear in the number of nodes above the one that they are given. Nothing is allocated.
 //!
@@ -75,8 +75,8 @@ impl<T: Drop> Scene<T> {
     /// Folds a closure along the values from a node up to its root, and returns the last result.
     ///
     /// The first call gets `start` and the node's own value. Each later one gets the result of the call
-    /// before it and the value of the next node up. It returns `None` exactly if the node is gone. Linear
-    /// in the number of nodes above.
+    /// before it and the value of the next node up. It returns `None` exactly if the node doesn't exist.
+    /// Linear in the number of nodes above.
     ///
     /// ```
     /// let mut scene = Scene::new(alloc)?;
@@ -117,8 +117,8 @@ impl<T: Drop> Scene<T> {
 impl<T: Transform> Scene<T> {
     /// Returns the value of a node in the coordinates of its root.
     ///
-    /// This is the node's own value under that of its parent, and so on up to the root. It returns `None`
-    /// exactly if the node is gone. Linear in the number of nodes above.
+    /// This is the node's own value composed with its ancestors', up to the root. It returns `None`
+    /// exactly if the node doesn't exist. Linear in the number of nodes above.
     ///
     /// ```
     /// let mut arm = Scene::new(alloc)?;

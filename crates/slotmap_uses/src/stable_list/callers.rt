@@ -1,4 +1,4 @@
-//! Callers of a list, each proved from its contracts alone.
+//! Callers of a list, each proved only from its contracts.
 
 ghost use Rattle.std.specs.Prelude.{◌≡◌, Some, IfSome, IfNone};
 ghost use Rattle.slotmap.specs.Words.{Key as KeyOf};

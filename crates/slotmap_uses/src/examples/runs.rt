@@ -1,0 +1,136 @@
+//! What follows from the replies to a list of commands, by their positions: two keys differ, a
+//! removed key finds nothing, a detached key is bound again.
+
+ghost use Rattle.std.specs.Prelude.{◌≡◌, ◌≢◌, IfSome, Some, None, slice_get, true};
+ghost use Rattle.slotmap.specs.Words.{KeyReply, TakenReply, LookedReply, DoneReply};
+
+use slotmap::{
+    Command, DefaultKey, DetachCommand, Detaching, Primary, Reply, run_detaching_new, run_new,
+};
+use std::alloc::Global;
+
+type Replies = Vec<Reply<DefaultKey, u64, u64, ()>>;
+
+fn look(value: &u64) -> u64 {
+    *value
+}
+
+fn keep(_key: DefaultKey, _value: &mut u64) -> bool {
+    true
+}
+
+fn make(_key: DefaultKey) -> Result<u64, ()> {
+    Err(())
+}
+
+/// Returns the key in a reply.
+fn key_at(replies: &Replies, at: usize) -> Option<DefaultKey>
+    ensures { IfSome result (λ key. slice_get replies.now.items at ≡ Some (KeyReply key)) }
+{
+    match replies.get(at) {
+        Some(Reply::Key(key)) => Some(*key),
+        _ => None,
+    }
+}
+
+/// Returns the value that a removal or a detach took.
+fn taken_at(replies: &Replies, at: usize) -> Option<u64>
+    ensures { IfSome result (λ value. slice_get replies.now.items at ≡ Some (TakenReply (Some value))) }
+{
+    match replies.get(at) {
+        Some(Reply::Taken(Some(value))) => Some(*value),
+        _ => None,
+    }
+}
+
+/// Returns what a look-up found.
+fn looked_at(replies: &Replies, at: usize) -> Option<Option<u64>>
+    ensures { IfSome result (λ seen. slice_get replies.now.items at ≡ Some (LookedReply seen)) }
+{
+    match replies.get(at) {
+        Some(Reply::Looked(seen)) => Some(*seen),
+        _ => None,
+    }
+}
+
+/// The keys of two inserts differ.
+pub fn two_keys<M: Primary<DefaultKey, u64> + Drop>(
+    alloc: Global,
+) -> Option<(DefaultKey, DefaultKey)>
+    ensures differ { IfSome result (λ keys. keys.0 ≢ keys.1) }
+{
+    let listed = vec![in alloc; Command::Insert(5), Command::Len, Command::Insert(6)];
+    let Ok(commands) = listed else {
+        return None;
+    };
+    let made: Result<(M, Replies), _> = run_new(alloc, commands, look, keep, make);
+    let Ok((_map, replies)) = made else {
+        return None;
+    };
+    Some((key_at(&replies, 0)?, key_at(&replies, 2)?))
+}
+
+/// A key that was removed finds nothing, though its slot has a value again.
+pub fn look_for_removed<M: Primary<DefaultKey, u64> + Drop>(
+    alloc: Global,
+    key: DefaultKey,
+) -> Option<Option<u64>>
+    ensures gone { IfSome result (λ seen. seen ≡ None) }
+{
+    let listed = vec![in alloc;
+        Command::Insert(5),
+        Command::Remove(key),
+        Command::Insert(7),
+        Command::Get(key),
+    ];
+    let Ok(commands) = listed else {
+        return None;
+    };
+    let made: Result<(M, Replies), _> = run_new(alloc, commands, look, keep, make);
+    let Ok((_map, replies)) = made else {
+        return None;
+    };
+    let _value = taken_at(&replies, 1)?;
+    let seen = looked_at(&replies, 3)?;
+    Some(seen)
+}
+
+/// Returns the reply at a position.
+fn reply_at(replies: &Replies, at: usize) -> Option<&Reply<DefaultKey, u64, u64, ()>>
+    ensures { IfSome result (λ answer. slice_get replies.now.items at ≡ Some answer.now) }
+{
+    replies.get(at)
+}
+
+/// Whether a reply is `Done`.
+fn is_done(answer: &Reply<DefaultKey, u64, u64, ()>) -> bool
+    ensures { answer.now ≡ DoneReply → result ≡ true }
+{
+    matches!(answer, Reply::Done)
+}
+
+/// A key that was detached is bound again, whatever was inserted meanwhile.
+pub fn bind_detached<M: Detaching<DefaultKey, u64> + Drop>(
+    alloc: Global,
+    key: DefaultKey,
+) -> Option<bool>
+    requires { M.REUSES ≡ true }
+    ensures bound { IfSome result (λ bound. bound ≡ true) }
+{
+    let listed = vec![in alloc;
+        DetachCommand::Plain(Command::Insert(5)),
+        DetachCommand::Detach(key),
+        DetachCommand::Plain(Command::Insert(7)),
+        DetachCommand::Reattach(key, 9),
+    ];
+    let Ok(commands) = listed else {
+        return None;
+    };
+    let made: Result<(M, Replies), _> = run_detaching_new(alloc, commands, look, keep, make);
+    let Ok((_map, replies)) = made else {
+        return None;
+    };
+    let _value = taken_at(&replies, 1)?;
+    let last = reply_at(&replies, 3)?;
+    Some(is_done(last))
+}
