@@ -1,8 +1,9 @@
 #!/usr/bin/env python3
-"""lists.py KIND [--seed SEED] [--rows N]
+"""lists.py KIND [--seed SEED] [--rows N] [--slots]
 
 Prints N rows of random calls, 10 where N isn't given, without their results, for a kind of map: basic, dense, hop, secondary or
-sparse. The same seed prints the same rows. `rows --fill` gives them the results of the Rust crate.
+sparse. The same seed prints the same rows. With --slots the map is now and then read from its own list of slots; a hop
+map isn't, since the crate reads it otherwise. `rows --fill` gives them the results of the Rust crate.
 
 It follows which keys are live, detached and gone, to ask for keys that matter.
 """
@@ -24,6 +25,7 @@ class Row:
     def __init__(self, rng):
         self.rng = rng
         self.calls = []
+        self.is_listed = False
 
     def call(self, *words):
         self.calls.append(" ".join(map(str, words)))
@@ -44,6 +46,8 @@ class Row:
             weights, acts = zip(*moods.pop())
             for act in self.rng.choices(acts, weights, k=self.rng.randint(8, 16)):
                 getattr(self, act)()
+            if self.is_listed:
+                self.through_slots()
         self.end()
         return self.calls
 
@@ -199,6 +203,12 @@ class Primary(Row):
         self.gone.extend(map(self.key_of, self.values))
         self.values.clear()
         self.map.clear()
+
+    def through_slots(self):
+        """Reads the map from its own list, in which the slots of detached keys are vacant."""
+        self.call("through_slots")
+        self.gone.extend(self.key_of(index, self.map.versions[index] - 1) for index in self.map.detached)
+        self.map = KINDS[self.kind](self.map.versions)
 
     def clone(self):
         if self.other is None or self.rng.random() < 0.3:
@@ -439,6 +449,11 @@ class Secondary(Row):
             key, value = pair.split(":")
             self.put(key, int(value))
 
+    def through_slots(self):
+        # No list has a value in its first slot.
+        if 0 not in self.held:
+            self.call("through_slots")
+
     def clone(self):
         name = self.rng.choice(["clone", "is_same", "is_same", "exchange", "clone_from", "drop_clone"])
         if self.other is None:
@@ -502,13 +517,16 @@ def main():
     parser.add_argument("kind", choices=SUBJECTS)
     parser.add_argument("--seed", default="1")
     parser.add_argument("--rows", type=int, default=10)
+    parser.add_argument("--slots", action="store_true")
     args = parser.parse_args()
     print("# Random calls, by compare/lists.py. The results are those of the Rust crate, by compare/rows.")
     print(f"maps {args.kind}")
     for number in range(1, args.rows + 1):
         print(f"\nrow random calls {number}")
         rng = random.Random(f"{args.seed} {args.kind} {number}")
-        print(*SUBJECTS[args.kind](rng, args.kind).write(), sep="\n")
+        row = SUBJECTS[args.kind](rng, args.kind)
+        row.is_listed = args.slots
+        print(*row.write(), sep="\n")
 
 
 if __name__ == "__main__":

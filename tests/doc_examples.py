@@ -34,6 +34,19 @@ HEADS = {
     "slotmap_sparse": SECONDARY.replace("MAP", "SparseSecondaryMap"),
 }
 OTHER_HEAD = "let alloc = rt.alloc();"
+# The table of calls in CALLING.md, and the lines that come before each of its rows.
+TABLE, TABLE_HEADING = "crates/slotmap/CALLING.md", "## From Rust's slotmap"
+HEADS["calling"] = """let alloc = rt.alloc();
+let mut map: SlotMap<DefaultKey, u64> = SlotMap::new(alloc)?;
+let key = map.insert(1)?;
+let other = map.insert(2)?;
+let mut packed: DenseSlotMap<DefaultKey, u64> = DenseSlotMap::new(alloc)?;
+let near = packed.insert(1)?;
+let far = packed.insert(2)?;
+let mut side: SecondaryMap<DefaultKey, u64> = SecondaryMap::new(alloc)?;
+let mut few: SparseSecondaryMap<DefaultKey, u64> = SparseSecondaryMap::new(alloc)?;
+side.insert(key, 3)?;
+few.insert(key, 4)?;"""
 
 ITEM = re.compile(
     r"\s*(?:pub(?:\([a-z]+\))? )?(?:const )?(?:unsafe )?"
@@ -52,7 +65,7 @@ class Example:
         return f"{self.path}:{self.line} ({self.item or 'head'})"
 
     def name(self):
-        file = re.sub(r"\W", "_", re.sub(r"^.*/src/|\.rt$", "", self.path))
+        file = re.sub(r"\W", "_", re.sub(r"^.*/src/|^crates/slotmap/|\.rt$", "", self.path))
         return f"{file}_{self.item or 'head'}_{self.line}".lower()
 
 
@@ -104,6 +117,29 @@ def all_examples():
                     found += more
                     odd += strange
     return found, odd
+
+
+def rows_of_table():
+    """The rows of the table of calls, as examples: the code in the second cell of each."""
+    found = []
+    with open(os.path.join(TOP, TABLE), encoding="utf-8") as file:
+        lines = file.read().split("\n")
+    start = lines.index(TABLE_HEADING)
+    for number in range(start + 1, len(lines)):
+        if lines[number].startswith("## "):
+            break
+        cells = re.split(r"(?<!\\) ?\| ?", lines[number].strip("|"))
+        if len(cells) != 2 or "`" not in cells[1]:
+            continue
+        row = Example("calling", TABLE, number + 1)
+        row.item = "row"
+        for code in re.findall(r"`([^`]+)`", cells[1].replace("\\|", "|")):
+            is_whole = code.endswith((";", "}"))
+            row.lines.append((number + 1, code.strip() if is_whole else f"let _ = {code.strip()};"))
+        found.append(row)
+    if not found:
+        sys.exit(f"doc_examples.py: {TABLE} has no table under {TABLE_HEADING}")
+    return found
 
 
 def calls_without_example():
@@ -245,6 +281,7 @@ def failures(output, lines_of):
 
 def main():
     examples, odd = all_examples()
+    examples += rows_of_table()
     odd += calls_without_example()
     wanted = sys.argv[1:]
     if wanted:

@@ -1,7 +1,7 @@
 #!/usr/bin/env bash
 # tests/memory.sh [PROGRAM ..]
 #
-# Runs the programs primary_rows, secondary_rows and slotrun with refused memory, or those that are named. Each program
+# Runs the programs primary_rows, secondary_rows, joined_rows and slotrun with refused memory, or those that are named. Each program
 # runs once for each of its requests for memory, with this request refused alone, and once with all from it on refused.
 #
 # - A row program with one refused request prints what it prints without, and ends with status 0: the refused call left
@@ -11,8 +11,11 @@
 # - `slotrun` prints what it prints without, up to a line that says `memory`, or `no script` at the end. Where one request
 #   was refused, the other lines are then those of the script without the refused line.
 #
-# Row files with a call that is repeated over 1,000 times are left out, and the random rows of secondary_rows, which count
-# drops after an `extend`: it keeps the pairs before the fault, and is called again with the rest.
+# Row files with a call that is repeated over 1,000 times are left out, and the hundred lists, which ask for memory as often. So
+# are the random rows of secondary_rows, which count drops after an `extend`: it keeps the pairs before the fault, and is called
+# again with the rest.
+#
+# Once room was made for a hundred keys, no insert of one of them asks for memory.
 #
 # No row asks for far more memory than it needs. Over a file of rows the largest request is at most 256 KiB, which is ten
 # thousand slots of 24 bytes. Where a call is repeated over 1,000 times it is at most 16 MiB.
@@ -154,7 +157,7 @@ try_case() {
 # check_largest PROGRAM FILE: no request of a program over a file of rows is too large.
 check_largest() {
     local data=$top/crates/$1/data most=262144 largest
-    ! grep -qE '^repeat [0-9]{4,} ' "$data/$2" || most=16777216
+    ! grep -qE '^(repeat|sum|insert_many) [0-9]{4,}( |$)' "$data/$2" || most=16777216
     largest=$(env -C "$data" "LD_PRELOAD=$scratch/refuse.so" REFUSE_COUNT=1 "$top/crates/$1/out/$1" "$2" 2>&1 >/dev/null |
         sed -n 's/.* largest //p')
     [ "$largest" -le "$most" ] && return
@@ -162,14 +165,54 @@ check_largest() {
     exit 1
 }
 
+# count_requests PROGRAM ROW: how often a program asks for memory over a file of these lines.
+count_requests() {
+    printf '%b' "$2" >"$scratch/room.rows"
+    env "LD_PRELOAD=$scratch/refuse.so" REFUSE_COUNT=1 "$1" "$scratch/room.rows" 2>&1 >"$scratch/room.printed" |
+        sed -n 's/^requests \([0-9]*\) .*/\1/p'
+    grep -q ', 0 differences$' "$scratch/room.printed" || echo "and differs"
+}
+
+# check_room PROGRAM KIND ROOM LOOK PUT ..: once there is room for a hundred keys, a call that puts a value a hundred times asks
+# for memory no more often than one with as many words that only looks.
+check_room() {
+    local program=$top/crates/$1/out/$1 row="maps $2\nrow within the room\n$3\nrepeat 100 " least seen
+    least=$(count_requests "$program" "$row$4\n")
+    for put in "${@:5}"; do
+        seen=$(count_requests "$program" "$row$put\n")
+        [ "$seen" = "$least" ] && continue
+        echo "fault: $1 of the kind $2 asks for memory within its room by $put: $seen requests, where $least do"
+        exit 1
+    done
+}
+
+# check_rooms PROGRAM: no call asks for memory within the room that was made.
+check_rooms() {
+    local kind
+    if [ "$1" = primary_rows ]; then
+        for kind in basic dense hop; do
+            check_room "$1" $kind 'reserve 100' 'get #v1 -> none' 'insert # -> 100v1' \
+                'insert_with_key # -> 100v1' 'try_insert_with_key # -> 100v1'
+        done
+    else
+        for kind in 'secondary set_capacity' 'secondary try_set_capacity' 'sparse reserve' 'random try_reserve'; do
+            check_room "$1" "${kind% *}" "${kind#* } 100" 'get_mut #v1 # -> 100 back' 'insert #v1 # -> none' \
+                'or_put #v1 # -> placed' 'or_insert #v1 # -> 100' 'entry_insert #v1 # -> 100'
+        done
+    fi
+    echo "$1: no request within the room that was made"
+}
+
 # try_rows PROGRAM: the row files that the program's file `args` names.
 try_rows() {
     local data=$top/crates/$1/data file
     while read -r file; do
         check_largest "$1" "$file"
-        if grep -qE '^repeat [0-9]{4,} ' "$data/$file"; then
+        if grep -qE '^(repeat|sum|insert_many) [0-9]{4,}( |$)' "$data/$file"; then
             echo "$1 $file: left out, since a call is repeated over 1,000 times"
-        elif [[ $1/$file = secondary_rows/random-* ]]; then
+        elif [[ $file = hundred-* ]]; then
+            echo "$1 $file: left out, since its lists ask for memory as often"
+        elif [[ $1/$file = secondary_rows/random-* || $1/$file = secondary_rows/listed-* ]]; then
             echo "$1 $file: left out, since it counts drops after an extend, which is called again with the rest"
         else
             try_case check_rows "$data" "$top/crates/$1/out/$1" "$file" /dev/null 0
@@ -189,7 +232,7 @@ try_slotrun() {
     done
 }
 
-[ $# -gt 0 ] || set -- primary_rows secondary_rows slotrun
+[ $# -gt 0 ] || set -- primary_rows secondary_rows joined_rows slotrun
 for program in "$@"; do
     if [ ! -x "$top/crates/$program/out/$program" ]; then
         echo "memory.sh: crates/$program/out/$program isn't built: run \`rt run\` in crates/$program first" >&2
@@ -205,7 +248,10 @@ cases=0
 for program in "$@"; do
     case $program in
         slotrun) try_slotrun ;;
-        *) try_rows "$program" ;;
+        *)
+            check_rooms "$program"
+            try_rows "$program"
+            ;;
     esac
 done
 echo "$cases files and scripts, $all_requests requests, $all_own for programs' own work; $((2 * all_requests)) runs, no fault"

@@ -1,5 +1,6 @@
 //! Holds a map to the rows of a file, or fills their results in.
 
+use crate::lists::{Sum, sum_list};
 use crate::number::Counts;
 use crate::words::Word;
 use std::rc::Rc;
@@ -38,6 +39,8 @@ struct Row<'t> {
     name: &'t str,
     counts: Rc<Counts>,
     maps: Box<dyn Subject>,
+    /// Makes new maps.
+    begin: Begin,
     /// The counts that a call would have changed that was left out.
     not_known: Vec<&'static str>,
 }
@@ -45,19 +48,30 @@ struct Row<'t> {
 impl<'t> Row<'t> {
     fn new(name: &'t str, begin: Begin) -> Row<'t> {
         let counts = Rc::new(Counts::default());
-        Row { name, maps: begin(&counts), counts, not_known: Vec::new() }
+        Row { name, maps: begin(&counts), begin, counts, not_known: Vec::new() }
     }
 
     /// Makes the call of a line, as often as it says.
     fn make(&mut self, call: &str) -> Answer {
-        let Some((times, call)) = repeated(call) else {
-            return self.make_once(call, 1);
-        };
-        let mut answer = Answer::Lost;
-        for turn in 1..=times {
-            answer = self.make_once(call, turn);
+        if let Some((times, call)) = made_often(call, "repeat ") {
+            return (1..=times).map(|turn| self.make_once(call, turn)).last().unwrap_or(Answer::Lost);
         }
-        answer
+        match made_often(call, "sum ") {
+            Some((times, call)) => self.sum(call, times),
+            None => self.make_once(call, 1),
+        }
+    }
+
+    /// The sum of the results of a call in so many turns.
+    fn sum(&mut self, call: &str, times: u64) -> Answer {
+        let mut sum = Sum::new();
+        for turn in 1..=times {
+            match self.make_once(call, turn) {
+                Answer::Result(result) => sum.add(&result),
+                answer => return answer,
+            }
+        }
+        Answer::Result(sum.value().to_string())
     }
 
     fn make_once(&mut self, call: &str, turn: u64) -> Answer {
@@ -65,6 +79,13 @@ impl<'t> Row<'t> {
         let name = parts.next().unwrap_or_default();
         let words: Vec<Word> = parts.map(|word| Word::read(word, turn)).collect();
         match name {
+            "list" | "detaching_list" => match words[..] {
+                [Word::Number(number)] => {
+                    let detaches = name == "detaching_list";
+                    sum_list(&mut *(self.begin)(&self.counts), number, detaches)
+                }
+                _ => Answer::Lost,
+            },
             "alive" => Answer::Result(self.counts.alive().to_string()),
             "cloned" => self.taken(name, self.counts.take_cloned()),
             "dropped" => self.taken(name, self.counts.take_dropped()),
@@ -97,9 +118,9 @@ fn is_run(kind: &str) -> bool {
     kind.starts_with("run") || kind.starts_with("detaching")
 }
 
-/// How often a call is repeated, and the call.
-fn repeated(call: &str) -> Option<(u64, &str)> {
-    let (times, call) = call.strip_prefix("repeat ")?.split_once(' ')?;
+/// How often a call is made that begins with this word, and the call.
+fn made_often<'t>(call: &'t str, word: &str) -> Option<(u64, &'t str)> {
+    let (times, call) = call.strip_prefix(word)?.split_once(' ')?;
     Some((times.parse().ok()?, call))
 }
 

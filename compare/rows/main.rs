@@ -6,9 +6,12 @@
 //! - `rows --fill FILE` prints the file with the crate's results.
 
 mod hold;
+mod lists;
 mod number;
 mod primary;
 mod secondary;
+#[cfg(feature = "lists")]
+mod slots;
 mod walks;
 mod words;
 

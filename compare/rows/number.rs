@@ -1,6 +1,7 @@
 //! Values that are counted.
 
 use std::cell::Cell;
+use std::mem::replace;
 use std::rc::Rc;
 
 /// How many values were made, cloned and dropped in a row.
@@ -49,10 +50,17 @@ impl Number {
     }
 }
 
+impl Number {
+    /// A number that counts as a clone.
+    pub fn cloned(counts: &Rc<Counts>, value: u64) -> Number {
+        count(&counts.cloned);
+        Number { value, counts: counts.clone() }
+    }
+}
+
 impl Clone for Number {
     fn clone(&self) -> Number {
-        count(&self.counts.cloned);
-        Number { value: self.value, counts: self.counts.clone() }
+        Number::cloned(&self.counts, self.value)
     }
 }
 
@@ -72,5 +80,17 @@ impl Drop for Number {
 impl PartialEq for Number {
     fn eq(&self, other: &Number) -> bool {
         self.value == other.value
+    }
+}
+
+/// The values before, or those that come back.
+pub fn put_all<const N: usize>(places: Option<[&mut Number; N]>, new: [Number; N]) -> String {
+    let texts = |numbers: [Number; N]| numbers.map(|number| number.value.to_string()).join(" ");
+    match places {
+        Some(places) => {
+            let mut new = new.into_iter();
+            texts(places.map(|place| replace(place, new.next().unwrap())))
+        }
+        None => format!("{} back", texts(new)),
     }
 }

@@ -1,7 +1,9 @@
 //! The three maps that hand out keys, held to rows.
 
 use crate::hold::{Answer, Made, Subject, done, said};
-use crate::number::{Counts, Number};
+use crate::number::{Counts, Number, put_all};
+#[cfg(feature = "lists")]
+use crate::slots::through_slots;
 use crate::walks::{listed, stepped, walked};
 use crate::words::{Word, index, key_text, option_text, pair_text};
 #[allow(deprecated)]
@@ -107,6 +109,7 @@ macro_rules! primary {
                         ("try_insert_with_key", [Word::Name("fails"), Word::Number(error)]) => {
                             self.map.try_insert_with_key(|key| Err(error + index(key)))
                         }
+                        ("insert_refused", []) => self.map.try_insert_with_key(|key| Err(key.data().as_ffi())),
                         ("insert_made", []) => self.map.try_insert_with_key(|key| {
                             if index(key) == 2 { Err(9) } else { Ok(number(key.data().as_ffi())) }
                         }),
@@ -158,11 +161,15 @@ macro_rules! primary {
                     match (name, words) {
                         ("replace_disjoint", []) => said(self.map.get_disjoint_mut([]).is_some()),
                         ("replace_disjoint", [Word::Key(a), Word::Number(v), Word::Key(b), Word::Number(w)]) => {
-                            let (v, w) = (Number::new(&self.counts, *v), Number::new(&self.counts, *w));
-                            match self.map.get_disjoint_mut([*a, *b]) {
-                                Some([p, q]) => said(format!("{} {}", replace(p, v).value, replace(q, w).value)),
-                                None => said(format!("{} {} back", v.value, w.value)),
-                            }
+                            let new = [v, w].map(|value| Number::new(&self.counts, *value));
+                            said(put_all(self.map.get_disjoint_mut([*a, *b]), new))
+                        }
+                        (
+                            "replace_disjoint",
+                            [Word::Key(a), Word::Number(v), Word::Key(b), Word::Number(w), Word::Key(c), Word::Number(x)],
+                        ) => {
+                            let new = [v, w, x].map(|value| Number::new(&self.counts, *value));
+                            said(put_all(self.map.get_disjoint_mut([*a, *b, *c]), new))
                         }
                         _ => None,
                     }
@@ -240,6 +247,11 @@ macro_rules! primary {
                         ("clone_from", []) => self.map.clone_from(self.other.as_ref()?),
                         ("exchange", []) => swap(&mut self.map, self.other.as_mut()?),
                         ("drop_clone", []) => self.other = None,
+                        #[cfg(feature = "lists")]
+                        ("through_slots", []) => {
+                            let is_hop = stringify!($module) == "hop";
+                            return through_slots(&mut self.map, &self.counts, is_hop);
+                        }
                         _ => return None,
                     }
                     done()

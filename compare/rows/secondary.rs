@@ -1,10 +1,12 @@
 //! The two secondary maps, held to rows.
 
 use crate::hold::{Answer, Made, Subject, done, said};
-use crate::number::{Counts, Number};
+use crate::number::{Counts, Number, put_all};
+#[cfg(feature = "lists")]
+use crate::slots::through_slots;
 use crate::walks::SHOWN;
 use crate::words::{Word, index, key_text, option_text, pair_text, version};
-use slotmap::{DefaultKey, Key, SecondaryMap, SparseSecondaryMap};
+use slotmap::{DefaultKey, Key, KeyData, SecondaryMap, SparseSecondaryMap};
 use std::mem::{replace, swap};
 use std::rc::Rc;
 
@@ -61,6 +63,11 @@ fn walked(word: &str, walk: impl ExactSizeIterator<Item = Item>, steps: u64, is_
 /// Half of all versions.
 const HALF: u64 = 1 << 31;
 
+/// Whether a word has a key of the later half of all versions.
+fn is_late(word: &Word) -> bool {
+    matches!(*word, Word::Key(key) | Word::Pair(key, _) if version(key) >= HALF)
+}
+
 /// Whether a call makes the entry of a key, in the crate at least.
 fn enters(name: &str) -> bool {
     name.contains("entry") || name.starts_with("or_") || name == "and_modify"
@@ -96,14 +103,17 @@ macro_rules! secondary {
                 counts: Rc<Counts>,
                 map: Map,
                 other: Option<Map>,
+                /// Whether a call was given a key of the later half of all versions.
+                has_late_keys: bool,
             }
 
             pub fn begin(counts: &Rc<Counts>) -> Box<dyn Subject> {
-                Box::new(Maps { counts: counts.clone(), map: $map::new(), other: None })
+                Box::new(Maps { counts: counts.clone(), map: $map::new(), other: None, has_late_keys: false })
             }
 
             impl Subject for Maps {
                 fn call(&mut self, name: &str, words: &[Word]) -> Answer {
+                    self.has_late_keys |= words.iter().any(is_late);
                     if self.steps_over(name) || words.iter().any(|word| self.is_known_difference(name, word)) {
                         return Answer::Lost;
                     }
@@ -127,7 +137,7 @@ macro_rules! secondary {
                     let (Word::Key(key) | Word::Pair(key, _)) = *word else {
                         return false;
                     };
-                    if key.is_null() || !puts(name) && !enters(name) {
+                    if key.is_null() || !self.has_late_keys || !puts(name) && !enters(name) {
                         return false;
                     }
                     match self.map.keys().find(|other| index(*other) == index(key)) {
@@ -306,16 +316,26 @@ macro_rules! secondary {
                 }
 
                 fn replace_disjoint(&mut self, pairs: Vec<(DefaultKey, Number)>) -> Made {
-                    let Ok([(first, v), (second, w)]) = <[_; 2]>::try_from(pairs) else {
-                        return None;
+                    let pairs = match <[_; 2]>::try_from(pairs) {
+                        Ok([(a, v), (b, w)]) => return said(put_all(self.map.get_disjoint_mut([a, b]), [v, w])),
+                        Err(pairs) => pairs,
                     };
-                    match self.map.get_disjoint_mut([first, second]) {
-                        Some([p, q]) => said(format!("{} {}", replace(p, v).value, replace(q, w).value)),
-                        None => said(format!("{} {} back", v.value, w.value)),
-                    }
+                    let [(a, v), (b, w), (c, x)] = <[_; 3]>::try_from(pairs).ok()?;
+                    said(put_all(self.map.get_disjoint_mut([a, b, c]), [v, w, x]))
+                }
+
+                /// Inserts the numbers from 1 on, each under the first key of its index.
+                fn insert_many(&mut self, count: u64) -> Made {
+                    let before = (1..=count).map(|index| {
+                        self.map.insert(KeyData::from_ffi(1 << 32 | index).into(), Number::new(&self.counts, index))
+                    });
+                    value(before.last()?)
                 }
 
                 fn walk(&mut self, name: &str, steps: u64) -> Made {
+                    if name == "insert_many" {
+                        return self.insert_many(steps);
+                    }
                     let map = &mut self.map;
                     match name {
                         "drain" => walked("pairs", map.drain().map(taken), steps, $is_ordered, false),
@@ -370,6 +390,8 @@ macro_rules! secondary {
                         "is_same" => return said(self.map == *self.other.as_ref()?),
                         "exchange" => swap(&mut self.map, self.other.as_mut()?),
                         "drop_clone" => self.other = None,
+                        #[cfg(feature = "lists")]
+                        "through_slots" => return through_slots(&mut self.map, &self.counts, false),
                         _ => return None,
                     }
                     done()

@@ -16,7 +16,7 @@ pub enum Word<'t> {
 }
 
 impl<'t> Word<'t> {
-    /// Reads a word in turn `turn` of a repeated call: `#` stands for the turn.
+    /// Reads a word in turn `turn` of a repeated call.
     pub fn read(word: &'t str, turn: u64) -> Word<'t> {
         if let Some(number) = read_number(word, turn) {
             return Word::Number(number);
@@ -32,7 +32,23 @@ impl<'t> Word<'t> {
 }
 
 fn read_number(word: &str, turn: u64) -> Option<u64> {
-    if word == "#" { Some(turn) } else { word.parse().ok() }
+    let Some((factor, wheel)) = word.split_once('#') else {
+        return word.parse().ok();
+    };
+    let factor: u64 = if factor.is_empty() { 1 } else { factor.parse().ok()? };
+    Some(factor * read_wheel(wheel, turn)?)
+}
+
+/// The turn, or one of three wheels of a counter.
+fn read_wheel(name: &str, turn: u64) -> Option<u64> {
+    let before = turn - 1;
+    match name {
+        "" => Some(turn),
+        "a" => Some(before % 10 + 1),
+        "b" => Some(before / 10 % 10 + 1),
+        "c" => Some(before / 100 % 10 + 1),
+        _ => None,
+    }
 }
 
 fn read_key(word: &str, turn: u64) -> Option<DefaultKey> {

@@ -7,7 +7,9 @@ use crate::walks::{
     write_item, write_left, write_step,
 };
 use slotmap::{DefaultKey, DenseSlotMap, OutOfMemory, ReserveError, SlotsError};
-use slotmap_rows::{Call, Exchanged, ExchangedTwo, Number, Slots, Stop, Way, looked, written};
+use slotmap_rows::{
+    Call, Exchanged, ExchangedThree, ExchangedTwo, Number, Slots, Stop, Way, looked, written,
+};
 use std::alloc::{AllocError, Global};
 use std::mem;
 
@@ -44,6 +46,14 @@ impl<'a> Held<'a> for DenseSlotMap<DefaultKey, Number<'a>> {
     }
 
     fn replace_two(&mut self, keys: [DefaultKey; 2], values: [Number<'a>; 2]) -> ExchangedTwo<'a> {
+        self.replace_disjoint(keys, values)
+    }
+
+    fn replace_three(
+        &mut self,
+        keys: [DefaultKey; 3],
+        values: [Number<'a>; 3],
+    ) -> ExchangedThree<'a> {
         self.replace_disjoint(keys, values)
     }
 

@@ -2,7 +2,7 @@
 
 use crate::maps::Maps;
 use slotmap::{DefaultKey, OutOfMemory, ReserveError, SlotsError};
-use slotmap_rows::{Call, Exchanged, ExchangedTwo, Number, Slots, Stop, Way};
+use slotmap_rows::{Call, Exchanged, ExchangedThree, ExchangedTwo, Number, Slots, Stop, Way};
 use std::alloc::{AllocError, Global};
 
 /// What a map can do beside the calls of `Primary`. Each method makes the map's own call.
@@ -32,6 +32,13 @@ pub trait Held<'a>: Drop {
 
     /// `replace_disjoint` of two keys.
     fn replace_two(&mut self, keys: [DefaultKey; 2], values: [Number<'a>; 2]) -> ExchangedTwo<'a>;
+
+    /// `replace_disjoint` of three keys.
+    fn replace_three(
+        &mut self,
+        keys: [DefaultKey; 3],
+        values: [Number<'a>; 3],
+    ) -> ExchangedThree<'a>;
 
     /// `replace_disjoint` of no key: whether it succeeds.
     fn replace_none(&mut self) -> bool;

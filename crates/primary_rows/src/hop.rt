@@ -8,7 +8,8 @@ use crate::walks::{
 };
 use slotmap::{DefaultKey, HopSlotMap, OutOfMemory, ReserveError, SlotsError};
 use slotmap_rows::{
-    Call, Exchanged, ExchangedTwo, Mode, Number, Slots, Stop, Way, Words, looked, written,
+    Call, Exchanged, ExchangedThree, ExchangedTwo, Mode, Number, Slots, Stop, Way, Words, looked,
+    written,
 };
 use std::alloc::{AllocError, Global};
 use std::mem;
@@ -60,6 +61,14 @@ impl<'a> Held<'a> for HopSlotMap<DefaultKey, Number<'a>> {
     }
 
     fn replace_two(&mut self, keys: [DefaultKey; 2], values: [Number<'a>; 2]) -> ExchangedTwo<'a> {
+        self.replace_disjoint(keys, values)
+    }
+
+    fn replace_three(
+        &mut self,
+        keys: [DefaultKey; 3],
+        values: [Number<'a>; 3],
+    ) -> ExchangedThree<'a> {
         self.replace_disjoint(keys, values)
     }
 

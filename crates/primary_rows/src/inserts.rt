@@ -14,6 +14,8 @@ pub enum Made {
     Error(u64),
     /// The error 9 at index 2, else the key as a number.
     Key,
+    /// The key as a number, as an error.
+    Refused,
 }
 
 /// What a closure returns for the new key.
@@ -24,6 +26,7 @@ pub fn make<'a>(supply: Supply<'a>, made: Made, key: DefaultKey) -> Result<Numbe
         Made::Error(error) => Err(error.wrapping_add(index)),
         Made::Key if index == 2 => Err(9),
         Made::Key => Ok(supply.number(key.data().as_ffi())),
+        Made::Refused => Err(key.data().as_ffi()),
     }
 }
 
@@ -36,6 +39,7 @@ impl<'a, M: Held<'a> + Primary<DefaultKey, Number<'a>>> Maps<'a, M> {
             ("try_insert_with_key", Words::Number(value)) => Made::Value(value),
             ("try_insert_with_key", Words::Named(Mode::Fails, error)) => Made::Error(error),
             ("insert_made", Words::Nothing) => Made::Key,
+            ("insert_refused", Words::Nothing) => Made::Refused,
             _ => return self.on_key(call, reply),
         };
         self.try_insert(made, reply)

@@ -3,7 +3,9 @@
 use crate::held::Held;
 use crate::maps::Maps;
 use slotmap::{DefaultKey, Primary};
-use slotmap_rows::{Call, Number, Stop, Way, Words, write_option, write_put, write_put_two};
+use slotmap_rows::{
+    Call, Number, Stop, Way, Words, write_option, write_put, write_put_three, write_put_two,
+};
 
 impl<'a, M: Held<'a> + Primary<DefaultKey, Number<'a>>> Maps<'a, M> {
     /// The calls that look for a key, or the next ones.
@@ -36,18 +38,38 @@ impl<'a, M: Held<'a> + Primary<DefaultKey, Number<'a>>> Maps<'a, M> {
             ("replace", Words::Put(key, value)) => {
                 return write_put(reply, self.map.replace(key, self.supply.number(value)));
             }
-            ("replace_disjoint", Words::Nothing) => {
-                return Ok(write!(reply, "{}", self.map.replace_none())?);
-            }
-            ("replace_disjoint", Words::PutTwo(first, value, second, other)) => {
-                let values = [self.supply.number(value), self.supply.number(other)];
-                return write_put_two(reply, self.map.replace_two([first, second], values));
-            }
+            ("replace_disjoint", words) => return self.replace_disjoint(words, reply),
             ("get_mut", Words::Put(key, value)) => (Way::Get, key, value),
             ("index_mut", Words::Put(key, value)) => (Way::Index, key, value),
             ("get_unchecked_mut", Words::Put(key, value)) => (Way::Unchecked, key, value),
             _ => return self.on_size(call, reply),
         };
         write_put(reply, self.map.write(way, key, self.supply.number(value)))
+    }
+
+    // `replace_disjoint` of no key, of two or of three.
+    fn replace_disjoint(&mut self, words: Words, reply: &mut String) -> Result<(), Stop> {
+        let supply = self.supply;
+        match words {
+            Words::Nothing => Ok(write!(reply, "{}", self.map.replace_none())?),
+            Words::PutTwo(first, value, second, other) => {
+                let values = [supply.number(value), supply.number(other)];
+                write_put_two(reply, self.map.replace_two([first, second], values))
+            }
+            Words::PutThree(keys, values) => self.replace_three(keys, values, reply),
+            _ => Err(Stop::Unknown),
+        }
+    }
+
+    fn replace_three(
+        &mut self,
+        keys: [DefaultKey; 3],
+        values: [u64; 3],
+        reply: &mut String,
+    ) -> Result<(), Stop> {
+        let [first, second, third] = values;
+        let (first, second) = (self.supply.number(first), self.supply.number(second));
+        let values = [first, second, self.supply.number(third)];
+        write_put_three(reply, self.map.replace_three(keys, values))
     }
 }

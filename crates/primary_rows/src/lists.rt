@@ -2,8 +2,13 @@
 
 use crate::held::Held;
 use crate::maps::Maps;
-use slotmap::{DefaultKey, Primary, SlotsError, check_slots};
+use serde_json::Value;
+use slotmap::{
+    DefaultKey, JsonError, Key, KeyData, OutOfMemory, Primary, SlotRecord, SlotsError, check_slots,
+    key_from_value, key_to_value, slots_from_value, slots_to_value,
+};
 use slotmap_rows::{Call, Number, Slots, Stop, Supply, Word, Words, read_slots, write_slots};
+use std::alloc::Global;
 
 impl<'a, M: Held<'a> + Primary<DefaultKey, Number<'a>>> Maps<'a, M> {
     /// The calls on lists of slots, or the next ones.
@@ -14,7 +19,18 @@ impl<'a, M: Held<'a> + Primary<DefaultKey, Number<'a>>> Maps<'a, M> {
                 let list = self.map.list()?;
                 self.from_list(list, reply)
             }
+            ("through_json", Words::Nothing) => self.through_json(reply),
             _ => self.on_two(call, reply),
+        }
+    }
+
+    // Writes the map as JSON, and reads it back.
+    fn through_json(&mut self, reply: &mut String) -> Result<(), Stop> {
+        let json = write_json(self.supply.alloc, &self.map.list()?)?;
+        match read_json(self.supply, &json) {
+            Ok(list) => self.from_list(list, reply),
+            Err(JsonError::Shape) => Ok(reply.push_str("shape")?),
+            Err(JsonError::Memory) => Err(Stop::Memory),
         }
     }
 
@@ -49,4 +65,22 @@ pub fn write_checked(
         write!(reply, "{error}")?;
     }
     Ok(())
+}
+
+// The JSON of a list. A value is the number of a key, and is written as this key.
+fn write_json(alloc: Global, list: &[SlotRecord<Number<'_>>]) -> Result<Value, OutOfMemory> {
+    let write = |number: &Number<'_>| {
+        let key = DefaultKey::from(KeyData::from_ffi(number.value));
+        key_to_value(alloc, key)
+    };
+    slots_to_value(alloc, list, write)
+}
+
+// The list that JSON is.
+fn read_json<'a>(supply: Supply<'a>, json: &Value) -> Result<Slots<'a>, JsonError> {
+    let read = |value: &Value| {
+        let key: DefaultKey = key_from_value(value)?;
+        Ok(supply.number(key.data().as_ffi()))
+    };
+    slots_from_value(supply.alloc, json, read)
 }

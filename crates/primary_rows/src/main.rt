@@ -20,10 +20,11 @@
 //! | `insert_with_key V`, `try_insert_with_key V` | the new key; the closure returns V and the key's index |
 //! | `try_insert_with_key fails N` | `failed` and N with the key's index, which is the closure's error |
 //! | `insert_made` | the new key, whose number is the value; at index 2 `failed 9` |
+//! | `insert_refused` | `failed` and the number of the key that the closure saw |
 //! | `get K`, `index K`, `get_unchecked K`, `remove K`, `detach K` | the value or `none` |
 //! | `replace K V`, `get_mut K V`, `index_mut K V`, `get_unchecked_mut K V` | V is stored: the value before, or `V back` |
 //! | `reattach K V` | `done`, or `V back` |
-//! | `replace_disjoint K V K V`, `replace_disjoint` | both values before, or `V V back`; with no key `true` |
+//! | `replace_disjoint K V ..` of two keys or three | the values before, or `V V back`; with no key `true` |
 //! | `clear` | `done` |
 //! | `retain even` | even values are kept, and each is made ten times as great |
 //! | `retain every_other` | what the first, third, fifth call sees is kept, and each value doubled: the values that it saw |
@@ -34,6 +35,7 @@
 //! | `drain_into`, `keys_into` | the pairs, or the keys |
 //! | `to_slots`, `from_slots SLOT ..`, `through_slots` | the list; the map of the list, or why the list fails; both |
 //! | `check_slots LIMIT SLOT ..` | `done`, or why the list fails |
+//! | `through_json` | the map that is read from its JSON, in which each value is written as the key of this number |
 //! | `clone`, `drop_clone`, `exchange`, `clone_from` | a clone is set beside the map, dropped, exchanged with it, or cloned |
 //!
 //! Of more than a thousand items a result has only how many they are: `keys (100000)`.
@@ -48,7 +50,10 @@
 //!
 //! Calls in runs: `insert V`, `insert_made`, `insert_many N` of the values from 1 on, `get K`, `contains_key K`, `replace K V`,
 //! `remove K`, `retain even`, `clear`, `drain_into`, `keys_into`, `len` and `reserve N`; where keys can be detached also `detach K`
-//! and `reattach K V`. `looks` is no command: how often the last run called `look`.
+//! and `reattach K V`. `looks` is no command: how often the last run called `look`; nor is `capacity_is_within N`, of the map that
+//! `run_new` made. `list N` and, where keys can be detached,
+//! `detaching_list N` run the two hundred commands of list N, which is made by the rule of `script.rt`, on a map of its own: the
+//! sum of its replies. A run that is refused is made once more with the commands that it hands back.
 #![tactic(auto)]
 
 mod basic;
@@ -63,6 +68,7 @@ mod many;
 mod maps;
 mod packed;
 mod runs;
+mod script;
 mod sized;
 mod steps;
 mod walks;

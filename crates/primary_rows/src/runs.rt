@@ -1,12 +1,13 @@
 //! Runs of commands held to rows.
 
 use crate::inserts::{Made, make};
+use crate::script::Script;
 use crate::steps::{Answer, Step, plain_command, read_step, write_answer};
 use slotmap::{
     Command, DefaultKey, DetachCommand, Detaching, Primary, Reply, run, run_detaching,
     run_detaching_new, run_new,
 };
-use slotmap_rows::{Call, Number, Stop, Subject, Supply, Word, Words, keep_even, look};
+use slotmap_rows::{Call, Number, Stop, Subject, Sum, Supply, Word, Words, keep_even, look};
 use std::marker::PhantomData;
 
 type Answers<'a> = Vec<Answer<'a>>;
@@ -16,11 +17,15 @@ pub trait Runner<'a, M>: Sized + Drop {
     /// The command of a step, where there is one.
     fn of_step(supply: Supply<'a>, step: &Step) -> Option<Self>;
 
-    /// Runs commands on a new map; none where memory runs out.
+    /// Runs commands on a new map; none where memory runs out. A run that is refused is made once more
+    /// with what it hands back.
     fn run_new(supply: Supply<'a>, commands: Vec<Self>) -> Option<(M, Answers<'a>)>;
 
     /// The same on the map of an earlier run.
     fn run(supply: Supply<'a>, map: &mut M, commands: Vec<Self>) -> Option<Answers<'a>>;
+
+    /// How many keys the map has room for.
+    fn capacity(map: &M) -> usize;
 }
 
 /// A command of `run_new` and `run`.
@@ -39,12 +44,28 @@ impl<'a, M: Primary<DefaultKey, Number<'a>>> Runner<'a, M> for Plain<'a> {
 
     fn run_new(supply: Supply<'a>, commands: Vec<Self>) -> Option<(M, Answers<'a>)> {
         let made = |key| make(supply, Made::Key, key);
-        run_new(supply.alloc, commands, look, keep_even, made).ok()
+        match run_new(supply.alloc, commands, look, keep_even, made) {
+            Ok(ended) => Some(ended),
+            Err(commands) => {
+                let made = |key| make(supply, Made::Key, key);
+                run_new(supply.alloc, commands, look, keep_even, made).ok()
+            }
+        }
     }
 
     fn run(supply: Supply<'a>, map: &mut M, commands: Vec<Self>) -> Option<Answers<'a>> {
         let made = |key| make(supply, Made::Key, key);
-        run(supply.alloc, map, commands, look, keep_even, made).ok()
+        match run(supply.alloc, map, commands, look, keep_even, made) {
+            Ok(ended) => Some(ended),
+            Err(commands) => {
+                let made = |key| make(supply, Made::Key, key);
+                run(supply.alloc, map, commands, look, keep_even, made).ok()
+            }
+        }
+    }
+
+    fn capacity(map: &M) -> usize {
+        map.capacity()
     }
 }
 
@@ -61,12 +82,28 @@ impl<'a, M: Detaching<DefaultKey, Number<'a>>> Runner<'a, M> for Detachable<'a> 
 
     fn run_new(supply: Supply<'a>, commands: Vec<Self>) -> Option<(M, Answers<'a>)> {
         let made = |key| make(supply, Made::Key, key);
-        run_detaching_new(supply.alloc, commands, look, keep_even, made).ok()
+        match run_detaching_new(supply.alloc, commands, look, keep_even, made) {
+            Ok(ended) => Some(ended),
+            Err(commands) => {
+                let made = |key| make(supply, Made::Key, key);
+                run_detaching_new(supply.alloc, commands, look, keep_even, made).ok()
+            }
+        }
     }
 
     fn run(supply: Supply<'a>, map: &mut M, commands: Vec<Self>) -> Option<Answers<'a>> {
         let made = |key| make(supply, Made::Key, key);
-        run_detaching(supply.alloc, map, commands, look, keep_even, made).ok()
+        match run_detaching(supply.alloc, map, commands, look, keep_even, made) {
+            Ok(ended) => Some(ended),
+            Err(commands) => {
+                let made = |key| make(supply, Made::Key, key);
+                run_detaching(supply.alloc, map, commands, look, keep_even, made).ok()
+            }
+        }
+    }
+
+    fn capacity(map: &M) -> usize {
+        map.capacity()
     }
 }
 
@@ -75,6 +112,24 @@ fn commands<'a, M, C: Runner<'a, M>>(supply: Supply<'a>, steps: &[Step]) -> Resu
     let mut commands = Vec::new(supply.alloc);
     for step in steps {
         match C::of_step(supply, step) {
+            Some(command) => commands.push(command)?,
+            None => return Err(Stop::Unknown),
+        }
+    }
+    Ok(commands)
+}
+
+// The two hundred commands of the list of a number.
+fn listed<'a, M, C: Runner<'a, M>>(
+    supply: Supply<'a>,
+    number: u64,
+    detaches: bool,
+) -> Result<Vec<C>, Stop> {
+    let mut script = Script::new(number, detaches);
+    let mut commands = Vec::new(supply.alloc);
+    for value in 0..200 {
+        let step = script.step(value);
+        match C::of_step(supply, &step) {
             Some(command) => commands.push(command)?,
             None => return Err(Stop::Unknown),
         }
@@ -142,11 +197,36 @@ impl<'a, M: Drop, C: Runner<'a, M>> Runs<'a, M, C> {
         Ok(())
     }
 
+    // Runs the list of a number on a map of its own, and writes the sum of its replies.
+    fn run_list(&mut self, number: u64, detaches: bool, reply: &mut String) -> Result<(), Stop> {
+        let commands = listed::<M, C>(self.supply, number, detaches)?;
+        let (_map, replies) = C::run_new(self.supply, commands).ok_or(Stop::Memory)?;
+        all_served(&replies)?;
+        let mut sum = Sum::new();
+        for answer in &replies {
+            self.again.clear();
+            write_answer(&mut self.again, answer)?;
+            sum.add(self.again.as_str());
+        }
+        Ok(write!(reply, "{}", sum.value())?)
+    }
+
     // Adds the commands of a call, and runs all. `looks` adds none.
     fn add(&mut self, call: &Call<'_>, reply: &mut String) -> Result<(), Stop> {
         match (call.name, call.words) {
             ("looks", Words::Nothing) => {
                 return Ok(write!(reply, "{}", self.supply.counts.looks())?);
+            }
+            ("capacity_is_within", Words::Number(most)) => {
+                let capacity = match &self.map {
+                    Some(map) => C::capacity(map),
+                    None => 0,
+                };
+                return Ok(write!(reply, "{}", capacity as u64 <= most)?);
+            }
+            ("list", Words::Number(number)) => return self.run_list(number, false, reply),
+            ("detaching_list", Words::Number(number)) => {
+                return self.run_list(number, true, reply);
             }
             ("insert_many", Words::Number(count)) => {
                 for value in 0..count {

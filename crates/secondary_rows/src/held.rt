@@ -3,7 +3,7 @@
 use crate::hashers::{Made, OfPairs, Pairs};
 use crate::walks::Walked;
 use slotmap::{DefaultKey, OutOfMemory, ReserveError, SlotsError};
-use slotmap_rows::{Exchanged, ExchangedTwo, Number, Slots, Stop, Supply, Way};
+use slotmap_rows::{Exchanged, ExchangedThree, ExchangedTwo, Number, Slots, Stop, Supply, Way};
 use std::alloc::{AllocError, Global};
 
 /// What a `retain` keeps.
@@ -120,6 +120,13 @@ pub trait Held<'a, H>: PartialEq + Drop {
 
     /// `replace_disjoint` of two keys.
     fn replace_two(&mut self, keys: [DefaultKey; 2], values: [Number<'a>; 2]) -> ExchangedTwo<'a>;
+
+    /// `replace_disjoint` of three keys.
+    fn replace_three(
+        &mut self,
+        keys: [DefaultKey; 3],
+        values: [Number<'a>; 3],
+    ) -> ExchangedThree<'a>;
 
     /// `replace_disjoint` of no key: whether it succeeds.
     fn replace_none(&mut self) -> bool;

@@ -1,21 +1,14 @@
 //! The kinds of maps and runs that rows are for.
 
 use crate::hashers::{Constant, NoHasher, Seed, Sparse};
-use crate::joined::{Beside, Command, DetachCommand};
 use crate::maps::Maps;
 use crate::plain::{Plain, PlainMap};
 use crate::runs::{Alone, Bench, Runs};
 use slotmap::sparse_secondary::DefaultHasher;
-use slotmap::{DefaultKey, DenseSlotMap, HopSlotMap, SecondaryMap, SlotMap, SparseSecondaryMap};
+use slotmap::{DefaultKey, SecondaryMap, SparseSecondaryMap};
 use slotmap_rows::{File, Kinds, Number, Stop};
 use std::collections::hash_map::RandomState;
 use std::io::Write;
-
-type Basic<'a> = SlotMap<DefaultKey, Number<'a>>;
-
-type Dense<'a> = DenseSlotMap<DefaultKey, Number<'a>>;
-
-type Hop<'a> = HopSlotMap<DefaultKey, Number<'a>>;
 
 type Vector<'a> = SecondaryMap<DefaultKey, Number<'a>>;
 
@@ -35,9 +28,7 @@ impl Kinds for All {
         let of_constant = hold_sparse(file, "constant", Constant, output)?;
         let of_plain = hold_plain::<SecondaryMap<DefaultKey, u64>>(file, "plain_secondary", output)?
             & hold_plain::<SparseSecondaryMap<DefaultKey, u64>>(file, "plain_sparse", output)?;
-        let of_runs = hold_alone(file, output)?
-            & hold_beside(file, output)?
-            & hold_detaching(file, output)?;
+        let of_runs = hold_alone(file, output)?;
         Ok(of_vector && of_sparse && of_random && of_constant && of_plain && of_runs)
     }
 }
@@ -75,42 +66,9 @@ fn hold_runs<'a, B: Bench<'a, Step>, Step: Drop>(
     file.hold(kind, &mut runs, output)
 }
 
-// Whether no result differs of runs, each with the name of its kind and the type of its maps.
-macro_rules! held {
-    ($file:expr, $output:expr, $($kind:literal: $maps:ty),+) => {
-        Ok(true $(& hold_runs::<$maps, _>($file, $kind, $output)?)+)
-    };
-}
-
 // `run_secondary`.
 fn hold_alone(file: File<'_, '_>, output: &mut impl Write) -> Result<bool, Stop> {
-    held!(
-        file, output,
-        "run_secondary": Alone<Vector<'_>>,
-        "run_sparse": Alone<Hashed<'_>>
-    )
-}
-
-// `run_joined` on each primary map with either secondary map.
-fn hold_beside(file: File<'_, '_>, output: &mut impl Write) -> Result<bool, Stop> {
-    held!(
-        file, output,
-        "basic_with_secondary": Beside<Basic<'_>, Vector<'_>, Command<'_>>,
-        "basic_with_sparse": Beside<Basic<'_>, Hashed<'_>, Command<'_>>,
-        "dense_with_secondary": Beside<Dense<'_>, Vector<'_>, Command<'_>>,
-        "dense_with_sparse": Beside<Dense<'_>, Hashed<'_>, Command<'_>>,
-        "hop_with_secondary": Beside<Hop<'_>, Vector<'_>, Command<'_>>,
-        "hop_with_sparse": Beside<Hop<'_>, Hashed<'_>, Command<'_>>
-    )
-}
-
-// `run_joined_detaching`.
-fn hold_detaching(file: File<'_, '_>, output: &mut impl Write) -> Result<bool, Stop> {
-    held!(
-        file, output,
-        "detaching_basic_with_secondary": Beside<Basic<'_>, Vector<'_>, DetachCommand<'_>>,
-        "detaching_basic_with_sparse": Beside<Basic<'_>, Hashed<'_>, DetachCommand<'_>>,
-        "detaching_dense_with_secondary": Beside<Dense<'_>, Vector<'_>, DetachCommand<'_>>,
-        "detaching_dense_with_sparse": Beside<Dense<'_>, Hashed<'_>, DetachCommand<'_>>
-    )
+    let of_vector = hold_runs::<Alone<Vector<'_>>, _>(file, "run_secondary", output)?;
+    let of_sparse = hold_runs::<Alone<Hashed<'_>>, _>(file, "run_sparse", output)?;
+    Ok(of_vector && of_sparse)
 }

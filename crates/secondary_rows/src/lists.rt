@@ -5,7 +5,9 @@ use crate::hashers::Pairs;
 use crate::held::{Held, Keep};
 use crate::maps::Maps;
 use slotmap::{DefaultKey, Secondary, SlotsError};
-use slotmap_rows::{Number, Slots, Stop, Supply, Word, read_slots, write_put_two, write_slots};
+use slotmap_rows::{
+    Number, Slots, Stop, Supply, Word, read_slots, write_put_three, write_put_two, write_slots,
+};
 
 impl<'a, M: Held<'a, H> + Secondary<DefaultKey, Number<'a>>, H: Copy> Maps<'a, M, H> {
     /// The calls that are given a list of words.
@@ -108,7 +110,7 @@ impl<'a, M: Held<'a, H> + Secondary<DefaultKey, Number<'a>>, H: Copy> Maps<'a, M
         Ok(())
     }
 
-    // `replace_disjoint` of no key, or of two.
+    // `replace_disjoint` of no key, of two or of three.
     fn replace_disjoint(&mut self, list: &[Word<'_>], reply: &mut String) -> Result<(), Stop> {
         match list {
             [] => Ok(write!(reply, "{}", self.map.replace_none())?),
@@ -119,9 +121,37 @@ impl<'a, M: Held<'a, H> + Secondary<DefaultKey, Number<'a>>, H: Copy> Maps<'a, M
                 }
                 _ => Err(Stop::Unknown),
             },
+            [first, second, third] => {
+                let (keys, values) = read_three(first, second, third).ok_or(Stop::Unknown)?;
+                self.replace_three(keys, values, reply)
+            }
             _ => Err(Stop::Unknown),
         }
     }
+
+    fn replace_three(
+        &mut self,
+        keys: [DefaultKey; 3],
+        values: [u64; 3],
+        reply: &mut String,
+    ) -> Result<(), Stop> {
+        let [first, second, third] = values;
+        let (first, second) = (self.supply.number(first), self.supply.number(second));
+        let values = [first, second, self.supply.number(third)];
+        write_put_three(reply, self.map.replace_three(keys, values))
+    }
+}
+
+// The keys and the values of three pairs.
+fn read_three(
+    first: &Word<'_>,
+    second: &Word<'_>,
+    third: &Word<'_>,
+) -> Option<([DefaultKey; 3], [u64; 3])> {
+    let (first, value) = read_pair(first)?;
+    let (second, other) = read_pair(second)?;
+    let (third, last) = read_pair(third)?;
+    Some(([first, second, third], [value, other, last]))
 }
 
 // The pairs of the words.

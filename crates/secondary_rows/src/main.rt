@@ -11,10 +11,7 @@
 //!   `new` is `with_hasher`, `with_capacity` is `with_capacity_and_hasher`, `from_slots` is
 //!   `from_slots_with_hasher`, and `from_iter` is `from_iter_with_hasher`;
 //! - `plain_secondary`, `plain_sparse`: both maps with plain numbers for values;
-//! - `run_secondary`, `run_sparse`: runs by `run_secondary`;
-//! - `basic_with_secondary`, `basic_with_sparse`, and the same of `dense` and `hop`: runs by
-//!   `run_joined`;
-//! - `detaching_basic_with_secondary` and so on: runs by `run_joined_detaching`.
+//! - `run_secondary`, `run_sparse`: runs by `run_secondary`.
 //!
 //! # Calls on a map
 //!
@@ -24,8 +21,8 @@
 //! - `get_mut KEY N`, `index_mut KEY N`, `get_unchecked_mut KEY N`: exchange the value, and give
 //!   the one before, or `N back`; `index KEY`, `get_unchecked KEY`: the value. The latter four
 //!   are called only where the key is in the map;
-//! - `replace_disjoint PAIR PAIR`: the values before, or the given ones with ` back`;
-//!   `replace_disjoint` of no pair: `true`;
+//! - `replace_disjoint PAIR ..` of two pairs or three: the values before, or the given ones with
+//!   ` back`; `replace_disjoint` of no pair: `true`;
 //! - `extend PAIR ..`, `from_iter PAIR ..`, whose map is kept instead of the row's; `equals PAIR
 //!   ..`: whether the map equals that of the pairs; `through_pairs`: the map that `from_iter`
 //!   makes of its clone's pairs is kept instead of the row's;
@@ -60,13 +57,12 @@
 //!
 //! A call is the next command of a list. With each call all of them are run anew on new maps, and
 //! the result is the last reply. `next_list` ends a list: the next one is run on the same maps.
-//! `looks` says how often the last run called `look`.
+//! `insert_many N` is N commands: inserts of the numbers from 1 on, in `run_secondary` under the keys
+//! `1v1`, `2v1` and so on. `looks` says how often the last run called `look`. A run that is refused is
+//! made once more with the commands that it hands back.
 //!
 //! `run_secondary` has `insert`, `get`, `contains_key`, `remove`, `or_put` and `len` with the
-//! results above. Joined runs have `insert N`, `remove K`, `put K N`, `look K`, `take K`, `detach
-//! K` and `reattach K N`, where K is the number of the insert whose key is meant; their results
-//! are a key, `taken N`, `old N`, `looked N`, `taken second N`, `done`, `not detached N`, `no
-//! key`, `no key first N` and `no key second N`, or `none` instead of N.
+//! results above.
 //!
 //! Where memory runs out the call is made once more. `extend` and `extend_refs` then go on with
 //! the pair that came back. A closure that was called before memory ran out gives
@@ -78,7 +74,6 @@ mod entered;
 mod fresh;
 mod hashers;
 mod held;
-mod joined;
 mod keyed;
 mod kinds;
 mod lists;

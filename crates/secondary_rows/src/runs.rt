@@ -1,22 +1,23 @@
-//! Runs of commands on one map or two.
+//! Runs of commands on a map.
 
 use crate::fresh::Fresh;
 use crate::keyed::write_or_put;
 use slotmap::{
-    DefaultKey, ReserveError, Secondary, SecondaryCommand, SecondaryReply, run_secondary,
+    DefaultKey, KeyData, ReserveError, Secondary, SecondaryCommand, SecondaryReply, run_secondary,
 };
 use slotmap_rows::{Call, Number, Stop, Subject, Supply, Word, Words, look, write_option};
 use std::alloc::Global;
 use std::marker::PhantomData;
 
-/// Maps that commands are run on. A step is a command with the numbers of its values, which are made
-/// anew for each run.
+/// A map that commands are run on. A step is a command with the number of its value, which is made
+/// anew for each run. (Commands and replies are types of this trait, since the check of the loop that
+/// makes them doesn't cover their own types.)
 pub trait Bench<'a, Step>: Sized + Drop {
     type Command: Drop;
 
     type Reply: Drop;
 
-    /// New maps.
+    /// A new map.
     fn fresh(alloc: Global) -> Result<Self, ReserveError>;
 
     /// The step that a call asks for.
@@ -25,16 +26,20 @@ pub trait Bench<'a, Step>: Sized + Drop {
     /// The command of a step, where there is one.
     fn command(supply: Supply<'a>, step: &Step) -> Option<Self::Command>;
 
-    /// Runs commands; none where memory runs out.
+    /// The step of `insert_many` in this turn, if an index is that great.
+    fn nth(turn: u64) -> Option<Step>;
+
+    /// Runs commands; none where memory runs out. A run that is refused is made once more with what it
+    /// hands back.
     fn run(&mut self, alloc: Global, commands: Vec<Self::Command>) -> Option<Vec<Self::Reply>>;
 
     /// Writes a reply. Fails where memory ran out for its command.
     fn write(reply: &mut String, told: &Self::Reply) -> Result<(), Stop>;
 }
 
-/// The steps of a row so far; none ends a list. With each call all of them are run anew on new maps,
-/// as lists one after the other, and the result is the last reply. `looks` gives how often `look`
-/// was called in the last run of a row.
+/// The steps of a row so far; `None` ends a list. With each call all lists are run anew on a new map,
+/// one after the other, and the result is the last reply. `looks` gives how often `look` was called in
+/// the last run of a row.
 #[derive(Drop)]
 pub struct Runs<'a, B, Step> {
     supply: Supply<'a>,
@@ -52,7 +57,25 @@ impl<'a, B: Bench<'a, Step>, Step: Drop> Runs<'a, B, Step> {
         }
     }
 
-    // Runs all lists of the row on new maps, and writes the last reply.
+    // Adds the steps of a call, and runs all. `looks` adds none.
+    fn add(&mut self, call: &Call<'_>, reply: &mut String) -> Result<(), Stop> {
+        match (call.name, call.words) {
+            ("looks", Words::Nothing) => {
+                return Ok(write!(reply, "{}", self.supply.counts.looks())?);
+            }
+            ("next_list", Words::Nothing) => self.steps.push(None)?,
+            ("insert_many", Words::Number(count)) => {
+                for turn in 0..count {
+                    let step = B::nth(turn.wrapping_add(1)).ok_or(Stop::Unknown)?;
+                    self.steps.push(Some(step))?;
+                }
+            }
+            _ => self.steps.push(Some(B::read(call).ok_or(Stop::Unknown)?))?,
+        }
+        self.run(reply)
+    }
+
+    // Runs all lists of the row on a new map, and writes the last reply.
     fn run(&self, reply: &mut String) -> Result<(), Stop> {
         let mut maps = B::fresh(self.supply.alloc).map_err(|_| Stop::Memory)?;
         self.supply.counts.begin_looks();
@@ -98,19 +121,12 @@ impl<'a, B: Bench<'a, Step>, Step: Drop> Subject for Runs<'a, B, Step> {
         _list: &[Word<'_>],
         reply: &mut String,
     ) -> Result<(), Stop> {
-        let step = match (call.name, call.words) {
-            ("looks", Words::Nothing) => {
-                return Ok(write!(reply, "{}", self.supply.counts.looks())?);
-            }
-            ("next_list", Words::Nothing) => None,
-            _ => Some(B::read(call).ok_or(Stop::Unknown)?),
-        };
-        self.steps.push(step)?;
-        let done = self.run(reply);
-        if done.is_err() {
-            self.steps.pop();
+        let before = self.steps.len();
+        let added = self.add(call, reply);
+        if added.is_err() {
+            self.steps.truncate(before);
         }
-        done
+        added
     }
 }
 
@@ -147,6 +163,12 @@ impl<'a, M: Secondary<DefaultKey, Number<'a>> + Fresh + Drop> Bench<'a, Secondar
         })
     }
 
+    fn nth(turn: u64) -> Option<SecondaryStep> {
+        let index = u32::try_from(turn).ok()?;
+        let key = DefaultKey::from(KeyData::new(index, 1));
+        Some(SecondaryCommand::Insert(key, turn))
+    }
+
     fn command(supply: Supply<'a>, step: &SecondaryStep) -> Option<Self::Command> {
         Some(match step {
             SecondaryCommand::Insert(key, value) => {
@@ -163,7 +185,10 @@ impl<'a, M: Secondary<DefaultKey, Number<'a>> + Fresh + Drop> Bench<'a, Secondar
     }
 
     fn run(&mut self, alloc: Global, commands: Vec<Self::Command>) -> Option<Vec<Self::Reply>> {
-        run_secondary(alloc, &mut self.map, commands, look).ok()
+        match run_secondary(alloc, &mut self.map, commands, look) {
+            Ok(replies) => Some(replies),
+            Err(commands) => run_secondary(alloc, &mut self.map, commands, look).ok(),
+        }
     }
 
     fn write(reply: &mut String, told: &Self::Reply) -> Result<(), Stop> {

@@ -6,7 +6,9 @@ use crate::shared::{change_by_entry, put_by_entry, retained, told};
 use crate::walks::{Shown, Walked, drained, listed, looped, stepped, walked};
 use slotmap::sparse_secondary::Entry;
 use slotmap::{DefaultKey, NoEntry, OutOfMemory, ReserveError, SlotsError, SparseSecondaryMap};
-use slotmap_rows::{Exchanged, ExchangedTwo, Number, Slots, Stop, Way, keep_even, looked, written};
+use slotmap_rows::{
+    Exchanged, ExchangedThree, ExchangedTwo, Number, Slots, Stop, Way, keep_even, looked, written,
+};
 use std::alloc::{AllocError, Global};
 use std::mem;
 
@@ -91,6 +93,14 @@ impl<'a, S: Seed> Held<'a, S> for Sparse<'a, S> {
     }
 
     fn replace_two(&mut self, keys: [DefaultKey; 2], values: [Number<'a>; 2]) -> ExchangedTwo<'a> {
+        self.replace_disjoint(keys, values)
+    }
+
+    fn replace_three(
+        &mut self,
+        keys: [DefaultKey; 3],
+        values: [Number<'a>; 3],
+    ) -> ExchangedThree<'a> {
         self.replace_disjoint(keys, values)
     }
 

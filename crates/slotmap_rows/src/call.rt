@@ -41,6 +41,7 @@ pub enum Words {
     Keys(DefaultKey, DefaultKey),
     Put(DefaultKey, u64),
     PutTwo(DefaultKey, u64, DefaultKey, u64),
+    PutThree([DefaultKey; 3], [u64; 3]),
     Mode(Mode),
     Named(Mode, u64),
     /// A mode, a number, and bounds of another one.
@@ -58,6 +59,11 @@ pub fn read_words(words: &[Word<'_>]) -> Words {
             let front = read_two(read_part(first), read_part(second));
             let back = read_two(read_part(third), read_part(fourth));
             read_four(front, back)
+        }
+        [first, second, third, fourth, fifth, sixth] => {
+            let front = read_two(read_part(first), read_part(second));
+            let middle = read_two(read_part(third), read_part(fourth));
+            read_six(front, middle, read_two(read_part(fifth), read_part(sixth)))
         }
         _ => Words::Other,
     }
@@ -131,6 +137,20 @@ fn read_four(front: Words, back: Words) -> Words {
             Words::Numbers(least, most) => Words::Bounded(mode, steps, least, most),
             _ => Words::Other,
         },
+        _ => Words::Other,
+    }
+}
+
+// Six words, by each two.
+fn read_six(front: Words, middle: Words, back: Words) -> Words {
+    let Words::Put(first, value) = front else {
+        return Words::Other;
+    };
+    let Words::Put(second, other) = middle else {
+        return Words::Other;
+    };
+    match back {
+        Words::Put(third, last) => { Words::PutThree([first, second, third], [value, other, last]) }
         _ => Words::Other,
     }
 }

@@ -9,7 +9,10 @@
 //!   is `done`;
 //! - `repeat N CALL WORDS -> RESULT`: the same call N times, with the result of the last one. In
 //!   its words `#` stands for the number of the turn, from 1 on: `#` alone, `#v1` in a key, `#v1:#`
-//!   in a pair.
+//!   in a pair. `2#` is twice that number. `#a`, `#b` and `#c` are the wheels of a counter: `#a`
+//!   goes from 1 to 10 and begins again, and moves `#b` on, as that moves `#c`. So a thousand turns
+//!   go through each three of the numbers 1 to 10;
+//! - `sum N CALL WORDS -> SUM`: the same, with one number for all N results, their [`Sum`].
 //!
 //! A [`Subject`] makes the calls. These calls are [`File::hold`]'s own:
 //!
@@ -21,7 +24,7 @@
 //! each row its maps are dropped. No value may be alive then: none was leaked, and none dropped
 //! twice.
 //!
-//! A call that runs out of memory is made once more, since it must leave everything as it was. No
+//! A call that runs out of memory is made once more, since it must change nothing. No
 //! value may be lost or left over by it, and the second call must have the result of the row. So a
 //! program prints the same whichever of its allocations fails.
 #![tactic(auto)]
@@ -33,16 +36,19 @@ mod number;
 mod progress;
 mod rows;
 mod stop;
+mod sum;
 mod texts;
 mod words;
 
 pub use call::{Call, Mode, Words};
 pub use files::{Kinds, run_program};
 pub use maps::{
-    Exchanged, ExchangedTwo, Slots, Way, read_slots, write_put, write_put_two, write_reserved,
+    Exchanged, ExchangedThree, ExchangedTwo, Slots, Way, read_slots, write_put, write_put_three,
+    write_put_two, write_reserved,
 };
 pub use number::{Counts, Number, Supply, keep_even, look};
 pub use rows::{File, Subject};
 pub use stop::Stop;
+pub use sum::Sum;
 pub use texts::{SHOWN, write_key, write_keys, write_option, write_pair, write_pairs, write_slots};
 pub use words::Word;

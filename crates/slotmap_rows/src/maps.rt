@@ -15,6 +15,9 @@ pub type Exchanged<'a> = Result<Number<'a>, Number<'a>>;
 /// The same of two values.
 pub type ExchangedTwo<'a> = Result<[Number<'a>; 2], [Number<'a>; 2]>;
 
+/// The same of three values.
+pub type ExchangedThree<'a> = Result<[Number<'a>; 3], [Number<'a>; 3]>;
+
 /// A way to the value of a key.
 #[derive(Clone, Copy, PartialEq, Eq)]
 pub enum Way {
@@ -74,7 +77,7 @@ pub fn read_slots<'a>(supply: Supply<'a>, words: &[Word<'_>]) -> Result<Slots<'a
     Ok(slots)
 }
 
-/// Writes the value before, or the value that came back.
+/// Writes the value before, or the value that was returned.
 pub fn write_put(reply: &mut String, put: Exchanged<'_>) -> Result<(), Stop> {
     match put {
         Ok(before) => write!(reply, "{}", before.value)?,
@@ -90,6 +93,23 @@ pub fn write_put_two(reply: &mut String, put: ExchangedTwo<'_>) -> Result<(), St
         Err(back) => write!(reply, "{} {} back", back[0].value, back[1].value)?,
     }
     Ok(())
+}
+
+/// The same of three values.
+pub fn write_put_three(reply: &mut String, put: ExchangedThree<'_>) -> Result<(), Stop> {
+    match put {
+        Ok(before) => write_three(reply, &before),
+        Err(back) => {
+            write_three(reply, &back)?;
+            Ok(reply.push_str(" back")?)
+        }
+    }
+}
+
+fn write_three(reply: &mut String, numbers: &[Number<'_>; 3]) -> Result<(), Stop> {
+    let [first, second, third] = numbers;
+    let (first, second, third) = (first.value, second.value, third.value);
+    Ok(write!(reply, "{first} {second} {third}")?)
 }
 
 /// Writes why no room was made.

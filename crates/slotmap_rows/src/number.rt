@@ -51,6 +51,12 @@ impl Counts {
         self.looks.set(0);
     }
 
+    /// Counts a call of a closure that is shown a number, and returns the number.
+    pub fn look(&self, value: u64) -> u64 {
+        count(&self.looks);
+        value
+    }
+
     /// Returns how often `look` was called since then.
     pub fn looks(&self) -> u64 {
         self.looks.get()
@@ -112,8 +118,7 @@ pub fn keep_even(_key: DefaultKey, value: &mut Number<'_>) -> bool {
 
 /// Returns what a number is, and counts this call: what a run shows of a value.
 pub fn look(value: &Number<'_>) -> u64 {
-    count(&value.counts.looks);
-    value.value
+    value.counts.look(value.value)
 }
 
 impl<'a> Drop for Number<'a> {

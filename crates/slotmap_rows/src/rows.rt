@@ -4,6 +4,7 @@ use crate::call::{Call, read_words};
 use crate::number::Supply;
 use crate::progress::Progress;
 use crate::stop::Stop;
+use crate::sum::Sum;
 use crate::words::Word;
 use std::alloc::{AllocError, Global};
 use std::io::Write;
@@ -16,7 +17,7 @@ pub trait Subject: Drop {
     /// Makes a call, and writes its result to the end of the reply. `list` has the call's words too.
     ///
     /// Fails with `Stop::Unknown` if there is no such call. Fails with `Stop::Memory` if memory
-    /// runs out; then everything is as before.
+    /// runs out; then nothing changed.
     fn call(&mut self, call: &Call<'_>, list: &[Word<'_>], reply: &mut String) -> Result<(), Stop>;
 }
 
@@ -120,18 +121,41 @@ impl<'s, 'a, S: Subject> Desk<'s, 'a, S> {
             None => (line, "done"),
         };
         self.progress.count_call();
-        match repeated(call) {
-            Some((times, call)) => {
-                for turn in 0..times {
-                    self.make(call, turn.wrapping_add(1))?;
-                }
-            }
-            None => self.make(call, 1)?,
+        if let Some((times, call)) = made_often(call, "repeat ") {
+            self.repeat(call, times)?;
+        } else if let Some((times, call)) = made_often(call, "sum ") {
+            self.sum(call, times)?;
+        } else {
+            self.make(call, 1)?;
         }
         if self.reply.as_str() != expected {
             self.progress
                 .differ(call, self.reply.as_str(), expected, output)?;
         }
+        Ok(())
+    }
+
+    // Makes a call so many times, and leaves the last result in the reply.
+    fn repeat(&mut self, call: &str, times: u64) -> Result<(), Stop> {
+        for turn in 0..times {
+            self.make(call, turn.wrapping_add(1))?;
+        }
+        Ok(())
+    }
+
+    // Makes a call so many times, and leaves the sum of its results in the reply. It ends where
+    // memory runs out.
+    fn sum(&mut self, call: &str, times: u64) -> Result<(), Stop> {
+        let mut sum = Sum::new();
+        for turn in 0..times {
+            self.make(call, turn.wrapping_add(1))?;
+            if self.reply.as_str() == NO_MEMORY {
+                return Ok(());
+            }
+            sum.add(self.reply.as_str());
+        }
+        self.reply.clear();
+        write!(self.reply, "{}", sum.value())?;
         Ok(())
     }
 
@@ -182,15 +206,18 @@ impl<'s, 'a, S: Subject> Desk<'s, 'a, S> {
         match made {
             Ok(()) => Ok(()),
             Err(Stop::Unknown) => self.say("no such call"),
-            Err(Stop::Memory) => self.say("out of memory"),
+            Err(Stop::Memory) => self.say(NO_MEMORY),
             Err(stop) => Err(stop),
         }
     }
 }
 
-// How often a call is repeated, and the call.
-fn repeated(call: &str) -> Option<(u64, &str)> {
-    let (times, call) = call.strip_prefix("repeat ")?.split_once(' ')?;
+// The result of a call that runs out of memory twice.
+const NO_MEMORY: &str = "out of memory";
+
+// How often a call is made that begins with this word, and the call.
+fn made_often<'t>(call: &'t str, word: &str) -> Option<(u64, &'t str)> {
+    let (times, call) = call.strip_prefix(word)?.split_once(' ')?;
     Some((times.parse().ok()?, call))
 }
 

@@ -9,7 +9,7 @@ use std::io;
 pub enum Stop {
     /// The line names no call that the map has.
     Unknown,
-    /// Memory ran out, and everything is as before the call.
+    /// Memory ran out, and the call changed nothing.
     Memory,
     /// A file of rows could not be read.
     Input,

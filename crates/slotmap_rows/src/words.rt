@@ -18,7 +18,7 @@ pub enum Word<'t> {
 }
 
 impl<'t> Word<'t> {
-    /// Reads a word in turn `turn` of a repeated call: `#` stands for the turn.
+    /// Reads a word in turn `turn` of a repeated call.
     pub(crate) fn read(word: &'t str, turn: u64) -> Word<'t> {
         if let Some(number) = read_number(word, turn) {
             return Word::Number(number);
@@ -51,10 +51,26 @@ fn read_two(word: &str, turn: u64) -> Word<'_> {
 }
 
 fn read_number(word: &str, turn: u64) -> Option<u64> {
-    if word == "#" {
-        Some(turn)
+    let Some((factor, wheel)) = word.split_once('#') else {
+        return word.parse().ok();
+    };
+    let factor = if factor.is_empty() {
+        1
     } else {
-        word.parse().ok()
+        factor.parse().ok()?
+    };
+    Some(read_wheel(wheel, turn)?.wrapping_mul(factor))
+}
+
+// The turn, or one of three wheels of a counter.
+fn read_wheel(name: &str, turn: u64) -> Option<u64> {
+    let before = turn.wrapping_sub(1);
+    match name {
+        "" => Some(turn),
+        "a" => Some(before % 10 + 1),
+        "b" => Some(before / 10 % 10 + 1),
+        "c" => Some(before / 100 % 10 + 1),
+        _ => None,
     }
 }
 

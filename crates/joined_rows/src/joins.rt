@@ -1,0 +1,77 @@
+//! Runs on two maps, by either call.
+
+use crate::replies::Reply;
+use crate::steps::{Step, copied, plain_copied};
+use slotmap::{
+    DefaultKey, Detaching, JoinedCommand, JoinedDetachCommand, Primary, Secondary, run_joined,
+    run_joined_detaching,
+};
+use slotmap_rows::Counts;
+use std::alloc::Global;
+
+/// Commands that are run on two maps: by `run_joined` or by `run_joined_detaching`.
+pub trait Joins<M, S>: Sized + Drop {
+    /// Returns the command of a step, if there is one.
+    fn of_step(step: &Step) -> Option<Self>;
+
+    /// Runs commands. Returns `None` if memory runs out. A run that is refused is made once more with
+    /// the commands that it hands back.
+    fn run(
+        alloc: Global,
+        counts: &Counts,
+        primary: &mut M,
+        secondary: &mut S,
+        list: Vec<Self>,
+    ) -> Option<Vec<Reply>>;
+}
+
+impl<M, S> Joins<M, S> for JoinedCommand<u64, u64>
+where
+    M: Primary<DefaultKey, u64>,
+    S: Secondary<DefaultKey, u64>,
+{
+    fn of_step(step: &Step) -> Option<Self> {
+        match step {
+            JoinedDetachCommand::Plain(step) => Some(plain_copied(step)),
+            _ => None,
+        }
+    }
+
+    fn run(
+        alloc: Global,
+        counts: &Counts,
+        primary: &mut M,
+        secondary: &mut S,
+        list: Vec<Self>,
+    ) -> Option<Vec<Reply>> {
+        let look = |value: &u64| counts.look(*value);
+        match run_joined(alloc, primary, secondary, list, look) {
+            Ok(replies) => Some(replies),
+            Err(list) => run_joined(alloc, primary, secondary, list, look).ok(),
+        }
+    }
+}
+
+impl<M, S> Joins<M, S> for JoinedDetachCommand<u64, u64>
+where
+    M: Detaching<DefaultKey, u64>,
+    S: Secondary<DefaultKey, u64>,
+{
+    fn of_step(step: &Step) -> Option<Self> {
+        Some(copied(step))
+    }
+
+    fn run(
+        alloc: Global,
+        counts: &Counts,
+        primary: &mut M,
+        secondary: &mut S,
+        list: Vec<Self>,
+    ) -> Option<Vec<Reply>> {
+        let look = |value: &u64| counts.look(*value);
+        match run_joined_detaching(alloc, primary, secondary, list, look) {
+            Ok(replies) => Some(replies),
+            Err(list) => run_joined_detaching(alloc, primary, secondary, list, look).ok(),
+        }
+    }
+}

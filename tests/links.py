@@ -1,0 +1,171 @@
+#!/usr/bin/env python3
+"""Checks the pages: tests/links.py. Prints each fault, and fails if there is one.
+
+- Each relative link and picture of a .md file names a file of the repository, and an anchor that the page has. A link to
+  a line, as file.rt#L7, names one where an item begins, and the number in its text is the same.
+- Each path in a page's code, as `docs/api.py`, is that of a file or folder.
+- Each word of a contract in a table of docs/PROVED.md is one of the crate of that table: a call or type, one of its
+  clauses, or a word of the definitions. A clause in brackets after calls is one of these calls.
+"""
+
+import glob
+import os
+import re
+import subprocess
+import sys
+
+TOP = os.path.dirname(os.path.dirname(os.path.abspath(__file__)))
+sys.dont_write_bytecode = True
+sys.path.insert(0, os.path.join(TOP, "docs"))
+
+from sources import items_of
+
+LINK = re.compile(r"!?\[((?:[^\[\]]|\[[^\]]*\])*)\]\(([^)\s]+)\)")
+ITEM = re.compile(r"\b(pub|impl|fn|struct|enum|trait|ghost)\b")
+# Where a path in code may begin, besides the top and the page's own folder.
+ROOTS = ["crates", "crates/*", "crates/slotmap_core/src"]
+# Paths that a page names and that aren't of the repository: those of templates, of examples, and of other machines.
+OTHERS = ("proofs/echo", "src/clock.rt", "src/lib.rs", "proofs/MAP", "CRATE/", "OUT/", "/usr/", "crates/slotrun/out/", "proofs/find_key",
+          "proofs/fill", "proofs/count_reads", "proofs/tour")
+
+
+def git(*arguments):
+    return subprocess.run(["git", "-C", TOP, *arguments], capture_output=True, text=True, check=False).stdout
+
+
+def read(path):
+    with open(os.path.join(TOP, path), encoding="utf-8") as file:
+        return file.read()
+
+
+def without_blocks(text):
+    """A page without its blocks of code."""
+    return re.sub(r"^```.*?^```$", "", text, flags=re.S | re.M)
+
+
+def anchor_of(heading):
+    heading = re.sub(r"\[([^\]]*)\]\([^)]*\)", r"\1", heading)
+    return re.sub(r"[^\w\- ]", "", heading.strip().lower()).replace(" ", "-")
+
+
+class Pages:
+    def __init__(self):
+        self.tracked = set(git("ls-files", "--cached", "--others", "--exclude-standard").split("\n"))
+        self.folders = {os.path.dirname(it) for it in self.tracked}
+        self.folders |= {"/".join(it.split("/")[:depth]) for it in self.folders for depth in range(1, it.count("/") + 1)}
+        self.anchors, self.faults, self.count = {}, [], 0
+
+    def fault(self, page, what, why):
+        self.faults.append(f"{page}: {what}: {why}")
+
+    def anchors_of(self, path):
+        if path not in self.anchors:
+            found, seen = set(), {}
+            for heading in re.findall(r"^#+ (.*)$", without_blocks(read(path)), re.M):
+                anchor = anchor_of(heading)
+                number = seen.get(anchor, 0)
+                seen[anchor] = number + 1
+                found.add(f"{anchor}-{number}" if number else anchor)
+            self.anchors[path] = found
+        return self.anchors[path]
+
+    def check_link(self, page, label, target):
+        self.count += 1
+        path, _, anchor = target.partition("#")
+        path = os.path.normpath(os.path.join(os.path.dirname(page), path)) if path else page
+        if path not in self.tracked and path not in self.folders:
+            return self.fault(page, target, "no such file")
+        line = re.fullmatch(r"L(\d+)", anchor)
+        if line:
+            number, lines = int(line.group(1)), read(path).split("\n")
+            said = re.search(r":(\d+)$", label)
+            if number > len(lines) or not ITEM.search(lines[number - 1]):
+                self.fault(page, target, "no item begins at this line")
+            elif said and int(said.group(1)) != number:
+                self.fault(page, target, f"the text says line {said.group(1)}")
+        elif anchor and path.endswith(".md") and anchor not in self.anchors_of(path):
+            self.fault(page, target, "no such anchor")
+
+    def check_path(self, page, code):
+        if any(code.startswith(it) for it in OTHERS):
+            return
+        part = re.fullmatch(r"(.*)\{([^}]*)\}(.*)", code)
+        for path in [part.group(1) + it + part.group(3) for it in part.group(2).split(",")] if part else [code]:
+            roots = ["", os.path.dirname(page), *ROOTS]
+            if not any(glob.glob(os.path.join(TOP, root, path)) for root in roots):
+                self.fault(page, f"`{path}`", "no such path")
+
+    def check(self):
+        for page in sorted(it for it in self.tracked if it.endswith(".md")):
+            text = without_blocks(read(page))
+            for label, target in LINK.findall(text):
+                if not re.match(r"\w+:", target):
+                    self.check_link(page, label, target)
+            for code in re.findall(r"`([\w./{},*-]+/[\w./{},*-]+)`", text):
+                self.check_path(page, code)
+
+
+def words_of_specs():
+    """The names that definitions and lemmas declare, and the fields of records."""
+    found = set()
+    for path in glob.glob(os.path.join(TOP, "crates/*/specs/**/*.antt"), recursive=True) + glob.glob(
+        os.path.join(TOP, "crates/*/proofs/*.antt")
+    ):
+        with open(path, encoding="utf-8") as file:
+            found |= set(re.findall(r"^\s*(?:abbrev |unfoldable )?pub (?:record |data |abbrev )?([\w-]+)", file.read(), re.M))
+    return found
+
+
+def functions_of(crate):
+    """The public functions of a crate, and the names of its types: for each name the text of its clauses."""
+    found = {}
+
+    def note(name, text):
+        found[name] = found.get(name, "") + "\n" + text
+
+    for item in items_of(crate):
+        note(item.name or item.of, "\n".join(item.lines))
+        note(re.sub(r"<.*", "", item.of_trait), "\n".join(item.lines))
+        for member in item.members:
+            note(member.name, "\n".join(member.lines))
+            note(item.of or item.name, "\n".join(member.lines))
+    return found
+
+
+def names_in(text):
+    """The names in the code of a text, without paths of files."""
+    text = re.sub(r"`[\w/]+\.antt`", "", text)
+    return {name for code in re.findall(r"`([^`]+)`", text) for name in re.findall(r"[A-Za-z][\w-]*", code)}
+
+
+def check_proved(fault):
+    page, crate, defined, functions = "docs/PROVED.md", "", words_of_specs(), {}
+    for number, line in enumerate(read(page).split("\n"), 1):
+        heading = re.match(r"## `(\w+)`", line)
+        if line.startswith("## "):
+            crate = heading.group(1) if heading and os.path.isdir(os.path.join(TOP, "crates", heading.group(1))) else ""
+            functions = functions_of(crate) if crate else {}
+        cells = line.strip("|").split(" | ")
+        if not crate or not line.startswith("| ") or len(cells) != 2 or cells[1].strip() == "Carried by":
+            continue
+        clauses = {it for text in functions.values() for it in re.findall(r"\b(?:ensures\*?|requires) (\w+) \{", text)}
+        for name in sorted(names_in(cells[1]) - defined - clauses - functions.keys()):
+            fault(f"{page}:{number}", f"`{name}`", f"no word of {crate} or of the definitions")
+        for calls, inside in re.findall(r"((?:`[\w-]+`(?:, | and )?)+) \(([^()]*)\)", cells[1]):
+            texts = [functions[it] for it in names_in(calls) if it in functions]
+            for name in sorted(names_in(inside)) if texts else []:
+                if not any(re.search(rf"(?<![\w-]){re.escape(name)}(?![\w-])", text) for text in texts):
+                    fault(f"{page}:{number}", f"`{name}`", f"in no clause of {calls}")
+
+
+def main():
+    pages = Pages()
+    pages.check()
+    check_proved(pages.fault)
+    print("\n".join(pages.faults), end="\n" if pages.faults else "")
+    print(f"{pages.count} links, {len(pages.faults)} faults")
+    return 1 if pages.faults else 0
+
+
+if __name__ == "__main__":
+    sys.exit(main())
