@@ -5,7 +5,7 @@ use crate::stop::Stop;
 use std::alloc::Global;
 use std::mem;
 
-/// Commands for one run, and what comes after them.
+/// Commands for one run, and what follows them.
 #[derive(Drop)]
 pub struct Stretch<'a, C> {
     pub commands: Vec<C>,

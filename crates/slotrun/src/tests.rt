@@ -1,6 +1,8 @@
-//! Whole scripts run by `run_script`, replies that no small script leads to, and streams that fail.
+//! Whole scripts run by `run_script`, replies that no small script produces, and streams that fail.
 //! Expected results were worked out by hand from the rules, or come from the Rust crate.
 
+mod hold;
+mod lists;
 mod refusals;
 mod scripts;
 mod streams;

@@ -1,4 +1,4 @@
-//! Replies that no small script leads to, and maps that have fewer lines.
+//! Replies that no small script produces, and maps that have fewer lines.
 
 use crate::commands::{Commands, Plain};
 use crate::list::{Listed, LoadError, write_refusal};

@@ -1,8 +1,6 @@
 //! Scripts with the reply to each line, and lines that are bad.
 
-use super::outcome;
-use std::alloc::{AllocError, Global};
-use std::process::Abort;
+use super::hold::{hold_bad_lines, hold_outcome, hold_replies, hold_script};
 use std::test::Fail;
 
 // Each line of a script, and its reply.
@@ -266,6 +264,19 @@ static RETIRED: [&[(&str, &str)]; 1] = [&[
     ("load [{\"version\":0},{\"version\":1}]", "inconsistent 1"),
     ("load x", "shape"),
     ("len", "len 1"),
+    // It is read as such from a list, too.
+    (
+        "load [{\"version\":0},{\"version\":0},{\"value\":8,\"version\":1},{\"version\":2}]",
+        "done",
+    ),
+    ("insert 9", "key 12884901891"),
+    ("insert 10", "key 4294967300"),
+    ("get 4294967297", "none"),
+    (
+        "slots",
+        "[{\"value\":null,\"version\":0},{\"value\":null,\"version\":0},{\"value\":8,\"version\":1},\
+        {\"value\":9,\"version\":3},{\"value\":10,\"version\":1}]",
+    ),
 ]];
 
 // Which slot an insert reuses depends on the kind of map. These replies are the Rust crate's.
@@ -332,59 +343,6 @@ static LONG_LINES: [&[(&str, &str)]; 1] = [&[
     ("insert 8", "key 4294967304"),
 ]];
 
-// Runs a script, which must end with a status and print a text.
-fn hold_outcome(
-    rt: &impl Abort,
-    alloc: Global,
-    kind: &str,
-    script: &[u8],
-    want: (u8, &str),
-) -> Result<(), Fail> {
-    let (status, text) = outcome(alloc, &[kind], script)?;
-    assert_eq!(rt; text.as_str(), want.1, "{script:?}");
-    assert_eq!(rt; status, want.0, "{script:?}");
-    Ok(())
-}
-
-// Adds lines to a script, and their replies to what it must print.
-fn add_lines(
-    script: &mut String,
-    want: &mut String,
-    lines: &[(&str, &str)],
-) -> Result<(), AllocError> {
-    for (line, reply) in lines {
-        writeln!(script, "{line}")?;
-        writeln!(want, "{reply}")?;
-    }
-    Ok(())
-}
-
-// Holds a map to a script in two parts.
-fn hold_script(
-    rt: &impl Abort,
-    alloc: Global,
-    kind: &str,
-    parts: [&[(&str, &str)]; 2],
-) -> Result<(), Fail> {
-    let mut script = String::new(alloc);
-    let mut want = String::new(alloc);
-    add_lines(&mut script, &mut want, parts[0])?;
-    add_lines(&mut script, &mut want, parts[1])?;
-    hold_outcome(rt, alloc, kind, script.as_bytes(), (0, want.as_str()))
-}
-
-fn hold_replies(
-    rt: &impl Abort,
-    alloc: Global,
-    kind: &str,
-    scripts: &[&[(&str, &str)]],
-) -> Result<(), Fail> {
-    for lines in scripts {
-        hold_script(rt, alloc, kind, [lines, &[]])?;
-    }
-    Ok(())
-}
-
 #[test]
 fn replies(rt: HostRuntime) -> Result<(), Fail> {
     hold_replies(&rt, rt.alloc(), "basic", &SCRIPTS)?;
@@ -394,8 +352,10 @@ fn replies(rt: HostRuntime) -> Result<(), Fail> {
 
 #[test]
 fn used_up_versions(rt: HostRuntime) -> Result<(), Fail> {
-    hold_replies(&rt, rt.alloc(), "basic", &RETIRED)?;
-    hold_replies(&rt, rt.alloc(), "hop", &RETIRED)
+    for kind in ["basic", "dense", "hop"] {
+        hold_replies(&rt, rt.alloc(), kind, &RETIRED)?;
+    }
+    Ok(())
 }
 
 #[test]
@@ -420,7 +380,7 @@ fn long_lines(rt: HostRuntime) -> Result<(), Fail> {
 }
 
 // Scripts, each with the number of its first bad line.
-static BAD: [(&[u8], usize); 50] = [
+static BAD: [(&[u8], usize); 63] = [
     (b"insert", 1),
     (b"insert ", 1),
     (b"insert -", 1),
@@ -447,11 +407,24 @@ static BAD: [(&[u8], usize); 50] = [
     (b"reattach 1", 1),
     (b"reattach +1 1", 1),
     (b"reattach 1 +1", 1),
+    (b"reattach 1 2147483648", 1),
+    (b"reattach 1 -2147483649", 1),
+    (b"reattach 18446744073709551616 1", 1),
     (b"reattach 1 1 1", 1),
     (b"len 1", 1),
     (b"len ", 1),
     (b"len\r\n", 1),
     (b"len\r", 1),
+    (b"len\x0c", 1),
+    (b"len\x0b\n", 1),
+    (b"len\xc2\xa0", 1),
+    (b"\xc2\xa0len", 1),
+    (b"insert 1\x0c\n", 1),
+    (b"insert 1\xc2\xa0", 1),
+    (b"insert\xc2\xa01", 1),
+    (b"len\x00", 1),
+    (b"len\x00len\n", 1),
+    (b"insert 1\x002", 1),
     (b"insert\t1", 1),
     (b"get\t1\n", 1),
     (b"\xef\xbb\xbflen\n", 1),
@@ -479,22 +452,9 @@ static BAD_HOP: [(&[u8], usize); 2] = [
     (b"reattach 4294967297 1", 1),
 ];
 
-fn hold_bad_lines(
-    rt: &impl Abort,
-    alloc: Global,
-    kind: &str,
-    scripts: &[(&[u8], usize)],
-) -> Result<(), Fail> {
-    for (script, number) in scripts {
-        let want = format!(in alloc; "bad line {number}\n")?;
-        hold_outcome(rt, alloc, kind, script, (2, want.as_str()))?;
-    }
-    Ok(())
-}
-
 #[test]
 fn bad_lines(rt: HostRuntime) -> Result<(), Fail> {
-    for kind in ["basic", "hop"] {
+    for kind in ["basic", "dense", "hop"] {
         hold_bad_lines(&rt, rt.alloc(), kind, &BAD)?;
     }
     hold_bad_lines(&rt, rt.alloc(), "hop", &BAD_HOP)

@@ -27,13 +27,18 @@ impl Read for FailingReader {
 #[test]
 fn order_of_faults(rt: HostRuntime) -> Result<(), Fail> {
     let usage = "usage: slotrun basic|dense|hop\n";
-    let table: [(&[&str], &str, u8); 10] = [
+    let table: [(&[&str], &str, u8); 15] = [
         (&[], usage, 2),
         (&[""], usage, 2),
         (&["tree"], usage, 2),
         (&["Basic"], usage, 2),
         (&["Dense"], usage, 2),
         (&["Hop"], usage, 2),
+        (&[" basic "], usage, 2),
+        (&["basic "], usage, 2),
+        (&["basically"], usage, 2),
+        (&["dense\n"], usage, 2),
+        (&["ho"], usage, 2),
         (&["basic", "basic"], usage, 2),
         (&["basic", ""], usage, 2),
         (&["basic"], "no script\n", 3),
