@@ -1,6 +1,10 @@
 #!/usr/bin/env python3
-"""Writes docs/API.md from the sources: docs/api.py. With --check it writes nothing, and fails where the page is out
-of date."""
+"""Writes docs/API.md and the pages in docs/api from the sources: docs/api.py. With --check it writes nothing, and fails
+where a page is out of date.
+
+docs/API.md has the table of calls and links to the pages. There is a page for each map, one for each structure of
+crates/slotmap_uses, and one each for traits, keys, errors, lists of slots and runs.
+"""
 
 import difflib
 import os
@@ -9,9 +13,9 @@ import sys
 
 sys.dont_write_bytecode = True
 
-from sources import CONTRACTS, MAPS, TOP, facade, items_of
+from sources import CONTRACTS, MAPS, TOP, facade, items_of, module_items
 
-PAGE = os.path.join(TOP, "docs/API.md")
+FIRST = "docs/API.md"
 CRATE_OF = {
     "SlotMap": "slotmap_basic",
     "DenseSlotMap": "slotmap_dense",
@@ -37,12 +41,37 @@ GROUPS = [
     ("Others", []),
 ]
 
-# Traits of this library: they have a section of their own, and an impl of one is a link to it.
-OWN_TRAITS = ["Primary", "Detaching", "Secondary", "Key"]
+# Traits of this library, with the page of each: an impl of one is a link to it.
+OWN_TRAITS = {"Primary": "traits", "Detaching": "traits", "Secondary": "traits", "Key": "keys", "Transform": "scene"}
+
+# The pages in docs/api: file, title.
+PAGES = {
+    "slot_map": "SlotMap",
+    "dense_slot_map": "DenseSlotMap",
+    "hop_slot_map": "HopSlotMap",
+    "secondary_map": "SecondaryMap",
+    "sparse_secondary_map": "SparseSecondaryMap",
+    "traits": "Traits of the maps",
+    "keys": "Keys",
+    "errors": "Errors",
+    "lists_and_json": "Lists of slots and JSON",
+    "runs": "Runs of commands",
+}
+PAGE_OF = {title: name for name, title in PAGES.items()}
+# The modules of the structures in crates/slotmap_uses: the main type of each, and what it is.
+STRUCTURES = {
+    "stable_list": ("StableList", "a doubly linked list with cursors"),
+    "graph": ("Graph", "a directed graph"),
+    "entities": ("World", "an entity store with two kinds of components"),
+    "scene": ("Scene", "trees of nodes, with children in order"),
+    "scheduler": ("Scheduler", "jobs ordered by time, each with a handle"),
+}
+WRITTEN = "Written by `docs/api.py` from the sources. Don't edit it by hand: `docs/api.py --check` fails if this page is out of date."
 
 
 class Page:
-    def __init__(self):
+    def __init__(self, path):
+        self.path = path
         self.lines, self.anchors = [], set()
 
     def add(self, *lines):
@@ -64,7 +93,25 @@ def anchor_of(heading):
 
 
 def link(item):
-    return f"[{item.path.removeprefix('crates/').replace('/src/', '/')}:{item.line}](../{item.path}#L{item.line})"
+    """A link to the source, from a page in docs/api."""
+    return f"[{item.path.removeprefix('crates/').replace('/src/', '/')}:{item.line}](../../{item.path}#L{item.line})"
+
+
+def prose(lines):
+    """A doc comment as Markdown: links to items become code, and a block of code says its language."""
+    found, inside = [], False
+    for line in lines:
+        if line.strip().startswith("```"):
+            found.append(line.rstrip() + ("rust" if not inside and line.strip() == "```" else ""))
+            inside = not inside
+            continue
+        if not inside:
+            line = re.sub(r"\[(`[^`]+`)\](?:\([\w:]+\))?(?!\()", r"\1", line)
+            line = re.sub(r"^#+ (.*)$", r"**\1**", line)
+        found.append(line.rstrip())
+    while found and not found[-1]:
+        found.pop()
+    return found
 
 
 def dedent(lines):
@@ -105,9 +152,8 @@ def add_summary(page, prefix, calls):
 
 def add_function(page, level, title, item, block_head=""):
     page.heading(level, title)
-    if item.first_sentence():
-        page.add(item.first_sentence(), "")
-    page.add(*block(dedent(item.lines)))
+    page.add(*block(dedent(item.lines)), "")
+    page.add(*prose(item.doc))
     page.add("", link(item) + (f", in `{block_head}`" if block_head else ""))
 
 
@@ -123,12 +169,12 @@ def impl_lines(item):
     return [item.header() + " {", *[it.rstrip() for it in lines], "}"] if lines else []
 
 
-def add_type(page, level, title, item, items, public_level):
-    """A type with its calls and the traits that it implements."""
+def add_type(page, level, title, item, items, public_level, short=""):
+    """A type with its calls and the traits that it implements. The headings of its calls begin with `short`."""
     page.heading(level, title)
-    if item.first_sentence():
-        page.add(item.first_sentence(), "")
-    page.add(*block(type_lines(item)))
+    title = short or title
+    page.add(*block(type_lines(item)), "")
+    page.add(*prose(item.doc))
     impls = [it for it in items if it.kind == "impl" and it.of == item.name]
     seen_as = ""
     for impl in impls:
@@ -160,7 +206,7 @@ def add_type(page, level, title, item, items, public_level):
         if lines:
             shown.append((impl, lines))
         if name in OWN_TRAITS or not lines:
-            target = f"#{anchor_of(name)}" if name in OWN_TRAITS else f"../{impl.path}#L{impl.line}"
+            target = f"{OWN_TRAITS[name]}.md#{anchor_of(name)}" if name in OWN_TRAITS else f"../../{impl.path}#L{impl.line}"
             bare.append(f"[`{impl.of_trait}`]({target})")
     if bare or shown:
         page.heading(public_level, f"{title}: traits")
@@ -176,7 +222,7 @@ def add_type(page, level, title, item, items, public_level):
 
 def add_trait(page, level, item):
     page.heading(level, item.name)
-    page.add(item.first_sentence(), "")
+    page.add(*prose(item.doc), "")
     lines = [item.header() + " {"]
     for member in item.members:
         if member.kind in ("ghost", "const") and member.name != "use":
@@ -209,11 +255,72 @@ def add_table(page, all_items):
         if names:
             page.add(f"| **{title}** |" + " |" * len(MAPS))
         for name in names:
-            cells = [f"[yes](#{anchor_of(f'{it}::{name}')})" if name in calls[it] else "–" for it in MAPS]
+            cells = [
+                f"[yes](api/{PAGE_OF[it]}.md#{anchor_of(f'{it}::{name}')})" if name in calls[it] else "–" for it in MAPS
+            ]
             page.add(f"| `{name}` | " + " | ".join(cells) + " |")
 
 
-def page_text():
+def new_page(name, title):
+    page = Page(f"docs/api/{name}.md")
+    page.add(f"# {title}", "", WRITTEN, "The [first page](../API.md) says how to read it.", "")
+    page.anchors.add(anchor_of(title))
+    return page
+
+
+def pages_of_structures():
+    """A page for each structure of crates/slotmap_uses."""
+    for module in STRUCTURES:
+        head, items = module_items("slotmap_uses", module)
+        page = new_page(module, f"slotmap_uses::{module}")
+        page.add("To use it, list `slotmap slotmap_uses` in `crates.txt`.", "", *prose(head), "")
+        for item in items:
+            if not item.public or item.kind not in ("struct", "enum", "type", "fn", "trait"):
+                continue
+            if item.kind == "trait":
+                add_trait(page, 2, item)
+            elif item.kind == "fn":
+                add_function(page, 2, item.name, item)
+            else:
+                add_type(page, 2, item.name, item, items, 3)
+        yield page
+
+
+def first_page(all_items):
+    page = Page(FIRST)
+    page.add(
+        "# The public items and their contracts",
+        "",
+        WRITTEN,
+        "",
+        "There is a page for each map and for each structure. Each item has its whole comment, its signature and its",
+        "clauses, as in the source, and a link to the source. The words of the clauses are in",
+        "[DEFINITIONS.md](DEFINITIONS.md). In a clause `result` is what the call returns. Of a `&self`, `self.now` is the",
+        "map. Of a `&mut self`, `self.old` is the map before the call and `self.new` the map after it. A clause with a",
+        "star is about a loan: what is written through the returned reference. Each function is proved to meet its",
+        "clauses.",
+        "",
+        "- The maps: " + ", ".join(f"[`{it}`](api/{PAGE_OF[it]}.md)" for it in MAPS) + ".",
+        "- What they share: "
+        + ", ".join(f"[{title[0].lower() + title[1:]}](api/{name}.md)" for name, title in PAGES.items() if title not in MAPS)
+        + ".",
+        "- [Structures](#structures) on the maps.",
+    )
+    page.heading(2, "Which map has which call")
+    page.add("Calls of one name have one meaning in the three primary maps, and one in the two secondary maps. Their clauses say "
+        "where they differ.", "")
+    add_table(page, all_items)
+    page.heading(2, "Structures")
+    page.add("They are in the crate `slotmap_uses`, each in a module of its own.", "")
+    page.add("| Type | What it is | Calls |", "|---|---|---|")
+    for module, (name, what) in STRUCTURES.items():
+        calls = calls_of(name, module_items("slotmap_uses", module)[1])
+        cells = ", ".join(f"[`{it}`](api/{module}.md#{anchor_of(f'{name}::{it}')})" for it in calls)
+        page.add(f"| [`{module}::{name}`](api/{module}.md) | {what} | {cells} |")
+    return page
+
+
+def all_pages():
     exported = facade()
     crates = sorted({crate for _, crate, _ in exported})
     all_items = {crate: items_of(crate) for crate in crates}
@@ -236,87 +343,73 @@ def page_text():
                     found.append((entry[1], item))
         return found
 
-    page = Page()
-    page.add(
-        "# The public items and their contracts",
-        "",
-        "Written by `docs/api.py` from the sources; `docs/api.py --check` fails where this page is out of date.",
-        "Don't edit it by hand.",
-        "",
-        "Each item has its first sentence, its signature and its clauses, as in the source, and a link to the source,",
-        "which says more. The words of the clauses are in [DEFINITIONS.md](DEFINITIONS.md). In a clause `result` is what",
-        "the call returns. Of a `&self`, `self.now` is the map. Of a `&mut self`, `self.old` is the map before the call",
-        "and `self.new` the map after it. A clause with a star is about a loan: what is written through the returned",
-        "reference. Each function is proved to meet its clauses.",
-        "",
-        "Sections: [which map has which call](#which-map-has-which-call), "
-        + ", ".join(f"[{it}](#{anchor_of(it)})" for it in MAPS)
-        + ", [traits](#traits-of-the-maps), [keys](#keys), [errors](#errors), "
-        "[lists of slots and JSON](#lists-of-slots-and-json), [runs of commands](#runs-of-commands).",
-    )
-    page.heading(2, "Which map has which call")
-    page.add("Calls of one name have one meaning in the three primary maps, and one in the two secondary maps. Their clauses say "
-        "where they differ.", "")
-    add_table(page, all_items)
-
+    pages = {name: new_page(name, title) for name, title in PAGES.items()}
     for name, module in MAPS.items():
-        crate = CRATE_OF[name]
+        crate, page = CRATE_OF[name], pages[PAGE_OF[name]]
         left.remove(("", crate, name))
         left.remove((module, crate, name))
-        add_type(page, 2, name, find(crate, name), all_items[crate], 3)
+        page.add(*prose(module_items(crate, "")[0]), "")
+        add_type(page, 2, f"{name}: the type", find(crate, name), all_items[crate], 3, name)
         for _, item in take(module, ("struct", "enum", "type")):
-            add_type(page, 3, f"{module}::{item.name}", item, all_items[crate], 4)
+            add_type(page, 2, f"{module}::{item.name}", item, all_items[crate], 3)
 
-    page.heading(2, "Traits of the maps")
+    page = pages["traits"]
     page.add("`SlotMap`, `DenseSlotMap` and `HopSlotMap` implement `Primary`, the first two of them `Detaching` too.")
     page.add("`SecondaryMap` and `SparseSecondaryMap` implement `Secondary`.")
     traits = sorted(take("", ("trait",)), key=lambda it: (it[1].path, it[1].line))
     for _, item in traits:
-        if item.name != "Key":
-            add_trait(page, 3, item)
+        add_trait(pages[OWN_TRAITS[item.name]], 2, item)
 
     kept = sorted(take("", ("struct", "enum", "type", "fn")), key=lambda it: (it[1].path, it[1].line))
 
-    def section(title, chosen):
-        page.heading(2, title)
+    def section(name, chosen):
         for crate, item in [it for it in kept if chosen(it[1])]:
             kept.remove((crate, item))
             if item.kind == "fn":
-                add_function(page, 3, item.name, item)
+                add_function(pages[name], 2, item.name, item)
             else:
-                add_type(page, 3, item.name, item, all_items[crate], 4)
+                add_type(pages[name], 2, item.name, item, all_items[crate], 3)
 
-    section("Keys", lambda it: "/keys" in it.path)
-    for _, item in traits:
-        if item.name == "Key":
-            add_trait(page, 3, item)
-
-    section("Errors", lambda it: it.path.endswith("/errors.rt"))
-    section("Lists of slots and JSON", lambda it: it.path.endswith(("/serial.rt", "/slotmap_json/src/lib.rt")))
-    section("Runs of commands", lambda it: True)
+    section("keys", lambda it: "/keys" in it.path)
+    section("errors", lambda it: it.path.endswith("/errors.rt"))
+    section("lists_and_json", lambda it: it.path.endswith(("/serial.rt", "/slotmap_json/src/lib.rt")))
+    section("runs", lambda it: True)
     if left:
         sys.exit(f"api.py: no section has {left}")
-    return page.text()
+    return [first_page(all_items), *pages.values(), *pages_of_structures()]
+
+
+def read(path):
+    if not os.path.exists(os.path.join(TOP, path)):
+        return ""
+    with open(os.path.join(TOP, path), encoding="utf-8") as file:
+        return file.read()
 
 
 def main():
-    text = page_text()
-    if sys.argv[1:] == ["--check"]:
-        old = ""
-        if os.path.exists(PAGE):
-            with open(PAGE, encoding="utf-8") as file:
-                old = file.read()
-        if old == text:
-            return 0
-        changes = list(difflib.unified_diff(old.split("\n"), text.split("\n"), "docs/API.md", "the sources", "", "", 1))
-        print("\n".join(changes[:40]))
-        print(f"docs/API.md is out of date ({len(changes)} lines of changes): run docs/api.py")
-        return 1
-    if sys.argv[1:]:
+    if sys.argv[1:] not in ([], ["--check"]):
         sys.exit("usage: docs/api.py [--check]")
-    with open(PAGE, "w", encoding="utf-8") as file:
-        file.write(text)
-    return 0
+    pages = {page.path: page.text() for page in all_pages()}
+    folder = os.path.join(TOP, "docs/api")
+    os.makedirs(folder, exist_ok=True)
+    stale = 0
+    for old in sorted(f"docs/api/{it}" for it in os.listdir(folder)):
+        if old not in pages:
+            stale += 1
+            print(f"{old} is a page of no item")
+    for path, text in pages.items():
+        old = read(path)
+        if old == text:
+            continue
+        if sys.argv[1:] == ["--check"]:
+            stale += 1
+            changes = list(difflib.unified_diff(old.split("\n"), text.split("\n"), path, "the sources", "", "", 1))
+            print("\n".join(changes[:20]))
+            print(f"{path} is out of date ({len(changes)} lines of changes): run docs/api.py")
+        else:
+            with open(os.path.join(TOP, path), "w", encoding="utf-8") as file:
+                file.write(text)
+    return 1 if stale else 0
 
 
 if __name__ == "__main__":

@@ -22,7 +22,7 @@ TOP = os.path.dirname(os.path.dirname(os.path.abspath(__file__)))
 PAGES = ["crates/slotmap/CALLING.md", "crates/slotmap/PROVING.md"]
 USES = os.path.join(TOP, "crates/slotmap_uses")
 BLOCK = re.compile(r"(<!-- from (?P<file>\S+?)(?:: (?P<items>[^;]*?))?(?P<bare>; no head)? -->\n)\n?```\w+\n.*?\n```\n", re.S)
-ITEM = re.compile(r"(?:pub )?(?:fn|struct|enum|trait) (\w+)|impl\b[^{]*? for (\w+)|impl(?:<[^>]*>)? (\w+)")
+ITEM = re.compile(r"(?:pub )?(?:fn|struct|enum|trait|type) (\w+)|impl\b[^{]*? for (\w+)|impl(?:<[^>]*>)? (\w+)")
 
 
 def read(path):

@@ -26,7 +26,8 @@ PRIMARY, SECONDARY = ["basic", "dense", "hop"], ["secondary", "sparse", "folded"
 HEADS = {name: f"`{it.type}`" for name, it in MAPS.items()} | {"folded": "the same, a folding hasher in Rust too"}
 SLOW = 1.25
 
-# What the lines of README's table on maps have to say, in figures of instructions at 1,000 slots.
+# What the lines of README's table on maps have to say, in figures of instructions at 1,000 slots. After these come the mean
+# of the times at 1,000 slots, and the memory for a key.
 README_FIGURES = {
     "SlotMap": "look-up {get-live}, insert {insert-room} to {insert}",
     "DenseSlotMap": "look-up {get-live}, a step of iteration {iter-full}",
@@ -124,7 +125,7 @@ def memory(figures):
     kinds = [it for it in MAPS if it != "folded"]
     names = {"insert": "from an empty map", "insert-room": "with room"}
     rows = [[title, *[cell(kind, name) for kind in kinds]] for name, title in names.items()]
-    return table(["Bytes for a key", *[HEADS[it] for it in kinds]], rows)
+    return table(["Bytes per key", *[HEADS[it] for it in kinds]], rows)
 
 
 TABLES = {
@@ -190,9 +191,11 @@ def faults_of_readme(figures):
             for op in operations.operations_of(MAPS[kind])
         }
         wanted = re.sub(r"\{([\w-]+)\}", lambda it: ratios[it.group(1)], form)
+        memory = figures.row("memory", kind, "insert", 1_000_000)
+        means = f"| {mean_text(figures.ratios('time', kind, 1_000))} | {memory.ratio:.2f} |" if memory else "| ? | ? |"
         line = next(it for it in text.split("\n") if it.startswith(f"| `{name}` |"))
-        if wanted not in line:
-            wrong.append(f"README.md, line of {name}: {wanted}")
+        if wanted not in line or not line.endswith(means):
+            wrong.append(f"README.md, line of {name}: {wanted} .. {means}")
     return wrong
 
 

@@ -181,6 +181,33 @@ def items_of(crate):
     return found
 
 
+def comment_of_file(path):
+    """The lines of the comment at the head of a file."""
+    with open(os.path.join(TOP, path), encoding="utf-8") as file:
+        return [line[3:].rstrip("\n").removeprefix(" ") for line in file if line.startswith("//!")]
+
+
+def module_items(crate, module):
+    """The comment at the head of a module, and the items of its file, of its public modules, and those that it
+    re-exports. The module is that of a crate's root where it has no name."""
+    path = f"crates/{crate}/src/{module or 'lib'}.rt"
+    with open(os.path.join(TOP, path), encoding="utf-8") as file:
+        text = file.read()
+    lines = text.split("\n")
+    found = read_items(path, lines, 0, len(lines), 0)
+    children = re.findall(r"(?m)^(pub )?mod (\w+);", text) if module else []
+    shown = set(re.findall(r"(?m)^pub use (?:\w+::)*(\w+);", text))
+    for public, child in children:
+        child_path = f"crates/{crate}/src/{module}/{child}.rt"
+        with open(os.path.join(TOP, child_path), encoding="utf-8") as file:
+            lines = file.read().split("\n")
+        items = read_items(child_path, lines, 0, len(lines), 0)
+        names = {it.name for it in items if it.public} if public and child != "callers" else shown
+        own = {it.name for it in found if it.public and it.kind != "impl"}
+        found += [it for it in items if it.name in names or it.kind == "impl" and it.of in names | own]
+    return comment_of_file(path), found
+
+
 def facade():
     """What crates/slotmap re-exports: tuples of module (or nothing), crate and name, in the order of lib.rt."""
     with open(os.path.join(TOP, "crates/slotmap/src/lib.rt"), encoding="utf-8") as file:

@@ -1,6 +1,7 @@
 #!/usr/bin/env python3
-"""Lists the words of this repository's definitions that stand in public clauses, each with the file that defines it
-and how many clauses use it. Fails where docs/DEFINITIONS.md doesn't name one. With --check only those are printed."""
+"""Lists the words of this repository's definitions that public clauses use, each with the file that defines it and how
+many clauses use it. Fails if docs/DEFINITIONS.md doesn't name one, or if README.md has other numbers of lines of the
+definitions. With --check only faults are printed."""
 
 import glob
 import os
@@ -94,6 +95,32 @@ def words_of_clauses():
     return found
 
 
+def lines_of_definitions(found):
+    """How many lines all definitions have, and how many those files that public clauses of the maps rest on."""
+    every = {os.path.relpath(it, TOP) for it in glob.glob(os.path.join(TOP, "crates/*/specs/**/*.antt"), recursive=True)}
+    texts, reached, waiting = {}, set(), [spec for _, spec in found]
+    for path in every:
+        with open(os.path.join(TOP, path), encoding="utf-8") as file:
+            texts[path] = file.read()
+    while waiting:
+        path = waiting.pop()
+        if path in reached or path not in every:
+            continue
+        reached.add(path)
+        for crate, module in re.findall(r"Rattle\.(\w+)\.specs\.([\w.]+?)(?:\.\{| as |\.?\s)", texts[path]):
+            waiting.append(f"crates/{crate}/specs/{module.replace('.', '/')}.antt")
+    return sum(it.count("\n") for it in texts.values()), sum(texts[it].count("\n") for it in reached)
+
+
+def fault_of_readme(found):
+    """What README.md should say of the lines of the definitions, if it says something else."""
+    wanted = "have some {:,} lines, and public clauses of the maps rest on about {:,} of them".format(
+        *(round(it, -2) for it in lines_of_definitions(found))
+    )
+    with open(os.path.join(TOP, "README.md"), encoding="utf-8") as file:
+        return "" if wanted in " ".join(file.read().split()) else f"README.md, definitions: {wanted}"
+
+
 def main():
     if sys.argv[1:] not in ([], ["--check"]):
         sys.exit("usage: docs/words.py [--check]")
@@ -106,7 +133,9 @@ def main():
         if is_missing or sys.argv[1:] == []:
             print(f"{spec}: {word}, in {count} clauses" + (": not in docs/DEFINITIONS.md" if is_missing else ""))
     print(f"{len(found)} words, {missing} of them not in docs/DEFINITIONS.md")
-    return 1 if missing else 0
+    wrong = fault_of_readme(found)
+    print(wrong, end="\n" if wrong else "")
+    return 1 if missing or wrong else 0
 
 
 if __name__ == "__main__":

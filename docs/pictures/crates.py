@@ -21,13 +21,14 @@ CRATES = {
     "slotmap_rows": (0.5, 2, "reads rows of tests"),
     "slotmap": (2, 2, "the library to use: all names"),
     "slotrun": (5, 2, "program: runs scripts"),
-    "primary_rows": (0.5, 3, "program: rows of primary maps"),
-    "secondary_rows": (2.5, 3, "program: rows of secondary maps"),
-    "slotmap_uses": (4.5, 3, "five structures on the maps"),
-    "slotdemo": (4.5, 4, "program: a demonstration"),
+    "primary_rows": (0.5, 3, "checks the primary maps"),
+    "secondary_rows": (2.2, 3, "checks the secondary maps"),
+    "joined_rows": (3.85, 3, "checks runs on two maps"),
+    "slotmap_uses": (5.5, 3, "five structures on the maps"),
+    "slotdemo": (5.5, 4, "program: a demonstration"),
 }
 COLORS = {
-    "slotmap": BLUE, "slotrun": ORANGE, "primary_rows": GREEN, "secondary_rows": RED, "slotmap_uses": BLUE,
+    "slotmap": BLUE, "slotrun": ORANGE, "primary_rows": GREEN, "secondary_rows": RED, "joined_rows": SOFT, "slotmap_uses": BLUE,
     "slotdemo": ORANGE,
 }
 PITCH, LEFT, TOPS = 152, 22, [598, 460, 316, 186, 66]
@@ -63,7 +64,7 @@ picture = Picture(
     "The crates and which of them uses which",
     "; ".join(f"{name} uses {', '.join(sorted(others))}" for name, others in sorted(uses.items()) if others),
 )
-picture.text(22, 38, "The crates: an arrow goes to a crate that is used", 18, INK, "start", True)
+picture.text(22, 38, "The crates: an arrow points to a crate that is used", 18, INK, "start", True)
 
 
 def width_of(name):
@@ -82,7 +83,7 @@ def drop(name, to, shift, bus, color):
 
 
 # Two crates that use the same ones have a level and a shift each, so that their lines keep apart.
-LEVELS = {"slotmap": (30, -12), "slotrun": (52, 12), "primary_rows": (28, -12), "secondary_rows": (48, 12), "slotmap_uses": (38, 36), "slotdemo": (32, 0)}
+LEVELS = {"slotmap": (30, -12), "slotrun": (52, 12), "primary_rows": (28, -12), "secondary_rows": (48, 4), "joined_rows": (38, 20), "slotmap_uses": (58, 36), "slotdemo": (32, 0)}
 for name in uses:
     for to in sorted(uses[name], key=lambda it: CRATES[it][0]):
         if to == "slotmap_core":
@@ -95,7 +96,7 @@ for name in uses:
 for name, (_, row, what) in CRATES.items():
     x, y, width = middle_of(name), TOPS[row], width_of(name)
     picture.rect(x - width / 2, y, width, HEIGHT, "#f6f8fa", COLORS.get(name, SOFT), 8, 2.5 if name in COLORS else 1.5)
-    picture.text(x, y + 24, name, 14 if width > 146 else 12.5, INK, bold=True)
-    picture.text(x, y + 43, what, 12.5 if width > 146 else 11.5, SOFT)
+    picture.text(x, y + 24, name, 15 if width > 146 else 12.5, INK, bold=True)
+    picture.text(x, y + 43, what, 14 if width > 146 else 12.5, SOFT)
 
 picture.finish("crates.svg")

@@ -16,9 +16,11 @@ import results
 
 SLOTS = 1_000
 COLORS = [BLUE, ORANGE, GREEN]
-BAR, GAP = 11, 12
-LABEL, WIDTH = 335, 330
-COLUMN = LABEL + WIDTH + 45
+# The picture is as wide as the text of a page, so that its letters are as large there as here.
+PAGE = 830
+BAR, GAP = 14, 14
+LABEL = 350
+WIDTH = PAGE - LABEL - 70
 TOP = 112
 
 
@@ -51,44 +53,41 @@ def draw_scale(picture, scale, bottom):
     for mark in scale.marks():
         x = scale.x(mark)
         picture.line([(x, TOP - 12), (x, bottom)], INK if mark == 1 else "#d0d7de", 2 if mark == 1 else 1)
-        picture.text(x, bottom + 18, f"{mark:g}", 13, INK if mark == 1 else SOFT, bold=mark == 1)
-    picture.text(scale.x(1), bottom + 38, "as the Rust crate", 13, INK)
+        picture.text(x, bottom + 18, f"{mark:g}", 14, INK if mark == 1 else SOFT, bold=mark == 1)
+    picture.text(scale.x(1), bottom + 38, "as the Rust crate", 14, INK)
 
 
 def draw_bars(picture, scale, title, ratios, y):
-    picture.text(scale.left - 12, y + len(ratios) * BAR / 2 + 5, title, 12.5, INK, "end")
+    picture.text(scale.left - 12, y + len(ratios) * BAR / 2 + 5, title, 14, INK, "end")
     for place, (ratio, color) in enumerate(zip(ratios, COLORS)):
         if ratio is None:
             continue
         one, end, top = scale.x(1), scale.x(ratio), y + BAR * place
         picture.rect(min(one, end), top + 1, max(abs(end - one), 1), BAR - 2, color, color, 1, 0.5)
         side = 5 if end >= one else -5
-        picture.text(end + side, top + 10, f"{ratio:.2f}", 10.5, INK, "start" if end >= one else "end")
+        picture.text(end + side, top + 11.5, f"{ratio:.2f}", 12, INK, "start" if end >= one else "end")
 
 
-def draw(name, title, names, groups):
-    """A picture with a column for each group of operations. `names` says which map has which color."""
+def draw(name, title, names, shown):
+    """A picture of these operations, one below the other. `names` says which map has which color."""
     step = len(names) * BAR + GAP
-    bottom = TOP + step * max(len(it) for it in groups)
+    bottom = TOP + step * len(shown)
     said = "; ".join(
         f"{head}: " + ", ".join(f"{m} {r:.2f}" for m, r in zip(names, ratios) if r is not None)
-        for group in groups
-        for head, ratios in group
+        for head, ratios in shown
     )
-    picture = Picture(COLUMN * len(groups) + 30, bottom + 58, title, said)
+    picture = Picture(PAGE, bottom + 58, title, said)
     picture.text(24, 38, title, 18, INK, "start", True)
     x = 24
     for head, color in zip(names, COLORS):
         picture.rect(x, 54, 14, 14, color, color, 2)
-        picture.text(x + 21, 66, head, 13, INK, "start")
-        x += 50 + 8 * len(head)
-    picture.text(24, 90, f"{SLOTS:,} slots; a bar to the left of 1 is fewer instructions; log scale", 13, SOFT, "start")
-    every = [it for group in groups for _, ratios in group for it in ratios if it is not None]
-    for number, group in enumerate(groups):
-        scale = Scale(every, COLUMN * number + LABEL)
-        draw_scale(picture, scale, bottom)
-        for place, (head, ratios) in enumerate(group):
-            draw_bars(picture, scale, head, ratios, TOP + step * place)
+        picture.text(x + 21, 66, head, 14, INK, "start")
+        x += 44 + 8.4 * len(head)
+    picture.text(24, 90, f"{SLOTS:,} slots; a bar to the left of 1 is fewer instructions; log scale", 14, SOFT, "start")
+    scale = Scale([it for _, ratios in shown for it in ratios if it is not None], LABEL)
+    draw_scale(picture, scale, bottom)
+    for place, (head, ratios) in enumerate(shown):
+        draw_bars(picture, scale, head, ratios, TOP + step * place)
     picture.finish(name)
 
 
@@ -97,11 +96,9 @@ def main():
     primary = ratios_of(rows, ["basic", "dense", "hop"])
     secondary = ratios_of(rows, ["secondary", "sparse", "folded"])
     title = "Instructions of an operation, divided by those of the Rust crate"
-    half = (len(primary) + 1) // 2
-    draw("speed.svg", title, ["SlotMap", "DenseSlotMap", "HopSlotMap"], [primary[:half], primary[half:]])
-    names = ["SecondaryMap", "SparseSecondaryMap", "SparseSecondaryMap, a folding hasher in Rust too"]
-    half = (len(secondary) + 1) // 2
-    draw("speed_secondary.svg", title, names, [secondary[:half], secondary[half:]])
+    draw("speed.svg", title, ["SlotMap", "DenseSlotMap", "HopSlotMap"], primary)
+    names = ["SecondaryMap", "SparseSecondaryMap", "the same, a folding hasher in Rust too"]
+    draw("speed_secondary.svg", title, names, secondary)
 
 
 main()
