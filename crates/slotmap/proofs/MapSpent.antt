@@ -1,8 +1,7 @@
 -- Which keys of a `DenseSlotMap` or a `HopSlotMap` are spent after a call, by the clauses of the call.
 use Rattle.std.proofs.Common.{◌≡◌, ◌≢◌, true, false, Option, OnSome, IfNone, Result, IfOk, IsErr, OnErr}
 use Rattle.std.specs.FinMap as map
-use Rattle.slotmap_core.proofs.SpentLemmas.{spent_insert, insert_not_spent, spent_remove, live_remove_spent, remove_spent, spent_detach, spent_leaves}
-use Rattle.slotmap_core.proofs.SpentLemmas.{spent_stale, spent_finds_nothing, spent_not_detached}
+use Rattle.slotmap_core.proofs.ForCallers.SpentLemmas.{spent_insert, insert_not_spent, spent_remove, live_remove_spent, remove_spent, spent_detach}
 use Rattle.slotmap.specs.Words.{Key, IsLive, IsSpent, KeepsSpent, Inserts, Removes, Detaches, Keeps, Dense, StaysDense, GrowsDense, HopContent, StaysHop, GrowsHop}
 use Rattle.slotmap.proofs.MapContents.{if_none, dense_stays, dense_grows, hop_stays, hop_grows}
 
@@ -47,9 +46,3 @@ module _ {V : Type 0} (j : Key) (answer : Option V) where
 
     pub remove_spent-hop : OnSome answer (Removes old.content j new.content) → OnSome answer (IsSpent new.content j)
     remove_spent-hop = remove_spent old.content new.content true (hop_stays valid) j answer is
-
-pub ruleset inserts = (spent_insert, insert_not_spent, spent_insert-dense, insert_not_spent-dense, spent_insert-hop, insert_not_spent-hop)
-
-pub ruleset removals = (spent_remove, live_remove_spent, spent_remove-dense, live_remove_spent-dense, spent_remove-hop, live_remove_spent-hop)
-
-pub ruleset spent = (inserts, removals, remove_spent, remove_spent-dense, remove_spent-hop, spent_detach, spent_detach-dense, spent_leaves, spent_stale, spent_finds_nothing, spent_not_detached)

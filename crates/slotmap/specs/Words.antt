@@ -4,17 +4,17 @@ pub use Rattle.slotmap_core.specs.Lifo.{IsBasic}
 pub use Rattle.slotmap_core.specs.declared.commands.Reply.TheVariants.{Key as KeyReply, Looked as LookedReply, Put as PutReply, Taken as TakenReply, Done as DoneReply}
 pub use Rattle.slotmap_core.specs.declared.joined.JoinedReply.TheVariants.{Old as JoinedOld, Looked as JoinedLooked}
 -- runs: the machine, what a run is given, the laws of its replies
-pub use Rattle.slotmap_core.specs.Machine.{State, IsHeld, IsIssued, Fresh, empty_state, retired}
+pub use Rattle.slotmap_core.specs.Machine.{State, StandsIn, IsIssued, Fresh, empty_state, retired}
 pub use Rattle.slotmap_core.specs.Given.{Given as RunGiven, given, any_closures}
 pub use Rattle.slotmap_core.specs.Step.{Step, DetachStep}
 pub use Rattle.slotmap_core.specs.Run.{Run, Unretiring}
 pub use Rattle.slotmap_core.specs.Fit.{Fits, Starts, RunFollows, RunsAnew, Continues}
 pub use Rattle.slotmap_core.specs.Law.{Laws, DetachLaws, NoKeyTwice, RemovedForGood, ReserveHolds, DetachedNotReissued, DetachedReattaches, ReattachBinds, LastFreedFirst}
-pub use Rattle.slotmap_core.specs.Law.{IsRefusal, Grows, DetachGrows, Spares, keys_told}
+pub use Rattle.slotmap_core.specs.Law.{IsRefusal, NeedsRoom, DetachNeedsRoom, Spares, keys_told}
 pub use Rattle.slotmap_core.specs.SecondaryStep.{Step as SideStep, Given as SideGiven, given_secondary, LooksAt}
 pub use Rattle.slotmap_core.specs.SecondaryLaw.{HadMemory, Shows, seen_by, EachAgrees}
 pub use Rattle.slotmap_core.specs.Joined.{Step as JoinedStep, DetachStep as JoinedDetachStep, Joined, given_joined, named, RunsBeside}
-pub use Rattle.slotmap_core.specs.Dictionary.{Dictionary, WithDictionary, TellingStep, DetachTellingStep, Tells, noted, unused, RunsTold}
+pub use Rattle.slotmap_core.specs.Dictionary.{Dictionary, WithDictionary, DictionaryStep, DetachDictionaryStep, RepliesByDictionary, noted, unused, RunsByDictionary}
 pub use Rattle.slotmap_core.specs.Key.{Key, IsKey, null_key, is_last, next_version, is_older, key_cmp, coded_key, same_keys}
 pub use Rattle.slotmap_core.specs.Content.{Content, content_code, IsContent, IsLive, IsDetached, IsRetired, IsVacant, Stands, used, places, most}
 pub use Rattle.slotmap_core.specs.Spent.{IsSpent, KeepsSpent}
@@ -26,19 +26,19 @@ pub use Rattle.slotmap_core.specs.Retain.{RetainsBy, CallableOnEach}
 pub use Rattle.slotmap_core.specs.Clones.{ClonesEqual, IsCloneOf, AreClones}
 pub use Rattle.slotmap_core.specs.Copy.{IsCopy, IsCloneBy}
 pub use Rattle.slotmap_core.specs.Disjoint.{CanReplace, AreValuesOf, with_values}
-pub use Rattle.slotmap_core.specs.Contents.{contents, StartsFrom}
+pub use Rattle.slotmap_core.specs.FromList.{start_live, StartsFrom}
 pub use Rattle.slotmap_core.specs.Written.{Writes, WritesClones, Restores}
 pub use Rattle.slotmap_core.specs.ListRead.{ReadsAs}
 pub use Rattle.slotmap.specs.KeysAlone.{keys_of, without_values, keys_code}
 -- a map whose values are packed: its model is a content with the live keys and their values in packed order
 pub use Rattle.slotmap_dense.specs.Dense.{Dense, dense_code, IsDense, ListsPairs, IsEmpty, SameOrder, ClonesInOrder, Appends, ClosesGap, TakesLast, FreesFromBack, value_of, with_value_of, with_values_in}
-pub use Rattle.slotmap_dense.specs.Call.{StaysValid as StaysDense, MayGrow as GrowsDense, MakesRoom as MakesDenseRoom}
+pub use Rattle.slotmap_dense.specs.Call.{StaysDense, GrowsDense, MakesDenseRoom}
 pub use Rattle.slotmap_dense.specs.Retain.{RetainsPacked}
 -- a map whose iterators hop: its model is a content with the blocks that its vacant places form
 pub use Rattle.slotmap_hop.specs.HopContent.{HopContent, hop_code, IsHopContent, NoBlocks, IsNextLive, hop_with_value, hop_with_values}
 pub use Rattle.slotmap_hop.specs.HopContent.{blocks_without, blocks_without_all, StaysHop, GrowsHop, MakesHopRoom}
 pub use Rattle.slotmap_hop.specs.Blocks.{Blocks, HasMaximalBlocks, IsBlock, vacated, offer_place, shorter}
-pub use Rattle.slotmap_hop.specs.Walk.{Walking, StartsIter, CountsReads, CountsReadsSomewhere, ListsRetired, ReadsFew}
+pub use Rattle.slotmap_hop.specs.Iter.{HopIter, StartsIter, CountsReads, CountsReadsSomewhere, ListsRetired, ReadsFew}
 pub use Rattle.slotmap_hop.specs.Retain.{RetainsByIndex}
 -- side tables
 pub use Rattle.slotmap_core.specs.SecondaryClones.{HasClones}
@@ -56,7 +56,7 @@ pub use Rattle.slotmap_sparse.specs.Entry.{IsInPlace as IsSparseInPlace, entry_m
 -- what a step of a drain, or of an iterator that lends values, requires and leaves
 pub use Rattle.slotmap_basic.specs.Drain.{DrainCanStep, DrainSteps, drain_live, drain_loan}
 pub use Rattle.slotmap_dense.specs.Drain.{DrainSteps as DenseDrainSteps, drain_live as dense_drain_live, drain_loan as dense_drain_loan}
-pub use Rattle.slotmap_dense.specs.WalkMut.{IterMutCanStep}
+pub use Rattle.slotmap_dense.specs.IterMut.{IterMutCanStep}
 pub use Rattle.slotmap_hop.specs.Drain.{DrainCanStep as HopDrainCanStep, DrainSteps as HopDrainSteps, drain_live as hop_drain_live, drain_loan as hop_drain_loan}
 pub use Rattle.slotmap_secondary.specs.Drain.{DrainCanStep as SideDrainCanStep, DrainSteps as SideDrainSteps, drain_loan as side_drain_loan}
 pub use Rattle.slotmap_sparse.specs.Drain.{DrainSteps as SparseDrainSteps, drain_loan as sparse_drain_loan}

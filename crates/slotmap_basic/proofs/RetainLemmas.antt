@@ -7,15 +7,15 @@ use Rattle.std.specs.List.{FoldsTo}
 use Rattle.std.specs.FinMap as map
 use Rattle.slotmap_core.specs.Key.{Key}
 use Rattle.slotmap_core.specs.Content.{Content, IsContent, IsLive, places}
-use Rattle.slotmap_core.specs.Pass.{Stage, stage, Calls, Keeps, Rejects, Passes, MayPass, by_index, past_index}
+use Rattle.slotmap_slots.specs.Pass.{Stage, stage, Calls, Stays, Rejects, Passes, MayPass, by_index, past_index}
 use Rattle.slotmap_core.specs.Retain.{Visit, CallsAt, CallableOnEach, RetainsBy}
 use Rattle.slotmap_core.specs.Transition.{Removes, with_value}
-use Rattle.slotmap_core.proofs.IndexLemmas.{from_index, alone_at}
-use Rattle.slotmap_core.proofs.KeyedVisits.{Keyed-from_start, Keyed-next, Keyed-same, Keyed-may_come, Keyed-done}
-use Rattle.slotmap_core.proofs.LeaveLemmas.{same_live}
-use Rattle.slotmap_core.proofs.ListingLemmas.{remove-insert}
-use Rattle.slotmap_core.proofs.SweepLemmas.{Swept, Swept-start, Swept-on, Swept-to, Swept-next, Swept-removed}
-use Rattle.slotmap_core.proofs.VisitLemmas.{Visits, Visits-listed, Visits-stay}
+use Rattle.slotmap_core.proofs.Contents.IndexLemmas.{from_index, alone_at}
+use Rattle.slotmap_core.proofs.Several.KeyedVisits.{Keyed-from_start, Keyed-next, Keyed-same, Keyed-may_come, Keyed-done}
+use Rattle.slotmap_core.proofs.Contents.LeaveLemmas.{same_live}
+use Rattle.slotmap_core.proofs.General.ListingLemmas.{remove-insert}
+use Rattle.slotmap_core.proofs.Contents.SweepLemmas.{Swept, Swept-start, Swept-on, Swept-to, Swept-next, Swept-removed}
+use Rattle.slotmap_core.proofs.Several.VisitLemmas.{Visits, Visits-listed, Visits-stay}
 
 module _ {F K V : Type 0} (g : Mut F (K × (MutBor V × Unit {0})) (Bool × (MutBor V × Unit {0}))) (data_of : K → Key) (old : Content V) (first : F) where
   -- what the calls so far did to the map
@@ -61,7 +61,7 @@ module _ {F K V : Type 0} (g : Mut F (K × (MutBor V × Unit {0})) (Bool × (Mut
         subst Going same (one_more written (Swept-on old written k.index swept_written) (rw stays refl))
 
     -- it is live until it is removed
-    pub still_live : (q : Key) → map.contains_key t.held.live q ≡ map.contains_key s.held.live q
+    still_live : (q : Key) → map.contains_key t.held.live q ≡ map.contains_key s.held.live q
     still_live q = ap (λ c. map.contains_key c.live q) calls.written ∙ same_live s.held k x.after is_live q
 
     -- the key is removed
@@ -74,7 +74,7 @@ module _ {F K V : Type 0} (g : Mut F (K × (MutBor V × Unit {0})) (Bool × (Mut
         (rw stays (gone.live ∙ remove-insert s.held.live k x.after)))
 
   -- calls that keep their keys
-  pub Going-along : (xs : List (Visit K V)) (s t : Stage F (Content V)) → Going s → FoldsTo (Keeps (by_index data_of) g) s xs t → Going t
+  pub Going-along : (xs : List (Visit K V)) (s t : Stage F (Content V)) → Going s → FoldsTo (Stays (by_index data_of) g) s xs t → Going t
   Going-along [] s t going run = subst Going run going
   Going-along (x ∷ xs) s t going run = Going-along xs run.0 t (Going-kept s run.0 x going run.1.calls run.1.stays) run.2
 
@@ -157,7 +157,7 @@ module _ {F K V : Type 0} (g : Mut F (K × (MutBor V × Unit {0})) (Bool × (Mut
     Rejected-within = omega (arith, rejected.here, rejected.going.well.within out (inl (inl (rejected.going.swept.leaves.no_more out found))))
 
   -- a pass goes on
-  Keeps-on : (xs : List (Visit K V)) (s t : Stage F (Content V)) → FoldsTo (Keeps (by_index data_of) g) s xs t → s.position ≤ t.position
+  Keeps-on : (xs : List (Visit K V)) (s t : Stage F (Content V)) → FoldsTo (Stays (by_index data_of) g) s xs t → s.position ≤ t.position
   Keeps-on [] s t run = omega (arith, ap (λ u. u.position) run)
   Keeps-on (x ∷ xs) s t run =
       omega (arith, run.1.calls.shows.from, run.1.calls.moves ∙ ap (past_index (data_of x.key)) run.1.stays, Keeps-on xs run.0 t run.2)

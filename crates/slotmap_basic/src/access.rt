@@ -160,7 +160,7 @@ impl<K: Key, V: Drop> SlotMap<K, V> {
             return Err(values);
         }
         for i in 0..N {
-            self.exchange(keys[i], &mut values[i]);
+            self.swap_value(keys[i], &mut values[i]);
         }
         Ok(values)
     }
@@ -181,7 +181,7 @@ impl<K: Key, V: Drop> SlotMap<K, V> {
     }
 
     // Exchanges the value of a live key for another.
-    fn exchange(&mut self, key: K, value: &mut V)
+    fn swap_value(&mut self, key: K, value: &mut V)
         requires { IsLive self.old (K.data_of key) }
         ensures put { self.new ≡ with_value self.old (K.data_of key) value.old }
         ensures taken { map.get self.old.live (K.data_of key) ≡ Some value.new }

@@ -7,7 +7,7 @@ ghost use Rattle.slotmap_core.specs.Listing.{ListsByIndex};
 
 use crate::SlotMap;
 use slotmap_core::keys::Key;
-use slotmap_core::slots::SlotIntoIter;
+use slotmap_slots::slots::SlotIntoIter;
 use std::alloc::AllocError;
 use std::fmt;
 use std::iter::FusedIterator;

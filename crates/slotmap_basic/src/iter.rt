@@ -8,7 +8,7 @@ ghost use Rattle.slotmap_core.specs.Listing.{IsListing, IsKeyListing, IsValueLis
 
 use crate::SlotMap;
 use slotmap_core::keys::Key;
-use slotmap_core::slots::SlotIter;
+use slotmap_slots::slots::SlotIter;
 use std::alloc::AllocError;
 use std::fmt;
 use std::iter::FusedIterator;

@@ -83,9 +83,9 @@ module _ {V : Type 0} where
     pub within : (k : Key) → Uses c k → (1 ≤ k.index) × (k.index ≤ places c)
     pub vacant : (i : ℕ) → IsVacant c i → (1 ≤ i) × (i ≤ places c)
     pub apart : (a b : Key) → Uses c a → Uses c b → a.index ≡ b.index → a ≡ b
-    pub live_or_detached : (k : Key) → IsLive c k → IsDetached c k → ⊥
-    pub stands_or_retired : (k : Key) → Stands c k → IsRetired c k → ⊥
-    pub used_or_vacant : (k : Key) → Uses c k → IsVacant c k.index → ⊥
+    pub not_live_and_detached : (k : Key) → IsLive c k → IsDetached c k → ⊥
+    pub not_standing_and_retired : (k : Key) → Stands c k → IsRetired c k → ⊥
+    pub not_used_and_vacant : (k : Key) → Uses c k → IsVacant c k.index → ⊥
     pub limit : places c ≤ most
     pub offers : used c < most → (map.get c.next c.offer.index ≡ Some c.offer.version) ⊎ ((map.len c.next ≡ 0) × (c.offer.index ≡ places c + 1) × (c.offer.version ≡ 1))
     pub stacked : (stack : List ℕ) → c.stack ≡ Some stack → IsStack c stack

@@ -3,7 +3,7 @@ use Rattle.std.specs.Prelude.{◌≡◌, ◌^◌, ◌<◌, Option, Some, None, L
 use Rattle.std.specs.FinMap as map
 use Rattle.slotmap_core.specs.Key.{Key, key_cmp}
 use Rattle.slotmap_core.specs.Content.{Content, places}
-use Rattle.slotmap_core.specs.Machine.{IsHeld, empty_state}
+use Rattle.slotmap_core.specs.Machine.{StandsIn, empty_state}
 use Rattle.slotmap_core.specs.Run.{Run}
 use Rattle.slotmap_core.specs.Fit.{Fits}
 use Rattle.slotmap_core.specs.Secondary.{Pairs}
@@ -42,22 +42,22 @@ module _ {K V W R : Type 0} (given : Given K W R) where
   noted keys d _ _ = d
 
   -- the reply to a command on a live or detached key is the dictionary's
-  abbrev pub Tells : Joined K V W → Dictionary W → JoinedCommand V W → JoinedReply K V W R → Type 0
-  Tells s d (command.Put n w) (reply.Old before) = (k : K) → named s.keys n ≡ Some k → IsHeld s.primary (given.data_of k) → before ≡ map.get d (given.data_of k)
-  Tells s d (command.Look n) (reply.Looked seen) = (k : K) → named s.keys n ≡ Some k → IsHeld s.primary (given.data_of k) → LooksAt given.looks (map.get d (given.data_of k)) seen
-  Tells s d (command.Take n) (reply.TakenSecond taken) = (k : K) → named s.keys n ≡ Some k → IsHeld s.primary (given.data_of k) → taken ≡ map.get d (given.data_of k)
-  Tells s d _ _ = Unit {0}
+  abbrev pub RepliesByDictionary : Joined K V W → Dictionary W → JoinedCommand V W → JoinedReply K V W R → Type 0
+  RepliesByDictionary s d (command.Put n w) (reply.Old before) = (k : K) → named s.keys n ≡ Some k → StandsIn s.primary (given.data_of k) → before ≡ map.get d (given.data_of k)
+  RepliesByDictionary s d (command.Look n) (reply.Looked seen) = (k : K) → named s.keys n ≡ Some k → StandsIn s.primary (given.data_of k) → LooksAt given.looks (map.get d (given.data_of k)) seen
+  RepliesByDictionary s d (command.Take n) (reply.TakenSecond taken) = (k : K) → named s.keys n ≡ Some k → StandsIn s.primary (given.data_of k) → taken ≡ map.get d (given.data_of k)
+  RepliesByDictionary s d _ _ = Unit {0}
 
   -- a step of the two maps, told and noted by the dictionary
-  pub record TellingStep (old : WithDictionary K V W) (c : JoinedCommand V W) (r : JoinedReply K V W R) (new : WithDictionary K V W) : Type 0 where
+  pub record DictionaryStep (old : WithDictionary K V W) (c : JoinedCommand V W) (r : JoinedReply K V W R) (new : WithDictionary K V W) : Type 0 where
     pub steps : Step given old.joined c r new.joined
-    pub tells : Tells old.joined old.dictionary c r
+    pub by_dictionary : RepliesByDictionary old.joined old.dictionary c r
     pub notes : new.dictionary ≡ noted old.joined.keys old.dictionary c r
 
   -- the same for a primary map whose keys can be detached; that changes nothing in the dictionary
-  abbrev pub DetachTellingStep : WithDictionary K V W → JoinedDetachCommand V W → JoinedReply K V W R → WithDictionary K V W → Type 0
-  DetachTellingStep old (detaching.Plain c) r new = TellingStep old c r new
-  DetachTellingStep old c r new = DetachStep given old.joined c r new.joined × (new.dictionary ≡ old.dictionary)
+  abbrev pub DetachDictionaryStep : WithDictionary K V W → JoinedDetachCommand V W → JoinedReply K V W R → WithDictionary K V W → Type 0
+  DetachDictionaryStep old (detaching.Plain c) r new = DictionaryStep old c r new
+  DetachDictionaryStep old c r new = DetachStep given old.joined c r new.joined × (new.dictionary ≡ old.dictionary)
 
 -- no slot was made, nothing was stored, and nothing was put under a key
 abbrev pub unused : {K V W : Type 0} → WithDictionary K V W
@@ -65,7 +65,7 @@ unused = record { joined = record { primary = empty_state; secondary = map.empty
 
 -- On two maps that were never used, the replies are a run that the dictionary tells. There have to be so few commands that no
 -- version counts as older than one below it
-abbrev pub RunsTold : {K V W C R : Type 0} → (WithDictionary K V W → C → R → WithDictionary K V W → Type 0) → Content V → Pairs W → List C → List R → Content V → Pairs W → Type 0
-RunsTold {K} {V} {W} Step old_first old_second commands replies new_first new_second =
+abbrev pub RunsByDictionary : {K V W C R : Type 0} → (WithDictionary K V W → C → R → WithDictionary K V W → Type 0) → Content V → Pairs W → List C → List R → Content V → Pairs W → Type 0
+RunsByDictionary {K} {V} {W} Step old_first old_second commands replies new_first new_second =
     places old_first ≡ 0 → old_second ≡ map.empty → length commands < 2 ^ 31
     → (t : WithDictionary K V W) × Run Step unused commands replies t × Fits t.joined.primary new_first × (t.joined.secondary ≡ new_second)

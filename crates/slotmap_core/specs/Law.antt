@@ -38,16 +38,16 @@ RemovedForGood {K} {V} {R} {E} {C} of commands replies =
     → looked ≡ None
 
 -- the command inserts
-abbrev pub Grows : {K V : Type 0} → Command K V → Type 0
-Grows (command.Insert v) = ⊤
-Grows command.InsertWith = ⊤
-Grows _ = ⊥
+abbrev pub NeedsRoom : {K V : Type 0} → Command K V → Type 0
+NeedsRoom (command.Insert v) = ⊤
+NeedsRoom command.InsertWith = ⊤
+NeedsRoom _ = ⊥
 
 -- the command inserts or reattaches
-abbrev pub DetachGrows : {K V : Type 0} → DetachCommand K V → Type 0
-DetachGrows (detaching.Plain c) = Grows c
-DetachGrows (detaching.Reattach k v) = ⊤
-DetachGrows (detaching.Detach k) = ⊥
+abbrev pub DetachNeedsRoom : {K V : Type 0} → DetachCommand K V → Type 0
+DetachNeedsRoom (detaching.Plain c) = NeedsRoom c
+DetachNeedsRoom (detaching.Reattach k v) = ⊤
+DetachNeedsRoom (detaching.Detach k) = ⊥
 
 -- the reply says that the map is full or memory ran out
 abbrev pub IsRefusal : {K V R E : Type 0} → Reply K V R E → Type 0
@@ -57,10 +57,10 @@ IsRefusal _ = ⊥
 
 -- once a Reserve of n succeeds, each of the next n commands that grow the map succeeds, whatever the others do
 abbrev pub ReserveHolds : {K V R E C : Type 0} → (Command K V → C) → (C → Type 0) → List C → List (Reply K V R E) → Type 0
-ReserveHolds {K} {V} {R} {E} {C} of Grows commands replies =
+ReserveHolds {K} {V} {R} {E} {C} of NeedsRoom commands replies =
     (before between after : List C) (told_before told_between told_after : List (Reply K V R E)) (n : ℕ) (c : C) (answer : Reply K V R E)
     → length before ≡ length told_before → length between ≡ length told_between
-    → length between < n → Grows c
+    → length between < n → NeedsRoom c
     → commands ≡ before ++ of (command.Reserve n) ∷ (between ++ c ∷ after)
     → replies ≡ told_before ++ reply.Done ∷ (told_between ++ answer ∷ told_after)
     → IsRefusal answer → ⊥
@@ -110,13 +110,13 @@ module _ {K V R E : Type 0} (data_of : K → Key) where
   pub record Laws (commands : List (Command K V)) (replies : List (Reply K V R E)) : Type 0 where
     pub no_key_twice : NoKeyTwice data_of replies
     pub removed_for_good : RemovedForGood (λ command. command) commands replies
-    pub reserve_holds : ReserveHolds (λ command. command) Grows commands replies
+    pub reserve_holds : ReserveHolds (λ command. command) NeedsRoom commands replies
 
   -- the same on a map whose keys can be detached
   pub record DetachLaws (reuses : Bool) (commands : List (DetachCommand K V)) (replies : List (Reply K V R E)) : Type 0 where
     pub no_key_twice : NoKeyTwice data_of replies
     pub removed_for_good : RemovedForGood detaching.Plain commands replies
-    pub reserve_holds : ReserveHolds detaching.Plain DetachGrows commands replies
+    pub reserve_holds : ReserveHolds detaching.Plain DetachNeedsRoom commands replies
     pub not_reissued : DetachedNotReissued data_of commands replies
     pub reattaches : DetachedReattaches data_of reuses commands replies
     pub binds : ReattachBinds commands replies

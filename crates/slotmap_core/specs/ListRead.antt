@@ -1,7 +1,7 @@
 -- The content of a map that was read from a list of slots, and the runs and lists that go on from there.
 use Rattle.std.specs.Prelude.{Bool, List}
 use Rattle.slotmap_core.specs.Content.{Content, IsContent}
-use Rattle.slotmap_core.specs.Contents.{StartsFrom, start_state}
+use Rattle.slotmap_core.specs.FromList.{StartsFrom, start_state}
 use Rattle.slotmap_core.specs.Fit.{Fits}
 use Rattle.slotmap_core.specs.Written.{Writes, Restores, read_slots}
 use Rattle.slotmap_core.specs.declared.serial.SlotRecord.{SlotRecord}

@@ -64,12 +64,12 @@ module _ {V : Type 0} where
   live_value wanted (Some Retired) = None
 
   -- whether a place is detached under this version
-  abbrev pub is_kept : ℕ → Option (Place V) → Bool
-  is_kept wanted None = false
-  is_kept wanted (Some (Live version value)) = false
-  is_kept wanted (Some (Detached version)) = version == wanted
-  is_kept wanted (Some (Vacant next)) = false
-  is_kept wanted (Some Retired) = false
+  abbrev pub is_detached_at : ℕ → Option (Place V) → Bool
+  is_detached_at wanted None = false
+  is_detached_at wanted (Some (Live version value)) = false
+  is_detached_at wanted (Some (Detached version)) = version == wanted
+  is_detached_at wanted (Some (Vacant next)) = false
+  is_detached_at wanted (Some Retired) = false
 
   -- the place of a key once the key was removed: vacant, or retired after the last key
   abbrev pub left_by : Key → Place V

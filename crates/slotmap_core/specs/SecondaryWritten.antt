@@ -5,9 +5,9 @@ use Rattle.slotmap_core.specs.declared.serial.SlotRecord.{SlotRecord}
 
 module _ {V : Type 0} where
   -- the slot of an index that holds this
-  abbrev pub slot_of : Option (ℕ × V) → SlotRecord V
-  slot_of None = empty_slot 0
-  slot_of (Some p) = filled_slot p.0 p.1
+  abbrev pub record_of_pair : Option (ℕ × V) → SlotRecord V
+  record_of_pair None = empty_slot 0
+  record_of_pair (Some p) = filled_slot p.0 p.1
 
   -- what the index of a slot holds
   abbrev pub slot_pair : Option (SlotRecord V) → Option (ℕ × V)

@@ -45,15 +45,15 @@ module _ {V : Type 0} where
     pub same_places : places new ≡ places old
 
   -- the slot that a place is written as
-  abbrev pub slot_of : Place V → SlotRecord V
-  slot_of (Live version v) = filled_slot version v
-  slot_of (Detached version) = empty_slot (following_version version)
-  slot_of (Vacant next) = empty_slot (next - 1)
-  slot_of Retired = empty_slot 0
+  abbrev pub record_of : Place V → SlotRecord V
+  record_of (Live version v) = filled_slot version v
+  record_of (Detached version) = empty_slot (following_version version)
+  record_of (Vacant next) = empty_slot (next - 1)
+  record_of Retired = empty_slot 0
 
   -- the slots that places are written as, in order
-  abbrev pub slots_of : List (Place V) → List (SlotRecord V)
-  slots_of places = list_map slot_of places
+  abbrev pub records_of : List (Place V) → List (SlotRecord V)
+  records_of places = list_map record_of places
 
   -- the slots that a list is read as: the first version is read as 0
   abbrev pub read_slots : List (SlotRecord V) → List (SlotRecord V)

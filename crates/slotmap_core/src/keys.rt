@@ -58,7 +58,7 @@ impl KeyData {
     /// assert_eq!(rt; KeyData::new(2, 4), KeyData::new(2, 5));
     /// assert_eq!(rt; KeyData::new(4294967295, 9), KeyData::default());
     /// ```
-    #[tactic(auto, using(crate::proofs::Odd::or_one))]
+    #[tactic(auto, using(crate::proofs::General::Odd::or_one))]
     pub fn new(idx: u32, version: u32) -> KeyData
         ensures value { result ≡ key_from idx version }
         ensures valid { IsKey result }

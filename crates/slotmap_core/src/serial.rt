@@ -3,7 +3,7 @@
 //! A list has one `SlotRecord` for each slot of a map, from slot 0 on.
 
 ghost use Rattle.std.specs.Prelude.{◌≡◌, ◌↔◌, ◌^◌, ◌<◌, length, IsTrue, IsOk, IfErr, OnOk};
-ghost use Rattle.slotmap_core.specs.Slots.{IsConsistent, Accepts, AllFitBelow, Refuses};
+ghost use Rattle.slotmap_core.specs.Accepted.{IsConsistent, Accepts, AllFitBelow, RefusesList};
 
 use crate::errors::SlotsError;
 
@@ -68,7 +68,7 @@ impl<V> SlotRecord<V> {
 /// ```
 pub fn check_slots<V>(list: &[SlotRecord<V>], limit: usize) -> Result<(), SlotsError>
     ensures ok { IsOk result ↔ Accepts list.now limit }
-    ensures err { IfErr result (Refuses list.now limit) }
+    ensures err { IfErr result (RefusesList list.now limit) }
 
     // For a caller that goes on to read the list: each version has 32 bits.
     ensures versions_fit { OnOk result (AllFitBelow list.now (length list.now)) }

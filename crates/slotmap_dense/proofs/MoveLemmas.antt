@@ -8,10 +8,10 @@ use Rattle.std.proofs.lemmas.Grind.{common_steps}
 use Rattle.slotmap_core.specs.Key.{Key, IsKey}
 use Rattle.slotmap_core.specs.Content.{Content, IsContent, IsDetached, used, most}
 use Rattle.slotmap_core.specs.Transition.{Inserts, Removes, Detaches, Reattaches}
-use Rattle.slotmap_core.proofs.AgainLemmas.{offer_unused}
-use Rattle.slotmap_core.proofs.Maps.{none_of, false_of}
+use Rattle.slotmap_core.proofs.Contents.UndoLemmas.{offer_unused}
+use Rattle.slotmap_core.proofs.General.Maps.{none_of, false_of}
 use Rattle.slotmap_dense.specs.Packed.{IsPacked, IsSound, live_of, dense_of}
-use Rattle.slotmap_dense.proofs.ListLemmas.{length-swap_remove}
+use Rattle.slotmap_dense.proofs.SwapRemoveLemmas.{length-swap_remove}
 use Rattle.slotmap_dense.proofs.PackedLemmas.{live-push, rest-closed, IsPacked-push}
 use Rattle.slotmap_dense.proofs.WellFormed.{same_keys}
 
@@ -25,7 +25,7 @@ new_not_live c d k v well ins =
     rw ins.offered (none_of (map.get c.live c.offer) (false_of (map.contains_key c.live c.offer) (λ there. offer_unused c well ins.below_limit (inl (inl there)))))
 
 pub kept_not_live : {reuses : Bool} {V : Type 0} (c : Content V) (k : Key) → IsContent reuses c → IsDetached c k → map.get c.live k ≡ None
-kept_not_live c k well kept = none_of (map.get c.live k) (false_of (map.contains_key c.live k) (λ there. well.live_or_detached k there kept))
+kept_not_live c k well kept = none_of (map.get c.live k) (false_of (map.contains_key c.live k) (λ there. well.not_live_and_detached k there kept))
 
 -- k is appended to the list, at the position that the slots have for it
 module _ {V : Type 0} (slots : Content ℕ) (keys : List Key) (values : List V) (sound : IsSound slots keys values) (new : Content ℕ) (k : Key) (v : V) (none : map.get slots.live k ≡ None) where

@@ -3,7 +3,7 @@ use Rattle.std.proofs.Common.{◌≡◌, ℕ, ◌+◌, ◌≤◌, true, false, a
 use Rattle.std.specs.FinMap as map
 use Rattle.slotmap_core.specs.Key.{Key, key_cmp}
 use Rattle.slotmap_core.specs.Content.{Content, IsContent}
-use Rattle.slotmap_core.proofs.CloneLemmas.{IsContent-with_live}
+use Rattle.slotmap_core.proofs.Contents.CloneLemmas.{IsContent-with_live}
 use Rattle.slotmap_dense.specs.Packed.{over}
 
 -- both maps have the same keys

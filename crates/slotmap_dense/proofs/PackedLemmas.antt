@@ -11,13 +11,13 @@ use Rattle.std.specs.FinMap as map
 use Rattle.std.specs.FinMap.Entries.{find}
 use Rattle.slotmap_core.specs.Key.{Key, key_cmp}
 use Rattle.slotmap_core.specs.Listing.{IsListing}
-use Rattle.slotmap_core.proofs.KeyLemmas.{keys_total, exact_keys, tied, itself}
-use Rattle.slotmap_core.proofs.Maps.{get_after_insert, get_after_remove, get_left, get_removed, len_inserted, len_removed, same_at, get_inserted, get_other}
-use Rattle.slotmap_core.proofs.GatherLemmas.{slice_get-set_same, slice_get-set_other, slice_get_push, slice_get_push_other, at_push}
+use Rattle.slotmap_core.proofs.General.KeyLemmas.{keys_total, exact_keys, tied, itself}
+use Rattle.slotmap_core.proofs.General.Maps.{get_after_insert, get_after_remove, get_left, get_removed, len_inserted, len_removed, same_at, get_inserted, get_other}
+use Rattle.slotmap_core.proofs.General.GatherLemmas.{slice_get-set_same, slice_get-set_other, slice_get_push, slice_get_push_other, at_push}
 use Rattle.slotmap_dense.specs.Dense.{put_beside}
 use Rattle.slotmap_dense.specs.Packed.{IsPacked, IsGapped, live_of, at_position}
 use Rattle.slotmap_dense.specs.Rest.{rest_of}
-use Rattle.slotmap_dense.proofs.ListLemmas.{length-swap_remove, swap_remove_there, swap_remove_other, zip-push, find-there, find-absent, len-zip, put_beside-at}
+use Rattle.slotmap_dense.proofs.SwapRemoveLemmas.{length-swap_remove, swap_remove_there, swap_remove_other, zip-push, find-there, find-absent, len-zip, put_beside-at}
 
 slice_get-drop : {X : Type 0} (n : ℕ) (xs : List X) (i : ℕ) → slice_get (drop n xs) i ≡ slice_get xs (n + i)
 slice_get-drop n xs i = grind (arith, gets, length-drop n xs, get_or-drop n xs i, slice_get_cases xs (n + i), slice_get_cases (drop n xs) i)
@@ -32,7 +32,7 @@ module _ (positions : map.FinMap key_cmp ℕ) (keys : List Key) (packed : IsPack
   pub once : (k : Key) (i j : ℕ) → slice_get keys i ≡ Some k → slice_get keys j ≡ Some k → j ≡ i
   once k i j at_i at_j = grind (arith, packed.names i k at_i, packed.names j k at_j)
 
-  pub absent_key : (k : Key) → map.get positions k ≡ None → (j : ℕ) → slice_get keys j ≡ Some k → ⊥
+  absent_key : (k : Key) → map.get positions k ≡ None → (j : ℕ) → slice_get keys j ≡ Some k → ⊥
   absent_key k none j there = grind (arith, packed.names j k there)
 
   -- a key that has a position is there in the list

@@ -11,13 +11,13 @@ use Rattle.std.specs.Option.{option_map}
 use Rattle.std.specs.FinMap as map
 use Rattle.slotmap_core.specs.Content.{Content}
 use Rattle.slotmap_core.specs.Key.{Key}
-use Rattle.slotmap_core.specs.Pass.{Stage, stage, Calls, Keeps, Rejects, Passes, MayPass}
+use Rattle.slotmap_slots.specs.Pass.{Stage, stage, Calls, Stays, Rejects, Passes, MayPass}
 use Rattle.slotmap_core.specs.Retain.{Visit, CallsAt, CallableOnEach}
 use Rattle.slotmap_core.specs.Transition.{Leaves}
-use Rattle.slotmap_core.proofs.ListingLemmas.{remove-insert}
-use Rattle.slotmap_core.proofs.LeaveLemmas.{Leaves-refl, Leaves-trans, Leaves-with_value, Leaves-removed, same_live}
-use Rattle.slotmap_core.proofs.PassLemmas.{Lifts}
-use Rattle.slotmap_core.proofs.VisitLemmas.{CallsAt-called, Visits, Visits-start, Visits-call, Visits-rest, Visits-listed, Visits-stay}
+use Rattle.slotmap_core.proofs.General.ListingLemmas.{remove-insert}
+use Rattle.slotmap_core.proofs.Contents.LeaveLemmas.{Leaves-refl, Leaves-trans, Leaves-with_value, Leaves-removed, same_live}
+use Rattle.slotmap_slots.proofs.PassLemmas.{Lifts}
+use Rattle.slotmap_core.proofs.Several.VisitLemmas.{CallsAt-called, Visits, Visits-start, Visits-call, Visits-rest, Visits-listed, Visits-stay}
 use Rattle.slotmap_dense.specs.Dense.{Dense, IsDense, with_value_of}
 use Rattle.slotmap_dense.specs.Packed.{IsSound, dense_of, at_position}
 use Rattle.slotmap_dense.specs.Pass.{beside, packed_order}
@@ -131,7 +131,7 @@ module _ {F K V : Type 0} (g : Mut F (K × (MutBor V × Unit {0})) (Bool × (Mut
           (SoFar-dropped data_of old s.held going.visits s.position going.so_far x calls.shows.0.stands new stays gone.keys gone.removes.stack))
 
     -- calls that keep their pairs
-    pub Going-along : (xs : List (Visit K V)) (s t : Stage F (Dense V)) → Going s → FoldsTo (Keeps (packed_order data_of) g) s xs t → Going t
+    pub Going-along : (xs : List (Visit K V)) (s t : Stage F (Dense V)) → Going s → FoldsTo (Stays (packed_order data_of) g) s xs t → Going t
     Going-along [] s t going run = subst Going run going
     Going-along (x ∷ xs) s t going run = Going-along xs run.0 t (Going-kept s run.0 x going run.1.calls run.1.stays) run.2
 

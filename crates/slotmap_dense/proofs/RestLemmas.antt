@@ -5,9 +5,9 @@ use Rattle.std.proofs.lemmas.List.{drop_all}
 use Rattle.std.specs.FinMap as map
 use Rattle.slotmap_core.specs.Content.{Content}
 use Rattle.slotmap_core.specs.Key.{Key}
-use Rattle.slotmap_core.proofs.GatherLemmas.{slice_get-set_other}
-use Rattle.slotmap_core.proofs.KeyLemmas.{keys_total, exact_keys}
-use Rattle.slotmap_core.proofs.Maps.{get_left, get_removed, same_at}
+use Rattle.slotmap_core.proofs.General.GatherLemmas.{slice_get-set_other}
+use Rattle.slotmap_core.proofs.General.KeyLemmas.{keys_total, exact_keys}
+use Rattle.slotmap_core.proofs.General.Maps.{get_left, get_removed, same_at}
 use Rattle.slotmap_dense.specs.Dense.{Dense, IsDense}
 use Rattle.slotmap_dense.specs.Packed.{IsSound, live_of, dense_of}
 use Rattle.slotmap_dense.specs.Rest.{rest_of, Comes}

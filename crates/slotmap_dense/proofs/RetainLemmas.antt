@@ -6,7 +6,7 @@ use Rattle.slotmap_core.specs.Retain.{Visit}
 use Rattle.slotmap_core.specs.Transition.{pushed, pushed_all}
 use Rattle.slotmap_dense.specs.Dense.{Dense}
 use Rattle.slotmap_dense.specs.Retain.{dropped, PacksBy}
-use Rattle.slotmap_dense.proofs.SweepLemmas.{none_pushed, pushed_on}
+use Rattle.slotmap_dense.proofs.FromBackLemmas.{none_pushed, pushed_on}
 
 module _ {K V : Type 0} (data_of : K → Key) where
   dropped_push : (xs : List (Visit K V)) (x : Visit K V) → dropped data_of (xs ++ x ∷ []) ≡ dropped data_of xs ++ cond x.stays [] (data_of x.key ∷ [])

@@ -7,14 +7,14 @@ use Rattle.slotmap_dense.specs.Dense.{Dense, IsDense, SameOrder}
 
 module _ {V : Type 0} where
   -- a call that allocates nothing: the map was and is well formed, and its capacity stays
-  pub record StaysValid (old new : Dense V) : Type 0 where
+  pub record StaysDense (old new : Dense V) : Type 0 where
     pub before : IsDense old
     pub after : IsDense new
     pub capacity : new.content.capacity ≡ old.content.capacity
 
   -- A call that may allocate room for one more key: the map was and is well formed, and no capacity is lost. If the call
   -- fails, the map holds what it held, in the same order
-  pub record MayGrow (old : Dense V) (refused : Type 0) (new : Dense V) : Type 0 where
+  pub record GrowsDense (old : Dense V) (refused : Type 0) (new : Dense V) : Type 0 where
     pub before : IsDense old
     pub after : IsDense new
     pub capacity : old.content.capacity ≤ new.content.capacity
@@ -22,7 +22,7 @@ module _ {V : Type 0} where
     pub same_order : refused → SameOrder old new
 
   -- a call that reserves room for n more keys, where `ok` says that it succeeds
-  pub record MakesRoom (old : Dense V) (n : ℕ) (ok : Type 0) (new : Dense V) : Type 0 where
+  pub record MakesDenseRoom (old : Dense V) (n : ℕ) (ok : Type 0) (new : Dense V) : Type 0 where
     pub before : IsDense old
     pub after : IsDense new
     -- n more keys then fit: within the limit, within the capacity, and without allocating

@@ -43,8 +43,8 @@ module _ (K V : RattleType) (key : KeyMembers K.Denot) where
   lends_values m r = Lends map_row (Array V 0) m r (with_values_in m.now)
 
   -- the same for the loan with this name
-  abbrev pub lends_walk : MutBor (Dense V.Denot) → GName → Fml
-  lends_walk m name = follows map_row (Array V 0) m.ghost_name name (with_values_in m.now)
+  abbrev pub lends_iter : MutBor (Dense V.Denot) → GName → Fml
+  lends_iter m name = follows map_row (Array V 0) m.ghost_name name (with_values_in m.now)
 
 -- once the borrows of two elements of a slice end, the elements are the values last written through them
 abbrev pub lends_two : (V : RattleType) → MutBor (List V.Denot) → ℕ → ℕ → MutBor V.Denot × MutBor V.Denot → Fml

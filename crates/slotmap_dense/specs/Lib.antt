@@ -4,6 +4,6 @@ pub mod Packed
 pub mod Lends
 pub mod Rest
 pub mod Drain
-pub mod WalkMut
+pub mod IterMut
 pub mod Retain
 pub mod Pass

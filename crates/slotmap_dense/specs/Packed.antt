@@ -59,5 +59,5 @@ module _ {V : Type 0} where
   at_position values (Some i) = slice_get values i
 
   -- the record of a slot, with the value at its position
-  abbrev pub filled : List V → SlotRecord ℕ → SlotRecord V
-  filled values r = record { value = at_position values r.value; version = r.version }
+  abbrev pub with_packed_value : List V → SlotRecord ℕ → SlotRecord V
+  with_packed_value values r = record { value = at_position values r.value; version = r.version }

@@ -2,7 +2,7 @@
 use Rattle.std.specs.Prelude.{◌≡◌, ◌≤◌, ◌+◌, List, length, Some, slice_get, slice_set, if◌then◌else◌}
 use Rattle.std.specs.FinMap as map
 use Rattle.slotmap_core.specs.Key.{Key}
-use Rattle.slotmap_core.specs.Pass.{Holding}
+use Rattle.slotmap_slots.specs.Pass.{Holding}
 use Rattle.slotmap_dense.specs.Dense.{Dense, with_value_of}
 use Rattle.slotmap_dense.specs.Rest.{Comes}
 

@@ -8,7 +8,7 @@ ghost use Rattle.slotmap_core.specs.Content.{IsLive};
 ghost use Rattle.slotmap_core.specs.Several.{CanReplace, AreValuesOf, with_values};
 ghost use Rattle.slotmap_dense.specs.Dense.{IsDense, value_of, with_value_of};
 ghost use Rattle.slotmap_dense.specs.Lends.{lends_two};
-ghost use Rattle.slotmap_dense.specs.Call.{StaysValid};
+ghost use Rattle.slotmap_dense.specs.Call.{StaysDense};
 
 use crate::DenseSlotMap;
 use slotmap_core::keys::Key;
@@ -145,7 +145,7 @@ impl<K: Key, V: Drop> DenseSlotMap<K, V> {
         ensures replaces { OnOk result (self.new ≡ with_value_of self.old (K.data_of key) value) }
         ensures err { IfErr result (λ back. ¬ (IsLive self.old.content (K.data_of key)) × (back ≡ value)) }
         ensures unchanged { OnErr result (self.new ≡ self.old) }
-        ensures valid { StaysValid self.old self.new }
+        ensures valid { StaysDense self.old self.new }
     {
         match self.get_mut(key) {
             Some(place) => Ok(mem::replace(place, value)),
@@ -176,7 +176,7 @@ impl<K: Key, V: Drop> DenseSlotMap<K, V> {
         ensures err { IfErr result (λ back. back ≡ values) }
         ensures unchanged { OnErr result (self.new ≡ self.old) }
 
-        ensures valid { StaysValid self.old self.new }
+        ensures valid { StaysDense self.old self.new }
     {
         self.note_valid();
         if !self.can_replace(&keys) {

@@ -5,7 +5,7 @@ ghost use Rattle.std.specs.FinMap as map;
 ghost use Rattle.slotmap_core.specs.Transition.{Detaches, Reattaches};
 ghost use Rattle.slotmap_core.specs.Refusal.{RefusesReattach};
 ghost use Rattle.slotmap_dense.specs.Dense.{Appends, ClosesGap};
-ghost use Rattle.slotmap_dense.specs.Call.{StaysValid, MayGrow};
+ghost use Rattle.slotmap_dense.specs.Call.{StaysDense, GrowsDense};
 
 use crate::remove::close_gap;
 use crate::{DenseSlotMap, make_room_in};
@@ -34,7 +34,7 @@ impl<K: Key, V: Drop> DenseSlotMap<K, V> {
         ensures order { IfSome result (λ value. ClosesGap self.old (K.data_of key) value self.new) }
         ensures live { self.new.content.live ≡ map.remove self.old.content.live (K.data_of key) }
         ensures unchanged { IfNone result (self.new ≡ self.old) }
-        ensures valid { StaysValid self.old self.new }
+        ensures valid { StaysDense self.old self.new }
     {
         let position = self.slots.detach(key.data())?;
         Some(close_gap(&mut self.slots, &mut self.keys, &mut self.values, position))
@@ -58,7 +58,7 @@ impl<K: Key, V: Drop> DenseSlotMap<K, V> {
         ensures ok { OnOk result (Reattaches self.old.content (K.data_of key) value self.new.content) }
         ensures order { OnOk result (Appends self.old (K.data_of key) value self.new) }
         ensures err { IfErr result (λ error. RefusesReattach false self.old.content (K.data_of key) value error) }
-        ensures valid { MayGrow self.old (IsErr result) self.new }
+        ensures valid { GrowsDense self.old (IsErr result) self.new }
     {
         let data = key.data();
         if !self.slots.is_detached(data) {

@@ -5,7 +5,7 @@ ghost use Rattle.slotmap_core.specs.Content.{used, most};
 ghost use Rattle.slotmap_core.specs.Transition.{Inserts};
 ghost use Rattle.slotmap_core.specs.Refusal.{Refuses, RefusesInsert, RefusesWith};
 ghost use Rattle.slotmap_dense.specs.Dense.{Appends};
-ghost use Rattle.slotmap_dense.specs.Call.{StaysValid, MayGrow, MakesRoom};
+ghost use Rattle.slotmap_dense.specs.Call.{StaysDense, GrowsDense, MakesDenseRoom};
 
 use crate::DenseSlotMap;
 use slotmap_core::errors::{InsertError, InsertWithError, ReserveError, TryInsertError};
@@ -23,7 +23,7 @@ impl<K: Key, V: Drop> DenseSlotMap<K, V> {
     // Makes room for one more key, and returns the key that the next insert returns.
     #[inline(always)]
     fn offer(&mut self) -> Result<K, InsertWithError>
-        ensures makes_room { MakesRoom self.old 1 (IsOk result) self.new }
+        ensures makes_room { MakesDenseRoom self.old 1 (IsOk result) self.new }
         ensures key { IfOk result (λ key. K.data_of key ≡ self.old.content.offer) }
         ensures err { IfErr result (RefusesInsert self.old.content) }
     {
@@ -40,7 +40,7 @@ impl<K: Key, V: Drop> DenseSlotMap<K, V> {
         requires { 0 < self.old.content.room }
         ensures inserts { Inserts self.old.content (K.data_of result) value self.new.content }
         ensures order { Appends self.old (K.data_of result) value self.new }
-        ensures valid { StaysValid self.old self.new }
+        ensures valid { StaysDense self.old self.new }
     {
         let position = self.keys.len() as u32;
         let key = K::from(self.slots.fill(position));
@@ -71,7 +71,7 @@ impl<K: Key, V: Drop> DenseSlotMap<K, V> {
         ensures order { IfOk result (λ key. Appends self.old (K.data_of key) value self.new) }
         ensures err { IfErr result (λ error. Refuses self.old.content value error) }
 
-        ensures valid { MayGrow self.old (IsErr result) self.new }
+        ensures valid { GrowsDense self.old (IsErr result) self.new }
     {
         match self.reserve(1) {
             Ok(()) => {}
@@ -100,7 +100,7 @@ impl<K: Key, V: Drop> DenseSlotMap<K, V> {
             × Inserts self.old.content (K.data_of key) v self.new.content × Appends self.old (K.data_of key) v self.new) }
         ensures err { IfErr result (RefusesInsert self.old.content) }
 
-        ensures valid { MayGrow self.old (IsErr result) self.new }
+        ensures valid { GrowsDense self.old (IsErr result) self.new }
     {
         let key = self.offer()?;
         let value = f(key);
@@ -128,7 +128,7 @@ impl<K: Key, V: Drop> DenseSlotMap<K, V> {
             × Inserts self.old.content (K.data_of key) v self.new.content × Appends self.old (K.data_of key) v self.new) }
         ensures err { IfErr result (λ error. RefusesWith K.data_of (F.post f) self.old.content error) }
 
-        ensures valid { MayGrow self.old (IsErr result) self.new }
+        ensures valid { GrowsDense self.old (IsErr result) self.new }
     {
         let key = match self.offer() {
             Ok(key) => key,

@@ -7,8 +7,8 @@ ghost use Rattle.std.specs.Iterator.{at_most, UpTo};
 ghost use Rattle.std.specs.Iterator.Runs.{YieldsMutRefsInOrder};
 ghost use Rattle.std.specs.List.{zip};
 ghost use Rattle.slotmap_dense.specs.Dense.{IsDense};
-ghost use Rattle.slotmap_dense.specs.WalkMut.{iter_mut_rest, iter_mut_name, iter_mut_steps, IterMutCanStep, StartsIterMut, values_mut_rest, values_mut_name, values_mut_steps};
-ghost use Rattle.slotmap_dense.specs.Lends.{lends_walk};
+ghost use Rattle.slotmap_dense.specs.IterMut.{iter_mut_rest, iter_mut_name, iter_mut_steps, IterMutCanStep, StartsIterMut, values_mut_rest, values_mut_name, values_mut_steps};
+ghost use Rattle.slotmap_dense.specs.Lends.{lends_iter};
 
 use crate::DenseSlotMap;
 use slotmap_core::keys::Key;
@@ -157,7 +157,7 @@ impl<K: Key, V: Drop> DenseSlotMap<K, V> {
     /// assert_eq!(rt; map.get(a), Some(&11));
     /// ```
     pub fn iter_mut(&mut self) -> IterMut<'_, K, V>
-        ensures* writes_back { sem 𝓛 (lends_walk K.row V.row K.Key self.entry (iter_mut_name result)) }
+        ensures* writes_back { sem 𝓛 (lends_iter K.row V.row K.Key self.entry (iter_mut_name result)) }
         ensures in_order { iter_mut_rest K.data_of result ≡ zip self.old.keys self.old.values }
         ensures ready { IterMutCanStep result }
         ensures valid { IsDense self.old }
@@ -180,7 +180,7 @@ impl<K: Key, V: Drop> DenseSlotMap<K, V> {
     /// assert_eq!(rt; map.get(b), Some(&12));
     /// ```
     pub fn values_mut(&mut self) -> ValuesMut<'_, K, V>
-        ensures* writes_back { sem 𝓛 (lends_walk K.row V.row K.Key self.entry (values_mut_name result)) }
+        ensures* writes_back { sem 𝓛 (lends_iter K.row V.row K.Key self.entry (values_mut_name result)) }
         ensures in_order { values_mut_rest result ≡ self.old.values }
         ensures runs { YieldsMutRefsInOrder (values_mut_steps {K = K} {V = V}) values_mut_rest }
         ensures valid { IsDense self.old }
@@ -200,7 +200,7 @@ impl<'a, K: Key, V: Drop> IntoIterator for &'a mut DenseSlotMap<K, V> {
     ghost into_iter_gives = { λ m it. StartsIterMut K.data_of m.now it };
 
     fn into_iter(self) -> IterMut<'a, K, V>
-        ensures* writes_back { sem 𝓛 (lends_walk K.row V.row K.Key self.entry (iter_mut_name result)) }
+        ensures* writes_back { sem 𝓛 (lends_iter K.row V.row K.Key self.entry (iter_mut_name result)) }
         ensures into_iter_gives { StartsIterMut K.data_of self.old result }
     {
         self.iter_mut()

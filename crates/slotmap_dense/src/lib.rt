@@ -21,9 +21,10 @@ ghost use Rattle.slotmap_core.specs.Transition.{IsNew};
 ghost use Rattle.slotmap_core.specs.Refusal.{RefusesCapacity};
 ghost use Rattle.slotmap_core.specs.Call.{MakesRoom as SlotsMakeRoom};
 ghost use Rattle.slotmap_dense.specs.Dense.{IsDense, IsEmpty};
-ghost use Rattle.slotmap_dense.specs.Call.{MakesRoom};
+ghost use Rattle.slotmap_dense.specs.Call.{MakesDenseRoom};
 
 mod access;
+mod clear;
 mod clone;
 mod detach;
 mod drain;
@@ -31,11 +32,11 @@ mod insert;
 mod into_iter;
 mod iter;
 mod iter_mut;
+mod list;
 mod primary;
 mod remove;
 mod retain;
 mod slices;
-mod slots;
 
 pub use drain::Drain;
 pub use into_iter::IntoIter;
@@ -43,8 +44,8 @@ pub use iter::{Iter, Keys, Values};
 pub use iter_mut::{IterMut, ValuesMut};
 use slotmap_core::errors::ReserveError;
 use slotmap_core::keys::{DefaultKey, Key};
-use slotmap_core::layout::Rows;
-use slotmap_core::slots::Slots;
+use slotmap_slots::layout::Rows;
+use slotmap_slots::slots::Slots;
 use std::alloc::{AllocError, Global};
 use std::fmt;
 use std::marker::Model;
@@ -292,7 +293,7 @@ impl<K: Key, V: Drop> DenseSlotMap<K, V> {
     /// ```
     #[inline(always)]
     pub fn reserve(&mut self, additional: usize) -> Result<(), ReserveError>
-        ensures makes_room { MakesRoom self.old additional (IsOk result) self.new }
+        ensures makes_room { MakesDenseRoom self.old additional (IsOk result) self.new }
         ensures err { IfErr result (RefusesCapacity (used self.old.content + additional)) }
     {
         make_room_in_slots(&mut self.slots, additional)?;
@@ -310,7 +311,7 @@ impl<K: Key, V: Drop> DenseSlotMap<K, V> {
     /// assert!(rt; matches!(map.try_reserve(4294967295), Err(ReserveError::TooGreat)));
     /// ```
     pub fn try_reserve(&mut self, additional: usize) -> Result<(), ReserveError>
-        ensures makes_room { MakesRoom self.old additional (IsOk result) self.new }
+        ensures makes_room { MakesDenseRoom self.old additional (IsOk result) self.new }
         ensures err { IfErr result (RefusesCapacity (used self.old.content + additional)) }
     {
         self.reserve(additional)

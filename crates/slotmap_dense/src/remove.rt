@@ -7,13 +7,13 @@ ghost use Rattle.slotmap_core.specs.Key.{Key as KeyOf};
 ghost use Rattle.slotmap_core.specs.Content.{IsContent};
 ghost use Rattle.slotmap_core.specs.Transition.{Removes};
 ghost use Rattle.slotmap_dense.specs.Dense.{ClosesGap};
-ghost use Rattle.slotmap_dense.specs.Call.{StaysValid};
+ghost use Rattle.slotmap_dense.specs.Call.{StaysDense};
 ghost use Rattle.slotmap_dense.specs.Packed.{IsPacked, IsGapped};
 
 use crate::DenseSlotMap;
 use slotmap_core::keys::Key;
-use slotmap_core::layout::Rows;
-use slotmap_core::slots::Slots;
+use slotmap_slots::layout::Rows;
+use slotmap_slots::slots::Slots;
 
 // Takes out the pair at a position whose key is no longer in the slots. The last pair moves to that
 // position, and the slot of its key is updated.
@@ -64,7 +64,7 @@ impl<K: Key, V: Drop> DenseSlotMap<K, V> {
         ensures order { IfSome result (λ value. ClosesGap self.old (K.data_of key) value self.new) }
         ensures live { self.new.content.live ≡ map.remove self.old.content.live (K.data_of key) }
         ensures unchanged { IfNone result (self.new ≡ self.old) }
-        ensures valid { StaysValid self.old self.new }
+        ensures valid { StaysDense self.old self.new }
     {
         let position = self.slots.remove(key.data())?;
         Some(close_gap(&mut self.slots, &mut self.keys, &mut self.values, position))

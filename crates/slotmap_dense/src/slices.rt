@@ -8,7 +8,7 @@ use crate::DenseSlotMap;
 use slotmap_core::keys::Key;
 
 impl<K: Key, V: Drop> DenseSlotMap<K, V> {
-    ghost use Rattle.slotmap_dense.specs.Lends.{lends_values, lends_walk};
+    ghost use Rattle.slotmap_dense.specs.Lends.{lends_values, lends_iter};
 
     /// Returns the live keys as a slice, in packed order.
     ///
@@ -84,7 +84,7 @@ impl<K: Key, V: Drop> DenseSlotMap<K, V> {
     /// assert_eq!(rt; map.get(b), Some(&5));
     /// ```
     pub fn as_mut_slices(&mut self) -> (&[K], &mut [V])
-        ensures* writes_back { sem 𝓛 (lends_walk K.row V.row K.Key self.entry result.1.ghost_name) }
+        ensures* writes_back { sem 𝓛 (lends_iter K.row V.row K.Key self.entry result.1.ghost_name) }
         ensures keys { list_map K.data_of result.0.now ≡ self.old.keys }
         ensures values { result.1.now ≡ self.old.values }
         ensures valid { IsDense self.old }

@@ -4,11 +4,11 @@ use Rattle.std.specs.FinMap as map
 use Rattle.slotmap_core.specs.Key.{Key, key_cmp}
 use Rattle.slotmap_core.specs.Retain.{Visit, seen}
 use Rattle.slotmap_core.specs.Transition.{Removes}
-use Rattle.slotmap_core.proofs.IndexLemmas.{from_index}
-use Rattle.slotmap_core.proofs.KeyedVisits.{Keyed-same}
-use Rattle.slotmap_core.proofs.OrderLemmas.{entries_none}
-use Rattle.slotmap_core.proofs.SweepLemmas.{next_entry}
-use Rattle.slotmap_core.proofs.VisitLemmas.{Visits}
+use Rattle.slotmap_core.proofs.Contents.IndexLemmas.{from_index}
+use Rattle.slotmap_core.proofs.Several.KeyedVisits.{Keyed-same}
+use Rattle.slotmap_core.proofs.Contents.OrderLemmas.{entries_none}
+use Rattle.slotmap_core.proofs.Contents.SweepLemmas.{next_entry}
+use Rattle.slotmap_core.proofs.Several.VisitLemmas.{Visits}
 use Rattle.slotmap_hop.specs.HopContent.{HopContent, IsHopContent, IsNextLive, blocks_without, blocks_without_all}
 use Rattle.slotmap_hop.specs.Retain.{dropped}
 

@@ -5,20 +5,20 @@ use Rattle.std.specs.FinMap as map
 use Rattle.slotmap_core.specs.Clones.{ClonesEqual, AreClones}
 use Rattle.slotmap_core.specs.Copy.{IsCloneBy}
 use Rattle.slotmap_core.specs.PlaceClones.{IsPlaceClone, ArePlaceClones}
-use Rattle.slotmap_core.specs.Places.{Place, Live, Detached, Vacant, Retired, live}
-use Rattle.slotmap_core.proofs.KeyLemmas.{keys_total, exact_keys}
-use Rattle.slotmap_core.proofs.ListLemmas.{zip_length, zip_drop}
-use Rattle.slotmap_core.proofs.Maps.{same_len}
-use Rattle.slotmap_core.proofs.PlaceClones.{clone_is_some, detached-clones, retired-clones, next-clones, live-clones, length-clones, cloned_at, vacant_there, IsStacked-clones}
+use Rattle.slotmap_core.specs.Places.{Place, Live, Detached, Vacant, Retired as RetiredPlace, live}
+use Rattle.slotmap_core.proofs.General.KeyLemmas.{keys_total, exact_keys}
+use Rattle.slotmap_core.proofs.General.ListLemmas.{zip_length, zip_drop}
+use Rattle.slotmap_core.proofs.General.Maps.{same_len}
+use Rattle.slotmap_core.proofs.Places.PlaceClones.{clone_is_some, detached-clones, retired-clones, next-clones, live-clones, length-clones, cloned_at, vacant_there, IsStacked-clones}
 use Rattle.slotmap_hop.specs.declared.links.Slot.{Slot}
 use Rattle.slotmap_hop.specs.declared.links.State.{State}
-use Rattle.slotmap_hop.specs.declared.links.State.TheVariants.{Occupied, Free, UsedUp}
+use Rattle.slotmap_hop.specs.declared.links.State.TheVariants.{Occupied, Free, Retired}
 use Rattle.slotmap_hop.specs.Blocks.{Begins}
 use Rattle.slotmap_hop.specs.Links.{vacant_at, HasBlockList}
-use Rattle.slotmap_hop.specs.Walk.{pairs_left, IsWalk}
-use Rattle.slotmap_hop.specs.Slots.{links_in, place_in, layout, places_of, IsStateClone, IsSlotClone, AreSlotClones, next_place, offer_at, hop_content, IsSound}
+use Rattle.slotmap_hop.specs.Iter.{pairs_left, IsIter}
+use Rattle.slotmap_hop.specs.Slots.{links_in, place_in, all_links, places_of, IsStateClone, IsSlotClone, AreSlotClones, next_place, offer_at, hop_content, IsSound}
 use Rattle.slotmap_hop.proofs.SlotLemmas.{vacant_slot, back_vacant}
-use Rattle.slotmap_hop.proofs.Walking.{pairs_from}
+use Rattle.slotmap_hop.proofs.HoppingLemmas.{pairs_from}
 
 module _ {V : Type 0} (is_clone : V → V → Type 0) where
   links_cloned : (s copy : State V) → IsStateClone is_clone s copy → links_in copy ≡ links_in s
@@ -27,8 +27,8 @@ module _ {V : Type 0} (is_clone : V → V → Type 0) where
   place_cloned : (version : ℕ) (s copy : State V) → IsStateClone is_clone s copy → IsPlaceClone is_clone (place_in version s) (place_in version copy)
   place_cloned version (Occupied value) copy is = (is.0, ap (place_in version) is.1, is.2)
   place_cloned version (Free links) copy is = ap (place_in version) is
-  place_cloned zero UsedUp copy is = ap (place_in zero) is
-  place_cloned (suc version) UsedUp copy is = ap (place_in (suc version)) is
+  place_cloned zero Retired copy is = ap (place_in zero) is
+  place_cloned (suc version) Retired copy is = ap (place_in (suc version)) is
 
   same_slot : ClonesEqual is_clone → (s copy : Slot V) → IsSlotClone is_clone s copy → copy ≡ s
   same_slot equal s copy is = let state = same s.state copy.state is.state in let version = is.version in λ j. record { version = version j; state = state j }
@@ -36,15 +36,15 @@ module _ {V : Type 0} (is_clone : V → V → Type 0) where
       same : (s copy : State V) → IsStateClone is_clone s copy → copy ≡ s
       same (Occupied value) copy is = is.1 ∙ ap Occupied (equal value is.0 is.2)
       same (Free links) copy is = is
-      same UsedUp copy is = is
+      same Retired copy is = is
 
-  pub layout-cloned : (slots copies : List (Slot V)) → AreSlotClones is_clone slots copies → layout copies ≡ layout slots
-  layout-cloned [] [] zip = refl
-  layout-cloned [] (copy ∷ copies) zip = absurd zip
-  layout-cloned (s ∷ slots) [] zip = absurd zip
-  layout-cloned (s ∷ slots) (copy ∷ copies) zip = rw (links_cloned s.state copy.state zip.0.state, layout-cloned slots copies zip.1) refl
+  pub all_links-cloned : (slots copies : List (Slot V)) → AreSlotClones is_clone slots copies → all_links copies ≡ all_links slots
+  all_links-cloned [] [] zip = refl
+  all_links-cloned [] (copy ∷ copies) zip = absurd zip
+  all_links-cloned (s ∷ slots) [] zip = absurd zip
+  all_links-cloned (s ∷ slots) (copy ∷ copies) zip = rw (links_cloned s.state copy.state zip.0.state, all_links-cloned slots copies zip.1) refl
 
-  pub places-cloned : (slots copies : List (Slot V)) → AreSlotClones is_clone slots copies → ArePlaceClones is_clone (places_of slots) (places_of copies)
+  places-cloned : (slots copies : List (Slot V)) → AreSlotClones is_clone slots copies → ArePlaceClones is_clone (places_of slots) (places_of copies)
   places-cloned [] [] zip = tt
   places-cloned [] (copy ∷ copies) zip = absurd zip
   places-cloned (s ∷ slots) [] zip = absurd zip
@@ -64,7 +64,7 @@ module _ {V : Type 0} (is_clone : V → V → Type 0) where
     module _ (vacant elems : ℕ) (sound : IsSound slots vacant elems) where
       pub IsSound-cloned : IsSound copies vacant elems
       IsSound-cloned = record {
-        linked = subst HasBlockList (sym (layout-cloned slots copies zip)) sound.linked;
+        linked = subst HasBlockList (sym (all_links-cloned slots copies zip)) sound.linked;
         none_detached = λ i v found. let here = cloned_at is_clone _ _ places i (Detached v) found in sound.none_detached i v (here.1 ∙ ap Some (detached_here here.0 v here.2));
         elems_live = same_len keys_total exact_keys (map.len (live (places_of copies))) (live (places_of copies)) (live (places_of slots)) refl
             (λ k. clone_is_some is_clone (map.get (live (places_of slots)) k) (map.get (live (places_of copies)) k) (live-clones is_clone _ _ places k))
@@ -81,7 +81,7 @@ module _ {V : Type 0} (is_clone : V → V → Type 0) where
           let at = (vacant_slot slots i (back_vacant slots vacant elems sound)).3 in
           let there : slice_get (places_of copies) i ≡ slice_get (places_of slots) i = vacant_there is_clone _ _ places i _ at ∙ sym at in
           let long = length-clones is_clone _ _ places in
-          rw (layout-cloned slots copies zip, there, long) refl
+          rw (all_links-cloned slots copies zip, there, long) refl
 
       pub has_clones : (c d : ℕ) → IsCloneBy is_clone (hop_content slots c).content (hop_content copies d).content
       has_clones c d = record {
@@ -102,21 +102,21 @@ module _ {V : Type 0} (is_clone : V → V → Type 0) where
   pairs-cloned i (Live version value ∷ ps) (copy ∷ copies) zip = rw zip.0.1 ((refl, zip.0.2), pairs-cloned (i + 1) ps copies zip.1)
   pairs-cloned i (Detached version ∷ ps) (copy ∷ copies) zip = rw zip.0 (pairs-cloned (i + 1) ps copies zip.1)
   pairs-cloned i (Vacant version ∷ ps) (copy ∷ copies) zip = rw zip.0 (pairs-cloned (i + 1) ps copies zip.1)
-  pairs-cloned i (Retired ∷ ps) (copy ∷ copies) zip = rw zip.0 (pairs-cloned (i + 1) ps copies zip.1)
+  pairs-cloned i (RetiredPlace ∷ ps) (copy ∷ copies) zip = rw zip.0 (pairs-cloned (i + 1) ps copies zip.1)
 
   module _ (slots copies : List (Slot V)) (zip : AreSlotClones is_clone slots copies) where
     -- an iterator at the same place
     pub left_cloned : (place : ℕ) → AreClones is_clone (pairs_left slots place) (pairs_left copies place)
     left_cloned place = pairs-cloned place (drop place (places_of slots)) (drop place (places_of copies)) (zip_drop _ place _ _ (places-cloned is_clone slots copies zip))
 
-    pub IsWalk-cloned : (reads place left : ℕ) → IsWalk slots reads place left → IsWalk copies reads place left
-    IsWalk-cloned reads place left walk = record {
+    pub IsIter-cloned : (reads place left : ℕ) → IsIter slots reads place left → IsIter copies reads place left
+    IsIter-cloned reads place left iterates = record {
       stands = record {
-        vacant = walk.stands.vacant;
-        elems = walk.stands.elems;
-        sound = IsSound-cloned is_clone slots copies zip walk.stands.vacant walk.stands.elems walk.stands.sound;
-        at_front = subst (λ es. vacant_at es place ≡ true → Begins (vacant_at es) place) (sym (layout-cloned is_clone slots copies zip)) walk.stands.at_front;
+        vacant = iterates.stands.vacant;
+        elems = iterates.stands.elems;
+        sound = IsSound-cloned is_clone slots copies zip iterates.stands.vacant iterates.stands.elems iterates.stands.sound;
+        at_front = subst (λ es. vacant_at es place ≡ true → Begins (vacant_at es) place) (sym (all_links-cloned is_clone slots copies zip)) iterates.stands.at_front;
       };
-      counted = walk.counted ∙ sym (zip_length _ _ _ (left_cloned place));
-      passed = walk.passed;
+      counted = iterates.counted ∙ sym (zip_length _ _ _ (left_cloned place));
+      passed = iterates.passed;
     }

@@ -1,34 +1,33 @@
 -- A map with no key: slot 0 alone.
 use Rattle.std.proofs.Common.{⊎_elim, ◌≡◌, zero, suc, List, [], ◌∷◌, refl, arith}
 use Rattle.slotmap_core.specs.Places.{Detached, Vacant}
-use Rattle.slotmap_core.proofs.GatherLemmas.{at_push}
+use Rattle.slotmap_core.proofs.General.GatherLemmas.{at_push}
 use Rattle.slotmap_hop.specs.declared.links.Slot.{Slot}
 use Rattle.slotmap_hop.specs.declared.links.State.TheVariants.{Free}
 use Rattle.slotmap_hop.specs.Links.{is_front, vacant_at, end_at, ListsOnce, NamesEnds}
 use Rattle.slotmap_hop.proofs.Circle.{shut}
-use Rattle.slotmap_hop.specs.Slots.{layout, IsSound}
-use Rattle.slotmap_core.proofs.SlotGrowth.{IsSound-sentinel}
+use Rattle.slotmap_hop.specs.Slots.{all_links, IsSound}
+use Rattle.slotmap_core.proofs.Places.StackLemmas.{IsStacked-sentinel, live-sentinel}
 
 abbrev pub sentinel_alone : (V : Type 0) → List (Slot V)
 sentinel_alone V = record { version = 0; state = Free (record { next = 0; prev = 0; other_end = 0 }) } ∷ []
 
 module _ (V : Type 0) where
-  listed-new : ListsOnce (is_front (vacant_at (layout (sentinel_alone V)))) []
+  listed-new : ListsOnce (is_front (vacant_at (all_links (sentinel_alone V)))) []
   listed-new zero = refl
   listed-new (suc x) = grind arith
 
-  ends-new : NamesEnds (vacant_at (layout (sentinel_alone V))) (end_at (layout (sentinel_alone V)))
+  ends-new : NamesEnds (vacant_at (all_links (sentinel_alone V))) (end_at (all_links (sentinel_alone V)))
   ends-new zero is = (record { begins = λ left e. absurd (omega arith); ordered = omega arith; inside = λ x low high. let same : x ≡ 0 = omega arith in rw same; ends = refl }, refl)
   ends-new (suc x) is = absurd (cc)
 
   pub IsSound-new : IsSound (sentinel_alone V) 0 0
   IsSound-new =
-      let same = IsSound-sentinel {P = V} in
       record {
         linked = record { sentinel = refl; linked = shut (record { listed = listed-new; chain = (refl, refl); ends = ends-new }); fits = omega arith };
         none_detached = λ i v found. ⊎_elim (λ same. absurd (let wrong = same.1 in cc)) (λ other. absurd (let none = other.1 in cc)) (at_push [] (Vacant 1) i (Detached v) found);
-        elems_live = same.live_counted;
-        stack = same.stack;
-        stacked = same.stacked;
-        counted = same.counted;
+        elems_live = live-sentinel V;
+        stack = [];
+        stacked = IsStacked-sentinel V;
+        counted = refl;
       }

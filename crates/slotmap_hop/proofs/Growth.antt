@@ -6,24 +6,24 @@ use Rattle.slotmap_core.specs.Key.{Key}
 use Rattle.slotmap_core.specs.Content.{most}
 use Rattle.slotmap_core.specs.Transition.{Removes, Inserts}
 use Rattle.slotmap_core.specs.Places.{Place, Live, Detached, Vacant, live, left_by}
-use Rattle.slotmap_core.specs.StackMap.{content, taken, filled, IsVersion, IsStacked}
-use Rattle.slotmap_core.proofs.PlacesLemmas.{key, len-live-set, len-live-push}
-use Rattle.slotmap_core.proofs.StackLemmas.{IsStacked-filled, IsStacked-pushed}
-use Rattle.slotmap_core.proofs.StepLemmas.{removes, inserts}
+use Rattle.slotmap_core.specs.StackMap.{content_of_places, used_places, filled, IsVersion, IsStacked}
+use Rattle.slotmap_core.proofs.Places.PlacesLemmas.{key, len-live-set, len-live-push}
+use Rattle.slotmap_core.proofs.Places.StackLemmas.{IsStacked-filled, IsStacked-pushed}
+use Rattle.slotmap_core.proofs.Contents.StepLemmas.{removes, inserts}
 use Rattle.slotmap_hop.specs.declared.links.Slot.{Slot}
 use Rattle.slotmap_hop.specs.declared.links.State.TheVariants.{Occupied}
 use Rattle.slotmap_hop.specs.Blocks.{shorter}
-use Rattle.slotmap_hop.specs.Links.{removed, blocks_of, HasBlockList}
-use Rattle.slotmap_hop.specs.Slots.{links_in, place_in, layout, places_of, next_place, offer_at, holding, hop_content, IsSound}
-use Rattle.slotmap_hop.proofs.SlotReads.{length-layout, length-places}
+use Rattle.slotmap_hop.specs.Links.{list_without, blocks_of, HasBlockList}
+use Rattle.slotmap_hop.specs.Slots.{links_in, place_in, all_links, places_of, next_place, offer_at, holding, hop_content, IsSound}
+use Rattle.slotmap_hop.proofs.SlotReads.{length-all_links, length-places}
 use Rattle.slotmap_hop.proofs.Taking.{HasBlockList-pushed, blocks_pushed, shorter_none}
 use Rattle.slotmap_hop.proofs.StackOrder.{IsStacked-first, length_removed, untold, Inserts-untold, Removes-untold}
-use Rattle.slotmap_core.proofs.GatherLemmas.{at_set, at_push}
+use Rattle.slotmap_core.proofs.General.GatherLemmas.{at_set, at_push}
 use Rattle.slotmap_hop.proofs.SlotLemmas.{vacant_slot, back_vacant, empty_stack, in_order, ordered_map, content_is}
 
 module _ {V : Type 0} (slots : List (Slot V)) (vacant elems : ℕ) (sound : IsSound slots vacant elems) (new : List (Slot V)) where
   -- one place changes; the new stack and both counts are given
-  pub IsSound-set : (i : ℕ) (old p : Place V) → slice_get (places_of slots) i ≡ Some old → ((v : ℕ) → p ≢ Detached v) → HasBlockList (layout new)
+  pub IsSound-set : (i : ℕ) (old p : Place V) → slice_get (places_of slots) i ≡ Some old → ((v : ℕ) → p ≢ Detached v) → HasBlockList (all_links new)
       → places_of new ≡ set (places_of slots) i p → (vs : List ℕ) → IsStacked (set (places_of slots) i p) vs → (vacant2 elems2 : ℕ) → length vs ≡ vacant2
       → map.len (live (set (places_of slots) i p)) ≡ elems2 → IsSound new vacant2 elems2
   IsSound-set i old p was other list after vs stacked vacant2 elems2 counted lives = record {
@@ -38,7 +38,7 @@ module _ {V : Type 0} (slots : List (Slot V)) (vacant elems : ℕ) (sound : IsSo
 
 -- the steps on contents
 module _ {V : Type 0} (slots : List (Slot V)) (vacant elems : ℕ) (sound : IsSound slots vacant elems) (new : List (Slot V)) where
-  pub inserts-slots : (c d : ℕ) (w : V) → taken (places_of slots) < most → c ≤ d
+  inserts-slots : (c d : ℕ) (w : V) → used_places (places_of slots) < most → c ≤ d
       → places_of new ≡ filled (places_of slots) (in_order slots vacant elems sound).order (Live (offer_at (places_of slots) (next_place slots)).version w)
       → Inserts (hop_content slots c).content (offer_at (places_of slots) (next_place slots)) w (hop_content new d).content
   inserts-slots c d w below more after =
@@ -47,7 +47,7 @@ module _ {V : Type 0} (slots : List (Slot V)) (vacant elems : ℕ) (sound : IsSo
       let ordered = in_order slots vacant elems sound in
       let told = Inserts-untold _ _ k o w (inserts (places_of slots) ordered.order c d k w ordered.ordered below (sym ordered.offers) more) in
       subst (λ m. Inserts m k w (holding (places_of new) o d)) (content_is slots vacant elems sound c)
-      (subst (λ ps. Inserts (untold (content (ordered_map slots vacant elems sound c))) k w (holding ps o d)) (sym after) told)
+      (subst (λ ps. Inserts (untold (content_of_places (ordered_map slots vacant elems sound c))) k w (holding ps o d)) (sym after) told)
 
   pub removes-slots : (c : ℕ) (k : Key) (x : V) → slice_get (places_of slots) k.index ≡ Some (Live k.version x) → places_of new ≡ set (places_of slots) k.index (left_by k)
       → Removes (hop_content slots c).content k (hop_content new c).content
@@ -80,13 +80,13 @@ module _ {V : Type 0} (slots : List (Slot V)) (vacant elems : ℕ) (sound : IsSo
   abbrev pub pushed_slots : V → List (Slot V)
   pushed_slots w = slots ++ record { version = 1; state = Occupied w } ∷ []
 
-  pub places-pushed : (w : V) → places_of (pushed_slots w) ≡ places_of slots ++ Live 1 w ∷ []
+  places-pushed : (w : V) → places_of (pushed_slots w) ≡ places_of slots ++ Live 1 w ∷ []
   places-pushed w = map-append (λ (s : Slot V). place_in s.version s.state) slots (record { version = 1; state = Occupied w } ∷ [])
 
-  pub blocks-pushed : (w : V) → length slots + 1 < 2 ^ 32 → next_place slots ≡ 0 → HasBlockList (layout (pushed_slots w)) × (blocks_of (layout (pushed_slots w)) ≡ shorter (blocks_of (layout slots)))
+  pub blocks-pushed : (w : V) → length slots + 1 < 2 ^ 32 → next_place slots ≡ 0 → HasBlockList (all_links (pushed_slots w)) × (blocks_of (all_links (pushed_slots w)) ≡ shorter (blocks_of (all_links slots)))
   blocks-pushed w fits none =
-      let same : layout (pushed_slots w) ≡ layout slots ++ None ∷ [] = map-append (λ (s : Slot V). links_in s.state) slots (record { version = 1; state = Occupied w } ∷ []) in
-      rw same (HasBlockList-pushed (layout slots) sound.linked (omega (arith, length-layout slots)), blocks_pushed (layout slots) sound.linked ∙ shorter_none (layout slots) sound.linked none)
+      let same : all_links (pushed_slots w) ≡ all_links slots ++ None ∷ [] = map-append (λ (s : Slot V). links_in s.state) slots (record { version = 1; state = Occupied w } ∷ []) in
+      rw same (HasBlockList-pushed (all_links slots) sound.linked (omega (arith, length-all_links slots)), blocks_pushed (all_links slots) sound.linked ∙ shorter_none (all_links slots) sound.linked none)
 
   pub sound-pushed : (w : V) → length slots + 1 < 2 ^ 32 → next_place slots ≡ 0 → IsSound (pushed_slots w) vacant (elems + 1)
   sound-pushed w fits none =
@@ -101,25 +101,25 @@ module _ {V : Type 0} (slots : List (Slot V)) (vacant elems : ℕ) (sound : IsSo
         counted = sound.counted;
       }
 
-  pub inserts-pushed : (c d : ℕ) (w : V) → next_place slots ≡ 0 → taken (places_of slots) < most → c ≤ d
+  pub inserts-pushed : (c d : ℕ) (w : V) → next_place slots ≡ 0 → used_places (places_of slots) < most → c ≤ d
       → Inserts (hop_content slots c).content (hop_content slots c).content.offer w (hop_content (pushed_slots w) d).content
   inserts-pushed c d w none below more =
       inserts-slots slots vacant elems sound (pushed_slots w) c d w below more
       (cc (places-pushed w, (in_order slots vacant elems sound).fills_end none (Live (offer_at (places_of slots) (next_place slots)).version w), offer-end none))
 
   -- the offered place is filled
-  pub sound-filled : (new : List (Slot V)) (w : V) → 0 < next_place slots → HasBlockList (layout new)
+  pub sound-filled : (new : List (Slot V)) (w : V) → 0 < next_place slots → HasBlockList (all_links new)
       → places_of new ≡ set (places_of slots) (next_place slots) (Live (back_slot.slot.version + 1) w) → IsSound new (vacant - 1) (elems + 1)
   sound-filled new w some list after =
       let i = next_place slots in
       let n = back_slot.slot.version + 1 in
       let on = sound.stacked.complete i n some back_slot.place in
-      IsSound-set slots vacant elems sound new i (Vacant n) (Live n w) back_slot.place (λ v e. absurd (cc)) list after (removed sound.stack i)
-      (IsStacked-filled (places_of slots) i (removed sound.stack i) n w (IsStacked-first (places_of slots) sound.stack i sound.stacked on) back_slot.place) _ _
+      IsSound-set slots vacant elems sound new i (Vacant n) (Live n w) back_slot.place (λ v e. absurd (cc)) list after (list_without sound.stack i)
+      (IsStacked-filled (places_of slots) i (list_without sound.stack i) n w (IsStacked-first (places_of slots) sound.stack i sound.stacked on) back_slot.place) _ _
       (omega (arith, length_removed sound.stack i on, sound.counted))
       (omega (arith, len-live-set (places_of slots) i (Vacant n) (Live n w) back_slot.place, sound.elems_live))
 
-  pub inserts-filled : (new : List (Slot V)) (c d : ℕ) (w : V) → 0 < next_place slots → taken (places_of slots) < most → c ≤ d
+  pub inserts-filled : (new : List (Slot V)) (c d : ℕ) (w : V) → 0 < next_place slots → used_places (places_of slots) < most → c ≤ d
       → places_of new ≡ set (places_of slots) (next_place slots) (Live (back_slot.slot.version + 1) w)
       → Inserts (hop_content slots c).content (hop_content slots c).content.offer w (hop_content new d).content
   inserts-filled new c d w some below more after =

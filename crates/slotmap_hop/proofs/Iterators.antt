@@ -6,21 +6,21 @@ use Rattle.std.specs.FinSet as set
 use Rattle.slotmap_core.specs.Key.{key_cmp}
 use Rattle.slotmap_core.specs.Places.{Place, Live, Retired, live, retired, retired_entry}
 use Rattle.slotmap_core.specs.Gather.{gather}
-use Rattle.slotmap_core.proofs.PlacesLemmas.{retired_fits}
-use Rattle.slotmap_core.proofs.MapLaws.{detached_laws}
-use Rattle.slotmap_core.proofs.GatherLemmas.{len-add}
-use Rattle.slotmap_core.proofs.WalkLemmas.{entries-live}
+use Rattle.slotmap_core.proofs.Places.PlacesLemmas.{retired_fits}
+use Rattle.slotmap_core.proofs.General.MapLaws.{detached_laws}
+use Rattle.slotmap_core.proofs.General.GatherLemmas.{len-add}
+use Rattle.slotmap_core.proofs.Places.InOrderLemmas.{entries-live}
 use Rattle.slotmap_hop.specs.declared.links.Slot.{Slot}
 use Rattle.slotmap_hop.specs.Blocks.{Begins, IsBlock}
 use Rattle.slotmap_hop.specs.Links.{vacant_at, end_at, fronts_of}
-use Rattle.slotmap_hop.specs.Slots.{layout, places_of, hop_content, IsSound}
-use Rattle.slotmap_hop.specs.Walk.{pairs_left, retired_left, IsWalk, CanGoOn, FindsLive, ReadsOnTheWay, ListsRetired}
+use Rattle.slotmap_hop.specs.Slots.{all_links, places_of, hop_content, IsSound}
+use Rattle.slotmap_hop.specs.Iter.{pairs_left, retired_left, IsIter, CanGoOn, FindsLive, ReadsOnTheWay, ListsRetired}
 use Rattle.slotmap_hop.proofs.BlockLemmas.{clash, begins_after}
 use Rattle.slotmap_hop.proofs.Circle.{block_at}
 use Rattle.slotmap_hop.proofs.Vacating.{zero_in_circle}
 use Rattle.slotmap_hop.proofs.SlotLemmas.{place_not_vacant}
-use Rattle.slotmap_hop.proofs.LiveSlots.{sound-used_up}
-use Rattle.slotmap_hop.proofs.Walking.{pairs_from, retired_from, past_block, stands_on}
+use Rattle.slotmap_hop.proofs.LiveSlots.{sound-retired}
+use Rattle.slotmap_hop.proofs.HoppingLemmas.{pairs_from, retired_from, past_block, stands_on}
 
 module _ {V : Type 0} where
   set-retired_from : (j : ℕ) (ps : List (Place V)) → set.from_list (retired_from j ps) ≡ gather (set.empty {R = key_cmp}) (λ s e. set.insert s e.0) retired_entry j ps
@@ -32,63 +32,63 @@ module _ {V : Type 0} where
   len-retired_from j (p ∷ ps) = grind (arith, len-add detached_laws (λ k. k.index) (retired_entry {V = V}) retired_fits j p ps, len-retired_from (j + 1) ps)
 
   -- they are the retired keys, each once
-  pub retired-listed : (ps : List (Place V)) → (set.from_list (retired_from 0 ps) ≡ retired ps) × (length (retired_from 0 ps) ≡ set.len (retired ps))
+  retired-listed : (ps : List (Place V)) → (set.from_list (retired_from 0 ps) ≡ retired ps) × (length (retired_from 0 ps) ≡ set.len (retired ps))
   unfolding retired
   retired-listed ps = (set-retired_from 0 ps, sym (len-retired_from 0 ps))
 
-module _ {V : Type 0} {slots : List (Slot V)} {reads place left : ℕ} (walk : IsWalk slots reads place left) where
+module _ {V : Type 0} {slots : List (Slot V)} {reads place left : ℕ} (iterates : IsIter slots reads place left) where
   pub can_go_on : CanGoOn slots reads place
-  can_go_on = record { stands = walk.stands; passed = walk.passed }
+  can_go_on = record { stands = iterates.stands; passed = iterates.passed }
 
   pub left_none : left ≡ 0 → pairs_left slots place ≡ []
-  left_none none = nil_from_length (pairs_left slots place) (omega (arith, walk.counted))
+  left_none none = nil_from_length (pairs_left slots place) (omega (arith, iterates.counted))
 
   module _ {found version : ℕ} {value : V} {reads' : ℕ} (finds : FindsLive slots place found version value) (way : ReadsOnTheWay slots reads place reads' found) where
-    pub walk_on : IsWalk slots reads' (found + 1) (left - 1)
-    walk_on = record {
-      stands = stands_on slots place (found + 1) walk.stands
-          (λ _. begins_after (vacant_at (layout slots)) found (place_not_vacant slots found (Live version value) finds.there (λ n e. absurd (cc))));
-      counted = omega (arith, walk.counted, ap length finds.first);
-      passed = omega (arith, way.passed, walk.passed);
+    pub iter_on : IsIter slots reads' (found + 1) (left - 1)
+    iter_on = record {
+      stands = stands_on slots place (found + 1) iterates.stands
+          (λ _. begins_after (vacant_at (all_links slots)) found (place_not_vacant slots found (Live version value) finds.there (λ n e. absurd (cc))));
+      counted = omega (arith, iterates.counted, ap length finds.first);
+      passed = omega (arith, way.passed, iterates.passed);
     }
 
     -- the value that was found is moved out
-    module _ (new : List (Slot V)) (same : layout new ≡ layout slots) (after : places_of new ≡ set (places_of slots) found Retired) where
+    module _ (new : List (Slot V)) (same : all_links new ≡ all_links slots) (after : places_of new ≡ set (places_of slots) found Retired) where
       pub pairs-taken : pairs_left new (found + 1) ≡ pairs_left slots (found + 1)
       pairs-taken = ap (λ ps. pairs_from (found + 1) (drop (found + 1) ps)) after ∙ ap (pairs_from (found + 1)) (drop-set-lt (found + 1) (places_of slots) found Retired (omega arith))
 
-      pub walk_taken : IsWalk new 0 (found + 1) (left - 1)
-      walk_taken = record {
+      pub iter_taken : IsIter new 0 (found + 1) (left - 1)
+      iter_taken = record {
         stands = record {
-          vacant = walk.stands.vacant;
-          elems = walk.stands.elems - 1;
-          sound = sound-used_up slots walk.stands.vacant walk.stands.elems walk.stands.sound found version value finds.there new same after;
-          at_front = subst (λ es. vacant_at es (found + 1) ≡ true → Begins (vacant_at es) (found + 1)) (sym same) walk_on.stands.at_front;
+          vacant = iterates.stands.vacant;
+          elems = iterates.stands.elems - 1;
+          sound = sound-retired slots iterates.stands.vacant iterates.stands.elems iterates.stands.sound found version value finds.there new same after;
+          at_front = subst (λ es. vacant_at es (found + 1) ≡ true → Begins (vacant_at es) (found + 1)) (sym same) iter_on.stands.at_front;
         };
-        counted = walk_on.counted ∙ ap length (sym pairs-taken);
+        counted = iter_on.counted ∙ ap length (sym pairs-taken);
         passed = omega arith;
       }
 
 module _ {V : Type 0} (slots : List (Slot V)) (vacant elems : ℕ) (sound : IsSound slots vacant elems) where
   -- an iterator starts after the block of place 0
-  first_place : IsBlock (vacant_at (layout slots)) 0 (end_at (layout slots) 0)
-  first_place = block_at 0 sound.linked.linked (zero_in_circle (fronts_of (layout slots)))
+  first_place : IsBlock (vacant_at (all_links slots)) 0 (end_at (all_links slots) 0)
+  first_place = block_at 0 sound.linked.linked (zero_in_circle (fronts_of (all_links slots)))
 
-  pub pairs-start : pairs_left slots (end_at (layout slots) 0 + 1) ≡ map.entries (live (places_of slots))
-  pairs-start = sym (past_block slots 0 (end_at (layout slots) 0) first_place).0 ∙ sym (entries-live (places_of slots))
+  pub pairs-start : pairs_left slots (end_at (all_links slots) 0 + 1) ≡ map.entries (live (places_of slots))
+  pairs-start = sym (past_block slots 0 (end_at (all_links slots) 0) first_place).0 ∙ sym (entries-live (places_of slots))
 
-  pub retired-start : (c : ℕ) → ListsRetired (hop_content slots c) (retired_left slots (end_at (layout slots) 0 + 1))
+  pub retired-start : (c : ℕ) → ListsRetired (hop_content slots c) (retired_left slots (end_at (all_links slots) 0 + 1))
   retired-start c =
       let listed = retired-listed (places_of slots) in
-      subst (ListsRetired (hop_content slots c)) (past_block slots 0 (end_at (layout slots) 0) first_place).1 (record { all = listed.0; once = listed.1 })
+      subst (ListsRetired (hop_content slots c)) (past_block slots 0 (end_at (all_links slots) 0) first_place).1 (record { all = listed.0; once = listed.1 })
 
-  pub walk_starts : IsWalk slots 0 (end_at (layout slots) 0 + 1) elems
-  walk_starts = record {
+  pub iter_starts : IsIter slots 0 (end_at (all_links slots) 0 + 1) elems
+  iter_starts = record {
     stands = record {
       vacant = vacant;
       elems = elems;
       sound = sound;
-      at_front = λ here. clash (vacant_at (layout slots)) (end_at (layout slots) 0 + 1) here first_place.ends;
+      at_front = λ here. clash (vacant_at (all_links slots)) (end_at (all_links slots) 0 + 1) here first_place.ends;
     };
     counted = sym sound.elems_live ∙ map.len-entries (live (places_of slots)) ∙ ap length (sym pairs-start);
     passed = omega arith;

@@ -2,7 +2,7 @@ pub mod Chain
 pub mod BlockLemmas
 pub mod Writes
 pub mod SlotReads
-pub mod Steps
+pub mod FrontsLemmas
 pub mod Circle
 pub mod Views
 pub mod Vacating
@@ -14,12 +14,12 @@ pub mod Empty
 pub mod Growth
 pub mod LiveSlots
 pub mod WellFormed
-pub mod Held
+pub mod SettledLemmas
 pub mod RoomLemmas
-pub mod Walking
+pub mod HoppingLemmas
 pub mod Iterators
 pub mod CloneLemmas
 pub mod Sweeping
 pub mod Retaining
-pub mod ReadLemmas
+pub mod FromListLemmas
 pub mod BlocksLeft

@@ -7,19 +7,19 @@ use Rattle.std.proofs.lemmas.List.{length-set}
 use Rattle.std.specs.FinMap as map
 use Rattle.slotmap_core.specs.Key.{Key, IsKey, key_cmp, last_version}
 use Rattle.slotmap_core.specs.Places.{Live, Vacant, Retired, live, live_value}
-use Rattle.slotmap_core.proofs.GatherLemmas.{slice_get-set_other}
-use Rattle.slotmap_core.proofs.PlacesLemmas.{key, get-live, get-live_at, len-live-set, total}
-use Rattle.slotmap_core.proofs.ContentLemmas.{live_at}
-use Rattle.slotmap_core.proofs.StackLemmas.{not_first, IsStacked-kept, IsStacked-freed}
-use Rattle.slotmap_core.proofs.StepLemmas.{content-written}
+use Rattle.slotmap_core.proofs.General.GatherLemmas.{slice_get-set_other}
+use Rattle.slotmap_core.proofs.Places.PlacesLemmas.{key, get-live, get-live_at, len-live-set, total}
+use Rattle.slotmap_core.proofs.Contents.ContentLemmas.{live_at}
+use Rattle.slotmap_core.proofs.Places.StackLemmas.{not_first, IsStacked-kept, IsStacked-freed}
+use Rattle.slotmap_core.proofs.Contents.StepLemmas.{content-written}
 use Rattle.slotmap_hop.specs.declared.links.Slot.{Slot}
 use Rattle.slotmap_hop.specs.declared.links.State.TheVariants.{Occupied}
 use Rattle.slotmap_hop.specs.Links.{blocks_of, HasBlockList}
 use Rattle.slotmap_hop.specs.HopContent.{hop_with_value}
-use Rattle.slotmap_hop.specs.Slots.{links_in, place_in, layout, places_of, value_in, value_at, CanFree, next_place, offer_at, hop_content, IsSound}
-use Rattle.slotmap_hop.proofs.SlotReads.{length-layout, length-places, slot_cases, places_written}
+use Rattle.slotmap_hop.specs.Slots.{links_in, place_in, all_links, places_of, value_in, value_at, CanFree, next_place, offer_at, hop_content, IsSound}
+use Rattle.slotmap_hop.proofs.SlotReads.{length-all_links, length-places, slot_cases, places_written}
 use Rattle.slotmap_hop.proofs.Growth.{IsSound-set}
-use Rattle.slotmap_core.proofs.ListLemmas.{same_read}
+use Rattle.slotmap_core.proofs.General.ListLemmas.{same_read}
 use Rattle.slotmap_hop.proofs.SlotLemmas.{key_is, vacant_slot, place_not_vacant, slots_fit, back_vacant, in_order, ordered_map}
 
 -- the slot of a live place
@@ -76,7 +76,7 @@ module _ {V : Type 0} {slots : List (Slot V)} {lives : map.FinMap key_cmp V} {k 
 -- the slot of a live key
 
 module _ {V : Type 0} (slots : List (Slot V)) (vacant elems : ℕ) (sound : IsSound slots vacant elems) (i v : ℕ) (x : V) (place : slice_get (places_of slots) i ≡ Some (Live v x)) where
-  pub live_within : i < length slots
+  live_within : i < length slots
   live_within = (live_slot slots i v x place).0
 
   -- its index and version are those of a key
@@ -96,7 +96,7 @@ module _ {V : Type 0} (slots : List (Slot V)) (vacant elems : ℕ) (sound : IsSo
       sound = sound.linked;
       live = place_not_vacant slots i (Live v x) place (λ n e. absurd (cc));
       positive = not_first (places_of slots) sound.stack sound.stacked i (Live v x) place (λ n e. absurd (cc));
-      inside = omega (arith, live_within, length-layout slots);
+      inside = omega (arith, live_within, length-all_links slots);
     };
     inside = live_within;
     live = ap (λ o. is_some (option_and_then (λ (s : Slot V). value_in s.state) o)) (live_slot slots i v x place).1;
@@ -107,7 +107,7 @@ module _ {V : Type 0} (slots : List (Slot V)) (vacant elems : ℕ) (sound : IsSo
   value_is y is = sym (ap (option_and_then (λ (s : Slot V). value_in s.state)) (live_slot slots i v x place).1) ∙ is
 
   -- the slot becomes vacant
-  pub sound-freed : (new : List (Slot V)) → HasBlockList (layout new) → places_of new ≡ set (places_of slots) i (Vacant (v + 1 + 1)) → v ≢ last_version → IsSound new (vacant + 1) (elems - 1)
+  pub sound-freed : (new : List (Slot V)) → HasBlockList (all_links new) → places_of new ≡ set (places_of slots) i (Vacant (v + 1 + 1)) → v ≢ last_version → IsSound new (vacant + 1) (elems - 1)
   sound-freed new list after other =
       let version = sound.stacked.versions i (Live v x) place in
       IsSound-set slots vacant elems sound new i (Live v x) (Vacant (v + 1 + 1)) place (λ u e. absurd (cc)) list after (i ∷ sound.stack)
@@ -116,8 +116,8 @@ module _ {V : Type 0} (slots : List (Slot V)) (vacant elems : ℕ) (sound : IsSo
       (omega (arith, len-live-set (places_of slots) i (Live v x) (Vacant (v + 1 + 1)) place, sound.elems_live))
 
   -- the slot is retired
-  pub sound-used_up : (new : List (Slot V)) → layout new ≡ layout slots → places_of new ≡ set (places_of slots) i Retired → IsSound new vacant (elems - 1)
-  sound-used_up new same after =
+  pub sound-retired : (new : List (Slot V)) → all_links new ≡ all_links slots → places_of new ≡ set (places_of slots) i Retired → IsSound new vacant (elems - 1)
+  sound-retired new same after =
       IsSound-set slots vacant elems sound new i (Live v x) Retired place (λ u e. absurd (cc)) (subst HasBlockList (sym same) sound.linked) after sound.stack
       (IsStacked-kept (places_of slots) sound.stack sound.stacked i (Live v x) Retired place (λ n e. absurd (cc)) (λ n e. absurd (cc)) tt) _ _ sound.counted
       (omega (arith, len-live-set (places_of slots) i (Live v x) Retired place, sound.elems_live))
@@ -128,8 +128,8 @@ module _ {V : Type 0} (slots : List (Slot V)) (vacant elems : ℕ) (sound : IsSo
   abbrev pub rewritten : List (Slot V)
   rewritten = set slots i (record { version = u; state = Occupied w })
 
-  layout-rewritten : layout rewritten ≡ layout slots
-  layout-rewritten =
+  all_links-rewritten : all_links rewritten ≡ all_links slots
+  all_links-rewritten =
       let old : Slot V = record { version = v; state = Occupied x } in
       let read = get_or_from_slice_get slots i old old (live_slot slots i v x place).1 in
       map-set_same (λ (s : Slot V). links_in s.state) slots i _ old (sym (ap (λ s. links_in s.state) read))
@@ -139,7 +139,7 @@ module _ {V : Type 0} (slots : List (Slot V)) (vacant elems : ℕ) (sound : IsSo
 
   pub sound-rewritten : IsSound rewritten vacant elems
   sound-rewritten =
-      IsSound-set slots vacant elems sound rewritten i (Live v x) (Live v w) place (λ u e. absurd (cc)) (subst HasBlockList (sym layout-rewritten) sound.linked) places-rewritten sound.stack
+      IsSound-set slots vacant elems sound rewritten i (Live v x) (Live v w) place (λ u e. absurd (cc)) (subst HasBlockList (sym all_links-rewritten) sound.linked) places-rewritten sound.stack
       (IsStacked-kept (places_of slots) sound.stack sound.stacked i (Live v x) (Live v w) place (λ n e. absurd (cc)) (λ n e. absurd (cc)) (sound.stacked.versions i (Live v x) place)) _ _ sound.counted
       (omega (arith, len-live-set (places_of slots) i (Live v x) (Live v w) place, sound.elems_live))
 
@@ -153,4 +153,4 @@ module _ {V : Type 0} (slots : List (Slot V)) (vacant elems : ℕ) (sound : IsSo
       let ordered = in_order slots vacant elems sound in
       let all = content-written (ordered_map slots vacant elems sound c) ordered.ordered (key i v) x place w in
       let offers = same_offer in
-      rw (places-rewritten, layout-rewritten) (λ j. record { content = record (all j) { offer = offers j; stack = None }; blocks = blocks_of (layout slots) })
+      rw (places-rewritten, all_links-rewritten) (λ j. record { content = record (all j) { offer = offers j; stack = None }; blocks = blocks_of (all_links slots) })

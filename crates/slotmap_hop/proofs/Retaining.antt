@@ -8,12 +8,12 @@ use Rattle.std.proofs.lemmas.Fn.{FoldsTo-push}
 use Rattle.slotmap_core.specs.Key.{Key, key_cmp}
 use Rattle.slotmap_core.specs.Transition.{Removes, with_value}
 use Rattle.slotmap_core.specs.Retain.{Visit, CallsAt, MayCome, seen}
-use Rattle.slotmap_core.proofs.IndexLemmas.{from_index, from_index-start, none_live, in_from}
-use Rattle.slotmap_core.proofs.OrderLemmas.{entries_none}
-use Rattle.slotmap_core.proofs.ListingLemmas.{remove-insert}
-use Rattle.slotmap_core.proofs.SweepLemmas.{Swept-start}
-use Rattle.slotmap_core.proofs.VisitLemmas.{Visits, Visits-listed, Visits-stay}
-use Rattle.slotmap_core.proofs.KeyedVisits.{Keyed-from_start, Keyed-next, Keyed-same, Keyed-may_come}
+use Rattle.slotmap_core.proofs.Contents.IndexLemmas.{from_index, from_index-start, none_live, in_from}
+use Rattle.slotmap_core.proofs.Contents.OrderLemmas.{entries_none}
+use Rattle.slotmap_core.proofs.General.ListingLemmas.{remove-insert}
+use Rattle.slotmap_core.proofs.Contents.SweepLemmas.{Swept-start}
+use Rattle.slotmap_core.proofs.Several.VisitLemmas.{Visits, Visits-listed, Visits-stay}
+use Rattle.slotmap_core.proofs.Several.KeyedVisits.{Keyed-from_start, Keyed-next, Keyed-same, Keyed-may_come}
 use Rattle.slotmap_hop.specs.HopContent.{HopContent, IsHopContent, IsNextLive, StaysHop, hop_with_value, blocks_without, blocks_without_all}
 use Rattle.slotmap_hop.specs.Retain.{RetainsByIndex, dropped}
 use Rattle.slotmap_hop.proofs.BlocksLeft.{InOrder, InOrder-kept, InOrder-dropped}

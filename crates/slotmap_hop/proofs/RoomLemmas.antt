@@ -2,8 +2,8 @@
 use Rattle.std.proofs.Common.{◌≡◌, ℕ, ◌+◌, ◌-◌, ◌<◌, ◌≤◌, ◌^◌, min, List, length, refl, ap, sym, subst, arith}
 use Rattle.slotmap_core.specs.Content.{used, most}
 use Rattle.slotmap_core.specs.Transition.{Keeps}
-use Rattle.slotmap_core.specs.StackMap.{taken}
-use Rattle.slotmap_core.proofs.HeldLemmas.{room_had}
+use Rattle.slotmap_core.specs.StackMap.{used_places}
+use Rattle.slotmap_core.proofs.Contents.ContentLemmas.{room_had}
 use Rattle.slotmap_hop.specs.declared.links.Slot.{Slot}
 use Rattle.slotmap_hop.specs.HopContent.{HopContent, IsHopContent, MakesHopRoom}
 use Rattle.slotmap_hop.specs.Slots.{places_of, hop_content, IsSound}
@@ -16,7 +16,7 @@ module _ {V : Type 0} (m : HopContent V) (n : ℕ) (ok : Type 0) (well : IsHopCo
 
 module _ {V : Type 0} (slots : List (Slot V)) (vacant elems : ℕ) (sound : IsSound slots vacant elems) (fits : ℕ) (holds : length slots ≤ fits)
     {now : HopContent V} (view : hop_content slots (fits - 1) ≡ now) where
-  pub hop_valid : IsHopContent now
+  hop_valid : IsHopContent now
   hop_valid = subst IsHopContent view (valid slots vacant elems sound (fits - 1) (omega arith))
 
   pub room_is : now.content.room + used now.content ≡ min now.content.capacity most
@@ -41,7 +41,7 @@ module _ {V : Type 0} (slots : List (Slot V)) (vacant elems : ℕ) (sound : IsSo
     -- the request succeeded
     pub grown_granted : ok → used now.content + n ≤ most → used now.content + n + 1 ≤ more → MakesHopRoom now n ok (hop_content slots (more - 1))
     grown_granted granted few enough =
-        let same : used now.content ≡ taken (places_of slots) = ap (λ m. used m.content) (sym view) in
+        let same : used now.content ≡ used_places (places_of slots) = ap (λ m. used m.content) (sym view) in
         let room : n ≤ (hop_content slots (more - 1)).content.room = omega arith in
         let keeps = kept in
         let capacity : now.content.capacity ≤ more - 1 = rw (← view) (omega arith) in

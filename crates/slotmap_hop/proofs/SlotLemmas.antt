@@ -9,20 +9,20 @@ use Rattle.std.specs.FinSet as set
 use Rattle.slotmap_core.specs.Key.{IsKey, key_cmp}
 use Rattle.slotmap_core.specs.Content.{IsContent, places}
 use Rattle.slotmap_core.specs.Places.{Place, Vacant, detached, next}
-use Rattle.slotmap_core.specs.StackMap.{StackMap, content, offer, taken, filled, IsVersion, IsStacked}
-use Rattle.slotmap_core.proofs.PlacesLemmas.{key, contains-detached, get-next_at, vacant_at as next_found, total}
-use Rattle.slotmap_core.proofs.ContentLemmas.{IsContent-stacked}
-use Rattle.slotmap_core.proofs.KeyLemmas.{keys_total, exact_keys}
+use Rattle.slotmap_core.specs.StackMap.{StackMap, content_of_places, offer, used_places, filled, IsVersion, IsStacked}
+use Rattle.slotmap_core.proofs.Places.PlacesLemmas.{key, contains-detached, get-next_at, vacant_at as next_found, total}
+use Rattle.slotmap_core.proofs.Contents.ContentLemmas.{IsContent-stacked}
+use Rattle.slotmap_core.proofs.General.KeyLemmas.{keys_total, exact_keys}
 use Rattle.slotmap_hop.specs.declared.links.Links.{Links}
 use Rattle.slotmap_hop.specs.declared.links.Slot.{Slot}
 use Rattle.slotmap_hop.specs.Blocks.{HasMaximalBlocks}
-use Rattle.slotmap_hop.specs.Links.{removed, is_front, ListsOnce, vacant_at, next_at, end_at, fronts_of, blocks_of, IsLinked}
+use Rattle.slotmap_hop.specs.Links.{list_without, is_front, ListsOnce, vacant_at, next_at, end_at, fronts_of, blocks_of, IsLinked}
 use Rattle.slotmap_hop.specs.HopContent.{IsHopContent, counts_vacant}
-use Rattle.slotmap_hop.specs.Slots.{layout, places_of, next_place, offer_at, holding, hop_content, IsSound}
+use Rattle.slotmap_hop.specs.Slots.{all_links, places_of, next_place, offer_at, holding, hop_content, IsSound}
 use Rattle.slotmap_hop.proofs.Chain.{occurs-head}
-use Rattle.slotmap_hop.proofs.Steps.{listed_positive}
+use Rattle.slotmap_hop.proofs.FrontsLemmas.{listed_positive}
 use Rattle.slotmap_hop.proofs.Circle.{shown}
-use Rattle.slotmap_hop.proofs.SlotReads.{length-layout, length-places, slot_cases}
+use Rattle.slotmap_hop.proofs.SlotReads.{length-all_links, length-places, slot_cases}
 use Rattle.slotmap_hop.proofs.Taking.{first_block, offer_is_end, offer_is_back}
 use Rattle.slotmap_hop.proofs.Maximal.{maximal}
 use Rattle.slotmap_hop.proofs.StackOrder.{IsStacked-first, untold, IsContent-untold}
@@ -42,7 +42,7 @@ only_zero v next listed zero here = refl
 only_zero v next listed (suc i) here = grind (arith, listed (suc i), only_zero v next listed i)
 
 -- if the block that an insert looks at is place 0 alone, no other place is vacant
-pub none_vacant : (es : List (Option Links)) (fs : List ℕ) → IsLinked es fs → end_at es (next_at es 0) ≡ 0 → (i : ℕ) → vacant_at es i ≡ true → i ≡ 0
+none_vacant : (es : List (Option Links)) (fs : List ℕ) → IsLinked es fs → end_at es (next_at es 0) ≡ 0 → (i : ℕ) → vacant_at es i ≡ true → i ≡ 0
 none_vacant es (x ∷ fs) linked none i here =
     absurd (omega (arith, (first_block es (x ∷ fs) linked).ordered, (shown linked).chain.0, listed_positive (shown linked) x (omega (arith, occurs-head x fs))))
 none_vacant es [] linked none i here =
@@ -51,32 +51,32 @@ none_vacant es [] linked none i here =
 -- slots as links and as places
 
 module _ {V : Type 0} (slots : List (Slot V)) (i : ℕ) where
-  pub vacant_slot : vacant_at (layout slots) i ≡ true → (s : Slot V) × (slice_get slots i ≡ Some s) × (i < length slots) × (slice_get (places_of slots) i ≡ Some (Vacant (s.version + 1)))
+  pub vacant_slot : vacant_at (all_links slots) i ≡ true → (s : Slot V) × (slice_get slots i ≡ Some s) × (i < length slots) × (slice_get (places_of slots) i ≡ Some (Vacant (s.version + 1)))
   vacant_slot vacant = grind (arith, slot_cases slots i)
 
-  pub place_vacant : (n : ℕ) → slice_get (places_of slots) i ≡ Some (Vacant n) → vacant_at (layout slots) i ≡ true
+  place_vacant : (n : ℕ) → slice_get (places_of slots) i ≡ Some (Vacant n) → vacant_at (all_links slots) i ≡ true
   place_vacant n found = grind (arith, slot_cases slots i)
 
-  pub place_not_vacant : (p : Place V) → slice_get (places_of slots) i ≡ Some p → ((n : ℕ) → p ≢ Vacant n) → vacant_at (layout slots) i ≡ false
+  pub place_not_vacant : (p : Place V) → slice_get (places_of slots) i ≡ Some p → ((n : ℕ) → p ≢ Vacant n) → vacant_at (all_links slots) i ≡ false
   place_not_vacant p found other = grind (arith, slot_cases slots i, other)
 
-pub counts_are : {V : Type 0} (slots : List (Slot V)) → vacant_at (layout slots) 0 ≡ true → (i : ℕ) → ((i == 0) || map.contains_key (next (places_of slots)) i) ≡ vacant_at (layout slots) i
+counts_are : {V : Type 0} (slots : List (Slot V)) → vacant_at (all_links slots) 0 ≡ true → (i : ℕ) → ((i == 0) || map.contains_key (next (places_of slots)) i) ≡ vacant_at (all_links slots) i
 counts_are slots sentinel zero = sym sentinel
 counts_are slots sentinel (suc i) = grind (arith, nat_tests, slot_cases slots (suc i), get-next_at (places_of slots) (suc i), next_found (places_of slots) (suc i))
 
 module _ {V : Type 0} (slots : List (Slot V)) (vacant elems : ℕ) (sound : IsSound slots vacant elems) where
-  pub taken_slots : taken (places_of slots) + vacant + 1 ≡ length slots
+  pub taken_slots : used_places (places_of slots) + vacant + 1 ≡ length slots
   taken_slots = omega (arith, total (places_of slots) 1 sound.stacked.sentinel, length-places slots, sound.stacked.counted, sound.counted)
 
   pub slots_fit : length slots < 2 ^ 32
-  slots_fit = omega (arith, sound.linked.fits, length-layout slots)
+  slots_fit = omega (arith, sound.linked.fits, length-all_links slots)
 
-  pub same_counts : (c : ℕ) → counts_vacant (hop_content slots c).content ≡ vacant_at (layout slots)
+  pub same_counts : (c : ℕ) → counts_vacant (hop_content slots c).content ≡ vacant_at (all_links slots)
   same_counts c = fun_ext (λ i. counts_are slots sound.linked.sentinel i)
 
   -- the place from which the next insert takes a slot is vacant
-  pub back_vacant : vacant_at (layout slots) (next_place slots) ≡ true
-  back_vacant = let block = first_block (layout slots) (fronts_of (layout slots)) sound.linked.linked in block.inside (next_place slots) block.ordered (omega arith)
+  pub back_vacant : vacant_at (all_links slots) (next_place slots) ≡ true
+  back_vacant = let block = first_block (all_links slots) (fronts_of (all_links slots)) sound.linked.linked in block.inside (next_place slots) block.ordered (omega arith)
 
   pub empty_stack : next_place slots ≡ 0 → sound.stack ≡ []
   empty_stack none = by sound.stack sound.stacked
@@ -85,7 +85,7 @@ module _ {V : Type 0} (slots : List (Slot V)) (vacant elems : ℕ) (sound : IsSo
       by [] stacked = refl
       by (i ∷ rest) stacked =
           let at = stacked.listed i (inl refl) in
-          absurd (omega (arith, at.0, none_vacant (layout slots) (fronts_of (layout slots)) sound.linked.linked none i (place_vacant slots i at.1.0 at.1.1)))
+          absurd (omega (arith, at.0, none_vacant (all_links slots) (fronts_of (all_links slots)) sound.linked.linked none i (place_vacant slots i at.1.0 at.1.1)))
 
   -- the vacant places, in an order that starts with the one that the next insert uses
   pub record Ordered : Type 0 where
@@ -101,7 +101,7 @@ module _ {V : Type 0} (slots : List (Slot V)) (vacant elems : ℕ) (sound : IsSo
       let some = λ (some : 0 < next_place slots). IsStacked-first (places_of slots) sound.stack (next_place slots) sound.stacked (sound.stacked.complete (next_place slots) _ some at.3) in
       let none = λ (none : next_place slots ≡ 0). subst (IsStacked (places_of slots)) (empty_stack none) sound.stacked in
       record {
-        order = cond (eqb (next_place slots) 0) [] (next_place slots ∷ removed sound.stack (next_place slots));
+        order = cond (eqb (next_place slots) 0) [] (next_place slots ∷ list_without sound.stack (next_place slots));
         ordered = grind (arith, nat_tests, some, none);
         offers = grind (arith, nat_tests);
         fills_back = λ some p. grind (arith, nat_tests);
@@ -111,18 +111,18 @@ module _ {V : Type 0} (slots : List (Slot V)) (vacant elems : ℕ) (sound : IsSo
   abbrev pub ordered_map : ℕ → StackMap V
   ordered_map c = record { places = places_of slots; vacant = in_order.order; capacity = c }
 
-  pub content_is : (c : ℕ) → untold (content (ordered_map c)) ≡ (hop_content slots c).content
+  pub content_is : (c : ℕ) → untold (content_of_places (ordered_map c)) ≡ (hop_content slots c).content
   content_is c = ap (λ o. holding (places_of slots) o c) in_order.offers
 
-  pub places_count : (c : ℕ) → places (hop_content slots c).content + 1 ≡ length slots
+  places_count : (c : ℕ) → places (hop_content slots c).content + 1 ≡ length slots
   places_count c = omega (arith, total (places_of slots) 1 sound.stacked.sentinel, length-places slots)
 
   pub valid : (c : ℕ) → length slots ≤ c + 1 → IsHopContent (hop_content slots c)
   valid c holds = record {
-    valid = subst (IsContent true) (content_is c) (IsContent-untold true (content (ordered_map c)) (IsContent-stacked (ordered_map c) in_order.ordered (omega (arith, length-places slots))));
+    valid = subst (IsContent true) (content_is c) (IsContent-untold true (content_of_places (ordered_map c)) (IsContent-stacked (ordered_map c) in_order.ordered (omega (arith, length-places slots))));
     none_detached = set.same_set keys_total exact_keys (detached (places_of slots)) set.empty (λ k.
         grind (arith, nat_tests, contains-detached (places_of slots) k, sound.none_detached k.index k.version, set.contains-empty key_cmp k));
-    maximal = subst (λ v. HasMaximalBlocks v (blocks_of (layout slots))) (sym (same_counts c)) (maximal (layout slots) sound.linked);
+    maximal = subst (λ v. HasMaximalBlocks v (blocks_of (all_links slots))) (sym (same_counts c)) (maximal (all_links slots) sound.linked);
     offers = λ below.
-        grind (arith, nat_tests, places_count c, length-layout slots, length-places slots, offer_is_back (layout slots) sound.linked, offer_is_end (layout slots) sound.linked);
+        grind (arith, nat_tests, places_count c, length-all_links slots, length-places slots, offer_is_back (all_links slots) sound.linked, offer_is_end (all_links slots) sound.linked);
   }

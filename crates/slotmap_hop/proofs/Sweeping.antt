@@ -5,16 +5,16 @@ use Rattle.slotmap_core.specs.Key.{Key}
 use Rattle.slotmap_core.specs.Content.{Content, IsLive}
 use Rattle.slotmap_core.specs.Listing.{NoneBelow}
 use Rattle.slotmap_core.specs.Transition.{Removes, with_value}
-use Rattle.slotmap_core.proofs.IndexLemmas.{NoneBelow-end, get-remove_other}
-use Rattle.slotmap_core.proofs.Maps.{in_after_remove}
-use Rattle.slotmap_core.proofs.KeyLemmas.{keys_total, exact_keys}
-use Rattle.slotmap_core.proofs.SweepLemmas.{first_entry, above_next, Swept, Swept-start, Swept-to, Swept-on, Swept-next, Swept-removed}
-use Rattle.slotmap_core.proofs.LeaveLemmas.{same_live}
-use Rattle.slotmap_core.proofs.ListingLemmas.{remove-insert}
+use Rattle.slotmap_core.proofs.Contents.IndexLemmas.{NoneBelow-end, get-remove_other}
+use Rattle.slotmap_core.proofs.General.Maps.{in_after_remove}
+use Rattle.slotmap_core.proofs.General.KeyLemmas.{keys_total, exact_keys}
+use Rattle.slotmap_core.proofs.Contents.SweepLemmas.{first_entry, above_next, Swept, Swept-start, Swept-to, Swept-on, Swept-next, Swept-removed}
+use Rattle.slotmap_core.proofs.Contents.LeaveLemmas.{same_live}
+use Rattle.slotmap_core.proofs.General.ListingLemmas.{remove-insert}
 use Rattle.slotmap_hop.specs.declared.links.Slot.{Slot}
 use Rattle.slotmap_hop.specs.HopContent.{HopContent, IsHopContent, IsNextLive, MayStand, StaysHop, hop_with_value, blocks_without, blocks_without_all}
 use Rattle.slotmap_hop.specs.Slots.{hop_content, IsSound}
-use Rattle.slotmap_hop.specs.Walk.{CanGoOn}
+use Rattle.slotmap_hop.specs.Iter.{CanGoOn}
 use Rattle.slotmap_hop.proofs.SlotLemmas.{same_counts}
 use Rattle.slotmap_hop.proofs.BlocksLeft.{blocks_taken, keys_first, keys_none}
 use Rattle.slotmap_hop.proofs.WellFormed.{IsHopContent-with_value}
@@ -48,7 +48,7 @@ module _ {K V : Type 0} (data_of : K → Key) where
     comes_removed new next gone comes = grind (arith, in_after_remove keys_total exact_keys now.content.live (data_of k), get-remove_other now.content.live (data_of k))
 
     -- the key is removed, perhaps after a write to its value
-    pub sweep_removed : (was : Content V) (new : HopContent V) (next : Option K) → Swept true old.content was (data_of k).index → IsLive was (data_of k)
+    sweep_removed : (was : Content V) (new : HopContent V) (next : Option K) → Swept true old.content was (data_of k).index → IsLive was (data_of k)
         → new.content.live ≡ map.remove now.content.live (data_of k) → IsNextLive data_of now.content ((data_of k).index + 1) next
         → Removes was (data_of k) new.content → new.content.capacity ≡ was.capacity → IsHopContent new → Sweeping old new ((data_of k).index + 1) next
     sweep_removed was new next swept is_live gone comes removes capacity well = record {

@@ -201,7 +201,7 @@ impl<K: Key, V: Drop> HopSlotMap<K, V> {
             return Err(values);
         }
         for i in 0..N {
-            self.exchange(keys[i], &mut values[i]);
+            self.swap_value(keys[i], &mut values[i]);
         }
         Ok(values)
     }
@@ -222,7 +222,7 @@ impl<K: Key, V: Drop> HopSlotMap<K, V> {
     }
 
     // Exchanges the value of a live key for another.
-    fn exchange(&mut self, key: K, value: &mut V)
+    fn swap_value(&mut self, key: K, value: &mut V)
         requires { IsLive self.old.content (K.data_of key) }
         ensures replaces { self.new ≡ hop_with_value self.old (K.data_of key) value.old }
         ensures value { map.get self.old.content.live (K.data_of key) ≡ Some value.new }

@@ -19,7 +19,7 @@ fn clone_slot<V: Clone>(slot: &Slot<V>) -> Result<Slot<V>, AllocError>
     let state = match &slot.state {
         State::Occupied(value) => State::Occupied(value.clone()?),
         State::Free(links) => State::Free(*links),
-        State::UsedUp => State::UsedUp,
+        State::Retired => State::Retired,
     };
     Ok(Slot {
         version: slot.version,

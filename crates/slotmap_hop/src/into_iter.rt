@@ -9,7 +9,7 @@ use crate::HopSlotMap;
 use crate::clone::clone_slots;
 use crate::counted::CountedSlots;
 use crate::iter::{fmt_remaining, next_live};
-use crate::links::{Slot, links_at, use_up};
+use crate::links::{Slot, links_at, retire};
 use slotmap_core::keys::{Key, KeyData};
 use std::alloc::AllocError;
 use std::fmt;
@@ -42,13 +42,13 @@ pub struct IntoIter<K, V> {
 impl<K, V> Model for IntoIter<K, V> {
     ghost use Rattle.std.specs.Prelude.{List};
     ghost use Rattle.slotmap_core.specs.Key.{Key};
-    ghost use Rattle.slotmap_hop.specs.Walk.{pairs_left, IsWalk};
+    ghost use Rattle.slotmap_hop.specs.Iter.{pairs_left, IsIter};
 
     ghost Value = { List (Key × V) };
 
     ghost view = { λ it. pairs_left it.slots.items it.place };
 
-    ghost invariant = { λ it. IsWalk it.slots.items 0 it.place it.left };
+    ghost invariant = { λ it. IsIter it.slots.items 0 it.place it.left };
 }
 
 impl<K, V> IntoIter<K, V> {
@@ -120,7 +120,7 @@ impl<K: Key, V: Drop> Iterator for IntoIter<K, V> {
         self.left -= 1;
         self.place = place + 1;
         let key = K::from(KeyData::exact(place as u32, version));
-        let value = use_up(self.slots.as_mut_slice(), place as u32);
+        let value = retire(self.slots.as_mut_slice(), place as u32);
         Some((key, value))
     }
 

@@ -5,7 +5,7 @@ ghost use Rattle.std.specs.Iterator.{YieldsFirstBy, item_count, at_most, UpTo};
 ghost use Rattle.std.specs.FinMap as map;
 ghost use Rattle.slotmap_core.specs.Listing.{IsListing, IsKeyListing, IsValueListing};
 ghost use Rattle.slotmap_hop.specs.HopContent.{IsHopContent};
-ghost use Rattle.slotmap_hop.specs.Walk.{pairs_left, CanGoOn, FindsSlot, StepsOn, ReadsOnTheWay, CountsReads, CountsReadsSomewhere, ListsRetired, StartsIter};
+ghost use Rattle.slotmap_hop.specs.Iter.{pairs_left, CanGoOn, FindsSlot, StepsOn, ReadsOnTheWay, CountsReads, CountsReadsSomewhere, ListsRetired, StartsIter};
 
 use crate::HopSlotMap;
 use crate::counted::CountedSlots;
@@ -38,13 +38,13 @@ pub struct Iter<'a, K, V> {
 
 impl<'a, K, V> Model for Iter<'a, K, V> {
     ghost use Rattle.slotmap_core.specs.Key.{Key};
-    ghost use Rattle.slotmap_hop.specs.Walk.{Walking, pairs_left, retired_left, IsWalk};
+    ghost use Rattle.slotmap_hop.specs.Iter.{HopIter, pairs_left, retired_left, IsIter};
 
-    ghost Value = { Walking (Key × V) };
+    ghost Value = { HopIter (Key × V) };
 
     ghost view = { λ it. record { rest = pairs_left it.counted.slots it.place; retired = retired_left it.counted.slots it.place; reads = it.counted.reads } };
 
-    ghost invariant = { λ it. IsWalk it.counted.slots it.counted.reads it.place it.left };
+    ghost invariant = { λ it. IsIter it.counted.slots it.counted.reads it.place it.left };
 }
 
 // The next live slot from this one on, and its index. All iterators find their slots here. Since
@@ -204,9 +204,9 @@ pub struct Keys<'a, K, V> {
 impl<'a, K, V> Model for Keys<'a, K, V> {
     ghost use Rattle.std.specs.Prelude.{List, map};
     ghost use Rattle.slotmap_core.specs.Key.{Key};
-    ghost use Rattle.slotmap_hop.specs.Walk.{Walking};
+    ghost use Rattle.slotmap_hop.specs.Iter.{HopIter};
 
-    ghost Value = { Walking Key };
+    ghost Value = { HopIter Key };
 
     ghost view = { λ it. record { rest = map (λ pair. pair.0) it.pairs.rest; retired = it.pairs.retired; reads = it.pairs.reads } };
 }
@@ -304,9 +304,9 @@ pub struct Values<'a, K, V> {
 impl<'a, K, V> Model for Values<'a, K, V> {
     ghost use Rattle.std.specs.Prelude.{List, map};
     ghost use Rattle.slotmap_core.specs.Key.{Key};
-    ghost use Rattle.slotmap_hop.specs.Walk.{Walking};
+    ghost use Rattle.slotmap_hop.specs.Iter.{HopIter};
 
-    ghost Value = { Walking V };
+    ghost Value = { HopIter V };
 
     ghost view = { λ it. record { rest = map (λ pair. pair.1) it.pairs.rest; retired = it.pairs.retired; reads = it.pairs.reads } };
 }

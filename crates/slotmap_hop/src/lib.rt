@@ -29,6 +29,7 @@ ghost use Rattle.slotmap_core.specs.Refusal.{RefusesCapacity};
 ghost use Rattle.slotmap_hop.specs.HopContent.{IsHopContent, MakesHopRoom, NoBlocks};
 
 mod access;
+mod clear;
 mod clone;
 mod counted;
 mod drain;
@@ -36,10 +37,10 @@ mod insert;
 mod into_iter;
 mod iter;
 mod links;
+mod list;
 mod primary;
 mod remove;
 mod retain;
-mod slots;
 
 pub use drain::Drain;
 pub use into_iter::IntoIter;

@@ -7,7 +7,7 @@ ghost use Rattle.slotmap_core.specs.Transition.{Removes};
 ghost use Rattle.slotmap_hop.specs.HopContent.{StaysHop, blocks_without};
 
 use crate::HopSlotMap;
-use crate::links::{free_slot, use_up};
+use crate::links::{free_slot, retire};
 use slotmap_core::keys::Key;
 
 impl<K: Key, V: Drop> HopSlotMap<K, V> {
@@ -49,7 +49,7 @@ impl<K: Key, V: Drop> HopSlotMap<K, V> {
         let version = data.version();
         self.live_count -= 1;
         if version == u32::MAX {
-            return use_up(self.slots.as_mut_slice(), index);
+            return retire(self.slots.as_mut_slice(), index);
         }
         self.vacant_count += 1;
         free_slot(self.slots.as_mut_slice(), index, version + 1)

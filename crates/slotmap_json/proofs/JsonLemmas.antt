@@ -7,7 +7,7 @@ use Rattle.serde_json.specs.Data.{Data, array, Items}
 use Rattle.serde_json.specs.Find.{as_array}
 use Rattle.serde_json.specs.View.{view, items_of, items_view}
 use Rattle.serde_json.specs.declared.value.Value.{Value}
-use Rattle.slotmap_json.specs.Json.{version_at, value_at, ok_map, slot_json, IsSlotJson, ReadsSlot, ReadsAll, HasElements, IsRefused}
+use Rattle.slotmap_json.specs.Json.{version_member, value_member, ok_map, slot_json, IsSlotJson, ReadsSlot, ReadsAll, HasElements, IsRefused}
 use Rattle.slotmap_core.specs.declared.errors.JsonError.{JsonError}
 use Rattle.slotmap_core.specs.declared.errors.JsonError.TheVariants.{Shape, Memory}
 use Rattle.slotmap_core.specs.declared.errors.OutOfMemory.{OutOfMemory}
@@ -27,7 +27,7 @@ slot_json_given gives slot v x r is given h = grind arith
 
 -- the result of reading an element that has a value
 pub reads_value : {V : Type 0} (reads : Data → Result V JsonError → Type 0) (d x : Data) (version : ℕ) (read : Result V JsonError)
-    (r : Result (SlotRecord V) JsonError) (u : Option ℕ) → u ≡ version_at d → u ≡ Some version → value_at d ≡ Some x → reads x read
+    (r : Result (SlotRecord V) JsonError) (u : Option ℕ) → u ≡ version_member d → u ≡ Some version → value_member d ≡ Some x → reads x read
     → r ≡ ok_map (λ v. record { value = Some v; version = version }) read → ReadsSlot reads d r
 reads_value reads d x version read r u looked versioned valued reading is = rw (sym looked ∙ versioned, valued) (read, reading, is)
 

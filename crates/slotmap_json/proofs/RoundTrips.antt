@@ -12,7 +12,7 @@ use Rattle.slotmap_core.specs.Written.{Writes, Restores}
 use Rattle.slotmap_core.specs.declared.errors.JsonError.{JsonError}
 use Rattle.slotmap_core.specs.declared.errors.JsonError.TheVariants.{Shape, Memory}
 use Rattle.slotmap_core.specs.declared.serial.SlotRecord.{SlotRecord}
-use Rattle.slotmap_core.proofs.KeyLemmas.{nat_tests}
+use Rattle.slotmap_core.proofs.General.KeyLemmas.{nat_tests}
 use Rattle.slotmap_json.specs.Json.{key_json, read_key, as_u32, ok_map, slot_json, IsSlotJson, IsSlotsJson, ReadsSlot, ReadsAll, IsReadAs, IsRefused, ReadsBack}
 
 fits_or_not : (n : ℕ) → (as_u32 n ≡ Some n) ⊎ (as_u32 n ≡ None)

@@ -39,16 +39,16 @@ not_null null = None
 not_null d = Some d
 
 -- what an object has under the name "value", if there is such a member and it isn't null
-abbrev pub value_at : Data → Option Data
-value_at d = option_and_then not_null (get (codes "value") d)
+abbrev pub value_member : Data → Option Data
+value_member d = option_and_then not_null (get (codes "value") d)
 
 -- the version of a slot
-abbrev pub version_at : Data → Option ℕ
-version_at d = u32_at (codes "version") d
+abbrev pub version_member : Data → Option ℕ
+version_member d = u32_at (codes "version") d
 
 -- the key that JSON is read as: both numbers must be there, and the version is made odd
 abbrev pub read_key : Data → Option Key
-read_key d = option_and_then (λ index. option_map (key_from index) (version_at d)) (u32_at (codes "idx") d)
+read_key d = option_and_then (λ index. option_map (key_from index) (version_member d)) (u32_at (codes "idx") d)
 
 -- the result, with f of its value
 abbrev pub ok_map : {A B : Type 0} → (A → B) → Result A JsonError → Result B JsonError
@@ -81,8 +81,8 @@ module _ {V : Type 0} where
   -- the possible results of reading one element: its version is read first, and its value after that
   abbrev pub ReadsSlot : (Data → Result V JsonError → Type 0) → Data → Result (SlotRecord V) JsonError → Type 0
   ReadsSlot reads d r =
-      MatchOption (version_at d) (r ≡ Err Shape)
-      (λ version. MatchOption (value_at d) (r ≡ Ok (record { value = None; version = version }))
+      MatchOption (version_member d) (r ≡ Err Shape)
+      (λ version. MatchOption (value_member d) (r ≡ Ok (record { value = None; version = version }))
       (λ x. (read : Result V JsonError) × reads x read × (r ≡ ok_map (λ v. record { value = Some v; version = version }) read)))
 
   -- each element is read as the slot at its position

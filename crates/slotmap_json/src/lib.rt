@@ -8,7 +8,7 @@
 ghost use Rattle.std.specs.Prelude.{◌≡◌, ◌≢◌, [], IfOk, IfErr, OnErr, option_map};
 ghost use Rattle.std.specs.Result.{result_ok};
 ghost use Rattle.serde_json.specs.View.{view};
-ghost use Rattle.slotmap_json.specs.Json.{key_json, read_key, u32_at, GivesJson, IsSlotJson, IsSlotsJson, slot_json, value_at, ReadsJson, ReadsSlot, IsReadAs, IsRefused};
+ghost use Rattle.slotmap_json.specs.Json.{key_json, read_key, u32_at, GivesJson, IsSlotJson, IsSlotsJson, slot_json, value_member, ReadsJson, ReadsSlot, IsReadAs, IsRefused};
 ghost use Rattle.slotmap_core.specs.Key.{IsKey};
 ghost use Rattle.slotmap_core.specs.declared.errors.JsonError.TheVariants.{Shape};
 
@@ -184,7 +184,7 @@ fn slot_from_value<V: Drop, G: Fn(&Value) -> Result<V, JsonError>>(
 
 /// Returns the member `value` of an element, unless it is null.
 fn value_member(element: &Value) -> Option<&Value>
-    ensures { option_map (λ v. view v.now) result ≡ value_at (view element.now) }
+    ensures { option_map (λ v. view v.now) result ≡ value_member (view element.now) }
 {
     element.get("value").filter(|value| !value.is_null())
 }

@@ -11,12 +11,12 @@ use Rattle.slotmap_core.specs.declared.commands.DetachCommand.TheVariants as det
 use Rattle.slotmap_core.specs.declared.commands.Reply.{Reply}
 use Rattle.slotmap_core.specs.declared.commands.Reply.TheVariants as reply
 use Rattle.slotmap_core.specs.Law.{keys_told, DetachedNotReissued, DetachedReattaches, ReattachBinds, Spares}
-use Rattle.slotmap_core.proofs.KeyLemmas.{keys_total, exact_keys, itself}
-use Rattle.slotmap_run.proofs.Changes.{changes}
+use Rattle.slotmap_core.proofs.General.KeyLemmas.{keys_total, exact_keys, itself}
+use Rattle.slotmap_run.proofs.MapChanges.{changes}
 use Rattle.slotmap_run.proofs.Laws.{IsGood, good_stays, told_new, weaker}
-use Rattle.slotmap_run.proofs.Cases.{detach_machine, detached_stays}
+use Rattle.slotmap_run.proofs.StepCases.{detach_machine, detached_stays}
 use Rattle.slotmap_run.proofs.Runs.{run_split, run_keeps, run_keeps_by}
-use Rattle.slotmap_run.proofs.Anew.{RunsWell}
+use Rattle.slotmap_run.proofs.NewRuns.{RunsWell}
 
 module _ {K V R E : Type 0} (given : Given K V R E) where
   pub detached_not_reissued : (commands : List (DetachCommand K V)) (replies : List (Reply K V R E)) → RunsWell (DetachStep given) commands replies → DetachedNotReissued given.data_of commands replies

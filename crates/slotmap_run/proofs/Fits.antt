@@ -7,21 +7,21 @@ use Rattle.slotmap_core.specs.Key.{Key, key_cmp}
 use Rattle.slotmap_core.specs.Content.{Content, IsContent, Stands, used, most}
 use Rattle.slotmap_core.specs.Transition.{IsNew, Inserts}
 use Rattle.slotmap_core.specs.Machine as machine
-use Rattle.slotmap_core.specs.Machine.{State, IsIssued, IsHeld, Fresh, after_insert, after_remove, after_replace, after_reserve, after_detach, after_reattach, retired}
+use Rattle.slotmap_core.specs.Machine.{State, IsIssued, StandsIn, Fresh, after_insert, after_remove, after_replace, after_reserve, after_detach, after_reattach, retired}
 use Rattle.slotmap_core.specs.Fit.{Fits, Lasts}
-use Rattle.slotmap_core.proofs.KeyLemmas.{keys_total, exact_keys, itself}
-use Rattle.slotmap_run.proofs.Changes.{changes}
-use Rattle.slotmap_core.proofs.Maps.{in_inserted}
-use Rattle.slotmap_core.proofs.PlaceCount.{offer_free, free, places_grow}
-use Rattle.slotmap_core.proofs.Standing.{new_stands, inserted_stands, inserted_vacant}
-use Rattle.slotmap_core.proofs.Retired.{in_retired}
-use Rattle.slotmap_run.proofs.Moves.{Moves}
+use Rattle.slotmap_core.proofs.General.KeyLemmas.{keys_total, exact_keys, itself}
+use Rattle.slotmap_run.proofs.MapChanges.{changes}
+use Rattle.slotmap_core.proofs.General.Maps.{in_inserted}
+use Rattle.slotmap_core.proofs.Places.PlaceCount.{offer_free, free, places_grow}
+use Rattle.slotmap_core.proofs.Contents.StandsLemmas.{new_stands, inserted_stands, inserted_vacant}
+use Rattle.slotmap_core.proofs.Contents.Retired.{in_retired}
+use Rattle.slotmap_run.proofs.OtherSteps.{Moves}
 
 module _ {V : Type 0} (s : State V) (c : Content V) (fits : Fits s c) where
-  pub stands_of : (k : Key) → IsHeld s k → Stands c k
+  pub stands_of : (k : Key) → StandsIn s k → Stands c k
   stands_of k h = grind (arith, fits.live, fits.detached)
 
-  pub held_of : (k : Key) → Stands c k → IsHeld s k
+  pub held_of : (k : Key) → Stands c k → StandsIn s k
   held_of k h = grind (arith, fits.live, fits.detached)
 
   pub used_same : machine.used s ≡ used c
@@ -63,7 +63,7 @@ module _ {V : Type 0} (reuses : Bool) (s : State V) (old : Content V) (ok : IsCo
     same_retired = set.same_set keys_total exact_keys (retired (after_insert s k v)) old.retired
         (λ q. grind (arith, changes, in_retired (after_insert s k v) q, in_retired s q, fits.retired, newer k))
 
-    pub inserts_fits : Fits (after_insert s k v) new
+    inserts_fits : Fits (after_insert s k v) new
     inserts_fits = record {
       live = ap (λ (m : map.FinMap key_cmp V). map.insert m k v) fits.live ∙ sym i.live;
       detached = fits.detached ∙ sym i.detached;

@@ -12,12 +12,12 @@ use Rattle.slotmap_core.specs.Machine.{State, empty_state}
 use Rattle.slotmap_core.specs.Fit.{Fits, Lasts}
 use Rattle.slotmap_core.specs.Secondary.{Pairs}
 use Rattle.slotmap_core.specs.Joined.{Joined, RunsBeside}
-use Rattle.slotmap_core.specs.Dictionary.{Dictionary, WithDictionary, RunsTold, unused}
+use Rattle.slotmap_core.specs.Dictionary.{Dictionary, WithDictionary, RunsByDictionary, unused}
 use Rattle.slotmap_core.specs.Run.{Run}
-use Rattle.slotmap_core.proofs.Standing.{new_stands}
+use Rattle.slotmap_core.proofs.Contents.StandsLemmas.{new_stands}
 use Rattle.slotmap_run.proofs.Fits.{new_fits, new_lasts}
 use Rattle.slotmap_run.proofs.Runs.{run_keeps}
-use Rattle.slotmap_run.specs.Ties.{joined, told_by, Known, Follows, JoinServed}
+use Rattle.slotmap_run.specs.Ties.{joined, told_by, Known, JoinFollows, JoinServed}
 use Rattle.slotmap_run.specs.declared.joined.Beside.{Beside}
 
 is_new : {V : Type 0} (old : Content V) → places old ≡ 0 → IsNew old
@@ -35,7 +35,7 @@ fewer_calls n c lasts = grind (arith, lasts.standing, lasts.vacant)
 -- one call
 module _ {M S K V W C R : Type 0} {data_of : K → Key} {content : M → Content V} {pairs : S → Pairs W}
     {Step : Joined K V W → C → R → Joined K V W → Type 0} {Telling : WithDictionary K V W → C → R → WithDictionary K V W → Type 0} {old new : Beside M S K} {c : C} {r : R} where
-  pub served : Follows data_of Step Telling (content old.primary.now) (pairs old.secondary.now) old.keys.now.items c r (content new.primary.now) (pairs new.secondary.now) new.keys.now.items
+  pub served : JoinFollows data_of Step Telling (content old.primary.now) (pairs old.secondary.now) old.keys.now.items c r (content new.primary.now) (pairs new.secondary.now) new.keys.now.items
       → new.primary.ghost_name ≡ old.primary.ghost_name → new.secondary.ghost_name ≡ old.secondary.ghost_name → JoinServed data_of content pairs Step Telling old c r new
   served follows primary secondary = record { follows = follows; same_primary = primary; same_secondary = secondary }
 
@@ -82,12 +82,12 @@ module _ {M S K V W C R : Type 0} (data_of : K → Key) (content : M → Content
     same_q : q ≡ new.secondary.now
     same_q = is_q (run_keeps Served (λ maps. maps.secondary.ghost_name ≡ old.secondary.ghost_name) (λ s c r t h e. h.same_secondary ∙ e) cs rs old new run refl)
 
-    pub joined_run : RunsBeside Step (content old.primary.now) (pairs old.secondary.now) cs rs (content p) (pairs q)
+    joined_run : RunsBeside Step (content old.primary.now) (pairs old.secondary.now) cs rs (content p) (pairs q)
     joined_run s fits =
         let ran = runs_beside cs rs old new run s fits in
         (at ran.0 new, subst (λ ks. Run Step (joined s (pairs old.secondary.now) ks) cs rs (at ran.0 new)) none ran.1, rw same_p ran.2, rw same_q refl)
 
-    pub told_run : RunsTold Telling (content old.primary.now) (pairs old.secondary.now) cs rs (content p) (pairs q)
+    told_run : RunsByDictionary Telling (content old.primary.now) (pairs old.secondary.now) cs rs (content p) (pairs q)
     told_run no_places empty few =
         let new_first = is_new (content old.primary.now) no_places in
         let known = nothing_known data_of (content old.primary.now) (pairs old.secondary.now) new_first empty in
@@ -99,7 +99,7 @@ module _ {M S K V W C R : Type 0} (data_of : K → Key) (content : M → Content
 -- if nothing was run, both maps are as before
 module _ {M S K V W : Type 0} (content : M → Content V) (pairs : S → Pairs W) {old new : Beside M S K} {p : M} {q : S} (same : new ≡ old)
     (is_p : new.primary.ghost_name ≡ old.primary.ghost_name → p ≡ new.primary.now) (is_q : new.secondary.ghost_name ≡ old.secondary.ghost_name → q ≡ new.secondary.now) where
-  pub joined_kept : (content p ≡ content old.primary.now) × (pairs q ≡ pairs old.secondary.now)
+  joined_kept : (content p ≡ content old.primary.now) × (pairs q ≡ pairs old.secondary.now)
   joined_kept = (
     ap content (is_p (ap (λ maps. maps.primary.ghost_name) same) ∙ ap (λ maps. maps.primary.now) same),
     ap pairs (is_q (ap (λ maps. maps.secondary.ghost_name) same) ∙ ap (λ maps. maps.secondary.now) same),
@@ -110,7 +110,7 @@ pub record JoinedIfOk {M S K V W C R A B : Type 0} (content : M → Content V) (
     (Step : Joined K V W → C → R → Joined K V W → Type 0) (Telling : WithDictionary K V W → C → R → WithDictionary K V W → Type 0)
     (cs : List C) (result : Result A B) (told : A → List R) (old : Beside M S K) (p : M) (q : S) : Type 0 where
   pub run : IfOk result (λ a. RunsBeside Step (content old.primary.now) (pairs old.secondary.now) cs (told a) (content p) (pairs q))
-  pub dictionary : IfOk result (λ a. RunsTold Telling (content old.primary.now) (pairs old.secondary.now) cs (told a) (content p) (pairs q))
+  pub dictionary : IfOk result (λ a. RunsByDictionary Telling (content old.primary.now) (pairs old.secondary.now) cs (told a) (content p) (pairs q))
   pub unchanged : OnErr result ((content p ≡ content old.primary.now) × (pairs q ≡ pairs old.secondary.now))
 
 pub joined_if_ok : {M S K V W C R A B : Type 0} (data_of : K → Key) {content : M → Content V} {pairs : S → Pairs W}

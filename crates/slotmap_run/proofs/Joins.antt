@@ -9,14 +9,14 @@ use Rattle.slotmap_core.specs.Key.{Key}
 use Rattle.slotmap_core.specs.Content.{Content, IsContent}
 use Rattle.slotmap_core.specs.Transition.{Inserts, Keeps, Removes, Detaches, Reattaches}
 use Rattle.slotmap_core.specs.Given.{Given as First}
-use Rattle.slotmap_core.specs.Machine.{State, IsIssued, IsHeld}
+use Rattle.slotmap_core.specs.Machine.{State, IsIssued, StandsIn}
 use Rattle.slotmap_core.specs.Step as first_step
 use Rattle.slotmap_core.specs.Fit.{Fits, Lasts, Follows as FollowsFirst}
 use Rattle.slotmap_core.specs.Law.{reply_keys}
 use Rattle.slotmap_core.specs.Secondary.{Pairs, get, put, remove, RefusesPut}
 use Rattle.slotmap_core.specs.SecondaryStep.{LooksAt}
 use Rattle.slotmap_core.specs.Joined.{Given, Joined, named, Step, DetachStep}
-use Rattle.slotmap_core.specs.Dictionary.{Dictionary, WithDictionary, noted, Tells, TellingStep, DetachTellingStep}
+use Rattle.slotmap_core.specs.Dictionary.{Dictionary, WithDictionary, noted, RepliesByDictionary, DictionaryStep, DetachDictionaryStep}
 use Rattle.slotmap_core.specs.Call.{MayGrow}
 use Rattle.slotmap_core.specs.Refusal.{Refuses, RefusesReattach}
 use Rattle.slotmap_core.specs.declared.errors.ReattachError.{ReattachError}
@@ -34,15 +34,15 @@ use Rattle.slotmap_core.specs.declared.joined.JoinedDetachCommand.{JoinedDetachC
 use Rattle.slotmap_core.specs.declared.joined.JoinedReply.{JoinedReply}
 use Rattle.slotmap_core.specs.declared.joined.JoinedDetachCommand.TheVariants as detaching
 use Rattle.slotmap_core.specs.declared.joined.JoinedReply.TheVariants as reply
-use Rattle.slotmap_run.proofs.Cases.{detach_cases}
+use Rattle.slotmap_run.proofs.StepCases.{detach_cases}
 use Rattle.slotmap_run.proofs.Laws.{Shrinks}
-use Rattle.slotmap_run.proofs.Known.{fewer, one_more, puts, takes}
-use Rattle.slotmap_run.proofs.Moves.{keeps}
+use Rattle.slotmap_run.proofs.KnownKeys.{fewer, one_more, puts, takes}
+use Rattle.slotmap_run.proofs.OtherSteps.{keeps}
 use Rattle.slotmap_run.proofs.Fits.{stands_of}
 use Rattle.slotmap_run.proofs.Steps as first
 use Rattle.slotmap_run.specs.Order.{Served}
 use Rattle.slotmap_run.specs.Replies.{joined_reattach_reply_of}
-use Rattle.slotmap_run.specs.Ties.{joined, told_by, Known, Follows}
+use Rattle.slotmap_run.specs.Ties.{joined, told_by, Known, JoinFollows}
 
 -- calls of the primary map
 
@@ -57,11 +57,11 @@ module _ {K V W R C : Type 0} (given : Given K W R) (old new : Content V) (m : P
   quiet : reply_keys given.data_of b ≡ [] → FollowsFirst (first_step.DetachStep (closed given)) old a b new
       → ((s t : State V) → first_step.DetachStep (closed given) s a b t → Machine (joined s m keys) c r (joined t m keys))
       → ((s t : State V) (d : Dictionary W) → Machine (joined s m keys) c r (joined t m keys) → Telling (told_by s m keys d) c r (told_by t m keys d))
-      → Follows given.data_of Machine Telling old m keys c r new m keys
+      → JoinFollows given.data_of Machine Telling old m keys c r new m keys
   quiet none follows step telling = record {
     step = λ s fits.
         let moved = follows.step s fits in
-        let less : Shrinks given.data_of s b moved.0 = elim (detach_cases (closed given) s a b moved.0 moved.1) [ inl binds ↦ let one = binds.tells in absurd (cc) | inr less ↦ less ] in (
+        let less : Shrinks given.data_of s b moved.0 = elim (detach_cases (closed given) s a b moved.0 moved.1) [ inl binds ↦ let one = binds.by_dictionary in absurd (cc) | inr less ↦ less ] in (
           moved.0,
           step s moved.0 moved.1,
           moved.2,
@@ -72,10 +72,10 @@ module _ {K V W R C : Type 0} (given : Given K W R) (old new : Content V) (m : P
 
 module _ {K V W R : Type 0} (given : Given K W R) (old new : Content V) (m : Pairs W) (keys : List K) (ok : IsContent given.reuses old) where
   abbrev Plainly : JoinedCommand V W → JoinedReply K V W R → List K → Type 0
-  Plainly c r keys' = Follows given.data_of (Step given) (TellingStep given) old m keys c r new m keys'
+  Plainly c r keys' = JoinFollows given.data_of (Step given) (DictionaryStep given) old m keys c r new m keys'
 
   abbrev Detaching : JoinedDetachCommand V W → JoinedReply K V W R → Type 0
-  Detaching c r = Follows given.data_of (DetachStep given) (DetachTellingStep given) old m keys c r new m keys
+  Detaching c r = JoinFollows given.data_of (DetachStep given) (DetachDictionaryStep given) old m keys c r new m keys
 
   pub inserts : IsContent given.reuses new → (key : K) (v : V) → Inserts old (given.data_of key) v new → Plainly (command.Insert v) (reply.Key key) (keys ++ key ∷ [])
   inserts new_ok key v i =
@@ -88,7 +88,7 @@ module _ {K V W R : Type 0} (given : Given K W R) (old new : Content V) (m : Pai
               moved.2,
               λ d known lasts. (
                 d,
-                record { steps = ((moved.1, refl), refl); tells = tt; notes = refl },
+                record { steps = ((moved.1, refl), refl); by_dictionary = tt; notes = refl },
                 one_more given.data_of old new m keys s moved.0 fits moved.2 d known key v moved.1.1 moved.1.2 lasts,
               ),
             );
@@ -98,9 +98,9 @@ module _ {K V W R : Type 0} (given : Given K W R) (old new : Content V) (m : Pai
   module _ (c : JoinedCommand V W) (r : JoinedReply K V W R) (a : Command K V) (b : Reply K V (Unit {0}) (Unit {0})) where
     by_plain : reply_keys given.data_of b ≡ [] → Served first_step.Step Plain (closed given) old a b new
         → ((s t : State V) → first_step.Step (closed given) s a b t → Step given (joined s m keys) c r (joined t m keys))
-        → ((s : State V) (d : Dictionary W) → Tells given (joined s m keys) d c r × (d ≡ noted given keys d c r)) → Plainly c r keys
-    by_plain none served step telling = quiet given old new m keys (Step given) (TellingStep given) c r (Plain a) b none (record { step = served.follows.step; lasts = served.follows.lasts })
-        step (λ s t d step. record { steps = step; tells = (telling s d).0; notes = (telling s d).1 })
+        → ((s : State V) (d : Dictionary W) → RepliesByDictionary given (joined s m keys) d c r × (d ≡ noted given keys d c r)) → Plainly c r keys
+    by_plain none served step telling = quiet given old new m keys (Step given) (DictionaryStep given) c r (Plain a) b none (record { step = served.follows.step; lasts = served.follows.lasts })
+        step (λ s t d step. record { steps = step; by_dictionary = (telling s d).0; notes = (telling s d).1 })
 
   pub full : (v back : V) → Refuses old v (Full back) → Keeps old new → Plainly (command.Insert v) (reply.Full back) keys
   full v back r keeps = by_plain _ _ (Insert v) (first_reply.Full (Some back)) refl (first.full (closed given) old new ok v back r keeps) (λ s t step. ((step, refl), refl)) (λ s d. (tt, refl))
@@ -118,8 +118,8 @@ module _ {K V W R : Type 0} (given : Given K W R) (old new : Content V) (m : Pai
     module _ (c : JoinedDetachCommand V W) (r : JoinedReply K V W R) (a : DetachCommand K V) (b : Reply K V (Unit {0}) (Unit {0})) where
       by_detaching : reply_keys given.data_of b ≡ [] → Served first_step.DetachStep (λ c. c) (closed given) old a b new
           → ((s t : State V) → first_step.DetachStep (closed given) s a b t → DetachStep given (joined s m keys) c r (joined t m keys))
-          → ((s t : State V) (d : Dictionary W) → DetachStep given (joined s m keys) c r (joined t m keys) → DetachTellingStep given (told_by s m keys d) c r (told_by t m keys d)) → Detaching c r
-      by_detaching none served step telling = quiet given old new m keys (DetachStep given) (DetachTellingStep given) c r a b none served.follows step telling
+          → ((s t : State V) (d : Dictionary W) → DetachStep given (joined s m keys) c r (joined t m keys) → DetachDictionaryStep given (told_by s m keys d) c r (told_by t m keys d)) → Detaching c r
+      by_detaching none served step telling = quiet given old new m keys (DetachStep given) (DetachDictionaryStep given) c r a b none served.follows step telling
 
     pub detached : (taken : Option V) → taken ≡ map.get old.live (given.data_of key) → OnSome taken (Detaches old (given.data_of key) new) → IfNone taken (new ≡ old)
         → Detaching (detaching.Detach i) (reply.Taken taken)
@@ -154,26 +154,26 @@ module _ {K V W R : Type 0} (given : Given K W R) (old : Content V) (m : Pairs W
     -- neither map changes
     silent : ((s : State V) → Machine (joined s m keys) c r (joined s m keys))
         → ((s : State V) (d : Dictionary W) → Fits s old → Known given.data_of s d old m keys → Machine (joined s m keys) c r (joined s m keys)
-        → Telling (told_by s m keys d) c r (told_by s m keys d)) → Follows given.data_of Machine Telling old m keys c r old m keys
+        → Telling (told_by s m keys d) c r (told_by s m keys d)) → JoinFollows given.data_of Machine Telling old m keys c r old m keys
     silent step telling = record {
       step = λ s fits. (s, step s, fits, λ d known lasts. (d, telling s d fits known (step s), known));
       lasts = stays_lasts;
     }
 
   abbrev Second : JoinedCommand V W → JoinedReply K V W R → Pairs W → Type 0
-  Second c r m' = Follows given.data_of (Step given) (TellingStep given) old m keys c r old m' keys
+  Second c r m' = JoinFollows given.data_of (Step given) (DictionaryStep given) old m keys c r old m' keys
 
   -- nor does the dictionary, which tells nothing
   plainly : (c : JoinedCommand V W) (r : JoinedReply K V W R) → ((s : State V) → Step given (joined s m keys) c r (joined s m keys))
-      → ((s : State V) (d : Dictionary W) → Tells given (joined s m keys) d c r × (d ≡ noted given keys d c r)) → Second c r m
-  plainly c r step telling = silent (Step given) (TellingStep given) c r step (λ s d fits known step. record { steps = step; tells = (telling s d).0; notes = (telling s d).1 })
+      → ((s : State V) (d : Dictionary W) → RepliesByDictionary given (joined s m keys) d c r × (d ≡ noted given keys d c r)) → Second c r m
+  plainly c r step telling = silent (Step given) (DictionaryStep given) c r step (λ s d fits known step. record { steps = step; by_dictionary = (telling s d).0; notes = (telling s d).1 })
 
   -- the secondary map changes
   turns : (m' : Pairs W) (c : JoinedCommand V W) (r : JoinedReply K V W R) (after : Dictionary W → Dictionary W) → ((s : State V) → Step given (joined s m keys) c r (joined s m' keys))
       → ((s : State V) (d : Dictionary W) → Fits s old → Known given.data_of s d old m keys → Lasts (2 ^ 31) old
-      → Tells given (joined s m keys) d c r × (after d ≡ noted given keys d c r) × Known given.data_of s (after d) old m' keys) → Second c r m'
+      → RepliesByDictionary given (joined s m keys) d c r × (after d ≡ noted given keys d c r) × Known given.data_of s (after d) old m' keys) → Second c r m'
   turns m' c r after step telling = record {
-    step = λ s fits. (s, step s, fits, λ d known lasts. let tells = telling s d fits known lasts in (after d, record { steps = step s; tells = tells.0; notes = tells.1 }, tells.2));
+    step = λ s fits. (s, step s, fits, λ d known lasts. let by_dictionary = telling s d fits known lasts in (after d, record { steps = step s; by_dictionary = by_dictionary.0; notes = by_dictionary.1 }, by_dictionary.2));
     lasts = stays_lasts;
   }
 
@@ -186,7 +186,7 @@ module _ {K V W R : Type 0} (given : Given K W R) (old : Content V) (m : Pairs W
       heard = let one = named_one keys i key (sym told) in known.answered one.0 key one.1
 
       -- if the key of a number is live or detached, the dictionary has what it finds
-      agrees : (k : K) → named keys i ≡ Some k → IsHeld s (given.data_of k) → get m at ≡ map.get d (given.data_of k)
+      agrees : (k : K) → named keys i ≡ Some k → StandsIn s (given.data_of k) → get m at ≡ map.get d (given.data_of k)
       agrees k is held = ap (λ q. get m (given.data_of q)) (same_Some key k (told ∙ is)) ∙ known.agree (given.data_of k) (stands_of s old fits (given.data_of k) held)
 
     pub puts_step : (w : W) (before : Option W) → before ≡ get m at → Second (command.Put i w) (reply.Old before) (put m at w)
@@ -207,9 +207,9 @@ module _ {K V W R : Type 0} (given : Given K W R) (old : Content V) (m : Pairs W
     no_room w back lacks = plainly _ _ (λ s. rw (← told) ((lacks, refl), refl, refl)) (λ s d. (tt, refl))
 
     pub looks : (found : Option W) (looked : Option R) → found ≡ get m at → LooksAt given.looks found looked → Second (command.Look i) (reply.Looked looked) m
-    looks found looked is saw = silent (Step given) (TellingStep given) _ _ (λ s. rw (← told) ((rw is at saw, refl), refl, refl)) (λ s d fits known step. record {
+    looks found looked is saw = silent (Step given) (DictionaryStep given) _ _ (λ s. rw (← told) ((rw is at saw, refl), refl, refl)) (λ s d fits known step. record {
       steps = step;
-      tells = λ k h held. rw (is ∙ agrees s d fits known k h held) at saw;
+      by_dictionary = λ k h held. rw (is ∙ agrees s d fits known k h held) at saw;
       notes = refl;
     })
 
@@ -227,10 +227,10 @@ module _ {K V W R : Type 0} (given : Given K W R) (old : Content V) (m : Pairs W
     takes_no_key = plainly _ _ (λ s. rw (← told) refl) (λ s d. (tt, refl))
 
     abbrev Detached : JoinedDetachCommand V W → JoinedReply K V W R → Type 0
-    Detached c r = Follows given.data_of (DetachStep given) (DetachTellingStep given) old m keys c r old m keys
+    Detached c r = JoinFollows given.data_of (DetachStep given) (DetachDictionaryStep given) old m keys c r old m keys
 
     pub detaches_no_key : Detached (detaching.Detach i) reply.NoKey
-    detaches_no_key = silent (DetachStep given) (DetachTellingStep given) _ _ (λ s. rw (← told) refl) (λ s d fits known step. (step, refl))
+    detaches_no_key = silent (DetachStep given) (DetachDictionaryStep given) _ _ (λ s. rw (← told) refl) (λ s d fits known step. (step, refl))
 
     pub reattaches_no_key : (v : V) → Detached (detaching.Reattach i v) (reply.NoKeyFirst v)
-    reattaches_no_key v = silent (DetachStep given) (DetachTellingStep given) _ _ (λ s. rw (← told) (refl, refl)) (λ s d fits known step. (step, refl))
+    reattaches_no_key v = silent (DetachStep given) (DetachDictionaryStep given) _ _ (λ s. rw (← told) (refl, refl)) (λ s d fits known step. (step, refl))

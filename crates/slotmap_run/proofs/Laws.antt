@@ -6,18 +6,18 @@ use Rattle.std.specs.FinMap as map
 use Rattle.std.specs.FinSet as set
 use Rattle.slotmap_core.specs.Key.{Key, key_cmp}
 use Rattle.slotmap_core.specs.Content.{most}
-use Rattle.slotmap_core.specs.Machine.{State, IsIssued, IsHeld, Fresh, after_insert, empty_state, retired, used}
+use Rattle.slotmap_core.specs.Machine.{State, IsIssued, StandsIn, Fresh, after_insert, empty_state, retired, used}
 use Rattle.slotmap_core.specs.Run.{Run, Unretiring}
 use Rattle.slotmap_core.specs.Given.{Given}
 use Rattle.slotmap_core.specs.Step as plain
 use Rattle.slotmap_core.specs.declared.commands.Command.{Command}
 use Rattle.slotmap_core.specs.declared.commands.Reply.{Reply}
 use Rattle.slotmap_core.specs.Law.{reply_keys, keys_told, NoKeyTwice}
-use Rattle.slotmap_core.proofs.KeyLemmas.{keys_total, exact_keys, itself}
-use Rattle.slotmap_core.proofs.Retired.{in_retired}
+use Rattle.slotmap_core.proofs.General.KeyLemmas.{keys_total, exact_keys, itself}
+use Rattle.slotmap_core.proofs.Contents.Retired.{in_retired}
 use Rattle.slotmap_run.proofs.Runs.{run_keeps}
-use Rattle.slotmap_run.proofs.Changes.{changes}
-use Rattle.slotmap_run.proofs.Used.{IsApart, bound_held, no_more_used, one_more_used, apart_after}
+use Rattle.slotmap_run.proofs.MapChanges.{changes}
+use Rattle.slotmap_run.proofs.UsedCounts.{IsApart, bound_held, no_more_used, one_more_used, apart_after}
 
 pub weaker : {A : Type 0} {P Q : A → Type 0} → ((x : A) → P x → Q x) → (xs : List A) → AllByRecursion P xs → AllByRecursion Q xs
 weaker f [] h = tt
@@ -31,12 +31,12 @@ none_used V =
 module _ {V : Type 0} where
   -- k was returned, and is neither live nor detached
   pub record Gone (s : State V) (k : Key) : Type 0 where
-    pub not_held : IsHeld s k → ⊥
+    pub not_standing : StandsIn s k → ⊥
     pub issued : IsIssued s k
 
   -- what the empty state has, and each step keeps
   pub record IsGood (s : State V) : Type 0 where
-    pub held_issued : (k : Key) → IsHeld s k → IsIssued s k
+    pub held_issued : (k : Key) → StandsIn s k → IsIssued s k
     pub apart : IsApart s
     -- the inserts that are owed don't exceed the limit
     pub within : used s + s.promised ≤ most
@@ -52,16 +52,16 @@ module _ {K V R E : Type 0} (data_of : K → Key) where
   pub record Binds (old : State V) (r : Reply K V R E) (new : State V) : Type 0 where
     pub key : Key
     pub value : V
-    pub tells : reply_keys data_of r ≡ key ∷ []
+    pub by_dictionary : reply_keys data_of r ≡ key ∷ []
     pub below_limit : used old ≢ most
     pub fresh : Fresh old key
     pub is : new ≡ after_insert old key value
 
   -- no key is returned, and none becomes live or detached that was neither
   pub record Shrinks (old : State V) (r : Reply K V R E) (new : State V) : Type 0 where
-    pub tells : reply_keys data_of r ≡ []
+    pub by_dictionary : reply_keys data_of r ≡ []
     pub issued : new.issued ≡ old.issued
-    pub held : (k : Key) → IsHeld new k → IsHeld old k
+    pub held : (k : Key) → StandsIn new k → StandsIn old k
     pub apart : IsApart old → IsApart new
     pub promised : old.promised ≤ new.promised + 1
     -- what is newly promised doesn't exceed the limit
@@ -91,8 +91,8 @@ module _ {K V R E C : Type 0} {given : Given K V R E} {Step : State V → C → 
 
   pub gone_stays : (k : Key) (old : State V) (c : C) (r : Reply K V R E) (new : State V) → Step old c r new → Gone old k → Gone new k
   gone_stays k old c r new step gone = elim (m.cases old c r new step) [
-    | inl b ↦ rw b.is (grind (arith, changes, bound_held old b.key b.value k, b.fresh.newer k, gone.issued, gone.not_held))
-    | inr s ↦ grind (arith, s.issued, s.held k, gone.issued, gone.not_held)
+    | inl b ↦ rw b.is (grind (arith, changes, bound_held old b.key b.value k, b.fresh.newer k, gone.issued, gone.not_standing))
+    | inr s ↦ grind (arith, s.issued, s.held k, gone.issued, gone.not_standing)
   ]
 
   -- a step lowers what is promised by at most 1, a run of n by at most n
@@ -111,15 +111,15 @@ module _ {K V R E C : Type 0} {given : Given K V R E} {Step : State V → C → 
       elim (m.cases s c r run.0 run.1) [
         | inl b ↦
             let other : (q : Key) → (IsIssued run.0 q → ⊥) → eq_by_cmp key_cmp b.key q ≡ false = λ q h. grind (arith, changes, itself keys_total exact_keys b.key, b.is) in
-            rw b.tells ((not_issued s b.key b.fresh, new), (weaker other (keys_told given.data_of rs) rest.0, rest.1))
-        | inr n ↦ rw n.tells (new, rest.1)
+            rw b.by_dictionary ((not_issued s b.key b.fresh, new), (weaker other (keys_told given.data_of rs) rest.0, rest.1))
+        | inr n ↦ rw n.by_dictionary (new, rest.1)
       ]
   told_new _ _ s t run = absurd run
 
-  pub retired_stays : (k : Key) (old : State V) (c : C) (r : Reply K V R E) (new : State V) → Step old c r new → set.contains (retired old) k ≡ true → set.contains (retired new) k ≡ true
+  retired_stays : (k : Key) (old : State V) (c : C) (r : Reply K V R E) (new : State V) → Step old c r new → set.contains (retired old) k ≡ true → set.contains (retired new) k ≡ true
   retired_stays k old c r new step h =
-      let gone = gone_stays k old c r new step (record { not_held = λ g. grind (arith, in_retired old k); issued = grind (arith, in_retired old k) }) in
-      grind (arith, in_retired old k, in_retired new k, gone.issued, gone.not_held)
+      let gone = gone_stays k old c r new step (record { not_standing = λ g. grind (arith, in_retired old k); issued = grind (arith, in_retired old k) }) in
+      grind (arith, in_retired old k, in_retired new k, gone.issued, gone.not_standing)
 
   -- if nothing is retired at the end, nothing ever was
   pub unretired : (cs : List C) (rs : List (Reply K V R E)) (s t : State V) → Run Step s cs rs t → retired t ≡ set.empty → Run (Unretiring Step) s cs rs t

@@ -12,16 +12,16 @@ use Rattle.slotmap_core.specs.Content.{Content, IsContent, IsLive, used, places,
 use Rattle.slotmap_core.specs.Transition.{IsNew, Inserts, Keeps, Removes, Detaches, Reattaches}
 use Rattle.slotmap_core.specs.Lifo as lifo
 use Rattle.slotmap_core.specs.Lifo.{Lifo, offer_of, top_key, places_after, after_insert}
-use Rattle.slotmap_core.proofs.KeyLemmas.{keys_total}
-use Rattle.slotmap_core.proofs.Maps.{some_is, some_entry}
+use Rattle.slotmap_core.proofs.General.KeyLemmas.{keys_total}
+use Rattle.slotmap_core.proofs.General.Maps.{some_is, some_entry}
 use Rattle.slotmap_core.specs.Law.{keys_told, IsRefusal}
 use Rattle.slotmap_core.specs.Run.{Run}
 use Rattle.slotmap_core.specs.declared.commands.DetachCommand.{DetachCommand}
 use Rattle.slotmap_core.specs.declared.commands.Reply.{Reply}
 use Rattle.slotmap_run.specs.Order.{IsLifo, Orders}
-use Rattle.slotmap_run.proofs.Changes.{changes}
+use Rattle.slotmap_run.proofs.MapChanges.{changes}
 use Rattle.slotmap_run.proofs.Fits.{new_fits}
-use Rattle.slotmap_core.proofs.PlaceCount.{places_grow, kept_places, removed_places, detached_places, reattached_places}
+use Rattle.slotmap_core.proofs.Places.PlaceCount.{places_grow, kept_places, removed_places, detached_places, reattached_places}
 
 module _ {V : Type 0} (reuses : Bool) (old new : Content V) (ok : IsContent reuses old) (l : Lifo) (is : IsLifo l old) where
   -- if the map isn't full, the machine's offer is the map's

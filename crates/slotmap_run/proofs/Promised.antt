@@ -10,18 +10,18 @@ use Rattle.slotmap_core.specs.declared.commands.DetachCommand.{DetachCommand}
 use Rattle.slotmap_core.specs.declared.commands.DetachCommand.TheVariants as detaching
 use Rattle.slotmap_core.specs.declared.commands.Reply.{Reply}
 use Rattle.slotmap_core.specs.declared.commands.Reply.TheVariants as reply
-use Rattle.slotmap_core.specs.Law.{Grows, DetachGrows, IsRefusal, ReserveHolds}
+use Rattle.slotmap_core.specs.Law.{NeedsRoom, DetachNeedsRoom, IsRefusal, ReserveHolds}
 use Rattle.slotmap_run.proofs.Laws.{IsMachine, IsGood, good_stays, still_promised}
 use Rattle.slotmap_run.proofs.Runs.{run_split, run_keeps}
-use Rattle.slotmap_run.proofs.Anew.{RunsWell}
+use Rattle.slotmap_run.proofs.NewRuns.{RunsWell}
 
 module _ {K V R E : Type 0} (given : Given K V R E) where
   -- if what is owed is within the limit, an insert or a reattach fails only if nothing is owed
-  pub detach_refused : (old : State V) (c : DetachCommand K V) (r : Reply K V R E) (new : State V) → DetachGrows c → DetachStep given old c r new
+  pub detach_refused : (old : State V) (c : DetachCommand K V) (r : Reply K V R E) (new : State V) → DetachNeedsRoom c → DetachStep given old c r new
       → IsRefusal r → used old + old.promised ≤ most → old.promised ≡ 0
   detach_refused old c r new grows step is within = grind arith
 
-  pub plain_refused : (old : State V) (c : Command K V) (r : Reply K V R E) (new : State V) → Grows c → Step given old c r new → IsRefusal r → used old + old.promised ≤ most → old.promised ≡ 0
+  pub plain_refused : (old : State V) (c : Command K V) (r : Reply K V R E) (new : State V) → NeedsRoom c → Step given old c r new → IsRefusal r → used old + old.promised ≤ most → old.promised ≡ 0
   plain_refused old c = detach_refused old (detaching.Plain c)
 
 module _ {K V R E C : Type 0} {given : Given K V R E} {Machine : State V → C → Reply K V R E → State V → Type 0} {of : Command K V → C} (m : IsMachine given Machine of)

@@ -9,17 +9,17 @@ use Rattle.slotmap_core.specs.Given.{Given, any_closures}
 use Rattle.slotmap_core.specs.Step.{Step, DetachStep}
 use Rattle.slotmap_core.specs.Run.{Run}
 use Rattle.slotmap_core.specs.Fit.{Follows}
-use Rattle.slotmap_core.specs.Law.{Laws, DetachLaws, LastFreedFirst, Grows, DetachGrows}
+use Rattle.slotmap_core.specs.Law.{Laws, DetachLaws, LastFreedFirst, NeedsRoom, DetachNeedsRoom}
 use Rattle.slotmap_core.specs.Lifo.{no_places}
 use Rattle.slotmap_core.specs.declared.commands.Command.{Command}
 use Rattle.slotmap_core.specs.declared.commands.DetachCommand.{DetachCommand}
 use Rattle.slotmap_core.specs.declared.commands.Reply.{Reply}
 use Rattle.slotmap_run.specs.Order.{Served, StartsNew}
-use Rattle.slotmap_run.proofs.Anew.{RunsWell, IsLawful, RanIfOk, ran_if_ok, RanAnewIfOk, anew_if_ok}
+use Rattle.slotmap_run.proofs.NewRuns.{RunsWell, IsLawful, RanIfOk, ran_if_ok, RanAnewIfOk, anew_if_ok}
 use Rattle.slotmap_run.proofs.AnyClosures.{freed, freely, detach_freely}
-use Rattle.slotmap_run.proofs.Cases.{plain_machine, detach_machine}
+use Rattle.slotmap_run.proofs.StepCases.{plain_machine, detach_machine}
 use Rattle.slotmap_run.proofs.Detached.{detached_not_reissued, detached_reattaches, reattach_binds}
-use Rattle.slotmap_run.proofs.Gone.{removed_for_good}
+use Rattle.slotmap_run.proofs.RemovedKeys.{removed_for_good}
 use Rattle.slotmap_run.proofs.Laws.{told_new, unretired}
 use Rattle.slotmap_run.proofs.Orders.{lifo_new, lifo_run}
 use Rattle.slotmap_run.proofs.Promised.{plain_refused, detach_refused, reserve_holds}
@@ -30,14 +30,14 @@ module _ {K V R E : Type 0} (given : Given K V R E) where
   laws cs rs well = let m = plain_machine given in record {
     no_key_twice = (told_new m cs rs well.first well.last well.run).1;
     removed_for_good = removed_for_good m cs rs well;
-    reserve_holds = reserve_holds m Grows (plain_refused given) cs rs well;
+    reserve_holds = reserve_holds m NeedsRoom (plain_refused given) cs rs well;
   }
 
   detach_laws : (commands : List (DetachCommand K V)) (replies : List (Reply K V R E)) → RunsWell (DetachStep given) commands replies → DetachLaws given.data_of given.reuses commands replies
   detach_laws cs rs well = let m = detach_machine given in record {
     no_key_twice = (told_new m cs rs well.first well.last well.run).1;
     removed_for_good = removed_for_good m cs rs well;
-    reserve_holds = reserve_holds m DetachGrows (detach_refused given) cs rs well;
+    reserve_holds = reserve_holds m DetachNeedsRoom (detach_refused given) cs rs well;
     not_reissued = detached_not_reissued given cs rs well;
     reattaches = detached_reattaches given cs rs well;
     binds = reattach_binds given cs rs well;

@@ -32,7 +32,7 @@ module _ {K V W : Type 0} where
 module _ {K V W C R : Type 0} (data_of : K → Key) (Step : Joined K V W → C → R → Joined K V W → Type 0) (Telling : WithDictionary K V W → C → R → WithDictionary K V W → Type 0) where
   -- from each state that fits the primary map, the reply is a step to a state that fits it then; and if all is known, and the versions stay
   -- below 2^31, the reply is the dictionary's
-  pub record Follows (old : Content V) (second : Pairs W) (keys : List K) (command : C) (reply : R) (new : Content V) (new_second : Pairs W) (new_keys : List K) : Type 0 where
+  pub record JoinFollows (old : Content V) (second : Pairs W) (keys : List K) (command : C) (reply : R) (new : Content V) (new_second : Pairs W) (new_keys : List K) : Type 0 where
     pub step : (s : State V) → Fits s old
         → (t : State V) × Step (joined s second keys) command reply (joined t new_second new_keys) × Fits t new
         × ((d : Dictionary W) → Known data_of s d old second keys → Lasts (2 ^ 31) new
@@ -43,7 +43,7 @@ module _ {M S K V W C R : Type 0} (data_of : K → Key) (content : M → Content
     (Step : Joined K V W → C → R → Joined K V W → Type 0) (Telling : WithDictionary K V W → C → R → WithDictionary K V W → Type 0) where
   -- one command of a joined run: old and new borrow the same maps, and the reply is a step
   pub record JoinServed (old : Beside M S K) (command : C) (reply : R) (new : Beside M S K) : Type 0 where
-    pub follows : Follows data_of Step Telling (content old.primary.now) (pairs old.secondary.now) old.keys.now.items command reply
+    pub follows : JoinFollows data_of Step Telling (content old.primary.now) (pairs old.secondary.now) old.keys.now.items command reply
         (content new.primary.now) (pairs new.secondary.now) new.keys.now.items
     pub same_primary : new.primary.ghost_name ≡ old.primary.ghost_name
     pub same_secondary : new.secondary.ghost_name ≡ old.secondary.ghost_name

@@ -1,6 +1,6 @@
 //! What a run on a secondary map is given beside its commands.
 
-/// The closure.
+// The closure.
 #[derive(Drop)]
 pub(crate) struct GivenLook<L> {
     pub(crate) look: L,

@@ -4,12 +4,12 @@ ghost use Rattle.std.specs.Prelude.{◌≡◌, ◌+◌, ◌<◌, ◌≤◌, vec_
 ghost use Rattle.slotmap_core.specs.Content.{IsContent};
 ghost use Rattle.slotmap_core.specs.Fit.{Starts};
 ghost use Rattle.slotmap_core.specs.Joined.{given_joined, named, Step, DetachStep, RunsBeside};
-ghost use Rattle.slotmap_core.specs.Dictionary.{TellingStep, DetachTellingStep, RunsTold};
+ghost use Rattle.slotmap_core.specs.Dictionary.{DictionaryStep, DetachDictionaryStep, RunsByDictionary};
 ghost use Rattle.slotmap_run.specs.Replies.{joined_reattach_reply_of};
 ghost use Rattle.slotmap_run.specs.Ties.{JoinServed};
 
 use crate::given::GivenLook;
-use crate::serves::{Serves, may_start, run_all};
+use crate::serves::{Serves, note_valid, run_all};
 use slotmap_core::errors::{InsertError, PutError, ReattachError};
 use slotmap_core::joined::{JoinedCommand, JoinedDetachCommand, JoinedReply};
 use slotmap_core::keys::Key;
@@ -17,7 +17,7 @@ use slotmap_core::primary::{Detaching, Primary};
 use slotmap_core::secondary::Secondary;
 use std::alloc::Global;
 
-/// The key of a number, from 1 on.
+// The key of a number, from 1 on.
 fn key_named<K: Copy>(keys: &[K], number: usize) -> Option<K>
     ensures { result ≡ named keys.now number }
 {
@@ -27,7 +27,7 @@ fn key_named<K: Copy>(keys: &[K], number: usize) -> Option<K>
     Some(keys[number - 1])
 }
 
-/// The reply to a reattach.
+// The reply to a reattach.
 fn joined_reattach_reply<K, V, W, R>(done: Result<(), ReattachError<V>>) -> JoinedReply<K, V, W, R>
     ensures { result ≡ joined_reattach_reply_of done }
 {
@@ -65,7 +65,7 @@ where
         × (vec_len maps.keys.now + left ≤ vec_capacity maps.keys.now) };
 
     ghost step = { λ self. let what = given_joined K.data_of L.Fn self.look M.REUSES in
-        JoinServed K.data_of M.content S.pairs (Step what) (TellingStep what) };
+        JoinServed K.data_of M.content S.pairs (Step what) (DictionaryStep what) };
 
     fn serve(
         &self,
@@ -169,7 +169,7 @@ where
     // From two maps that were never used, the replies for live and detached keys are a
     // dictionary's.
     ensures dictionary { let what = given_joined K.data_of L.Fn look M.REUSES in
-        IfOk result (λ replies. RunsTold (TellingStep what)
+        IfOk result (λ replies. RunsByDictionary (DictionaryStep what)
         (M.content primary.old) (S.pairs secondary.old) commands.items replies.items
         (M.content primary.new) (S.pairs secondary.new)) }
 
@@ -178,7 +178,7 @@ where
     ensures unchanged { OnErr result ((M.content primary.new ≡ M.content primary.old)
         × (S.pairs secondary.new ≡ S.pairs secondary.old)) }
 {
-    may_start(primary);
+    note_valid(primary);
     let Ok(mut keys) = Vec::with_capacity(alloc, commands.len()) else {
         return Err(commands);
     };
@@ -209,7 +209,7 @@ where
         × (vec_len maps.keys.now + left ≤ vec_capacity maps.keys.now) };
 
     ghost step = { λ self. let what = given_joined K.data_of L.Fn self.look M.REUSES in
-        JoinServed K.data_of M.content S.pairs (DetachStep what) (DetachTellingStep what) };
+        JoinServed K.data_of M.content S.pairs (DetachStep what) (DetachDictionaryStep what) };
 
     fn serve(
         &self,
@@ -276,7 +276,7 @@ where
     // From two maps that were never used, the replies for live and detached keys are a
     // dictionary's.
     ensures dictionary { let what = given_joined K.data_of L.Fn look M.REUSES in
-        IfOk result (λ replies. RunsTold (DetachTellingStep what)
+        IfOk result (λ replies. RunsByDictionary (DetachDictionaryStep what)
         (M.content primary.old) (S.pairs secondary.old) commands.items replies.items
         (M.content primary.new) (S.pairs secondary.new)) }
 
@@ -285,7 +285,7 @@ where
     ensures unchanged { OnErr result ((M.content primary.new ≡ M.content primary.old)
         × (S.pairs secondary.new ≡ S.pairs secondary.old)) }
 {
-    may_start(primary);
+    note_valid(primary);
     let Ok(mut keys) = Vec::with_capacity(alloc, commands.len()) else {
         return Err(commands);
     };

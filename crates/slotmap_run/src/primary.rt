@@ -15,24 +15,24 @@ ghost use Rattle.slotmap_core.specs.declared.commands.DetachCommand.TheVariants 
 ghost use Rattle.slotmap_run.specs.Order.{Served};
 
 use crate::replies::{insert_reply, insert_with_reply, or_memory, reattach_reply, reserve_reply};
-use crate::serves::{Serves, may_start, run_all, run_all_new};
+use crate::serves::{Serves, note_valid, run_all, run_all_new};
 use slotmap_core::commands::{Command, DetachCommand, Reply};
 use slotmap_core::errors::TryInsertError;
 use slotmap_core::keys::Key;
 use slotmap_core::primary::{Detaching, Primary};
 use std::alloc::Global;
 
-/// What a run is given beside its commands: the allocator of the lists that are returned, and the
-/// closures.
+// What a run is given beside its commands: the allocator of the lists that are returned, and the
+// closures.
 #[derive(Drop)]
-struct Given<L, P, N> {
+struct GivenClosures<L, P, N> {
     alloc: Global,
     look: L,
     keep: P,
     make: N,
 }
 
-/// Inserts what `make` returns for the new key.
+// Inserts what `make` returns for the new key.
 fn insert_made<M, K, V, E, N>(map: &mut M, make: &N) -> Result<K, TryInsertError<E>>
 where
     M: Primary<K, V>,
@@ -49,7 +49,7 @@ where
     map.try_insert_with_key(|key| make(key))
 }
 
-impl<M, K, V, R, E, L, P, N> Serves<M, Command<K, V>, Reply<K, V, R, E>> for Given<L, P, N>
+impl<M, K, V, R, E, L, P, N> Serves<M, Command<K, V>, Reply<K, V, R, E>> for GivenClosures<L, P, N>
 where
     M: Primary<K, V>,
     K: Key,
@@ -172,8 +172,8 @@ where
     ensures unchanged { OnErr result (M.content map.new ≡ M.content map.old) }
 {
     // The map's content is well formed.
-    may_start(map);
-    let given = Given {
+    note_valid(map);
+    let given = GivenClosures {
         alloc,
         look,
         keep,
@@ -251,7 +251,7 @@ where
     ensures err { IfErr result (λ back. back ≡ commands) }
 {
     // The map is made once there is memory for the replies.
-    let given = Given {
+    let given = GivenClosures {
         alloc,
         look,
         keep,
@@ -260,7 +260,8 @@ where
     run_all_new(alloc, &given, commands)
 }
 
-impl<M, K, V, R, E, L, P, N> Serves<M, DetachCommand<K, V>, Reply<K, V, R, E>> for Given<L, P, N>
+impl<M, K, V, R, E, L, P, N> Serves<M, DetachCommand<K, V>, Reply<K, V, R, E>>
+    for GivenClosures<L, P, N>
 where
     M: Detaching<K, V>,
     K: Key,
@@ -350,8 +351,8 @@ where
     ensures unchanged { OnErr result (M.content map.new ≡ M.content map.old) }
 {
     // As in `run`, the map's content is well formed.
-    may_start(map);
-    let given = Given {
+    note_valid(map);
+    let given = GivenClosures {
         alloc,
         look,
         keep,
@@ -423,7 +424,7 @@ where
     ensures err { IfErr result (λ back. back ≡ commands) }
 {
     // As in `run_new`, the map is made once there is memory for the replies.
-    let given = Given {
+    let given = GivenClosures {
         alloc,
         look,
         keep,

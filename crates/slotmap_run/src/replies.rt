@@ -7,7 +7,7 @@ ghost use Rattle.slotmap_run.specs.Replies.{insert_reply_of, insert_with_reply_o
 use slotmap_core::commands::Reply;
 use slotmap_core::errors::{InsertError, OutOfMemory, ReattachError, ReserveError, TryInsertError};
 
-/// The reply to an insert.
+// The reply to an insert.
 pub(crate) fn insert_reply<K, V, R, E>(inserted: Result<K, InsertError<V>>) -> Reply<K, V, R, E>
     ensures { result ≡ insert_reply_of inserted }
 {
@@ -18,7 +18,7 @@ pub(crate) fn insert_reply<K, V, R, E>(inserted: Result<K, InsertError<V>>) -> R
     }
 }
 
-/// The reply to an insert of what a closure returns.
+// The reply to an insert of what a closure returns.
 pub(crate) fn insert_with_reply<K, V, R, E>(
     inserted: Result<K, TryInsertError<E>>,
 ) -> Reply<K, V, R, E>
@@ -32,7 +32,7 @@ pub(crate) fn insert_with_reply<K, V, R, E>(
     }
 }
 
-/// The reply to a reserve.
+// The reply to a reserve.
 pub(crate) fn reserve_reply<K, V, R, E>(reserved: Result<(), ReserveError>) -> Reply<K, V, R, E>
     ensures { result ≡ reserve_reply_of reserved }
 {
@@ -43,7 +43,7 @@ pub(crate) fn reserve_reply<K, V, R, E>(reserved: Result<(), ReserveError>) -> R
     }
 }
 
-/// The reply to a reattach.
+// The reply to a reattach.
 pub(crate) fn reattach_reply<K, V, R, E>(
     reattached: Result<(), ReattachError<V>>,
 ) -> Reply<K, V, R, E>
@@ -56,7 +56,7 @@ pub(crate) fn reattach_reply<K, V, R, E>(
     }
 }
 
-/// The reply, or `Memory` if memory ran out.
+// The reply, or `Memory` if memory ran out.
 pub(crate) fn or_memory<K: Drop, V: Drop, R: Drop, E: Drop>(
     done: Result<(), OutOfMemory>,
     answer: Reply<K, V, R, E>,

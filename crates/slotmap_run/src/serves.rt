@@ -24,7 +24,7 @@ pub(crate) trait Serves<Map, Command, Reply> {
         ensures ready { (left : ℕ) → ready self.now map.old (left + 1) → ready self.now map.new left };
 }
 
-/// Runs the commands in order. There is room for the replies.
+// Runs the commands in order. There is room for the replies.
 fn serve_all<Map, Command, Reply, S>(
     server: &S,
     map: &mut Map,
@@ -50,8 +50,8 @@ where
     replies
 }
 
-/// A run may start from any map, since `len` ensures that its content is well formed.
-pub(crate) fn may_start<M, K, V>(map: &M)
+// A run may start from any map, since `len` ensures that its content is well formed.
+pub(crate) fn note_valid<M, K, V>(map: &M)
 where
     M: Primary<K, V>,
     K: Key,
@@ -61,7 +61,7 @@ where
     let _ = map.len();
 }
 
-/// Runs commands on a map and returns the replies, or the commands as an error.
+// Runs commands on a map and returns the replies, or the commands as an error.
 pub(crate) fn run_all<Map, Command, Reply, S>(
     alloc: Global,
     server: &S,
@@ -85,7 +85,7 @@ where
     Ok(serve_all(server, map, replies, commands))
 }
 
-/// Runs commands on a new map and returns it with the replies, or the commands as an error.
+// Runs commands on a new map and returns it with the replies, or the commands as an error.
 pub(crate) fn run_all_new<M, K, V, Command, Reply, S>(
     alloc: Global,
     server: &S,

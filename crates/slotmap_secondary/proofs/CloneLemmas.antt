@@ -5,14 +5,14 @@ use Rattle.std.proofs.lemmas.List.Elements.{same_from_all_zip}
 use Rattle.std.specs.FinMap as map
 use Rattle.slotmap_core.specs.Clones.{ClonesEqual, AreClones}
 use Rattle.slotmap_core.specs.SecondaryClones.{HasClones}
-use Rattle.slotmap_core.proofs.ListLemmas.{zip_length, zip_left}
-use Rattle.slotmap_core.proofs.SecondaryClonesLemmas.{IsPairClone, HasClones-by_index}
+use Rattle.slotmap_core.proofs.General.ListLemmas.{zip_length, zip_left}
+use Rattle.slotmap_core.proofs.SecondaryMaps.SecondaryClonesLemmas.{IsPairClone, HasClones-by_index}
 use Rattle.slotmap_secondary.specs.declared.slot.Slot.{Slot}
 use Rattle.slotmap_secondary.specs.declared.slot.Slot.TheVariants.{Vacant, Occupied}
 use Rattle.slotmap_secondary.specs.Slots.{pair_in, pair_at, pairs_of, IsSlotAt, IsSound, IsSlotClone}
-use Rattle.slotmap_secondary.specs.Walk.{pairs_from}
+use Rattle.slotmap_secondary.specs.Iter.{pairs_from}
 use Rattle.slotmap_secondary.proofs.SlotLemmas.{get-pairs, same_slots}
-use Rattle.slotmap_secondary.proofs.WalkLemmas.{len-pairs}
+use Rattle.slotmap_secondary.proofs.IterLemmas.{len-pairs}
 
 module _ {V : Type 0} (is_clone : V → V → Type 0) where
   -- slot by slot

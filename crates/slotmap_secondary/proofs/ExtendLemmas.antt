@@ -4,7 +4,7 @@ use Rattle.std.proofs.lemmas.Cmp.{nat_cmp_total}
 use Rattle.std.proofs.lemmas.Map.Lookups.{exact_unsigned}
 use Rattle.slotmap_core.specs.Key.{Key}
 use Rattle.slotmap_core.specs.Secondary.{put}
-use Rattle.slotmap_core.proofs.Maps.{in_inserted, still_in}
+use Rattle.slotmap_core.proofs.General.Maps.{in_inserted, still_in}
 use Rattle.slotmap_secondary.specs.Content.{Content, Reaches}
 use Rattle.slotmap_secondary.specs.Extend.{Grows}
 

@@ -6,19 +6,11 @@ ghost use Rattle.slotmap_core.specs.Secondary.{contains_key, entry};
 ghost use Rattle.slotmap_secondary.specs.Content.{IsContent};
 
 use crate::SecondaryMap;
-use crate::slot::Slot;
+use crate::slot::{Found, Slot};
 use slotmap_core::keys::{Key, KeyData};
 
 // The null key's index.
 pub(crate) const NULL_INDEX: usize = 4294967295;
-
-// What a key finds at its index.
-#[derive(Drop)]
-pub(crate) enum Found {
-    No,
-    Occupied,
-    Vacant,
-}
 
 impl<K: Key, V: Drop> SecondaryMap<K, V> {
     ghost use Rattle.slotmap_secondary.specs.Found.{is_found};
@@ -32,7 +24,7 @@ impl<K: Key, V: Drop> SecondaryMap<K, V> {
         if index < self.place_count() {
             self.find_in(key)
         } else if index == NULL_INDEX {
-            Found::No
+            Found::NoEntry
         } else {
             Found::Vacant
         }

@@ -36,11 +36,11 @@ mod find;
 mod insert;
 mod into_iter;
 mod iter;
+mod list;
 mod remove;
 mod retain;
 mod secondary;
 mod slot;
-mod slots;
 
 pub use drain::Drain;
 pub use entry::{Entry, OccupiedEntry, VacantEntry};
@@ -220,7 +220,7 @@ impl<K: Key, V: Drop> SecondaryMap<K, V> {
             let _ = self.len();
             return Err(ReserveError::TooGreat);
         }
-        self.make_room(capacity)?;
+        self.reserve_to(capacity)?;
         Ok(())
     }
 

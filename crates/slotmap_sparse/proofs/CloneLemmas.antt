@@ -8,13 +8,13 @@ use Rattle.std.specs.Map.{lookup, keys_of}
 use Rattle.slotmap_core.specs.Clones.{ClonesEqual}
 use Rattle.slotmap_core.specs.Secondary.{Pairs, IsSecondary}
 use Rattle.slotmap_core.specs.SecondaryClones.{HasClones}
-use Rattle.slotmap_core.proofs.SecondaryClonesLemmas.{IsPairClone, HasClones-by_index}
+use Rattle.slotmap_core.proofs.SecondaryMaps.SecondaryClonesLemmas.{IsPairClone, HasClones-by_index}
 use Rattle.slotmap_sparse.specs.Entries.{pairs_of, IsSound}
 use Rattle.slotmap_sparse.proofs.EntriesLemmas.{get-pairs}
 
 module _ {V : Type 0} (is_clone : V → V → Type 0) where
   -- a pair of the copy is a clone of one of the source
-  pub pair_from : (o : Option (ℕ × V)) (p : ℕ × V) → IsPairClone is_clone o (Some p) → (q : ℕ × V) × (o ≡ Some q) × (p.0 ≡ q.0)
+  pair_from : (o : Option (ℕ × V)) (p : ℕ × V) → IsPairClone is_clone o (Some p) → (q : ℕ × V) × (o ≡ Some q) × (p.0 ≡ q.0)
   pair_from None p is = absurd (cc)
   pair_from (Some q) p is = (q, refl, is.0)
 

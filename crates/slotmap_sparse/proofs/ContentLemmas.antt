@@ -2,7 +2,7 @@
 use Rattle.std.proofs.Common.{◌≡◌, true, arith}
 use Rattle.slotmap_core.specs.Key.{Key}
 use Rattle.slotmap_core.specs.Secondary.{contains_key}
-use Rattle.slotmap_core.proofs.ReplaceLemmas.{IsSecondary-again, len_again}
+use Rattle.slotmap_core.proofs.Several.ReplaceLemmas.{IsSecondary-again, len_again}
 use Rattle.slotmap_sparse.specs.Content.{Content, IsContent, with_value}
 
 -- another value for a key of the map

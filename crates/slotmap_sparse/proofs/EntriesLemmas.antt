@@ -12,13 +12,13 @@ use Rattle.std.specs.Map.{lookup, keys_of}
 use Rattle.std.proofs.lemmas.Map.Lookups.{exact_unsigned}
 use Rattle.std.proofs.lemmas.Map.{lookup-none}
 use Rattle.std.proofs.lemmas.Map.Entries.{none_past_head}
-use Rattle.slotmap_core.proofs.Maps.{len_inserted, get_after_insert, insert_same}
+use Rattle.slotmap_core.proofs.General.Maps.{len_inserted, get_after_insert, insert_same}
 use Rattle.slotmap_core.specs.Key.{Key, IsKey}
 use Rattle.slotmap_core.specs.Secondary.{Pairs, IsSecondary, is_null, bind, put, get, contains_key, value_at}
 use Rattle.slotmap_sparse.specs.Content.{Content, IsContent, with_value, room}
 use Rattle.slotmap_sparse.specs.Found.{put_over}
 use Rattle.slotmap_sparse.specs.Entries.{pairs_of, content_of, IsSound}
-use Rattle.slotmap_core.proofs.StandLemmas.{get_here, IsSecondary-empty, IsSecondary-bind, IsSecondary-put, IsSecondary-remove, same_version, not_null_at, put_at}
+use Rattle.slotmap_core.proofs.SecondaryMaps.AtIndexLemmas.{get_here, IsSecondary-empty, IsSecondary-bind, IsSecondary-put, IsSecondary-remove, same_version, not_null_at, put_at}
 
 turned : (k q : ℕ) → nat_eq k q ≡ eq_by_cmp nat_cmp q k
 turned k q = nat_eq_equiv.symm k q ∙ sym (unsigned_tied q k)
@@ -71,7 +71,7 @@ module _ {V : Type 0} where
   len-pairs [] h = map.len-empty nat_cmp (ℕ × V)
   len-pairs (e ∷ es) h = omega (arith, len_inserted nat_cmp_total exact_unsigned (pairs_of es) e.0 e.1 (none_there e es h), len-pairs es h.1)
 
-  pub valid_pairs : (es : Entries V) (p : Pairs V) → pairs_of es ≡ p → IsSound es → IsSecondary p
+  valid_pairs : (es : Entries V) (p : Pairs V) → pairs_of es ≡ p → IsSound es → IsSecondary p
   valid_pairs es p is sound = subst (λ (x : Pairs V). IsSecondary x) is sound.keys
 
   pub same_len : (es : Entries V) (p : Pairs V) → pairs_of es ≡ p → IsSound es → map.len p ≡ length es
@@ -104,7 +104,7 @@ module _ {V : Type 0} where
   IsSound-same es fs sound unique same = record { unique = unique; keys = subst (λ (x : Pairs V). IsSecondary x) (sym same) sound.keys }
 
   -- with a key put
-  pub IsSound-put : (es fs : Entries V) → IsSound es → IsDistinct nat_eq (keys_of fs) → (k : Key) (v : V) → IsKey k → is_null k ≡ false → pairs_of fs ≡ bind (pairs_of es) k v → IsSound fs
+  IsSound-put : (es fs : Entries V) → IsSound es → IsDistinct nat_eq (keys_of fs) → (k : Key) (v : V) → IsKey k → is_null k ≡ false → pairs_of fs ≡ bind (pairs_of es) k v → IsSound fs
   IsSound-put es fs sound unique k v is key put = record { unique = unique; keys = subst (λ (x : Pairs V). IsSecondary x) (sym put) (IsSecondary-bind (pairs_of es) k v sound.keys is key) }
 
   -- with an entry under the index and the version of a key, where the hash map had none
@@ -118,7 +118,7 @@ module _ {V : Type 0} where
   IsSound-taken es fs sound unique i taken = record { unique = unique; keys = subst (λ (x : Pairs V). IsSecondary x) (sym taken) (IsSecondary-remove (pairs_of es) i sound.keys) }
 
   -- with another value at an index that is there
-  pub IsSound-written : (es fs : Entries V) → IsSound es → IsDistinct nat_eq (keys_of fs) → (i : ℕ) (p q : ℕ × V) → map.get (pairs_of es) i ≡ Some p
+  IsSound-written : (es fs : Entries V) → IsSound es → IsDistinct nat_eq (keys_of fs) → (i : ℕ) (p q : ℕ × V) → map.get (pairs_of es) i ≡ Some p
       → q.0 ≡ p.0 → pairs_of fs ≡ map.insert (pairs_of es) i q → IsSound fs
   IsSound-written es fs sound unique i p q at same put = record {
     unique = unique;

@@ -5,9 +5,9 @@ use Rattle.std.proofs.lemmas.Map.Lookups.{exact_unsigned}
 use Rattle.std.specs.FinMap as map
 use Rattle.slotmap_core.specs.Key.{Key}
 use Rattle.slotmap_core.specs.Secondary.{Pairs, occupied, vacant, entry, get, contains_key, IsSecondary}
-use Rattle.slotmap_core.proofs.MapLaws.{remove_absent}
-use Rattle.slotmap_core.proofs.SecondaryLemmas.{get_bound, value_of, value_of_entry}
-use Rattle.slotmap_core.proofs.StandLemmas.{entry_absent, in_own, removed, vacant_not_null}
+use Rattle.slotmap_core.proofs.General.MapLaws.{remove_absent}
+use Rattle.slotmap_core.proofs.SecondaryMaps.SecondaryLemmas.{get_bound, value_of, value_of_entry}
+use Rattle.slotmap_core.proofs.SecondaryMaps.AtIndexLemmas.{entry_absent, in_own, removed, vacant_not_null}
 use Rattle.slotmap_sparse.specs.declared.entry.Entry.TheVariants.{Occupied}
 use Rattle.slotmap_sparse.specs.declared.entry.OccupiedEntry.{OccupiedEntry}
 use Rattle.slotmap_sparse.specs.Entry.{IsWritten, entry_leaves, occupied_with}
@@ -32,13 +32,6 @@ module _ {V : Type 0} (m : Pairs V) (valid : IsSecondary m) (k : Key) where
   -- and if nothing is there, it is as before
   pub leaves_empty : entry m k ≡ vacant → map.get m k.index ≡ None → m ≡ entry_leaves m k
   leaves_empty is none = sym (remove_absent nat_cmp_total exact_unsigned m k.index none) ∙ vacant_leaves is
-
-  -- an occupied entry leaves the map as it is
-  pub occupied_there : (v : V) → entry m k ≡ occupied v → contains_key m k ≡ true
-  occupied_there v is = ap is_some (sym (value_of_entry m valid k) ∙ ap value_of is)
-
-  pub leaves_occupied : (v : V) → entry m k ≡ occupied v → m ≡ entry_leaves m k
-  leaves_occupied v is = sym (ap (λ b. if b then m else map.remove m k.index) (occupied_there v is))
 
 -- an entry once w is the value of its key
 pub IsWritten-own : {K V S Z : Type 0} (data_of : K → Key) (e : OccupiedEntry K V S Z) (w : V) → IsWritten data_of (Occupied e) w (Occupied (occupied_with data_of e w))

@@ -9,8 +9,8 @@ use Rattle.std.specs.HashMap.Eq.{hash_map_eq_from_get, get_from_hash_map_eq}
 use Rattle.std.specs.Map.{lookup}
 use Rattle.slotmap_core.specs.Secondary.{Pairs, value_at}
 use Rattle.slotmap_core.specs.SecondaryEqual.{SameValue, AreEqual, are_equal}
-use Rattle.slotmap_core.proofs.Maps.{same_bool}
-use Rattle.slotmap_core.proofs.SecondaryEqualLemmas.{equal_where}
+use Rattle.slotmap_core.proofs.General.Maps.{same_bool}
+use Rattle.slotmap_core.proofs.SecondaryMaps.SecondaryEqualLemmas.{equal_where}
 use Rattle.slotmap_sparse.specs.Entries.{pairs_of}
 use Rattle.slotmap_sparse.proofs.EntriesLemmas.{found_pair}
 

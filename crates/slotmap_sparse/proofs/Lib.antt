@@ -1,10 +1,10 @@
 pub mod EntriesLemmas
 pub mod ContentLemmas
-pub mod WalkLemmas
+pub mod IterLemmas
 pub mod DrainLemmas
 pub mod RetainLemmas
 pub mod EntryLemmas
 pub mod EqualLemmas
-pub mod SlotsLemmas
+pub mod FromListLemmas
 pub mod CloneLemmas
 pub mod WrittenLemmas

@@ -12,13 +12,13 @@ use Rattle.slotmap_core.specs.Key.{Key, IsKey, key_cmp, key_from}
 use Rattle.slotmap_core.specs.Listing.{IsListing, IsListingBut, with_entries}
 use Rattle.slotmap_core.specs.Retain.{Visit, CallsAt, RetainsBy, MayCome, seen, kept}
 use Rattle.slotmap_core.specs.Secondary.{Pairs, keyed, keyed_entry, value_at}
-use Rattle.slotmap_core.proofs.KeyLemmas.{key_from-odd}
-use Rattle.slotmap_core.proofs.KeyedLemmas.{get-keyed}
-use Rattle.slotmap_core.proofs.VisitLemmas.{Visits-rest}
+use Rattle.slotmap_core.proofs.General.KeyLemmas.{key_from-odd}
+use Rattle.slotmap_core.proofs.SecondaryMaps.KeyedLemmas.{get-keyed}
+use Rattle.slotmap_core.proofs.Several.VisitLemmas.{Visits-rest}
 use Rattle.slotmap_sparse.specs.Entries.{pairs_of, IsSound}
-use Rattle.slotmap_sparse.specs.Walk.{key_pairs, IsOfKey, AreOfKeys}
+use Rattle.slotmap_sparse.specs.Iter.{key_pairs, IsOfKey, AreOfKeys}
 use Rattle.slotmap_sparse.proofs.EntriesLemmas.{get-pairs}
-use Rattle.slotmap_sparse.proofs.WalkLemmas.{listing, of_keys}
+use Rattle.slotmap_sparse.proofs.IterLemmas.{listing, of_keys}
 
 module _ {V : Type 0} where
   -- two parts of a list of entries, and what is known of each

@@ -4,24 +4,24 @@ use Rattle.std.specs.Cmp.{nat_cmp_total, unsigned_tied}
 use Rattle.std.proofs.lemmas.List.{length_push}
 use Rattle.std.specs.FinMap as map
 use Rattle.slotmap_core.specs.Clones.{ClonesEqual, IsCloneOf}
-use Rattle.slotmap_core.specs.Contents.{contents}
+use Rattle.slotmap_core.specs.FromList.{start_live}
 use Rattle.slotmap_core.specs.Key.{Key}
 use Rattle.slotmap_core.specs.Secondary.{Pairs, IsSecondary, get, keyed}
-use Rattle.slotmap_core.specs.SecondaryWritten.{slot_of}
+use Rattle.slotmap_core.specs.SecondaryWritten.{record_of_pair}
 use Rattle.slotmap_core.specs.declared.serial.SlotRecord.{SlotRecord}
-use Rattle.slotmap_core.proofs.GatherLemmas.{slice_get_push, slice_get_push_other}
-use Rattle.slotmap_core.proofs.KeyedLemmas.{get-keyed}
-use Rattle.slotmap_core.proofs.Maps.{none_of, some_is}
-use Rattle.slotmap_core.proofs.SecondaryClonesLemmas.{IsPairClone, HasClones-by_index}
-use Rattle.slotmap_core.proofs.SecondaryWrittenLemmas.{contents_written}
-use Rattle.slotmap_sparse.specs.Written.{Reaches, Writes, WritesClones, IsCloneSlot}
+use Rattle.slotmap_core.proofs.General.GatherLemmas.{slice_get_push, slice_get_push_other}
+use Rattle.slotmap_core.proofs.SecondaryMaps.KeyedLemmas.{get-keyed}
+use Rattle.slotmap_core.proofs.General.Maps.{none_of, some_is}
+use Rattle.slotmap_core.proofs.SecondaryMaps.SecondaryClonesLemmas.{IsPairClone, HasClones-by_index}
+use Rattle.slotmap_core.proofs.SecondaryMaps.SecondaryWrittenLemmas.{contents_written}
+use Rattle.slotmap_sparse.specs.Written.{ReachesLargest, Writes, WritesClones, IsCloneSlot}
 use Rattle.slotmap_sparse.proofs.CloneLemmas.{IsSecondary-cloned, pairs_equal}
 
 module _ {V : Type 0} (is_clone : V → V → Type 0) (m : Pairs V) where
   -- the records are those of a copy, up to the index where they end
   pub record Copies (slots : List (SlotRecord V)) : Type 0 where
     pub copy : Pairs V
-    pub each : (i : ℕ) → i < length slots → slice_get slots i ≡ Some (slot_of (map.get copy i))
+    pub each : (i : ℕ) → i < length slots → slice_get slots i ≡ Some (record_of_pair (map.get copy i))
     pub clones : (i : ℕ) → i < length slots → IsPairClone is_clone (map.get m i) (map.get copy i)
     pub above : (i : ℕ) → length slots ≤ i → map.get copy i ≡ None
 
@@ -42,16 +42,16 @@ module _ {V : Type 0} (is_clone : V → V → Type 0) (m : Pairs V) where
     ] refl
 
     module _ (o : Option (ℕ × V)) (copy : Pairs V) (here : map.get copy (length slots) ≡ o) (others : (i : ℕ) → nat_eq i (length slots) ≡ false → map.get copy i ≡ map.get before.copy i)
-        (is : slot ≡ slot_of o) (clone : IsPairClone is_clone (map.get m (length slots)) o) where
+        (is : slot ≡ record_of_pair o) (clone : IsPairClone is_clone (map.get m (length slots)) o) where
       apart : (i : ℕ) → i < length slots → map.get copy i ≡ map.get before.copy i
       apart i less = others i (ne_eqb i (length slots) (λ same. omega (arith, same, less)))
 
       step : Copies (slots ++ slot ∷ [])
       step = record {
         copy = copy;
-        each = at_next (λ i. slice_get (slots ++ slot ∷ []) i ≡ Some (slot_of (map.get copy i)))
-            (λ i less. slice_get_push_other slots slot i (λ same. omega (arith, same, less)) ∙ before.each i less ∙ ap (λ p. Some (slot_of p)) (sym (apart i less)))
-            (slice_get_push slots slot ∙ ap Some is ∙ ap (λ p. Some (slot_of p)) (sym here));
+        each = at_next (λ i. slice_get (slots ++ slot ∷ []) i ≡ Some (record_of_pair (map.get copy i)))
+            (λ i less. slice_get_push_other slots slot i (λ same. omega (arith, same, less)) ∙ before.each i less ∙ ap (λ p. Some (record_of_pair p)) (sym (apart i less)))
+            (slice_get_push slots slot ∙ ap Some is ∙ ap (λ p. Some (record_of_pair p)) (sym here));
         clones = at_next (λ i. IsPairClone is_clone (map.get m i) (map.get copy i)) (λ i less. rw (apart i less) (before.clones i less)) (rw here clone);
         above = λ i more. others i (ne_eqb i (length slots) (λ same. omega (arith, same, more, length_push slots slot))) ∙ before.above i (omega (arith, more, length_push slots slot));
       }
@@ -70,7 +70,7 @@ module _ {V : Type 0} (is_clone : V → V → Type 0) (m : Pairs V) where
             (λ i other. got i ∙ ap (λ b. cond b (Some q) (map.get before.copy i)) other) made.2 (rw there (refl, made.1))
 
   -- the records reach up to the largest index
-  module _ (slots : List (SlotRecord V)) (done : Copies slots) (reaches : Reaches m (length slots)) where
+  module _ (slots : List (SlotRecord V)) (done : Copies slots) (reaches : ReachesLargest m (length slots)) where
     each_index : (i : ℕ) → IsPairClone is_clone (map.get m i) (map.get done.copy i)
     each_index i = elim (map.contains_key m i) as (λ b. map.contains_key m i ≡ b → IsPairClone is_clone (map.get m i) (map.get done.copy i)) [
       | true ↦ λ there. done.clones i (reaches.within i there)
@@ -101,10 +101,10 @@ module _ {V : Type 0} (is_clone : V → V → Type 0) (m : Pairs V) where
       writes = writes_copy;
     }
 
-    contents_copy : IsSecondary m → contents slots ≡ keyed done.copy
+    contents_copy : IsSecondary m → start_live slots ≡ keyed done.copy
     contents_copy valid = contents_written slots done.copy (IsSecondary-cloned is_clone m done.copy each_index valid) copy_within done.each
 
-    pub contents_clones : IsSecondary m → (k : Key) → IsCloneOf is_clone (get m k) (map.get (contents slots) k)
+    pub contents_clones : IsSecondary m → (k : Key) → IsCloneOf is_clone (get m k) (map.get (start_live slots) k)
     contents_clones valid k =
         subst (IsCloneOf is_clone (get m k)) (sym (ap (λ c. map.get c k) (contents_copy valid) ∙ get-keyed done.copy k)) (HasClones-by_index is_clone m done.copy each_index k)
 
@@ -112,5 +112,5 @@ module _ {V : Type 0} (is_clone : V → V → Type 0) (m : Pairs V) where
     pub writes_equal : ClonesEqual is_clone → Writes m slots
     writes_equal equal = subst (λ p. Writes p slots) (pairs_equal is_clone m done.copy each_index equal) writes_copy
 
-    pub contents_equal : ClonesEqual is_clone → IsSecondary m → contents slots ≡ keyed m
+    pub contents_equal : ClonesEqual is_clone → IsSecondary m → start_live slots ≡ keyed m
     contents_equal equal valid = contents_copy valid ∙ ap keyed (pairs_equal is_clone m done.copy each_index equal)

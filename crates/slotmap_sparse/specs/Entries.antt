@@ -24,5 +24,5 @@ module _ {V : Type 0} where
     pub keys : IsSecondary (pairs_of entries)
 
 -- the closure f may be called on the key of this index and version, and on its value
-abbrev pub TakesPair : {F K V : Type 0} → Mut F (K × (MutBor V × Unit {0})) (Bool × (MutBor V × Unit {0})) → (K → Key) → F → ℕ → ℕ × V → Type 0
-TakesPair {F} {K} {V} g data_of f index p = (key : K) (shown : MutBor V) → data_of key ≡ key_from index p.0 → shown.now ≡ p.1 → Takes g f (key, (shown, tt))
+abbrev pub CallableOnPair : {F K V : Type 0} → Mut F (K × (MutBor V × Unit {0})) (Bool × (MutBor V × Unit {0})) → (K → Key) → F → ℕ → ℕ × V → Type 0
+CallableOnPair {F} {K} {V} g data_of f index p = (key : K) (shown : MutBor V) → data_of key ≡ key_from index p.0 → shown.now ≡ p.1 → Takes g f (key, (shown, tt))

@@ -93,7 +93,7 @@ module _ {K V S Z : Type 0} where
       pub capacity : (entry_map e).capacity ≤ n.capacity
 
   -- n holds what the map of e holds: an allocation failed
-  pub record Leaves (e : Entry K V S Z) (n : Content V) : Type 0 where
+  pub record StaysUnfilled (e : Entry K V S Z) (n : Content V) : Type 0 where
     pub pairs : n.pairs ≡ (entry_map e).pairs
     pub capacity : (entry_map e).capacity ≤ n.capacity
 
@@ -115,7 +115,7 @@ module _ (K V S H : RattleType) (build : builder.Ghosts S.Denot H.Denot) (hash :
 
     -- the same if r is a reference; at `Err` the map holds what it held
     abbrev pub entry_lends_ok : {E : Type 0} → Entry K.Denot V.Denot S.Denot H.Denot → Result (MutBor V.Denot) E → Fml
-    entry_lends_ok e r = LendsSoOk (the_row K V S H build hash) V (entry_map_ref e) r (Fills data_of e) (Leaves e)
+    entry_lends_ok e r = LendsSoOk (the_row K V S H build hash) V (entry_map_ref e) r (Fills data_of e) (StaysUnfilled e)
 
     -- once the borrow r ends, the entry is e with the last value written through r
     abbrev pub occupied_lends : MutBor (OccupiedEntry K.Denot V.Denot S.Denot H.Denot) → MutBor V.Denot → Fml

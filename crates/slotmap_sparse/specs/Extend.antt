@@ -6,7 +6,7 @@ use Rattle.slotmap_core.specs.Secondary.{Pairs, entry, vacant}
 use Rattle.slotmap_core.specs.SecondaryExtend.{AllPut}
 
 -- once the pairs were inserted into an empty map, the key of the pair that is returned could be inserted, and nothing was at its index
-pub record LacksRoom {K V : Type 0} (data_of : K → Key) (pairs : List (K × V)) (back : K × V) : Type 0 where
+pub record LacksRoomForPair {K V : Type 0} (data_of : K → Key) (pairs : List (K × V)) (back : K × V) : Type 0 where
   pub left : Pairs V
   pub put : AllPut data_of map.empty pairs left
   pub vacant : entry left (data_of back.0) ≡ vacant

@@ -2,7 +2,7 @@ pub mod Content
 pub mod Entries
 pub mod Found
 pub mod Lends
-pub mod Walk
+pub mod Iter
 pub mod Drain
 pub mod Entry
 pub mod Written

@@ -5,7 +5,7 @@ ghost use Rattle.std.specs.Iterator.{IsFinite, Drains, YieldsThen};
 ghost use Rattle.std.specs.FinMap as map;
 ghost use Rattle.slotmap_sparse.specs.Content.{IsContent};
 ghost use Rattle.slotmap_core.specs.SecondaryExtend.{AllPut, Extends, ExtendsBy};
-ghost use Rattle.slotmap_sparse.specs.Extend.{LacksRoom};
+ghost use Rattle.slotmap_sparse.specs.Extend.{LacksRoomForPair};
 
 use crate::SparseSecondaryMap;
 use slotmap_core::keys::Key;
@@ -111,7 +111,7 @@ impl<K: Key, V: Drop, S: BuildHasher + Drop> SparseSecondaryMap<K, V, S> {
             × Drains I.IntoIter.next_gives it pairs × AllPut K.data_of map.empty pairs all.pairs) }
         ensures err { IfErr result (λ back. (pair : K × V) × (back ≡ Some pair) × (it : I.IntoIter) × (pairs : List (K × V)) × (rest : I.IntoIter)
             × I.into_iter_gives iter it × YieldsThen I.IntoIter.next_gives it pairs (Some pair) rest
-            × LacksRoom K.data_of pairs pair) }
+            × LacksRoomForPair K.data_of pairs pair) }
         ensures valid { IfOk result IsContent }
     {
         let mut all = SparseSecondaryMap::empty(alloc, hash_builder);
@@ -148,7 +148,7 @@ impl<K: Key, V: Drop> SparseSecondaryMap<K, V> {
             × Drains I.IntoIter.next_gives it pairs × AllPut K.data_of map.empty pairs all.pairs) }
         ensures err { IfErr result (λ back. (pair : K × V) × (back ≡ Some pair) × (it : I.IntoIter) × (pairs : List (K × V)) × (rest : I.IntoIter)
             × I.into_iter_gives iter it × YieldsThen I.IntoIter.next_gives it pairs (Some pair) rest
-            × LacksRoom K.data_of pairs pair) }
+            × LacksRoomForPair K.data_of pairs pair) }
         ensures valid { IfOk result IsContent }
     {
         SparseSecondaryMap::from_iter_with_hasher(alloc, iter, BuildHasherDefault::new())

@@ -29,7 +29,7 @@ pub struct IntoIter<K, V> {
 impl<K, V> Model for IntoIter<K, V> {
     ghost use Rattle.std.specs.Prelude.{List};
     ghost use Rattle.slotmap_core.specs.Key.{Key};
-    ghost use Rattle.slotmap_sparse.specs.Walk.{key_pairs, AreOfKeys};
+    ghost use Rattle.slotmap_sparse.specs.Iter.{key_pairs, AreOfKeys};
 
     ghost Value = { List (Key × V) };
 

@@ -30,7 +30,7 @@ pub struct Iter<'a, K, V> {
 impl<'a, K, V> Model for Iter<'a, K, V> {
     ghost use Rattle.std.specs.Prelude.{List};
     ghost use Rattle.slotmap_core.specs.Key.{Key};
-    ghost use Rattle.slotmap_sparse.specs.Walk.{key_pairs, AreOfKeys};
+    ghost use Rattle.slotmap_sparse.specs.Iter.{key_pairs, AreOfKeys};
 
     ghost Value = { List (Key × V) };
 

@@ -34,10 +34,10 @@ mod find;
 mod insert;
 mod into_iter;
 mod iter;
+mod list;
 mod remove;
 mod retain;
 mod secondary;
-mod slots;
 
 pub use drain::Drain;
 pub use entry::{Entry, OccupiedEntry, VacantEntry};

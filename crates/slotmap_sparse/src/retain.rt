@@ -5,7 +5,7 @@ ghost use Rattle.slotmap_core.specs.Key.{key_from};
 ghost use Rattle.slotmap_core.specs.Secondary.{keyed};
 ghost use Rattle.slotmap_core.specs.Retain.{CallsAt, RetainsBy, CallableOnEach};
 ghost use Rattle.slotmap_sparse.specs.Content.{IsContent, room};
-ghost use Rattle.slotmap_sparse.specs.Entries.{TakesPair};
+ghost use Rattle.slotmap_sparse.specs.Entries.{CallableOnPair};
 
 use crate::SparseSecondaryMap;
 use slotmap_core::keys::{Key, KeyData};
@@ -39,7 +39,7 @@ impl<K: Key, V: Drop, S: BuildHasher + Drop> SparseSecondaryMap<K, V, S> {
         ensures valid { IsContent self.new }
     {
         let shown = move |index: &u32, slot: &mut (u32, V)|
-            requires { TakesPair F.FnMut K.data_of f index.now slot.old }
+            requires { CallableOnPair F.FnMut K.data_of f index.now slot.old }
             ensures called { (key : K) × (K.data_of key ≡ key_from index.now slot.old.0)
                 × CallsAt F.FnMut f.entry (record { key = key; before = slot.old.1; after = slot.new.1; stays = result }) f.exit }
             ensures version { slot.new.0 ≡ slot.old.0 }
@@ -50,7 +50,7 @@ impl<K: Key, V: Drop, S: BuildHasher + Drop> SparseSecondaryMap<K, V, S> {
 
 // Calls the closure for a key and its value.
 fn visit<K: Key, V, F: FnMut(K, &mut V) -> bool>(f: &mut F, index: u32, slot: &mut (u32, V)) -> bool
-    requires { TakesPair F.FnMut K.data_of f.old index slot.old }
+    requires { CallableOnPair F.FnMut K.data_of f.old index slot.old }
     ensures called { (key : K) × (K.data_of key ≡ key_from index slot.old.0)
         × CallsAt F.FnMut f.old (record { key = key; before = slot.old.1; after = slot.new.1; stays = result }) f.new }
     ensures version { slot.new.0 ≡ slot.old.0 }

@@ -26,10 +26,6 @@ cond_or : {A : Type 0} (b : Bool) (x : A) (o p : Option A) → cond b (Some x) (
 cond_or true x o p = refl
 cond_or false x o p = refl
 
-or_none : {A : Type 0} (o : Option A) → option_or o None ≡ o
-or_none None = refl
-or_none (Some x) = refl
-
 left_none : {A : Type 0} (o p : Option A) → option_or o p ≡ None → (o ≡ None) × (p ≡ None)
 left_none None p h = (refl, h)
 left_none (Some x) p h = absurd (cc)
@@ -50,7 +46,7 @@ pub if_some_so : {A : Type 0} (P Q : A → Type 0) (o : Option A) → ((x : A) �
 if_some_so P Q None so h = tt
 if_some_so P Q (Some x) so h = so x h
 
-pub if_some : {A : Type 0} (P : A → Type 0) (o : Option A) → ((x : A) → o ≡ Some x → P x) → IfSome o P
+if_some : {A : Type 0} (P : A → Type 0) (o : Option A) → ((x : A) → o ≡ Some x → P x) → IfSome o P
 if_some P None f = tt
 if_some P (Some x) f = f x refl
 
@@ -60,7 +56,7 @@ module _ {T : Type 0} where
   elements_are is = ap (λ (s : Sequence T). s.elements) is
 
   -- lists that are put together
-  pub first_or-append : (xs ys : List (Key × T)) (o : Option Key) → first_or (xs ++ ys) o ≡ first_or xs (first_or ys o)
+  first_or-append : (xs ys : List (Key × T)) (o : Option Key) → first_or (xs ++ ys) o ≡ first_or xs (first_or ys o)
   first_or-append [] ys o = refl
   first_or-append (x ∷ xs) ys o = refl
 
@@ -72,14 +68,14 @@ module _ {T : Type 0} where
   value_of-append [] ys q = refl
   value_of-append (x ∷ xs) ys q = ap (cond (same q x.0) (Some x.1)) (value_of-append xs ys q) ∙ cond_or (same q x.0) x.1 (value_of q xs) (value_of q ys)
 
-  pub node_at-append : (p n : Option Key) (xs ys : List (Key × T)) (q : Key) → node_at p (xs ++ ys) n q ≡ option_or (node_at p xs (first_or ys n) q) (node_at (last_or xs p) ys n q)
+  node_at-append : (p n : Option Key) (xs ys : List (Key × T)) (q : Key) → node_at p (xs ++ ys) n q ≡ option_or (node_at p xs (first_or ys n) q) (node_at (last_or xs p) ys n q)
   node_at-append p n [] ys q = refl
   node_at-append p n (x ∷ xs) ys q =
       ap (λ o. cond (same q x.0) (Some (record { value = x.1; prev = p; next = o })) (node_at (Some x.0) (xs ++ ys) n q)) (first_or-append xs ys n)
       ∙ ap (cond (same q x.0) (Some (record { value = x.1; prev = p; next = first_or xs (first_or ys n) }))) (node_at-append (Some x.0) n xs ys q)
       ∙ cond_or (same q x.0) (record { value = x.1; prev = p; next = first_or xs (first_or ys n) }) (node_at (Some x.0) xs (first_or ys n) q) (node_at (last_or xs (Some x.0)) ys n q)
 
-  pub value-node_at : (p n : Option Key) (xs : List (Key × T)) (q : Key) → option_map (λ node. node.value) (node_at p xs n q) ≡ value_of q xs
+  value-node_at : (p n : Option Key) (xs : List (Key × T)) (q : Key) → option_map (λ node. node.value) (node_at p xs n q) ≡ value_of q xs
   value-node_at p n [] q = refl
   value-node_at p n (x ∷ xs) q =
       map_cond (λ node. node.value) (same q x.0) (record { value = x.1; prev = p; next = first_or xs n }) (node_at (Some x.0) xs n q)
@@ -346,11 +342,11 @@ module _ {T : Type 0} where
       node_at-append None None ys (e ∷ zs) e.0 ∙ ap (λ o. option_or o (node_at (last_or ys None) (e ∷ zs) None e.0)) (absent_node None (Some e.0) ys e.0 apart)
       ∙ ap (λ b. cond b (Some (record { value = e.1; prev = last_or ys None; next = first_or zs None })) (node_at (Some e.0) zs None e.0)) one
 
-  pub chain_empty : IsChain (map.empty {X = Node T} {R = key_cmp}) None None []
+  chain_empty : IsChain (map.empty {X = Node T} {R = key_cmp}) None None []
   chain_empty = record { nodes_are = map.get-empty key_cmp; once = tt; count = sym (map.len-empty key_cmp (Node T)); first_is = refl; last_is = refl }
 
   -- the node of a key that stands
-  pub node_split : (nodes : Nodes T) (first last : Option Key) (ys : List (Key × T)) (k : Key) (v : T) (zs : List (Key × T))
+  node_split : (nodes : Nodes T) (first last : Option Key) (ys : List (Key × T)) (k : Key) (v : T) (zs : List (Key × T))
       → IsChain nodes first last (ys ++ (k, v) ∷ zs) → value_of k ys ≡ None
       → map.get nodes k ≡ Some (record { value = v; prev = last_or ys None; next = first_or zs None })
   node_split nodes first last ys k v zs chain none =
@@ -360,7 +356,7 @@ module _ {T : Type 0} where
   pub value_found : (nodes : Nodes T) (first last : Option Key) (xs : List (Key × T)) (k : Key) → IsChain nodes first last xs → option_map (λ node. node.value) (map.get nodes k) ≡ value_of k xs
   value_found nodes first last xs k chain = ap (option_map (λ node. node.value)) (chain.nodes_are k) ∙ value-node_at None None xs k
 
-  pub key_after-split : (ys : List (Key × T)) (k : Key) (v : T) (zs : List (Key × T)) → value_of k ys ≡ None → key_after k (ys ++ (k, v) ∷ zs) ≡ first_or zs None
+  key_after-split : (ys : List (Key × T)) (k : Key) (v : T) (zs : List (Key × T)) → value_of k ys ≡ None → key_after k (ys ++ (k, v) ∷ zs) ≡ first_or zs None
   key_after-split [] k v zs none = ap (λ b. cond b (first_or zs None) (key_after k zs)) (itself keys_total exact_keys k)
   key_after-split (y ∷ ys) k v zs none = let parts = cond_none (same k y.0) y.1 (value_of k ys) none in
       ap (λ b. cond b (first_or (ys ++ (k, v) ∷ zs) None) (key_after k (ys ++ (k, v) ∷ zs))) parts.0 ∙ key_after-split ys k v zs parts.1
@@ -370,12 +366,12 @@ module _ {T : Type 0} where
   key_after-absent (x ∷ xs) k none = let parts = cond_none (same k x.0) x.1 (value_of k xs) none in
       ap (λ b. cond b (first_or xs None) (key_after k xs)) parts.0 ∙ key_after-absent xs k parts.1
 
-  pub put_after-split : (ys : List (Key × T)) (k : Key) (v : T) (zs : List (Key × T)) (x : Key × T) → value_of k ys ≡ None → put_after k x (ys ++ (k, v) ∷ zs) ≡ ys ++ (k, v) ∷ x ∷ zs
+  put_after-split : (ys : List (Key × T)) (k : Key) (v : T) (zs : List (Key × T)) (x : Key × T) → value_of k ys ≡ None → put_after k x (ys ++ (k, v) ∷ zs) ≡ ys ++ (k, v) ∷ x ∷ zs
   put_after-split [] k v zs x none = ap (λ b. cond b ((k, v) ∷ x ∷ zs) ((k, v) ∷ put_after k x zs)) (itself keys_total exact_keys k)
   put_after-split (y ∷ ys) k v zs x none = let parts = cond_none (same k y.0) y.1 (value_of k ys) none in
       ap (λ b. cond b (y ∷ x ∷ ys ++ (k, v) ∷ zs) (y ∷ put_after k x (ys ++ (k, v) ∷ zs))) parts.0 ∙ ap (λ l. y ∷ l) (put_after-split ys k v zs x parts.1)
 
-  pub put_before-split : (ys : List (Key × T)) (k : Key) (v : T) (zs : List (Key × T)) (x : Key × T) → value_of k ys ≡ None → put_before k x (ys ++ (k, v) ∷ zs) ≡ ys ++ x ∷ (k, v) ∷ zs
+  put_before-split : (ys : List (Key × T)) (k : Key) (v : T) (zs : List (Key × T)) (x : Key × T) → value_of k ys ≡ None → put_before k x (ys ++ (k, v) ∷ zs) ≡ ys ++ x ∷ (k, v) ∷ zs
   put_before-split [] k v zs x none = ap (λ b. cond b (x ∷ (k, v) ∷ zs) ((k, v) ∷ put_before k x zs)) (itself keys_total exact_keys k)
   put_before-split (y ∷ ys) k v zs x none = let parts = cond_none (same k y.0) y.1 (value_of k ys) none in
       ap (λ b. cond b (x ∷ y ∷ ys ++ (k, v) ∷ zs) (y ∷ put_before k x (ys ++ (k, v) ∷ zs))) parts.0 ∙ ap (λ l. y ∷ l) (put_before-split ys k v zs x parts.1)
@@ -427,7 +423,7 @@ module _ {T : Type 0} where
       }
 
   -- an element leaves
-  pub chain_removed : (nodes : Nodes T) (first last : Option Key) (ys : List (Key × T)) (k : Key) (v : T) (zs : List (Key × T)) → IsChain nodes first last (ys ++ (k, v) ∷ zs) → value_of k ys ≡ None
+  chain_removed : (nodes : Nodes T) (first last : Option Key) (ys : List (Key × T)) (k : Key) (v : T) (zs : List (Key × T)) → IsChain nodes first last (ys ++ (k, v) ∷ zs) → value_of k ys ≡ None
       → IsChain (with_prev (with_next (map.remove nodes k) (last_or ys None) (first_or zs None)) (first_or zs None) (last_or ys None))
       (outer (last_or ys None) first (first_or zs None)) (outer (first_or zs None) last (last_or ys None)) (ys ++ zs)
   chain_removed nodes first last ys k v zs chain none =

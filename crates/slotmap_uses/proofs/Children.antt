@@ -8,10 +8,10 @@ use Rattle.slotmap_uses.specs.GraphParts.{is_key, same, times}
 use Rattle.slotmap_uses.specs.Family.{without}
 use Rattle.slotmap_uses.proofs.Adjacent.{is_itself, is_other, one_itself, one_other, times_first}
 
-pub without_first : (k : Key) (xs : List Key) → without k (k ∷ xs) ≡ xs
+without_first : (k : Key) (xs : List Key) → without k (k ∷ xs) ≡ xs
 without_first k xs = ap (λ t. if t then xs else k ∷ without k xs) (is_itself k)
 
-pub without_later : (k x : Key) (xs : List Key) → x ≢ k → without k (x ∷ xs) ≡ x ∷ without k xs
+without_later : (k x : Key) (xs : List Key) → x ≢ k → without k (x ∷ xs) ≡ x ∷ without k xs
 without_later k x xs other = ap (λ t. if t then xs else x ∷ without k xs) (is_other x k other)
 
 -- by whether the first one is the one to go

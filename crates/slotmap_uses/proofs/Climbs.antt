@@ -4,47 +4,47 @@ use Rattle.std.specs.FinMap as map
 use Rattle.slotmap.specs.Words.{Key}
 use Rattle.slotmap.proofs.Callers.{get-insert_here, get-insert_other, same_or_other, keys_total, exact_keys, left_in, len_removed, some_entry}
 use Rattle.slotmap_uses.specs.declared.scene.Node.{Node}
-use Rattle.slotmap_uses.specs.Climb.{Nodes, has_node, lacks_node, parent_in, parent_of, Leads, IsTree, StepsTo, IsWithin}
+use Rattle.slotmap_uses.specs.Climb.{Nodes, has_node, lacks_node, parent_in, parent_of, ClimbsTo, IsTree, StepsTo, IsWithin}
 
 module _ {T : Type 0} where
-  pub leads_live : (nodes : Nodes T) (n : ℕ) (k : Key) → Leads nodes n k → has_node nodes k
+  pub leads_live : (nodes : Nodes T) (n : ℕ) (k : Key) → ClimbsTo nodes n k → has_node nodes k
   leads_live nodes zero k leads = leads.0
   leads_live nodes (suc n) k leads = leads.1.0
 
   -- a way up ends at one place
-  one_way : (nodes : Nodes T) (n m : ℕ) (k : Key) → Leads nodes n k → Leads nodes m k → n ≡ m
+  one_way : (nodes : Nodes T) (n m : ℕ) (k : Key) → ClimbsTo nodes n k → ClimbsTo nodes m k → n ≡ m
   one_way nodes zero zero k a b = refl
   one_way nodes zero (suc m) k a b = absurd (let h = sym a.1 ∙ b.1.1 in cc)
   one_way nodes (suc n) zero k a b = absurd (let h = sym b.1 ∙ a.1.1 in cc)
   one_way nodes (suc n) (suc m) k a b =
       let h = sym a.1.1 ∙ b.1.1 in
       let same : a.0 ≡ b.0 = cc in
-      ap suc (one_way nodes n m b.0 (subst (Leads nodes n) same a.1.2) b.1.2)
+      ap suc (one_way nodes n m b.0 (subst (ClimbsTo nodes n) same a.1.2) b.1.2)
 
   -- the nodes of a way are distinct, so it has no more than there are
   abbrev OnWay : Nodes T → Nodes T → ℕ → Key → Type 0
-  OnWay nodes m n k = (q : Key) (i : ℕ) → i ≤ n → Leads nodes i q → (j : ℕ) → StepsTo nodes j k q → i + j ≡ n → has_node m q
+  OnWay nodes m n k = (q : Key) (i : ℕ) → i ≤ n → ClimbsTo nodes i q → (j : ℕ) → StepsTo nodes j k q → i + j ≡ n → has_node m q
 
-  short_in : (nodes m : Nodes T) (n : ℕ) (k : Key) → Leads nodes n k → OnWay nodes m n k → n + 1 ≤ map.len m
+  short_in : (nodes m : Nodes T) (n : ℕ) (k : Key) → ClimbsTo nodes n k → OnWay nodes m n k → n + 1 ≤ map.len m
   short_in nodes m zero k leads on = some_entry keys_total exact_keys m k (on k zero (omega arith) leads zero refl refl)
   short_in nodes m (suc n) k leads on =
       let here : has_node m k = on k (suc n) (omega arith) leads zero refl (omega arith) in
       let less = short_in nodes (map.remove m k) n leads.0 leads.1.2 (λ q i le up j steps sum.
       let there : has_node m q = on q i (omega arith) up (suc j) (leads.0, (leads.1.1, steps)) (omega arith) in
-      let other : q ≢ k = λ same. (let e = one_way nodes i (suc n) k (subst (Leads nodes i) same up) leads in omega arith) in
+      let other : q ≢ k = λ same. (let e = one_way nodes i (suc n) k (subst (ClimbsTo nodes i) same up) leads in omega arith) in
       left_in keys_total exact_keys m k q other there) in
       let all = len_removed keys_total exact_keys m k here in
       omega arith
 
-  pub short : (nodes : Nodes T) (n : ℕ) (k : Key) → Leads nodes n k → n < map.len nodes
+  pub short : (nodes : Nodes T) (n : ℕ) (k : Key) → ClimbsTo nodes n k → n < map.len nodes
   short nodes n k leads = let h = short_in nodes nodes n k leads (λ q i le up j steps sum. leads_live nodes i q up) in omega arith
 
   -- where a way goes on, and where it ends
-  pub next_up : (nodes : Nodes T) (n : ℕ) (k p : Key) → Leads nodes n k → parent_of nodes k ≡ Some p → (m : ℕ) × ((n ≡ suc m) × Leads nodes m p)
+  next_up : (nodes : Nodes T) (n : ℕ) (k p : Key) → ClimbsTo nodes n k → parent_of nodes k ≡ Some p → (m : ℕ) × ((n ≡ suc m) × ClimbsTo nodes m p)
   next_up nodes zero k p leads is = absurd (let h = sym leads.1 ∙ is in cc)
-  next_up nodes (suc n) k p leads is = let h = sym leads.1.1 ∙ is in let same : leads.0 ≡ p = cc in (n, (refl, subst (Leads nodes n) same leads.1.2))
+  next_up nodes (suc n) k p leads is = let h = sym leads.1.1 ∙ is in let same : leads.0 ≡ p = cc in (n, (refl, subst (ClimbsTo nodes n) same leads.1.2))
 
-  pub ends : (nodes : Nodes T) (n : ℕ) (k : Key) → Leads nodes n k → parent_of nodes k ≡ None → n ≡ 0
+  pub ends : (nodes : Nodes T) (n : ℕ) (k : Key) → ClimbsTo nodes n k → parent_of nodes k ≡ None → n ≡ 0
   ends nodes zero k leads is = refl
   ends nodes (suc n) k leads is = absurd (let h = sym leads.1.1 ∙ is in cc)
 
@@ -66,8 +66,8 @@ module _ {T : Type 0} where
   -- what a loop up from a node knows at another one, so many steps up
   pub record Climbing (nodes : Nodes T) (from at : Key) (steps : ℕ) : Type 0 where
     pub left : ℕ
-    pub up : Leads nodes left at
-    pub all : Leads nodes (steps + left) from
+    pub up : ClimbsTo nodes left at
+    pub all : ClimbsTo nodes (steps + left) from
     pub few : steps + left < map.len nodes
 
   pub climbing_start : (nodes : Nodes T) → IsTree nodes → (k : Key) → has_node nodes k → Climbing nodes k k 0
@@ -75,7 +75,7 @@ module _ {T : Type 0} where
       let up = tree k live in
       let less = short nodes up.0 k up.1 in
       let same : up.0 ≡ 0 + up.0 = omega arith in
-      record { left = up.0; up = up.1; all = subst (λ n. Leads nodes n k) same up.1; few = omega arith }
+      record { left = up.0; up = up.1; all = subst (λ n. ClimbsTo nodes n k) same up.1; few = omega arith }
 
   module _ (nodes : Nodes T) (from at : Key) (steps : ℕ) (climbing : Climbing nodes from at steps) where
     pub climbing_live : has_node nodes at
@@ -88,13 +88,13 @@ module _ {T : Type 0} where
           let one = next.1.0 in
           let few = climbing.few in
           let sum : steps + climbing.left ≡ steps + 1 + next.0 = omega arith in
-          record { left = next.0; up = next.1.1; all = subst (λ n. Leads nodes n from) sum climbing.all; few = omega arith }
+          record { left = next.0; up = next.1.1; all = subst (λ n. ClimbsTo nodes n from) sum climbing.all; few = omega arith }
 
-      pub climbing_end : node.parent ≡ None → Leads nodes steps from
+      pub climbing_end : node.parent ≡ None → ClimbsTo nodes steps from
       climbing_end is =
           let none = ends nodes climbing.left at climbing.up (ap parent_in there ∙ is) in
           let sum : steps + climbing.left ≡ steps = omega arith in
-          subst (λ n. Leads nodes n from) sum climbing.all
+          subst (λ n. ClimbsTo nodes n from) sum climbing.all
 
       -- whether it is within another node, which isn't here, is up to the parent
       pub within_step : (p other : Key) → at ≢ other → node.parent ≡ Some p → (IsWithin nodes from other ↔ IsWithin nodes at other) → IsWithin nodes from other ↔ IsWithin nodes p other
@@ -103,11 +103,8 @@ module _ {T : Type 0} where
       pub within_none : (other : Key) → at ≢ other → node.parent ≡ None → (IsWithin nodes from other ↔ IsWithin nodes at other) → IsWithin nodes from other → ⊥
       within_none other apart is same w = root_within nodes at other (ap parent_in there ∙ is) apart (same.0 w)
 
-    pub climbing_over : steps ≡ map.len nodes → ⊥
-    climbing_over all = let few = climbing.few in omega arith
-
   -- nodes that stay, with the same parents, lead up as before
-  pub leads_kept : (old new : Nodes T) → ((q : Key) → has_node old q → has_node new q × (parent_of new q ≡ parent_of old q)) → (n : ℕ) (k : Key) → Leads old n k → Leads new n k
+  leads_kept : (old new : Nodes T) → ((q : Key) → has_node old q → has_node new q × (parent_of new q ≡ parent_of old q)) → (n : ℕ) (k : Key) → ClimbsTo old n k → ClimbsTo new n k
   leads_kept old new kept zero k leads = let h = kept k leads.0 in (h.0, h.1 ∙ leads.1)
   leads_kept old new kept (suc n) k leads = let h = kept k leads.1.0 in (leads.0, (h.0, h.1 ∙ leads.1.1, leads_kept old new kept n leads.0 leads.1.2))
 
@@ -139,16 +136,16 @@ module _ {T : Type 0} where
 
   -- a node becomes a root
   module _ (old new : Nodes T) (k : Key) (changes : Parents old new k None) (live : has_node old k) where
-    root_now : Leads new zero k
+    root_now : ClimbsTo new zero k
     root_now = (changes.same_keys k ∙ live, changes.here)
 
-    still_up : (n : ℕ) (q : Key) → Leads old n q → (i : ℕ) × Leads new i q
+    still_up : (n : ℕ) (q : Key) → ClimbsTo old n q → (i : ℕ) × ClimbsTo new i q
     still_up zero q leads = elim (same_or_other q k) [
-      | inl same ↦ (zero, subst (Leads new zero) (sym same) root_now)
+      | inl same ↦ (zero, subst (ClimbsTo new zero) (sym same) root_now)
       | inr other ↦ (zero, (changes.same_keys q ∙ leads.0, changes.others q other ∙ leads.1))
     ]
     still_up (suc n) q leads = elim (same_or_other q k) [
-      | inl same ↦ (zero, subst (Leads new zero) (sym same) root_now)
+      | inl same ↦ (zero, subst (ClimbsTo new zero) (sym same) root_now)
       | inr other ↦ (let above = still_up n leads.0 leads.1.2 in
           (suc above.0, (leads.0, (changes.same_keys q ∙ leads.1.0, changes.others q other ∙ leads.1.1, above.1))))
     ]
@@ -159,22 +156,22 @@ module _ {T : Type 0} where
   -- a node gets a parent that is not below it
   module _ (old new : Nodes T) (k p : Key) (changes : Parents old new k (Some p)) (live : has_node old k) where
     -- outside of what is below k the way up is the same
-    outside : (n : ℕ) (q : Key) → (IsWithin old q k → ⊥) → Leads old n q → Leads new n q
+    outside : (n : ℕ) (q : Key) → (IsWithin old q k → ⊥) → ClimbsTo old n q → ClimbsTo new n q
     outside zero q out leads = (changes.same_keys q ∙ leads.0, changes.others q (λ same. out (zero, same)) ∙ leads.1)
     outside (suc n) q out leads =
         (leads.0, (changes.same_keys q ∙ leads.1.0, changes.others q (λ same. out (zero, same)) ∙ leads.1.1, outside n leads.0 (λ w. out (suc w.0, (leads.0, (leads.1.1, w.1)))) leads.1.2))
 
-    module _ (m : ℕ) (up : Leads old m p) (out : IsWithin old p k → ⊥) where
-      at_k : Leads new (suc m) k
+    module _ (m : ℕ) (up : ClimbsTo old m p) (out : IsWithin old p k → ⊥) where
+      at_k : ClimbsTo new (suc m) k
       at_k = (p, (changes.same_keys k ∙ live, changes.here, outside m p out up))
 
-      still : (n : ℕ) (q : Key) → Leads old n q → (i : ℕ) × Leads new i q
+      still : (n : ℕ) (q : Key) → ClimbsTo old n q → (i : ℕ) × ClimbsTo new i q
       still zero q leads = elim (same_or_other q k) [
-        | inl same ↦ (suc m, subst (Leads new (suc m)) (sym same) at_k)
+        | inl same ↦ (suc m, subst (ClimbsTo new (suc m)) (sym same) at_k)
         | inr other ↦ (zero, (changes.same_keys q ∙ leads.0, changes.others q other ∙ leads.1))
       ]
       still (suc n) q leads = elim (same_or_other q k) [
-        | inl same ↦ (suc m, subst (Leads new (suc m)) (sym same) at_k)
+        | inl same ↦ (suc m, subst (ClimbsTo new (suc m)) (sym same) at_k)
         | inr other ↦ (let above = still n leads.0 leads.1.2 in
             (suc above.0, (leads.0, (changes.same_keys q ∙ leads.1.0, changes.others q other ∙ leads.1.1, above.1))))
       ]
@@ -191,8 +188,8 @@ module _ {T : Type 0} where
       by (Some node) e = refl
 
   -- no node is above itself
-  steps_sum : (nodes : Nodes T) (n j m : ℕ) (k other : Key) → Leads nodes n k → StepsTo nodes j k other → Leads nodes m other → n ≡ j + m
-  steps_sum nodes n zero m k other up same up_other = one_way nodes n m k up (subst (Leads nodes m) (sym same) up_other) ∙ omega arith
+  steps_sum : (nodes : Nodes T) (n j m : ℕ) (k other : Key) → ClimbsTo nodes n k → StepsTo nodes j k other → ClimbsTo nodes m other → n ≡ j + m
+  steps_sum nodes n zero m k other up same up_other = one_way nodes n m k up (subst (ClimbsTo nodes m) (sym same) up_other) ∙ omega arith
   steps_sum nodes n (suc j) m k other up steps up_other =
       let next = next_up nodes n k steps.0 up steps.1.0 in
       let sum = steps_sum nodes next.0 j m steps.0 other next.1.1 steps.1.1 up_other in

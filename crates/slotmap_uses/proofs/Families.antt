@@ -5,9 +5,9 @@ use Rattle.std.specs.FinMap as map
 use Rattle.slotmap.specs.Words.{Key}
 use Rattle.slotmap.proofs.Callers.{get-insert_here, get-insert_other, same_or_other, keys_total, exact_keys}
 use Rattle.slotmap_uses.specs.declared.scene.Node.{Node}
-use Rattle.slotmap_uses.specs.Climb.{Nodes, has_node, lacks_node, parent_in, parent_of, Leads, IsTree, IsWithin, with_parent, with_parent_in}
+use Rattle.slotmap_uses.specs.Climb.{Nodes, has_node, lacks_node, parent_in, parent_of, ClimbsTo, IsTree, IsWithin, with_parent, with_parent_in}
 use Rattle.slotmap_uses.specs.GraphParts.{same, times}
-use Rattle.slotmap_uses.specs.Family.{value_of, without, is_parent, children_in, children_of, AreListed, IsScene, leaf, with_children_in, with_child, without_child, detached, attached}
+use Rattle.slotmap_uses.specs.Family.{value_of, without, is_parent, children_in, children_of, AreListed, IsScene, leaf, with_children_in, with_child, without_child, as_root, attached}
 use Rattle.slotmap_uses.proofs.Adjacent.{one_itself, one_other, times_pushed}
 use Rattle.slotmap_uses.proofs.Children.{times_without, times_gone}
 use Rattle.slotmap_uses.proofs.Climbs.{leads_live, Parents, tree_cut, tree_hung, tree_root}
@@ -50,26 +50,26 @@ module _ {T : Type 0} where
     kept_some None = refl
     kept_some (Some node) = refl
 
-    pub parented_children : (q : Key) → children_of (with_parent nodes k parent) q ≡ children_of nodes q
+    parented_children : (q : Key) → children_of (with_parent nodes k parent) q ≡ children_of nodes q
     parented_children q = elim (same_or_other q k) [
       | inl same ↦ rw same (ap children_in (parented_here (map.get nodes k) refl) ∙ kept_children (map.get nodes k))
       | inr other ↦ ap children_in (parented_other (map.get nodes k) q other)
     ]
 
-    pub parented_keys : (q : Key) → map.contains_key (with_parent nodes k parent) q ≡ map.contains_key nodes q
+    parented_keys : (q : Key) → map.contains_key (with_parent nodes k parent) q ≡ map.contains_key nodes q
     parented_keys q = elim (same_or_other q k) [
       | inl same ↦ rw same (ap is_some (parented_here (map.get nodes k) refl) ∙ kept_some (map.get nodes k))
       | inr other ↦ ap is_some (parented_other (map.get nodes k) q other)
     ]
 
-    pub parented_others : (q : Key) → q ≢ k → parent_of (with_parent nodes k parent) q ≡ parent_of nodes q
+    parented_others : (q : Key) → q ≢ k → parent_of (with_parent nodes k parent) q ≡ parent_of nodes q
     parented_others q other = ap parent_in (parented_other (map.get nodes k) q other)
 
     the_parent : (o : Option (Node T)) → is_some o ≡ true → parent_in (option_map (λ (n : Node T). record n { parent = parent }) o) ≡ parent
     the_parent None is = absurd (cc)
     the_parent (Some node) is = refl
 
-    pub parented_is : has_node nodes k → parent_of (with_parent nodes k parent) k ≡ parent
+    parented_is : has_node nodes k → parent_of (with_parent nodes k parent) k ≡ parent
     parented_is live = ap parent_in (parented_here (map.get nodes k) refl) ∙ the_parent (map.get nodes k) live
 
   no_parent : (nodes : Nodes T) (k : Key) → parent_of (with_parent nodes k None) k ≡ None
@@ -112,23 +112,23 @@ module _ {T : Type 0} where
       | inr other ↦ ap is_some (written_other (map.get nodes p) q other)
     ]
 
-    pub written_others : (q : Key) → q ≢ p → children_of written q ≡ children_of nodes q
+    written_others : (q : Key) → q ≢ p → children_of written q ≡ children_of nodes q
     written_others q other = ap children_in (written_other (map.get nodes p) q other)
 
     the_children : (o : Option (Node T)) → is_some o ≡ true → children_in (option_map (λ (n : Node T). record n { children = f n.children }) o) ≡ f (children_in o)
     the_children None is = absurd (cc)
     the_children (Some node) is = refl
 
-    pub written_is : has_node nodes p → children_of written p ≡ f (children_of nodes p)
+    written_is : has_node nodes p → children_of written p ≡ f (children_of nodes p)
     written_is live = ap children_in (written_here (map.get nodes p) refl) ∙ the_children (map.get nodes p) live
 
   -- a node leaves the children of its parent
   module _ (nodes : Nodes T) (k : Key) where
-    pub left_parent : (o : Option Key) (q : Key) → parent_of (without_child nodes o k) q ≡ parent_of nodes q
+    left_parent : (o : Option Key) (q : Key) → parent_of (without_child nodes o k) q ≡ parent_of nodes q
     left_parent None q = refl
     left_parent (Some p) q = written_parent nodes p (without k) q
 
-    pub left_keys : (o : Option Key) (q : Key) → map.contains_key (without_child nodes o k) q ≡ map.contains_key nodes q
+    left_keys : (o : Option Key) (q : Key) → map.contains_key (without_child nodes o k) q ≡ map.contains_key nodes q
     left_keys None q = refl
     left_keys (Some p) q = written_keys nodes p (without k) q
 
@@ -139,17 +139,17 @@ module _ {T : Type 0} where
     left_here : (o : Option Key) (q : Key) → o ≡ Some q → has_node nodes q → children_of (without_child nodes o k) q ≡ without k (children_of nodes q)
     left_here o q is live = rw is (written_is nodes q (without k) live)
 
-    pub detached_parents : Parents nodes (detached nodes k) k None
+    pub detached_parents : Parents nodes (as_root nodes k) k None
     detached_parents = record {
       same_keys = λ q. parented_keys (without_child nodes (parent_of nodes k) k) k None q ∙ left_keys (parent_of nodes k) q;
       here = no_parent (without_child nodes (parent_of nodes k) k) k;
       others = λ q other. parented_others (without_child nodes (parent_of nodes k) k) k None q other ∙ left_parent (parent_of nodes k) q;
     }
 
-    pub detached_others : (q : Key) → parent_of nodes k ≢ Some q → children_of (detached nodes k) q ≡ children_of nodes q
+    detached_others : (q : Key) → parent_of nodes k ≢ Some q → children_of (as_root nodes k) q ≡ children_of nodes q
     detached_others q other = parented_children (without_child nodes (parent_of nodes k) k) k None q ∙ left_others (parent_of nodes k) q other
 
-    pub detached_here : (q : Key) → parent_of nodes k ≡ Some q → has_node nodes q → children_of (detached nodes k) q ≡ without k (children_of nodes q)
+    pub detached_here : (q : Key) → parent_of nodes k ≡ Some q → has_node nodes q → children_of (as_root nodes k) q ≡ without k (children_of nodes q)
     detached_here q is live = parented_children (without_child nodes (parent_of nodes k) k) k None q ∙ left_here (parent_of nodes k) q is live
 
   -- a root is put behind the children of another node
@@ -161,10 +161,10 @@ module _ {T : Type 0} where
       others = λ q other. parented_others (with_child nodes p k) k (Some p) q other ∙ written_parent nodes p (λ ks. ks ++ k ∷ []) q;
     }
 
-    pub attached_others : (q : Key) → q ≢ p → children_of (attached nodes k p) q ≡ children_of nodes q
+    attached_others : (q : Key) → q ≢ p → children_of (attached nodes k p) q ≡ children_of nodes q
     attached_others q other = parented_children (with_child nodes p k) k (Some p) q ∙ written_others nodes p (λ ks. ks ++ k ∷ []) q other
 
-    pub attached_here : has_node nodes p → children_of (attached nodes k p) p ≡ children_of nodes p ++ k ∷ []
+    attached_here : has_node nodes p → children_of (attached nodes k p) p ≡ children_of nodes p ++ k ∷ []
     attached_here there = parented_children (with_child nodes p k) k (Some p) p ∙ written_is nodes p (λ ks. ks ++ k ∷ []) there
 
   module _ (nodes : Nodes T) (listed : AreListed nodes) where
@@ -195,9 +195,9 @@ module _ {T : Type 0} where
       some_parent None e = absurd (cc)
       some_parent (Some node) e = refl
 
-      above : (n : ℕ) → Leads nodes n k → has_node nodes p
+      above : (n : ℕ) → ClimbsTo nodes n k → has_node nodes p
       above zero leads = absurd (let h = sym leads.1 ∙ is in cc)
-      above (suc n) leads = let h = sym leads.1.1 ∙ is in let same : leads.0 ≡ p = cc in leads_live nodes n p (subst (Leads nodes n) same leads.1.2)
+      above (suc n) leads = let h = sym leads.1.1 ∙ is in let same : leads.0 ≡ p = cc in leads_live nodes n p (subst (ClimbsTo nodes n) same leads.1.2)
 
   -- and still is so where no parent and no key changed
   pub parent_stands : (nodes new : Nodes T) → IsTree nodes → ((q : Key) → map.contains_key new q ≡ map.contains_key nodes q)
@@ -229,12 +229,12 @@ module _ {T : Type 0} where
       none None is = refl
       none (Some node) is = absurd (cc)
 
-  pub scene_detached : (nodes : Nodes T) (k : Key) → has_node nodes k → IsScene nodes → IsScene (detached nodes k)
+  pub scene_detached : (nodes : Nodes T) (k : Key) → has_node nodes k → IsScene nodes → IsScene (as_root nodes k)
   scene_detached nodes k live scene = record {
-    tree = tree_cut nodes (detached nodes k) k (detached_parents nodes k) live scene.tree;
-    listed = make_listed (detached nodes k)
+    tree = tree_cut nodes (as_root nodes k) k (detached_parents nodes k) live scene.tree;
+    listed = make_listed (as_root nodes k)
         (λ p c is. elim (same_or_other c k) [
-          | inl same ↦ absurd (let none = (detached_parents nodes k).here in let some = subst (λ x. parent_of (detached nodes k) x ≡ Some p) same is in let h = sym none ∙ some in cc)
+          | inl same ↦ absurd (let none = (detached_parents nodes k).here in let some = subst (λ x. parent_of (as_root nodes k) x ≡ Some p) same is in let h = sym none ∙ some in cc)
           | inr other ↦ (let was = sym ((detached_parents nodes k).others c other) ∙ is in kept p c other ∙ listed_once nodes scene.listed p c was)
         ])
         (λ p c apart. elim (same_or_other c k) [
@@ -243,13 +243,13 @@ module _ {T : Type 0} where
         ]);
   }
     where
-      kept : (p c : Key) → c ≢ k → times c (children_of (detached nodes k) p) ≡ times c (children_of nodes p)
-      kept p c other = by_parent (parent_of nodes k) p (times c (children_of (detached nodes k) p) ≡ times c (children_of nodes p))
+      kept : (p c : Key) → c ≢ k → times c (children_of (as_root nodes k) p) ≡ times c (children_of nodes p)
+      kept p c other = by_parent (parent_of nodes k) p (times c (children_of (as_root nodes k) p) ≡ times c (children_of nodes p))
           (λ is. ap (times c) (detached_here nodes k p is (parent_there nodes scene.tree k p is)) ∙ times_without k c (children_of nodes p) other)
           (λ apart. ap (times c) (detached_others nodes k p apart))
 
-      gone : (p : Key) → times k (children_of (detached nodes k) p) ≡ 0
-      gone p = by_parent (parent_of nodes k) p (times k (children_of (detached nodes k) p) ≡ 0)
+      gone : (p : Key) → times k (children_of (as_root nodes k) p) ≡ 0
+      gone p = by_parent (parent_of nodes k) p (times k (children_of (as_root nodes k) p) ≡ 0)
           (λ is. (let once = listed_once nodes scene.listed p k is in let less = times_gone k (children_of nodes p) (omega arith) in
           ap (times k) (detached_here nodes k p is (parent_there nodes scene.tree k p is)) ∙ omega arith))
           (λ apart. ap (times k) (detached_others nodes k p apart) ∙ listed_never nodes scene.listed p k apart)
@@ -307,7 +307,7 @@ module _ {T : Type 0} (nodes : Nodes T) where
   value_left (Some p) k q = value_written p (without k) q
 
 module _ {T : Type 0} (nodes : Nodes T) (k : Key) where
-  pub value_detached : (q : Key) → value_of (detached nodes k) q ≡ value_of nodes q
+  pub value_detached : (q : Key) → value_of (as_root nodes k) q ≡ value_of nodes q
   value_detached q = value_parented (without_child nodes (parent_of nodes k) k) k None q ∙ value_left nodes (parent_of nodes k) k q
 
   pub value_attached : (p q : Key) → value_of (attached nodes k p) q ≡ value_of nodes q

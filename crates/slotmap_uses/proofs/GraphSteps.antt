@@ -16,7 +16,7 @@ puts_alone nodes m k beside live well = record { here = get-put_live true nodes 
 module _ {N Z : Type 0} (nodes : Content N) (lists : Pairs (Vec Key Z)) (k : Key) (beside : IsBeside nodes lists) (live : IsLive nodes k) where
   -- the list of one live node changes
   module _ (new : Pairs (Vec Key Z)) (others : (q : Key) → q ≢ k → get new q ≡ get lists q) where
-    pub other_lists : (q : Key) → q ≢ k → listed new q ≡ listed lists q
+    other_lists : (q : Key) → q ≢ k → listed new q ≡ listed lists q
     other_lists q other = ap list_in (others q other)
 
     pub same_lists : listed new k ≡ listed lists k → (q : Key) → listed new q ≡ listed lists q
@@ -25,7 +25,7 @@ module _ {N Z : Type 0} (nodes : Content N) (lists : Pairs (Vec Key Z)) (k : Key
       | inr other ↦ other_lists q other
     ]
 
-    pub still_beside : IsBeside nodes new
+    still_beside : IsBeside nodes new
     still_beside q there = elim (same_or_other q k) [
       | inl e ↦ rw e live
       | inr other ↦ beside q (ap is_some (sym (others q other)) ∙ there)
@@ -89,24 +89,17 @@ module _ {N Z : Type 0} (nodes : Content N) (edges : map.FinMap key_cmp Edge) (o
         left : (q : Key) (y : Edge) → map.get (map.remove edges x) q ≡ Some y → map.get edges q ≡ Some y
         left q y found = grind (arith, keys)
 
-  -- an edge is in the list of its first node, and in that of its second
-  pub listed_out : (x : Key) (e : Edge) → map.get edges x ≡ Some e → 0 < times x (listed out e.from)
-  listed_out x e there = let is = graph.out_lists e.from x ∙ ap (ends_at from e.from) there ∙ one_itself e.from in omega arith
-
-  pub listed_into : (x : Key) (e : Edge) → map.get edges x ≡ Some e → 0 < times x (listed into e.to)
-  listed_into x e there = let is = graph.into_lists e.to x ∙ ap (ends_at to e.to) there ∙ one_itself e.to in omega arith
-
   -- the first edge of a list touches the node
   pub out_touches : (k x : Key) (rest : List Key) → listed out k ≡ x ∷ rest → (e : Edge) × (map.get edges x ≡ Some e) × (touches k e ≡ true)
   out_touches k x rest is = let found = first_listed from edges k x rest (λ y. rw is at (graph.out_lists k y)) in
       (found.0, found.1, let here : is_key found.0.from k ≡ true = rw found.2 (is_itself k) in ap (λ b. b || is_key found.0.to k) here)
 
-  pub into_touches : (k x : Key) (rest : List Key) → listed into k ≡ x ∷ rest → (e : Edge) × (map.get edges x ≡ Some e) × (touches k e ≡ true)
+  into_touches : (k x : Key) (rest : List Key) → listed into k ≡ x ∷ rest → (e : Edge) × (map.get edges x ≡ Some e) × (touches k e ≡ true)
   into_touches k x rest is = let found = first_listed to edges k x rest (λ y. rw is at (graph.into_lists k y)) in
       (found.0, found.1, let here : is_key found.0.to k ≡ true = rw found.2 (is_itself k) in grind arith)
 
   -- if both lists are empty, no edge does
-  pub none_touches : (k : Key) → listed out k ≡ [] → listed into k ≡ [] → (x : Key) (e : Edge) → map.get edges x ≡ Some e → touches k e ≡ false
+  none_touches : (k : Key) → listed out k ≡ [] → listed into k ≡ [] → (x : Key) (e : Edge) → map.get edges x ≡ Some e → touches k e ≡ false
   none_touches k no_out no_into x e there =
       let apart_from = is_other e.from k (none_listed from edges k (λ y. rw no_out at (graph.out_lists k y)) x e there) in
       let apart_to = is_other e.to k (none_listed to edges k (λ y. rw no_into at (graph.into_lists k y)) x e there) in

@@ -23,7 +23,7 @@ module _ {T : Type 0} where
 
   module _ (nodes : Nodes T) (left : ℕ) (first last : Option Key) (w : IsWalk nodes left first last) where
     -- following the links gives the elements that are left
-    pub walk_is : follow nodes left first ≡ w.ahead
+    walk_is : follow nodes left first ≡ w.ahead
     walk_is = ap (λ n. follow nodes n first) w.left_is ∙ ap (follow nodes (length w.ahead)) w.first_is ∙ follow_part nodes w.before w.ahead w.after w.once w.nodes_are
 
     pub walk_length : left ≡ length (follow nodes left first)
@@ -118,17 +118,8 @@ module _ {T : Type 0} where
       let b = back nodes left first last w k node more at found in
       walk_is nodes left first last w ∙ b.list ∙ ap (λ l. l ++ (k, node.value) ∷ []) (sym (walk_is nodes (left - 1) first node.prev b.rest ∙ b.rest_is))
 
-  -- by the links the same holds of the front with no more
-  pub walk_first_is : (nodes : Nodes T) (left : ℕ) (k : Key) (node : Node T) → 0 < left → map.get nodes k ≡ Some node → follow nodes left (Some k) ≡ (k, node.value) ∷ follow nodes (left - 1) node.next
-  walk_first_is nodes zero k node more found = absurd (omega arith)
-  walk_first_is nodes (suc n) k node more found = let e : suc n - 1 ≡ n = omega arith in rw e (ap (λ o. follow_node k o (follow nodes n)) found)
-
   pub none_left : (nodes : Nodes T) (left : ℕ) (first : Option Key) → left ≡ 0 → follow nodes left first ≡ []
   none_left nodes left first is = ap (λ n. follow nodes n first) is
-
-  pub none_first : (nodes : Nodes T) (left : ℕ) (first : Option Key) → first ≡ None → follow nodes left first ≡ []
-  none_first nodes zero first is = refl
-  none_first nodes (suc n) first is = ap (follow nodes (suc n)) is
 
   pub none_found : (nodes : Nodes T) (left : ℕ) (k : Key) → map.get nodes k ≡ None → follow nodes left (Some k) ≡ []
   none_found nodes zero k is = refl

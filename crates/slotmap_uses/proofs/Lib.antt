@@ -10,7 +10,7 @@ pub mod LeadLemmas
 pub mod Looks
 pub mod Moved
 pub mod Moves
-pub mod Places
+pub mod NeighbourLemmas
 pub mod Pops
 pub mod Queue
 pub mod Removals

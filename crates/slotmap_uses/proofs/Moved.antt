@@ -7,7 +7,7 @@ use Rattle.slotmap.proofs.Callers.{get-insert_here, same_or_other, keys_total, e
 use Rattle.slotmap_uses.specs.declared.scene.Node.{Node}
 use Rattle.slotmap_uses.specs.Climb.{Nodes, has_node, lacks_node, parent_in, parent_of, StepsTo, IsWithin, with_parent, with_parent_in}
 use Rattle.slotmap_uses.specs.GraphParts.{times}
-use Rattle.slotmap_uses.specs.Family.{without, children_in, IsScene, leaf, value_of, forgets, with_child, without_child, detached, attached}
+use Rattle.slotmap_uses.specs.Family.{without, children_in, IsScene, leaf, value_of, forgets, with_child, without_child, as_root, attached}
 use Rattle.slotmap_uses.proofs.Children.{without_none, without_pushed}
 use Rattle.slotmap_uses.proofs.Climbs.{no_cycle}
 use Rattle.slotmap_uses.proofs.Families.{by_parent, listed_once, listed_never, parent_there, parented_here, parented_other, written_here, written_other, written_keys, written_parent}
@@ -39,24 +39,24 @@ module _ {T : Type 0} where
 
   -- what is within a node is so too once the node is a root
   module _ (nodes : Nodes T) (k : Key) where
-    steps_before : (i : ℕ) (q other : Key) → StepsTo (detached nodes k) i q other → StepsTo nodes i q other
+    steps_before : (i : ℕ) (q other : Key) → StepsTo (as_root nodes k) i q other → StepsTo nodes i q other
     steps_before zero q other same = same
     steps_before (suc i) q other steps = elim (same_or_other q k) [
-      | inl is ↦ absurd (let none = (detached_parents nodes k).here in let some = subst (λ x. parent_of (detached nodes k) x ≡ Some steps.0) is steps.1.0 in let h = sym none ∙ some in cc)
+      | inl is ↦ absurd (let none = (detached_parents nodes k).here in let some = subst (λ x. parent_of (as_root nodes k) x ≡ Some steps.0) is steps.1.0 in let h = sym none ∙ some in cc)
       | inr apart ↦ (steps.0, (sym ((detached_parents nodes k).others q apart) ∙ steps.1.0, steps_before i steps.0 other steps.1.1))
     ]
 
-    pub within_before : (q other : Key) → IsWithin (detached nodes k) q other → IsWithin nodes q other
+    within_before : (q other : Key) → IsWithin (as_root nodes k) q other → IsWithin nodes q other
     within_before q other w = (w.0, steps_before w.0 q other w.1)
 
-    within_steps : (i : ℕ) (q : Key) → StepsTo nodes i q k → IsWithin (detached nodes k) q k
+    within_steps : (i : ℕ) (q : Key) → StepsTo nodes i q k → IsWithin (as_root nodes k) q k
     within_steps zero q same = (zero, same)
     within_steps (suc i) q steps = elim (same_or_other q k) [
       | inl is ↦ (zero, is)
       | inr apart ↦ (let rest = within_steps i steps.0 steps.1.1 in (suc rest.0, (steps.0, ((detached_parents nodes k).others q apart ∙ steps.1.0, rest.1))))
     ]
 
-    pub within_after : (q : Key) → IsWithin nodes q k → IsWithin (detached nodes k) q k
+    pub within_after : (q : Key) → IsWithin nodes q k → IsWithin (as_root nodes k) q k
     within_after q w = within_steps w.0 q w.1
 
   -- a node that has not the child
@@ -93,15 +93,15 @@ module _ {T : Type 0} where
         (λ is. taken_here nodes k (parent_of nodes k) q is)
         (λ other. taken_other nodes k (parent_of nodes k) q other ∙ forgotten k (map.get nodes q) (listed_never nodes scene.listed q k other))
 
-    pub detached_get : (q : Key) → q ≢ k → map.get (detached nodes k) q ≡ option_map (forgets k) (map.get nodes q)
+    detached_get : (q : Key) → q ≢ k → map.get (as_root nodes k) q ≡ option_map (forgets k) (map.get nodes q)
     detached_get q other =
         parented_other (without_child nodes (parent_of nodes k) k) k None (map.get (without_child nodes (parent_of nodes k) k) k) q other ∙ left_get q
 
-    pub scene_removed : (new : Nodes T) → ((q : Key) → (IsWithin (detached nodes k) q k → ⊥) → map.get new q ≡ map.get (detached nodes k) q)
+    pub scene_removed : (new : Nodes T) → ((q : Key) → (IsWithin (as_root nodes k) q k → ⊥) → map.get new q ≡ map.get (as_root nodes k) q)
         → (q : Key) → (IsWithin nodes q k → ⊥) → map.get new q ≡ option_map (forgets k) (map.get nodes q)
     scene_removed new others q out = others q (λ w. out (within_before nodes k q k w)) ∙ detached_get q (λ same. out (zero, same))
 
-    detached_self : map.get (detached nodes k) k ≡ option_map (λ (n : Node T). record n { parent = None }) (option_map (forgets k) (map.get nodes k))
+    detached_self : map.get (as_root nodes k) k ≡ option_map (λ (n : Node T). record n { parent = None }) (option_map (forgets k) (map.get nodes k))
     detached_self = parented_here (without_child nodes (parent_of nodes k) k) k None (map.get (without_child nodes (parent_of nodes k) k) k) refl
         ∙ ap (option_map (λ (n : Node T). record n { parent = None })) (left_get k)
 
@@ -109,12 +109,6 @@ module _ {T : Type 0} where
   module _ (nodes : Nodes T) (k : Key) (gone : lacks_node nodes k) where
     no_node : map.get nodes k ≡ None
     no_node = none_of (map.get nodes k) gone
-
-    pub detached_gone : detached nodes k ≡ nodes
-    detached_gone = ap (λ o. with_parent (without_child nodes (parent_in o) k) k None) no_node ∙ ap (λ o. with_parent_in nodes k o None) no_node
-
-    pub gone_value : None ≡ value_of nodes k
-    gone_value = ap (option_map (λ (n : Node T). n.value)) (sym no_node)
 
     pub gone_forgotten : IsScene nodes → (q : Key) → map.get nodes q ≡ option_map (forgets k) (map.get nodes q)
     gone_forgotten scene q = forgotten k (map.get nodes q) (listed_never nodes scene.listed q k (λ e. (let h = sym (ap parent_in no_node) ∙ e in cc)))
@@ -142,21 +136,21 @@ module _ {T : Type 0} where
     not_listed : (q : Key) → parent_of nodes k ≢ Some q → map.get nodes q ≡ option_map (forgets k) (map.get nodes q)
     not_listed q other = forgotten k (map.get nodes q) (listed_never nodes scene.listed q k other)
 
-    target_p : map.get (with_child (detached nodes k) p k) p ≡ option_map (gains nodes k) (option_map (forgets k) (map.get nodes p))
+    target_p : map.get (with_child (as_root nodes k) p k) p ≡ option_map (gains nodes k) (option_map (forgets k) (map.get nodes p))
     unfolding gains
-    target_p = pushed_here (detached nodes k) k p ∙ ap (option_map (gains nodes k)) (detached_get nodes k scene p apart)
+    target_p = pushed_here (as_root nodes k) k p ∙ ap (option_map (gains nodes k)) (detached_get nodes k scene p apart)
 
-    at_other : (q : Key) → q ≢ k → map.get (without_child pushed (parent_of nodes k) k) q ≡ map.get (with_child (detached nodes k) p k) q
+    at_other : (q : Key) → q ≢ k → map.get (without_child pushed (parent_of nodes k) k) q ≡ map.get (with_child (as_root nodes k) p k) q
     at_other q other = elim (same_or_other q p) [
-      | inl is ↦ rw is (by_parent (parent_of nodes k) p (map.get (without_child pushed (parent_of nodes k) k) p ≡ map.get (with_child (detached nodes k) p k) p)
+      | inl is ↦ rw is (by_parent (parent_of nodes k) p (map.get (without_child pushed (parent_of nodes k) k) p ≡ map.get (with_child (as_root nodes k) p k) p)
           (λ own. taken_here pushed k (parent_of nodes k) p own ∙ ap (option_map (forgets k)) (pushed_here nodes k p)
           ∙ swapped (map.get nodes p) (let one = listed_once nodes scene.listed p k own in omega arith) ∙ sym target_p)
           (λ foreign. taken_other pushed k (parent_of nodes k) p foreign ∙ pushed_here nodes k p ∙ ap (option_map (gains nodes k)) (not_listed p foreign) ∙ sym target_p))
-      | inr elsewhere ↦ by_parent (parent_of nodes k) q (map.get (without_child pushed (parent_of nodes k) k) q ≡ map.get (with_child (detached nodes k) p k) q)
+      | inr elsewhere ↦ by_parent (parent_of nodes k) q (map.get (without_child pushed (parent_of nodes k) k) q ≡ map.get (with_child (as_root nodes k) p k) q)
           (λ own. taken_here pushed k (parent_of nodes k) q own ∙ ap (option_map (forgets k)) (pushed_other nodes k p q elsewhere)
-          ∙ sym (detached_get nodes k scene q other) ∙ sym (pushed_other (detached nodes k) k p q elsewhere))
+          ∙ sym (detached_get nodes k scene q other) ∙ sym (pushed_other (as_root nodes k) k p q elsewhere))
           (λ foreign. taken_other pushed k (parent_of nodes k) q foreign ∙ pushed_other nodes k p q elsewhere ∙ not_listed q foreign
-          ∙ sym (detached_get nodes k scene q other) ∙ sym (pushed_other (detached nodes k) k p q elsewhere))
+          ∙ sym (detached_get nodes k scene q other) ∙ sym (pushed_other (as_root nodes k) k p q elsewhere))
     ]
 
     given : Option (Node T) → Option (Node T)
@@ -170,35 +164,35 @@ module _ {T : Type 0} where
     at_self : map.get (without_child pushed (parent_of nodes k) k) k ≡ map.get nodes k
     at_self = taken_other pushed k (parent_of nodes k) k (not_own_parent nodes k scene) ∙ pushed_other nodes k p k (λ s. apart (sym s))
 
-    target_self : map.get (with_child (detached nodes k) p k) k ≡ option_map (λ (n : Node T). record n { parent = None }) (map.get nodes k)
-    target_self = pushed_other (detached nodes k) k p k (λ s. apart (sym s)) ∙ detached_self nodes k scene
+    target_self : map.get (with_child (as_root nodes k) p k) k ≡ option_map (λ (n : Node T). record n { parent = None }) (map.get nodes k)
+    target_self = pushed_other (as_root nodes k) k p k (λ s. apart (sym s)) ∙ detached_self nodes k scene
         ∙ ap (option_map (λ (n : Node T). record n { parent = None })) (sym (not_listed k (not_own_parent nodes k scene)))
 
     with_given : (m : Nodes T) → map.get (with_parent m k (Some p)) k ≡ given (map.get m k)
     unfolding given
     with_given m = parented_here m k (Some p) (map.get m k) refl
 
-    the_same : with_parent (without_child pushed (parent_of nodes k) k) k (Some p) ≡ attached (detached nodes k) k p
-    the_same = map.same_map keys_total exact_keys (with_parent (without_child pushed (parent_of nodes k) k) k (Some p)) (attached (detached nodes k) k p) (λ q. elim (same_or_other q k) [
+    the_same : with_parent (without_child pushed (parent_of nodes k) k) k (Some p) ≡ attached (as_root nodes k) k p
+    the_same = map.same_map keys_total exact_keys (with_parent (without_child pushed (parent_of nodes k) k) k (Some p)) (attached (as_root nodes k) k p) (λ q. elim (same_or_other q k) [
       | inl is ↦ rw is (with_given (without_child pushed (parent_of nodes k) k) ∙ ap given at_self ∙ given_twice (map.get nodes k)
-          ∙ sym (with_given (with_child (detached nodes k) p k) ∙ ap given target_self))
+          ∙ sym (with_given (with_child (as_root nodes k) p k) ∙ ap given target_self))
       | inr other ↦ parented_other (without_child pushed (parent_of nodes k) k) k (Some p) (map.get (without_child pushed (parent_of nodes k) k) k) q other ∙ at_other q other
-          ∙ sym (parented_other (with_child (detached nodes k) p k) k (Some p) (map.get (with_child (detached nodes k) p k) k) q other)
+          ∙ sym (parented_other (with_child (as_root nodes k) p k) k (Some p) (map.get (with_child (as_root nodes k) p k) k) q other)
     ])
 
     pub pushed_stands : IfSome (parent_of pushed k) (λ q. has_node pushed q)
     pushed_stands = parent_stands nodes pushed scene.tree (written_keys nodes p (λ ks. ks ++ k ∷ [])) k (written_parent nodes p (λ ks. ks ++ k ∷ []) k)
 
-    pub moved_is : with_parent (without_child pushed (parent_of pushed k) k) k (Some p) ≡ attached (detached nodes k) k p
+    moved_is : with_parent (without_child pushed (parent_of pushed k) k) k (Some p) ≡ attached (as_root nodes k) k p
     moved_is = ap (λ o. with_parent (without_child pushed o k) k (Some p)) (written_parent nodes p (λ ks. ks ++ k ∷ []) k) ∙ the_same
 
-    pub scene_moved : IsScene (attached (detached nodes k) k p)
-    scene_moved = scene_attached (detached nodes k) k p ((detached_parents nodes k).same_keys k ∙ live) (detached_parents nodes k).here ((detached_parents nodes k).same_keys p ∙ there)
+    scene_moved : IsScene (attached (as_root nodes k) k p)
+    scene_moved = scene_attached (as_root nodes k) k p ((detached_parents nodes k).same_keys k ∙ live) (detached_parents nodes k).here ((detached_parents nodes k).same_keys p ∙ there)
         (λ w. out (within_before nodes k p k w)) (scene_detached nodes k live scene)
 
     -- by what the three calls say that move it
     module _ (more fewer new : Nodes T) (push : more ≡ pushed) (leave : fewer ≡ without_child more (parent_of more k) k) (set : new ≡ with_parent fewer k (Some p)) where
-      pub reparented : new ≡ attached (detached nodes k) k p
+      pub reparented : new ≡ attached (as_root nodes k) k p
       reparented = set ∙ ap (λ m. with_parent m k (Some p)) leave ∙ ap (λ m. with_parent (without_child m (parent_of m k) k) k (Some p)) push ∙ moved_is
 
       pub scene_reparented : IsScene new

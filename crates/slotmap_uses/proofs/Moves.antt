@@ -11,11 +11,11 @@ use Rattle.slotmap_uses.specs.declared.stable_list.links.Side.TheVariants.{Befor
 use Rattle.slotmap_uses.specs.Sequence.{Sequence, value_of, first_or, put_again, without, moved_to_front, moved_to_back}
 use Rattle.slotmap_uses.specs.Sequence.{is_same, are_two, IsGap, PutsBetween}
 use Rattle.slotmap_uses.specs.Chain.{Nodes, IsChain, HasNeighbours, Unlinks, Links, with_link, with_link_of, with_next, with_prev, outer, BothStand}
-use Rattle.slotmap_uses.specs.Places.{gap_beside, gap_at, put_beside, is_move, moved_to}
+use Rattle.slotmap_uses.specs.Neighbours.{gap_beside, gap_at, insert_beside, is_move, moved_to}
 use Rattle.slotmap_uses.specs.declared.stable_list.moves.Place.{Place}
 use Rattle.slotmap_uses.specs.declared.stable_list.moves.Place.TheVariants.{Front, Back, Beside}
 use Rattle.slotmap_uses.proofs.Chains.{value_found, stands_is_some, removal, removed_prev, removed_next, removed_stands, chain_put, gap_stands, both_so}
-use Rattle.slotmap_uses.proofs.Places.{gap_side, put_side, beside_some}
+use Rattle.slotmap_uses.proofs.NeighbourLemmas.{gap_side, put_side, beside_some}
 
 three : (a b c : Bool) → (not a && (b && c)) ≡ true → (a ≡ false) × (b ≡ true) × (c ≡ true)
 three true b c is = absurd (cc)
@@ -82,7 +82,7 @@ module _ {T : Type 0} where
   neighbours nodes first last xs k chain node found = both_so (map.remove nodes k) nodes node.prev node.next (was_there nodes k) (removed_stands nodes first last xs k node chain found)
 
   -- without the node of k the others are the list without k
-  pub unlinked : (nodes new : Nodes T) (first last new_first new_last : Option Key) (xs : List (Key × T)) (k : Key) → IsChain nodes first last xs → Unlinks nodes first last k new new_first new_last
+  unlinked : (nodes new : Nodes T) (first last new_first new_last : Option Key) (xs : List (Key × T)) (k : Key) → IsChain nodes first last xs → Unlinks nodes first last k new new_first new_last
       → IsChain (map.remove new k) new_first new_last (without k xs)
   unlinked nodes new first last new_first new_last xs k chain un =
       let node = un.node in
@@ -157,7 +157,7 @@ module _ {T : Type 0} where
   pub move_stays : (place : Place) (k : Key) (xs : List (Key × T)) → is_move k place xs ≡ false → xs ≡ moved_to place k xs
   move_stays Front k xs none = stays (λ x rest. x ∷ rest) k xs none
   move_stays Back k xs none = stays (λ x rest. rest ++ x ∷ []) k xs none
-  move_stays (Beside side other) k xs none = ap (λ b. if b then put_again (put_beside side other) k (value_of k xs) xs else xs) (sym none)
+  move_stays (Beside side other) k xs none = ap (λ b. if b then put_again (insert_beside side other) k (value_of k xs) xs else xs) (sym none)
 
   gap_is : {rest : List (Key × T)} (p : Option Key × Option Key) (prev next : Option Key) → Some p ≡ Some (prev, next) → IsGap rest p.0 p.1 → IsGap rest prev next
   gap_is {rest} p prev next is gap = let e : p ≡ (prev, next) = cc in subst (λ (q : Option Key × Option Key). IsGap rest q.0 q.1) e gap
@@ -235,11 +235,11 @@ module _ {T : Type 0} where
 
     to_side : (side : Side) (other : Key) (node : Node T) → other ≢ k → map.get mid other ≡ Some node
         → Links mid mid_first mid_last k (gap_beside side other node).0 (gap_beside side other node).1 new new_first new_last
-        → IsChain new new_first new_last (put_again (put_beside side other) k (value_of k xs) xs)
+        → IsChain new new_first new_last (put_again (insert_beside side other) k (value_of k xs) xs)
     to_side side other node apart found l =
         let gap = side_gap side other node apart found in
         let at = gap_beside side other node in
-        moved at.0 at.1 l gap _ (put_side (without k xs) _ side other node (k, un.node.value) others.once (puts at.0 at.1 l gap) ∙ again at.0 at.1 l (put_beside side other))
+        moved at.0 at.1 l gap _ (put_side (without k xs) _ side other node (k, un.node.value) others.once (puts at.0 at.1 l gap) ∙ again at.0 at.1 l (insert_beside side other))
 
     linked_at : (p : Option Key × Option Key) (prev next : Option Key) → Some p ≡ Some (prev, next)
         → Links mid mid_first mid_last k prev next new new_first new_last → Links mid mid_first mid_last k p.0 p.1 new new_first new_last
@@ -253,5 +253,5 @@ module _ {T : Type 0} where
     to_place (Beside side other) prev next can is l =
         let found = beside_some mid side other prev next is in
         let links = subst (λ (q : Option Key × Option Key). Links mid mid_first mid_last k q.0 q.1 new new_first new_last) (sym found.2) l in
-        subst (IsChain new new_first new_last) (ap (λ b. if b then put_again (put_beside side other) k (value_of k xs) xs else xs) (sym can))
+        subst (IsChain new new_first new_last) (ap (λ b. if b then put_again (insert_beside side other) k (value_of k xs) xs else xs) (sym can))
         (to_side side other found.0 (two k other xs can).0 found.1 links)

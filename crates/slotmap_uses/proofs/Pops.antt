@@ -13,31 +13,14 @@ use Rattle.slotmap_uses.proofs.Moves.{stands_here}
 use Rattle.slotmap_uses.proofs.Cursors.{gone_here}
 
 module _ {T : Type 0} where
-  pub no_first : (xs : List (Key × T)) → first_or xs None ≡ None → xs ≡ []
-  no_first [] is = refl
-  no_first (x ∷ xs) is = absurd (cc)
-
   pub no_last : (xs : List (Key × T)) → last_or xs None ≡ None → xs ≡ []
   no_last xs is = elim (snoc_view xs) [
     | inl none ↦ none
     | inr some ↦ absurd (let e = sym (ap (λ l. last_or l None) some.1.1 ∙ last_or-append some.0 (some.1.0 ∷ []) None) ∙ is in cc)
   ]
 
-  -- the element at an end has a value
-  pub first_is_some : (xs : List (Key × T)) (k : Key) → first_or xs None ≡ Some k → value_of k xs ≡ None → ⊥
-  first_is_some xs k is none = let there = first_stands xs k is in absurd (let e = sym none ∙ there.1 in cc)
-
   pub last_is_some : (xs : List (Key × T)) (k : Key) → last_or xs None ≡ Some k → value_of k xs ≡ None → ⊥
   last_is_some xs k is none = let there = last_stands xs k is in absurd (let e = sym none ∙ there.1 in cc)
-
-  -- the list is the element at its front, and the others
-  pub front_off : (xs : List (Key × T)) (k : Key) (v : T) → first_or xs None ≡ Some k → value_of k xs ≡ Some v → xs ≡ (k, v) ∷ without k xs
-  front_off [] k v is found = absurd (cc)
-  front_off (x ∷ xs) k v is found =
-      let name : x.0 ≡ k = cc in
-      let one = subst (λ (q : Key). eq_by_cmp key_cmp q x.0 ≡ true) name (itself keys_total exact_keys x.0) in
-      let value : x.1 ≡ v = (let e = sym (ap (λ b. cond b (Some x.1) (value_of k xs)) one) ∙ found in cc) in
-      ap (λ (p : Key × T). p ∷ xs) (λ i. (name i, value i)) ∙ ap (λ l. (k, v) ∷ l) (sym (ap (λ b. cond b xs (x ∷ without k xs)) one))
 
   pub back_off : (xs : List (Key × T)) (k : Key) (v : T) → IsOnce xs → last_or xs None ≡ Some k → value_of k xs ≡ Some v → xs ≡ without k xs ++ (k, v) ∷ []
   back_off xs k v once is found = elim (snoc_view xs) [

@@ -46,15 +46,6 @@ no_entries queue [] is empty t = rw is refl
 no_entries queue (e ∷ es) is empty t = absurd (omega (arith, empty))
 
 module _ {T : Type 0} where
-  pub queue_new : (jobs : Jobs T) (queue : BTreeMap Turn Key) → jobs ≡ map.empty → queue.entries ≡ [] → IsQueue jobs 0 queue
-  queue_new jobs queue none empty = record {
-    queued = λ k j found. absurd (no_job k j found);
-    waits = λ t k found. absurd (let is : get turn_cmp queue t ≡ None = rw empty refl in let h = sym is ∙ found in cc);
-    numbered = λ k j found. absurd (no_job k j found);
-  } where
-    no_job : (k : Key) (j : Job T) → map.get jobs k ≡ Some j → ⊥
-    no_job k j found = let is : map.get jobs k ≡ None = rw none (grind (arith, keys)) in let h = sym is ∙ found in cc
-
   module _ (jobs : Jobs T) (count : ℕ) (old : BTreeMap Turn Key) (is : IsQueue jobs count old) where
     -- jobs of the same turn have the same handle
     one_turn : (k q : Key) (j i : Job T) → map.get jobs k ≡ Some j → map.get jobs q ≡ Some i → i.turn ≡ j.turn → q ≡ k

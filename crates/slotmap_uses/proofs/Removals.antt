@@ -5,7 +5,7 @@ use Rattle.std.specs.FinMap as map
 use Rattle.slotmap.specs.Words.{Key}
 use Rattle.slotmap.proofs.Callers.{keys, same_or_other, keys_total, exact_keys, left_in, len_removed, get_after_remove}
 use Rattle.slotmap_uses.specs.declared.scene.Node.{Node}
-use Rattle.slotmap_uses.specs.Climb.{Nodes, has_node, lacks_node, parent_in, parent_of, Leads, IsTree, StepsTo, IsWithin}
+use Rattle.slotmap_uses.specs.Climb.{Nodes, has_node, lacks_node, parent_in, parent_of, ClimbsTo, IsTree, StepsTo, IsWithin}
 use Rattle.slotmap_uses.specs.GraphParts.{same, times}
 use Rattle.slotmap_uses.specs.Family.{children_in, children_of, IsScene, value_of}
 use Rattle.slotmap_uses.proofs.Adjacent.{one_itself, one_other, times_pushed}
@@ -35,7 +35,7 @@ module _ {T : Type 0} where
   up_none zero nodes = refl
   up_none (suc f) nodes = refl
 
-  up_is : (f : ℕ) (nodes : Nodes T) (n : ℕ) (k : Key) → Leads nodes n k → n ≤ f → steps_up f nodes (parent_of nodes k) ≡ n
+  up_is : (f : ℕ) (nodes : Nodes T) (n : ℕ) (k : Key) → ClimbsTo nodes n k → n ≤ f → steps_up f nodes (parent_of nodes k) ≡ n
   unfolding steps_up
   up_is f nodes zero k leads few = ap (steps_up f nodes) leads.1 ∙ up_none f nodes
   up_is zero nodes (suc n) k leads few = absurd (omega arith)
@@ -45,7 +45,7 @@ module _ {T : Type 0} where
   pub to_do : Nodes T → Nodes T → Key → ℕ
   to_do old now at = 2 * map.len now + (map.len old - steps_up (map.len old) old (parent_of old at))
 
-  to_do_is : (old now : Nodes T) (at : Key) (n : ℕ) → Leads old n at → (n < map.len old) × (to_do old now at ≡ 2 * map.len now + (map.len old - n))
+  to_do_is : (old now : Nodes T) (at : Key) (n : ℕ) → ClimbsTo old n at → (n < map.len old) × (to_do old now at ≡ 2 * map.len now + (map.len old - n))
   unfolding to_do
   to_do_is old now at n leads =
       let few = short old n at leads in
@@ -59,21 +59,18 @@ module _ {T : Type 0} where
       let below = to_do_is old b child (suc up.0) (at, (has_parent old child at is, is, up.1)) in
       (up.0, below.0, (to_do_is old a at up.0 up.1).1, below.1)
 
-  pub down_smaller : (old now new : Nodes T) → IsTree old → (at child : Key) → has_node old at → parent_of old child ≡ Some at → map.len new ≡ map.len now → to_do old new child < to_do old now at
+  down_smaller : (old now new : Nodes T) → IsTree old → (at child : Key) → has_node old at → parent_of old child ≡ Some at → map.len new ≡ map.len now → to_do old new child < to_do old now at
   down_smaller old now new tree at child live is same_len = let both = by_depth old now new tree at child live is in omega (arith, same_len, both.1, both.2, both.3)
 
-  pub up_smaller : (old now new : Nodes T) → IsTree old → (at p : Key) → has_node old p → parent_of old at ≡ Some p → map.len new + 1 ≡ map.len now → to_do old new p < to_do old now at
+  up_smaller : (old now new : Nodes T) → IsTree old → (at p : Key) → has_node old p → parent_of old at ≡ Some p → map.len new + 1 ≡ map.len now → to_do old new p < to_do old now at
   up_smaller old now new tree at p live is less = let both = by_depth old new now tree p at live is in omega (arith, less, both.1, both.2, both.3)
 
   at_some : (nodes : Nodes T) (k : Key) (o : Option (Node T)) → map.get nodes k ≡ o → is_some o ≡ true → (n : Node T) × (map.get nodes k ≡ Some n)
   at_some nodes k None is there = absurd (cc)
   at_some nodes k (Some n) is there = (n, is)
 
-  the_node : (nodes : Nodes T) (k : Key) → has_node nodes k → (n : Node T) × (map.get nodes k ≡ Some n)
-  the_node nodes k there = at_some nodes k (map.get nodes k) refl there
-
   -- k is at a node that has p above it
-  pub step_within : (nodes : Nodes T) (k p other : Key) → parent_of nodes k ≡ Some p → IsWithin nodes p other → IsWithin nodes k other
+  step_within : (nodes : Nodes T) (k p other : Key) → parent_of nodes k ≡ Some p → IsWithin nodes p other → IsWithin nodes k other
   step_within nodes k p other is w = (suc w.0, (p, (is, w.1)))
 
   module _ (old : Nodes T) (root : Key) (scene : IsScene old) (top : parent_of old root ≡ None) where
@@ -125,11 +122,11 @@ module _ {T : Type 0} where
         popped_kids : (q : Key) → q ≢ at → children_of popped q ≡ children_of now q
         popped_kids q other = ap children_in (popped_other q other)
 
-        pub popped_len : map.len popped ≡ map.len now
+        popped_len : map.len popped ≡ map.len now
         popped_len = let is : map.contains_key now at ≡ true = ap is_some there in grind (arith, map.len-insert keys_total now at (record n { children = rest }))
 
         -- nothing was in the list
-        pub popped_none : n.children ≡ rest ++ [] → popped ≡ now
+        popped_none : n.children ≡ rest ++ [] → popped ≡ now
         popped_none is = map.same_map keys_total exact_keys popped now (λ q. elim (same_or_other q at) [
           | inl e ↦ rw e (popped_here ∙ ap (λ l. Some (record n { children = l })) (sym (is ∙ append_nil rest)) ∙ sym there)
           | inr other ↦ popped_other q other
@@ -143,7 +140,7 @@ module _ {T : Type 0} where
           counted : (x : Key) → times x (children_of now at) ≡ times x rest + same child x
           counted x = ap (times x) (kids ∙ split) ∙ times_pushed x rest child
 
-          pub child_named : has_node now child × (parent_of old child ≡ Some at) × (IsWithin old at child → ⊥)
+          child_named : has_node now child × (parent_of old child ≡ Some at) × (IsWithin old at child → ⊥)
           child_named = removing.named child at (let sum = counted child in let one = one_itself child in omega arith)
 
           rest_alone : times child rest ≡ 0
@@ -268,7 +265,7 @@ module _ {T : Type 0} where
               let known = removing.named c q was.1 in
               (left_in keys_total exact_keys now at c (λ here. known.2 (zero, sym here)) known.0, known.1, λ w. known.2 (step_within old at p c parent_at w))
 
-          pub removing_up : Removing old removed root p
+          removing_up : Removing old removed root p
           removing_up = record {
             apart = λ k out. removed_other k (λ here. out (subst (λ x. IsWithin old x root) (sym here) removing.within)) ∙ removing.apart k out;
             left = λ k m is. (let was = get_after_remove keys_total exact_keys now at k m is in removing.left k m was.1);
@@ -284,7 +281,7 @@ module _ {T : Type 0} where
           at_root : at ≡ root
           at_root = elim (same_or_other at root) [ inl same ↦ same | inr other ↦ absurd (root_within old at root (parent_is ∙ end) other removing.within) ]
 
-          pub end_value : value_of old root ≡ Some n.value
+          end_value : value_of old root ≡ Some n.value
           end_value = ap (λ x. value_of old x) (sym at_root) ∙ ap (option_map (λ (m : Node T). m.value)) (removing.left at n there).1
 
           last_one : (i : ℕ) (k : Key) → StepsTo old i k root → has_node now k → k ≡ at
@@ -293,17 +290,17 @@ module _ {T : Type 0} where
               let q_is = last_one i steps.0 steps.1.1 (removing.above k steps.0 live steps.1.0) in
               absurd (childless k live (steps.1.0 ∙ ap Some q_is))
 
-          pub end_removed : (k : Key) → IsWithin old k root → lacks_node removed k
+          end_removed : (k : Key) → IsWithin old k root → lacks_node removed k
           end_removed k w = elim (map.contains_key removed k) as (λ t. map.contains_key removed k ≡ t → map.contains_key removed k ≡ false) [
             | true ↦ λ is. absurd (let was = was_there k is in was.0 (last_one w.0 k w.1 was.1))
             | false ↦ λ is. is
           ] refl
 
-          pub end_others : (k : Key) → (IsWithin old k root → ⊥) → map.get removed k ≡ map.get old k
+          end_others : (k : Key) → (IsWithin old k root → ⊥) → map.get removed k ≡ map.get old k
           end_others k out = removed_other k (λ here. out (subst (λ x. IsWithin old x root) (sym here) removing.within)) ∙ removing.apart k out
 
       -- it is there before too
-      pub old_here : has_node old at
+      old_here : has_node old at
       old_here = ap is_some (removing.left at n there).1
 
       pub down_less : (rest : List Key) (child : Key) → n.children ≡ rest ++ child ∷ [] → to_do old (popped rest) child < to_do old now at
@@ -346,7 +343,7 @@ module _ {T : Type 0} where
     outside_it : (k : Key) → has_node new k → IsWithin old k root → ⊥
     outside_it k live w = let none = gone k w in cc
 
-    leads_left : (n : ℕ) (k : Key) → (IsWithin old k root → ⊥) → Leads old n k → Leads new n k
+    leads_left : (n : ℕ) (k : Key) → (IsWithin old k root → ⊥) → ClimbsTo old n k → ClimbsTo new n k
     leads_left zero k out leads = (ap is_some (others k out) ∙ leads.0, ap parent_in (others k out) ∙ leads.1)
     leads_left (suc n) k out leads =
         (leads.0, (ap is_some (others k out) ∙ leads.1.0, ap parent_in (others k out) ∙ leads.1.1, leads_left n leads.0 (λ w. out (step_within old k leads.0 root leads.1.1 w)) leads.1.2))

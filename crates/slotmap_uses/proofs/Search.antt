@@ -12,11 +12,11 @@ use Rattle.slotmap_uses.specs.GraphSearch.{LeadsBy, Leads, AllLed, HasNext, AreS
 use Rattle.slotmap_uses.proofs.Adjacent.{one_itself, one_other, times_first, times_there, none_behind}
 
 -- what is behind the i-th key of a list
-pub behind_split : (ks : List Key) (i : ℕ) (k : Key) → i < length ks → k ≡ get_or ks i k → drop i ks ≡ k ∷ drop (i + 1) ks
+behind_split : (ks : List Key) (i : ℕ) (k : Key) → i < length ks → k ≡ get_or ks i k → drop i ks ≡ k ∷ drop (i + 1) ks
 behind_split ks i k below is = drop-cons ks i k below ∙ ap (λ n. get_or ks i k ∷ drop n ks) (sym (add-one i)) ∙ ap (λ q. q ∷ drop (i + 1) ks) (sym is)
 
 -- a key from i on is the i-th, or behind it
-pub here_or_behind : (ks : List Key) (i : ℕ) (k x : Key) → i < length ks → k ≡ get_or ks i k → 0 < times x (drop i ks) → (x ≡ k) ⊎ (0 < times x (drop (i + 1) ks))
+here_or_behind : (ks : List Key) (i : ℕ) (k x : Key) → i < length ks → k ≡ get_or ks i k → 0 < times x (drop i ks) → (x ≡ k) ⊎ (0 < times x (drop (i + 1) ks))
 here_or_behind ks i k x below is more = elim (same_or_other x k) [
   | inl e ↦ inl e
   | inr other ↦ inr (let none = one_other k x (λ s. other (sym s)) in let split = ap (times x) (behind_split ks i k below is) ∙ times_first x k (drop (i + 1) ks) in omega arith)
@@ -26,13 +26,13 @@ times_joined : (x : Key) (xs ys : List Key) → times x (xs ++ ys) ≡ times x x
 times_joined x xs ys = sum_by-append (λ q. same q x) xs ys
 
 module _ (seen : Pairs (Unit {0})) (found : List Key) (listed : AreSeen seen found) (x : Key) where
-  pub seen_listed : contains_key seen x ≡ true → times x found ≡ 1
+  seen_listed : contains_key seen x ≡ true → times x found ≡ 1
   seen_listed there = listed x ∙ ap (λ b. if b then 1 else 0) there
 
-  pub unseen_unlisted : contains_key seen x ≡ false → times x found ≡ 0
+  unseen_unlisted : contains_key seen x ≡ false → times x found ≡ 0
   unseen_unlisted there = listed x ∙ ap (λ b. if b then 1 else 0) there
 
-  pub listed_seen : 0 < times x found → contains_key seen x ≡ true
+  listed_seen : 0 < times x found → contains_key seen x ≡ true
   listed_seen more = elim (contains_key seen x) as (λ b. contains_key seen x ≡ b → contains_key seen x ≡ true) [
     | true ↦ λ is. is
     | false ↦ λ is. absurd (let none = unseen_unlisted is in omega arith)
@@ -174,7 +174,7 @@ module _ {N : Type 0} (nodes : Content N) (edges : map.FinMap key_cmp Edge) (sta
     searching_found x more = let had = listed_seen seen found searching.listed x more in (searching.live x had, searching.led x had)
 
 -- distinct live keys are no more than there are
-pub no_more_than : {V : Type 0} (live : map.FinMap key_cmp V) (ks : List Key) → ((x : Key) → times x ks ≤ 1) → ((x : Key) → 0 < times x ks → map.contains_key live x ≡ true) → length ks ≤ map.len live
+no_more_than : {V : Type 0} (live : map.FinMap key_cmp V) (ks : List Key) → ((x : Key) → times x ks ≤ 1) → ((x : Key) → 0 < times x ks → map.contains_key live x ≡ true) → length ks ≤ map.len live
 no_more_than live [] once there = omega arith
 no_more_than live (k ∷ ks) once there =
     let first = times_first k k ks in

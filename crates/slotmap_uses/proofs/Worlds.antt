@@ -8,14 +8,14 @@ use Rattle.std.specs.FinMap as map
 use Rattle.slotmap.specs.Words.{Key}
 use Rattle.slotmap.proofs.Callers.{get-insert_here, get-insert_other}
 use Rattle.slotmap_uses.specs.declared.scene.Node.{Node}
-use Rattle.slotmap_uses.specs.Climb.{Nodes, has_node, lacks_node, parent_of, parent_in, Leads, IsTree, IsWithin}
-use Rattle.slotmap_uses.specs.Family.{value_of, leaf, attached, detached}
+use Rattle.slotmap_uses.specs.Climb.{Nodes, has_node, lacks_node, parent_of, parent_in, ClimbsTo, IsTree, IsWithin}
+use Rattle.slotmap_uses.specs.Family.{value_of, leaf, attached, as_root}
 use Rattle.slotmap_uses.proofs.Families.{parent_there, attached_parents, detached_parents, value_detached, value_attached}
 use Rattle.slotmap_uses.specs.WorldValues.{IsPathFrom, IsPathUp, world_along, IsWorld, CallsAt, FoldsUp, CallableUp}
 
 module _ {T : Type 0} (nodes : Nodes T) where
   -- the node at k, in front of a path from its parent
-  pub path_step : (k : Key) (node : Node T) → map.get nodes k ≡ Some node → (above : List T) → IsPathFrom nodes node.parent above → IsPathUp nodes k (node.value ∷ above)
+  path_step : (k : Key) (node : Node T) → map.get nodes k ≡ Some node → (above : List T) → IsPathFrom nodes node.parent above → IsPathUp nodes k (node.value ∷ above)
   path_step k node there above path =
       (ap (option_map (λ n. n.value)) there, subst (λ p. IsPathFrom nodes p above) (sym (ap parent_in there)) path)
 
@@ -37,7 +37,7 @@ module _ {T : Type 0} (nodes : Nodes T) where
       found (Some node) is = refl
 
   -- there is one path
-  pub one_path : (p : Option Key) (a b : List T) → IsPathFrom nodes p a → IsPathFrom nodes p b → a ≡ b
+  one_path : (p : Option Key) (a b : List T) → IsPathFrom nodes p a → IsPathFrom nodes p b → a ≡ b
   one_path None [] [] x y = refl
   one_path None [] (v ∷ vs) x y = absurd y
   one_path None (v ∷ vs) b x y = absurd x
@@ -82,7 +82,7 @@ module _ {T : Type 0} (under : T → T → T) (joins : (a b c : T) → under (un
   fold_under v p [] = refl
   fold_under v p (q ∷ above) = ap (λ x. fold under x above) (joins v p q) ∙ fold_under v (under p q) above
 
-  pub fold_world : (v : T) (above : List T) → fold under v above ≡ world_along under v above
+  fold_world : (v : T) (above : List T) → fold under v above ≡ world_along under v above
   fold_world v [] = refl
   fold_world v (p ∷ above) = fold_under v p above ∙ ap (under v) (fold_world p above)
 
@@ -95,7 +95,7 @@ module _ {T : Type 0} (nodes : Nodes T) where
       found None is = absurd (cc)
       found (Some node) is = (node.value, refl)
 
-  path_of : (n : ℕ) (k : Key) → Leads nodes n k → (v : T) × (above : List T) × IsPathUp nodes k (v ∷ above)
+  path_of : (n : ℕ) (k : Key) → ClimbsTo nodes n k → (v : T) × (above : List T) × IsPathUp nodes k (v ∷ above)
   path_of zero k leads = let own = live_value k leads.0 in (own.0, [], (own.1, subst (λ p. IsPathFrom nodes p []) (sym leads.1) tt))
   path_of (suc n) k leads =
       let own = live_value k leads.1.0 in
@@ -113,7 +113,7 @@ module _ {F A T : Type 0} (g : Mut F (A × (Bor T × Unit {0})) A) (nodes : Node
   folding_start k f start = record { below = []; calls = refl; path = λ above up. up }
 
   module _ (from : Key) (f₀ : F) (start : A) (at : Key) (f : F) (total : A) (folding : Folding from f₀ start at f total) (node : Node T) (there : map.get nodes at ≡ Some node) where
-    pub folding_takes : CallableUp g nodes from f₀ start → (n : ℕ) → Leads nodes n at → (shown : Bor T) → shown.now ≡ node.value → Takes g f (total, (shown, tt))
+    pub folding_takes : CallableUp g nodes from f₀ start → (n : ℕ) → ClimbsTo nodes n at → (shown : Bor T) → shown.now ≡ node.value → Takes g f (total, (shown, tt))
     folding_takes callable n leads shown same =
         let up = path_of nodes n at leads in
         let path : IsPathUp nodes at (shown.now ∷ up.1) = (ap (option_map (λ n. n.value)) there ∙ ap Some (sym same), up.2.1) in
@@ -133,15 +133,6 @@ module _ {F A T : Type 0} (g : Mut F (A × (Bor T × Unit {0})) A) (nodes : Node
       pub folding_end : node.parent ≡ None → FoldsUp g nodes from f₀ start next
       folding_end is = record { values = folding.below ++ node.value ∷ []; path = folding.path (node.value ∷ []) (root_path nodes at node there is); last = f'; calls = folded_here }
 
-  -- for a caller: what holds from call to call, and lets the closure be called
-  pub callable_up : (J : List T → F × A → Type 0) → ((below : List T) (q : F × A) (v : T) (r : F × A) → J below q → CallsAt g q v r → J (below ++ v ∷ []) r)
-      → (k : Key) (f : F) (start : A) → J [] (f, start)
-      → ((below above : List T) (f' : F) (so_far : A) (shown : Bor T) → IsPathUp nodes k (below ++ shown.now ∷ above) → J below (f', so_far) → Takes g f' (so_far, (shown, tt)))
-      → CallableUp g nodes k f start
-  callable_up J keeps k f start holds takes = record {
-    at = λ below above f' so_far shown path calls. takes below above f' so_far shown path (chained_keeps (CallsAt g) J keeps below (f, start) (f', so_far) holds calls);
-  }
-
 -- a fold by the closure that puts each value under the next one
 module _ {F T : Type 0} (g : Mut F (T × (Bor T × Unit {0})) T) (under : T → T → T)
     (puts : (f f' : F) (v p w : T) → CallsAt g (f, v) p (f', w) → w ≡ under v p) where
@@ -152,7 +143,7 @@ module _ {F T : Type 0} (g : Mut F (T × (Bor T × Unit {0})) T) (under : T → 
 
   module _ (joins : (a b c : T) → under (under a b) c ≡ under a (under b c)) (nodes : Nodes T) (k p : Key) (node : Node T)
       (there : map.get nodes k ≡ Some node) (up : node.parent ≡ Some p) where
-    pub world_of_fold : (f : F) (w : T) → FoldsUp g nodes p f node.value w → IsWorld under nodes k w
+    world_of_fold : (f : F) (w : T) → FoldsUp g nodes p f node.value w → IsWorld under nodes k w
     world_of_fold f w folds = record {
       own = node.value;
       above = folds.values;
@@ -205,22 +196,22 @@ module _ {T : Type 0} (old new : Nodes T) (k : Key) (values : (q : Key) → has_
       made = ap (under v) world.made;
     }
 
-    pub world_below : (IsWithin old p k → ⊥) → IsWorld under new k (under v w)
+    world_below : (IsWithin old p k → ⊥) → IsWorld under new k (under v w)
     world_below out = under_parent (path_outside (Some p) (world.own ∷ world.above) (λ r is within. out (let same : r ≡ p = cc in subst (λ x. IsWithin old x k) same within)) world.path)
 
-    pub world_new : lacks_node old k → IsWorld under new k (under v w)
+    world_new : lacks_node old k → IsWorld under new k (under v w)
     world_new fresh = under_parent (path_added fresh (Some p) (world.own ∷ world.above) world.path)
 
 -- after `reparent` a node is where its own value says, under its new parent, which is where it was
 module _ {T : Type 0} (nodes : Nodes T) (k p : Key) (live : has_node nodes k) (out : IsWithin nodes p k → ⊥) where
   abbrev moved : Nodes T
-  moved = attached (detached nodes k) k p
+  moved = attached (as_root nodes k) k p
 
   pub world_moved : (under : T → T → T) (v w : T) → value_of nodes k ≡ Some v → IsWorld under nodes p w → IsWorld under moved k (under v w)
   world_moved under v w own world =
       let gone = detached_parents nodes k in
-      let back = attached_parents (detached nodes k) k p (gone.same_keys k ∙ live) in
-      let value : (q : Key) → value_of moved q ≡ value_of nodes q = λ q. value_attached (detached nodes k) k p q ∙ value_detached nodes k q in
+      let back = attached_parents (as_root nodes k) k p (gone.same_keys k ∙ live) in
+      let value : (q : Key) → value_of moved q ≡ value_of nodes q = λ q. value_attached (as_root nodes k) k p q ∙ value_detached nodes k q in
       world_below nodes moved k (λ q there other. value q) (λ q there other. back.others q other ∙ gone.others q other) under v p w (value k ∙ own) back.here world out
 
 -- where a node is that is added

@@ -35,13 +35,13 @@ module _ {T : Type 0} where
   parent_of nodes k = parent_in (map.get nodes k)
 
   -- a root is so many steps up from the node k
-  abbrev pub Leads : Nodes T → ℕ → Key → Type 0
-  Leads nodes zero k = has_node nodes k × (parent_of nodes k ≡ None)
-  Leads nodes (suc n) k = (p : Key) × (has_node nodes k × (parent_of nodes k ≡ Some p) × Leads nodes n p)
+  abbrev pub ClimbsTo : Nodes T → ℕ → Key → Type 0
+  ClimbsTo nodes zero k = has_node nodes k × (parent_of nodes k ≡ None)
+  ClimbsTo nodes (suc n) k = (p : Key) × (has_node nodes k × (parent_of nodes k ≡ Some p) × ClimbsTo nodes n p)
 
   -- each node has a root above it: no node is above itself
   abbrev pub IsTree : Nodes T → Type 0
-  IsTree nodes = (k : Key) → has_node nodes k → (n : ℕ) × Leads nodes n k
+  IsTree nodes = (k : Key) → has_node nodes k → (n : ℕ) × ClimbsTo nodes n k
 
   -- so many steps up from k is other
   abbrev pub StepsTo : Nodes T → ℕ → Key → Key → Type 0

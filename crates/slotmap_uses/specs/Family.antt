@@ -62,8 +62,8 @@ module _ {T : Type 0} where
   without_child nodes (Some p) k = with_children_in nodes p (map.get nodes p) (without k)
 
   -- k is a root, and no node has it as a child
-  abbrev pub detached : Nodes T → Key → Nodes T
-  detached nodes k = with_parent (without_child nodes (parent_of nodes k) k) k None
+  abbrev pub as_root : Nodes T → Key → Nodes T
+  as_root nodes k = with_parent (without_child nodes (parent_of nodes k) k) k None
 
   -- k, a root until now, is the last child of p
   abbrev pub attached : Nodes T → Key → Key → Nodes T

@@ -7,13 +7,13 @@ use Rattle.slotmap_uses.specs.GraphParts.{times}
 
 module _ (edges : map.FinMap key_cmp Edge) where
   -- an edge goes from a to b
-  abbrev pub Joins : Key → Key → Type 0
-  Joins a b = (k : Key) × (e : Edge) × (map.get edges k ≡ Some e) × (e.from ≡ a) × (e.to ≡ b)
+  abbrev pub HasEdge : Key → Key → Type 0
+  HasEdge a b = (k : Key) × (e : Edge) × (map.get edges k ≡ Some e) × (e.from ≡ a) × (e.to ≡ b)
 
   -- a path of so many edges goes from a to b
   abbrev pub LeadsBy : ℕ → Key → Key → Type 0
   LeadsBy zero a b = a ≡ b
-  LeadsBy (suc n) a b = (c : Key) × LeadsBy n a c × Joins c b
+  LeadsBy (suc n) a b = (c : Key) × LeadsBy n a c × HasEdge c b
 
   -- b is reachable from a: by no edge, or by several
   abbrev pub Leads : Key → Key → Type 0
@@ -25,7 +25,7 @@ module _ (edges : map.FinMap key_cmp Edge) where
 
   -- the end of each outgoing edge of a is among these
   abbrev pub HasNext : Key → Pairs (Unit {0}) → Type 0
-  HasNext a seen = (b : Key) → Joins a b → contains_key seen b ≡ true
+  HasNext a seen = (b : Key) → HasEdge a b → contains_key seen b ≡ true
 
 -- the list has each of these once, and nothing else
 abbrev pub AreSeen : Pairs (Unit {0}) → List Key → Type 0

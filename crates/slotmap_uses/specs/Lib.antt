@@ -4,7 +4,7 @@ pub mod Family
 pub mod GraphParts
 pub mod GraphSearch
 pub mod ListLends
-pub mod Places
+pub mod Neighbours
 pub mod Refused
 pub mod Registry
 pub mod Schedule

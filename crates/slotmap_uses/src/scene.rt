@@ -34,8 +34,8 @@
 ghost use Rattle.std.specs.Prelude.{◌≡◌, ◌↔◌, Some, None, IfOk, IfErr, OnOk, OnErr, IfSome, IfNone, IsTrue, false, true, option_copied, option_map};
 ghost use Rattle.std.specs.FinMap as map;
 ghost use Rattle.slotmap.specs.Words.{Key as KeyOf};
-ghost use Rattle.slotmap_uses.specs.Climb.{HandsBack, IsNotGone, RefusesChild, RefusesParent, Leads, IsWithin, has_node, lacks_node, parent_of};
-ghost use Rattle.slotmap_uses.specs.Family.{attached, children_of, detached, forgets, is_parent, leaf, value_of};
+ghost use Rattle.slotmap_uses.specs.Climb.{HandsBack, IsNotGone, RefusesChild, RefusesParent, ClimbsTo, IsWithin, has_node, lacks_node, parent_of};
+ghost use Rattle.slotmap_uses.specs.Family.{attached, children_of, as_root, forgets, is_parent, leaf, value_of};
 ghost use Rattle.slotmap_uses.specs.GraphParts.{times};
 
 pub use crate::scene::children::Children;
@@ -194,7 +194,7 @@ impl<T: Drop> Scene<T> {
 
     /// Returns how many nodes are above a node, or `None` if it doesn't exist.
     pub fn depth(&self, node: DefaultKey) -> Option<usize>
-        ensures some { IfSome result (λ steps. Leads self.now steps node) }
+        ensures some { IfSome result (λ steps. ClimbsTo self.now steps node) }
         ensures none { IfNone result (lacks_node self.now node) }
     {
         if !self.nodes.contains_key(node) {
@@ -235,7 +235,7 @@ impl<T: Drop> Scene<T> {
     /// It fails exactly if one of the two doesn't exist, if the new parent is the node or below it, or
     /// if memory runs out. The scene is then unchanged.
     pub fn reparent(&mut self, node: DefaultKey, parent: DefaultKey) -> Result<(), ReparentError>
-        ensures moved { OnOk result (self.new ≡ attached (detached self.old node) node parent) }
+        ensures moved { OnOk result (self.new ≡ attached (as_root self.old node) node parent) }
         ensures nodes { OnOk result (has_node self.old node × has_node self.old parent) }
         ensures no_cycle { OnOk result (IsWithin self.old parent node → ⊥) }
         ensures err { IfErr result (RefusesParent self.old node parent) }
@@ -263,7 +263,7 @@ impl<T: Drop> Scene<T> {
     /// It allocates nothing.
     pub fn make_root(&mut self, node: DefaultKey) -> bool
         ensures which { IsTrue result ↔ has_node self.old node }
-        ensures new { self.new ≡ detached self.old node }
+        ensures new { self.new ≡ as_root self.old node }
     {
         if !self.nodes.contains_key(node) {
             return false;

@@ -35,7 +35,7 @@ ghost use Rattle.std.specs.FinMap as map;
 ghost use Rattle.slotmap.specs.Words.{Key as KeyOf, IsLive, IsNew, IsSpent, KeepsSpent};
 ghost use Rattle.slotmap_uses.specs.Sequence.{value_of, first_or, last_or, key_after, key_before, put_after, put_before, without, IsGap, PutsBetween, IsOnce};
 ghost use Rattle.slotmap_uses.specs.Sequence.{moved_to_front, moved_to_back, moved_after, moved_before, are_two, TakesFront, TakesBack};
-ghost use Rattle.slotmap_uses.specs.Places.{put_beside};
+ghost use Rattle.slotmap_uses.specs.Neighbours.{insert_beside};
 ghost use Rattle.slotmap_uses.specs.Refused.{IsRefused, HandsBack};
 
 use slotmap::{ReserveError, SlotMap};
@@ -245,7 +245,7 @@ impl<T: Drop> StableList<T> {
 
     // Adds an element on this side of that of a cursor.
     fn insert(&mut self, side: Side, cursor: Cursor, value: T) -> Result<Cursor, PlaceError<T>>
-        ensures ok { IfOk result (λ key. self.new.elements ≡ put_beside side cursor (key, value) self.old.elements) }
+        ensures ok { IfOk result (λ key. self.new.elements ≡ insert_beside side cursor (key, value) self.old.elements) }
         ensures fresh { IfOk result (λ key. value_of key self.old.elements ≡ None) }
         ensures unspent { IfOk result (λ key. IsSpent self.old.cursors key → ⊥) }
         ensures stands { OnOk result (IsSome (value_of cursor self.old.elements)) }

@@ -2,7 +2,7 @@
 
 ghost use Rattle.std.specs.Prelude.{◌≡◌, IfOk};
 ghost use Rattle.std.specs.FinMap as map;
-ghost use Rattle.slotmap.specs.Words.{keyed, contents};
+ghost use Rattle.slotmap.specs.Words.{keyed, start_live};
 
 use slotmap::{DefaultKey, SlotRecord, SlotsError, SparseSecondaryMap};
 use std::alloc::Global;
@@ -29,7 +29,7 @@ pub fn read_marks(
     list: Vec<SlotRecord<u32>>,
     hasher: RandomState,
 ) -> Result<Marks, SlotsError>
-    ensures { IfOk result (λ made. keyed made.pairs ≡ contents list.items) }
+    ensures { IfOk result (λ made. keyed made.pairs ≡ start_live list.items) }
 {
     SparseSecondaryMap::from_slots_with_hasher(alloc, list, hasher)
 }

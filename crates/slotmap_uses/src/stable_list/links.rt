@@ -5,7 +5,7 @@ ghost use Rattle.std.specs.Option.{option_map};
 ghost use Rattle.std.specs.FinMap as map;
 ghost use Rattle.slotmap.specs.Words.{IsLive, Inserts, MayGrow, without_values};
 ghost use Rattle.slotmap_uses.specs.Chain.{with_link, outer, HasNeighbours, Relinks, Unlinks, Links};
-ghost use Rattle.slotmap_uses.specs.Places.{gap_beside};
+ghost use Rattle.slotmap_uses.specs.Neighbours.{gap_beside};
 ghost use Rattle.slotmap_uses.specs.Refused.{HandsBack};
 
 use crate::stable_list::{Cursor, Node, PushError};

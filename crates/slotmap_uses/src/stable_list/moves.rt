@@ -4,7 +4,7 @@ ghost use Rattle.std.specs.Prelude.{◌≡◌, is_some, if◌then◌else◌};
 ghost use Rattle.std.specs.Borrow.{sem};
 ghost use Rattle.std.specs.Option.{option_copied_mut};
 ghost use Rattle.slotmap_uses.specs.Sequence.{value_of, moved_to_front, moved_to_back, moved_after, moved_before, are_two};
-ghost use Rattle.slotmap_uses.specs.Places.{gap_at, is_move, moved_to};
+ghost use Rattle.slotmap_uses.specs.Neighbours.{gap_at, is_move, moved_to};
 
 use crate::stable_list::links::{Side, beside, link, unlink};
 use crate::stable_list::{Cursor, Node, StableList};

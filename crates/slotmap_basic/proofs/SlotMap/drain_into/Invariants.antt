@@ -2,7 +2,7 @@ use Rattle.std.proofs.Common.{◌≡◌, ◌+◌, ◌-◌, ◌≤◌, ◌++◌, 
 use Rattle.std.specs.FinMap as map
 use Rattle.slotmap_core.specs.Content.{places}
 use Rattle.slotmap_core.specs.Listing.{NoneBelow}
-use Rattle.slotmap_core.proofs.SweepLemmas.{Swept}
+use Rattle.slotmap_core.proofs.Contents.SweepLemmas.{Swept}
 use Rattle.slotmap_basic.proofs.SlotMap.drain_into.Given as goal
 
 abbrev pub invariant-loop-key : goal.invariant-loop-key

@@ -1,20 +1,20 @@
 use Rattle.std.proofs.Common.{take, map as map_list, is_some, true, ap, ◌∙◌, arith}
-use Rattle.slotmap_core.proofs.ContentLemmas.{IsContent-with_value}
-use Rattle.slotmap_core.proofs.DisjointLemmas.{content_written, capacity-with_values}
-use Rattle.slotmap_core.proofs.ReplaceLemmas.{key_there, key_exchanged}
+use Rattle.slotmap_core.proofs.Contents.ContentLemmas.{IsContent-with_value}
+use Rattle.slotmap_core.proofs.Several.DisjointLemmas.{content_written, capacity-with_values}
+use Rattle.slotmap_core.proofs.Several.ReplaceLemmas.{key_there, key_exchanged}
 use Rattle.slotmap_basic.proofs.SlotMap.replace_disjoint.Goals as goal
 
-pub exchange-requires : goal.exchange-requires
-exchange-requires g c = key_there content_written g.K.Key.data_of c.args.keys c.loop-i.invariant.done c.index-keys-i.result (omega arith)
+pub swap_value-requires : goal.swap_value-requires
+swap_value-requires g c = key_there content_written g.K.Key.data_of c.args.keys c.loop-i.invariant.done c.index-keys-i.result (omega arith)
 
 pub loop-i-preserved : goal.loop-i-preserved
 loop-i-preserved g c =
-    rw c.exchange.ensures.put
+    rw c.swap_value.ensures.put
     (record {
-      well = IsContent-with_value true _ c.loop-i.invariant.well _ (ap is_some c.exchange.ensures.taken) _;
+      well = IsContent-with_value true _ c.loop-i.invariant.well _ (ap is_some c.swap_value.ensures.taken) _;
       done =
           key_exchanged content_written g.K.Key.data_of c.args.keys c.loop-i.invariant.done c.index-keys-i.result (omega arith) c.index-values-i.result _ (omega arith)
-          c.exchange.ensures.taken;
+          c.swap_value.ensures.taken;
     })
 
 pub returns-clause-valid : goal.returns-clause-valid

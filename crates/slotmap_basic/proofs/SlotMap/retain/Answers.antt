@@ -1,8 +1,8 @@
 use Rattle.std.proofs.Common.{true, arith}
 use Rattle.slotmap_core.specs.Content.{IsContent}
-use Rattle.slotmap_core.specs.Pass.{stage}
+use Rattle.slotmap_slots.specs.Pass.{stage}
 use Rattle.slotmap_core.specs.Retain.{RetainsBy}
-use Rattle.slotmap_core.proofs.SweepLemmas.{Swept}
+use Rattle.slotmap_core.proofs.Contents.SweepLemmas.{Swept}
 use Rattle.slotmap_basic.proofs.RetainLemmas.{Going-start, Going-may, Rejected, Going-rejected, Going-dropped, Going-end, Rejected-is, Rejected-within, Passes-on}
 use Rattle.slotmap_basic.proofs.SlotMap.retain.Goals.{In-Some, In_default}
 use Rattle.slotmap_basic.proofs.SlotMap.retain.Goals as goal

@@ -1,6 +1,6 @@
 use Rattle.std.proofs.Common.{◌+◌, ◌-◌, ◌≤◌}
 use Rattle.slotmap_core.specs.Content.{places}
-use Rattle.slotmap_core.specs.Pass.{stage}
+use Rattle.slotmap_slots.specs.Pass.{stage}
 use Rattle.slotmap_basic.proofs.RetainLemmas.{Going}
 use Rattle.slotmap_basic.proofs.SlotMap.retain.Given as goal
 

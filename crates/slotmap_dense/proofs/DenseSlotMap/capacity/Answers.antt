@@ -1,5 +1,5 @@
 use Rattle.std.proofs.Common.{rules}
-use Rattle.slotmap_dense.proofs.Held.{well_formed}
+use Rattle.slotmap_dense.proofs.SettledLemmas.{well_formed}
 use Rattle.slotmap_dense.proofs.DenseSlotMap.capacity.Goals as goal
 
 pub returns-clause-valid : goal.returns-clause-valid

@@ -1,4 +1,4 @@
-use Rattle.slotmap_dense.proofs.SweepLemmas.{Taken-start, Taken-next}
+use Rattle.slotmap_dense.proofs.FromBackLemmas.{Taken-start, Taken-next}
 use Rattle.slotmap_dense.proofs.DenseSlotMap.clear.Goals as goal
 
 pub loop-pair-init : goal.loop-pair-init

@@ -1,10 +1,10 @@
 use Rattle.std.proofs.Common.{◌≡◌, ◌∙◌, map as list_map, ap}
 use Rattle.slotmap_core.specs.Copy.{IsCopy}
-use Rattle.slotmap_core.proofs.CloneLemmas.{clone_copies}
-use Rattle.slotmap_core.proofs.ListLemmas.{zip_length}
+use Rattle.slotmap_core.proofs.Contents.CloneLemmas.{clone_copies}
+use Rattle.slotmap_core.proofs.General.ListLemmas.{zip_length}
 use Rattle.slotmap_dense.proofs.CloneLemmas.{dense-clones, same_order}
 use Rattle.slotmap_dense.proofs.WellFormed.{IsSound-other}
-use Rattle.slotmap_dense.proofs.Held.{dense_valid}
+use Rattle.slotmap_dense.proofs.SettledLemmas.{dense_valid}
 use Rattle.slotmap_dense.proofs.DenseSlotMap.clone.Goals.{In_ok-clone}
 use Rattle.slotmap_dense.proofs.DenseSlotMap.clone.Goals as goal
 

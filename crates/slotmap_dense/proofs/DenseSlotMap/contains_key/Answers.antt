@@ -1,5 +1,5 @@
 use Rattle.std.proofs.Common.{sym, ◌∙◌}
-use Rattle.slotmap_dense.proofs.Held.{well_formed, contains}
+use Rattle.slotmap_dense.proofs.SettledLemmas.{well_formed, contains}
 use Rattle.slotmap_dense.proofs.DenseSlotMap.contains_key.Goals as goal
 
 pub returns-clause-value : goal.returns-clause-value

@@ -1,7 +1,7 @@
 use Rattle.std.proofs.Common.{◌≡◌, Some, sym, ap, ◌∙◌}
 use Rattle.std.specs.FinMap as map
 use Rattle.slotmap_dense.proofs.PackedLemmas.{IsGapped-removed}
-use Rattle.slotmap_dense.proofs.Held.{absent, unchanged, Closed, closed}
+use Rattle.slotmap_dense.proofs.SettledLemmas.{absent, unchanged, Closed, closed}
 use Rattle.slotmap_dense.proofs.DenseSlotMap.detach.Goals.{After-close_gap}
 use Rattle.slotmap_dense.proofs.DenseSlotMap.detach.Goals as goal
 

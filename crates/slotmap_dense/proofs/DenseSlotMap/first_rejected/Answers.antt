@@ -1,11 +1,11 @@
 use Rattle.std.proofs.Common.{◌≡◌, length, map as list_map, min, vec_capacity, refl, ap, ◌∙◌}
 use Rattle.std.specs.Vec.{with_items}
-use Rattle.slotmap_core.specs.Pass.{Passes, stage}
-use Rattle.slotmap_core.proofs.PassLemmas.{items-whole, passes-lift, may-lift}
+use Rattle.slotmap_slots.specs.Pass.{Passes, stage}
+use Rattle.slotmap_slots.proofs.PassLemmas.{items-whole, passes-lift, may-lift}
 use Rattle.slotmap_dense.specs.Packed.{dense_of, IsSound}
 use Rattle.slotmap_dense.specs.Pass.{beside, packed_order}
 use Rattle.slotmap_dense.proofs.WellFormed.{IsSound-other}
-use Rattle.slotmap_dense.proofs.Held.{stays-valid}
+use Rattle.slotmap_dense.proofs.SettledLemmas.{stays-valid}
 use Rattle.slotmap_dense.proofs.PassLemmas.{Lifts-values}
 use Rattle.slotmap_dense.proofs.DenseSlotMap.first_rejected.Goals as goal
 

@@ -2,13 +2,13 @@ use Rattle.std.proofs.Common.{◌≡◌, ◌+◌, ◌-◌, ◌^◌, ◌<◌, ◌
 use Rattle.std.specs.FinMap as map
 use Rattle.std.specs.Vec.Iter.{into_iter_items}
 use Rattle.std.proofs.lemmas.List.{length_push, length-map, nil_from_length, map-append}
-use Rattle.slotmap_core.specs.Slots.{Accepts}
-use Rattle.slotmap_core.proofs.StartLemmas.{odd_of}
-use Rattle.slotmap_core.proofs.KeyLemmas.{key_from-odd}
-use Rattle.slotmap_core.proofs.PlacesLemmas.{key}
-use Rattle.slotmap_core.proofs.ListReadLemmas.{next_consistent}
-use Rattle.slotmap_dense.proofs.ListReads.{AreSplit, AreSplit-start, AreSplit-live, AreSplit-none, same_places, fewer_read, refuses-positions, IsSound-split, reads-split, stack_alike}
-use Rattle.slotmap_dense.proofs.Held.{dense_valid}
+use Rattle.slotmap_core.specs.Accepted.{Accepts}
+use Rattle.slotmap_core.proofs.FromList.StartLemmas.{odd_of}
+use Rattle.slotmap_core.proofs.General.KeyLemmas.{key_from-odd}
+use Rattle.slotmap_core.proofs.Places.PlacesLemmas.{key}
+use Rattle.slotmap_core.proofs.FromList.ReadsAsLemmas.{next_consistent}
+use Rattle.slotmap_dense.proofs.FromListLemmas.{AreSplit, AreSplit-start, AreSplit-live, AreSplit-none, same_places, fewer_read, refuses-positions, IsSound-split, reads-split, stack_alike}
+use Rattle.slotmap_dense.proofs.SettledLemmas.{dense_valid}
 use Rattle.slotmap_dense.proofs.DenseSlotMap.from_slots.Goals.{In_ok-check_slots, In-None}
 use Rattle.slotmap_dense.proofs.DenseSlotMap.from_slots.Goals.{in-Some-value+in_ok-push-in-Some-value+in_ok-push-in-Some-value-2, in-None-value}
 use Rattle.slotmap_dense.proofs.DenseSlotMap.from_slots.Goals as goal

@@ -1,6 +1,6 @@
 use Rattle.std.proofs.Common.{◌≡◌, ◌+◌, ◌≤◌, ◌++◌, length, map as list_map, vec_len, vec_capacity}
 use Rattle.std.specs.Vec.Iter.{into_iter_items, into_iter_len}
-use Rattle.slotmap_dense.proofs.ListReads.{AreSplit}
+use Rattle.slotmap_dense.proofs.FromListLemmas.{AreSplit}
 use Rattle.slotmap_dense.proofs.DenseSlotMap.from_slots.Given as goal
 
 -- what was made of the records that were read so far

@@ -1,6 +1,6 @@
 use Rattle.std.proofs.Common.{Some, option_copied, sym, ap, ◌∙◌, arith}
-use Rattle.slotmap_core.proofs.ListLemmas.{same_read}
-use Rattle.slotmap_dense.proofs.Held.{well_formed, absent, present}
+use Rattle.slotmap_core.proofs.General.ListLemmas.{same_read}
+use Rattle.slotmap_dense.proofs.SettledLemmas.{well_formed, absent, present}
 use Rattle.slotmap_dense.proofs.DenseSlotMap.get.Goals as goal
 
 pub returns-in_err-position-clause-value : goal.returns-in_err-position-clause-value

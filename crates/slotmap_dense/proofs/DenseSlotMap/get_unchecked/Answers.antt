@@ -1,6 +1,6 @@
 use Rattle.std.proofs.Common.{Some, sym, ap, ◌∙◌, arith}
-use Rattle.slotmap_core.proofs.ListLemmas.{same_read}
-use Rattle.slotmap_dense.proofs.Held.{well_formed, contains, present}
+use Rattle.slotmap_core.proofs.General.ListLemmas.{same_read}
+use Rattle.slotmap_dense.proofs.SettledLemmas.{well_formed, contains, present}
 use Rattle.slotmap_dense.proofs.DenseSlotMap.get_unchecked.Goals as goal
 
 pub get_unchecked-position-requires : goal.get_unchecked-position-requires

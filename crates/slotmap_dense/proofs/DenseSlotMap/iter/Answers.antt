@@ -1,6 +1,6 @@
 use Rattle.std.proofs.Common.{map as list_map}
 use Rattle.slotmap_dense.proofs.PackedLemmas.{listed}
-use Rattle.slotmap_dense.proofs.Held.{well_formed}
+use Rattle.slotmap_dense.proofs.SettledLemmas.{well_formed}
 use Rattle.slotmap_dense.proofs.DenseSlotMap.iter.Goals as goal
 
 pub returns-clause-listing : goal.returns-clause-listing

@@ -1,6 +1,6 @@
 use Rattle.std.proofs.Common.{length, slice_get, map as list_map, sym, ap, ◌∙◌, arith}
 use Rattle.std.proofs.lemmas.Option.{same_Some}
-use Rattle.slotmap_dense.proofs.Held.{well_formed, contains, present}
+use Rattle.slotmap_dense.proofs.SettledLemmas.{well_formed, contains, present}
 use Rattle.slotmap_dense.proofs.DenseSlotMap.lend_two.Goals as goal
 
 pub get_unchecked-requires : goal.get_unchecked-requires

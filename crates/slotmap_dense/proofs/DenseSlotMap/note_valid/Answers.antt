@@ -1,4 +1,4 @@
-use Rattle.slotmap_dense.proofs.Held.{well_formed}
+use Rattle.slotmap_dense.proofs.SettledLemmas.{well_formed}
 use Rattle.slotmap_dense.proofs.DenseSlotMap.note_valid.Goals as goal
 
 pub returns : goal.returns

@@ -1,5 +1,5 @@
 use Rattle.std.proofs.Common.{refl, arith, rules}
-use Rattle.slotmap_dense.proofs.Held.{used_is, makes-room}
+use Rattle.slotmap_dense.proofs.SettledLemmas.{used_is, makes-room}
 use Rattle.slotmap_dense.proofs.DenseSlotMap.reserve.Goals as goal
 
 pub returns-in_err-make_room_in_slots-clause-makes_room : goal.returns-in_err-make_room_in_slots-clause-makes_room

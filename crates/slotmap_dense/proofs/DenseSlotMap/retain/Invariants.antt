@@ -1,5 +1,5 @@
 use Rattle.std.proofs.Common.{◌≤◌, length}
-use Rattle.slotmap_core.specs.Pass.{stage}
+use Rattle.slotmap_slots.specs.Pass.{stage}
 use Rattle.slotmap_dense.proofs.PassLemmas.{Going}
 use Rattle.slotmap_dense.proofs.DenseSlotMap.retain.Given as goal
 

@@ -1,8 +1,8 @@
 use Rattle.std.proofs.Common.{slice_get, is_some, sym, ap, ◌∙◌}
 use Rattle.std.proofs.lemmas.Option.{same_Some}
-use Rattle.slotmap_dense.proofs.ListLemmas.{length-swap_remove}
+use Rattle.slotmap_dense.proofs.SwapRemoveLemmas.{length-swap_remove}
 use Rattle.slotmap_dense.proofs.PackedLemmas.{IsGapped-removed}
-use Rattle.slotmap_dense.proofs.Held.{read_at, Closed, closed}
+use Rattle.slotmap_dense.proofs.SettledLemmas.{read_at, Closed, closed}
 use Rattle.slotmap_dense.proofs.DenseSlotMap.take_at.Goals.{After-close_gap}
 use Rattle.slotmap_dense.proofs.DenseSlotMap.take_at.Goals as goal
 

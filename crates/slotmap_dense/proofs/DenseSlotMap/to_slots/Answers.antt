@@ -2,11 +2,11 @@ use Rattle.std.proofs.Common.{◌≡◌, ◌<◌, false, length, take, map as li
 use Rattle.std.proofs.lemmas.List.{take_all, length-map}
 use Rattle.std.proofs.lemmas.Option.{slice_get_read, slice_get-map}
 use Rattle.slotmap_core.specs.Written.{Writes, IsRecordClone}
-use Rattle.slotmap_core.proofs.ListLemmas.{zip_next}
-use Rattle.slotmap_core.proofs.WrittenClones.{writes_clones, clones_contents, equal_writes, equal_contents}
-use Rattle.slotmap_dense.specs.Packed.{filled}
-use Rattle.slotmap_dense.proofs.ListSlots.{position_within, writes-filled}
-use Rattle.slotmap_dense.proofs.Held.{well_formed}
+use Rattle.slotmap_core.proofs.General.ListLemmas.{zip_next}
+use Rattle.slotmap_core.proofs.FromList.WrittenClones.{writes_clones, clones_contents, equal_writes, equal_contents}
+use Rattle.slotmap_dense.specs.Packed.{with_packed_value}
+use Rattle.slotmap_dense.proofs.PositionLists.{position_within, writes-filled}
+use Rattle.slotmap_dense.proofs.SettledLemmas.{well_formed}
 use Rattle.slotmap_dense.proofs.DenseSlotMap.to_slots.Goals.{In_ok-positions}
 use Rattle.slotmap_dense.proofs.DenseSlotMap.to_slots.Goals as goal
 
@@ -28,9 +28,9 @@ loop-index-preserved g c =
     let i = c.loop-index.index in
     let values = c.self.inside.values.items in
     let within : i < length list.items = omega (arith, c.loop-index-test.true, c.len-index-end.ensures, list.ok.0) in
-    let found : slice_get (list_map (filled values) list.items) i ≡ Some (filled values c.index.result.now) =
-    slice_get-map (filled values) list.items i ∙ ap (option_map (filled values)) (slice_get_read list.items _ i _ refl within c.index.ensures) in
-    let made : IsRecordClone g.V.Clone.is_clone (filled values c.index.result.now) c.in_ok-record_of.field-0 = rw c.deref.ensures.value at c.in_ok-record_of.ensures in
+    let found : slice_get (list_map (with_packed_value values) list.items) i ≡ Some (with_packed_value values c.index.result.now) =
+    slice_get-map (with_packed_value values) list.items i ∙ ap (option_map (with_packed_value values)) (slice_get_read list.items _ i _ refl within c.index.ensures) in
+    let made : IsRecordClone g.V.Clone.is_clone (with_packed_value values c.index.result.now) c.in_ok-record_of.field-0 = rw c.deref.ensures.value at c.in_ok-record_of.ensures in
     record {
       written = rw (c.push_reserved.ensures.items) (zip_next (IsRecordClone g.V.Clone.is_clone) _ _ i _ _ c.loop-index.invariant.written found made);
       room = omega (arith, c.loop-index.invariant.room, c.push_reserved.ensures.len, c.push_reserved.ensures.capacity);
@@ -40,8 +40,8 @@ pub returns-clause-writes : goal.returns-clause-writes
 returns-clause-writes g c =
     let m = c.self.inside in
     let list = c.in_ok-positions.positions in
-    let records = list_map (filled m.values.items) list.items in
-    let all : take c.loop-index.index records ≡ records = take_all c.loop-index.index records (omega (arith, c.loop-index-test.false, c.len-index-end.ensures, list.ok.0, length-map list.items (filled m.values.items))) in
+    let records = list_map (with_packed_value m.values.items) list.items in
+    let all : take c.loop-index.index records ≡ records = take_all c.loop-index.index records (omega (arith, c.loop-index-test.false, c.len-index-end.ensures, list.ok.0, length-map list.items (with_packed_value m.values.items))) in
     let valid = well_formed _ c.self.inside c.self.view_is c.self.invariant in
     let writes = writes-filled m.slots (list_map g.K.Key.data_of m.keys.items) m.values.items c.self.invariant list.items
     (positions_written g (goal.at.returns-clause-writes g c).In_ok-positions) (min (vec_capacity m.keys) (vec_capacity m.values)) in

@@ -1,10 +1,10 @@
 use Rattle.std.proofs.Common.{◌+◌, ◌≤◌, take, map as list_map, vec_len, vec_capacity}
 use Rattle.slotmap_core.specs.Written.{AreRecordClones}
-use Rattle.slotmap_dense.specs.Packed.{filled}
+use Rattle.slotmap_dense.specs.Packed.{with_packed_value}
 use Rattle.slotmap_dense.proofs.DenseSlotMap.to_slots.Given as goal
 
 abbrev pub invariant-loop-index : goal.invariant-loop-index
 invariant-loop-index g l = record {
-  written : AreRecordClones g.V.Clone.is_clone (take l.index (list_map (filled l.self-inside.values.items) l.positions.items)) l.list.items;
+  written : AreRecordClones g.V.Clone.is_clone (take l.index (list_map (with_packed_value l.self-inside.values.items) l.positions.items)) l.list.items;
   room : vec_len l.list + l.index-end ≤ vec_capacity l.list + l.index;
 }

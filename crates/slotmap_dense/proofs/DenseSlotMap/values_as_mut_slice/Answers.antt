@@ -1,5 +1,5 @@
 use Rattle.std.proofs.Common.{refl, rules}
-use Rattle.slotmap_dense.proofs.Held.{lent, well_formed}
+use Rattle.slotmap_dense.proofs.SettledLemmas.{lent, well_formed}
 use Rattle.slotmap_dense.proofs.DenseSlotMap.values_as_mut_slice.Goals as goal
 
 pub returns : goal.returns

@@ -1,7 +1,7 @@
 use Rattle.std.proofs.Common.{[], ◌∷◌, ◌++◌, inl, inr, ◌≡◌, length, map as list_map, refl, sym, ◌∙◌, arith}
 use Rattle.std.proofs.lemmas.Fn.{FoldsTo-push}
 use Rattle.std.proofs.lemmas.List.{length-map, length-set}
-use Rattle.slotmap_core.specs.Pass.{Keeps, stage}
+use Rattle.slotmap_slots.specs.Pass.{Stays, stage}
 use Rattle.slotmap_dense.specs.Pass.{beside}
 use Rattle.slotmap_dense.proofs.PassLemmas.{shows-read, calls-read}
 use Rattle.slotmap_dense.proofs.retain.find_rejected.Goals as goal
@@ -34,7 +34,7 @@ loop-position-preserved g c =
     let at = c.loop-position in
     record {
       visits = at.invariant.visits ++ _ ∷ [];
-      kept = FoldsTo-push (Keeps (beside g.K.Key.data_of (list_map g.K.Key.data_of c.args.keys.now)) g.F.FnMut) _ at.invariant.visits _ _ _ at.invariant.kept (record {
+      kept = FoldsTo-push (Stays (beside g.K.Key.data_of (list_map g.K.Key.data_of c.args.keys.now)) g.F.FnMut) _ at.invariant.visits _ _ _ at.invariant.kept (record {
         calls = calls-read g.K.Key.data_of g.F.FnMut c.args.keys.now _ c.loop-position-test.true at.invariant.same_length c.index-keys-position.is refl (rw c.if-not-f.false refl) c.f.ensures;
         stays = c.if-not-f.false;
       });

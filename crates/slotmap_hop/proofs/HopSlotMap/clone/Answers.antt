@@ -1,7 +1,7 @@
 use Rattle.std.proofs.Common.{ap, arith}
-use Rattle.slotmap_core.proofs.CloneLemmas.{clone_copies}
+use Rattle.slotmap_core.proofs.Contents.CloneLemmas.{clone_copies}
 use Rattle.slotmap_hop.specs.Links.{blocks_of}
-use Rattle.slotmap_hop.proofs.CloneLemmas.{layout-cloned, IsSound-cloned, has_clones}
+use Rattle.slotmap_hop.proofs.CloneLemmas.{all_links-cloned, IsSound-cloned, has_clones}
 use Rattle.slotmap_hop.proofs.SlotLemmas.{valid}
 use Rattle.slotmap_hop.proofs.HopSlotMap.clone.Goals as goal
 
@@ -12,7 +12,7 @@ pub returns-clause-clones : goal.returns-clause-clones
 returns-clause-clones g c = rw (← c.self.view_is) (has_clones _ _ _ c.in_ok-clone_slots.ensures _ _ c.self.invariant _ _)
 
 pub returns-clause-blocks : goal.returns-clause-blocks
-returns-clause-blocks g c = rw (← c.self.view_is) (ap blocks_of (layout-cloned _ _ _ c.in_ok-clone_slots.ensures))
+returns-clause-blocks g c = rw (← c.self.view_is) (ap blocks_of (all_links-cloned _ _ _ c.in_ok-clone_slots.ensures))
 
 pub returns-clause-copies_if_clones_equal : goal.returns-clause-copies_if_clones_equal
 returns-clause-copies_if_clones_equal g c = clone_copies _ _ _ (returns-clause-clones g c)

@@ -1,13 +1,13 @@
 use Rattle.std.proofs.Common.{◌≡◌, ap, sym, ◌∙◌, arith}
-use Rattle.slotmap_core.proofs.PlacesLemmas.{key}
+use Rattle.slotmap_core.proofs.Places.PlacesLemmas.{key}
 use Rattle.slotmap_hop.specs.Links.{fronts_of}
-use Rattle.slotmap_hop.specs.Slots.{layout, next_place}
+use Rattle.slotmap_hop.specs.Slots.{all_links, next_place}
 use Rattle.slotmap_hop.proofs.SlotLemmas.{valid}
 use Rattle.slotmap_hop.proofs.Growth.{some_offered, sound-pushed, blocks-pushed, inserts-pushed}
 use Rattle.slotmap_hop.proofs.Circle.{next_vacant}
 use Rattle.slotmap_hop.proofs.Taking.{read_back}
 use Rattle.slotmap_hop.proofs.Vacating.{zero_in_circle}
-use Rattle.slotmap_hop.proofs.Held.{AtEnd, at_end, Filled, well_formed, back_within, back_key, offered_back, filled}
+use Rattle.slotmap_hop.proofs.SettledLemmas.{AtEnd, at_end, Filled, well_formed, back_within, back_key, offered_back, filled}
 use Rattle.slotmap_hop.proofs.HopSlotMap.fill.Goals.{Then-self-eq0, After-links_at-block, After-fill_back}
 use Rattle.slotmap_hop.proofs.HopSlotMap.fill.Goals as goal
 
@@ -44,12 +44,12 @@ returns-then-self-eq0 g c =
 
 pub links_at-block-requires : goal.links_at-block-requires
 links_at-block-requires g c =
-    let es = layout c.self.inside.slots.items in
+    let es = all_links c.self.inside.slots.items in
     rw (c.as_slice-2.ensures.value, c.links_at-front.ensures, c.as_slice.ensures.value) (next_vacant 0 c.self.invariant.linked.linked (zero_in_circle (fronts_of es)))
 
 -- the place that is filled
 back : (g : _) (c : After-links_at-block g) → c.links_at-block.result.other_end ≡ next_place c.self.inside.slots.items
-back g c = read_back _ _ _ _ _ (ap layout c.as_slice.ensures.value) (ap layout c.as_slice-2.ensures.value) c.links_at-front.ensures c.links_at-block.ensures
+back g c = read_back _ _ _ _ _ (ap all_links c.as_slice.ensures.value) (ap all_links c.as_slice-2.ensures.value) c.links_at-front.ensures c.links_at-block.ensures
 
 pub index-requires : goal.index-requires
 index-requires g c =

@@ -1,5 +1,5 @@
 use Rattle.std.proofs.Common.{refl, ap, ◌∙◌, arith}
-use Rattle.slotmap_hop.proofs.Held.{held}
+use Rattle.slotmap_hop.proofs.SettledLemmas.{held}
 use Rattle.slotmap_hop.proofs.LiveSlots.{Present, state_read, read_gives}
 use Rattle.slotmap_hop.proofs.HopSlotMap.get_unchecked.Goals.{After-self}
 use Rattle.slotmap_hop.proofs.HopSlotMap.get_unchecked.Goals as goal

@@ -1,5 +1,5 @@
 use Rattle.std.proofs.Common.{refl, ap, ◌∙◌, arith}
-use Rattle.slotmap_hop.proofs.Held.{well_formed, held}
+use Rattle.slotmap_hop.proofs.SettledLemmas.{well_formed, held}
 use Rattle.slotmap_hop.proofs.LiveSlots.{Present, version_read, state_read, read_gives, sound-rewritten, content-rewritten}
 use Rattle.slotmap_hop.proofs.HopSlotMap.get_unchecked_mut.Goals.{After-self}
 use Rattle.slotmap_hop.proofs.HopSlotMap.get_unchecked_mut.Goals as goal

@@ -1,16 +1,16 @@
 use Rattle.std.proofs.Common.{is_some, ap, arith}
-use Rattle.slotmap_core.proofs.DisjointLemmas.{content_written}
-use Rattle.slotmap_core.proofs.ReplaceLemmas.{key_there, key_exchanged}
+use Rattle.slotmap_core.proofs.Several.DisjointLemmas.{content_written}
+use Rattle.slotmap_core.proofs.Several.ReplaceLemmas.{key_there, key_exchanged}
 use Rattle.slotmap_hop.proofs.WellFormed.{StaysHop-with_value}
 use Rattle.slotmap_hop.proofs.HopSlotMap.replace_disjoint.Goals as goal
 
-pub exchange-requires : goal.exchange-requires
-exchange-requires g c = key_there content_written g.K.Key.data_of c.args.keys c.loop-i.invariant.0 c.index-keys-i.result (omega arith)
+pub swap_value-requires : goal.swap_value-requires
+swap_value-requires g c = key_there content_written g.K.Key.data_of c.args.keys c.loop-i.invariant.0 c.index-keys-i.result (omega arith)
 
 pub loop-i-preserved : goal.loop-i-preserved
 loop-i-preserved g c =
-    rw c.exchange.ensures.replaces (
-      key_exchanged content_written g.K.Key.data_of c.args.keys c.loop-i.invariant.0 c.index-keys-i.result (omega arith) c.index-values-i.result _ (omega arith) c.exchange.ensures.value,
+    rw c.swap_value.ensures.replaces (
+      key_exchanged content_written g.K.Key.data_of c.args.keys c.loop-i.invariant.0 c.index-keys-i.result (omega arith) c.index-values-i.result _ (omega arith) c.swap_value.ensures.value,
       c.loop-i.invariant.1,
-      StaysHop-with_value c.args.self.now c.loop-i.self _ _ c.loop-i.invariant.2 (ap is_some c.exchange.ensures.value),
+      StaysHop-with_value c.args.self.now c.loop-i.self _ _ c.loop-i.invariant.2 (ap is_some c.swap_value.ensures.value),
     )

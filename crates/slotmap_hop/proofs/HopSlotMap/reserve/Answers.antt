@@ -1,6 +1,6 @@
 use Rattle.std.proofs.Common.{◌≡◌, ◌<◌, ◌≤◌, length, vec_capacity, refl, ap, sym, arith}
 use Rattle.slotmap_core.specs.Content.{used}
-use Rattle.slotmap_core.specs.StackMap.{taken}
+use Rattle.slotmap_core.specs.StackMap.{used_places}
 use Rattle.slotmap_hop.specs.Slots.{places_of}
 use Rattle.slotmap_hop.proofs.RoomLemmas.{room_is, hop_room_had, grown_granted}
 use Rattle.slotmap_hop.proofs.SlotLemmas.{taken_slots}
@@ -19,7 +19,7 @@ returns-clause-makes_room g c =
     let holds : length slots.items ≤ vec_capacity slots = omega (arith, slots.ok.0, slots.ok.1) in
     let room = room_is _ _ _ c.self.invariant _ holds c.self.view_is in
     let all = taken_slots _ _ _ c.self.invariant in
-    let same : used c.args.self.now.content ≡ taken (places_of slots.items) = ap (λ m. used m.content) (sym c.self.view_is) in
+    let same : used c.args.self.now.content ≡ used_places (places_of slots.items) = ap (λ m. used m.content) (sym c.self.view_is) in
     let told = c.used-used.ensures in
     let none : c.args.self.now.content.room < c.args.additional =
     omega (arith, told.value, told.below, told.fits, c.capacity.ensures.value, c.if-additional-used.false, c.if-additional-capacity.false) in

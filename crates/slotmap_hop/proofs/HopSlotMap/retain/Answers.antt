@@ -1,6 +1,6 @@
 use Rattle.std.proofs.Common.{Some, ◌∙◌}
-use Rattle.slotmap_core.proofs.LeaveLemmas.{same_live}
-use Rattle.slotmap_core.proofs.VisitLemmas.{CallsAt-called}
+use Rattle.slotmap_core.proofs.Contents.LeaveLemmas.{same_live}
+use Rattle.slotmap_core.proofs.Several.VisitLemmas.{CallsAt-called}
 use Rattle.slotmap_hop.proofs.Retaining.{Retaining, retaining_starts, retaining_may_come, retaining_kept, retaining_dropped, retaining_ends}
 use Rattle.slotmap_hop.proofs.HopSlotMap.retain.Goals.{In-Some}
 use Rattle.slotmap_hop.proofs.HopSlotMap.retain.Goals as goal

@@ -1,7 +1,7 @@
 use Rattle.std.proofs.Common.{◌+◌, ap, ◌∙◌, arith}
-use Rattle.slotmap_hop.proofs.Held.{Took, held, took_last, took_other}
+use Rattle.slotmap_hop.proofs.SettledLemmas.{Took, held, took_last, took_other}
 use Rattle.slotmap_hop.proofs.LiveSlots.{Present, elems_positive, vacant_below, can_free}
-use Rattle.slotmap_hop.proofs.HopSlotMap.take_live.Goals.{After-self, After-use_up, After-free_slot}
+use Rattle.slotmap_hop.proofs.HopSlotMap.take_live.Goals.{After-self, After-retire, After-free_slot}
 use Rattle.slotmap_hop.proofs.HopSlotMap.take_live.Goals as goal
 
 found : (g : _) (c : After-self g) → Present c.self.inside.slots.items c.args.self.now.content.live (g.K.Key.data_of c.args.key) c.idx-index.result c.version-version.result
@@ -12,25 +12,25 @@ found g c =
 pub overflow_sub-self : goal.overflow_sub-self
 overflow_sub-self g c = elems_positive _ _ _ c.self.invariant _ _ _ (found g (goal.at.overflow_sub-self g c).After-self).place
 
-pub use_up-requires : goal.use_up-requires
-use_up-requires g c =
-    let can = can_free _ _ _ c.self.invariant _ _ _ (found g (goal.at.use_up-requires g c).After-self).place in
+pub retire-requires : goal.retire-requires
+retire-requires g c =
+    let can = can_free _ _ _ c.self.invariant _ _ _ (found g (goal.at.retire-requires g c).After-self).place in
     rw c.as_mut_slice.ensures.value (record { inside = can.inside; live = can.live })
 
-last : (g : _) (c : After-use_up g) → Present c.self.inside.slots.items c.args.self.now.content.live (g.K.Key.data_of c.args.key) c.idx-index.result c.version-version.result
-    → Took c.self.inside c.self.view_is c.self.invariant (g.K.Key.data_of c.args.key) c.use_up.result c.use_up.new.slots c.self.inside.vacant_count
+last : (g : _) (c : After-retire g) → Present c.self.inside.slots.items c.args.self.now.content.live (g.K.Key.data_of c.args.key) c.idx-index.result c.version-version.result
+    → Took c.self.inside c.self.view_is c.self.invariant (g.K.Key.data_of c.args.key) c.retire.result c.retire.new.slots c.self.inside.vacant_count
 last g c found =
     let seen = c.as_mut_slice.ensures.value in
-    let did = c.use_up.ensures in
-    took_last c.self.inside c.self.view_is c.self.invariant found c.use_up.result c.use_up.new.slots (rw seen at did.value) c.if-version.true (rw seen at did.layout) (rw seen at did.places)
+    let did = c.retire.ensures in
+    took_last c.self.inside c.self.view_is c.self.invariant found c.retire.result c.retire.new.slots (rw seen at did.value) c.if-version.true (rw seen at did.all_links) (rw seen at did.places)
 
 pub invariant_of-self : goal.invariant_of-self
-invariant_of-self g c = let at = goal.at.invariant_of-self g c in (last g at.After-use_up (found g at.After-self)).sound_after
+invariant_of-self g c = let at = goal.at.invariant_of-self g c in (last g at.After-retire (found g at.After-self)).sound_after
 
 pub returns-then-version : goal.returns-then-version
 returns-then-version g c =
     let at = goal.at.returns-then-version g c in
-    let took = last g at.After-use_up (found g at.After-self) in
+    let took = last g at.After-retire (found g at.After-self) in
     record { value = took.value; removes = took.removes; blocks = took.blocks; valid = took.valid }
 
 pub overflow_add-self : goal.overflow_add-self

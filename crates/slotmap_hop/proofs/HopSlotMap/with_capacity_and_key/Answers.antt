@@ -1,6 +1,6 @@
 use Rattle.std.proofs.Common.{arith, refl}
-use Rattle.slotmap_core.proofs.PlacesLemmas.{sentinel_alone}
-use Rattle.slotmap_core.proofs.SlotGrowth.{taken-sentinel}
+use Rattle.slotmap_core.proofs.Places.PlacesLemmas.{sentinel_alone}
+use Rattle.slotmap_core.proofs.Places.StackLemmas.{used_places-sentinel}
 use Rattle.slotmap_hop.proofs.Empty.{IsSound-new}
 use Rattle.slotmap_hop.proofs.SlotLemmas.{valid}
 use Rattle.slotmap_hop.proofs.HopSlotMap.with_capacity_and_key.Goals as goal
@@ -19,7 +19,7 @@ returns-clause-blocks g c = rw (c.push_reserved.ensures.items, c.in_ok-slots.ens
 pub returns-clause-room : goal.returns-clause-room
 returns-clause-room g c =
     rw (c.push_reserved.ensures.items, c.in_ok-slots.ensures.items, c.lone_slot.ensures)
-    (omega (arith, taken-sentinel g.row.V.Denot, c.push_reserved.ensures.capacity, c.in_ok-slots.ensures.capacity, c.if-capacity-gt-MOST_KEYS.false))
+    (omega (arith, used_places-sentinel g.row.V.Denot, c.push_reserved.ensures.capacity, c.in_ok-slots.ensures.capacity, c.if-capacity-gt-MOST_KEYS.false))
 
 pub returns-clause-valid : goal.returns-clause-valid
 returns-clause-valid g c = let made = c.push_reserved.new.self in valid _ _ _ (invariant_of-result g c) _ (omega (arith, made.ok.0, made.ok.1))

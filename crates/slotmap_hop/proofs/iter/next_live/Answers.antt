@@ -1,6 +1,6 @@
 use Rattle.std.proofs.Common.{length, refl, ap, ◌∙◌, arith}
 use Rattle.slotmap_hop.proofs.SlotLemmas.{slots_fit}
-use Rattle.slotmap_hop.proofs.Walking.{Reads, way_begins, way_room, way_inside, way_hops, way_passes, way_finds}
+use Rattle.slotmap_hop.proofs.HoppingLemmas.{Reads, way_begins, way_room, way_inside, way_hops, way_passes, way_finds}
 use Rattle.slotmap_hop.proofs.iter.next_live.Goals.{After-read-slot}
 use Rattle.slotmap_hop.proofs.iter.next_live.Goals as goal
 

@@ -1,5 +1,5 @@
 use Rattle.std.proofs.Common.{◌-◌, length}
-use Rattle.slotmap_hop.proofs.Walking.{OnTheWay}
+use Rattle.slotmap_hop.proofs.HoppingLemmas.{OnTheWay}
 use Rattle.slotmap_hop.proofs.retain.find_live.Given as goal
 
 -- no live slot was passed

@@ -6,4 +6,4 @@ pub returns : goal.returns
 returns g c =
     let ran = joined_if_ok _ _ c.run_all.result (λ replies. replies.items) c.primary-1.given.0 c.secondary-1.given.0 c.run_all.ensures.run c.run_all.ensures.unchanged
     c.in-Ok.ensures.items (λ name. search rules) (λ name. search rules) in
-    record { starts = c.may_start.ensures.starts; run = ran.run; dictionary = ran.dictionary; err = c.run_all.ensures.err; unchanged = ran.unchanged }
+    record { starts = c.note_valid.ensures.starts; run = ran.run; dictionary = ran.dictionary; err = c.run_all.ensures.err; unchanged = ran.unchanged }

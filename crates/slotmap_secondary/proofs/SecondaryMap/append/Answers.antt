@@ -1,6 +1,6 @@
 use Rattle.std.proofs.Common.{◌≡◌, length, sym, ap, ◌∙◌, arith}
 use Rattle.slotmap_secondary.proofs.SlotLemmas.{count, valid}
-use Rattle.slotmap_secondary.proofs.PutLemmas.{IsSound-append, content-append}
+use Rattle.slotmap_secondary.proofs.PutAfterLastLemmas.{IsSound-append, content-append}
 use Rattle.slotmap_secondary.proofs.SecondaryMap.append.Goals as goal
 
 pub overflow_add-self : goal.overflow_add-self

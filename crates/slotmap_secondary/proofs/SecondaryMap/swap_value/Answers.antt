@@ -1,4 +1,4 @@
-use Rattle.slotmap_secondary.proofs.EntryLemmas.{IsContent-with_value}
+use Rattle.slotmap_secondary.proofs.PairsAloneLemmas.{IsContent-with_value}
 use Rattle.slotmap_secondary.proofs.SecondaryMap.swap_value.Goals as goal
 
 pub returns-clause-valid : goal.returns-clause-valid

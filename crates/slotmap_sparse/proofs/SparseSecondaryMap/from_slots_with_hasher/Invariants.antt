@@ -1,12 +1,12 @@
 use Rattle.std.proofs.Common.{◌≡◌, length}
-use Rattle.slotmap_core.proofs.TakingLemmas.{Taking}
+use Rattle.slotmap_core.proofs.General.OwnedIterLemmas.{OwnedIter}
 use Rattle.slotmap_sparse.specs.Content.{IsContent}
-use Rattle.slotmap_sparse.proofs.SlotsLemmas.{Read}
+use Rattle.slotmap_sparse.proofs.FromListLemmas.{Read}
 use Rattle.slotmap_sparse.proofs.SparseSecondaryMap.from_slots_with_hasher.Given as goal
 
 abbrev pub invariant-loop-slot : goal.invariant-loop-slot
 invariant-loop-slot g l = record {
-  taking : Taking l.fn.list.items l.yielded l.slot-iterator;
+  taking : OwnedIter l.fn.list.items l.yielded l.slot-iterator;
   at : l.index ≡ length l.yielded;
   read : Read l.yielded l.made.pairs;
   well : IsContent l.made;

@@ -1,5 +1,5 @@
 use Rattle.slotmap_sparse.proofs.EntriesLemmas.{well_formed}
-use Rattle.slotmap_sparse.proofs.WalkLemmas.{of_keys, listing}
+use Rattle.slotmap_sparse.proofs.IterLemmas.{of_keys, listing}
 use Rattle.std.proofs.Common.{ap}
 use Rattle.slotmap_sparse.proofs.SparseSecondaryMap.iter.Goals as goal
 

@@ -1,4 +1,4 @@
-use Rattle.slotmap_sparse.proofs.SlotsLemmas.{Counts}
+use Rattle.slotmap_sparse.proofs.FromListLemmas.{Counts}
 use Rattle.slotmap_sparse.proofs.SparseSecondaryMap.place_count.Given as goal
 
 abbrev pub invariant-loop-key : goal.invariant-loop-key

@@ -3,10 +3,10 @@ use Rattle.std.specs.FinMap as map
 use Rattle.slotmap_core.specs.Key.{Key, key_from}
 use Rattle.slotmap_core.specs.Secondary.{keyed}
 use Rattle.slotmap_core.specs.Retain.{MayCome}
-use Rattle.slotmap_core.proofs.KeyLemmas.{key_from-odd}
+use Rattle.slotmap_core.proofs.General.KeyLemmas.{key_from-odd}
 use Rattle.slotmap_sparse.specs.Entries.{pairs_of, IsSound}
 use Rattle.slotmap_sparse.proofs.EntriesLemmas.{more_room, well_formed}
-use Rattle.slotmap_sparse.proofs.WalkLemmas.{of_keys, valid_from}
+use Rattle.slotmap_sparse.proofs.IterLemmas.{of_keys, valid_from}
 use Rattle.slotmap_sparse.proofs.RetainLemmas.{visited, comes_to, shown_at, retains_by}
 use Rattle.slotmap_sparse.proofs.SparseSecondaryMap.retain.Goals as goal
 

@@ -1,5 +1,5 @@
 use Rattle.std.proofs.Common.{refl}
-use Rattle.slotmap_sparse.proofs.WalkLemmas.{listed_key, listed_none}
+use Rattle.slotmap_sparse.proofs.IterLemmas.{listed_key, listed_none}
 use Rattle.slotmap_sparse.proofs.SparseSecondaryMap.take_first.Goals as goal
 
 pub returns-in_default-clause-takes : goal.returns-in_default-clause-takes

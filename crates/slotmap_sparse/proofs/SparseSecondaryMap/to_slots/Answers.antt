@@ -1,7 +1,7 @@
 use Rattle.std.proofs.Common.{◌+◌, length, sym, ap, subst, ◌∙◌, arith}
 use Rattle.std.specs.FinMap as map
 use Rattle.std.proofs.lemmas.List.{length_push}
-use Rattle.slotmap_sparse.specs.Written.{Reaches, IsCloneSlot}
+use Rattle.slotmap_sparse.specs.Written.{ReachesLargest, IsCloneSlot}
 use Rattle.slotmap_sparse.proofs.WrittenLemmas.{Copies-start, Copies-push, writes_clones, contents_clones, writes_equal, contents_equal}
 use Rattle.slotmap_sparse.proofs.SparseSecondaryMap.to_slots.Goals.{After-loop-index}
 use Rattle.slotmap_sparse.proofs.SparseSecondaryMap.to_slots.Goals as goal
@@ -26,8 +26,8 @@ loop-index-preserved g c =
     }
 
 -- at the end of the loop the records reach up to the largest index
-reaches : (g : _) (c : After-loop-index g) → Reaches c.args.self.now.pairs (length c.loop-index.slots.items)
-reaches g c = subst (Reaches c.args.self.now.pairs) (omega (arith, c.loop-index.invariant.long, c.loop-index-test.false)) c.place_count-count.ensures.count
+reaches : (g : _) (c : After-loop-index g) → ReachesLargest c.args.self.now.pairs (length c.loop-index.slots.items)
+reaches g c = subst (ReachesLargest c.args.self.now.pairs) (omega (arith, c.loop-index.invariant.long, c.loop-index-test.false)) c.place_count-count.ensures.count
 
 pub returns-clause-writes : goal.returns-clause-writes
 returns-clause-writes g c = writes_clones g.V.Clone.is_clone _ _ c.loop-index.invariant.copied (reaches g c) c.place_count-count.ensures.valid.keys

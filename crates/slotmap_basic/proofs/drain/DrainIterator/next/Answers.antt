@@ -1,10 +1,10 @@
 use Rattle.std.proofs.Common.{◌+◌, ◌∷◌, refl, sym, ap, ◌∙◌, arith}
 use Rattle.std.specs.FinMap as map
 use Rattle.slotmap_core.specs.Listing.{NoneBelow}
-use Rattle.slotmap_core.proofs.KeyLemmas.{keys_total, exact_keys}
-use Rattle.slotmap_core.proofs.Maps.{len_removed}
-use Rattle.slotmap_core.proofs.IndexLemmas.{none_live}
-use Rattle.slotmap_core.proofs.SweepLemmas.{Empties-first, first_entry, above_next}
+use Rattle.slotmap_core.proofs.General.KeyLemmas.{keys_total, exact_keys}
+use Rattle.slotmap_core.proofs.General.Maps.{len_removed}
+use Rattle.slotmap_core.proofs.Contents.IndexLemmas.{none_live}
+use Rattle.slotmap_core.proofs.Contents.SweepLemmas.{Empties-first, first_entry, above_next}
 use Rattle.slotmap_basic.proofs.drain.DrainIterator.next.Goals as goal
 
 later : (g : _) (c : goal.After-take_live g) → NoneBelow c.take_live.new.self.live (c.idx.result + 1)

@@ -1,8 +1,8 @@
 use Rattle.std.proofs.Common.{subst, sym}
 use Rattle.std.proofs.lemmas.Result.{on_ok_weaker}
 use Rattle.slotmap_core.specs.Listing.{IsKeyListing}
-use Rattle.slotmap_core.proofs.ListingLemmas.{IsKeyListing-listing}
-use Rattle.slotmap_core.proofs.WalkLemmas.{listing-entries}
+use Rattle.slotmap_core.proofs.General.ListingLemmas.{IsKeyListing-listing}
+use Rattle.slotmap_core.proofs.Places.InOrderLemmas.{listing-entries}
 use Rattle.slotmap_basic.proofs.primary.SlotMapPrimary.keys_into.Goals as goal
 
 pub returns-clause-ok : goal.returns-clause-ok

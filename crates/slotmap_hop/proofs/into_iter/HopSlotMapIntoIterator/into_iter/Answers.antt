@@ -1,10 +1,10 @@
 use Rattle.std.proofs.Common.{refl}
-use Rattle.slotmap_core.proofs.WalkLemmas.{listing-entries}
-use Rattle.slotmap_hop.proofs.Iterators.{walk_starts, pairs-start}
+use Rattle.slotmap_core.proofs.Places.InOrderLemmas.{listing-entries}
+use Rattle.slotmap_hop.proofs.Iterators.{iter_starts, pairs-start}
 use Rattle.slotmap_hop.proofs.into_iter.HopSlotMapIntoIterator.into_iter.Goals as goal
 
 pub invariant_of-result : goal.invariant_of-result
-invariant_of-result g c = rw (c.links_at-sentinel.ensures, c.as_slice.ensures.value) (walk_starts _ _ _ c.self.invariant)
+invariant_of-result g c = rw (c.links_at-sentinel.ensures, c.as_slice.ensures.value) (iter_starts _ _ _ c.self.invariant)
 
 pub returns : goal.returns
 returns g c =

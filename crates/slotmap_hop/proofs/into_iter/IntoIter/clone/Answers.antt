@@ -1,9 +1,9 @@
-use Rattle.slotmap_core.proofs.WalkClones.{pairs_equal}
-use Rattle.slotmap_hop.proofs.CloneLemmas.{left_cloned, IsWalk-cloned}
+use Rattle.slotmap_core.proofs.Contents.CloneLemmas.{pairs_equal}
+use Rattle.slotmap_hop.proofs.CloneLemmas.{left_cloned, IsIter-cloned}
 use Rattle.slotmap_hop.proofs.into_iter.IntoIter.clone.Goals as goal
 
 pub invariant_of-result : goal.invariant_of-result
-invariant_of-result g c = IsWalk-cloned _ _ _ c.in_ok-clone_slots.ensures _ _ _ c.self.invariant
+invariant_of-result g c = IsIter-cloned _ _ _ c.in_ok-clone_slots.ensures _ _ _ c.self.invariant
 
 pub returns-clause-clones : goal.returns-clause-clones
 returns-clause-clones g c = rw (← c.self.view_is) (left_cloned _ _ _ c.in_ok-clone_slots.ensures _)

@@ -2,12 +2,12 @@ use Rattle.std.proofs.Common.{◌≡◌, ◌+◌, ◌-◌, ◌∷◌, sym, ap, r
 use Rattle.std.specs.Vec.{with_items}
 use Rattle.std.proofs.lemmas.List.{with_items_is}
 use Rattle.std.proofs.lemmas.Option.{same_Some}
-use Rattle.slotmap_core.proofs.PlacesLemmas.{key}
-use Rattle.slotmap_hop.specs.Walk.{pairs_left, IsWalk, FindsSlot}
+use Rattle.slotmap_core.proofs.Places.PlacesLemmas.{key}
+use Rattle.slotmap_hop.specs.Iter.{pairs_left, IsIter, FindsSlot}
 use Rattle.slotmap_hop.proofs.SlotLemmas.{same_length}
 use Rattle.slotmap_hop.proofs.LiveSlots.{live_key, value_is}
-use Rattle.slotmap_hop.proofs.Iterators.{can_go_on, pairs-taken, walk_taken}
-use Rattle.slotmap_hop.proofs.into_iter.IntoIterIterator.next.Goals.{After-next_live-place, After-use_up-value}
+use Rattle.slotmap_hop.proofs.Iterators.{can_go_on, pairs-taken, iter_taken}
+use Rattle.slotmap_hop.proofs.into_iter.IntoIterIterator.next.Goals.{After-next_live-place, After-retire-value}
 use Rattle.slotmap_hop.proofs.into_iter.IntoIterIterator.next.Goals as goal
 
 pub next_live-place-requires : goal.next_live-place-requires
@@ -22,22 +22,22 @@ pub exact-requires : goal.exact-requires
 exact-requires g c = live_key _ _ _ c.self.invariant.stands.sound _ _ _ (found g (goal.at.exact-requires g c).After-next_live-place).finds.there
 
 -- the value that was found is moved out
-moved : (g : _) (c : After-use_up-value g) → FindsSlot c.self.inside.slots.items c.self.inside.place c.next_live-place.result.0 c.next_live-place.result.1.now
-    → IsWalk (with_items c.self.inside.slots c.use_up-value.new.slots).items 0 (c.next_live-place.result.0 + 1) (c.self.inside.left - 1) × (pairs_left c.self.inside.slots.items c.self.inside.place
-    ≡ (key c.next_live-place.result.0 c.next_live-place.result.1.now.version, c.use_up-value.result)
-    ∷ pairs_left (with_items c.self.inside.slots c.use_up-value.new.slots).items (c.next_live-place.result.0 + 1))
+moved : (g : _) (c : After-retire-value g) → FindsSlot c.self.inside.slots.items c.self.inside.place c.next_live-place.result.0 c.next_live-place.result.1.now
+    → IsIter (with_items c.self.inside.slots c.retire-value.new.slots).items 0 (c.next_live-place.result.0 + 1) (c.self.inside.left - 1) × (pairs_left c.self.inside.slots.items c.self.inside.place
+    ≡ (key c.next_live-place.result.0 c.next_live-place.result.1.now.version, c.retire-value.result)
+    ∷ pairs_left (with_items c.self.inside.slots c.retire-value.new.slots).items (c.next_live-place.result.0 + 1))
 moved g c found =
-    let walk = c.self.invariant in
+    let iterates = c.self.invariant in
     let way = rw (c.new-counted.ensures.slots, c.as_slice.ensures.value, c.new-counted.ensures.reads) at c.next_live-place.ensures.reads in
-    let same = rw c.as_mut_slice.ensures.value at c.use_up-value.ensures.layout in
-    let after = rw c.as_mut_slice.ensures.value at c.use_up-value.ensures.places in
-    let value = same_Some _ _ (value_is _ _ _ walk.stands.sound _ _ _ found.finds.there _ (rw c.as_mut_slice.ensures.value at c.use_up-value.ensures.value)) in
-    let pairs = pairs-taken walk found.finds way c.use_up-value.new.slots same after in
-    rw (with_items_is c.self.inside.slots c.use_up-value.new.slots (same_length _ _ _ _ after ∙ sym c.self.inside.slots.ok.0))
-    (walk_taken walk found.finds way c.use_up-value.new.slots same after, found.finds.first ∙ rw (value, pairs) refl)
+    let same = rw c.as_mut_slice.ensures.value at c.retire-value.ensures.all_links in
+    let after = rw c.as_mut_slice.ensures.value at c.retire-value.ensures.places in
+    let value = same_Some _ _ (value_is _ _ _ iterates.stands.sound _ _ _ found.finds.there _ (rw c.as_mut_slice.ensures.value at c.retire-value.ensures.value)) in
+    let pairs = pairs-taken iterates found.finds way c.retire-value.new.slots same after in
+    rw (with_items_is c.self.inside.slots c.retire-value.new.slots (same_length _ _ _ _ after ∙ sym c.self.inside.slots.ok.0))
+    (iter_taken iterates found.finds way c.retire-value.new.slots same after, found.finds.first ∙ rw (value, pairs) refl)
 
 pub invariant_of-self : goal.invariant_of-self
-invariant_of-self g c = let at = goal.at.invariant_of-self g c in (moved g at.After-use_up-value (found g at.After-next_live-place)).0
+invariant_of-self g c = let at = goal.at.invariant_of-self g c in (moved g at.After-retire-value (found g at.After-next_live-place)).0
 
 pub returns-clause-steps : goal.returns-clause-steps
 returns-clause-steps g c =
@@ -45,4 +45,4 @@ returns-clause-steps g c =
     let found = found g at.After-next_live-place in
     let is_key = live_key _ _ _ c.self.invariant.stands.sound _ _ _ found.finds.there in
     let is = ap g.K.Key.data_of (g.met.K.Key.from_gives_key _ _ c.from-key.ensures) ∙ g.met.K.Key.from_data _ (rw c.exact.ensures is_key) ∙ c.exact.ensures in
-    sym c.self.view_is ∙ (moved g at.After-use_up-value found).1 ∙ rw is refl
+    sym c.self.view_is ∙ (moved g at.After-retire-value found).1 ∙ rw is refl

@@ -1,6 +1,6 @@
 use Rattle.std.proofs.Common.{refl, sym, ap, ◌∙◌, arith}
 use Rattle.slotmap_hop.proofs.LiveSlots.{live_key}
-use Rattle.slotmap_hop.proofs.Iterators.{can_go_on, walk_on, left_none}
+use Rattle.slotmap_hop.proofs.Iterators.{can_go_on, iter_on, left_none}
 use Rattle.slotmap_hop.proofs.iter.Iter.step.Goals as goal
 
 pub next_live-place-requires-clause-can : goal.next_live-place-requires-clause-can
@@ -13,7 +13,7 @@ pub exact-requires : goal.exact-requires
 exact-requires g c = live_key _ _ _ c.self.invariant.stands.sound _ _ _ c.next_live-place.ensures.found.finds.there
 
 pub invariant_of-self : goal.invariant_of-self
-invariant_of-self g c = let found = c.next_live-place.ensures in rw found.slots (walk_on c.self.invariant found.found.finds found.reads)
+invariant_of-self g c = let found = c.next_live-place.ensures in rw found.slots (iter_on c.self.invariant found.found.finds found.reads)
 
 pub returns-clause-some : goal.returns-clause-some
 returns-clause-some g c =

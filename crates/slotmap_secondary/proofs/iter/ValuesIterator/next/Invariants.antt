@@ -1,5 +1,5 @@
 use Rattle.std.proofs.Common.{◌≡◌, ◌+◌, length}
-use Rattle.slotmap_secondary.specs.Walk.{values_in}
+use Rattle.slotmap_secondary.specs.Iter.{values_in}
 use Rattle.slotmap_secondary.proofs.iter.ValuesIterator.next.Given as goal
 
 -- only vacant slots were skipped

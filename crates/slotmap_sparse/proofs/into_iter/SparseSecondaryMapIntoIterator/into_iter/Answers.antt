@@ -1,5 +1,5 @@
 use Rattle.std.proofs.Common.{ap}
-use Rattle.slotmap_sparse.proofs.WalkLemmas.{of_keys, listing}
+use Rattle.slotmap_sparse.proofs.IterLemmas.{of_keys, listing}
 use Rattle.slotmap_sparse.proofs.into_iter.SparseSecondaryMapIntoIterator.into_iter.Goals as goal
 
 pub invariant_of-result : goal.invariant_of-result

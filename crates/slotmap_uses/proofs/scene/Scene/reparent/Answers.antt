@@ -1,6 +1,6 @@
 use Rattle.std.proofs.Common.{sym, ap, ◌∙◌}
 use Rattle.slotmap_uses.specs.Climb.{IsWithin}
-use Rattle.slotmap_uses.specs.Family.{attached, detached}
+use Rattle.slotmap_uses.specs.Family.{attached, as_root}
 use Rattle.slotmap_uses.proofs.Moved.{pushed_stands, reparented, scene_reparented}
 use Rattle.slotmap_uses.proofs.Results.{at_ok, out_of}
 use Rattle.slotmap_uses.proofs.scene.Scene.reparent.Goals as goal
@@ -28,4 +28,4 @@ returns-clause-moved g c =
     let out = λ (w : IsWithin c.self.inside.nodes.live c.args.parent c.args.node). out_of _ c.is_within.ensures c.if-is_within.false (rw (← c.self.view_is) w) in
     let more = at_ok _ (sym c.is_err.ensures.value ∙ c.if-is_err.false) c.push_child.ensures.ok in
     reparented c.self.inside.nodes.live c.args.node c.args.parent c.self.invariant live there out _ _ _ more c.leave_parent.ensures c.set_parent.ensures
-    ∙ ap (λ m. attached (detached m c.args.node) c.args.node c.args.parent) c.self.view_is
+    ∙ ap (λ m. attached (as_root m c.args.node) c.args.node c.args.parent) c.self.view_is

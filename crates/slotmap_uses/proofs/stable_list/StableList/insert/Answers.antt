@@ -1,7 +1,7 @@
 use Rattle.std.proofs.Common.{ap, sym, ◌∙◌, subst, refl}
 use Rattle.slotmap_uses.specs.Sequence.{value_of, IsOnce}
 use Rattle.slotmap_uses.proofs.Chains.{elements_are}
-use Rattle.slotmap_uses.proofs.Places.{beside_none, beside_gap, beside_put, beside_stands}
+use Rattle.slotmap_uses.proofs.NeighbourLemmas.{beside_none, beside_gap, beside_put, beside_stands}
 use Rattle.slotmap_uses.proofs.stable_list.StableList.insert.Goals as goal
 
 pub returns-in_default-clause-err : goal.returns-in_default-clause-err

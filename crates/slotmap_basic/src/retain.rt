@@ -1,0 +1,44 @@
+//! The call that visits all live keys of a map, by ascending index, and keeps or removes each.
+
+ghost use Rattle.std.specs.Prelude.{true};
+ghost use Rattle.slotmap_core.specs.Transition.{Leaves, FreesByIndex};
+ghost use Rattle.slotmap_core.specs.Retain.{RetainsBy, CallableOnEach};
+ghost use Rattle.slotmap_core.specs.Call.{StaysValid};
+
+use crate::SlotMap;
+use slotmap_core::keys::Key;
+
+impl<K: Key, V: Drop> SlotMap<K, V> {
+    /// Calls a closure once for each live key, and removes the keys for which it returns `false`.
+    ///
+    /// The closure gets the key and a mutable reference to its value. What it writes is kept. The
+    /// keys are visited by ascending index. Detached keys aren't visited, and stay detached. Linear
+    /// in the number of slots.
+    ///
+    /// ```
+    /// map.retain(|_, value| *value % 2 == 0);
+    /// assert_eq!(rt; map.get(a), None);
+    /// assert_eq!(rt; map.get(b), Some(&2));
+    /// ```
+    pub fn retain<F: FnMut(K, &mut V) -> bool>(&mut self, mut f: F)
+    where
+        F: Drop,
+        // For each entry, in each state in which calls for other entries leave the closure.
+        requires { CallableOnEach F.FnMut K.data_of f self.old.live }
+        ensures retained { RetainsBy F.FnMut K.data_of f self.old.live self.new.live }
+        ensures leaves { Leaves self.old self.new }
+        ensures order { FreesByIndex self.old self.new }
+        ensures valid { StaysValid true self.old self.new }
+    {
+        self.slots.note_valid();
+        let mut index = 0;
+        loop {
+            index = self.slots.first_rejected(index, &mut f);
+            let Some(key) = self.live_from(index) else {
+                break;
+            };
+            self.take_live(key);
+            index += 1;
+        }
+    }
+}

@@ -1,0 +1,98 @@
+-- Lists cut at positions: what stands before an element, between two of them and after.
+-- For runs.
+use Rattle.std.proofs.Common.{◌≡◌, ℕ, zero, suc, ◌+◌, ◌<◌, List, [], ◌∷◌, ◌++◌, length, take, drop, slice_get, Some, refl, sym, ap, ◌∙◌, arith}
+use Rattle.std.specs.List.{AllByRecursion, AllZip}
+
+module _ {X : Type 0} where
+  some_injective : (x y : X) → Some x ≡ Some y → x ≡ y
+  some_injective x y h = cc
+
+  -- x stands at position i
+  pub record SplitsAt (xs : List X) (i : ℕ) (x : X) : Type 0 where
+    pub before : List X
+    pub after : List X
+    pub is : xs ≡ before ++ x ∷ after
+    pub at : length before ≡ i
+
+  pub split_at : (xs : List X) (i : ℕ) (x : X) → slice_get xs i ≡ Some x → SplitsAt xs i x
+  split_at [] i x h = absurd (cc)
+  split_at (z ∷ zs) zero x h = record { before = []; after = zs; is = ap (λ y. y ∷ zs) (some_injective _ _ h); at = refl }
+  split_at (z ∷ zs) (suc i) x h =
+      let rest = split_at zs i x h in
+      record { before = z ∷ rest.before; after = rest.after; is = ap (λ l. z ∷ l) rest.is; at = omega (arith, rest.at) }
+
+  -- x stands at position i, and y at the later position j
+  pub record SplitsAtTwo (xs : List X) (i j : ℕ) (x y : X) : Type 0 where
+    pub before : List X
+    pub between : List X
+    pub after : List X
+    pub is : xs ≡ before ++ x ∷ (between ++ y ∷ after)
+    pub at : length before ≡ i
+    pub apart : length between + i + 1 ≡ j
+
+  pub split_at_two : (xs : List X) (i j : ℕ) (x y : X) → i < j → slice_get xs i ≡ Some x → slice_get xs j ≡ Some y → SplitsAtTwo xs i j x y
+  split_at_two [] i j x y less h g = absurd (cc)
+  split_at_two (z ∷ zs) i zero x y less h g = absurd (omega arith)
+  split_at_two (z ∷ zs) zero (suc j) x y less h g =
+      let rest = split_at zs j y g in
+      record { before = []; between = rest.before; after = rest.after; is = ap (λ w. w ∷ zs) (some_injective _ _ h) ∙ ap (λ l. x ∷ l) rest.is; at = refl; apart = omega (arith, rest.at) }
+  split_at_two (z ∷ zs) (suc i) (suc j) x y less h g =
+      let rest = split_at_two zs i j x y (omega arith) h g in
+      record { before = z ∷ rest.before; between = rest.between; after = rest.after; is = ap (λ l. z ∷ l) rest.is; at = omega (arith, rest.at); apart = omega (arith, rest.apart) }
+
+  -- x stands at position i, and y right after it
+  pub record SplitsAtPair (xs : List X) (i : ℕ) (x y : X) : Type 0 where
+    pub before : List X
+    pub after : List X
+    pub is : xs ≡ before ++ x ∷ y ∷ after
+    pub at : length before ≡ i
+
+  pub split_at_pair : (xs : List X) (i : ℕ) (x y : X) → slice_get xs i ≡ Some x → slice_get xs (i + 1) ≡ Some y → SplitsAtPair xs i x y
+  split_at_pair xs i x y h g =
+      let two = split_at_two xs i (i + 1) x y (omega arith) h g in
+      record { before = two.before; after = two.after; at = two.at; is = two.is ∙ ap (λ l. two.before ++ x ∷ (l ++ y ∷ two.after)) (no_elements two.between (omega (arith, two.apart))) }
+    where
+      no_elements : (xs : List X) → length xs ≡ 0 → xs ≡ []
+      no_elements [] e = refl
+      no_elements (x ∷ xs) e = absurd (omega arith)
+
+  before_seam : (xs ys : List X) (n : ℕ) (z : X) → slice_get xs n ≡ Some z → slice_get (xs ++ ys) n ≡ Some z
+  before_seam [] ys n z h = absurd (cc)
+  before_seam (w ∷ xs) ys zero z h = h
+  before_seam (w ∷ xs) ys (suc n) z h = before_seam xs ys n z h
+
+  past_seam : (xs ys : List X) (x : X) (n : ℕ) → slice_get (xs ++ x ∷ ys) (length xs + 1 + n) ≡ slice_get ys n
+  past_seam [] ys x n = let next : length {A = X} [] + 1 + n ≡ suc n = omega arith in rw next refl
+  past_seam (z ∷ xs) ys x n = let next : length (z ∷ xs) + 1 + n ≡ suc (length xs + 1 + n) = omega arith in rw next (past_seam xs ys x n)
+
+  module _ {xs : List X} {i j : ℕ} {x y : X} (s : SplitsAtTwo xs i j x y) (n : ℕ) (z : X) where
+    -- an element of the part before, and one of the part between, by their positions
+    pub stands_before : slice_get s.before n ≡ Some z → slice_get xs n ≡ Some z
+    stands_before h = ap (λ l. slice_get l n) s.is ∙ before_seam s.before (x ∷ (s.between ++ y ∷ s.after)) n z h
+
+    pub stands_between : slice_get s.between n ≡ Some z → slice_get xs (i + 1 + n) ≡ Some z
+    stands_between h =
+        ap (λ l. slice_get l (i + 1 + n)) s.is ∙ ap (λ k. slice_get (s.before ++ x ∷ (s.between ++ y ∷ s.after)) (k + 1 + n)) (sym s.at)
+        ∙ past_seam s.before (s.between ++ y ∷ s.after) x n ∙ before_seam s.between (y ∷ s.after) n z h
+
+  pub at_seam : (xs ys : List X) (x : X) → slice_get (xs ++ x ∷ ys) (length xs) ≡ Some x
+  at_seam [] ys x = refl
+  at_seam (z ∷ xs) ys x = at_seam xs ys x
+
+-- what holds of each element of a part of a list holds of an element at a position in that part
+pub at_in_part : {X : Type 0} (P : X → Type 0) (start size n : ℕ) (xs : List X) (x : X) → AllByRecursion P (take size (drop start xs)) → n < size → slice_get xs (start + n) ≡ Some x → P x
+at_in_part P start size n [] x all less h = absurd (cc)
+at_in_part P (suc start) size n (z ∷ zs) x all less h = at_in_part P start size n zs x all less (let next : suc start + n ≡ suc (start + n) = omega arith in rw next at h)
+at_in_part P zero zero n (z ∷ zs) x all less h = absurd (omega arith)
+at_in_part P zero (suc size) zero (z ∷ zs) x all less h = let is : z ≡ x = cc in rw (← is) all.0
+at_in_part P zero (suc size) (suc n) (z ∷ zs) x all less h = at_in_part P zero size n zs x all.1 (omega arith) (let next : 0 + suc n ≡ suc (0 + n) = omega arith in rw next at h)
+
+pub at_in_first : {X : Type 0} (P : X → Type 0) (size n : ℕ) (xs : List X) (x : X) → AllByRecursion P (take size xs) → n < size → slice_get xs n ≡ Some x → P x
+at_in_first P size n xs x all less h = at_in_part P 0 size n xs x all less (let same : 0 + n ≡ n = omega arith in rw same h)
+
+-- what holds of the elements at each position holds of both lists
+pub zipped_by_positions : {X Y : Type 0} (P : X → Y → Type 0) (xs : List X) (ys : List Y) → length xs ≡ length ys
+    → ((n : ℕ) (x : X) (y : Y) → n < length xs → slice_get xs n ≡ Some x → slice_get ys n ≡ Some y → P x y) → AllZip P xs ys
+zipped_by_positions P [] [] long each = tt
+zipped_by_positions P (x ∷ xs) (y ∷ ys) long each = (each 0 x y (omega arith) refl refl, zipped_by_positions P xs ys (omega arith) (λ n z w less. each (suc n) z w (omega arith)))
+zipped_by_positions P _ _ long each = absurd (omega arith)

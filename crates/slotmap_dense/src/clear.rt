@@ -1,0 +1,92 @@
+//! The calls that empty a map, and those that append what it holds to a vector.
+
+ghost use Rattle.std.specs.Prelude.{◌≡◌, ◌<◌, ◌+◌, ◌++◌, OnOk, OnErr, Some, List, map as list_map, reverse};
+ghost use Rattle.std.specs.FinMap as map;
+ghost use Rattle.std.specs.List.{zip};
+ghost use Rattle.slotmap_core.specs.Transition.{Leaves};
+ghost use Rattle.slotmap_core.specs.Listing.{IsListing, IsKeyListing};
+ghost use Rattle.slotmap_dense.specs.Dense.{IsDense, IsEmpty, FreesFromBack};
+ghost use Rattle.slotmap_dense.specs.Call.{StaysDense};
+
+use crate::DenseSlotMap;
+use slotmap_core::errors::OutOfMemory;
+use slotmap_core::keys::Key;
+
+impl<K: Key, V: Drop> DenseSlotMap<K, V> {
+    /// Removes every live key and drops its value.
+    ///
+    /// The keys are removed from the back of the packed order, and the capacity stays. Detached
+    /// keys stay detached. Linear in the number of live keys.
+    ///
+    /// ```
+    /// map.clear();
+    /// assert!(rt; map.is_empty());
+    /// assert!(rt; !map.contains_key(a));
+    /// ```
+    pub fn clear(&mut self)
+        ensures empty { self.new.content.live ≡ map.empty }
+        ensures none { IsEmpty self.new }
+        ensures leaves { Leaves self.old.content self.new.content }
+        ensures order { FreesFromBack self.old self.new }
+        ensures valid { StaysDense self.old self.new }
+    {
+        self.note_valid();
+        while let Some(_pair) = self.take_last() {}
+    }
+
+    /// Appends every live key to `out`, in packed order.
+    ///
+    /// Room for all keys is allocated first. If that fails, the list doesn't change. Linear in the
+    /// number of live keys. Rust lacks this call.
+    ///
+    /// ```
+    /// let mut keys = Vec::new(alloc);
+    /// map.keys_into(&mut keys)?;
+    /// assert_eq!(rt; keys.len(), 2);
+    /// assert_eq!(rt; keys[0], a);
+    /// ```
+    pub fn keys_into(&self, out: &mut Vec<K>) -> Result<(), OutOfMemory>
+        ensures ok { OnOk result ((keys : List K) × (out.new.items ≡ out.old.items ++ keys) × IsKeyListing self.now.content.live (list_map K.data_of keys)) }
+        ensures in_order { OnOk result (list_map K.data_of out.new.items ≡ list_map K.data_of out.old.items ++ self.now.keys) }
+        ensures unchanged { OnErr result (out.new.items ≡ out.old.items) }
+        ensures valid { IsDense self.now }
+    {
+        self.note_valid();
+        out.reserve(self.keys.len())?;
+        for index in 0..self.keys.len() {
+            out.push_reserved(self.keys[index]);
+        }
+        Ok(())
+    }
+
+    /// Removes every live key, and appends the keys with their values to `out`, from the back of
+    /// the packed order.
+    ///
+    /// The keys are removed as `remove` does, and detached keys stay detached. Room for all pairs
+    /// is allocated first. If that fails, neither the map nor the list changes. Linear in the
+    /// number of live keys. Rust lacks this call.
+    ///
+    /// ```
+    /// let mut pairs = Vec::new(alloc);
+    /// map.drain_into(&mut pairs)?;
+    /// assert_eq!(rt; pairs[0], (b, 2));
+    /// assert!(rt; map.is_empty());
+    /// ```
+    pub fn drain_into(&mut self, out: &mut Vec<(K, V)>) -> Result<(), OutOfMemory>
+        ensures ok { OnOk result ((pairs : List (K × V)) × (out.new.items ≡ out.old.items ++ pairs) × IsListing self.old.content.live (list_map (λ p. (K.data_of p.0, p.1)) pairs)) }
+        ensures in_order { OnOk result (list_map (λ p. (K.data_of p.0, p.1)) out.new.items
+            ≡ list_map (λ p. (K.data_of p.0, p.1)) out.old.items ++ reverse (zip self.old.keys self.old.values)) }
+        ensures empty { OnOk result (self.new.content.live ≡ map.empty) }
+        ensures leaves { OnOk result (Leaves self.old.content self.new.content) }
+        ensures order { OnOk result (FreesFromBack self.old self.new) }
+
+        ensures unchanged { OnErr result ((self.new ≡ self.old) × (out.new.items ≡ out.old.items)) }
+        ensures valid { StaysDense self.old self.new }
+    {
+        out.reserve(self.len())?;
+        while let Some(pair) = self.take_last() {
+            out.push_reserved(pair);
+        }
+        Ok(())
+    }
+}

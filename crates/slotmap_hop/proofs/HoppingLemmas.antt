@@ -1,0 +1,205 @@
+-- A search for the next live place skips a block of vacant places in one step.
+use Rattle.std.proofs.Common.{◌≡◌, ◌≢◌, ℕ, zero, suc, ◌+◌, ◌-◌, ◌*◌, ◌<◌, ◌≤◌, ◌^◌, ◌%◌, true, List, [], ◌∷◌, ◌++◌, length, drop, slice_get, Some, refl, sym, ap, ◌∙◌, arith}
+use Rattle.std.proofs.lemmas.Option.{slice_get_within, get_or_from_slice_get}
+use Rattle.std.proofs.lemmas.List.{drop_more, drop_all, append_assoc, length-append}
+use Rattle.std.proofs.lemmas.List.Elements.{All-nil, All-cons, All-push, All-weaker}
+use Rattle.std.specs.List.{All}
+use Rattle.std.specs.FinMap as map
+use Rattle.slotmap_core.specs.Key.{Key, last_version}
+use Rattle.slotmap_core.specs.Places.{Place, Live, Detached, Retired, live, live_entry, retired_entry}
+use Rattle.slotmap_core.specs.Gather.{gather}
+use Rattle.slotmap_core.specs.StackMap.{HasVersion}
+use Rattle.slotmap_core.proofs.Contents.ContentLemmas.{live_at}
+use Rattle.slotmap_core.proofs.Places.PlacesLemmas.{key}
+use Rattle.slotmap_hop.specs.declared.links.Links.{Links}
+use Rattle.slotmap_hop.specs.declared.links.Slot.{Slot}
+use Rattle.slotmap_hop.specs.declared.links.State.TheVariants.{Occupied, Free}
+use Rattle.slotmap_hop.specs.Blocks.{Begins, IsBlock}
+use Rattle.slotmap_hop.specs.Links.{vacant_at, links_at, end_at}
+use Rattle.slotmap_hop.specs.Slots.{place_in, all_links, places_of}
+use Rattle.slotmap_hop.specs.Iter.{pairs_left, retired_left, StandsAt, CanGoOn, FindsNone, FindsSlot, ReadsOnTheWay, Counted}
+use Rattle.slotmap_hop.proofs.BlockLemmas.{clash, begins_after, front_here}
+use Rattle.slotmap_hop.proofs.Circle.{shown}
+use Rattle.slotmap_hop.proofs.SlotReads.{length-places, slot_within, place_at, slot_cases}
+use Rattle.slotmap_hop.proofs.SlotLemmas.{place_not_vacant, slots_fit, vacant_slot}
+
+module _ {V : Type 0} where
+  -- what is yielded at these places, and the keys of the retired ones, where the first place has this index
+  abbrev pub pairs_from : ℕ → List (Place V) → List (Key × V)
+  pairs_from i ps = gather [] (λ es e. e ∷ es) live_entry i ps
+
+  abbrev pub retired_from : ℕ → List (Place V) → List Key
+  retired_from i ps = gather [] (λ ks e. e.0 ∷ ks) retired_entry i ps
+
+  -- the retired places from j on aren't below j
+  above : (i j : ℕ) (ps : List (Place V)) → i < j → All (λ k. i < k.index) (retired_from j ps)
+  above i j [] low = All-nil (λ k. i < k.index)
+  above i j (p ∷ ps) low = let rest = above i (j + 1) ps (omega arith) in grind (arith, All-cons (λ k. i < k.index) (key j last_version) (retired_from (j + 1) ps) low rest)
+
+module _ {V : Type 0} (slots : List (Slot V)) where
+  -- a step over a place, where a list is made of the places from it on
+  left-on : {X : Type 0} (from : ℕ → List (Place V) → X) (i : ℕ) (p : Place V) → slice_get (places_of slots) i ≡ Some p
+      → from i (drop i (places_of slots)) ≡ from i (p ∷ drop (i + 1) (places_of slots))
+  left-on from i p found =
+      let ps = places_of slots in
+      ap (from i) (drop_more ps i p (slice_get_within ps i p found) ∙ ap (λ y. y ∷ drop (i + 1) ps) (get_or_from_slice_get ps i p p found))
+
+  -- a sequence of vacant places holds nothing
+  skip : (k i j : ℕ) → i + k ≡ j → ((x : ℕ) → i ≤ x → x < j → vacant_at (all_links slots) x ≡ true) → (pairs_left slots i ≡ pairs_left slots j) × (retired_left slots i ≡ retired_left slots j)
+  skip zero i j on vacant = let same : i ≡ j = omega arith in rw same (refl, refl)
+  skip (suc k) i j on vacant =
+      let here = vacant_slot slots i (vacant i (omega arith) (omega arith)) in
+      let rest = skip k (i + 1) j (omega arith) (λ x low high. vacant x (omega arith) high) in
+      (left-on pairs_from i _ here.3 ∙ rest.0, left-on retired_from i _ here.3 ∙ rest.1)
+
+  pub past_block : (front back : ℕ) → IsBlock (vacant_at (all_links slots)) front back → (pairs_left slots front ≡ pairs_left slots (back + 1))
+      × (retired_left slots front ≡ retired_left slots (back + 1))
+  past_block front back block = skip (back + 1 - front) front (back + 1) (omega (arith, block.ordered)) (λ x low high. block.inside x low (omega arith))
+
+  -- the block that begins where the iterator is
+  block_here : (i : ℕ) → StandsAt slots i → vacant_at (all_links slots) i ≡ true → IsBlock (vacant_at (all_links slots)) i (end_at (all_links slots) i)
+  block_here i stands vacant =
+      ((shown stands.sound.linked.linked).ends i (front_here (vacant_at (all_links slots)) i vacant (stands.at_front vacant))).0
+
+  pub stands_on : (i j : ℕ) → StandsAt slots i → (vacant_at (all_links slots) j ≡ true → Begins (vacant_at (all_links slots)) j) → StandsAt slots j
+  stands_on i j stands front = record { vacant = stands.vacant; elems = stands.elems; sound = stands.sound; at_front = front }
+
+module _ {V : Type 0} (slots : List (Slot V)) (reads0 start : ℕ) where
+  -- on the way from a place to the next live one: the slots are as they were, and no live key was passed
+  pub record OnTheWay (now : Counted V) (place : ℕ) : Type 0 where
+    pub kept : now.slots ≡ slots
+    pub stands : StandsAt slots place
+    pub same : pairs_left slots start ≡ pairs_left slots place
+    pub none : (q : Key) → map.contains_key (live (places_of slots)) q ≡ true → start ≤ q.index → place ≤ q.index
+    pub gone : List Key
+    pub still : retired_left slots start ≡ gone ++ retired_left slots place
+    pub below : All (λ k. k.index < place) gone
+    pub few_vacant : vacant_at (all_links slots) place ≡ true → now.reads ≤ reads0 + 2 * length gone
+    pub few : now.reads ≤ reads0 + 2 * length gone + 1
+    pub passed : now.reads + start ≤ reads0 + place
+    pub begun : reads0 ≤ now.reads
+    pub before : reads0 ≤ start
+
+  pub way_begins : (now : Counted V) → now.slots ≡ slots → now.reads ≡ reads0 → CanGoOn slots reads0 start → OnTheWay now start
+  way_begins now kept none can = record {
+    kept = kept;
+    stands = can.stands;
+    same = refl;
+    none = λ q there from. from;
+    gone = [];
+    still = refl;
+    below = All-nil (λ k. k.index < start);
+    few_vacant = λ vacant. omega arith;
+    few = omega arith;
+    passed = omega arith;
+    begun = omega arith;
+    before = can.passed;
+  }
+
+  -- after all places nothing is left
+  pub way_ends : (now : Counted V) (place : ℕ) → OnTheWay now place → length slots ≤ place → FindsNone slots start
+  way_ends now place way past = record {
+    none = way.same ∙ ap (pairs_from place) (drop_all place (places_of slots) (omega (arith, length-places slots)));
+    below = λ q there. (let at = live_at (places_of slots) q there in grind (arith, way.none q there, slice_get_within (places_of slots) q.index, length-places slots));
+  }
+
+  -- what is left lies ahead
+  pub way_inside : (now : Counted V) (place : ℕ) → OnTheWay now place → 0 < length (pairs_left slots start) → place < length slots
+  way_inside now place way some = grind (arith, λ (past : length slots ≤ place). ap length (way_ends now place way past).none)
+
+  pub way_few : (now : Counted V) (place : ℕ) → OnTheWay now place → now.reads ≤ reads0 + 2 * length (retired_left slots start) + 1
+  way_few now place way = omega (arith, way.few, ap length way.still, length-append way.gone (retired_left slots place))
+
+  pub way_room : (now : Counted V) (place : ℕ) → OnTheWay now place → place < length slots → now.reads + 1 < 2 ^ 64
+  way_room now place way inside = omega (arith, inside, way.passed, way.before, slots_fit slots _ _ way.stands.sound)
+
+  -- a search that has come to this place reads the slot there
+  pub record Reads (now : Counted V) (place : ℕ) (s : Slot V) (new : Counted V) : Type 0 where
+    pub way : OnTheWay now place
+    pub inside : place < length slots
+    pub found : slice_get slots place ≡ Some s
+    pub kept : new.slots ≡ slots
+    pub one : new.reads ≡ now.reads + 1
+
+  -- a block that begins there is skipped in one step
+  pub record Hops (now new : Counted V) (place : ℕ) (links : Links) : Type 0 where
+    pub on : OnTheWay new (links.other_end + 1)
+    pub within : links.other_end < length slots
+    pub smaller : length new.slots - (links.other_end + 1) < length now.slots - place
+
+  module _ {now new : Counted V} {place : ℕ} {s : Slot V} (at : Reads now place s new) where
+    pub way_hops : (links : Links) → s.state ≡ Free links → Hops now new place links
+    way_hops links is =
+        let v = vacant_at (all_links slots) in
+        let free : (vacant_at (all_links slots) place ≡ true) × (links_at (all_links slots) place ≡ links) = grind (arith, slot_cases slots place, at.found) in
+        let back : links.other_end ≡ end_at (all_links slots) place = sym (ap (λ (l : Links). l.other_end) free.1) in
+        let block : IsBlock v place links.other_end = rw back (block_here slots place at.way.stands free.0) in
+        let past = past_block slots place links.other_end block in
+        let few = at.way.few_vacant free.0 in
+        let within = slot_within slots links.other_end (block.inside links.other_end block.ordered (omega arith)) in
+        record {
+          on = record {
+            kept = at.kept;
+            stands = stands_on slots place (links.other_end + 1) at.way.stands (λ again. clash v (links.other_end + 1) again block.ends);
+            same = at.way.same ∙ past.0;
+            none = λ q there from. (let live = live_at (places_of slots) q there in grind (arith, at.way.none q there from, block.inside q.index, slot_cases slots q.index));
+            gone = at.way.gone;
+            still = at.way.still ∙ ap (λ ks. at.way.gone ++ ks) past.1;
+            below = All-weaker (λ k. k.index < place) (λ k. k.index < links.other_end + 1) (λ k low. omega (arith, block.ordered)) at.way.gone at.way.below;
+            few_vacant = λ again. clash v (links.other_end + 1) again block.ends;
+            few = omega (arith, few);
+            passed = omega (arith, at.way.passed, block.ordered);
+            begun = omega (arith, at.way.begun);
+            before = at.way.before;
+          };
+          within = within;
+          smaller = rw (at.kept, at.way.kept) (omega (arith, within, block.ordered));
+        }
+
+    here : (slice_get (places_of slots) place ≡ Some (place_in s.version s.state)) × HasVersion (place_in s.version s.state) × ((v : ℕ) → place_in s.version s.state ≢ Detached v)
+    here = let is = place_at slots place s at.found in (is, at.way.stands.sound.stacked.versions place _ is, λ v e. at.way.stands.sound.none_detached place v (is ∙ ap Some e))
+
+    -- a slot that is neither live nor vacant is retired, and is passed
+    pub way_passes : s.version % 2 ≢ 1 → ((links : Links) → s.state ≢ Free links) → OnTheWay new (place + 1)
+    way_passes even other =
+        let spent : slice_get (places_of slots) place ≡ Some Retired = grind (arith, here, other) in
+        let more = length-append at.way.gone (key place last_version ∷ []) in
+        record {
+          kept = at.kept;
+          stands = stands_on slots place (place + 1) at.way.stands (λ _. begins_after (vacant_at (all_links slots)) place (place_not_vacant slots place Retired spent (λ n e. absurd (cc))));
+          same = at.way.same ∙ left-on slots pairs_from place Retired spent;
+          none = λ q there from. (let live = live_at (places_of slots) q there in grind (arith, at.way.none q there from));
+          gone = at.way.gone ++ key place last_version ∷ [];
+          still = at.way.still ∙ ap (λ ks. at.way.gone ++ ks) (left-on slots retired_from place Retired spent)
+              ∙ sym (append_assoc at.way.gone (key place last_version ∷ []) (retired_left slots (place + 1)));
+          below =
+              All-push (λ k. k.index < place + 1) at.way.gone (key place last_version)
+              (All-weaker (λ k. k.index < place) (λ k. k.index < place + 1) (λ k low. omega arith) at.way.gone at.way.below) (omega arith);
+          few_vacant = λ vacant. omega (arith, at.way.few, more);
+          few = omega (arith, at.way.few, more);
+          passed = omega (arith, at.way.passed);
+          begun = omega (arith, at.way.begun);
+          before = at.way.before;
+        }
+
+    -- a slot of an odd version is live: it is what the search looks for
+    pub way_finds : s.version % 2 ≡ 1 → FindsSlot slots start place s × ReadsOnTheWay slots reads0 start new.reads place
+    way_finds odd =
+        let live : (x : V) × (s.state ≡ Occupied x) = grind (arith, here) in
+        let live_there = here.0 ∙ ap (λ st. Some (place_in s.version st)) live.1 in
+        let gone = at.way.still ∙ ap (λ ks. at.way.gone ++ ks) (left-on slots retired_from place (Live s.version live.0) live_there) in (
+          record {
+            value = live.0;
+            is = live.1;
+            finds = record { there = live_there; first = at.way.same ∙ left-on slots pairs_from place (Live s.version live.0) live_there; least = at.way.none };
+          },
+          record {
+            gone = at.way.gone;
+            still = gone;
+            before = at.way.below;
+            after = above place (place + 1) (drop (place + 1) (places_of slots)) (omega arith);
+            some = omega (arith, at.one, at.way.begun);
+            few = omega (arith, at.one, at.way.few, ap length gone, length-append at.way.gone (retired_left slots (place + 1)));
+            passed = omega (arith, at.one, at.way.passed);
+          },
+        )

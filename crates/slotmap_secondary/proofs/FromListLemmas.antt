@@ -1,0 +1,83 @@
+-- What a map holds that is read from a list of slots.
+use Rattle.std.proofs.Common.{◌≡◌, ℕ, ◌+◌, ◌<◌, ◌%◌, ◌^◌, List, [], ◌∷◌, ◌++◌, length, map as list_map, slice_get, Option, None, Some, option_map, is_some, true, refl, sym, ap, subst, ◌∙◌, arith}
+use Rattle.std.proofs.lemmas.Option.{slice_get_within, slice_get_past, slice_get-map}
+use Rattle.std.proofs.lemmas.List.{length-map, map_push}
+use Rattle.std.proofs.lemmas.Cmp.{nat_cmp_total}
+use Rattle.std.proofs.lemmas.Map.Lookups.{exact_unsigned}
+use Rattle.std.specs.Ordering.{nat_cmp}
+use Rattle.std.specs.FinMap as map
+use Rattle.slotmap_core.specs.Secondary.{keyed}
+use Rattle.slotmap_core.specs.FromList.{start_live}
+use Rattle.slotmap_core.specs.SecondaryWritten.{slot_pair}
+use Rattle.slotmap_core.specs.Accepted.{Accepts, AllFitBelow}
+use Rattle.slotmap_core.specs.declared.serial.SlotRecord.{SlotRecord}
+use Rattle.slotmap_core.proofs.General.Maps.{len_inserted}
+use Rattle.slotmap_core.proofs.General.ListLemmas.{mapped}
+use Rattle.slotmap_core.proofs.General.GatherLemmas.{gather-push_put}
+use Rattle.slotmap_secondary.specs.declared.slot.Slot.{Slot}
+use Rattle.slotmap_secondary.specs.declared.slot.Slot.TheVariants.{Vacant, Occupied}
+use Rattle.slotmap_secondary.specs.Slots.{pair_at, entry_in, pairs_of, IsSlotAt, IsSound}
+use Rattle.slotmap_secondary.proofs.SlotLemmas.{laws, entry_fits, get-pairs, pairs-push}
+use Rattle.slotmap_core.proofs.SecondaryMaps.SecondaryWrittenLemmas.{contents_by_place}
+
+pub pairs-none : (V : Type 0) → map.len (pairs_of {V = V} []) ≡ 0
+unfolding pairs_of
+pairs-none V = map.len-empty nat_cmp (ℕ × V)
+
+module _ {V : Type 0} where
+  -- the slot that a record is read as
+  abbrev pub slot_from : ℕ → Option V → Slot V
+  slot_from version None = Vacant 0
+  slot_from version (Some value) = Occupied version value
+
+  abbrev pub read : List (SlotRecord V) → List (Slot V)
+  read list = list_map (λ r. slot_from r.version r.value) list
+
+  pub read-push : (slots : List (Slot V)) (before : List (SlotRecord V)) (r : SlotRecord V) (o : Option V) → slots ≡ read before → r.value ≡ o
+      → slots ++ slot_from r.version o ∷ [] ≡ read (before ++ r ∷ [])
+  read-push slots before r o made is =
+      ap (λ xs. xs ++ slot_from r.version o ∷ []) made ∙ ap (λ v. read before ++ slot_from r.version v ∷ []) (sym is) ∙ sym (map_push (λ r. slot_from r.version r.value) before r)
+
+  pub pairs-push_key : (slots : List (Slot V)) (version : ℕ) (value : V) → pairs_of (slots ++ Occupied version value ∷ []) ≡ map.insert (pairs_of slots) (length slots) (version, value)
+  unfolding pairs_of
+  pairs-push_key slots version value = gather-push_put laws (λ j. j) entry_in entry_fits slots (Occupied version value) (length slots, (version, value)) refl
+
+  pub count_key : (slots : List (Slot V)) (version : ℕ) (value : V) → map.len (pairs_of (slots ++ Occupied version value ∷ [])) ≡ map.len (pairs_of slots) + 1
+  count_key slots version value =
+      ap map.len (pairs-push_key slots version value)
+      ∙ len_inserted nat_cmp_total exact_unsigned (pairs_of slots) (length slots) (version, value)
+      (ap is_some (get-pairs slots (length slots) ∙ ap pair_at (slice_get_past slots (length slots) (omega arith))))
+
+  pub count_empty : (slots : List (Slot V)) → map.len (pairs_of (slots ++ Vacant 0 ∷ [])) ≡ map.len (pairs_of slots)
+  count_empty slots = ap map.len (pairs-push slots)
+
+  module _ (list : List (SlotRecord V)) (accepted : Accepts list 4294967294) (fits : AllFitBelow list (length list)) where
+    -- what is read at an index is the record there
+    record_at : (i : ℕ) (s : Slot V) → slice_get (read list) i ≡ Some s → (r : SlotRecord V) × (slice_get list i ≡ Some r) × (slot_from r.version r.value ≡ s)
+    record_at i s at = mapped (λ r. slot_from r.version r.value) (slice_get list i) s (sym (slice_get-map (λ r. slot_from r.version r.value) list i) ∙ at)
+
+    slot_at : (i : ℕ) (s : Slot V) → slice_get (read list) i ≡ Some s → IsSlotAt i s
+    slot_at i s at =
+        let r = record_at i s at in
+        let within = slice_get_within list i r.0 r.1 in
+        subst (IsSlotAt i) r.2 (by r.0.version r.0.value (accepted.consistent i r.0 within r.1).0 (fits i r.0 within r.1) within)
+      where
+        by : (version : ℕ) (o : Option V) → (is_some o ≡ true → version % 2 ≡ 1) → version < 2 ^ 32 → i < length list → IsSlotAt i (slot_from version o)
+        by version None odd small less = refl
+        by version (Some value) odd small less = record { index_fits = omega (arith, accepted.short); version_fits = small; odd = odd refl; one_null = λ null. absurd (omega (arith, accepted.short)) }
+
+    pub IsSound-read : (len : ℕ) → len ≡ map.len (pairs_of (read list)) → IsSound (read list) len
+    IsSound-read len counts = record {
+      first = omega (arith, length-map list (λ r. slot_from r.version r.value), slice_get_within list 0 accepted.first_empty.0 accepted.first_empty.1);
+      fits = omega (arith, length-map list (λ r. slot_from r.version r.value), accepted.short);
+      each = slot_at;
+      counted = counts;
+    }
+
+    pub read-contents : keyed (pairs_of (read list)) ≡ start_live list
+    read-contents = contents_by_place list (pairs_of (read list))
+        (λ i. get-pairs (read list) i ∙ ap pair_at (slice_get-map (λ r. slot_from r.version r.value) list i) ∙ by (slice_get list i))
+        (λ i slot at valued. (accepted.consistent i slot (slice_get_within list i slot at) at).0 valued)
+      where
+        by : (o : Option (SlotRecord V)) → pair_at (option_map (λ r. slot_from r.version r.value) o) ≡ slot_pair o
+        by o = grind arith

@@ -1,0 +1,44 @@
+-- What a change of the pairs alone keeps.
+use Rattle.std.proofs.Common.{◌≡◌, ℕ, ◌<◌, None, true, false, is_some, refl, ap, ◌∙◌, arith}
+use Rattle.std.specs.Cmp.{nat_cmp_total}
+use Rattle.std.proofs.lemmas.Map.Lookups.{exact_unsigned}
+use Rattle.std.specs.FinMap as map
+use Rattle.slotmap_core.specs.Key.{Key}
+use Rattle.slotmap_core.specs.Secondary.{Pairs, contains_key, value_at}
+use Rattle.slotmap_core.proofs.General.Maps.{get_after_insert}
+use Rattle.slotmap_core.proofs.Several.ReplaceLemmas.{IsSecondary-again, len_again}
+use Rattle.slotmap_core.proofs.SecondaryMaps.SecondaryLemmas.{get_bound}
+use Rattle.slotmap_core.proofs.SecondaryMaps.AtIndexLemmas.{bind_twice, in_own, pair_of}
+use Rattle.slotmap_secondary.specs.declared.entry.Entry.TheVariants.{Occupied}
+use Rattle.slotmap_secondary.specs.declared.entry.OccupiedEntry.{OccupiedEntry}
+use Rattle.slotmap_secondary.specs.Entry.{IsWritten, occupied_with}
+use Rattle.slotmap_secondary.specs.Content.{Content, IsContent, with_value}
+
+module _ {V : Type 0} where
+  pub with_value_twice : (c : Content V) (k : Key) (v w : V) → with_value (with_value c k v) k w ≡ with_value c k w
+  with_value_twice c k v w = ap (λ (m : Pairs V). record c { pairs = m }) (bind_twice c.pairs k v w)
+
+  -- no key of a vacant index is in the map
+  pub absent : (m : Pairs V) (i : ℕ) → map.get m i ≡ None → (q : Key) → q.index ≡ i → contains_key m q ≡ false
+  absent m i none q at = ap (λ o. is_some (value_at q.version o)) (ap (map.get m) at ∙ none)
+
+  pub key_within : (c : Content V) → IsContent c → (q : Key) → contains_key c.pairs q ≡ true → q.index < c.places
+  key_within c well q has = let p = pair_of c.pairs q has in well.within q.index p.0 p.1
+
+  -- two changes of the pairs alone are together a change of the pairs alone
+  pub keeps_on : (a b c : Content V) (m : Pairs V) → b ≡ record a { pairs = b.pairs } → c ≡ record b { pairs = m } → c ≡ record a { pairs = c.pairs }
+  keeps_on a b c m e f = rw f (ap (λ (x : Content V). record x { pairs = m }) e)
+
+  -- another value for a key of the map
+  pub IsContent-with_value : (c : Content V) (k : Key) (v : V) → IsContent c → contains_key c.pairs k ≡ true → IsContent (with_value c k v)
+  IsContent-with_value c k v well has = record {
+    keys = IsSecondary-again c.pairs k v has well.keys;
+    within = λ i p found. grind (arith, get_after_insert nat_cmp_total exact_unsigned c.pairs k.index (k.version, v) i p found, key_within c well k has, well.within i p);
+    limit = well.limit;
+    counted = omega (arith, len_again c.pairs k v has, well.counted);
+    capacity_fits = well.capacity_fits;
+  }
+
+-- an entry once w is the value of its key
+pub IsWritten-own : {K V : Type 0} (data_of : K → Key) (e : OccupiedEntry K V) (w : V) → IsWritten data_of (Occupied e) w (Occupied (occupied_with data_of e w))
+IsWritten-own data_of e w = record { same_map = refl; same_key = refl; after = refl; value = get_bound e.map.now.pairs (data_of e.key) w; in_place = in_own e.map.now.pairs (data_of e.key) w }

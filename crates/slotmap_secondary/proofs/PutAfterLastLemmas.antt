@@ -1,0 +1,38 @@
+-- What a put after the last slot makes of the map.
+use Rattle.std.proofs.Common.{◌≡◌, ◌≢◌, ℕ, ◌+◌, ◌<◌, ◌≤◌, ◌^◌, cond, List, ◌∷◌, [], ◌++◌, length, None, ne_eqb, eq-eqb, refl, sym, ap, subst, ◌∙◌, arith}
+use Rattle.std.proofs.lemmas.List.{length_push}
+use Rattle.std.specs.FinMap as map
+use Rattle.slotmap_core.specs.Key.{Key, IsKey, null_key}
+use Rattle.slotmap_core.specs.Secondary.{no_entry, vacant, entry_at, entry, bind}
+use Rattle.slotmap_core.proofs.General.ListLemmas.{none_from}
+use Rattle.slotmap_secondary.specs.declared.slot.Slot.{Slot}
+use Rattle.slotmap_secondary.specs.declared.slot.Slot.TheVariants.{Occupied}
+use Rattle.slotmap_secondary.specs.Content.{Content, IsContent}
+use Rattle.slotmap_secondary.specs.Slots.{pairs_of, content_of, IsSound}
+use Rattle.slotmap_secondary.proofs.SlotLemmas.{each-push}
+use Rattle.slotmap_secondary.proofs.FromListLemmas.{pairs-push_key, count_key}
+
+module _ {V : Type 0} (slots : List (Slot V)) (len : ℕ) (sound : IsSound slots len) (k : Key) (x : V) (at : k.index ≡ length slots) where
+  -- one more slot, with a key
+  pub IsSound-append : IsKey k → length slots + 1 < 2 ^ 32 → IsSound (slots ++ Occupied k.version x ∷ []) (len + 1)
+  IsSound-append key fits = record {
+    first = omega (arith, length_push slots (Occupied k.version x));
+    fits = omega (arith, length_push slots (Occupied k.version x));
+    each = each-push slots len sound (Occupied k.version x) (subst (λ n. IsKey (record { index = n; version = k.version })) at key);
+    counted = ap (λ n. n + 1) sound.counted ∙ sym (count_key slots k.version x);
+  }
+
+  pub content-append : (capacity : ℕ) → content_of (slots ++ Occupied k.version x ∷ []) capacity ≡ record { pairs = bind (pairs_of slots) k x; places = length slots + 1; capacity = capacity }
+  content-append capacity = rw (pairs-push_key slots k.version x, length_push slots (Occupied k.version x), ← at) refl
+
+module _ {V : Type 0} (c : Content V) (well : IsContent c) (k : Key) where
+  -- after the last slot there is nothing
+  nothing_past : c.places ≤ k.index → map.get c.pairs k.index ≡ None
+  nothing_past past = none_from (map.get c.pairs k.index) (λ p is. omega (arith, well.within k.index p is))
+
+  -- so each key but the null key has a vacant entry there
+  pub vacant-past : c.places ≤ k.index → k.index ≢ null_key.index → entry c.pairs k ≡ vacant
+  vacant-past past other = ap (λ b. cond b no_entry (entry_at k.version (map.get c.pairs k.index))) (ne_eqb _ _ other) ∙ ap (entry_at k.version) (nothing_past past)
+
+  pub none-null : k.index ≡ null_key.index → entry c.pairs k ≡ no_entry
+  none-null null = ap (λ b. cond b no_entry (entry_at k.version (map.get c.pairs k.index))) (eq-eqb _ _ null)

@@ -1,0 +1,115 @@
+//! Lists of slots: a map written out, and a map read back.
+
+ghost use Rattle.std.specs.Prelude.{◌≡◌, length, IfOk, IsOk, IfErr};
+ghost use Rattle.std.specs.FinMap as map;
+ghost use Rattle.slotmap_core.specs.Clones.{ClonesEqual, IsCloneOf};
+ghost use Rattle.slotmap_core.specs.Key.{Key};
+ghost use Rattle.slotmap_core.specs.Secondary.{get, keyed};
+ghost use Rattle.slotmap_core.specs.FromList.{start_live};
+ghost use Rattle.slotmap_core.specs.Accepted.{Accepts, RefusesStart};
+ghost use Rattle.slotmap_secondary.specs.Content.{IsContent};
+ghost use Rattle.slotmap_secondary.specs.Written.{Writes, WritesClones};
+
+use crate::SecondaryMap;
+use crate::slot::Slot;
+use slotmap_core::errors::{OutOfMemory, SlotsError};
+use slotmap_core::keys::Key;
+use slotmap_core::serial::{SlotRecord, check_slots};
+use std::alloc::Global;
+use std::marker::PhantomData;
+
+// A list that is read as a map is shorter than this.
+const LIMIT: usize = 4294967294;
+
+impl<K: Key, V: Drop> SecondaryMap<K, V> {
+    /// Returns the map as a list of slots, with clones of the values.
+    ///
+    /// The list has one record for each slot. The slot of a key has the value and the odd version;
+    /// every other slot has no value and version 0. The map that `from_slots` reads from the list
+    /// holds the same keys with these clones.
+    ///
+    /// It fails with `OutOfMemory` if memory runs out, for the list or for a clone. Memory for the
+    /// whole list is allocated first. Takes time linear in the number of slots, and clones each
+    /// value once. A map that holds a key of index 0, or has 4294967294 slots or more, writes a
+    /// list that `from_slots` rejects. In Rust `Serialize` writes the same records.
+    ///
+    /// ```
+    /// let list = map.to_slots()?;
+    /// let again: SecondaryMap<DefaultKey, u64> = SecondaryMap::from_slots(alloc, list)?;
+    /// assert!(rt; again == map);
+    /// ```
+    pub fn to_slots(&self) -> Result<Vec<SlotRecord<V>>, OutOfMemory>
+    where
+        V: Clone,
+        // The list is that of a copy, and has a clone under each key.
+        ensures writes { IfOk result (λ slots. WritesClones V.is_clone self.now slots.items) }
+        ensures contents { IfOk result (λ slots.
+            (k : Key) → IsCloneOf V.is_clone (get self.now.pairs k) (map.get (start_live slots.items) k)) }
+
+        // Where clones equal their values, it is the map's own list.
+        ensures writes_if_clones_equal { IfOk result (λ slots. ClonesEqual V.is_clone → Writes self.now slots.items) }
+        ensures contents_if_clones_equal { IfOk result (λ slots.
+            ClonesEqual V.is_clone → start_live slots.items ≡ keyed self.now.pairs) }
+
+        ensures valid { IsContent self.now }
+    {
+        let mut slots = Vec::with_capacity(*self.slots.allocator(), self.slots.len())?;
+        for index in 0..self.slots.len() {
+            slots.push_reserved(self.slots[index].record()?);
+        }
+        Ok(slots)
+    }
+
+    /// Makes the map that a list of slots describes.
+    ///
+    /// Each odd version is that of a key, whose index is the position in the list; its value is
+    /// moved into the map. A slot of an even version is vacant. The map has as many slots as the
+    /// list.
+    ///
+    /// If it fails, the list is dropped. The first of these errors that applies is returned:
+    ///
+    /// - `TooMany`: the list has 4294967294 slots or more.
+    /// - `FirstNotEmpty`: the list is empty, or its first version is odd.
+    /// - `Inconsistent`, with the smallest position of a slot that has a value and an even version,
+    ///   or no value and an odd one.
+    /// - `Memory`: the allocation failed.
+    ///
+    /// Takes time linear in the length of the list, in two passes. In Rust `Deserialize` reads such
+    /// a list.
+    ///
+    /// ```
+    /// let list = vec![in alloc; SlotRecord { value: None, version: 0 },
+    ///     SlotRecord { value: Some(5), version: 1 }]?;
+    /// let read: SecondaryMap<DefaultKey, u64> = SecondaryMap::from_slots(alloc, list)?;
+    /// assert_eq!(rt; read.get(a).copied(), Some(5));
+    /// ```
+    pub fn from_slots(alloc: Global, list: Vec<SlotRecord<V>>) -> Result<Self, SlotsError>
+        ensures contents { IfOk result (λ made. keyed made.pairs ≡ start_live list.items) }
+        ensures places { IfOk result (λ made. made.places ≡ length list.items) }
+        ensures valid { IfOk result IsContent }
+
+        // When it fails: the first error that applies.
+        ensures accepted { IsOk result → Accepts list.items 4294967294 }
+        ensures err { IfErr result (RefusesStart list.items 4294967294) }
+    {
+        check_slots(&list, LIMIT)?;
+        let mut slots = Vec::with_capacity(alloc, list.len())?;
+        let mut len = 0;
+        let records = list.into_iter();
+        for slot in records {
+            let SlotRecord { value, version } = slot;
+            match value {
+                Some(value) => {
+                    slots.push_reserved(Slot::Occupied(version, value));
+                    len += 1;
+                }
+                None => slots.push_reserved(Slot::Vacant(0)),
+            }
+        }
+        Ok(SecondaryMap {
+            slots,
+            len,
+            keys: PhantomData,
+        })
+    }
+}

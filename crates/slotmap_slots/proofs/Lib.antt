@@ -1,0 +1,12 @@
+pub mod ColumnLemmas
+pub mod OddsLemmas
+pub mod NumberLemmas
+pub mod RowLemmas
+pub mod SlotLemmas
+pub mod SlotGrowth
+pub mod SlotClones
+pub mod IterClones
+pub mod SettledLemmas
+pub mod FromListLemmas
+pub mod PassLemmas
+pub mod PairsLemmas

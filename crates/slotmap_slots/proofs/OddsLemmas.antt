@@ -1,0 +1,236 @@
+-- Chunks of versions, whose odd ones are bits.
+-- For this crate alone.
+use Rattle.std.proofs.Common.{◌≡◌, ◌≢◌, ℕ, zero, suc, ◌+◌, ◌-◌, ◌*◌, ◌/◌, ◌%◌, ◌^◌, ◌<◌, ◌≤◌, List, cond, eqb, length, get_or, slice_get, Some, refl, sym, ap, ◌∙◌, arith, w64, bit_and, bit_or, min}
+use Rattle.std.specs.Int.{bit_at}
+use native.Mathlib.Decide.{dec_lt}
+use lib.Bits.{and_mask}
+use lib.ListN.{get_or-eq_default}
+use Rattle.std.proofs.lemmas.Nat.Bits.{bit_at-zero, bit_at-suc, bit_at_lowest, bit_at_and, bit_at_set_same, bit_at_set_other}
+use Rattle.std.proofs.lemmas.Option.{get_or_from_slice_get, slice_get_within}
+use Rattle.slotmap_slots.specs.Columns.{AllEven, IsNextOdd}
+use Rattle.slotmap_slots.specs.Odds.{AreOdd, IsFound, HasOdds}
+
+-- ---- a lane
+one : (r : ℕ) → r < 2 → cond {A = ℕ} (eqb r 1) 1 0 ≡ r
+one zero h = refl
+one (suc zero) h = refl
+one (suc (suc r)) h = absurd (omega arith)
+
+pub odd_lane : (x : ℕ) → cond {A = ℕ} (eqb (bit_and x 1) 1) 1 0 ≡ x % 2
+odd_lane x = ap (λ r. cond (eqb r 1) 1 0) (and_mask x 1) ∙ one (x % 2) (omega arith)
+
+-- ---- bits that are set one by one
+pub record Below (versions : List ℕ) (at lane bits : ℕ) : Type 0 where
+  pub set : (k : ℕ) → k < lane → bit_at bits k ≡ get_or versions (at + k) 0 % 2
+  pub clear : (k : ℕ) → lane ≤ k → bit_at bits k ≡ 0
+
+below_start : (versions : List ℕ) (at : ℕ) → Below versions at 0 0
+below_start versions at = record { set = λ k l. absurd (omega arith); clear = λ k l. bit_at-zero k }
+
+module _ (versions : List ℕ) (at lane bits : ℕ) (below : Below versions at lane bits) where
+  pub below_odd : lane < 64 → get_or versions (at + lane) 0 % 2 ≡ 1 → Below versions at (lane + 1) (bit_or bits (1 * 2 ^ lane % 2 ^ 64))
+  below_odd within odd = record {
+    set = λ k l. elim (dec_lt k lane) [
+      | yes p ↦ bit_at_set_other w64 bits lane within k (λ e. omega arith) ∙ below.set k p
+      | no p ↦ (let e : lane ≡ k = omega arith in ap (bit_at (bit_or bits (1 * 2 ^ lane % 2 ^ 64))) (sym e) ∙ bit_at_set_same w64 bits lane within ∙ sym odd ∙ ap (λ j. get_or versions (at + j) 0 % 2) e)
+    ];
+    clear = λ k l. bit_at_set_other w64 bits lane within k (λ e. omega arith) ∙ below.clear k (omega arith);
+  }
+
+  pub below_even : (get_or versions (at + lane) 0 % 2 ≡ 1 → ⊥) → Below versions at (lane + 1) bits
+  below_even even = record {
+    set = λ k l. elim (dec_lt k lane) [
+      | yes p ↦ below.set k p
+      | no p ↦ (let e : lane ≡ k = omega arith in
+          let z : get_or versions (at + lane) 0 % 2 ≡ 0 = omega (arith, even) in
+          below.clear k (omega arith) ∙ sym z ∙ ap (λ j. get_or versions (at + j) 0 % 2) e)
+    ];
+    clear = λ k l. below.clear k (omega arith);
+  }
+
+  -- all versions were tested
+  below_whole : length versions ≤ at + lane → AreOdd versions (at + 64) 0 bits
+  below_whole all i k l e on = elim (dec_lt k lane) [
+    | yes p ↦ below.set k p ∙ ap (λ j. get_or versions j 0 % 2) (let same : at + k ≡ i = omega arith in same)
+    | no p ↦ below.clear k (omega arith) ∙ ap (λ x. x % 2) (sym (get_or-eq_default versions 0 (let past : length versions ≤ i = omega arith in past)))
+  ]
+
+-- ---- the lowest bit
+half_same : (n : ℕ) → n % 2 ≡ 1 → (n - 1) / 2 ≡ n / 2
+half_same n odd = omega arith
+
+half_less : (n : ℕ) → n % 2 ≡ 0 → 0 < n → (n - 1) / 2 ≡ n / 2 - 1
+half_less n even some = omega arith
+
+has_bit : (n k : ℕ) → bit_at n k ≡ 1 → 0 < n
+has_bit n k set = elim (dec_lt 0 n) [ yes p ↦ p | no p ↦ absurd (let none : n ≡ 0 = omega arith in let e : ◌≡◌ {A = ℕ} 1 0 = sym set ∙ ap (λ m. bit_at m k) none ∙ bit_at-zero k in omega arith) ]
+
+-- One less than a number with this lowest bit: the bit is clear, and all above it are the same
+pub record OneLess (n lane : ℕ) : Type 0 where
+  pub clear : bit_at (n - 1) lane ≡ 0
+  pub above : (k : ℕ) → lane < k → bit_at (n - 1) k ≡ bit_at n k
+
+above_odd : (n : ℕ) → n % 2 ≡ 1 → (k : ℕ) → 0 < k → bit_at (n - 1) k ≡ bit_at n k
+above_odd n odd zero on = absurd (omega arith)
+above_odd n odd (suc k) on = bit_at-suc (n - 1) k ∙ ap (λ m. bit_at m k) (half_same n odd) ∙ sym (bit_at-suc n k)
+
+above_even : (n lane : ℕ) → (n - 1) / 2 ≡ n / 2 - 1 → OneLess (n / 2) lane → (k : ℕ) → suc lane < k → bit_at (n - 1) k ≡ bit_at n k
+above_even n lane half rest zero on = absurd (omega arith)
+above_even n lane half rest (suc k) on = bit_at-suc (n - 1) k ∙ ap (λ m. bit_at m k) half ∙ rest.above k (omega arith) ∙ sym (bit_at-suc n k)
+
+pub one_less : (n lane : ℕ) → bit_at n lane ≡ 1 → ((k : ℕ) → k < lane → bit_at n k ≡ 0) → OneLess n lane
+one_less n zero set below =
+    let odd : n % 2 ≡ 1 = sym (bit_at_lowest n) ∙ set in
+    record {
+      clear = bit_at_lowest (n - 1) ∙ (let even : (n - 1) % 2 ≡ 0 = omega arith in even);
+      above = λ k on. above_odd n odd k on;
+    }
+one_less n (suc lane) set below =
+    let even : n % 2 ≡ 0 = sym (bit_at_lowest n) ∙ below 0 (omega arith) in
+    let half : (n - 1) / 2 ≡ n / 2 - 1 = half_less n even (has_bit n (suc lane) set) in
+    let rest = one_less (n / 2) lane (sym (bit_at-suc n lane) ∙ set) (λ k l. sym (bit_at-suc n k) ∙ below (suc k) (omega arith)) in
+    record {
+      clear = bit_at-suc (n - 1) lane ∙ ap (λ m. bit_at m lane) half ∙ rest.clear;
+      above = λ k on. above_even n lane half rest k on;
+    }
+
+-- a number and one less have no bits in common up to the lowest, and all above it
+without_one : (n lane : ℕ) → n < 2 ^ 64 → bit_at n lane ≡ 1 → ((k : ℕ) → k < lane → bit_at n k ≡ 0)
+    → (k : ℕ) → bit_at (bit_and n ((n + (2 ^ 64 - 1)) % 2 ^ 64)) k ≡ min (bit_at n k) (bit_at (n - 1) k)
+without_one n lane fits set below k =
+    let less : (n + (2 ^ 64 - 1)) % 2 ^ 64 ≡ n - 1 = omega (arith, has_bit n lane set, fits) in
+    bit_at_and n _ k ∙ ap (λ m. min (bit_at n k) (bit_at m k)) less
+
+min_none : (x : ℕ) → min x 0 ≡ 0
+min_none x = omega arith
+
+min_both : (x y : ℕ) → y ≡ x → min x y ≡ x
+min_both x y same = omega (arith, same)
+
+min_first : (x y : ℕ) → x ≡ 0 → min x y ≡ x
+min_first x y none = omega (arith, none)
+
+module _ (n lane : ℕ) (fits : n < 2 ^ 64) (set : bit_at n lane ≡ 1) (below : (k : ℕ) → k < lane → bit_at n k ≡ 0) where
+  pub lowest_gone : bit_at (bit_and n ((n + (2 ^ 64 - 1)) % 2 ^ 64)) lane ≡ 0
+  lowest_gone = without_one n lane fits set below lane ∙ ap (min (bit_at n lane)) (one_less n lane set below).clear ∙ min_none _
+
+  pub others_kept : (k : ℕ) → k ≢ lane → bit_at (bit_and n ((n + (2 ^ 64 - 1)) % 2 ^ 64)) k ≡ bit_at n k
+  others_kept k apart = without_one n lane fits set below k ∙ elim (dec_lt k lane) [
+    | yes p ↦ min_first _ _ (below k p)
+    | no p ↦ min_both _ _ ((one_less n lane set below).above k (omega arith))
+  ]
+
+-- ---- the next odd version
+-- only a version that is there is odd
+odd_within : (versions : List ℕ) (i : ℕ) → get_or versions i 0 % 2 ≡ 1 → i < length versions
+odd_within versions i odd = elim (dec_lt i (length versions)) [ yes p ↦ p | no p ↦ absurd (let e : get_or versions i 0 ≡ 0 = get_or-eq_default versions 0 (omega arith) in omega arith) ]
+
+module _ (versions : List ℕ) (end index bits : ℕ) (has : HasOdds versions end index bits) where
+  -- a version of the chunk is even where its bit is not set
+  even_at : (i v : ℕ) → index ≤ i → end ≤ i + 64 → i < end → slice_get versions i ≡ Some v → ((k : ℕ) → i + 64 ≡ end + k → bit_at bits k ≡ 0) → v % 2 ≡ 0
+  even_at i v from on below at clear =
+      let k = i + 64 - end in
+      let e : i + 64 ≡ end + k = omega arith in
+      ap (λ x. x % 2) (sym (get_or_from_slice_get versions i v 0 at)) ∙ sym (has.odd i k (omega arith) e from) ∙ clear k e
+
+  module _ (lane : ℕ) (bound : lane < 64) (set : bit_at bits lane ≡ 1) (below : (k : ℕ) → k < lane → bit_at bits k ≡ 0) where
+    -- the version's index doesn't fall below 0
+    pub odds_on : index + 64 ≤ end + lane
+    odds_on = elim (dec_lt (end + lane) (index + 64)) [ yes p ↦ absurd (let e : ◌≡◌ {A = ℕ} 1 0 = sym set ∙ has.passed lane p in omega arith) | no p ↦ omega arith ]
+
+    module _ (found : ℕ) (is : found + 64 ≡ end + lane) where
+      there : get_or versions found 0 % 2 ≡ 1
+      there = sym (has.odd found lane bound is (omega (arith, odds_on))) ∙ set
+
+      within : found < length versions
+      within = odd_within versions found there
+
+      pub odds_next : IsNextOdd versions index found
+      odds_next = record {
+        on = omega (arith, odds_on);
+        within = omega (arith, within);
+        passed = λ i v from to at. elim (dec_lt (i + 64) end) [
+          | yes p ↦ has.before i v from p at
+          | no p ↦ even_at i v from (omega arith) (omega arith) at (λ k e. below k (omega arith))
+        ];
+        odd = λ v at. ap (λ x. x % 2) (sym (get_or_from_slice_get versions found v 0 at)) ∙ there;
+      }
+
+      pub odds_step : (rest : ℕ) → bit_at rest lane ≡ 0 → ((k : ℕ) → k < 64 → k ≢ lane → bit_at rest k ≡ bit_at bits k) → HasOdds versions end (found + 1) rest
+      odds_step rest gone kept = record {
+        within = omega (arith, within);
+        at = has.at;
+        upto = omega arith;
+        before = λ i v from to at. absurd (omega arith);
+        odd = λ i k l e on. kept k l (λ same. omega arith) ∙ has.odd i k l e (omega (arith, odds_on));
+        passed = λ k l. elim (dec_lt k lane) [
+          | yes p ↦ kept k (omega arith) (λ e. omega arith) ∙ below k p
+          | no p ↦ (let e : lane ≡ k = omega arith in ap (bit_at rest) (sym e) ∙ gone)
+        ];
+      }
+
+module _ (versions : List ℕ) (end index : ℕ) (has : HasOdds versions end index 0) where
+  -- no version is left in the chunk
+  none_left : AllEven versions index end
+  none_left i v on below at = elim (dec_lt (i + 64) end) [
+    | yes p ↦ has.before i v on p at
+    | no p ↦ even_at versions end index 0 has i v on (omega arith) (omega arith) at (λ k e. bit_at-zero k)
+  ]
+
+  -- the chunk ends before the last version, if an odd version is left
+  pub ends_within : (AllEven versions index (length versions) → ⊥) → end < length versions
+  ends_within some = elim (dec_lt end (length versions)) [ yes p ↦ p | no p ↦ absurd (some (λ i v on below at. none_left i v on (omega (arith, below)) at)) ]
+
+  -- the version after the chunk is odd
+  pub odds_after : end < length versions → ((v : ℕ) → slice_get versions end ≡ Some v → v % 2 ≡ 1) → IsNextOdd versions index end
+  odds_after within odd = record { on = has.upto; within = omega (arith, within); passed = none_left; odd = odd }
+
+-- ---- the next chunk
+pub odds_start : (versions : List ℕ) (i : ℕ) → i ≤ length versions → HasOdds versions i i 0
+odds_start versions i within = record {
+  within = within;
+  at = omega arith;
+  upto = omega arith;
+  before = λ j v on below at. absurd (omega arith);
+  odd = λ j k l e on. absurd (omega arith);
+  passed = λ k l. bit_at-zero k;
+}
+
+module _ (versions : List ℕ) (end index start : ℕ) (has : HasOdds versions end index 0) (from : index ≤ start) (to : start ≤ end)
+    (next bits : ℕ) (found : IsFound versions start next bits) where
+  pub odds_refill : HasOdds versions next index bits
+  odds_refill = record {
+    within = has.within;
+    at = found.within;
+    upto = omega (arith, found.on);
+    before = λ i v on below at. elim (dec_lt i start) [
+      | yes p ↦ elim (dec_lt (i + 64) end) [
+        | yes q ↦ has.before i v on q at
+        | no q ↦ even_at versions end index 0 has i v on (omega arith) (omega arith) at (λ k e. bit_at-zero k)
+      ]
+      | no p ↦ found.passed i v (omega arith) below at
+    ];
+    odd = λ i k l e on. found.odd i k l e (omega arith);
+    passed = λ k l. absurd (omega (arith, found.on));
+  }
+
+  pub odds_last : bits ≡ 0 → AllEven versions index (length versions)
+  odds_last none i v on below at = elim (dec_lt (i + 64) next) [
+    | yes p ↦ odds_refill.before i v on p at
+    | no p ↦ even_at versions next index bits odds_refill i v on (omega arith) (omega (arith, found.last none)) at (λ k e. ap (λ b. bit_at b k) none ∙ bit_at-zero k)
+  ]
+
+-- a chunk with no bit set has even versions alone
+pub even_chunk : (versions : List ℕ) (end bits : ℕ) → AreOdd versions end 0 bits → bits ≡ 0 → (i v : ℕ) → end ≤ i + 64 → i < end → slice_get versions i ≡ Some v → v % 2 ≡ 0
+even_chunk versions end bits odd none i v from below at =
+    let k = i + 64 - end in
+    ap (λ x. x % 2) (sym (get_or_from_slice_get versions i v 0 at)) ∙ sym (odd i k (omega arith) (omega arith) (omega arith)) ∙ ap (λ b. bit_at b k) none ∙ bit_at-zero k
+
+-- where no version is odd from an index on
+pub next_none : (versions : List ℕ) (index : ℕ) → index ≤ length versions → AllEven versions index (length versions) → IsNextOdd versions index (length versions)
+next_none versions index within even = record {
+  on = within;
+  within = omega arith;
+  passed = even;
+  odd = λ v at. absurd (omega (arith, slice_get_within versions (length versions) v at));
+}

@@ -1,0 +1,127 @@
+-- What calls know of slots, by what the map holds.
+-- For this crate alone.
+use Rattle.std.proofs.Common.{◌≡◌, ◌≢◌, ℕ, zero, suc, ◌+◌, ◌-◌, ◌<◌, ◌≤◌, ◌^◌, ◌%◌, true, List, [], ◌∷◌, ◌++◌, length, set, slice_get, Some}
+use Rattle.std.proofs.Common.{None, is_some, refl, sym, ap, subst, ◌∙◌, arith}
+use Rattle.std.proofs.lemmas.List.{length-set, length_push}
+use Rattle.std.proofs.lemmas.Option.{slice_get_within}
+use Rattle.std.specs.FinMap as map
+use Rattle.std.specs.FinSet as set
+use Rattle.slotmap_core.specs.Key.{Key}
+use Rattle.slotmap_core.specs.Content.{Content, IsContent, IsLive, IsDetached, places, used, most}
+use Rattle.slotmap_core.specs.Call.{MakesRoom, StaysValid}
+use Rattle.slotmap_core.specs.StackMap.{content_of_places, used_places}
+use Rattle.slotmap_slots.specs.Slot.{Slot, full, version_at, payload_at, NoneLive, with_payload, places_of, IsSound, vacancies, IsSettled, map_of}
+use Rattle.slotmap_core.proofs.General.ListLemmas.{past_end, mapped_none}
+use Rattle.slotmap_core.proofs.Places.PlacesLemmas.{key}
+use Rattle.slotmap_slots.proofs.SlotLemmas.{Present, present, live_slot, get-live_slot, rewritten, reattached, with_payload-is, valid, slots_fit, used_places-slots, free_below}
+use Rattle.slotmap_core.proofs.Contents.StepLemmas.{keeps}
+use Rattle.slotmap_slots.proofs.SlotGrowth.{PresentDetached, present_detached, some_free}
+
+module _ {P : Type 0} {slots : List (Slot P)} {fits head aside count : ℕ} (settled : IsSettled slots fits head aside count) {now : Content P}
+    (view : content_of_places (map_of slots head (vacancies slots aside count) (fits - 1)) ≡ now) where
+  -- what is held between calls is well formed
+  pub settled_valid : IsContent true now
+  settled_valid = subst (IsContent true) view (valid settled.sound fits settled.holds)
+
+  pub settled_present : (k : Key) → IsLive now k → Present settled.sound k
+  settled_present k is_live = present settled.sound k (ap (λ c. map.contains_key c.live k) view ∙ is_live)
+
+  -- the payload that is read at the index of a live key is its value
+  pub settled_value : (k : Key) → IsLive now k → (i : ℕ) → i ≡ k.index → (x : P) → payload_at slots i ≡ Some x → map.get now.live k ≡ Some x
+  settled_value k is_live i at x read = grind (arith, settled_present k is_live)
+
+  pub settled_aside : (k : Key) → IsDetached now k → PresentDetached settled.sound k
+  settled_aside k out = present_detached settled.sound k (ap (λ c. set.contains c.detached k) view ∙ out)
+
+  -- some slot is kept if a key is detached
+  pub aside_positive : (k : Key) → IsDetached now k → P → 1 ≤ aside
+  aside_positive k out w =
+      let free = vacancies slots aside count in
+      let found = settled_aside k out in
+      let after = free_below
+      (reattached settled.sound k.index found.own_version k.version found.there found.before w).sound in
+      omega (arith, after, length-set slots k.index (full k.version w), settled.fewer)
+
+  pub settled_room : 0 < now.room → (used_places (places_of slots) < most) × (length slots < fits + vacancies slots aside count)
+  settled_room room = grind (arith, used_places-slots settled.sound)
+
+  -- the places, with the sentinel's, are the slots
+  pub settled_places : places now + 1 ≡ length slots
+  settled_places = omega (arith, ap places (sym view), used_places-slots settled.sound, settled.sound.counted, settled.sound.stacked.counted)
+
+  pub settled_used : used now ≡ count + aside
+  settled_used = omega (arith, ap used (sym view), used_places-slots settled.sound, settled.fewer)
+
+  pub settled_fits : length slots < 2 ^ 32
+  settled_fits = slots_fit settled.sound
+
+  -- if a place is vacant, or one more slot fits, there is room
+  pub settled_reuses : head ≢ 0 → 0 < now.room
+  settled_reuses other =
+      grind (arith, some_free settled.sound other, used_places-slots settled.sound, settled_fits)
+
+  pub settled_spare : fits < 2 ^ 32 → length slots < fits → 0 < now.room
+  settled_spare limit spare = omega (arith, ap (λ c. c.room) (sym view), used_places-slots settled.sound)
+
+  -- an odd version is that of a live key
+  pub settled_live : (i v : ℕ) → version_at slots i ≡ Some v → v % 2 ≡ 1 → IsLive now (key i v)
+  settled_live i v found odd =
+      let there = live_slot settled.sound i v found odd in
+      ap (λ c. map.contains_key c.live (key i v)) (sym view) ∙ ap is_some (get-live_slot settled.sound (key i v) there.0 there.1)
+
+  -- no live key is between two indices if no version there is odd
+  pub settled_passed : (start end : ℕ) → NoneLive slots start end → (q : Key) → IsLive now q → start ≤ q.index → end ≤ q.index
+  settled_passed start end passed q is_live from = grind (arith, settled_present q is_live, passed q.index q.version from)
+
+  pub settled_ended : (start end : ℕ) → NoneLive slots start end → version_at slots end ≡ None → (q : Key) → IsLive now q → q.index < start
+  settled_ended start end passed ended q is_live =
+      grind (arith, settled_present q is_live, past_end slots end (mapped_none (λ s. s.version) (slice_get slots end) ended), settled_passed start end passed q is_live, slice_get_within, mapped_none)
+
+-- what is held after a call that allocates nothing
+pub settled_stays : {P : Type 0} (slots : List (Slot P)) (fits head aside count : ℕ) → IsSettled slots fits head aside count → {now : Content P}
+    → content_of_places (map_of slots head (vacancies slots aside count) (fits - 1)) ≡ now
+    → (slots2 : List (Slot P)) (fits2 head2 aside2 count2 : ℕ) → IsSettled slots2 fits2 head2 aside2 count2 → fits2 ≡ fits
+    → StaysValid true now (content_of_places (map_of slots2 head2 (vacancies slots2 aside2 count2) (fits2 - 1)))
+settled_stays slots fits head aside count settled view slots2 fits2 head2 aside2 count2 after same =
+    grind (arith, settled_valid settled view, settled_valid after refl)
+
+-- how many slots are free once one is added
+pub vacancies-push : {P : Type 0} (slots : List (Slot P)) (s : Slot P) (free aside count : ℕ) → count + aside + free ≡ length slots → vacancies (slots ++ s ∷ []) aside count ≡ free
+vacancies-push slots s free aside count all = omega (arith, length_push slots s)
+
+-- one slot is written
+pub vacancies-set : {P : Type 0} (slots : List (Slot P)) (i : ℕ) (s : Slot P) (free aside count : ℕ) → count + aside + free + 1 ≡ length slots → vacancies (set slots i s) aside count ≡ free
+vacancies-set slots i s free aside count all = omega (arith, length-set slots i s)
+
+pub settled-set : {P : Type 0} (slots : List (Slot P)) (fits head aside count : ℕ) → IsSettled slots fits head aside count
+    → (i : ℕ) (s : Slot P) {head2 free2 count2 : ℕ} → IsSound (set slots i s) head2 free2 count2
+    → (aside2 : ℕ) → count2 + aside2 + free2 + 1 ≡ length slots → IsSettled (set slots i s) fits head2 aside2 count2
+settled-set slots fits head aside count settled i s {head2} {free2} {count2} sound aside2 all = grind (arith, vacancies-set, length-set)
+
+-- a payload is written
+length-with_payload : {P : Type 0} (slots : List (Slot P)) (i : ℕ) (p : P) → length (with_payload slots i p) ≡ length slots
+length-with_payload [] i p = refl
+length-with_payload (s ∷ slots) zero p = refl
+length-with_payload (s ∷ slots) (suc i) p = omega (arith, length-with_payload slots i p)
+
+pub vacancies-written : {P : Type 0} (slots : List (Slot P)) (i : ℕ) (p : P) (aside count : ℕ) → vacancies (with_payload slots i p) aside count ≡ vacancies slots aside count
+vacancies-written slots i p aside count = ap (λ n. n - (count + aside + 1)) (length-with_payload slots i p)
+
+pub with_payload-settled : {P : Type 0} (slots : List (Slot P)) (fits head aside count : ℕ) → IsSettled slots fits head aside count → (i v : ℕ) (x : P)
+    → slice_get slots i ≡ Some (full v x) → (w : P) → IsSettled (with_payload slots i w) fits head aside count
+with_payload-settled slots fits head aside count settled i v x there w =
+    let free = vacancies slots aside count in
+    grind (
+      arith,
+      with_payload-is settled.sound i v x there w,
+      settled-set slots fits head aside count settled i (full v w) (rewritten settled.sound i v x there w).sound aside (omega (arith, settled.fewer)),
+    )
+
+-- room for n more keys had to be allocated, and was allocated or not
+pub grown : {P : Type 0} (slots : List (Slot P)) (fits head aside count : ℕ) → IsSettled slots fits head aside count → {now : Content P}
+    → content_of_places (map_of slots head (vacancies slots aside count) (fits - 1)) ≡ now
+    → (more : ℕ) → fits ≤ more → (n : ℕ) (ok : Type 0) → now.room < n → (ok → (used now + n ≤ most) × (used now + n + 1 ≤ more))
+    → MakesRoom true now n ok (content_of_places (map_of slots head (vacancies slots aside count) (more - 1)))
+grown slots fits head aside count settled {now} view more on n ok none enough =
+    let after = valid settled.sound more (omega (arith, settled.holds)) in
+    grind (arith, settled_valid settled view, keeps (map_of slots head (vacancies slots aside count) (fits - 1)) (more - 1) (omega arith))

@@ -1,0 +1,114 @@
+-- Slots with clones of the payloads of others: they are as sound, and hold clones of what those hold.
+-- For this crate alone.
+use Rattle.std.proofs.Common.{◌≡◌, ℕ, ◌+◌, ◌-◌, ◌≤◌, List, [], ◌∷◌, length, slice_get, Option, None, Some, option_map, refl, sym, ap, ◌∙◌, arith}
+use Rattle.std.specs.FinMap as map
+use Rattle.std.specs.List.{AllZip}
+use Rattle.slotmap_core.specs.Clones.{IsCloneOf}
+use Rattle.slotmap_slots.specs.Columns.{zip_slots}
+use Rattle.slotmap_core.specs.Content.{Content}
+use Rattle.slotmap_core.specs.Copy.{IsCloneBy}
+use Rattle.slotmap_core.specs.PlaceClones.{IsPlaceClone, ArePlaceClones}
+use Rattle.slotmap_core.specs.Places.{live}
+use Rattle.slotmap_core.specs.StackMap.{content_of_places}
+use Rattle.slotmap_slots.specs.Slot.{Slot, usage_at, place_of, places_of, free_indices, IsFreeList, IsSlot, IsSound, IsSlotClone, AreSlotClones, IsSettled, vacancies, map_of}
+use Rattle.slotmap_slots.specs.declared.layout.Use.{Use}
+use Rattle.slotmap_core.proofs.General.KeyLemmas.{keys_total, exact_keys}
+use Rattle.slotmap_core.proofs.General.ListLemmas.{mapped, zip_length, zip_left, zip_right, zip_self}
+use Rattle.slotmap_core.proofs.General.Maps.{same_len}
+use Rattle.slotmap_core.proofs.Places.PlaceClones.{clone_is_some, live-clones, IsStacked-clones, content-clones}
+use Rattle.slotmap_slots.proofs.SlotLemmas.{free_indices-stack, stacked_free}
+
+-- clones of optional values, as the impl of `Clone` for them says it
+pub option_clones : {V : Type 0} (is_clone : V → V → Type 0) (R : Option V → Option V → Type 0) → ((w : V) → R None (Some w) → ⊥) → ((v : V) → R (Some v) None → ⊥)
+    → ((v w : V) → R (Some v) (Some w) → is_clone v w) → (xs ys : List (Option V)) → AllZip R xs ys → AllZip (IsCloneOf is_clone) xs ys
+option_clones is_clone R more less both [] [] all = tt
+option_clones is_clone R more less both [] (y ∷ ys) all = absurd all
+option_clones is_clone R more less both (x ∷ xs) [] all = absurd all
+option_clones {V} is_clone R more less both (x ∷ xs) (y ∷ ys) all = (one x y all.0, option_clones is_clone R more less both xs ys all.1)
+  where
+    one : (x y : Option V) → R x y → IsCloneOf is_clone x y
+    one x y r = grind arith
+
+module _ {P : Type 0} (is_clone : P → P → Type 0) where
+  -- slots in three vectors, the last of which has clones
+  pub zip-clones : (versions : List ℕ) (uses : List Use) (xs ys : List (Option P)) → AllZip (IsCloneOf is_clone) xs ys
+      → AreSlotClones is_clone (zip_slots versions uses xs) (zip_slots versions uses ys)
+  zip-clones [] uses xs ys all = tt
+  zip-clones (v ∷ versions) [] xs ys all = tt
+  zip-clones (v ∷ versions) (l ∷ uses) [] [] all = tt
+  zip-clones (v ∷ versions) (l ∷ uses) [] (y ∷ ys) all = absurd all
+  zip-clones (v ∷ versions) (l ∷ uses) (x ∷ xs) [] all = absurd all
+  zip-clones (v ∷ versions) (l ∷ uses) (x ∷ xs) (y ∷ ys) all = (record { version = refl; usage = refl; payload = all.0 }, zip-clones versions uses xs ys all.1)
+
+  -- the same slots, where each value is a clone of itself
+  pub clones-self : ((p : P) → is_clone p p) → (slots : List (Slot P)) → AreSlotClones is_clone slots slots
+  clones-self itself slots = zip_self (IsSlotClone is_clone) (λ s. record { version = refl; usage = refl; payload = own s.payload }) slots
+    where
+      own : (o : Option P) → IsCloneOf is_clone o o
+      own None = refl
+      own (Some p) = itself p
+
+-- a slot of another layout, and what it is to the outside
+module _ {P : Type 0} (is_clone : P → P → Type 0) where
+  place-clone : (s t : Slot P) → IsSlotClone is_clone s t → IsPlaceClone is_clone (place_of s) (place_of t)
+  place-clone s t is = grind arith
+
+  IsSlot-clone : (s t : Slot P) → IsSlotClone is_clone s t → IsSlot s → IsSlot t
+  IsSlot-clone s t is slot = grind (arith, clone_is_some is_clone s.payload t.payload is.payload)
+
+  places-clones : (ss ts : List (Slot P)) → AreSlotClones is_clone ss ts → ArePlaceClones is_clone (places_of ss) (places_of ts)
+  places-clones [] [] all = tt
+  places-clones [] (t ∷ ts) all = absurd all
+  places-clones (s ∷ ss) [] all = absurd all
+  places-clones (s ∷ ss) (t ∷ ts) all = (place-clone s t all.0, places-clones ss ts all.1)
+
+module _ {P : Type 0} (is_clone : P → P → Type 0) (ss ts : List (Slot P)) (all : AreSlotClones is_clone ss ts) where
+  slots-length : length ts ≡ length ss
+  slots-length = zip_length (IsSlotClone is_clone) ss ts all
+
+  same_usage : (i : ℕ) (l : Use) → usage_at ss i ≡ Some l → usage_at ts i ≡ Some l
+  same_usage i l found =
+      let s = mapped (λ s. s.usage) (slice_get ss i) l found in
+      let t = zip_right (IsSlotClone is_clone) ss ts all i s.0 s.1 in
+      ap (option_map (λ s. s.usage)) t.1 ∙ ap Some (t.2.usage ∙ s.2)
+
+  same_list : (is : List ℕ) (head : ℕ) → IsFreeList ss is head → IsFreeList ts is head
+  same_list [] head linked = linked
+  same_list (i ∷ is) head linked = (linked.0, (linked.1.0, same_usage i _ linked.1.1, same_list is linked.1.0 linked.1.2))
+
+  module _ (head free count : ℕ) (sound : IsSound ss head free count) where
+    IsSound-clones : IsSound ts head free count
+    IsSound-clones = record {
+      each = λ i t found. let s = zip_left (IsSlotClone is_clone) ss ts all i t found in IsSlot-clone is_clone s.0 t s.2 (sound.each i s.0 s.1);
+      stack = sound.stack;
+      linked = same_list sound.stack head sound.linked;
+      counted = sound.counted;
+      live_counted =
+          same_len keys_total exact_keys (map.len (live (places_of ts))) (live (places_of ts)) (live (places_of ss)) refl
+          (λ k. clone_is_some is_clone _ _ (live-clones is_clone (places_of ss) (places_of ts) (places-clones is_clone ss ts all) k)) ∙ sound.live_counted;
+      stacked = IsStacked-clones is_clone (places_of ss) (places_of ts) (places-clones is_clone ss ts all) sound.stack sound.stacked;
+    }
+
+    free_indices-clones : free_indices ts free head ≡ free_indices ss free head
+    unfolding IsSound-clones
+    free_indices-clones = free_indices-stack IsSound-clones ∙ sym (free_indices-stack sound)
+
+    content_of-clones : (c d : ℕ) → IsCloneBy is_clone (content_of_places (map_of ss head free c)) (content_of_places (map_of ts head free d))
+    content_of-clones c d =
+        rw free_indices-clones (content-clones is_clone (places_of ss) (places_of ts) (places-clones is_clone ss ts all) (free_indices ss free head) (stacked_free sound) c d)
+
+  module _ (fits head aside count : ℕ) (settled : IsSettled ss fits head aside count) where
+    same_vacancies : vacancies ts aside count ≡ vacancies ss aside count
+    same_vacancies = ap (λ n. n - (count + aside + 1)) slots-length
+
+    -- a copy whose layout has room for its slots
+    pub IsSettled-clones : (more : ℕ) → length ts ≤ more → IsSettled ts more head aside count
+    IsSettled-clones more holds = record {
+      sound = rw same_vacancies (IsSound-clones head (vacancies ss aside count) count settled.sound);
+      fewer = omega (arith, slots-length, settled.fewer);
+      holds = holds;
+    }
+
+    pub settled-clones : (more : ℕ) {now : Content P} → content_of_places (map_of ss head (vacancies ss aside count) (fits - 1)) ≡ now
+        → IsCloneBy is_clone now (content_of_places (map_of ts head (vacancies ts aside count) (more - 1)))
+    settled-clones more view = rw (same_vacancies, ← view) (content_of-clones head (vacancies ss aside count) count settled.sound (fits - 1) (more - 1))

@@ -1,0 +1,6 @@
+use Rattle.std.proofs.Common.{refl, arith}
+use Rattle.slotmap_slots.proofs.ColumnLemmas.{slot_list-known, zip-with_payload}
+use Rattle.slotmap_slots.proofs.layout.columns.ColumnsLayout.payload_mut.Goals as goal
+
+pub returns : goal.returns
+returns g c = ((refl, λ w. rw (← c.self.view_is, zip-with_payload) refl), record { writes_back = tt; value = grind (arith, slot_list-known) })

@@ -1,0 +1,37 @@
+use Rattle.std.proofs.Common.{◌<◌, arith}
+use Rattle.slotmap_core.proofs.General.ListLemmas.{err_not_ok}
+use Rattle.slotmap_slots.proofs.SettledLemmas.{settled_fits, settled_used, settled_places, grown}
+use Rattle.slotmap_slots.proofs.slots.Slots.reserve.Goals as goal
+
+pub reserve-requires : goal.reserve-requires
+reserve-requires g c =
+    omega (
+      arith,
+      settled_used c.self.invariant c.self.view_is,
+      settled_fits c.self.invariant c.self.view_is,
+      c.used-used.ensures.value,
+      c.if-additional-used.false,
+      c.place_count.ensures.value,
+      settled_places c.self.invariant c.self.view_is,
+    )
+
+pub returns-in_err-reserve-clause-makes_room : goal.returns-in_err-reserve-clause-makes_room
+returns-in_err-reserve-clause-makes_room g c =
+    let none : c.args.self.now.room < c.args.additional = grind arith in
+    rw c.in_err-reserve.ensures.same (grown _ _ _ _ _ c.self.invariant c.self.view_is _ c.in_err-reserve.ensures.grows c.args.additional _ none
+    (λ is. absurd (err_not_ok _ c.from_residual.ensures.0 is)))
+
+pub returns-clause-makes_room : goal.returns-clause-makes_room
+returns-clause-makes_room g c =
+    let none : c.args.self.now.room < c.args.additional = grind arith in
+    rw c.in_ok-reserve.ensures.same (grown _ _ _ _ _ c.self.invariant c.self.view_is _ c.in_ok-reserve.ensures.grows c.args.additional _ none (λ is. (
+      omega (arith, c.used-used.ensures.value, c.used-used.ensures.below, c.if-additional-used.false),
+      omega (
+        arith,
+        settled_used c.self.invariant c.self.view_is,
+        c.used-used.ensures.value,
+        c.in_ok-reserve.ensures.room,
+        c.place_count.ensures.value,
+        settled_places c.self.invariant c.self.view_is,
+      ),
+    )))

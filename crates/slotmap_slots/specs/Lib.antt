@@ -1,0 +1,9 @@
+pub mod Slot
+pub mod LayoutLends
+pub mod Numbers
+pub mod Columns
+pub mod Odds
+pub mod Rows
+pub mod SlotsLend
+pub mod Iter
+pub mod Pass

@@ -1,0 +1,145 @@
+//! How the slots of a map lie in memory.
+
+ghost use Rattle.std.specs.Prelude.{◌≡◌, ◌+◌, ◌<◌, ◌≤◌, ◌%◌, ◌^◌, ◌++◌, ◌∷◌, [], ℕ, List, length, Some, None, Option, IsSome, IfOk, OnOk, IfSome, IfNone, slice_get, slice_set};
+ghost use Rattle.std.specs.Borrow.{sem};
+ghost use Rattle.slotmap_slots.specs.Slot.{Slot, FitsEmpty, full, empty, version_at, usage_at, next_at, payload_at, with_payload, AreSlotClones};
+ghost use Rattle.slotmap_slots.specs.LayoutLends.{lends_payload};
+
+use std::alloc::{AllocError, Global};
+
+mod columns;
+mod numbers;
+mod odds;
+mod rows;
+
+pub use columns::Columns;
+pub(crate) use columns::version_in;
+pub(crate) use odds::{Odds, step};
+pub use rows::Rows;
+
+/// What a slot is used for.
+#[derive(Clone, Copy)]
+pub enum Use {
+    /// It has a payload.
+    InUse,
+    /// It is vacant, and names the next slot of the free list, or slot 0 at the list's end.
+    Free(u32),
+    /// Its key is detached: the payload was taken out, and the slot is kept for the key.
+    Detached,
+    /// It is retired: no key can follow its last one.
+    Retired,
+}
+
+/// A list of slots in memory: each has a version, a link and, if it is in use, a payload.
+///
+/// `Columns` keeps three vectors, `Rows` one. `Slots` says what a map means by its slots. A layout
+/// says only what each call does to the list.
+pub trait Layout<P>: Sized {
+    // The slots, from slot 0 on.
+    ghost slots: { Self → List (Slot P) };
+
+    // This many slots fit without allocating.
+    ghost fits: { Self → ℕ };
+
+    // The same slots with another payload at an index.
+    ghost with_payload_at: { Self → ℕ → P → Self };
+
+    /// Makes an empty list with room for `count` slots.
+    fn with_capacity(alloc: Global, count: usize) -> Result<Self, AllocError>
+        requires { count < 2 ^ 32 }
+        ensures none { IfOk result (λ made. slots made ≡ []) }
+        ensures room { IfOk result (λ made. count ≤ fits made) };
+
+    /// Returns the allocator.
+    fn allocator(&self) -> Global;
+
+    /// Returns the number of slots.
+    fn len(&self) -> usize
+        ensures { result ≡ length (slots self.now) };
+
+    /// Returns how many slots fit without allocating.
+    fn capacity(&self) -> usize
+        ensures value { result ≡ fits self.now }
+        ensures limit { result < 2 ^ 32 };
+
+    /// Makes room for `additional` more slots.
+    fn reserve(&mut self, additional: usize) -> Result<(), AllocError>
+        requires { length (slots self.old) + additional < 2 ^ 32 }
+        ensures room { OnOk result (length (slots self.old) + additional ≤ fits self.new) }
+        ensures grows { fits self.old ≤ fits self.new }
+        ensures same { slots self.new ≡ slots self.old };
+
+    /// Returns the version at an index, or `None` past the end.
+    fn find_version(&self, index: usize) -> Option<u32>
+        ensures { result ≡ version_at (slots self.now) index };
+
+    /// Returns the version at an index.
+    fn version(&self, index: usize) -> u32
+        requires { index < length (slots self.now) }
+        ensures { version_at (slots self.now) index ≡ Some result };
+
+    /// Returns the link at an index.
+    fn usage(&self, index: usize) -> Use
+        requires { index < length (slots self.now) }
+        ensures { usage_at (slots self.now) index ≡ Some result };
+
+    /// Returns the slot that a free one names.
+    fn next_free(&self, index: usize) -> u32
+        requires { IsSome (next_at (slots self.now) index) }
+        ensures { next_at (slots self.now) index ≡ Some result };
+
+    /// Returns the payload at an index.
+    fn payload(&self, index: usize) -> &P
+        requires { IsSome (payload_at (slots self.now) index) }
+        ensures { payload_at (slots self.now) index ≡ Some result.now };
+
+    /// Returns a mutable reference to the payload at an index.
+    fn payload_mut(&mut self, index: usize) -> &mut P
+        requires { IsSome (payload_at (slots self.old) index) }
+        ensures* writes_back { sem 𝓛 (lends_payload Self.row P.row with_payload_at self.entry index result) }
+        ensures value { payload_at (slots self.old) index ≡ Some result.now };
+
+    /// Takes out the payload at an index, and leaves this version and link there.
+    fn take(&mut self, index: usize, version: u32, usage: Use) -> P
+        requires there { IsSome (payload_at (slots self.old) index) }
+        requires out { FitsEmpty version usage }
+        ensures value { payload_at (slots self.old) index ≡ Some result }
+        ensures left { slots self.new ≡ slice_set (slots self.old) index (empty version usage) }
+        ensures same_room { fits self.new ≡ fits self.old };
+
+    /// Puts a payload at an index, under this version, and drops what was there.
+    fn put(&mut self, index: usize, version: u32, payload: P)
+    where
+        P: Drop,
+        requires within { index < length (slots self.old) }
+        requires odd { version % 2 ≡ 1 }
+        ensures put { slots self.new ≡ slice_set (slots self.old) index (full version payload) }
+        ensures same_room { fits self.new ≡ fits self.old };
+
+    /// Adds a slot with a payload, for which there is room.
+    fn push(&mut self, version: u32, payload: P)
+        requires room { length (slots self.old) < fits self.old }
+        requires odd { version % 2 ≡ 1 }
+        ensures pushed { slots self.new ≡ slots self.old ++ full version payload ∷ [] }
+        ensures same_room { fits self.new ≡ fits self.old };
+
+    /// Adds a slot with no payload, for which there is room.
+    fn push_empty(&mut self, version: u32, usage: Use)
+        requires room { length (slots self.old) < fits self.old }
+        requires out { FitsEmpty version usage }
+        ensures pushed { slots self.new ≡ slots self.old ++ empty version usage ∷ [] }
+        ensures same_room { fits self.new ≡ fits self.old };
+
+    ghost slots_with: { (s : Self) (i : ℕ) (p : P) → slots (with_payload_at s i p) ≡ with_payload (slots s) i p };
+
+    ghost fits_with: { (s : Self) (i : ℕ) (p : P) → fits (with_payload_at s i p) ≡ fits s };
+}
+
+/// A layout whose slots can be copied.
+pub trait CopyLayout<P: Clone>: Layout<P> {
+    /// Returns a copy of the slots, with clones of the payloads.
+    fn copy(&self) -> Result<Self, AllocError>
+        requires few { length (Self.slots self.now) < 2 ^ 32 }
+        ensures clones { IfOk result (λ copy. AreSlotClones P.is_clone (Self.slots self.now) (Self.slots copy)) }
+        ensures room { IfOk result (λ copy. length (Self.slots copy) ≤ Self.fits copy) };
+}

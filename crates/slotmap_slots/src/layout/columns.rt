@@ -1,0 +1,299 @@
+//! Slots in three vectors of one length.
+
+ghost use Rattle.std.specs.Prelude.{◌≡◌, ◌<◌, ◌≤◌, ◌%◌, ◌^◌, ℕ, List, length, slice_get, Some, IsSome, refl, vec_capacity};
+ghost use Rattle.slotmap_slots.specs.Columns.{HasEachOdd, zip_slots};
+ghost use Rattle.slotmap_slots.specs.Numbers.{uses_of};
+ghost use Rattle.slotmap_slots.specs.Pass.{MayPass, Passes, in_columns, in_slots, stage};
+ghost use Rattle.slotmap_slots.specs.Slot.{version_at, payload_at};
+ghost use Rattle.slotmap_slots.specs.declared.layout.Use.{Use as UseOf};
+
+use super::numbers::{number_for, use_for};
+use super::odds::next_odd;
+use super::{CopyLayout, Layout, Use};
+use slotmap_core::keys::{Key, KeyData};
+use slotmap_core::sure::{sure, sure_mut};
+use std::alloc::{AllocError, Global};
+use std::marker::Model;
+
+/// Versions, links and payloads, each in a vector of its own. A link takes 4 bytes.
+///
+/// An iterator reads only the versions, and a look-up a version and a payload.
+#[derive(Drop)]
+pub struct Columns<P> {
+    versions: Vec<u32>,
+    // At an even version what `number_for` returns, and at an odd one any number.
+    numbers: Vec<u32>,
+    payloads: Vec<Option<P>>,
+    // This many slots fit in each of the three.
+    capacity: usize,
+}
+
+impl<P> Model for Columns<P> {
+    ghost use Rattle.std.specs.Prelude.{vec_capacity};
+    ghost use Rattle.slotmap_slots.specs.Slot.{SlotList};
+    ghost use Rattle.slotmap_slots.specs.Columns.{zip_slots, IsColumns};
+    ghost use Rattle.slotmap_slots.specs.Numbers.{uses_of};
+
+    ghost Value = { SlotList P };
+
+    ghost view = { λ m. record { slots = zip_slots m.versions.items (uses_of m.versions.items m.numbers.items) m.payloads.items; capacity = m.capacity } };
+
+    ghost invariant = { λ m. IsColumns m.versions.items m.numbers.items m.payloads.items m.capacity (vec_capacity m.versions) (vec_capacity m.numbers) (vec_capacity m.payloads) };
+}
+
+// A slot is found in any of the vectors by its index alone.
+const LIMIT: usize = 4294967295;
+
+// With fewer slots than this the three vectors grow to four times their length, with more to twice.
+const FEW: usize = 512;
+
+// Returns the version at an index.
+pub(crate) fn version_in(versions: &[u32], index: usize) -> u32
+    requires { index < length versions.now }
+    ensures { slice_get versions.now index ≡ Some result }
+{
+    versions[index]
+}
+
+// Calls a closure for each odd version from an index on, with its key and the payload at its index,
+// until it returns `false`. Returns the index for which it did, or the number of versions.
+fn find_rejected<K: Key, P, F: FnMut(K, &mut P) -> bool>(
+    versions: &[u32],
+    payloads: &mut [Option<P>],
+    from: usize,
+    f: &mut F,
+) -> usize
+    requires from { from ≤ length versions.now }
+    requires few { length versions.now < 2 ^ 32 }
+    requires same_length { length payloads.old ≡ length versions.now }
+    requires placed { HasEachOdd versions.now payloads.old }
+    requires callable { MayPass (in_columns K.data_of versions.now) F.FnMut (stage from payloads.old f.old) }
+    ensures passes { Passes (in_columns K.data_of versions.now) F.FnMut (stage from payloads.old f.old) (stage result payloads.new f.new) }
+    ensures within { result ≤ length versions.now }
+    ensures same_length { length payloads.new ≡ length payloads.old }
+{
+    let mut index = from;
+    while index < versions.len() {
+        let version = versions[index];
+        if version % 2 == 0 {
+            index = next_odd(versions, index + 1);
+            continue;
+        }
+        let key = KeyData::exact(index as u32, version);
+        if !f(K::from(key), sure_mut(&mut payloads[index])) {
+            return index;
+        }
+        index += 1;
+    }
+    index
+}
+
+// Returns how many more slots to allocate if `additional` are needed. Each growth moves three
+// vectors, so it pays to have few of them.
+fn growth(len: usize, additional: usize) -> usize
+    ensures { additional ≤ result }
+{
+    if len < FEW && additional < 3 * len {
+        3 * len
+    } else {
+        additional
+    }
+}
+
+impl<P> Columns<P> {
+    // Returns how many slots fit in each of these.
+    fn fit_count(versions: &Vec<u32>, numbers: &Vec<u32>, payloads: &Vec<Option<P>>) -> usize
+        ensures limit { result < 2 ^ 32 }
+        ensures versions_fit { result ≤ vec_capacity versions.now }
+        ensures numbers_fit { result ≤ vec_capacity numbers.now }
+        ensures payloads_fit { result ≤ vec_capacity payloads.now }
+        ensures greatest { (n : ℕ) → n < 2 ^ 32 → n ≤ vec_capacity versions.now → n ≤ vec_capacity numbers.now → n ≤ vec_capacity payloads.now → n ≤ result }
+    {
+        let others = numbers.capacity().min(payloads.capacity());
+        versions.capacity().min(others).min(LIMIT)
+    }
+
+    // Returns the versions and the payloads.
+    pub(crate) fn as_slices(&self) -> (&[u32], &[Option<P>])
+        ensures { (uses : List UseOf) × (length uses ≡ length result.0.now) × (length result.1.now ≡ length result.0.now) × (zip_slots result.0.now uses result.1.now ≡ self.now.slots) }
+    {
+        (self.versions.as_slice(), self.payloads.as_slice())
+    }
+
+    // Calls a closure for each slot that is in use from an index on, with its key and its payload,
+    // until it returns `false`. Returns the index for which it did, or the number of slots.
+    pub(crate) fn first_rejected<K: Key, F: FnMut(K, &mut P) -> bool>(
+        &mut self,
+        from: usize,
+        f: &mut F,
+    ) -> usize
+        requires from { from ≤ length self.old.slots }
+        requires few { length self.old.slots < 2 ^ 32 }
+        requires placed { (i v : ℕ) → version_at self.old.slots i ≡ Some v → v % 2 ≡ 1 → IsSome (payload_at self.old.slots i) }
+        requires callable { MayPass (in_slots K.data_of) F.FnMut (stage from self.old.slots f.old) }
+        ensures passes { Passes (in_slots K.data_of) F.FnMut (stage from self.old.slots f.old) (stage result self.new.slots f.new) }
+        ensures within { result ≤ length self.new.slots }
+        ensures same_room { self.new.capacity ≡ self.old.capacity }
+    {
+        find_rejected(
+            self.versions.as_slice(),
+            self.payloads.as_mut_slice(),
+            from,
+            f,
+        )
+    }
+}
+
+impl<P> Columns<P> {
+    // Returns the slots in these, with room for all that fit.
+    fn with_room(versions: Vec<u32>, numbers: Vec<u32>, payloads: Vec<Option<P>>) -> Columns<P>
+        requires numbers_length { length numbers.items ≡ length versions.items }
+        requires payloads_length { length payloads.items ≡ length versions.items }
+        ensures slots { result.slots ≡ zip_slots versions.items (uses_of versions.items numbers.items) payloads.items }
+        ensures room { (n : ℕ) → n < 2 ^ 32 → n ≤ vec_capacity versions → n ≤ vec_capacity numbers → n ≤ vec_capacity payloads → n ≤ result.capacity }
+    {
+        let capacity = Columns::fit_count(&versions, &numbers, &payloads);
+        Columns {
+            versions,
+            numbers,
+            payloads,
+            capacity,
+        }
+    }
+
+    // Returns the versions and the payloads, and drops the numbers.
+    pub(crate) fn into_parts(self) -> (Vec<u32>, Vec<Option<P>>)
+        ensures { (uses : List UseOf) × (length uses ≡ length result.0.items) × (length result.1.items ≡ length result.0.items) × (zip_slots result.0.items uses result.1.items ≡ self.slots) }
+    {
+        let Columns {
+            versions,
+            numbers: _,
+            payloads,
+            capacity: _,
+        } = self;
+        (versions, payloads)
+    }
+}
+
+#[tactic(auto, using(crate::proofs::ColumnLemmas::slot_list))]
+impl<P> Columns<P> {
+    ghost use Rattle.slotmap_slots.specs.Slot.{NoneLive};
+
+    // Returns the first index from `start` on with an odd version, or the number of slots.
+    pub(crate) fn next_live(&self, start: usize) -> usize
+        requires { start ≤ length self.now.slots }
+        ensures on { start ≤ result }
+        ensures within { result ≤ length self.now.slots }
+        ensures passed { NoneLive self.now.slots start result }
+        ensures odd { (v : ℕ) → version_at self.now.slots result ≡ Some v → v % 2 ≡ 1 }
+    {
+        next_odd(&self.versions, start)
+    }
+}
+
+#[tactic(auto, using(crate::proofs::ColumnLemmas::slot_list))]
+impl<P> Layout<P> for Columns<P> {
+    ghost use Rattle.std.specs.Prelude.{ℕ, List};
+    ghost use Rattle.slotmap_slots.specs.Slot.{Slot, SlotList, with_payload};
+
+    ghost slots = { λ m. m.slots };
+
+    ghost fits = { λ m. m.capacity };
+
+    ghost with_payload_at = { λ m i p. record m { slots = with_payload m.slots i p } };
+
+    fn with_capacity(alloc: Global, count: usize) -> Result<Self, AllocError> {
+        let versions = Vec::with_capacity(alloc, count)?;
+        let numbers = Vec::with_capacity(alloc, count)?;
+        let payloads = Vec::with_capacity(alloc, count)?;
+        Ok(Columns::with_room(versions, numbers, payloads))
+    }
+
+    fn allocator(&self) -> Global {
+        *self.versions.allocator()
+    }
+
+    fn len(&self) -> usize {
+        self.versions.len()
+    }
+
+    fn capacity(&self) -> usize {
+        self.capacity
+    }
+
+    fn reserve(&mut self, additional: usize) -> Result<(), AllocError> {
+        let more = growth(self.versions.len(), additional);
+        // The largest vector first: the memory that it leaves can hold the others.
+        self.payloads.reserve(more)?;
+        self.numbers.reserve(more)?;
+        self.versions.reserve(more)?;
+        self.capacity = Columns::fit_count(&self.versions, &self.numbers, &self.payloads);
+        Ok(())
+    }
+
+    fn find_version(&self, index: usize) -> Option<u32> {
+        Some(*self.versions.get(index)?)
+    }
+
+    fn version(&self, index: usize) -> u32 {
+        self.versions[index]
+    }
+
+    fn usage(&self, index: usize) -> Use {
+        use_for(self.versions[index], self.numbers[index])
+    }
+
+    fn next_free(&self, index: usize) -> u32 {
+        self.numbers[index]
+    }
+
+    fn payload(&self, index: usize) -> &P {
+        sure(self.payloads[index].as_ref())
+    }
+
+    fn payload_mut(&mut self, index: usize) -> &mut P {
+        sure_mut(&mut self.payloads[index])
+    }
+
+    fn take(&mut self, index: usize, version: u32, usage: Use) -> P {
+        // The version first: a look-up before has read it, and read where it lies.
+        self.versions[index] = version;
+        self.numbers[index] = number_for(usage);
+        sure(self.payloads[index].take())
+    }
+
+    fn put(&mut self, index: usize, version: u32, payload: P)
+    where
+        P: Drop,
+    {
+        self.versions[index] = version;
+        self.payloads[index] = Some(payload);
+    }
+
+    fn push(&mut self, version: u32, payload: P) {
+        self.versions.push_reserved(version);
+        self.numbers.push_reserved(0);
+        self.payloads.push_reserved(Some(payload));
+    }
+
+    fn push_empty(&mut self, version: u32, usage: Use) {
+        self.versions.push_reserved(version);
+        self.numbers.push_reserved(number_for(usage));
+        self.payloads.push_reserved(None);
+    }
+
+    ghost slots_with = { λ m i p. refl };
+
+    ghost fits_with = { λ m i p. refl };
+}
+
+#[tactic(auto, using(crate::proofs::ColumnLemmas::slot_list))]
+impl<P: Clone> CopyLayout<P> for Columns<P> {
+    fn copy(&self) -> Result<Self, AllocError> {
+        let alloc = self.allocator();
+        let versions = Vec::from_slice(alloc, &self.versions)?;
+        let numbers = Vec::from_slice(alloc, &self.numbers)?;
+        let payloads = self.payloads.clone()?;
+        Ok(Columns::with_room(versions, numbers, payloads))
+    }
+}

@@ -1,0 +1,166 @@
+//! The slots of a map that reuses the slot freed last first, by key data.
+//!
+//! The free list, retired and detached slots, room and growth are here, once for every map that has
+//! slots. `SlotMap` is slots with a key type of its own, `DenseSlotMap` is slots that hold
+//! positions. The layout says how the slots lie in memory.
+
+ghost use Rattle.std.specs.Prelude.{◌≡◌, [], Some, ◌+◌, ◌<◌, ◌≤◌, ◌^◌, IfOk, IfErr, IsOk, IsTrue, true};
+ghost use Rattle.std.specs.FinMap as map;
+ghost use Rattle.slotmap_core.specs.Content.{IsContent, used, most, places};
+ghost use Rattle.slotmap_core.specs.Transition.{IsNew};
+ghost use Rattle.slotmap_core.specs.Refusal.{RefusesCapacity};
+ghost use Rattle.slotmap_core.specs.Call.{MakesRoom};
+
+use crate::layout::{Layout, Use};
+use slotmap_core::errors::ReserveError;
+use slotmap_core::limits::MOST_KEYS;
+use std::alloc::Global;
+use std::marker::{Model, PhantomData};
+
+mod access;
+mod copy;
+mod detach;
+mod insert;
+mod iter;
+mod list;
+mod pass;
+mod remove;
+mod search;
+
+pub use iter::{SlotIntoIter, SlotIter};
+
+/// The slots of a map. A contract sees them as what the map holds.
+#[derive(Drop)]
+pub struct Slots<P, L: Layout<P>> {
+    // Slot 0 is the sentinel.
+    layout: L,
+    // The first slot of the free list, or 0 if no slot is vacant.
+    first_vacant: u32,
+    // How many slots are detached or retired.
+    aside_count: u32,
+    live_count: u32,
+    payloads: PhantomData<P>,
+}
+
+impl<P, L: Layout<P>> Model for Slots<P, L> {
+    ghost use Rattle.std.specs.Prelude.{◌-◌};
+    ghost use Rattle.slotmap_core.specs.Content.{Content, content_code};
+    ghost use Rattle.slotmap_core.specs.StackMap.{content_of_places};
+    ghost use Rattle.slotmap_slots.specs.Slot.{map_of, vacancies, IsSettled};
+
+    ghost Value = { Content P };
+
+    ghost coded = { content_code P.code };
+
+    ghost view = { λ m. content_of_places (map_of (L.slots m.layout) m.first_vacant (vacancies (L.slots m.layout) m.aside_count m.live_count) (L.fits m.layout - 1)) };
+
+    ghost invariant = { λ m. IsSettled (L.slots m.layout) (L.fits m.layout) m.first_vacant m.aside_count m.live_count };
+}
+
+impl<P: Drop, L: Layout<P> + Drop> Slots<P, L> {
+    /// Makes slots with no key, with room for `capacity` keys.
+    pub fn with_capacity(alloc: Global, capacity: usize) -> Result<Self, ReserveError>
+        ensures starts { IfOk result IsNew }
+        ensures stack { IfOk result (λ made. made.stack ≡ Some []) }
+        ensures room { IfOk result (λ made. capacity ≤ made.room) }
+        ensures capacity { IfOk result (λ made. capacity ≤ made.capacity) }
+        ensures err { IfErr result (RefusesCapacity capacity) }
+        ensures valid { IfOk result (IsContent true) }
+    {
+        if capacity > MOST_KEYS {
+            return Err(ReserveError::TooGreat);
+        }
+        let mut layout = L::with_capacity(alloc, capacity + 1)?;
+        layout.push_empty(0, Use::Free(0));
+        Ok(Slots {
+            layout,
+            first_vacant: 0,
+            aside_count: 0,
+            live_count: 0,
+            payloads: PhantomData,
+        })
+    }
+}
+
+impl<P, L: Layout<P>> Slots<P, L> {
+    /// Returns the number of live keys.
+    pub fn len(&self) -> usize
+        ensures value { result ≡ map.len self.now.live }
+        ensures valid { IsContent true self.now }
+    {
+        self.live_count as usize
+    }
+
+    /// Does nothing; its contract tells a caller that what the slots hold is well formed.
+    #[inline(always)]
+    pub fn note_valid(&self)
+        ensures { IsContent true self.now }
+    {
+        let _ = &self.live_count;
+    }
+
+    /// Returns the number of slots for which memory is allocated.
+    pub fn capacity(&self) -> usize
+        ensures value { result ≡ self.now.capacity }
+        ensures valid { IsContent true self.now }
+    {
+        self.layout.capacity() - 1
+    }
+
+    /// Returns the number of slots, without the sentinel.
+    pub fn place_count(&self) -> usize
+        ensures value { result ≡ places self.now }
+        ensures valid { IsContent true self.now }
+    {
+        self.layout.len() - 1
+    }
+
+    /// Returns the number of slots that no insert can use.
+    fn used(&self) -> usize
+        ensures value { result ≡ used self.now }
+        ensures below { result ≤ most }
+        ensures fits { result ≤ self.now.capacity }
+        ensures valid { IsContent true self.now }
+    {
+        self.aside_count as usize + self.live_count as usize
+    }
+
+    /// Makes room for `additional` more keys.
+    #[inline(never)]
+    pub fn reserve(&mut self, additional: usize) -> Result<(), ReserveError>
+        ensures makes_room { MakesRoom true self.old additional (IsOk result) self.new }
+        ensures err { IfErr result (RefusesCapacity (used self.old + additional)) }
+    {
+        let used = self.used();
+        if additional > MOST_KEYS - used {
+            return Err(ReserveError::TooGreat);
+        }
+        if additional <= self.capacity() - used {
+            return Ok(());
+        }
+        let missing = additional - (self.place_count() - used);
+        self.layout.reserve(missing)?;
+        Ok(())
+    }
+
+    // Returns whether the next insert allocates nothing.
+    #[inline(always)]
+    fn has_room(&self) -> bool
+        ensures room { IsTrue result → 0 < self.now.room }
+        ensures valid { IsContent true self.now }
+    {
+        self.first_vacant != 0 || self.layout.len() < self.layout.capacity()
+    }
+
+    /// Makes room for one more key.
+    #[inline(always)]
+    pub fn make_room(&mut self) -> Result<(), ReserveError>
+        ensures makes_room { MakesRoom true self.old 1 (IsOk result) self.new }
+        ensures err { IfErr result (RefusesCapacity (used self.old + 1)) }
+    {
+        if self.has_room() {
+            return Ok(());
+        }
+        self.reserve(1)
+    }
+}

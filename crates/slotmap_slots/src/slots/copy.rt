@@ -1,0 +1,28 @@
+//! Copies.
+
+ghost use Rattle.std.specs.Prelude.{true, IfOk};
+ghost use Rattle.slotmap_core.specs.Clones.{ClonesEqual};
+ghost use Rattle.slotmap_core.specs.Content.{IsContent};
+ghost use Rattle.slotmap_core.specs.Copy.{IsCopy, IsCloneBy};
+
+use super::Slots;
+use crate::layout::CopyLayout;
+use std::alloc::AllocError;
+use std::marker::PhantomData;
+
+impl<P: Clone, L: CopyLayout<P>> Slots<P, L> {
+    /// Returns a copy, with clones of the payloads.
+    pub fn copy(&self) -> Result<Self, AllocError>
+        ensures clones { IfOk result (IsCloneBy P.is_clone self.now) }
+        ensures copies_if_clones_equal { IfOk result (λ copy. ClonesEqual P.is_clone → IsCopy self.now copy) }
+        ensures valid { IfOk result (IsContent true) }
+    {
+        Ok(Slots {
+            layout: self.layout.copy()?,
+            first_vacant: self.first_vacant,
+            aside_count: self.aside_count,
+            live_count: self.live_count,
+            payloads: PhantomData,
+        })
+    }
+}

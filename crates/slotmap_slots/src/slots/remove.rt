@@ -1,0 +1,50 @@
+//! Removals.
+
+ghost use Rattle.std.specs.Prelude.{◌≡◌, ◌+◌, ◌<◌, ◌≤◌, OnSome, IfNone, Some, true};
+ghost use Rattle.std.specs.FinMap as map;
+ghost use Rattle.slotmap_core.specs.Content.{IsLive};
+ghost use Rattle.slotmap_core.specs.Transition.{Removes};
+ghost use Rattle.slotmap_core.specs.Call.{StaysValid};
+
+use super::Slots;
+use crate::layout::{Layout, Use};
+use slotmap_core::keys::KeyData;
+
+impl<P, L: Layout<P>> Slots<P, L> {
+    /// Removes a live key and returns its payload, or `None` if the key isn't live.
+    #[tactic(auto, using(slotmap_core::proofs::ForCallers::Callers::remove_stale))]
+    pub fn remove(&mut self, key: KeyData) -> Option<P>
+        ensures value { result ≡ map.get self.old.live key }
+        ensures removes { OnSome result (Removes self.old key self.new) }
+        ensures unchanged { IfNone result (self.new ≡ self.old) }
+        ensures live { self.new.live ≡ map.remove self.old.live key }
+        ensures valid { StaysValid true self.old self.new }
+    {
+        if self.contains_key(key) {
+            Some(self.take(key))
+        } else {
+            None
+        }
+    }
+
+    /// Removes a live key and returns its payload, without checking its version.
+    pub fn take(&mut self, key: KeyData) -> P
+        requires { IsLive self.old key }
+        ensures value { map.get self.old.live key ≡ Some result }
+        ensures removes { Removes self.old key self.new }
+        ensures valid { StaysValid true self.old self.new }
+    {
+        let index = key.idx() as usize;
+        let version = key.version();
+        self.live_count -= 1;
+        if version == u32::MAX {
+            self.aside_count += 1;
+            return self.layout.take(index, 0, Use::Retired);
+        }
+        let payload = self
+            .layout
+            .take(index, version + 1, Use::Free(self.first_vacant));
+        self.first_vacant = key.idx();
+        payload
+    }
+}

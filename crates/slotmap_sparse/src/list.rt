@@ -1,0 +1,190 @@
+//! Lists of slots: a map written out, and a map read back.
+
+ghost use Rattle.std.specs.Prelude.{◌≡◌, ◌<◌, ◌≤◌, ◌^◌, ◌%◌, None, IfOk, OnOk, IsOk, IfErr, IsSome};
+ghost use Rattle.std.specs.FinMap as map;
+ghost use Rattle.slotmap_core.specs.Clones.{ClonesEqual, IsCloneOf};
+ghost use Rattle.slotmap_core.specs.Key.{Key, null_key};
+ghost use Rattle.slotmap_core.specs.Secondary.{get, keyed};
+ghost use Rattle.slotmap_core.specs.FromList.{start_live};
+ghost use Rattle.slotmap_core.specs.Accepted.{Accepts, RefusesStart};
+ghost use Rattle.slotmap_sparse.specs.Content.{IsContent};
+ghost use Rattle.slotmap_sparse.specs.Written.{ReachesLargest, Writes, WritesClones, IsCloneSlot, with_slot};
+
+use crate::SparseSecondaryMap;
+use slotmap_core::errors::{OutOfMemory, SlotsError};
+use slotmap_core::keys::{Key, KeyData};
+use slotmap_core::serial::{SlotRecord, check_slots};
+use std::alloc::Global;
+use std::hash::{BuildHasher, BuildHasherDefault};
+
+// A list that is read as a map is shorter than this.
+const LIMIT: usize = 4294967294;
+
+impl<K: Key, V: Drop, S: BuildHasher + Drop> SparseSecondaryMap<K, V, S> {
+    /// Returns the map as a list of slots, with clones of the values.
+    ///
+    /// The list has one record for index 0, and one for each further index up to the largest of a
+    /// key. The slot of a key has the value and the odd version; every other slot has no value and
+    /// version 0. The map that `from_slots` reads from the list holds the same keys with these clones.
+    ///
+    /// It fails with `OutOfMemory` if memory runs out, for the list or for a clone. Memory for the
+    /// whole list is allocated first. Takes time linear in the largest index, and clones each value
+    /// once. A map that holds a key of index 0, or of an index from 4294967293 on, writes a list that
+    /// `from_slots` rejects. In Rust `Serialize` writes the same records.
+    ///
+    /// ```
+    /// let list = map.to_slots()?;
+    /// let again: SparseSecondaryMap<DefaultKey, u64> =
+    ///     SparseSecondaryMap::from_slots(alloc, list)?;
+    /// assert!(rt; again == map);
+    /// ```
+    pub fn to_slots(&self) -> Result<Vec<SlotRecord<V>>, OutOfMemory>
+    where
+        V: Clone,
+        ensures writes { IfOk result (λ slots. WritesClones V.is_clone self.now.pairs slots.items) }
+        ensures contents { IfOk result (λ slots.
+            (k : Key) → IsCloneOf V.is_clone (get self.now.pairs k) (map.get (start_live slots.items) k)) }
+
+        // If a clone of a value always equals it, the list is that of the map itself.
+        ensures writes_if_clones_equal { IfOk result (λ slots.
+            ClonesEqual V.is_clone → Writes self.now.pairs slots.items) }
+        ensures contents_if_clones_equal { IfOk result (λ slots.
+            ClonesEqual V.is_clone → start_live slots.items ≡ keyed self.now.pairs) }
+
+        ensures valid { IsContent self.now }
+    {
+        let count = self.place_count();
+        let mut slots = Vec::with_capacity(self.alloc, count)?;
+        for index in 0..count {
+            slots.push_reserved(self.record(index as u32)?);
+        }
+        Ok(slots)
+    }
+
+    // How many slots the map is written as.
+    fn place_count(&self) -> usize
+        ensures count { ReachesLargest self.now.pairs result }
+        ensures fits { result ≤ 2 ^ 32 }
+        ensures valid { IsContent self.now }
+    {
+        let mut count = 1;
+        for key in self.keys() {
+            let places = key.data().idx() as usize + 1;
+            if places > count {
+                count = places;
+            }
+        }
+        count
+    }
+
+    // The record of this index in a list, with a clone of the value.
+    fn record(&self, index: u32) -> Result<SlotRecord<V>, OutOfMemory>
+    where
+        V: Clone,
+        ensures { IfOk result (IsCloneSlot V.is_clone (map.get self.now.pairs index)) }
+    {
+        match self.slots.get(&index) {
+            Some((version, value)) => Ok(SlotRecord {
+                value: Some(value.clone()?),
+                version: *version,
+            }),
+            None => Ok(SlotRecord {
+                value: None,
+                version: 0,
+            }),
+        }
+    }
+
+    /// Makes the map that a list of slots describes, with this hasher.
+    ///
+    /// Each odd version is that of a key, whose index is the position in the list; its value is
+    /// moved into the map. A slot of an even version is vacant.
+    ///
+    /// If it fails, the list is dropped. The first of these errors that applies is returned:
+    ///
+    /// - `TooMany`: the list has 4294967294 slots or more.
+    /// - `FirstNotEmpty`: the list is empty, or its first version is odd.
+    /// - `Inconsistent`, with the smallest position of a slot that has a value and an even version,
+    ///   or no value and an odd one.
+    /// - `Memory`: the allocation failed.
+    ///
+    /// Takes time linear in the length of the list, in two passes. In Rust `Deserialize` reads such
+    /// a list, for a hasher that has a default. For a list that a stranger wrote, use a
+    /// `RandomState`.
+    ///
+    /// ```
+    /// let hasher = std::hash::RandomState::new(&rt)?;
+    /// let list = map.to_slots()?;
+    /// let read = SparseSecondaryMap::from_slots_with_hasher(alloc, list, hasher)?;
+    /// assert_eq!(rt; read[a], 1);
+    /// ```
+    pub fn from_slots_with_hasher(
+        alloc: Global,
+        list: Vec<SlotRecord<V>>,
+        hash_builder: S,
+    ) -> Result<Self, SlotsError>
+        ensures contents { IfOk result (λ made. keyed made.pairs ≡ start_live list.items) }
+        ensures valid { IfOk result IsContent }
+
+        // When it fails: the first error that applies.
+        ensures accepted { IsOk result → Accepts list.items 4294967294 }
+        ensures err { IfErr result (RefusesStart list.items 4294967294) }
+    {
+        check_slots(&list, LIMIT)?;
+        let mut made = SparseSecondaryMap::empty(alloc, hash_builder);
+        let mut index = 0;
+        let records = list.into_iter();
+        for slot in records {
+            made.read(index, slot)?;
+            index += 1;
+        }
+        Ok(made)
+    }
+
+    // Puts the value of a slot under the key of its version at this index, which is vacant.
+    fn read(&mut self, index: u32, slot: SlotRecord<V>) -> Result<(), SlotsError>
+        requires below { index < null_key.index }
+        requires odd { IsSome slot.value → slot.version % 2 ≡ 1 }
+        requires absent { map.get self.old.pairs index ≡ None }
+        ensures ok { OnOk result (self.new.pairs ≡ with_slot self.old.pairs index slot) }
+        ensures err { IfErr result (λ error. error ≡ SlotsError.Memory) }
+        ensures valid { IsContent self.new }
+    {
+        // Reads the map, for the clause `valid`.
+        let _ = self.len();
+        let SlotRecord { value, version } = slot;
+        let Some(value) = value else {
+            return Ok(());
+        };
+        let key = K::from(KeyData::new(index, version));
+        match self.add(key, value) {
+            Ok(()) => Ok(()),
+            Err(_) => Err(SlotsError::Memory),
+        }
+    }
+}
+
+impl<K: Key, V: Drop> SparseSecondaryMap<K, V> {
+    /// Makes the map that a list of slots describes, with the default hasher.
+    ///
+    /// It does the same as [`SparseSecondaryMap::from_slots_with_hasher`]. Call that one if a
+    /// stranger wrote the list: the default hasher's seed is fixed and public.
+    ///
+    /// ```
+    /// let list = vec![in alloc; SlotRecord { value: None, version: 0 },
+    ///     SlotRecord { value: Some(5), version: 1 }]?;
+    /// let read: SparseSecondaryMap<DefaultKey, u64> =
+    ///     SparseSecondaryMap::from_slots(alloc, list)?;
+    /// assert_eq!(rt; read.get(a).copied(), Some(5));
+    /// ```
+    pub fn from_slots(alloc: Global, list: Vec<SlotRecord<V>>) -> Result<Self, SlotsError>
+        ensures contents { IfOk result (λ made. keyed made.pairs ≡ start_live list.items) }
+        ensures valid { IfOk result IsContent }
+
+        // When it fails: the first error that applies.
+        ensures accepted { IsOk result → Accepts list.items 4294967294 }
+        ensures err { IfErr result (RefusesStart list.items 4294967294) }
+    {
+        SparseSecondaryMap::from_slots_with_hasher(alloc, list, BuildHasherDefault::new())
+    }
+}
