@@ -23,7 +23,7 @@ from sources import items_of
 LINK = re.compile(r"!?\[((?:[^\[\]]|\[[^\]]*\])*)\]\(([^)\s]+)\)")
 ITEM = re.compile(r"\b(pub|impl|fn|struct|enum|trait|ghost)\b")
 # Where a path in code may begin, besides the top and the page's own folder.
-ROOTS = ["crates", "crates/*", "crates/slotmap_core/src"]
+ROOTS = ["crates", "crates/*", "crates/slotmap_core/src", "crates/slotmap_slots/src"]
 # Paths that a page names and that aren't of the repository: those of templates, of examples, and of other machines.
 OTHERS = ("proofs/echo", "src/clock.rt", "src/lib.rs", "proofs/MAP", "CRATE/", "OUT/", "/usr/", "crates/slotrun/out/", "proofs/find_key",
           "proofs/fill", "proofs/count_reads", "proofs/tour")
@@ -109,7 +109,7 @@ def words_of_specs():
     """The names that definitions and lemmas declare, and the fields of records."""
     found = set()
     for path in glob.glob(os.path.join(TOP, "crates/*/specs/**/*.antt"), recursive=True) + glob.glob(
-        os.path.join(TOP, "crates/*/proofs/*.antt")
+        os.path.join(TOP, "crates/*/proofs/**/[A-Z]*.antt"), recursive=True
     ):
         with open(path, encoding="utf-8") as file:
             found |= set(re.findall(r"^\s*(?:abbrev |unfoldable )?pub (?:record |data |abbrev )?([\w-]+)", file.read(), re.M))

@@ -11,27 +11,28 @@ from svg import BLUE, FOLDER, GREEN, INK, ORANGE, RED, SOFT, Picture
 # Where each crate is: its column and row, and what it has.
 CRATES = {
     "slotmap_core": (3.0, 0, "keys, errors, traits, lists of slots, definitions"),
-    "slotmap_json": (0, 1, "JSON"),
-    "slotmap_secondary": (1, 1, "SecondaryMap"),
-    "slotmap_sparse": (2, 1, "SparseSecondaryMap"),
-    "slotmap_basic": (3, 1, "SlotMap"),
-    "slotmap_dense": (4, 1, "DenseSlotMap"),
-    "slotmap_hop": (5, 1, "HopSlotMap"),
-    "slotmap_run": (6, 1, "runs of commands"),
-    "slotmap_rows": (0.5, 2, "reads rows of tests"),
-    "slotmap": (2, 2, "the library to use: all names"),
-    "slotrun": (5, 2, "program: runs scripts"),
-    "primary_rows": (0.5, 3, "checks the primary maps"),
-    "secondary_rows": (2.2, 3, "checks the secondary maps"),
-    "joined_rows": (3.85, 3, "checks runs on two maps"),
-    "slotmap_uses": (5.5, 3, "five structures on the maps"),
-    "slotdemo": (5.5, 4, "program: a demonstration"),
+    "slotmap_slots": (3.5, 1, "slots over a layout, for two maps"),
+    "slotmap_json": (0, 2, "JSON"),
+    "slotmap_secondary": (1, 2, "SecondaryMap"),
+    "slotmap_sparse": (2, 2, "SparseSecondaryMap"),
+    "slotmap_basic": (3, 2, "SlotMap"),
+    "slotmap_dense": (4, 2, "DenseSlotMap"),
+    "slotmap_hop": (5, 2, "HopSlotMap"),
+    "slotmap_run": (6, 2, "runs of commands"),
+    "slotmap_rows": (0.5, 3, "reads rows of tests"),
+    "slotmap": (2, 3, "the library to use: all names"),
+    "slotrun": (5, 3, "program: runs scripts"),
+    "primary_rows": (0.5, 4, "checks the primary maps"),
+    "secondary_rows": (2.2, 4, "checks the secondary maps"),
+    "joined_rows": (3.85, 4, "checks runs on two maps"),
+    "slotmap_uses": (5.5, 4, "five structures on the maps"),
+    "slotdemo": (5.5, 5, "program: a demonstration"),
 }
 COLORS = {
     "slotmap": BLUE, "slotrun": ORANGE, "primary_rows": GREEN, "secondary_rows": RED, "joined_rows": SOFT, "slotmap_uses": BLUE,
     "slotdemo": ORANGE,
 }
-PITCH, LEFT, TOPS = 152, 22, [598, 460, 316, 186, 66]
+PITCH, LEFT, TOPS = 152, 22, [698, 598, 460, 316, 186, 66]
 HEIGHT = 56
 
 
@@ -60,7 +61,7 @@ if set(uses) != set(CRATES):
 
 picture = Picture(
     1102,
-    678,
+    778,
     "The crates and which of them uses which",
     "; ".join(f"{name} uses {', '.join(sorted(others))}" for name, others in sorted(uses.items()) if others),
 )
@@ -68,7 +69,7 @@ picture.text(22, 38, "The crates: an arrow points to a crate that is used", 18, 
 
 
 def width_of(name):
-    return 6 * PITCH + 146 if name == "slotmap_core" else 244 if CRATES[name][1] >= 2 and name != "slotmap_rows" else 146
+    return 6 * PITCH + 146 if name == "slotmap_core" else PITCH + 146 if name == "slotmap_slots" else 244 if CRATES[name][1] >= 3 and name != "slotmap_rows" else 146
 
 
 def middle_of(name):
@@ -89,6 +90,9 @@ for name in uses:
         if to == "slotmap_core":
             x = middle_of(name)
             picture.arrow([(x, TOPS[CRATES[name][1]] + HEIGHT), (x, TOPS[0])], SOFT, 1.5)
+        elif to == "slotmap_slots":
+            x = middle_of(name)
+            picture.arrow([(x, TOPS[CRATES[name][1]] + HEIGHT), (x, TOPS[1])], SOFT, 1.5)
         else:
             level, shift = LEVELS[name]
             drop(name, to, shift, TOPS[CRATES[name][1]] + HEIGHT + level, COLORS[name])

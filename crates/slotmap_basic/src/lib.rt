@@ -67,7 +67,7 @@ use std::marker::{Model, PhantomData};
 /// ```
 #[derive(Drop)]
 pub struct SlotMap<K, V> {
-    // Versions, links and values, each in a vector of its own.
+    // Versions, uses and values, each in a vector of its own.
     slots: Slots<V, Columns<V>>,
     key_type: PhantomData<K>,
 }

@@ -91,7 +91,7 @@ pub slot_list-length : {P : Type 0} {vs ns : List ℕ} {xs : List (Option P)} {n
     → record { slots = zip_slots vs (uses_of vs ns) xs; capacity = n } ≡ l → (length l.slots ≡ length vs) × (l.capacity ≡ n)
 slot_list-length {P} {vs} {ns} {xs} columns view = grind (arith, zip-length, uses-length)
 
--- what the tactics need of three vectors of one length, whose links are numbers
+-- what the tactics need of three vectors of one length, whose uses are numbers
 pub slot_list-known : {P : Type 0} (vs ns : List ℕ) (xs : List (Option P)) → length ns ≡ length vs → length xs ≡ length vs
     → (zip_slots vs (uses_of vs ns) xs ≡ zip_slots vs (uses_of vs ns) xs) × (length (zip_slots vs (uses_of vs ns) xs) ≡ length vs)
     × ((i : ℕ) → version_at (zip_slots vs (uses_of vs ns) xs) i ≡ slice_get vs i)

@@ -95,7 +95,7 @@ HasEachOdd-slots {P} vs ls xs same_l same_x each = λ i v there odd.
     by (Some (Some p)) is = (p, refl)
 
 module _ {K P : Type 0} (data_of : K → Key) where
-  -- two vectors are slots, with any links
+  -- two vectors are slots, with any uses
   pub Lifts-columns : (vs : List ℕ) (ls : List Use) → length ls ≡ length vs
       → Lifts (in_columns {P = P} data_of vs) (in_slots data_of) (zip_slots vs ls) (λ xs. length xs ≡ length vs)
   Lifts-columns vs ls same_l = record {

@@ -13,7 +13,7 @@ use Rattle.slotmap_core.specs.StackMap.{content_of_places, used_places}
 use Rattle.slotmap_slots.specs.Slot.{Slot, full, version_at, payload_at, NoneLive, with_payload, places_of, IsSound, vacancies, IsSettled, map_of}
 use Rattle.slotmap_core.proofs.General.ListLemmas.{past_end, mapped_none}
 use Rattle.slotmap_core.proofs.Places.PlacesLemmas.{key}
-use Rattle.slotmap_slots.proofs.SlotLemmas.{Present, present, live_slot, get-live_slot, rewritten, reattached, with_payload-is, valid, slots_fit, used_places-slots, free_below}
+use Rattle.slotmap_slots.proofs.SlotLemmas.{Present, present, count_positive, live_slot, get-live_slot, rewritten, reattached, with_payload-is, valid, slots_fit, used_places-slots, free_below}
 use Rattle.slotmap_core.proofs.Contents.StepLemmas.{keeps}
 use Rattle.slotmap_slots.proofs.SlotGrowth.{PresentDetached, present_detached, some_free}
 
@@ -25,6 +25,9 @@ module _ {P : Type 0} {slots : List (Slot P)} {fits head aside count : ℕ} (set
 
   pub settled_present : (k : Key) → IsLive now k → Present settled.sound k
   settled_present k is_live = present settled.sound k (ap (λ c. map.contains_key c.live k) view ∙ is_live)
+
+  pub settled_positive : (k : Key) → IsLive now k → 1 ≤ count
+  settled_positive k is_live = count_positive settled.sound _ _ _ (settled_present k is_live).there
 
   -- the payload that is read at the index of a live key is its value
   pub settled_value : (k : Key) → IsLive now k → (i : ℕ) → i ≡ k.index → (x : P) → payload_at slots i ≡ Some x → map.get now.live k ≡ Some x
@@ -38,8 +41,7 @@ module _ {P : Type 0} {slots : List (Slot P)} {fits head aside count : ℕ} (set
   aside_positive k out w =
       let free = vacancies slots aside count in
       let found = settled_aside k out in
-      let after = free_below
-      (reattached settled.sound k.index found.own_version k.version found.there found.before w).sound in
+      let after = free_below (reattached settled.sound k.index found.own_version k.version found.there found.before w).sound in
       omega (arith, after, length-set slots k.index (full k.version w), settled.fewer)
 
   pub settled_room : 0 < now.room → (used_places (places_of slots) < most) × (length slots < fits + vacancies slots aside count)

@@ -84,11 +84,11 @@ module _ {P : Type 0} {slots : List (Slot P)} {head free count : ℕ} (sound : I
     pub there : slice_get slots head ≡ Some (empty version (Free next))
     pub linked : IsFreeList slots rest next
 
-  pub top : 0 < free → Top
-  top positive = by sound.stack refl sound.linked sound.counted
+  pub top : head ≢ 0 → Top
+  top other = by sound.stack refl sound.linked sound.counted
     where
       by : (is : List ℕ) → sound.stack ≡ is → IsFreeList slots is head → length is ≡ free → Top
-      by [] same linked counted = absurd (omega arith)
+      by [] same linked counted = absurd (other linked)
       by (i ∷ is) same linked counted =
           let here : usage_at slots head ≡ Some (Free linked.1.0) = ap (usage_at slots) linked.0 ∙ linked.1.1 in
           let s = mapped (λ s. s.usage) (slice_get slots head) (Free linked.1.0) here in
@@ -112,8 +112,9 @@ module _ {P : Type 0} {slots : List (Slot P)} {head free count : ℕ} {sound : I
   pub top_version : IsVersion (t.version + 1)
   top_version = sound.stacked.versions head (Vacant (t.version + 1)) top_place
 
-  pub top_read : version_at slots head ≡ Some t.version
-  top_read = ap (option_map (λ s. s.version)) t.there
+  -- what is read there
+  pub top_read : {v : ℕ} → version_at slots head ≡ Some v → v ≡ t.version
+  top_read read = same_Some _ _ (sym read ∙ ap (option_map (λ s. s.version)) t.there)
 
   pub top_next : next_at slots head ≡ Some t.next
   top_next = ap (option_and_then (λ s. next_of s.usage)) t.there

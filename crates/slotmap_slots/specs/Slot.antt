@@ -21,7 +21,7 @@ next_of Detached = None
 next_of Retired = None
 next_of InUse = None
 
--- A slot that isn't in use can have this version and this link. A retired slot has version 0, and of the free ones the sentinel
+-- A slot that isn't in use can have this version and this use. A retired slot has version 0, and of the free ones the sentinel
 -- alone, which names itself. No slot has the last index
 pub record FitsEmpty (version : ℕ) (usage : Use) : Type 0 where
   pub even : version % 2 ≡ 0

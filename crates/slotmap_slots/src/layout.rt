@@ -30,7 +30,7 @@ pub enum Use {
     Retired,
 }
 
-/// A list of slots in memory: each has a version, a link and, if it is in use, a payload.
+/// A list of slots in memory: each has a version, a use and, if it is in use, a payload.
 ///
 /// `Columns` keeps three vectors, `Rows` one. `Slots` says what a map means by its slots. A layout
 /// says only what each call does to the list.
@@ -78,7 +78,7 @@ pub trait Layout<P>: Sized {
         requires { index < length (slots self.now) }
         ensures { version_at (slots self.now) index ≡ Some result };
 
-    /// Returns the link at an index.
+    /// Returns what the slot at an index is used for.
     fn usage(&self, index: usize) -> Use
         requires { index < length (slots self.now) }
         ensures { usage_at (slots self.now) index ≡ Some result };
@@ -99,7 +99,7 @@ pub trait Layout<P>: Sized {
         ensures* writes_back { sem 𝓛 (lends_payload Self.row P.row with_payload_at self.entry index result) }
         ensures value { payload_at (slots self.old) index ≡ Some result.now };
 
-    /// Takes out the payload at an index, and leaves this version and link there.
+    /// Takes out the payload at an index, and leaves this version and use there.
     fn take(&mut self, index: usize, version: u32, usage: Use) -> P
         requires there { IsSome (payload_at (slots self.old) index) }
         requires out { FitsEmpty version usage }

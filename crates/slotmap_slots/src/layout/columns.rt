@@ -15,7 +15,7 @@ use slotmap_core::sure::{sure, sure_mut};
 use std::alloc::{AllocError, Global};
 use std::marker::Model;
 
-/// Versions, links and payloads, each in a vector of its own. A link takes 4 bytes.
+/// Versions, uses and payloads, each in a vector of its own. A use takes 4 bytes.
 ///
 /// An iterator reads only the versions, and a look-up a version and a payload.
 #[derive(Drop)]

@@ -16,10 +16,10 @@ struct Row {
     number: u32,
 }
 
-/// Versions, links and payloads side by side in one vector.
+/// Versions, uses and payloads side by side in one vector.
 ///
 /// A look-up reads one spot of memory. A payload is a number, such as a position in another vector,
-/// and lies where a vacant slot has its link. So a slot takes 8 bytes.
+/// and lies where a vacant slot names the next. So a slot takes 8 bytes.
 #[derive(Drop)]
 pub struct Rows {
     rows: Vec<Row>,

@@ -43,30 +43,28 @@ pub returns-then-self-eq0-clause-valid : goal.returns-then-self-eq0-clause-valid
 returns-then-self-eq0-clause-valid g c = settled_stays _ _ _ _ _ c.self.invariant c.self.view_is _ _ _ _ _ (invariant_of-self g c) c.push.ensures.same_room
 
 pub version-version-requires : goal.version-version-requires
-version-version-requires g c = slice_get_within _ _ _ (top c.self.invariant.sound (some_free c.self.invariant.sound c.if-self-eq0.false)).there
+version-version-requires g c = slice_get_within _ _ _ (top c.self.invariant.sound c.if-self-eq0.false).there
 
 pub overflow_add-version : goal.overflow_add-version
 overflow_add-version g c =
-    let t = top c.self.invariant.sound (some_free c.self.invariant.sound c.if-self-eq0.false) in
-    let read = same_Some _ _ (sym c.version-version.ensures ∙ top_read t) in
-    omega (arith, (top_version t).0)
+    let t = top c.self.invariant.sound c.if-self-eq0.false in
+    omega (arith, (top_version t).0, top_read t c.version-version.ensures)
 
 pub next_free-self-inside-requires : goal.next_free-self-inside-requires
-next_free-self-inside-requires g c = ap is_some (top_next (top c.self.invariant.sound (some_free c.self.invariant.sound c.if-self-eq0.false)))
+next_free-self-inside-requires g c = ap is_some (top_next (top c.self.invariant.sound c.if-self-eq0.false))
 
 pub put-requires-clause-odd : goal.put-requires-clause-odd
 put-requires-clause-odd g c =
-    let t = top c.self.invariant.sound (some_free c.self.invariant.sound c.if-self-eq0.false) in
-    let read = same_Some _ _ (sym c.version-version.ensures ∙ top_read t) in
-    omega (arith, (top_version t).1)
+    let t = top c.self.invariant.sound c.if-self-eq0.false in
+    omega (arith, (top_version t).1, top_read t c.version-version.ensures)
 
 pub put-requires-clause-within : goal.put-requires-clause-within
-put-requires-clause-within g c = slice_get_within _ _ _ (top c.self.invariant.sound (some_free c.self.invariant.sound c.if-self-eq0.false)).there
+put-requires-clause-within g c = slice_get_within _ _ _ (top c.self.invariant.sound c.if-self-eq0.false).there
 
 pub exact-requires-2 : goal.exact-requires-2
 exact-requires-2 g c =
-    let t = top c.self.invariant.sound (some_free c.self.invariant.sound c.if-self-eq0.false) in
-    let read = same_Some _ _ (sym c.version-version.ensures ∙ top_read t) in
+    let t = top c.self.invariant.sound c.if-self-eq0.false in
+    let read = top_read t c.version-version.ensures in
     let good = top_version t in
     let within : c.self.inside.first_vacant < length (g.L.Layout.slots c.self.inside.layout) = slice_get_within _ _ _ t.there in
     let fits = settled_fits c.self.invariant c.self.view_is in
@@ -74,22 +72,21 @@ exact-requires-2 g c =
 
 pub invariant_of-self-2 : goal.invariant_of-self-2
 invariant_of-self-2 g c =
-    let t = top c.self.invariant.sound (some_free c.self.invariant.sound c.if-self-eq0.false) in
-    let read = same_Some _ _ (sym c.version-version.ensures ∙ top_read t) in
+    let t = top c.self.invariant.sound c.if-self-eq0.false in
+    let read = top_read t c.version-version.ensures in
     let next = same_Some _ _ (sym c.next_free-self-inside.ensures ∙ top_next t) in
     rw (c.put.ensures.put, c.put.ensures.same_room, read, next)
     (settled-set _ _ _ _ _ c.self.invariant _ _ (filled_top t c.args.payload).sound _ (omega (arith, some_free c.self.invariant.sound c.if-self-eq0.false)))
 
 pub returns-clause-value : goal.returns-clause-value
 returns-clause-value g c =
-    let t = top c.self.invariant.sound (some_free c.self.invariant.sound c.if-self-eq0.false) in
-    let read = same_Some _ _ (sym c.version-version.ensures ∙ top_read t) in
-    c.exact-2.ensures ∙ ap (λ v. key c.self.inside.first_vacant (v + 1)) read ∙ sym (ap (λ m. m.offer) (sym c.self.view_is) ∙ offer-top t)
+    let t = top c.self.invariant.sound c.if-self-eq0.false in
+    c.exact-2.ensures ∙ ap (λ v. key c.self.inside.first_vacant (v + 1)) (top_read t c.version-version.ensures) ∙ sym (ap (λ m. m.offer) (sym c.self.view_is) ∙ offer-top t)
 
 pub returns-clause-inserts : goal.returns-clause-inserts
 returns-clause-inserts g c =
-    let t = top c.self.invariant.sound (some_free c.self.invariant.sound c.if-self-eq0.false) in
-    let read = same_Some _ _ (sym c.version-version.ensures ∙ top_read t) in
+    let t = top c.self.invariant.sound c.if-self-eq0.false in
+    let read = top_read t c.version-version.ensures in
     let next = same_Some _ _ (sym c.next_free-self-inside.ensures ∙ top_next t) in
     let room = settled_room c.self.invariant c.self.view_is c.requires in
     let m = c.self.inside in

@@ -1,23 +1,23 @@
 use Rattle.std.proofs.Common.{◌+◌, ◌<◌, length, ap, sym, ◌∙◌, arith}
-use Rattle.std.proofs.lemmas.Option.{slice_get_within, same_Some}
+use Rattle.std.proofs.lemmas.Option.{slice_get_within}
 use Rattle.slotmap_core.proofs.Places.PlacesLemmas.{key}
-use Rattle.slotmap_slots.proofs.SlotGrowth.{some_free, top, top_version, top_read, offer-new, offer-top}
+use Rattle.slotmap_slots.proofs.SlotGrowth.{top, top_version, top_read, offer-new, offer-top}
 use Rattle.slotmap_slots.proofs.SettledLemmas.{settled_fits}
 use Rattle.slotmap_slots.proofs.slots.Slots.next_key.Goals as goal
 
 pub version-requires : goal.version-requires
-version-requires g c = slice_get_within _ _ _ (top c.self.invariant.sound (some_free c.self.invariant.sound c.if-self-eq0.false)).there
+version-requires g c = slice_get_within _ _ _ (top c.self.invariant.sound c.if-self-eq0.false).there
 
 pub overflow_add-version : goal.overflow_add-version
 overflow_add-version g c =
-    let t = top c.self.invariant.sound (some_free c.self.invariant.sound c.if-self-eq0.false) in
-    let read = same_Some _ _ (sym c.version.ensures ∙ top_read t) in
+    let t = top c.self.invariant.sound c.if-self-eq0.false in
+    let read = top_read t c.version.ensures in
     omega (arith, (top_version t).0)
 
 pub exact-requires-2 : goal.exact-requires-2
 exact-requires-2 g c =
-    let t = top c.self.invariant.sound (some_free c.self.invariant.sound c.if-self-eq0.false) in
-    let read = same_Some _ _ (sym c.version.ensures ∙ top_read t) in
+    let t = top c.self.invariant.sound c.if-self-eq0.false in
+    let read = top_read t c.version.ensures in
     let good = top_version t in
     let within : c.self.inside.first_vacant < length (g.L.Layout.slots c.self.inside.layout) = slice_get_within _ _ _ t.there in
     let fits = settled_fits c.self.invariant c.self.view_is in
@@ -29,6 +29,6 @@ returns-then-self-eq0 g c =
 
 pub returns : goal.returns
 returns g c =
-    let t = top c.self.invariant.sound (some_free c.self.invariant.sound c.if-self-eq0.false) in
-    let read = same_Some _ _ (sym c.version.ensures ∙ top_read t) in
+    let t = top c.self.invariant.sound c.if-self-eq0.false in
+    let read = top_read t c.version.ensures in
     c.exact-2.ensures ∙ ap (λ v. key c.self.inside.first_vacant (v + 1)) read ∙ sym (ap (λ m. m.offer) (sym c.self.view_is) ∙ offer-top t)

@@ -2,13 +2,12 @@ use Rattle.std.proofs.Common.{◌≡◌, ◌+◌, ◌-◌, true, false, nat_eq, 
 use Rattle.slotmap_core.specs.Key.{last_version}
 use Rattle.slotmap_slots.specs.Slot.{empty, vacancies}
 use Rattle.slotmap_slots.specs.declared.layout.Use.TheVariants.{Free, Retired}
-use Rattle.slotmap_slots.proofs.SlotLemmas.{FitsEmpty-free, head_fits, count_positive, freed, removes-freed, retired, removes-retired}
-use Rattle.slotmap_slots.proofs.SettledLemmas.{settled_stays, settled_present, vacancies-set, settled-set, settled_value}
+use Rattle.slotmap_slots.proofs.SlotLemmas.{FitsEmpty-free, head_fits, freed, removes-freed, retired, removes-retired}
+use Rattle.slotmap_slots.proofs.SettledLemmas.{settled_stays, settled_present, settled_positive, vacancies-set, settled-set, settled_value}
 use Rattle.slotmap_slots.proofs.slots.Slots.take.Goals as goal
 
 pub overflow_sub-self : goal.overflow_sub-self
-overflow_sub-self g c =
-    count_positive c.self.invariant.sound _ _ _ (settled_present c.self.invariant c.self.view_is c.args.key c.requires).there
+overflow_sub-self g c = settled_positive c.self.invariant c.self.view_is c.args.key c.requires
 
 pub take-requires-clause-there : goal.take-requires-clause-there
 take-requires-clause-there g c =
@@ -18,7 +17,7 @@ pub invariant_of-self : goal.invariant_of-self
 invariant_of-self g c =
     let found = settled_present c.self.invariant c.self.view_is c.args.key c.requires in
     let last : nat_eq c.args.key.version last_version ≡ true = eq-eqb _ _ (sym c.version-version.ensures.value ∙ c.if-version.true) in
-    let positive = count_positive c.self.invariant.sound _ _ _ found.there in
+    let positive = settled_positive c.self.invariant c.self.view_is c.args.key c.requires in
     rw (c.take.ensures.left, c.take.ensures.same_room, c.idx-index.ensures.value)
     (settled-set _ _ _ _ _ c.self.invariant _ _ (retired c.self.invariant.sound _ _ _ found.there last).sound _ (omega (arith, positive, c.self.invariant.fewer)))
 
@@ -29,7 +28,7 @@ pub returns-then-version-clause-removes : goal.returns-then-version-clause-remov
 returns-then-version-clause-removes g c =
     let found = settled_present c.self.invariant c.self.view_is c.args.key c.requires in
     let last : nat_eq c.args.key.version last_version ≡ true = eq-eqb _ _ (sym c.version-version.ensures.value ∙ c.if-version.true) in
-    let positive = count_positive c.self.invariant.sound _ _ _ found.there in
+    let positive = settled_positive c.self.invariant c.self.view_is c.args.key c.requires in
     let m = c.self.inside in
     let free = vacancies-set (g.L.Layout.slots m.layout) c.args.key.index (empty 0 Retired)
     (vacancies (g.L.Layout.slots m.layout) m.aside_count m.live_count) (m.aside_count + 1) (m.live_count - 1)
@@ -52,7 +51,7 @@ pub invariant_of-self-2 : goal.invariant_of-self-2
 invariant_of-self-2 g c =
     let found = settled_present c.self.invariant c.self.view_is c.args.key c.requires in
     let other : nat_eq c.args.key.version last_version ≡ false = ne_eqb _ _ (λ e. c.if-version.false (c.version-version.ensures.value ∙ e)) in
-    let positive = count_positive c.self.invariant.sound _ _ _ found.there in
+    let positive = settled_positive c.self.invariant c.self.view_is c.args.key c.requires in
     rw (c.take-payload.ensures.left, c.take-payload.ensures.same_room, c.idx-index.ensures.value, c.version-version.ensures.value, c.idx-self-inside.ensures.value)
     (settled-set _ _ _ _ _ c.self.invariant _ _ (freed c.self.invariant.sound _ _ _ found.there other).sound _ (omega (arith, positive, c.self.invariant.fewer)))
 
@@ -63,7 +62,7 @@ pub returns-clause-removes : goal.returns-clause-removes
 returns-clause-removes g c =
     let found = settled_present c.self.invariant c.self.view_is c.args.key c.requires in
     let other : nat_eq c.args.key.version last_version ≡ false = ne_eqb _ _ (λ e. c.if-version.false (c.version-version.ensures.value ∙ e)) in
-    let positive = count_positive c.self.invariant.sound _ _ _ found.there in
+    let positive = settled_positive c.self.invariant c.self.view_is c.args.key c.requires in
     let m = c.self.inside in
     let free = vacancies-set (g.L.Layout.slots m.layout) c.args.key.index (empty (c.args.key.version + 1) (Free m.first_vacant))
     (vacancies (g.L.Layout.slots m.layout) m.aside_count m.live_count + 1) m.aside_count (m.live_count - 1)

@@ -1,13 +1,12 @@
 use Rattle.std.proofs.Common.{◌+◌, ◌-◌, ◌%◌, ◌^◌, is_some, ap, arith}
 use Rattle.slotmap_slots.specs.Slot.{empty, vacancies}
 use Rattle.slotmap_slots.specs.declared.layout.Use.TheVariants.{Detached}
-use Rattle.slotmap_slots.proofs.SlotLemmas.{count_positive, detached, detaches-slots}
-use Rattle.slotmap_slots.proofs.SettledLemmas.{settled_stays, settled_present, vacancies-set, settled-set, settled_value}
+use Rattle.slotmap_slots.proofs.SlotLemmas.{detached, detaches-slots}
+use Rattle.slotmap_slots.proofs.SettledLemmas.{settled_stays, settled_present, settled_positive, vacancies-set, settled-set, settled_value}
 use Rattle.slotmap_slots.proofs.slots.Slots.take_detached.Goals as goal
 
 pub overflow_sub-self : goal.overflow_sub-self
-overflow_sub-self g c =
-    count_positive c.self.invariant.sound _ _ _ (settled_present c.self.invariant c.self.view_is c.args.key c.requires).there
+overflow_sub-self g c = settled_positive c.self.invariant c.self.view_is c.args.key c.requires
 
 pub take-requires-clause-there : goal.take-requires-clause-there
 take-requires-clause-there g c = rw c.idx.ensures.value (ap is_some (settled_present c.self.invariant c.self.view_is c.args.key c.requires).read)
@@ -15,7 +14,7 @@ take-requires-clause-there g c = rw c.idx.ensures.value (ap is_some (settled_pre
 pub invariant_of-self : goal.invariant_of-self
 invariant_of-self g c =
     let found = settled_present c.self.invariant c.self.view_is c.args.key c.requires in
-    let positive = count_positive c.self.invariant.sound _ _ _ found.there in
+    let positive = settled_positive c.self.invariant c.self.view_is c.args.key c.requires in
     rw (c.take.ensures.left, c.take.ensures.same_room, c.idx.ensures.value, c.version-after.ensures.value)
     (settled-set _ _ _ _ _ c.self.invariant _ _ (detached c.self.invariant.sound _ _ _ found.there).sound _ (omega (arith, positive, c.self.invariant.fewer)))
 
@@ -25,7 +24,7 @@ returns-clause-value g c = settled_value c.self.invariant c.self.view_is c.args.
 pub returns-clause-detaches : goal.returns-clause-detaches
 returns-clause-detaches g c =
     let found = settled_present c.self.invariant c.self.view_is c.args.key c.requires in
-    let positive = count_positive c.self.invariant.sound _ _ _ found.there in
+    let positive = settled_positive c.self.invariant c.self.view_is c.args.key c.requires in
     let m = c.self.inside in
     let free = vacancies-set (g.L.Layout.slots m.layout) c.args.key.index (empty ((c.args.key.version + 1) % 2 ^ 32) Detached)
     (vacancies (g.L.Layout.slots m.layout) m.aside_count m.live_count) (m.aside_count + 1) (m.live_count - 1)

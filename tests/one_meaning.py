@@ -1,0 +1,112 @@
+#!/usr/bin/env python3
+# tests/one_meaning.py [--check]
+#
+# Lists the names of files, and the words that specs/ declare, that stand twice in the repository and aren't known to have one meaning. The lists
+# below give for each name or word that stands twice the meaning that all its places have. The status is 0 if nothing is listed.
+import collections
+import glob
+import os
+import re
+import sys
+
+TOP = os.path.dirname(os.path.dirname(os.path.abspath(__file__)))
+
+# Each of these files is about one call, or one kind of calls, of its crate's map. In slotmap_slots it has that part for two maps
+CALLS = 'access clear clone detach drain entry equal extend find insert into_iter iter list primary remove retain secondary'.split()
+
+SOURCES = {
+    'lib main tests': 'the root of a crate, or of its tests',
+    ' '.join(CALLS): 'that call of a map; for primary and secondary, of the trait',
+    'call maps keyed many sized held lists runs kinds walks steps replies stop script': 'that part of a program that reads rows or scripts, or of a run',
+    'commands errors keys joined json clones scheduler packed': 'that subject: its definition, its tests, or an example of it',
+    'links search rows': 'links of nodes or slots; a search along them; rows of a layout or of a file',
+}
+
+LEMMAS = {
+    'Callers': 'what callers cite: of the core, and by the facade',
+    'CloneLemmas': 'clones of values',
+    'ContentLemmas': 'what a map holds',
+    'DrainLemmas': 'drains',
+    'FromListLemmas': 'a map that is read from a list of slots',
+    'IterLemmas': 'iterators',
+    'PassLemmas': 'passes of a closure',
+    'RetainLemmas': '`retain`',
+    'SettledLemmas': 'what calls know of slots between calls, by what the map holds',
+    'SlotLemmas': 'the slots of a map in memory',
+    'WellFormed': 'a map stays well formed',
+    'WrittenLemmas': 'the list of slots that a map is written as',
+}
+
+SPECS = {
+    'Call': 'what calls ensure, whatever they return',
+    'Content': 'what a map holds',
+    'Drain': 'drains',
+    'Entry': 'entries',
+    'Extend': 'calls that put many pairs',
+    'Found': 'what a look-up finds',
+    'Iter': 'iterators',
+    'Lends': 'what a map ends as once a reference into it ends',
+    'Pass': 'passes of a closure',
+    'Retain': '`retain`',
+    'Slots': 'the slots of a map in memory',
+    'Written': 'the list of slots that a map is written as',
+}
+
+WORDS = {
+    'lends_value lends_get entry_lends occupied_lends rests_if_err': 'what is left once the reference to a value ends',
+    'IsSound IsContent IsIter IsInPlace': 'what always holds, of slots, of a content, of an iterator, of an entry',
+    'Content content_code content_of with_value value_of used retired pairs_of': 'the same of each kind of map, and of the states of its machine',
+    'drain_loan drain_live drain_count DrainCanStep DrainSteps TakesPair TakesFirst Empties': 'the same of the drain of each kind of map',
+    'Writes WritesClones IsSlotClone AreSlotClones places_of value_at version_in next_at pairs_from pairs_left': 'the same of slots of each kind',
+    'is_found MakesRoom Refuses IsRefused HandsBack': 'what that call finds or ensures, or why it is refused',
+    'entry_map_ref entry_map entry_lender entry_key entry_value entry_with entry_without occupied_with IsWritten Enters IsEntryOf IfEntry': 'the same of the entries of each secondary map',
+    'CanReplace AreValuesOf with_values dropped CallsAt': 'several keys or calls of a closure, of each kind of map',
+    'Given Step DetachStep StepInsert StepRemove StepDetach StepReattach after_insert after_remove after_detach after_reattach': 'the same of each machine',
+    'IsOnce without': 'lists of indices or keys: none twice; all but one',
+    'Nodes IsChain Unlinks follow': 'nodes or slots that are linked both ways',
+}
+
+
+def known(table):
+    return {name for names in table for name in names.split()}
+
+
+def relative(path):
+    return os.path.relpath(path, TOP)
+
+
+def repeated_files(pattern, allowed):
+    found = collections.defaultdict(list)
+    for path in sorted(glob.glob(f'{TOP}/crates/{pattern}', recursive=True)):
+        name = os.path.splitext(os.path.basename(path))[0]
+        if '/out/' not in path and name not in ('Lib', 'Answers', 'Invariants', 'Proof'):
+            found[name].append(relative(path))
+    return [f'{name}: {", ".join(paths)}' for name, paths in sorted(found.items()) if len(paths) > 1 and name not in allowed]
+
+
+def repeated_words():
+    found = collections.defaultdict(list)
+    declared = re.compile(r"^\s*(?:abbrev pub|unfoldable pub|pub record|pub data|pub abbrev)\s+([A-Za-z][\w'\-]*)")
+    for path in sorted(glob.glob(f'{TOP}/crates/*/specs/**/*.antt', recursive=True)):
+        if '/out/' not in path:
+            for number, line in enumerate(open(path, encoding='utf-8'), 1):
+                word = declared.match(line)
+                if word:
+                    found[word.group(1)].append(f'{relative(path)}:{number}')
+    return [f'{word}: {", ".join(places)}' for word, places in sorted(found.items()) if len(places) > 1 and word not in known(WORDS)]
+
+
+def main():
+    faults = [f'two files of src/: {x}' for x in repeated_files('*/src/**/*.rt', known(SOURCES))]
+    faults += [f'two files of proofs/: {x}' for x in repeated_files('*/proofs/**/[A-Z]*.antt', known(LEMMAS))]
+    faults += [f'two files of specs/: {x}' for x in repeated_files('*/specs/*.antt', known(SPECS))]
+    faults += [f'two declarations: {x}' for x in repeated_words()]
+    for fault in faults:
+        print(fault)
+    if faults:
+        print(f'{len(faults)} names stand twice: rename one, or say in {relative(__file__)} what all of them mean')
+    return 1 if faults else 0
+
+
+if __name__ == '__main__':
+    sys.exit(main())
