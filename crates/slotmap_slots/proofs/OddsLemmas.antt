@@ -1,23 +1,23 @@
 -- Chunks of versions, whose odd ones are bits.
 -- For this crate alone.
-use Rattle.std.proofs.Common.{◌≡◌, ◌≢◌, ℕ, zero, suc, ◌+◌, ◌-◌, ◌*◌, ◌/◌, ◌%◌, ◌^◌, ◌<◌, ◌≤◌, List, cond, eqb, length, get_or, slice_get, Some, refl, sym, ap, ◌∙◌, arith, w64, bit_and, bit_or, min}
+use Rattle.std.proofs.Common.{◌≡◌, ◌≢◌, ℕ, zero, suc, ◌+◌, ◌-◌, ◌*◌, ◌/◌, ◌%◌, ◌^◌, ◌<◌, ◌≤◌, List, cond, eqb, length, get_or, slice_get, Some, refl, sym, ap, ◌∙◌, arith, w64, bit_and, bit_or, min, max, subst}
 use Rattle.std.specs.Int.{bit_at}
 use native.Mathlib.Decide.{dec_lt}
 use lib.Bits.{and_mask}
 use lib.ListN.{get_or-eq_default}
-use Rattle.std.proofs.lemmas.Nat.Bits.{bit_at-zero, bit_at-suc, bit_at_lowest, bit_at_and, bit_at_set_same, bit_at_set_other}
+use Rattle.std.proofs.lemmas.Nat.Bits.{bit_at-zero, bit_at-suc, bit_at_lowest, bit_at_and, bit_at_set_same, bit_at_set_other, bit_at_ones}
 use Rattle.std.proofs.lemmas.Option.{get_or_from_slice_get, slice_get_within}
 use Rattle.slotmap_slots.specs.Columns.{AllEven, IsNextOdd}
-use Rattle.slotmap_slots.specs.Odds.{AreOdd, IsFound, HasOdds}
+use Rattle.slotmap_slots.specs.Odds.{AreOdd, IsFound, HasOdds, IsAhead}
 
 -- ---- a lane
-one : (r : ℕ) → r < 2 → cond {A = ℕ} (eqb r 1) 1 0 ≡ r
-one zero h = refl
-one (suc zero) h = refl
-one (suc (suc r)) h = absurd (omega arith)
+not_zero : (r : ℕ) → r < 2 → 1 - cond {A = ℕ} (eqb r 0) 1 0 ≡ r
+not_zero zero h = refl
+not_zero (suc zero) h = refl
+not_zero (suc (suc r)) h = absurd (omega arith)
 
-pub odd_lane : (x : ℕ) → cond {A = ℕ} (eqb (bit_and x 1) 1) 1 0 ≡ x % 2
-odd_lane x = ap (λ r. cond (eqb r 1) 1 0) (and_mask x 1) ∙ one (x % 2) (omega arith)
+pub odd_lane : (x : ℕ) → 1 - cond {A = ℕ} (eqb (bit_and x 1) 0) 1 0 ≡ x % 2
+odd_lane x = ap (λ r. 1 - cond (eqb r 0) 1 0) (and_mask x 1) ∙ not_zero (x % 2) (omega arith)
 
 -- ---- bits that are set one by one
 pub record Below (versions : List ℕ) (at lane bits : ℕ) : Type 0 where
@@ -177,13 +177,13 @@ module _ (versions : List ℕ) (end index : ℕ) (has : HasOdds versions end ind
     | no p ↦ even_at versions end index 0 has i v on (omega arith) (omega arith) at (λ k e. bit_at-zero k)
   ]
 
-  -- the chunk ends before the last version, if an odd version is left
-  pub ends_within : (AllEven versions index (length versions) → ⊥) → end < length versions
-  ends_within some = elim (dec_lt end (length versions)) [ yes p ↦ p | no p ↦ absurd (some (λ i v on below at. none_left i v on (omega (arith, below)) at)) ]
-
   -- the version after the chunk is odd
   pub odds_after : end < length versions → ((v : ℕ) → slice_get versions end ≡ Some v → v % 2 ≡ 1) → IsNextOdd versions index end
   odds_after within odd = record { on = has.upto; within = omega (arith, within); passed = none_left; odd = odd }
+
+  -- the chunk ends before the last version, if an odd version is left
+  pub ends_within : (AllEven versions index (length versions) → ⊥) → end < length versions
+  ends_within some = elim (dec_lt end (length versions)) [ yes p ↦ p | no p ↦ absurd (some (λ i v on below at. none_left i v on (omega (arith, below)) at)) ]
 
 -- ---- the next chunk
 pub odds_start : (versions : List ℕ) (i : ℕ) → i ≤ length versions → HasOdds versions i i 0
@@ -234,3 +234,71 @@ next_none versions index within even = record {
   passed = even;
   odd = λ v at. absurd (omega (arith, slice_get_within versions (length versions) v at));
 }
+
+-- ---- what is ahead of an iterator
+-- before the first step: the first version is even, the sentinel's
+pub ahead_start : (versions : List ℕ) → 0 < length versions → get_or versions 0 0 % 2 ≡ 0 → IsAhead versions 0 1 0 0
+ahead_start versions some even = record {
+  odd = λ i from to. absurd (omega arith);
+  behind = record {
+    within = omega arith;
+    at = omega arith;
+    upto = omega arith;
+    before = λ i v on below at. absurd (omega arith);
+    odd = λ i k l e on. bit_at-zero k ∙ sym even ∙ ap (λ j. get_or versions j 0 % 2) (let first : 0 ≡ i = omega arith in first);
+    passed = λ k l. bit_at-zero k;
+  };
+}
+
+-- behind a run
+ahead_behind : (versions : List ℕ) (run end index bits : ℕ) → run ≤ index → HasOdds versions end index bits → IsAhead versions run end index bits
+ahead_behind versions run end index bits past has = record {
+  odd = λ j from to. absurd (omega arith);
+  behind = subst (λ m. HasOdds versions end m bits) (let same : index ≡ max index run = omega (arith, past) in same) has;
+}
+
+module _ (versions : List ℕ) (run end index bits : ℕ) (ahead : IsAhead versions run end index bits) where
+  behind_run : run ≤ index → HasOdds versions end index bits
+  behind_run past = subst (λ m. HasOdds versions end m bits) (let same : max index run ≡ index = omega (arith, past) in same) ahead.behind
+
+  -- behind a chunk of which no bit is left
+  pub behind_chunk : run ≤ index → bits ≡ 0 → HasOdds versions end index 0
+  behind_chunk past none = subst (HasOdds versions end index) none (behind_run past)
+
+  run_next : index < run → IsNextOdd versions index index
+  run_next before = record {
+    on = omega arith;
+    within = omega (arith, odd_within versions index (ahead.odd index (omega arith) before));
+    passed = λ i v from below at. absurd (omega arith);
+    odd = λ v at. ap (λ x. x % 2) (sym (get_or_from_slice_get versions index v 0 at)) ∙ ahead.odd index (omega arith) before;
+  }
+
+  run_step : index < run → IsAhead versions run end (index + 1) bits
+  run_step before = record {
+    odd = λ i from to. ahead.odd i (omega arith) to;
+    behind = subst (λ m. HasOdds versions end m bits) (let same : max index run ≡ max (index + 1) run = omega (arith, before) in same) ahead.behind;
+  }
+
+-- a chunk of odd versions alone
+module _ (versions : List ℕ) (end index : ℕ) (on : index + 64 ≤ end) (has : HasOdds versions end index (2 ^ 64 - 1)) where
+  full_odd : (i : ℕ) → end ≤ i + 64 → i < end → get_or versions i 0 % 2 ≡ 1
+  full_odd i from to =
+      let k = i + 64 - end in
+      let e : i + 64 ≡ end + k = omega arith in
+      sym (has.odd i k (omega arith) e (omega arith)) ∙ bit_at_ones 64 k (omega arith)
+
+  pub full_next : IsNextOdd versions index (end - 64)
+  full_next = record {
+    on = omega arith;
+    within = omega (arith, odd_within versions (end - 64) (full_odd (end - 64) (omega arith) (omega arith)));
+    passed = λ i v from below at. has.before i v from (omega arith) at;
+    odd = λ v at. ap (λ x. x % 2) (sym (get_or_from_slice_get versions (end - 64) v 0 at)) ∙ full_odd (end - 64) (omega arith) (omega arith);
+  }
+
+  pub full_step : IsAhead versions end end (end - 64 + 1) 0
+  full_step =
+      let within : end - 1 < length versions = odd_within versions (end - 1) (full_odd (end - 1) (omega arith) (omega arith)) in
+      record {
+        odd = λ i from to. full_odd i (omega arith) to;
+        behind = subst (λ m. HasOdds versions end m 0) (let same : end ≡ max (end - 64 + 1) end = omega (arith, on) in same) (odds_start versions end (omega (arith, on, within)));
+      }

@@ -1,20 +1,22 @@
 -- What an iterator over the vectors of slots yields.
 -- For this crate alone.
-use Rattle.std.proofs.Common.{◌≡◌, ℕ, zero, suc, ◌+◌, ◌-◌, ◌<◌, ◌≤◌, ◌%◌, ◌^◌, List, [], ◌∷◌, length, set, drop, slice_get, Option, Some, None, IsSome, ◌↔◌, refl, sym, ap, subst, ◌∙◌, arith}
-use Rattle.std.proofs.lemmas.Option.{slice_get_within, get_or_from_slice_get}
+use Rattle.std.proofs.Common.{◌≡◌, ℕ, zero, suc, ◌+◌, ◌-◌, ◌<◌, ◌≤◌, ◌%◌, ◌^◌, List, [], ◌∷◌, length, set, drop, slice_get, get_or, Option, Some, None, IsSome, ◌↔◌, refl, sym, ap, subst, ◌∙◌, arith}
+use Rattle.std.proofs.lemmas.Option.{same_Some, slice_get_within, get_or_from_slice_get}
 use Rattle.std.proofs.lemmas.List.{length-set, length-drop, drop_more, drop-set-lt}
+use native.Mathlib.Decide.{dec_lt}
 use Rattle.std.specs.FinMap as map
 use Rattle.slotmap_slots.specs.Columns.{zip_slots, AllEven, IsNextOdd}
 use Rattle.slotmap_core.specs.Key.{IsKey}
-use Rattle.slotmap_core.specs.Places.{live}
-use Rattle.slotmap_slots.specs.Slot.{Slot, IsSlot, IsSound, places_of}
+use Rattle.slotmap_slots.specs.Odds.{IsAhead}
+use Rattle.slotmap_core.specs.Places.{Vacant, live}
+use Rattle.slotmap_slots.specs.Slot.{Slot, IsSlot, IsSound, place_by, places_of}
 use Rattle.slotmap_slots.specs.Iter.{pairs_from, pairs_left, IsIter}
 use Rattle.slotmap_slots.specs.declared.layout.Use.{Use}
-use Rattle.slotmap_slots.specs.declared.layout.Use.TheVariants.{InUse}
+use Rattle.slotmap_slots.specs.declared.layout.Use.TheVariants.{InUse, Free, Detached, Retired}
 use Rattle.slotmap_slots.proofs.ColumnLemmas.{zip-length, zip-at}
 use Rattle.slotmap_core.proofs.General.GatherLemmas.{slice_get-set_other}
 use Rattle.slotmap_core.proofs.General.ListLemmas.{found_within}
-use Rattle.slotmap_slots.proofs.OddsLemmas.{next_none}
+use Rattle.slotmap_slots.proofs.OddsLemmas.{next_none, ahead_start}
 use Rattle.slotmap_core.proofs.Places.PlacesLemmas.{key}
 use Rattle.slotmap_slots.proofs.SlotLemmas.{slots_fit}
 use Rattle.slotmap_core.proofs.Places.InOrderLemmas.{entries_from, entries-live}
@@ -46,12 +48,33 @@ module _ {V : Type 0} (vs : List ℕ) (ls : List Use) (xs : List (Option V)) (sa
     counted = sym sound.live_counted ∙ map.len-entries (live (places_of (zip_slots vs ls xs))) ∙ ap length (sym pairs-entries);
   }
 
+-- the first version is even: it is the sentinel's
+module _ {V : Type 0} where
+  vacant_even : (v : ℕ) (l : Use) (x : Option V) → IsSlot (record { version = v; usage = l; payload = x }) → place_by v l x ≡ Vacant 1 → v % 2 ≡ 0
+  vacant_even v (Free n) x is at = elim (dec_lt 0 (v % 2)) [
+    | yes p ↦ absurd (let wrong = is.in_use.0 (is.odd.1 (omega arith)) in cc)
+    | no p ↦ omega arith
+  ]
+  vacant_even v InUse (Some p) is at = absurd (cc)
+  vacant_even v InUse None is at = absurd (cc)
+  vacant_even v Detached x is at = absurd (cc)
+  vacant_even v Retired x is at = absurd (cc)
+
+  first_even : (vs : List ℕ) (ls : List Use) (xs : List (Option V)) → length ls ≡ length vs → length xs ≡ length vs
+      → ((j : ℕ) (s : Slot V) → slice_get (zip_slots vs ls xs) j ≡ Some s → IsSlot s)
+      → slice_get (places_of (zip_slots vs ls xs)) 0 ≡ Some (Vacant 1) → (0 < length vs) × (get_or vs 0 0 % 2 ≡ 0)
+  first_even (v ∷ vs) (l ∷ ls) (x ∷ xs) same_l same_x each at = (omega arith, vacant_even v l x (each 0 _ refl) (same_Some _ _ at))
+  first_even [] ls xs same_l same_x each at = absurd (cc)
+  first_even (v ∷ vs) [] xs same_l same_x each at = absurd (omega arith)
+  first_even (v ∷ vs) (l ∷ ls) [] same_l same_x each at = absurd (omega arith)
+
 -- an iterator from the first place of the vectors of these slots; it yields the entries of the map
 pub iter_from : {V : Type 0} {slots : List (Slot V)} {head free count : ℕ} → IsSound slots head free count → (vs : List ℕ) (xs : List (Option V))
-    → ((ls : List Use) × (length ls ≡ length vs) × (length xs ≡ length vs) × (zip_slots vs ls xs ≡ slots)) → IsIter vs xs 0 count × (pairs_left 0 vs xs ≡ map.entries (live (places_of slots)))
+    → ((ls : List Use) × (length ls ≡ length vs) × (length xs ≡ length vs) × (zip_slots vs ls xs ≡ slots)) → IsIter vs xs 0 count × (pairs_left 0 vs xs ≡ map.entries (live (places_of slots))) × IsAhead vs 0 1 0 0
 iter_from {V} {slots} {head} {free} {count} sound vs xs parts =
     let zipped : IsSound (zip_slots vs parts.0 xs) head free count = subst (λ ss. IsSound ss head free count) (sym parts.3) sound in
-    (IsIter-start vs parts.0 xs parts.1 parts.2 head free count zipped, pairs-entries vs parts.0 xs parts.1 parts.2 head free count zipped ∙ ap (λ ss. map.entries (live (places_of ss))) parts.3)
+    let first = first_even vs parts.0 xs parts.1 parts.2 zipped.each zipped.stacked.sentinel in
+    (IsIter-start vs parts.0 xs parts.1 parts.2 head free count zipped, pairs-entries vs parts.0 xs parts.1 parts.2 head free count zipped ∙ ap (λ ss. map.entries (live (places_of ss))) parts.3, ahead_start vs first.0 first.1)
 
 drop-found : {X : Type 0} (xs : List X) (i : ℕ) (x : X) → slice_get xs i ≡ Some x → drop i xs ≡ x ∷ drop (i + 1) xs
 drop-found xs i x found = drop_more xs i x (slice_get_within xs i x found) ∙ ap (λ y. y ∷ drop (i + 1) xs) (get_or_from_slice_get xs i x x found)

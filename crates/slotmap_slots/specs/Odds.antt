@@ -1,5 +1,5 @@
 -- Which versions of a chunk are odd, as bits of a number.
-use Rattle.std.specs.Prelude.{◌≡◌, ℕ, ◌+◌, ◌%◌, ◌<◌, ◌≤◌, List, length, Some, slice_get, get_or}
+use Rattle.std.specs.Prelude.{◌≡◌, ℕ, ◌+◌, ◌%◌, ◌<◌, ◌≤◌, max, List, length, Some, slice_get, get_or}
 use Rattle.std.specs.Int.{bit_at}
 
 -- A chunk has 64 versions, and `end` is the index after its last one. Bit k is set where the k-th is odd, if its index is
@@ -27,3 +27,8 @@ pub record HasOdds (versions : List ℕ) (end index bits : ℕ) : Type 0 where
   pub before : EvenBefore versions end index
   pub odd : AreOdd versions end index bits
   pub passed : (k : ℕ) → end + k < index + 64 → bit_at bits k ≡ 0
+
+-- what is ahead of an iterator at `index`: each version of the run is odd, and behind the run there are those of a chunk
+pub record IsAhead (versions : List ℕ) (run end index bits : ℕ) : Type 0 where
+  pub odd : (i : ℕ) → index ≤ i → i < run → get_or versions i 0 % 2 ≡ 1
+  pub behind : HasOdds versions end (max index run) bits

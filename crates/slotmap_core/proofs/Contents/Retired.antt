@@ -8,7 +8,7 @@ use Rattle.slotmap_core.specs.Key.{Key, is_last, next_version, key_cmp}
 use Rattle.slotmap_core.specs.Transition.{freed, retired_after}
 use Rattle.slotmap_core.specs.Machine.{State, IsIssued, StandsIn, is_retired, retired}
 use Rattle.slotmap_core.proofs.General.KeyLemmas.{keys_total, exact_keys, nat_cmp_total, exact_unsigned}
-use Rattle.slotmap_core.proofs.General.Maps.{same_bool, item_after_insert, item_inserted, item_still, len_item_inserted, len_inserted, get_after_insert}
+use Rattle.slotmap_core.proofs.General.Maps.{same_bool, len_item_inserted, len_inserted, get_after_insert}
 
 module _ (k : Key) where
   pub in_freed : (next : map.FinMap nat_cmp ℕ) (i v : ℕ) → map.get (freed next k) i ≡ Some v → ((i ≡ k.index) × (v ≡ next_version k) × (is_last k ≡ false)) ⊎ (map.get next i ≡ Some v)

@@ -1,11 +1,11 @@
 -- How the number of places changes.
 -- For the crates of maps and runs.
-use Rattle.std.proofs.Common.{◌≡◌, ◌≢◌, ◌+◌, ◌<◌, max, Some, Bool, ◌⊎◌, inl, refl, ap, ◌∙◌, arith, is_some}
+use Rattle.std.proofs.Common.{◌≡◌, ◌≢◌, ◌+◌, ◌<◌, max, Some, Bool, ◌⊎◌, inl, refl, ap, ◌∙◌, arith}
 use Rattle.std.specs.FinMap as map
 use Rattle.std.specs.FinSet as set
 use Rattle.std.proofs.lemmas.Grind.{common_steps}
 use Rattle.slotmap_core.specs.Key.{Key}
-use Rattle.slotmap_core.specs.Content.{Content, IsContent, Stands, IsLive, IsVacant, used, places, most}
+use Rattle.slotmap_core.specs.Content.{Content, IsContent, Stands, IsLive, used, places, most}
 use Rattle.slotmap_core.specs.Transition.{Inserts, Keeps, Removes, Replaces, Detaches, Reattaches}
 use Rattle.slotmap_core.proofs.General.KeyLemmas.{keys_total, exact_keys, nat_cmp_total}
 use Rattle.slotmap_core.proofs.General.Maps.{false_of, len_inserted, len_removed, len_item_inserted, len_item_removed}

@@ -1,8 +1,7 @@
 -- A secondary map has clones of the values of another, if it has them index by index.
 -- For the crates of maps.
-use Rattle.std.proofs.Common.{◌≡◌, ℕ, Option, Some, None, refl, ap, arith}
+use Rattle.std.proofs.Common.{◌≡◌, ℕ, Option, Some, None, ap, arith}
 use Rattle.std.specs.FinMap as map
-use Rattle.slotmap_core.specs.Key.{Key}
 use Rattle.slotmap_core.specs.Secondary.{Pairs, value_at}
 use Rattle.slotmap_core.specs.Clones.{IsCloneOf}
 use Rattle.slotmap_core.specs.SecondaryClones.{HasClones}

@@ -3,21 +3,25 @@
 ghost use Rattle.std.specs.Prelude.{◌≡◌, ◌≢◌, ℕ, ◌+◌, ◌%◌, ◌<◌, ◌≤◌, length, get_or};
 ghost use Rattle.std.specs.Int.{bit_at};
 ghost use Rattle.slotmap_slots.specs.Columns.{AllEven, IsNextOdd};
-ghost use Rattle.slotmap_slots.specs.Odds.{AreOdd, IsFound, HasOdds};
+ghost use Rattle.slotmap_slots.specs.Odds.{AreOdd, IsFound, HasOdds, IsAhead};
 
 use std::simd::prelude::*;
 
 // How many versions are looked at together.
 const CHUNK: usize = 64;
 
+// How far an odd version is looked for, at most, before a chunk is.
+const NEAR: usize = 16;
+
 // A bit for each lane that is odd.
 #[inline(always)]
 fn odd_lanes(lanes: u32x64) -> u64
     ensures { (k : ℕ) → k < 64 → bit_at result k ≡ get_or lanes k 0 % 2 }
 {
-    (lanes & u32x64::splat(1))
-        .simd_eq(u32x64::splat(1))
-        .to_bitmask()
+    let even = (lanes & u32x64::splat(1))
+        .simd_eq(u32x64::splat(0))
+        .to_bitmask();
+    !even
 }
 
 // A bit for each odd version of the chunk that begins at an index.
@@ -49,6 +53,7 @@ fn bits_of_tail(versions: &[u32], at: usize) -> u64
 
 // Returns the end of the first chunk from `start` on that has an odd version, and a bit for each of
 // them; or that of the last chunk, and 0.
+#[cold]
 #[inline(never)]
 fn next_chunk(versions: &[u32], start: usize) -> (usize, u64)
     requires { start ≤ length versions.now }
@@ -65,9 +70,12 @@ fn next_chunk(versions: &[u32], start: usize) -> (usize, u64)
     (at + CHUNK, bits_of_tail(versions, at))
 }
 
-/// What is left of the chunk of 64 versions that an iterator is in.
+/// What an iterator knows of the versions ahead of it: a run of odd ones, or else what is left of a
+/// chunk of 64 versions.
 #[derive(Clone, Copy)]
 pub(crate) struct Odds {
+    // The index after the run.
+    run: usize,
     // The index after the chunk.
     end: usize,
     // A bit for each odd version of the chunk that the iterator hasn't passed.
@@ -75,33 +83,18 @@ pub(crate) struct Odds {
 }
 
 impl Odds {
-    // Returns those of an iterator that is before the version at an index. It finds its chunk at its
-    // first step.
-    pub(crate) fn ahead_of(index: usize) -> Odds
-        ensures end { result.end ≡ index }
+    // Returns those of an iterator before its first step: the first version, of the sentinel, is even.
+    pub(crate) fn of_all() -> Odds
+        ensures run { result.run ≡ 0 }
+        ensures end { result.end ≡ 1 }
         ensures bits { result.bits ≡ 0 }
     {
         Odds {
-            end: index,
+            run: 0,
+            end: 1,
             bits: 0,
         }
     }
-}
-
-// Goes on to the next chunk with an odd version if no bit is left. The index is for the contract
-// only.
-#[inline(always)]
-fn refill(versions: &[u32], odds: Odds, _index: usize) -> Odds
-    requires odds { HasOdds versions.now odds.end _index odds.bits }
-    requires some { AllEven versions.now _index (length versions.now) → ⊥ }
-    ensures odds { HasOdds versions.now result.end _index result.bits }
-    ensures some { result.bits ≢ 0 }
-{
-    if odds.bits != 0 {
-        return odds;
-    }
-    let (end, bits) = next_chunk(versions, odds.end);
-    Odds { end, bits }
 }
 
 // Returns the lowest bit that is set.
@@ -126,28 +119,55 @@ fn without_lowest(bits: u64, _lane: usize) -> u64
     bits & bits.wrapping_sub(1)
 }
 
-// Returns the first index from `index` on with an odd version, and what is left of its chunk.
+// Takes the lowest bit. Returns its version's index, and what is left of the chunk. The index that
+// is given is for the contract only.
 #[inline(always)]
-pub(crate) fn step(versions: &[u32], odds: Odds, index: usize) -> (usize, Odds)
-    requires odds { HasOdds versions.now odds.end index odds.bits }
-    requires some { AllEven versions.now index (length versions.now) → ⊥ }
-    ensures next { IsNextOdd versions.now index result.0 }
+fn take_lowest(versions: &[u32], odds: Odds, _index: usize) -> (usize, Odds)
+    requires odds { HasOdds versions.now odds.end _index odds.bits }
+    requires some { odds.bits ≢ 0 }
+    ensures next { IsNextOdd versions.now _index result.0 }
+    ensures run { result.1.run ≡ odds.run }
     ensures odds { HasOdds versions.now result.1.end (result.0 + 1) result.1.bits }
 {
-    // Where no slot is vacant, no chunk is looked at.
-    if odds.bits == 0 && versions[odds.end] % 2 == 1 {
-        let index = odds.end;
-        let end = index + 1;
-        return (index, Odds { end, ..odds });
-    }
-    let Odds { end, bits } = refill(versions, odds, index);
-    let lane = lowest(bits);
-    let bits = without_lowest(bits, lane);
-    (end + lane - CHUNK, Odds { end, bits })
+    let lane = lowest(odds.bits);
+    let bits = without_lowest(odds.bits, lane);
+    (odds.end + lane - CHUNK, Odds { bits, ..odds })
 }
 
-// Without a call for a chunk if an odd version is near.
-const NEAR: usize = 16;
+// Returns the first index from `index` on with an odd version, and what is ahead of it. A chunk of
+// odd versions alone is passed as a run, so no step looks at a bit or a version where no slot is
+// vacant. Up to the next multiple of `NEAR` no chunk is looked at while the versions are odd, so the
+// first steps cost little.
+#[inline(always)]
+pub(crate) fn step(versions: &[u32], odds: Odds, index: usize) -> (usize, Odds)
+    requires odds { IsAhead versions.now odds.run odds.end index odds.bits }
+    requires some { AllEven versions.now index (length versions.now) → ⊥ }
+    ensures next { IsNextOdd versions.now index result.0 }
+    ensures odds { IsAhead versions.now result.1.run result.1.end (result.0 + 1) result.1.bits }
+{
+    if index < odds.run {
+        return (index, odds);
+    }
+    if odds.bits != 0 {
+        return take_lowest(versions, odds, index);
+    }
+    let at = odds.end;
+    if at % NEAR != 0 && versions[at] % 2 == 1 {
+        return (
+            at,
+            Odds {
+                end: at + 1,
+                ..odds
+            },
+        );
+    }
+    let (end, bits) = next_chunk(versions, at);
+    if bits == u64::MAX {
+        let run = end;
+        return (end - CHUNK, Odds { run, end, bits: 0 });
+    }
+    take_lowest(versions, Odds { end, bits, ..odds }, index)
+}
 
 // Returns the first index from `start` on with an odd version, or the number of versions.
 #[inline(always)]

@@ -20,7 +20,7 @@ pub struct SlotIter<'a, P> {
     payloads: &'a [Option<P>],
     // The next slot to look at.
     index: usize,
-    // What is left of the chunk that this slot is in.
+    // What is known of the versions from there on.
     odds: Odds,
     // How many payloads are left.
     left: usize,
@@ -29,14 +29,14 @@ pub struct SlotIter<'a, P> {
 impl<'a, P> Model for SlotIter<'a, P> {
     ghost use Rattle.std.specs.Prelude.{List};
     ghost use Rattle.slotmap_core.specs.Key.{Key};
-    ghost use Rattle.slotmap_slots.specs.Odds.{HasOdds};
+    ghost use Rattle.slotmap_slots.specs.Odds.{IsAhead};
     ghost use Rattle.slotmap_slots.specs.Iter.{pairs_left, IsIter};
 
     ghost Value = { List (Key × P) };
 
     ghost view = { λ it. pairs_left it.index it.versions.now it.payloads.now };
 
-    ghost invariant = { λ it. IsIter it.versions.now it.payloads.now it.index it.left × HasOdds it.versions.now it.odds.end it.index it.odds.bits };
+    ghost invariant = { λ it. IsIter it.versions.now it.payloads.now it.index it.left × IsAhead it.versions.now it.odds.run it.odds.end it.index it.odds.bits };
 }
 
 impl<'a, P> SlotIter<'a, P> {
@@ -103,7 +103,7 @@ pub struct SlotIntoIter<P> {
     payloads: Vec<Option<P>>,
     // The next slot to look at.
     index: usize,
-    // What is left of the chunk that this slot is in.
+    // What is known of the versions from there on.
     odds: Odds,
     // How many payloads are left.
     left: usize,
@@ -112,14 +112,14 @@ pub struct SlotIntoIter<P> {
 impl<P> Model for SlotIntoIter<P> {
     ghost use Rattle.std.specs.Prelude.{List};
     ghost use Rattle.slotmap_core.specs.Key.{Key};
-    ghost use Rattle.slotmap_slots.specs.Odds.{HasOdds};
+    ghost use Rattle.slotmap_slots.specs.Odds.{IsAhead};
     ghost use Rattle.slotmap_slots.specs.Iter.{pairs_left, IsIter};
 
     ghost Value = { List (Key × P) };
 
     ghost view = { λ it. pairs_left it.index it.versions.items it.payloads.items };
 
-    ghost invariant = { λ it. IsIter it.versions.items it.payloads.items it.index it.left × HasOdds it.versions.items it.odds.end it.index it.odds.bits };
+    ghost invariant = { λ it. IsIter it.versions.items it.payloads.items it.index it.left × IsAhead it.versions.items it.odds.run it.odds.end it.index it.odds.bits };
 }
 
 impl<P> SlotIntoIter<P> {
@@ -187,7 +187,7 @@ impl<P> Slots<P, Columns<P>> {
             versions,
             payloads,
             index: 0,
-            odds: Odds::ahead_of(0),
+            odds: Odds::of_all(),
             left: self.live_count as usize,
         }
     }
@@ -202,7 +202,7 @@ impl<P> Slots<P, Columns<P>> {
             versions,
             payloads,
             index: 0,
-            odds: Odds::ahead_of(0),
+            odds: Odds::of_all(),
             left,
         }
     }

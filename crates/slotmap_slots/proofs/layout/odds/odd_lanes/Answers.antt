@@ -1,8 +1,10 @@
-use Rattle.std.proofs.Common.{ℕ, eqb, cond, map, replicate, get_or, length, ◌≡◌, ap, ◌∙◌, arith, w32, bit_and}
-use Rattle.std.specs.Int.{bit_at}
+use Rattle.std.proofs.Common.{ℕ, ◌<◌, ◌^◌, ◌-◌, ◌%◌, eqb, cond, map, replicate, get_or, length, ◌≡◌, subst, ap, ◌∙◌, arith, w32, w64, bit_and}
+use Rattle.std.specs.Int.{bit_at, bit_not}
 use Rattle.std.specs.Simd.Lanes.{zip2, mask_l}
-use Rattle.std.proofs.lemmas.Simd.{bitmask_splat, bit_mask_l, zip2_splat}
+use Rattle.std.proofs.lemmas.Grind.{get_or_default_zero}
 use Rattle.std.proofs.lemmas.List.{length-map}
+use Rattle.std.proofs.lemmas.Nat.Bits.{bit_at_not}
+use Rattle.std.proofs.lemmas.Simd.{bitmask_splat, bit_mask_l, mask_l-lt, zip2_splat}
 use Rattle.std.proofs.Math.ListN.{get_or-map}
 use Rattle.slotmap_slots.proofs.OddsLemmas.{odd_lane}
 use Rattle.slotmap_slots.proofs.layout.odds.odd_lanes.Goals as goal
@@ -11,12 +13,16 @@ pub returns : goal.returns
 returns c k l =
     let xs = c.args.lanes in
     let f = λ (x : ℕ). bit_and x 1 in
-    let p = λ (x : ℕ). eqb x 1 in
+    let p = λ (x : ℕ). eqb x 0 in
     let masked : zip2 bit_and xs (replicate 64 1) ≡ map f xs = zip2_splat bit_and xs 64 1 c.fits-lanes.0 in
     let long : length (zip2 bit_and xs (replicate 64 1)) ≡ 64 = ap length masked ∙ length-map xs f ∙ c.fits-lanes.0 in
-    ap (λ n. bit_at n k) (bitmask_splat w32 eqb (zip2 bit_and xs (replicate 64 1)) 64 1 long (omega arith))
-    ∙ ap (λ ys. bit_at (mask_l (map p ys)) k) masked
-    ∙ bit_mask_l (map p (map f xs)) k
-    ∙ ap (λ b. cond b 1 0) (get_or-map p (map f xs) k 0)
-    ∙ ap (λ x. cond (eqb x 1) 1 0) (get_or-map f xs k 0)
-    ∙ odd_lane (get_or xs k 0)
+    let evens = mask_l (map p (map f xs)) in
+    let many : length (map p (map f xs)) ≡ 64 = length-map (map f xs) p ∙ length-map xs f ∙ c.fits-lanes.0 in
+    let below : evens < 2 ^ 64 = subst (λ n. evens < 2 ^ n) many (mask_l-lt (map p (map f xs))) in
+    ap (λ n. bit_at (bit_not w64 n) k) (bitmask_splat w32 eqb (zip2 bit_and xs (replicate 64 1)) 64 0 long (omega arith) ∙ ap (λ ys. mask_l (map p ys)) masked)
+    ∙ bit_at_not w64 evens k below l
+    ∙ ap (λ b. 1 - b) (bit_mask_l (map p (map f xs)) k)
+    ∙ ap (λ b. 1 - cond b 1 0) (get_or-map p (map f xs) k 1)
+    ∙ ap (λ x. 1 - cond (eqb x 0) 1 0) (get_or-map f xs k 1)
+    ∙ odd_lane (get_or xs k 1)
+    ∙ ap (λ x. x % 2) (get_or_default_zero xs k 1 (omega (arith, c.fits-lanes.0)))

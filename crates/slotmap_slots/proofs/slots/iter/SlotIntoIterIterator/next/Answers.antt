@@ -9,7 +9,7 @@ next : (g : _) (c : After-step-index g) → Next c.self.inside.versions.items c.
 next g c = next_on c.self.invariant.0 (omega arith) c.deref.ensures.value c.step-index.ensures.next
 
 pub step-index-requires-clause-some : goal.step-index-requires-clause-some
-step-index-requires-clause-some g c = some_left c.self.invariant.0 (omega arith) c.deref.ensures.value (omega (arith, c.self.invariant.1.within, ap length c.deref.ensures.value))
+step-index-requires-clause-some g c = some_left c.self.invariant.0 (omega arith) c.deref.ensures.value (omega (arith, c.self.invariant.1.behind.within, ap length c.deref.ensures.value))
 
 pub index-version-requires : goal.index-version-requires
 index-version-requires g c = grind (arith, next g (goal.at.index-version-requires g c).After-step-index, slice_get_within)

@@ -9,7 +9,7 @@ next : (g : _) (c : After-step-index g) → Next c.self.inside.versions.now c.se
 next g c = next_on c.self.invariant.0 (omega arith) refl c.step-index.ensures.next
 
 pub step-index-requires-clause-some : goal.step-index-requires-clause-some
-step-index-requires-clause-some g c = some_left c.self.invariant.0 (omega arith) refl c.self.invariant.1.within
+step-index-requires-clause-some g c = some_left c.self.invariant.0 (omega arith) refl (omega (arith, c.self.invariant.1.behind.within))
 
 pub version_in-version-requires : goal.version_in-version-requires
 version_in-version-requires g c = slice_get_within c.self.inside.versions.now c.step-index.result.0 _ (next g (goal.at.version_in-version-requires g c).After-step-index).version_there
