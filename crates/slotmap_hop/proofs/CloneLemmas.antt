@@ -11,44 +11,44 @@ use Rattle.slotmap_core.proofs.General.ListLemmas.{zip_length, zip_drop}
 use Rattle.slotmap_core.proofs.General.Maps.{same_len}
 use Rattle.slotmap_core.proofs.Places.PlaceClones.{clone_is_some, detached-clones, retired-clones, next-clones, live-clones, length-clones, cloned_at, vacant_there, IsStacked-clones}
 use Rattle.slotmap_hop.specs.declared.links.Slot.{Slot}
-use Rattle.slotmap_hop.specs.declared.links.State.{State}
-use Rattle.slotmap_hop.specs.declared.links.State.TheVariants.{Occupied, Free, Retired}
+use Rattle.slotmap_hop.specs.declared.links.Slot.TheVariants.{Occupied, Free, Retired}
 use Rattle.slotmap_hop.specs.Blocks.{Begins}
 use Rattle.slotmap_hop.specs.Links.{vacant_at, HasBlockList}
 use Rattle.slotmap_hop.specs.Iter.{pairs_left, IsIter}
-use Rattle.slotmap_hop.specs.Slots.{links_in, place_in, all_links, places_of, IsStateClone, IsSlotClone, AreSlotClones, next_place, offer_at, hop_content, IsSound}
+use Rattle.slotmap_hop.specs.Slots.{retired_place, links_in, place_in, all_links, places_of, IsSlotClone, AreSlotClones, next_place, offer_at, hop_content, IsSound}
 use Rattle.slotmap_hop.proofs.SlotLemmas.{vacant_slot, back_vacant}
 use Rattle.slotmap_hop.proofs.HoppingLemmas.{pairs_from}
 
 module _ {V : Type 0} (is_clone : V → V → Type 0) where
-  links_cloned : (s copy : State V) → IsStateClone is_clone s copy → links_in copy ≡ links_in s
+  links_cloned : (s copy : Slot V) → IsSlotClone is_clone s copy → links_in copy ≡ links_in s
   links_cloned s copy is = grind arith
 
-  place_cloned : (version : ℕ) (s copy : State V) → IsStateClone is_clone s copy → IsPlaceClone is_clone (place_in version s) (place_in version copy)
-  place_cloned version (Occupied value) copy is = (is.0, ap (place_in version) is.1, is.2)
-  place_cloned version (Free links) copy is = ap (place_in version) is
-  place_cloned zero Retired copy is = ap (place_in zero) is
-  place_cloned (suc version) Retired copy is = ap (place_in (suc version)) is
+  place_cloned : (s copy : Slot V) → IsSlotClone is_clone s copy → IsPlaceClone is_clone (place_in s) (place_in copy)
+  place_cloned (Occupied version value) copy is = (is.0, ap place_in is.1, is.2)
+  place_cloned (Free version links) copy is = ap place_in is
+  place_cloned (Retired version links) copy is = rw is (used_up_same version links.other_end)
+    where
+      used_up_same : (version other_end : ℕ) → IsPlaceClone is_clone (retired_place version other_end) (retired_place version other_end)
+      used_up_same zero zero = refl
+      used_up_same zero (suc other_end) = refl
+      used_up_same (suc version) other_end = refl
 
   same_slot : ClonesEqual is_clone → (s copy : Slot V) → IsSlotClone is_clone s copy → copy ≡ s
-  same_slot equal s copy is = let state = same s.state copy.state is.state in let version = is.version in λ j. record { version = version j; state = state j }
-    where
-      same : (s copy : State V) → IsStateClone is_clone s copy → copy ≡ s
-      same (Occupied value) copy is = is.1 ∙ ap Occupied (equal value is.0 is.2)
-      same (Free links) copy is = is
-      same Retired copy is = is
+  same_slot equal (Occupied version value) copy is = is.1 ∙ ap (Occupied version) (equal value is.0 is.2)
+  same_slot equal (Free version links) copy is = is
+  same_slot equal (Retired version links) copy is = is
 
   pub all_links-cloned : (slots copies : List (Slot V)) → AreSlotClones is_clone slots copies → all_links copies ≡ all_links slots
   all_links-cloned [] [] zip = refl
   all_links-cloned [] (copy ∷ copies) zip = absurd zip
   all_links-cloned (s ∷ slots) [] zip = absurd zip
-  all_links-cloned (s ∷ slots) (copy ∷ copies) zip = rw (links_cloned s.state copy.state zip.0.state, all_links-cloned slots copies zip.1) refl
+  all_links-cloned (s ∷ slots) (copy ∷ copies) zip = rw (links_cloned s copy zip.0, all_links-cloned slots copies zip.1) refl
 
   places-cloned : (slots copies : List (Slot V)) → AreSlotClones is_clone slots copies → ArePlaceClones is_clone (places_of slots) (places_of copies)
   places-cloned [] [] zip = tt
   places-cloned [] (copy ∷ copies) zip = absurd zip
   places-cloned (s ∷ slots) [] zip = absurd zip
-  places-cloned (s ∷ slots) (copy ∷ copies) zip = (rw zip.0.version (place_cloned s.version s.state copy.state zip.0.state), places-cloned slots copies zip.1)
+  places-cloned (s ∷ slots) (copy ∷ copies) zip = (place_cloned s copy zip.0, places-cloned slots copies zip.1)
 
   -- only a detached place is a clone of one
   detached_here : (p : Place V) (version : ℕ) → IsPlaceClone is_clone p (Detached version) → p ≡ Detached version

@@ -3,14 +3,14 @@ use Rattle.std.proofs.Common.{⊎_elim, ◌≡◌, zero, suc, List, [], ◌∷�
 use Rattle.slotmap_core.specs.Places.{Detached, Vacant}
 use Rattle.slotmap_core.proofs.General.GatherLemmas.{at_push}
 use Rattle.slotmap_hop.specs.declared.links.Slot.{Slot}
-use Rattle.slotmap_hop.specs.declared.links.State.TheVariants.{Free}
+use Rattle.slotmap_hop.specs.declared.links.Slot.TheVariants.{Free}
 use Rattle.slotmap_hop.specs.Links.{is_front, vacant_at, end_at, ListsOnce, NamesEnds}
 use Rattle.slotmap_hop.proofs.Circle.{shut}
 use Rattle.slotmap_hop.specs.Slots.{all_links, IsSound}
 use Rattle.slotmap_core.proofs.Places.StackLemmas.{IsStacked-sentinel, live-sentinel}
 
 abbrev pub sentinel_alone : (V : Type 0) → List (Slot V)
-sentinel_alone V = record { version = 0; state = Free (record { next = 0; prev = 0; other_end = 0 }) } ∷ []
+sentinel_alone V = Free 0 (record { next = 0; prev = 0; other_end = 0 }) ∷ []
 
 module _ (V : Type 0) where
   listed-new : ListsOnce (is_front (vacant_at (all_links (sentinel_alone V)))) []

@@ -22,7 +22,7 @@ use Rattle.slotmap_core.proofs.FromList.StartFits.{starts-stack}
 use Rattle.slotmap_hop.specs.declared.links.Slot.{Slot}
 use Rattle.slotmap_hop.specs.Blocks.{Blocks, Ascend, vacated}
 use Rattle.slotmap_hop.specs.Links.{vacant_at, blocks_of, HasBlockList, CanVacate}
-use Rattle.slotmap_hop.specs.Slots.{links_in, value_in, read_state, place_in, all_links, places_of, hop_content, IsSound}
+use Rattle.slotmap_hop.specs.Slots.{version_in, links_in, value_in, read_slot, place_in, all_links, places_of, hop_content, IsSound}
 use Rattle.slotmap_hop.proofs.Taking.{HasBlockList-pushed, blocks_pushed}
 use Rattle.slotmap_hop.proofs.SlotReads.{length-all_links, length-places, slot_cases, place_at}
 use Rattle.slotmap_hop.proofs.Empty.{sentinel_alone, IsSound-new}
@@ -77,16 +77,16 @@ module _ {V : Type 0} (read : List (SlotRecord V)) (slots : List (Slot V)) (vaca
   -- the slot of the next record is added at the end; a vacant one has no links yet
   module _ (slot : SlotRecord V) where
     abbrev added : Slot V
-    added = record { version = slot.version; state = read_state slot.value }
+    added = read_slot slot.version slot.value
 
     abbrev pub with_slot : List (Slot V)
     with_slot = slots ++ added ∷ []
 
     all_links_with : all_links with_slot ≡ all_links slots ++ None ∷ []
-    all_links_with = grind (arith, map_push (λ (s : Slot V). links_in s.state) slots added)
+    all_links_with = grind (arith, map_push (λ (s : Slot V). links_in s) slots added)
 
-    places_with : places_of with_slot ≡ places_of slots ++ place_in slot.version (read_state slot.value) ∷ []
-    places_with = map_push (λ (s : Slot V). place_in s.version s.state) slots added
+    places_with : places_of with_slot ≡ places_of slots ++ place_in (read_slot slot.version slot.value) ∷ []
+    places_with = map_push (λ (s : Slot V). place_in s) slots added
 
     in_use_from : (i : ℕ) → length slots ≤ i → vacant_at (all_links with_slot) i ≡ false
     in_use_from i past = grind (arith, slot_cases with_slot i, slice_get_push slots added, length_push slots added)
@@ -128,7 +128,7 @@ module _ {V : Type 0} (read : List (SlotRecord V)) (slots : List (Slot V)) (vaca
         let stack = rw (slot_vacant (length read) slot positive parts.0 parts.1) at (start_stack-push read slot) in
         let here = vacant_place slot consistent parts.0 parts.1 in
         let pushed : places_of new ≡ places_of slots ++ place_of_record slot ∷ [] =
-        cc (places_with slot, length-places slots, set-append_seam (places_of slots) (place_in slot.version (read_state slot.value)) [] (Vacant (slot.version + 1)), here) in
+        cc (places_with slot, length-places slots, set-append_seam (places_of slots) (place_in (read_slot slot.version slot.value)) [] (Vacant (slot.version + 1)), here) in
         let ascends = vacated_last (vacant_at (all_links (with_slot slot))) (blocks_of (all_links (with_slot slot))) (length slots) (in_use_from slot (length slots + 1) (omega arith))
         (subst (λ (b : Blocks). Ascend 1 b.others (length slots)) (sym (blocks_with slot)) are.ascending) in
         more new (vacant + 1) list (subst (λ (b : Blocks). Ascend 1 b.others (length slots + 1)) (sym blocks) ascends) pushed (omega (arith, ap length stack, are.counted))
@@ -137,7 +137,7 @@ module _ {V : Type 0} (read : List (SlotRecord V)) (slots : List (Slot V)) (vaca
     pub AreRead-in_use : is_vacant_version slot.version ≡ false → length slots + 1 < 2 ^ 32 → AreRead (read ++ slot ∷ []) (with_slot slot) vacant (elems + slot.version % 2)
     AreRead-in_use other fits =
         let none : vacant_slot (length read) slot ≡ None = grind arith in
-        let place : place_in slot.version (read_state slot.value) ≡ place_of_record slot = grind (arith, vacant_is slot.version, even_where slot consistent) in
+        let place : place_in (read_slot slot.version slot.value) ≡ place_of_record slot = grind (arith, vacant_is slot.version, even_where slot consistent) in
         let stack = rw none at (start_stack-push read slot) in
         let pushed = places_with slot ∙ ap (λ p. places_of slots ++ p ∷ []) place in
         more (with_slot slot) vacant (list_with slot fits)
@@ -167,9 +167,9 @@ module _ {V : Type 0} (read : List (SlotRecord V)) (slots : List (Slot V)) (vaca
 -- the list that the slots are written as
 module _ {V : Type 0} (slots : List (Slot V)) (vacant elems : ℕ) (sound : IsSound slots vacant elems) where
   -- a slot of the map, as it is written
-  pub slot-written : (i : ℕ) (s : Slot V) → slice_get slots i ≡ Some s → s.version < 2 ^ 32
-      → slice_get (records_of (places_of slots)) i ≡ Some (record { value = value_in s.state; version = s.version })
-  slot-written i s found fits = grind (arith, slice_get-map record_of (places_of slots) i, place_at slots i s found, sound.none_detached i s.version)
+  pub slot-written : (i : ℕ) (s : Slot V) → slice_get slots i ≡ Some s → version_in s < 2 ^ 32
+      → slice_get (records_of (places_of slots)) i ≡ Some (record { value = value_in s; version = version_in s })
+  slot-written i s found fits = grind (arith, slice_get-map record_of (places_of slots) i, place_at slots i s found, sound.none_detached i (version_in s))
 
   pub slots-all : (i : ℕ) → length slots ≤ i → take i (records_of (places_of slots)) ≡ records_of (places_of slots)
   slots-all i past = take_all i (records_of (places_of slots)) (omega (arith, length-map (places_of slots) record_of, length-places slots))

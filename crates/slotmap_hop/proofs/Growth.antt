@@ -11,10 +11,10 @@ use Rattle.slotmap_core.proofs.Places.PlacesLemmas.{key, len-live-set, len-live-
 use Rattle.slotmap_core.proofs.Places.StackLemmas.{IsStacked-filled, IsStacked-pushed}
 use Rattle.slotmap_core.proofs.Contents.StepLemmas.{removes, inserts}
 use Rattle.slotmap_hop.specs.declared.links.Slot.{Slot}
-use Rattle.slotmap_hop.specs.declared.links.State.TheVariants.{Occupied}
+use Rattle.slotmap_hop.specs.declared.links.Slot.TheVariants.{Occupied}
 use Rattle.slotmap_hop.specs.Blocks.{shorter}
 use Rattle.slotmap_hop.specs.Links.{list_without, blocks_of, HasBlockList}
-use Rattle.slotmap_hop.specs.Slots.{links_in, place_in, all_links, places_of, next_place, offer_at, holding, hop_content, IsSound}
+use Rattle.slotmap_hop.specs.Slots.{version_in, links_in, place_in, all_links, places_of, next_place, offer_at, holding, hop_content, IsSound}
 use Rattle.slotmap_hop.proofs.SlotReads.{length-all_links, length-places}
 use Rattle.slotmap_hop.proofs.Taking.{HasBlockList-pushed, blocks_pushed, shorter_none}
 use Rattle.slotmap_hop.proofs.StackOrder.{IsStacked-first, length_removed, untold, Inserts-untold, Removes-untold}
@@ -65,27 +65,27 @@ module _ {V : Type 0} (slots : List (Slot V)) (vacant elems : ℕ) (sound : IsSo
     pub slot : Slot V
     pub there : slice_get slots (next_place slots) ≡ Some slot
     pub within : next_place slots < length slots
-    pub place : slice_get (places_of slots) (next_place slots) ≡ Some (Vacant (slot.version + 1))
-    pub version : IsVersion (slot.version + 1)
+    pub place : slice_get (places_of slots) (next_place slots) ≡ Some (Vacant (version_in slot + 1))
+    pub version : IsVersion (version_in slot + 1)
 
   pub back_slot : Back
   back_slot =
       let s = vacant_slot slots (next_place slots) (back_vacant slots vacant elems sound) in
-      record { slot = s.0; there = s.1; within = s.2; place = s.3; version = sound.stacked.versions (next_place slots) (Vacant (s.0.version + 1)) s.3 }
+      record { slot = s.0; there = s.1; within = s.2; place = s.3; version = sound.stacked.versions (next_place slots) (Vacant (version_in s.0 + 1)) s.3 }
 
-  pub offer-back : 0 < next_place slots → offer_at (places_of slots) (next_place slots) ≡ key (next_place slots) (back_slot.slot.version + 1)
+  pub offer-back : 0 < next_place slots → offer_at (places_of slots) (next_place slots) ≡ key (next_place slots) (version_in back_slot.slot + 1)
   offer-back some = grind (arith, back_slot.place)
 
   -- a new place
   abbrev pub pushed_slots : V → List (Slot V)
-  pushed_slots w = slots ++ record { version = 1; state = Occupied w } ∷ []
+  pushed_slots w = slots ++ Occupied 1 w ∷ []
 
   places-pushed : (w : V) → places_of (pushed_slots w) ≡ places_of slots ++ Live 1 w ∷ []
-  places-pushed w = map-append (λ (s : Slot V). place_in s.version s.state) slots (record { version = 1; state = Occupied w } ∷ [])
+  places-pushed w = map-append (λ (s : Slot V). place_in s) slots (Occupied 1 w ∷ [])
 
   pub blocks-pushed : (w : V) → length slots + 1 < 2 ^ 32 → next_place slots ≡ 0 → HasBlockList (all_links (pushed_slots w)) × (blocks_of (all_links (pushed_slots w)) ≡ shorter (blocks_of (all_links slots)))
   blocks-pushed w fits none =
-      let same : all_links (pushed_slots w) ≡ all_links slots ++ None ∷ [] = map-append (λ (s : Slot V). links_in s.state) slots (record { version = 1; state = Occupied w } ∷ []) in
+      let same : all_links (pushed_slots w) ≡ all_links slots ++ None ∷ [] = map-append (λ (s : Slot V). links_in s) slots (Occupied 1 w ∷ []) in
       rw same (HasBlockList-pushed (all_links slots) sound.linked (omega (arith, length-all_links slots)), blocks_pushed (all_links slots) sound.linked ∙ shorter_none (all_links slots) sound.linked none)
 
   pub sound-pushed : (w : V) → length slots + 1 < 2 ^ 32 → next_place slots ≡ 0 → IsSound (pushed_slots w) vacant (elems + 1)
@@ -109,10 +109,10 @@ module _ {V : Type 0} (slots : List (Slot V)) (vacant elems : ℕ) (sound : IsSo
 
   -- the offered place is filled
   pub sound-filled : (new : List (Slot V)) (w : V) → 0 < next_place slots → HasBlockList (all_links new)
-      → places_of new ≡ set (places_of slots) (next_place slots) (Live (back_slot.slot.version + 1) w) → IsSound new (vacant - 1) (elems + 1)
+      → places_of new ≡ set (places_of slots) (next_place slots) (Live (version_in back_slot.slot + 1) w) → IsSound new (vacant - 1) (elems + 1)
   sound-filled new w some list after =
       let i = next_place slots in
-      let n = back_slot.slot.version + 1 in
+      let n = version_in back_slot.slot + 1 in
       let on = sound.stacked.complete i n some back_slot.place in
       IsSound-set slots vacant elems sound new i (Vacant n) (Live n w) back_slot.place (λ v e. absurd (cc)) list after (list_without sound.stack i)
       (IsStacked-filled (places_of slots) i (list_without sound.stack i) n w (IsStacked-first (places_of slots) sound.stack i sound.stacked on) back_slot.place) _ _
@@ -120,7 +120,7 @@ module _ {V : Type 0} (slots : List (Slot V)) (vacant elems : ℕ) (sound : IsSo
       (omega (arith, len-live-set (places_of slots) i (Vacant n) (Live n w) back_slot.place, sound.elems_live))
 
   pub inserts-filled : (new : List (Slot V)) (c d : ℕ) (w : V) → 0 < next_place slots → used_places (places_of slots) < most → c ≤ d
-      → places_of new ≡ set (places_of slots) (next_place slots) (Live (back_slot.slot.version + 1) w)
+      → places_of new ≡ set (places_of slots) (next_place slots) (Live (version_in back_slot.slot + 1) w)
       → Inserts (hop_content slots c).content (hop_content slots c).content.offer w (hop_content new d).content
   inserts-filled new c d w some below more after =
       inserts-slots slots vacant elems sound new c d w below more
@@ -128,7 +128,7 @@ module _ {V : Type 0} (slots : List (Slot V)) (vacant elems : ℕ) (sound : IsSo
 
   -- an insert adds a place just if none is vacant
   pub none_offered : vacant ≡ 0 → next_place slots ≡ 0
-  none_offered none = grind (arith, length_removed sound.stack (next_place slots), sound.stacked.complete (next_place slots) (back_slot.slot.version + 1), back_slot.place, sound.counted)
+  none_offered none = grind (arith, length_removed sound.stack (next_place slots), sound.stacked.complete (next_place slots) (version_in back_slot.slot + 1), back_slot.place, sound.counted)
 
   pub some_offered : vacant ≢ 0 → 0 < next_place slots
   some_offered some = grind (arith, none_left)

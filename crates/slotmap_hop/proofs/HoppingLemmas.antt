@@ -1,26 +1,26 @@
 -- A search for the next live place skips a block of vacant places in one step.
-use Rattle.std.proofs.Common.{◌≡◌, ◌≢◌, ℕ, zero, suc, ◌+◌, ◌-◌, ◌*◌, ◌<◌, ◌≤◌, ◌^◌, ◌%◌, true, List, [], ◌∷◌, ◌++◌, length, drop, slice_get, Some, refl, sym, ap, ◌∙◌, arith}
+use Rattle.std.proofs.Common.{◌≡◌, ◌≢◌, ℕ, max, zero, suc, ◌+◌, ◌-◌, ◌*◌, ◌<◌, ◌≤◌, ◌^◌, true, false, List, [], ◌∷◌, ◌++◌, length, drop, slice_get, Some, None, is_some, refl, sym, ap, ◌∙◌, arith}
 use Rattle.std.proofs.lemmas.Option.{slice_get_within, get_or_from_slice_get}
 use Rattle.std.proofs.lemmas.List.{drop_more, drop_all, append_assoc, length-append}
 use Rattle.std.proofs.lemmas.List.Elements.{All-nil, All-cons, All-push, All-weaker}
 use Rattle.std.specs.List.{All}
 use Rattle.std.specs.FinMap as map
 use Rattle.slotmap_core.specs.Key.{Key, last_version}
-use Rattle.slotmap_core.specs.Places.{Place, Live, Detached, Retired, live, live_entry, retired_entry}
+use Rattle.slotmap_core.specs.Places.{Place, Live, Detached, Vacant, Retired as RetiredPlace, live, live_entry, retired_entry}
 use Rattle.slotmap_core.specs.Gather.{gather}
 use Rattle.slotmap_core.specs.StackMap.{HasVersion}
 use Rattle.slotmap_core.proofs.Contents.ContentLemmas.{live_at}
-use Rattle.slotmap_core.proofs.Places.PlacesLemmas.{key}
+use Rattle.slotmap_core.proofs.Places.PlacesLemmas.{key, get-live_at}
 use Rattle.slotmap_hop.specs.declared.links.Links.{Links}
 use Rattle.slotmap_hop.specs.declared.links.Slot.{Slot}
-use Rattle.slotmap_hop.specs.declared.links.State.TheVariants.{Occupied, Free}
+use Rattle.slotmap_hop.specs.declared.links.Slot.TheVariants.{Occupied, Free, Retired}
 use Rattle.slotmap_hop.specs.Blocks.{Begins, IsBlock}
 use Rattle.slotmap_hop.specs.Links.{vacant_at, links_at, end_at}
-use Rattle.slotmap_hop.specs.Slots.{place_in, all_links, places_of}
+use Rattle.slotmap_hop.specs.Slots.{value_in, end_in, place_in, all_links, places_of}
 use Rattle.slotmap_hop.specs.Iter.{pairs_left, retired_left, StandsAt, CanGoOn, FindsNone, FindsSlot, ReadsOnTheWay, Counted}
 use Rattle.slotmap_hop.proofs.BlockLemmas.{clash, begins_after, front_here}
 use Rattle.slotmap_hop.proofs.Circle.{shown}
-use Rattle.slotmap_hop.proofs.SlotReads.{length-places, slot_within, place_at, slot_cases}
+use Rattle.slotmap_hop.proofs.SlotReads.{length-places, slot_within, place_at, slot_cases, occupied}
 use Rattle.slotmap_hop.proofs.SlotLemmas.{place_not_vacant, slots_fit, vacant_slot}
 
 module _ {V : Type 0} where
@@ -36,9 +36,12 @@ module _ {V : Type 0} where
   above i j [] low = All-nil (λ k. i < k.index)
   above i j (p ∷ ps) low = let rest = above i (j + 1) ps (omega arith) in grind (arith, All-cons (λ k. i < k.index) (key j last_version) (retired_from (j + 1) ps) low rest)
 
+place_there : {V : Type 0} (slots : List (Slot V)) (i : ℕ) → i < length slots → (p : Place V) × (slice_get (places_of slots) i ≡ Some p)
+place_there slots i inside = grind (arith, slot_cases slots i)
+
 module _ {V : Type 0} (slots : List (Slot V)) where
   -- a step over a place, where a list is made of the places from it on
-  left-on : {X : Type 0} (from : ℕ → List (Place V) → X) (i : ℕ) (p : Place V) → slice_get (places_of slots) i ≡ Some p
+  pub left-on : {X : Type 0} (from : ℕ → List (Place V) → X) (i : ℕ) (p : Place V) → slice_get (places_of slots) i ≡ Some p
       → from i (drop i (places_of slots)) ≡ from i (p ∷ drop (i + 1) (places_of slots))
   left-on from i p found =
       let ps = places_of slots in
@@ -61,8 +64,26 @@ module _ {V : Type 0} (slots : List (Slot V)) where
   block_here i stands vacant =
       ((shown stands.sound.linked.linked).ends i (front_here (vacant_at (all_links slots)) i vacant (stands.at_front vacant))).0
 
+  -- a place that isn't live holds nothing
+  not_live_on : (i : ℕ) (p : Place V) → slice_get (places_of slots) i ≡ Some p → ((v : ℕ) (x : V) → p ≢ Live v x) → pairs_left slots i ≡ pairs_left slots (i + 1)
+  not_live_on i (Live v x) found other = absurd (other v x refl)
+  not_live_on i (Detached v) found other = left-on pairs_from i (Detached v) found
+  not_live_on i (Vacant v) found other = left-on pairs_from i (Vacant v) found
+  not_live_on i RetiredPlace found other = left-on pairs_from i RetiredPlace found
+
+  -- nor do places before the first live one
+  pub skip_to : (n i j : ℕ) → i + n ≡ j → j < length slots → ((q : Key) → map.contains_key (live (places_of slots)) q ≡ true → i ≤ q.index → j ≤ q.index) → pairs_left slots i ≡ pairs_left slots j
+  skip_to zero i j on inside none = let same : i ≡ j = omega arith in rw same refl
+  skip_to (suc n) i j on inside none =
+      let here = place_there slots i (omega arith) in
+      not_live_on i here.0 here.1 (λ v x is. absurd (omega (arith, none (key i v) (ap is_some (get-live_at (places_of slots) (key i v) i x refl (here.1 ∙ ap Some is))) (omega arith))))
+      ∙ skip_to n (i + 1) j (omega arith) inside (λ q there low. none q there (omega arith))
+
   pub stands_on : (i j : ℕ) → StandsAt slots i → (vacant_at (all_links slots) j ≡ true → Begins (vacant_at (all_links slots)) j) → StandsAt slots j
   stands_on i j stands front = record { vacant = stands.vacant; elems = stands.elems; sound = stands.sound; at_front = front }
+
+pub none_here : {V : Type 0} (s : Slot V) → is_some (value_in s) ≡ false → value_in s ≡ None
+none_here s is = grind arith
 
 module _ {V : Type 0} (slots : List (Slot V)) (reads0 start : ℕ) where
   -- on the way from a place to the next live one: the slots are as they were, and no live key was passed
@@ -122,14 +143,14 @@ module _ {V : Type 0} (slots : List (Slot V)) (reads0 start : ℕ) where
     pub one : new.reads ≡ now.reads + 1
 
   -- a block that begins there is skipped in one step
-  pub record Hops (now new : Counted V) (place : ℕ) (links : Links) : Type 0 where
-    pub on : OnTheWay new (links.other_end + 1)
-    pub within : links.other_end < length slots
-    pub smaller : length new.slots - (links.other_end + 1) < length now.slots - place
+  pub record Hops (now new : Counted V) (place back : ℕ) : Type 0 where
+    pub on : OnTheWay new (back + 1)
+    pub within : back < length slots
+    pub smaller : length new.slots - (back + 1) < length now.slots - place
 
   module _ {now new : Counted V} {place : ℕ} {s : Slot V} (at : Reads now place s new) where
-    pub way_hops : (links : Links) → s.state ≡ Free links → Hops now new place links
-    way_hops links is =
+    way_hops : (version : ℕ) (links : Links) → s ≡ Free version links → Hops now new place (max place links.other_end)
+    way_hops version links is =
         let v = vacant_at (all_links slots) in
         let free : (vacant_at (all_links slots) place ≡ true) × (links_at (all_links slots) place ≡ links) = grind (arith, slot_cases slots place, at.found) in
         let back : links.other_end ≡ end_at (all_links slots) place = sym (ap (λ (l : Links). l.other_end) free.1) in
@@ -137,7 +158,8 @@ module _ {V : Type 0} (slots : List (Slot V)) (reads0 start : ℕ) where
         let past = past_block slots place links.other_end block in
         let few = at.way.few_vacant free.0 in
         let within = slot_within slots links.other_end (block.inside links.other_end block.ordered (omega arith)) in
-        record {
+        let farther : max place links.other_end ≡ links.other_end = omega (arith, block.ordered) in
+        rw farther (record {
           on = record {
             kept = at.kept;
             stands = stands_on slots place (links.other_end + 1) at.way.stands (λ again. clash v (links.other_end + 1) again block.ends);
@@ -154,44 +176,62 @@ module _ {V : Type 0} (slots : List (Slot V)) (reads0 start : ℕ) where
           };
           within = within;
           smaller = rw (at.kept, at.way.kept) (omega (arith, within, block.ordered));
-        }
+        })
 
-    here : (slice_get (places_of slots) place ≡ Some (place_in s.version s.state)) × HasVersion (place_in s.version s.state) × ((v : ℕ) → place_in s.version s.state ≢ Detached v)
+    here : (slice_get (places_of slots) place ≡ Some (place_in s)) × HasVersion (place_in s) × ((v : ℕ) → place_in s ≢ Detached v)
     here = let is = place_at slots place s at.found in (is, at.way.stands.sound.stacked.versions place _ is, λ v e. at.way.stands.sound.none_detached place v (is ∙ ap Some e))
 
-    -- a slot that is neither live nor vacant is retired, and is passed
-    pub way_passes : s.version % 2 ≢ 1 → ((links : Links) → s.state ≢ Free links) → OnTheWay new (place + 1)
-    way_passes even other =
-        let spent : slice_get (places_of slots) place ≡ Some Retired = grind (arith, here, other) in
+    -- a retired slot is passed
+    way_passes : (version : ℕ) (links : Links) → s ≡ Retired version links → Hops now new place (max place links.other_end)
+    way_passes version links is =
+        let names_none : links.other_end ≡ 0 = grind (arith, here, is) in
+        let spent : slice_get (places_of slots) place ≡ Some RetiredPlace = grind (arith, here, is) in
         let more = length-append at.way.gone (key place last_version ∷ []) in
-        record {
-          kept = at.kept;
-          stands = stands_on slots place (place + 1) at.way.stands (λ _. begins_after (vacant_at (all_links slots)) place (place_not_vacant slots place Retired spent (λ n e. absurd (cc))));
-          same = at.way.same ∙ left-on slots pairs_from place Retired spent;
-          none = λ q there from. (let live = live_at (places_of slots) q there in grind (arith, at.way.none q there from));
-          gone = at.way.gone ++ key place last_version ∷ [];
-          still = at.way.still ∙ ap (λ ks. at.way.gone ++ ks) (left-on slots retired_from place Retired spent)
-              ∙ sym (append_assoc at.way.gone (key place last_version ∷ []) (retired_left slots (place + 1)));
-          below =
-              All-push (λ k. k.index < place + 1) at.way.gone (key place last_version)
-              (All-weaker (λ k. k.index < place) (λ k. k.index < place + 1) (λ k low. omega arith) at.way.gone at.way.below) (omega arith);
-          few_vacant = λ vacant. omega (arith, at.way.few, more);
-          few = omega (arith, at.way.few, more);
-          passed = omega (arith, at.way.passed);
-          begun = omega (arith, at.way.begun);
-          before = at.way.before;
-        }
+        let farther : max place links.other_end ≡ place = omega (arith, names_none) in
+        rw farther (record {
+          on = record {
+            kept = at.kept;
+            stands = stands_on slots place (place + 1) at.way.stands (λ _. begins_after (vacant_at (all_links slots)) place (place_not_vacant slots place RetiredPlace spent (λ n e. absurd (cc))));
+            same = at.way.same ∙ left-on slots pairs_from place RetiredPlace spent;
+            none = λ q there from. (let live = live_at (places_of slots) q there in grind (arith, at.way.none q there from));
+            gone = at.way.gone ++ key place last_version ∷ [];
+            still = at.way.still ∙ ap (λ ks. at.way.gone ++ ks) (left-on slots retired_from place RetiredPlace spent)
+                ∙ sym (append_assoc at.way.gone (key place last_version ∷ []) (retired_left slots (place + 1)));
+            below =
+                All-push (λ k. k.index < place + 1) at.way.gone (key place last_version)
+                (All-weaker (λ k. k.index < place) (λ k. k.index < place + 1) (λ k low. omega arith) at.way.gone at.way.below) (omega arith);
+            few_vacant = λ vacant. omega (arith, at.way.few, more);
+            few = omega (arith, at.way.few, more);
+            passed = omega (arith, at.way.passed);
+            begun = omega (arith, at.way.begun);
+            before = at.way.before;
+          };
+          within = at.inside;
+          smaller = rw (at.kept, at.way.kept) (omega (arith, at.inside));
+        })
 
-    -- a slot of an odd version is live: it is what the search looks for
-    pub way_finds : s.version % 2 ≡ 1 → FindsSlot slots start place s × ReadsOnTheWay slots reads0 start new.reads place
-    way_finds odd =
-        let live : (x : V) × (s.state ≡ Occupied x) = grind (arith, here) in
-        let live_there = here.0 ∙ ap (λ st. Some (place_in s.version st)) live.1 in
-        let gone = at.way.still ∙ ap (λ ks. at.way.gone ++ ks) (left-on slots retired_from place (Live s.version live.0) live_there) in (
+    pub way_on : value_in s ≡ None → Hops now new place (max place (end_in s))
+    way_on none = by s refl none
+      where
+        by : (t : Slot V) → s ≡ t → value_in t ≡ None → Hops now new place (max place (end_in t))
+        by (Occupied version value) is none = absurd (cc)
+        by (Free version links) is none = way_hops version links is
+        by (Retired version links) is none = way_passes version links is
+
+    -- a slot with a value is what the search looks for
+    pub way_finds : is_some (value_in s) ≡ true → FindsSlot slots start place s × ReadsOnTheWay slots reads0 start new.reads place
+    way_finds live =
+        let slot : (version : ℕ) × (x : V) × (s ≡ Occupied version x) = occupied s live in
+        let version = slot.0 in
+        let x = slot.1 in
+        let is = slot.2 in
+        let live_there = here.0 ∙ ap (λ slot. Some (place_in slot)) is in
+        let gone = at.way.still ∙ ap (λ ks. at.way.gone ++ ks) (left-on slots retired_from place (Live version x) live_there) in (
           record {
-            value = live.0;
-            is = live.1;
-            finds = record { there = live_there; first = at.way.same ∙ left-on slots pairs_from place (Live s.version live.0) live_there; least = at.way.none };
+            version = version;
+            value = x;
+            is = is;
+            finds = record { there = live_there; first = at.way.same ∙ left-on slots pairs_from place (Live version x) live_there; least = at.way.none };
           },
           record {
             gone = at.way.gone;

@@ -1,11 +1,13 @@
 -- What an iterator that skips blocks has yet to yield, at its start and after each step.
-use Rattle.std.proofs.Common.{◌≡◌, ℕ, ◌+◌, ◌-◌, true, List, [], ◌∷◌, length, drop, set, ◌∙◌, refl, sym, ap, subst, arith}
+use Rattle.std.proofs.Common.{◌≡◌, ℕ, ◌+◌, ◌-◌, ◌<◌, ◌≤◌, true, List, [], ◌∷◌, length, drop, set, ◌∙◌, refl, sym, ap, subst, arith}
+use Rattle.std.proofs.lemmas.Option.{slice_get_within}
 use Rattle.std.proofs.lemmas.List.{nil_from_length, drop-set-lt}
 use Rattle.std.specs.FinMap as map
 use Rattle.std.specs.FinSet as set
-use Rattle.slotmap_core.specs.Key.{key_cmp}
+use Rattle.slotmap_core.specs.Key.{Key, key_cmp}
 use Rattle.slotmap_core.specs.Places.{Place, Live, Retired, live, retired, retired_entry}
 use Rattle.slotmap_core.specs.Gather.{gather}
+use Rattle.slotmap_core.proofs.Contents.ContentLemmas.{live_at}
 use Rattle.slotmap_core.proofs.Places.PlacesLemmas.{retired_fits}
 use Rattle.slotmap_core.proofs.General.MapLaws.{detached_laws}
 use Rattle.slotmap_core.proofs.General.GatherLemmas.{len-add}
@@ -18,9 +20,10 @@ use Rattle.slotmap_hop.specs.Iter.{pairs_left, retired_left, IsIter, CanGoOn, Fi
 use Rattle.slotmap_hop.proofs.BlockLemmas.{clash, begins_after}
 use Rattle.slotmap_hop.proofs.Circle.{block_at}
 use Rattle.slotmap_hop.proofs.Vacating.{zero_in_circle}
+use Rattle.slotmap_hop.proofs.SlotReads.{length-places}
 use Rattle.slotmap_hop.proofs.SlotLemmas.{place_not_vacant}
 use Rattle.slotmap_hop.proofs.LiveSlots.{sound-retired}
-use Rattle.slotmap_hop.proofs.HoppingLemmas.{pairs_from, retired_from, past_block, stands_on}
+use Rattle.slotmap_hop.proofs.HoppingLemmas.{pairs_from, retired_from, past_block, stands_on, left-on, skip_to}
 
 module _ {V : Type 0} where
   set-retired_from : (j : ℕ) (ps : List (Place V)) → set.from_list (retired_from j ps) ≡ gather (set.empty {R = key_cmp}) (λ s e. set.insert s e.0) retired_entry j ps
@@ -68,6 +71,16 @@ module _ {V : Type 0} {slots : List (Slot V)} {reads place left : ℕ} (iterates
         counted = iter_on.counted ∙ ap length (sym pairs-taken);
         passed = omega arith;
       }
+
+-- another key is live beside the first one
+pub more_left : {V : Type 0} (slots : List (Slot V)) (k : Key) → map.contains_key (live (places_of slots)) k ≡ true
+    → ((q : Key) → map.contains_key (live (places_of slots)) q ≡ true → k.index ≤ q.index) → 1 < map.len (live (places_of slots)) → 0 < length (pairs_left slots (k.index + 1))
+more_left slots k there least more =
+    let ps = places_of slots in
+    let at = live_at ps k there in
+    let inside : k.index < length slots = omega (arith, slice_get_within ps k.index _ at.1, length-places slots) in
+    let first = skip_to slots k.index 0 k.index (omega arith) inside (λ q lives low. least q lives) ∙ left-on slots pairs_from k.index (Live k.version at.0) at.1 in
+    omega (arith, ap length first, ap length (entries-live ps), map.len-entries (live ps), more)
 
 module _ {V : Type 0} (slots : List (Slot V)) (vacant elems : ℕ) (sound : IsSound slots vacant elems) where
   -- an iterator starts after the block of place 0

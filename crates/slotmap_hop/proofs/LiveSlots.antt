@@ -13,10 +13,10 @@ use Rattle.slotmap_core.proofs.Contents.ContentLemmas.{live_at}
 use Rattle.slotmap_core.proofs.Places.StackLemmas.{not_first, IsStacked-kept, IsStacked-freed}
 use Rattle.slotmap_core.proofs.Contents.StepLemmas.{content-written}
 use Rattle.slotmap_hop.specs.declared.links.Slot.{Slot}
-use Rattle.slotmap_hop.specs.declared.links.State.TheVariants.{Occupied}
+use Rattle.slotmap_hop.specs.declared.links.Slot.TheVariants.{Occupied}
 use Rattle.slotmap_hop.specs.Links.{blocks_of, HasBlockList}
 use Rattle.slotmap_hop.specs.HopContent.{hop_with_value}
-use Rattle.slotmap_hop.specs.Slots.{links_in, place_in, all_links, places_of, value_in, value_at, CanFree, next_place, offer_at, hop_content, IsSound}
+use Rattle.slotmap_hop.specs.Slots.{version_in, links_in, place_in, all_links, places_of, value_in, value_at, CanFree, next_place, offer_at, hop_content, IsSound}
 use Rattle.slotmap_hop.proofs.SlotReads.{length-all_links, length-places, slot_cases, places_written}
 use Rattle.slotmap_hop.proofs.Growth.{IsSound-set}
 use Rattle.slotmap_core.proofs.General.ListLemmas.{same_read}
@@ -24,13 +24,13 @@ use Rattle.slotmap_hop.proofs.SlotLemmas.{key_is, vacant_slot, place_not_vacant,
 
 -- the slot of a live place
 live_slot : {V : Type 0} (slots : List (Slot V)) (i v : ℕ) (x : V) → slice_get (places_of slots) i ≡ Some (Live v x)
-    → (i < length slots) × (slice_get slots i ≡ Some (record { version = v; state = Occupied x }))
+    → (i < length slots) × (slice_get slots i ≡ Some (Occupied v x))
 live_slot slots i v x place = grind (arith, slot_cases slots i)
 
 module _ {V : Type 0} (slots : List (Slot V)) (vacant elems : ℕ) (sound : IsSound slots vacant elems) where
-  pub contains-version : (k : Key) (s : Slot V) → IsKey k → slice_get slots k.index ≡ Some s → (s.version == k.version) ≡ map.contains_key (live (places_of slots)) k
+  pub contains-version : (k : Key) (s : Slot V) → IsKey k → slice_get slots k.index ≡ Some s → (version_in s == k.version) ≡ map.contains_key (live (places_of slots)) k
   contains-version k s is found =
-      grind (arith, nat_tests, is.odd, get-live (places_of slots) k, slot_cases slots k.index, sound.stacked.versions k.index (place_in s.version s.state), sound.none_detached k.index s.version)
+      grind (arith, nat_tests, is.odd, get-live (places_of slots) k, slot_cases slots k.index, sound.stacked.versions k.index (place_in s), sound.none_detached k.index (version_in s))
 
   pub contains-past : (k : Key) → length slots ≤ k.index → map.contains_key (live (places_of slots)) k ≡ false
   contains-past k past = ap is_some (get-live (places_of slots) k ∙ ap (live_value k.version) (slice_get_past (places_of slots) k.index (omega (arith, length-places slots))))
@@ -38,7 +38,7 @@ module _ {V : Type 0} (slots : List (Slot V)) (vacant elems : ℕ) (sound : IsSo
 -- the slot of a key that is live
 pub record Present {V : Type 0} (slots : List (Slot V)) (lives : map.FinMap key_cmp V) (k : Key) (i v : ℕ) : Type 0 where
   pub value : V
-  pub found : slice_get slots i ≡ Some (record { version = v; state = Occupied value })
+  pub found : slice_get slots i ≡ Some (Occupied v value)
   pub within : i < length slots
   pub place : slice_get (places_of slots) i ≡ Some (Live v value)
   pub key_is_at : k ≡ key i v
@@ -61,17 +61,14 @@ present slots lives all k i v at of holds =
 
 -- what is read at its index
 module _ {V : Type 0} {slots : List (Slot V)} {lives : map.FinMap key_cmp V} {k : Key} {i v : ℕ} (found : Present slots lives k i v) (read : Slot V) (is_read : read ≡ get_or slots i read) where
-  slot_read : read ≡ record { version = v; state = Occupied found.value }
+  pub slot_read : read ≡ Occupied v found.value
   slot_read = same_read slots i read _ is_read found.found
 
-  pub version_read : read.version ≡ v
-  version_read = ap (λ s. s.version) slot_read
+  pub version_read : (u : ℕ) (x : V) → read ≡ Occupied u x → u ≡ v
+  version_read u x is = sym (ap version_in is) ∙ ap version_in slot_read
 
-  pub state_read : read.state ≡ Occupied found.value
-  state_read = ap (λ s. s.state) slot_read
-
-  pub read_gives : (x : V) → read.state ≡ Occupied x → map.get lives k ≡ Some x
-  read_gives x is = let same : found.value ≡ x = cc (sym state_read ∙ is) in found.gives ∙ ap Some same
+  pub read_gives : (u : ℕ) (x : V) → read ≡ Occupied u x → map.get lives k ≡ Some x
+  read_gives u x is = found.gives ∙ sym (ap value_in slot_read) ∙ ap value_in is
 
 -- the slot of a live key
 
@@ -99,12 +96,12 @@ module _ {V : Type 0} (slots : List (Slot V)) (vacant elems : ℕ) (sound : IsSo
       inside = omega (arith, live_within, length-all_links slots);
     };
     inside = live_within;
-    live = ap (λ o. is_some (option_and_then (λ (s : Slot V). value_in s.state) o)) (live_slot slots i v x place).1;
+    live = ap (λ o. is_some (option_and_then value_in o)) (live_slot slots i v x place).1;
   }
 
   -- the value that was taken out
   pub value_is : (y : V) → value_at slots i ≡ Some y → Some x ≡ Some y
-  value_is y is = sym (ap (option_and_then (λ (s : Slot V). value_in s.state)) (live_slot slots i v x place).1) ∙ is
+  value_is y is = sym (ap (option_and_then value_in) (live_slot slots i v x place).1) ∙ is
 
   -- the slot becomes vacant
   pub sound-freed : (new : List (Slot V)) → HasBlockList (all_links new) → places_of new ≡ set (places_of slots) i (Vacant (v + 1 + 1)) → v ≢ last_version → IsSound new (vacant + 1) (elems - 1)
@@ -126,16 +123,16 @@ module _ {V : Type 0} (slots : List (Slot V)) (vacant elems : ℕ) (sound : IsSo
 module _ {V : Type 0} (slots : List (Slot V)) (vacant elems : ℕ) (sound : IsSound slots vacant elems) (i v : ℕ) (x : V)
     (place : slice_get (places_of slots) i ≡ Some (Live v x)) (u : ℕ) (same : u ≡ v) (w : V) where
   abbrev pub rewritten : List (Slot V)
-  rewritten = set slots i (record { version = u; state = Occupied w })
+  rewritten = set slots i (Occupied u w)
 
   all_links-rewritten : all_links rewritten ≡ all_links slots
   all_links-rewritten =
-      let old : Slot V = record { version = v; state = Occupied x } in
+      let old : Slot V = Occupied v x in
       let read = get_or_from_slice_get slots i old old (live_slot slots i v x place).1 in
-      map-set_same (λ (s : Slot V). links_in s.state) slots i _ old (sym (ap (λ s. links_in s.state) read))
+      map-set_same (λ (s : Slot V). links_in s) slots i _ old (sym (ap links_in read))
 
   places-rewritten : places_of rewritten ≡ set (places_of slots) i (Live v w)
-  places-rewritten = places_written slots i (Occupied w) u ∙ ap (λ u. set (places_of slots) i (Live u w)) same
+  places-rewritten = places_written slots i (Occupied u w) ∙ ap (λ u. set (places_of slots) i (Live u w)) same
 
   pub sound-rewritten : IsSound rewritten vacant elems
   sound-rewritten =

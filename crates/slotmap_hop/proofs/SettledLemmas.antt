@@ -16,7 +16,7 @@ use Rattle.slotmap_hop.specs.declared.links.Slot.{Slot}
 use Rattle.slotmap_hop.specs.Blocks.{vacated}
 use Rattle.slotmap_hop.specs.Links.{vacant_at, blocks_of, HasBlockList}
 use Rattle.slotmap_hop.specs.HopContent.{HopContent, IsHopContent, StaysHop, blocks_without}
-use Rattle.slotmap_hop.specs.Slots.{all_links, places_of, value_at, next_place, hop_content, IsSound}
+use Rattle.slotmap_hop.specs.Slots.{version_in, all_links, places_of, value_at, next_place, hop_content, IsSound}
 use Rattle.slotmap_hop.proofs.SlotLemmas.{valid, same_length, same_counts, key_is, slots_fit, taken_slots}
 use Rattle.slotmap_hop.proofs.Growth.{removes-slots, back_slot, none_left, none_offered, some_offered, offer-end, offer-back, sound-filled, inserts-filled}
 use Rattle.slotmap_hop.proofs.LiveSlots.{Present, present, value_is, sound-freed, sound-retired}
@@ -100,10 +100,10 @@ module _ {K V : Type 0} (m : Inside K V) {now : HopContent V} (view : hop_conten
       read_is : read ≡ (back_slot _ _ _ sound).slot
       read_is = let back = back_slot _ _ _ sound in same_read m.slots.items place read back.slot is_read (rw is back.there)
 
-      pub back_key : IsKey (key place (read.version + 1))
+      pub back_key : IsKey (key place (version_in read + 1))
       back_key = rw read_is (key_is (omega (arith, back_within, slots_fit _ _ _ sound)) (back_slot _ _ _ sound).version)
 
-      pub offered_back : now.content.offer ≡ key place (read.version + 1)
+      pub offered_back : now.content.offer ≡ key place (version_in read + 1)
       offered_back = rw (is, read_is) (ap (λ m. m.content.offer) (sym view) ∙ offer-back _ _ _ sound (some_offered _ _ _ sound some))
 
       -- it was filled, and the vector has these slots now
@@ -113,11 +113,11 @@ module _ {K V : Type 0} (m : Inside K V) {now : HopContent V} (view : hop_conten
         pub valid : StaysHop now (hop_content (with_items m.slots new).items (vec_capacity m.slots - 1))
 
       pub filled : (x : V) (given new : List (Slot V)) → given ≡ m.slots.items → 0 < now.content.room → HasBlockList (all_links new)
-          → places_of new ≡ set (places_of given) place (Live (read.version + 1) x) → Filled x new
+          → places_of new ≡ set (places_of given) place (Live (version_in read + 1) x) → Filled x new
       filled x given new seen room list places =
           let c = vec_capacity m.slots - 1 in
           let back = back_slot _ _ _ sound in
-          let after : places_of new ≡ set (places_of m.slots.items) (next_place m.slots.items) (Live (back.slot.version + 1) x) = places ∙ rw (seen, is, read_is) refl in
+          let after : places_of new ≡ set (places_of m.slots.items) (next_place m.slots.items) (Live (version_in back.slot + 1) x) = places ∙ rw (seen, is, read_is) refl in
           let size = same_length _ _ _ _ after in
           let items = with_items_is m.slots new (size ∙ sym m.slots.ok.0) in
           let at = some_offered _ _ _ sound some in

@@ -18,7 +18,7 @@ use Rattle.slotmap_hop.specs.declared.links.Slot.{Slot}
 use Rattle.slotmap_hop.specs.Blocks.{HasMaximalBlocks}
 use Rattle.slotmap_hop.specs.Links.{list_without, is_front, ListsOnce, vacant_at, next_at, end_at, fronts_of, blocks_of, IsLinked}
 use Rattle.slotmap_hop.specs.HopContent.{IsHopContent, counts_vacant}
-use Rattle.slotmap_hop.specs.Slots.{all_links, places_of, next_place, offer_at, holding, hop_content, IsSound}
+use Rattle.slotmap_hop.specs.Slots.{version_in, all_links, places_of, next_place, offer_at, holding, hop_content, IsSound}
 use Rattle.slotmap_hop.proofs.Chain.{occurs-head}
 use Rattle.slotmap_hop.proofs.FrontsLemmas.{listed_positive}
 use Rattle.slotmap_hop.proofs.Circle.{shown}
@@ -51,7 +51,7 @@ none_vacant es [] linked none i here =
 -- slots as links and as places
 
 module _ {V : Type 0} (slots : List (Slot V)) (i : ℕ) where
-  pub vacant_slot : vacant_at (all_links slots) i ≡ true → (s : Slot V) × (slice_get slots i ≡ Some s) × (i < length slots) × (slice_get (places_of slots) i ≡ Some (Vacant (s.version + 1)))
+  pub vacant_slot : vacant_at (all_links slots) i ≡ true → (s : Slot V) × (slice_get slots i ≡ Some s) × (i < length slots) × (slice_get (places_of slots) i ≡ Some (Vacant (version_in s + 1)))
   vacant_slot vacant = grind (arith, slot_cases slots i)
 
   place_vacant : (n : ℕ) → slice_get (places_of slots) i ≡ Some (Vacant n) → vacant_at (all_links slots) i ≡ true

@@ -1,12 +1,12 @@
 -- A loop over the live keys of a map, which skips vacant places.
-use Rattle.std.proofs.Common.{◌∷◌, ◌≡◌, ◌↔◌, ℕ, ◌+◌, ◌-◌, ◌<◌, true, Option, Some, None, List, ◌^◌, refl, sym, ap, ◌∙◌, arith}
+use Rattle.std.proofs.Common.{◌∷◌, ◌≡◌, ◌↔◌, ℕ, ◌+◌, ◌-◌, ◌<◌, ◌≤◌, true, Option, Some, None, List, ◌^◌, refl, sym, ap, ◌∙◌, arith}
 use Rattle.std.specs.FinMap as map
 use Rattle.slotmap_core.specs.Key.{Key}
 use Rattle.slotmap_core.specs.Content.{Content, IsLive}
 use Rattle.slotmap_core.specs.Listing.{NoneBelow}
 use Rattle.slotmap_core.specs.Transition.{Removes, with_value}
 use Rattle.slotmap_core.proofs.Contents.IndexLemmas.{NoneBelow-end, get-remove_other}
-use Rattle.slotmap_core.proofs.General.Maps.{in_after_remove}
+use Rattle.slotmap_core.proofs.General.Maps.{in_after_remove, len_removed, some_entry}
 use Rattle.slotmap_core.proofs.General.KeyLemmas.{keys_total, exact_keys}
 use Rattle.slotmap_core.proofs.Contents.SweepLemmas.{first_entry, above_next, Swept, Swept-start, Swept-to, Swept-on, Swept-next, Swept-removed}
 use Rattle.slotmap_core.proofs.Contents.LeaveLemmas.{same_live}
@@ -110,6 +110,16 @@ module _ {K V : Type 0} (data_of : K → Key) where
   -- no live key is below the next one
   pub next_is_least : (old now : HopContent V) (next : Option K) → Clearing old now next → IsNextLive data_of now.content 0 next
   next_is_least old now next clearing = let comes = clearing.sweep.comes in grind (arith, clearing.above)
+
+  -- the only live key is the last one
+  pub none_after : (now : HopContent V) (k : K) → IsLive now.content (data_of k) → map.len now.content.live ≤ 1 → IsNextLive data_of now.content ((data_of k).index + 1) None
+  none_after now k is_live few q there =
+      grind (
+        arith,
+        len_removed keys_total exact_keys now.content.live (data_of k) is_live,
+        get-remove_other now.content.live (data_of k) q,
+        some_entry keys_total exact_keys (map.remove now.content.live (data_of k)) q,
+      )
 
   pub clearing_ends : (old now : HopContent V) → Clearing old now None → now.content.live ≡ map.empty
   clearing_ends old now clearing = NoneBelow-end now.content.live clearing.index clearing.sweep.comes clearing.above

@@ -8,7 +8,7 @@ use Rattle.slotmap_core.specs.Gather.{gather}
 use Rattle.slotmap_core.specs.Listing.{ListsByIndex}
 use Rattle.slotmap_core.specs.Places.{Live, live, live_entry, retired_entry}
 use Rattle.slotmap_hop.specs.declared.links.Slot.{Slot}
-use Rattle.slotmap_hop.specs.declared.links.State.TheVariants.{Occupied}
+use Rattle.slotmap_hop.specs.declared.links.Slot.TheVariants.{Occupied}
 use Rattle.slotmap_hop.specs.Blocks.{Begins}
 use Rattle.slotmap_hop.specs.HopContent.{HopContent}
 use Rattle.slotmap_hop.specs.Links.{vacant_at}
@@ -97,14 +97,16 @@ module _ {V : Type 0} where
 
   -- the first live slot from `place` on is `found`; it is this slot
   pub record FindsSlot (slots : List (Slot V)) (place found : ℕ) (slot : Slot V) : Type 0 where
+    pub version : ℕ
     pub value : V
-    pub is : slot.state ≡ Occupied value
-    pub finds : FindsLive slots place found slot.version value
+    pub is : slot ≡ Occupied version value
+    pub finds : FindsLive slots place found version value
 
   -- a step to the next live key, whose slot is this one
   pub record StepsOn (old new : HopIter (Key × V)) (key : Key) (slot : Slot V) : Type 0 where
+    pub version : ℕ
     pub value : V
-    pub is : slot.state ≡ Occupied value
+    pub is : slot ≡ Occupied version value
     pub rest : old.rest ≡ (key, value) ∷ new.rest
     pub reads : ReadsFew key.index old new
 

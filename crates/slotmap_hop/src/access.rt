@@ -9,7 +9,7 @@ ghost use Rattle.slotmap_core.specs.Disjoint.{CanReplace, AreValuesOf};
 ghost use Rattle.slotmap_hop.specs.HopContent.{IsHopContent, StaysHop, hop_with_value, hop_with_values};
 
 use crate::HopSlotMap;
-use crate::links::State;
+use crate::links::Slot;
 use slotmap_core::keys::Key;
 use slotmap_core::sure::rule_out;
 use std::mem;
@@ -28,7 +28,7 @@ impl<K: Key, V: Drop> HopSlotMap<K, V> {
         self.note_valid();
         let key = key.data();
         let index = key.idx() as usize;
-        if self.slots.get(index)?.version == key.version() {
+        if self.slots.get(index)?.version() == key.version() {
             Some(index)
         } else {
             None
@@ -67,8 +67,8 @@ impl<K: Key, V: Drop> HopSlotMap<K, V> {
         ensures valid { IsHopContent self.now }
     {
         let index = self.live_index(key)?;
-        match &self.slots[index].state {
-            State::Occupied(value) => Some(value),
+        match &self.slots[index] {
+            Slot::Occupied(_, value) => Some(value),
             _ => {
                 rule_out(true);
                 unreachable!()
@@ -91,8 +91,8 @@ impl<K: Key, V: Drop> HopSlotMap<K, V> {
     {
         self.note_valid();
         let index = key.data().idx() as usize;
-        match &self.slots[index].state {
-            State::Occupied(value) => value,
+        match &self.slots[index] {
+            Slot::Occupied(_, value) => value,
             _ => {
                 rule_out(true);
                 unreachable!()
@@ -139,8 +139,8 @@ impl<K: Key, V: Drop> HopSlotMap<K, V> {
         ensures valid { IsHopContent self.old }
     {
         let index = key.data().idx() as usize;
-        match &mut self.slots[index].state {
-            State::Occupied(value) => value,
+        match &mut self.slots[index] {
+            Slot::Occupied(_, value) => value,
             _ => {
                 rule_out(true);
                 unreachable!()

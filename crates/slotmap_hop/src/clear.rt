@@ -1,6 +1,6 @@
 //! The calls that empty a map, and those that append what it holds to a vector.
 
-ghost use Rattle.std.specs.Prelude.{◌≡◌, ◌++◌, OnOk, OnErr, List, map as list_map};
+ghost use Rattle.std.specs.Prelude.{◌≡◌, ◌+◌, ◌<◌, ◌++◌, Some, OnOk, OnErr, List, map as list_map};
 ghost use Rattle.std.specs.FinMap as map;
 ghost use Rattle.slotmap_core.specs.Transition.{Leaves, FreesByIndex};
 ghost use Rattle.slotmap_hop.specs.HopContent.{IsHopContent, StaysHop, blocks_without_all};
@@ -27,11 +27,15 @@ impl<K: Key, V: Drop> HopSlotMap<K, V> {
         ensures blocks { self.new.blocks ≡ blocks_without_all self.old (map.keys self.old.content.live) }
         ensures valid { StaysHop self.old self.new }
     {
-        let mut first = self.first_live(0);
-        while let Some(key) = first {
-            first = self.first_live(key.data().idx() + 1);
+        let Some(mut key) = self.first_live(0) else {
+            return;
+        };
+        while self.len() > 1 {
+            let next = self.live_after(key);
             self.take_live(key);
+            key = next;
         }
+        self.take_live(key);
     }
 
     /// Appends every live key to `out`, by ascending index.

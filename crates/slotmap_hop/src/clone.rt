@@ -7,7 +7,7 @@ ghost use Rattle.slotmap_hop.specs.HopContent.{IsHopContent};
 ghost use Rattle.slotmap_hop.specs.Slots.{IsSlotClone, AreSlotClones};
 
 use crate::HopSlotMap;
-use crate::links::{Slot, State};
+use crate::links::Slot;
 use slotmap_core::keys::Key;
 use std::alloc::AllocError;
 use std::marker::PhantomData;
@@ -16,15 +16,11 @@ use std::marker::PhantomData;
 fn clone_slot<V: Clone>(slot: &Slot<V>) -> Result<Slot<V>, AllocError>
     ensures { IfOk result (IsSlotClone V.is_clone slot.now) }
 {
-    let state = match &slot.state {
-        State::Occupied(value) => State::Occupied(value.clone()?),
-        State::Free(links) => State::Free(*links),
-        State::Retired => State::Retired,
-    };
-    Ok(Slot {
-        version: slot.version,
-        state,
-    })
+    match slot {
+        Slot::Occupied(version, value) => Ok(Slot::Occupied(*version, value.clone()?)),
+        Slot::Free(version, links) => Ok(Slot::Free(*version, *links)),
+        Slot::Retired(version, links) => Ok(Slot::Retired(*version, *links)),
+    }
 }
 
 // The same slots, with clones of their values. The address of a slice stays in a register.

@@ -9,7 +9,7 @@ ghost use Rattle.slotmap_hop.specs.Blocks.{shorter};
 ghost use Rattle.slotmap_hop.specs.HopContent.{GrowsHop, IsHopContent, MakesHopRoom, StaysHop};
 
 use crate::HopSlotMap;
-use crate::links::{Slot, State, fill_back, links_at};
+use crate::links::{Slot, fill_back, links_at};
 use slotmap_core::errors::{InsertError, InsertWithError, ReserveError, TryInsertError};
 use slotmap_core::keys::{Key, KeyData};
 use slotmap_core::limits::MOST_KEYS;
@@ -23,7 +23,7 @@ impl<K: Key, V: Drop> HopSlotMap<K, V> {
         if self.vacant_count > 0 {
             let front = links_at(self.slots.as_slice(), 0).next;
             let back = links_at(self.slots.as_slice(), front).other_end;
-            return KeyData::exact(back, self.slots[back as usize].version + 1);
+            return KeyData::exact(back, self.slots[back as usize].version() + 1);
         }
         KeyData::exact(self.slots.len() as u32, 1)
     }
@@ -79,17 +79,14 @@ impl<K: Key, V: Drop> HopSlotMap<K, V> {
         // The count tells that no slot is vacant, so a new slot is added without reading any links.
         if self.vacant_count == 0 {
             let key = KeyData::exact(self.slots.len() as u32, 1);
-            self.slots.push_reserved(Slot {
-                version: 1,
-                state: State::Occupied(value),
-            });
+            self.slots.push_reserved(Slot::Occupied(1, value));
             return key;
         }
         self.vacant_count -= 1;
         let front = links_at(self.slots.as_slice(), 0).next;
         let block = links_at(self.slots.as_slice(), front);
         let last = block.other_end;
-        let version = self.slots[last as usize].version + 1;
+        let version = self.slots[last as usize].version() + 1;
         fill_back(self.slots.as_mut_slice(), front, block, version, value);
         KeyData::exact(last, version)
     }

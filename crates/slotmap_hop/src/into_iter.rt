@@ -116,7 +116,7 @@ impl<K: Key, V: Drop> Iterator for IntoIter<K, V> {
         }
         let mut counted = CountedSlots::new(self.slots.as_slice());
         let (place, slot) = next_live(&mut counted, self.place);
-        let version = slot.version;
+        let version = slot.version();
         self.left -= 1;
         self.place = place + 1;
         let key = K::from(KeyData::exact(place as u32, version));

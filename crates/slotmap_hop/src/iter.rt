@@ -9,7 +9,7 @@ ghost use Rattle.slotmap_hop.specs.Iter.{pairs_left, CanGoOn, FindsSlot, StepsOn
 
 use crate::HopSlotMap;
 use crate::counted::CountedSlots;
-use crate::links::{Slot, State, links_at};
+use crate::links::{Slot, links_at};
 use slotmap_core::keys::{Key, KeyData};
 use slotmap_core::sure::rule_out;
 use std::alloc::AllocError;
@@ -48,7 +48,8 @@ impl<'a, K, V> Model for Iter<'a, K, V> {
 }
 
 // The next live slot from this one on, and its index. All iterators find their slots here. Since
-// there is one, no index is compared with the end. An odd version says that a slot is live.
+// there is one, no index is compared with the end. A vacant and a retired slot are left in the same
+// way, so that one test of the slot is enough.
 pub(crate) fn next_live<'a, V>(
     counted: &mut CountedSlots<'a, V>,
     start: usize,
@@ -62,13 +63,11 @@ pub(crate) fn next_live<'a, V>(
     let mut place = start;
     loop {
         let slot = counted.read(place);
-        if slot.version % 2 == 1 {
+        if slot.is_live() {
             return (place, slot);
         }
-        match &slot.state {
-            State::Free(links) => place = links.other_end as usize + 1,
-            _ => place += 1,
-        }
+        // A vacant slot is the front of a block here. A retired one names slot 0.
+        place = place.max(slot.other_end() as usize) + 1;
     }
     rule_out(true);
     unreachable!()
@@ -145,7 +144,7 @@ impl<'a, K: Key, V> Iter<'a, K, V> {
         let (place, slot) = next_live(&mut self.counted, self.place);
         self.left -= 1;
         self.place = place + 1;
-        let key = K::from(KeyData::exact(place as u32, slot.version));
+        let key = K::from(KeyData::exact(place as u32, slot.version()));
         Some((key, slot))
     }
 }
@@ -159,8 +158,8 @@ impl<'a, K: Key, V> Iterator for Iter<'a, K, V> {
 
     fn next(&mut self) -> Option<(K, &'a V)> {
         let (key, slot) = self.step()?;
-        match &slot.state {
-            State::Occupied(value) => Some((key, value)),
+        match slot {
+            Slot::Occupied(_, value) => Some((key, value)),
             _ => {
                 rule_out(true);
                 unreachable!()

@@ -4,7 +4,7 @@ ghost use Rattle.std.specs.Prelude.{◌≡◌, ◌<◌, ◌^◌, IfOk, IsOk, IfE
 ghost use Rattle.slotmap_core.specs.FromList.{start_live, is_vacant_version};
 ghost use Rattle.slotmap_hop.specs.Blocks.{Ascend};
 ghost use Rattle.slotmap_hop.specs.HopContent.{IsHopContent};
-ghost use Rattle.slotmap_hop.specs.Slots.{value_in, read_state};
+ghost use Rattle.slotmap_hop.specs.Slots.{version_in, value_in, read_slot};
 ghost use Rattle.slotmap_core.specs.Clones.{ClonesEqual, IsCloneOf};
 ghost use Rattle.slotmap_core.specs.Key.{Key};
 ghost use Rattle.slotmap_core.specs.ListRead.{ReadsAs};
@@ -13,7 +13,7 @@ ghost use Rattle.slotmap_core.specs.Written.{Writes, WritesClones, IsRecordClone
 ghost use Rattle.std.specs.FinMap as map;
 
 use crate::HopSlotMap;
-use crate::links::{Slot, State, lone_slot, open_last};
+use crate::links::{Slot, lone_slot, open_last, used_up_slot};
 use slotmap_core::errors::{OutOfMemory, SlotsError};
 use slotmap_core::keys::Key;
 use slotmap_core::limits::LIST_LIMIT;
@@ -30,24 +30,24 @@ fn is_vacant(version: u32) -> bool
 
 // The record of a slot, with a clone of its value.
 fn record_of<V: Clone>(slot: &Slot<V>) -> Result<SlotRecord<V>, OutOfMemory>
-    ensures clones { IfOk result (IsRecordClone V.is_clone (record { value = value_in slot.now.state; version = slot.now.version })) }
-    ensures fits { slot.now.version < 2 ^ 32 }
+    ensures clones { IfOk result (IsRecordClone V.is_clone (record { value = value_in slot.now; version = version_in slot.now })) }
+    ensures fits { version_in slot.now < 2 ^ 32 }
 {
-    let version = slot.version;
-    let value = match &slot.state {
-        State::Occupied(value) => Some(value.clone()?),
+    let version = slot.version();
+    let value = match slot {
+        Slot::Occupied(_, value) => Some(value.clone()?),
         _ => None,
     };
     Ok(SlotRecord { value, version })
 }
 
-// The state of a slot that isn't vacant, from the value of its record.
-fn state_from<V>(value: Option<V>) -> State<V>
-    ensures { result ≡ read_state value }
+// A slot that isn't vacant, from the version and the value of its record.
+fn slot_from<V>(version: u32, value: Option<V>) -> Slot<V>
+    ensures { result ≡ read_slot version value }
 {
     match value {
-        Some(value) => State::Occupied(value),
-        None => State::Retired,
+        Some(value) => Slot::Occupied(version, value),
+        None => used_up_slot(version),
     }
 }
 
@@ -144,8 +144,7 @@ impl<K: Key, V: Drop> HopSlotMap<K, V> {
             let SlotRecord { value, version } = slot;
             let index = slots.len() as u32;
             live_count += version % 2;
-            let state = state_from(value);
-            slots.push_reserved(Slot { version, state });
+            slots.push_reserved(slot_from(version, value));
             if is_vacant(version) {
                 vacant_count += 1;
                 open_last(slots.as_mut_slice(), index, version);

@@ -1,6 +1,7 @@
 //! The calls that visit all live keys of a map, by ascending index, and skip vacant slots.
 
-ghost use Rattle.std.specs.Prelude.{◌≡◌, IfSome, IfNone};
+ghost use Rattle.std.specs.Prelude.{◌≡◌, ◌+◌, ◌<◌, Some, IfSome, IfNone};
+ghost use Rattle.std.specs.FinMap as map;
 ghost use Rattle.slotmap_core.specs.Transition.{Leaves};
 ghost use Rattle.slotmap_core.specs.Retain.{RetainsBy, CallableOnEach};
 ghost use Rattle.slotmap_hop.specs.HopContent.{IsHopContent, IsNextLive, MayStand, StaysHop};
@@ -9,7 +10,8 @@ ghost use Rattle.slotmap_hop.specs.Iter.{CanGoOn, FindsSlot, FindsNone, ReadsOnT
 
 use crate::HopSlotMap;
 use crate::counted::CountedSlots;
-use crate::links::{Slot, State};
+use crate::iter::next_live;
+use crate::links::Slot;
 use slotmap_core::keys::{Key, KeyData};
 
 // The first live slot from this one on, and its index. The loops over a map that changes find their
@@ -25,13 +27,11 @@ fn find_live<'a, V>(counted: &mut CountedSlots<'a, V>, start: u32) -> Option<(u3
     let mut place = start;
     while place < counted.len() {
         let slot = counted.read(place as usize);
-        if slot.version % 2 == 1 {
+        if slot.is_live() {
             return Some((place, slot));
         }
-        match &slot.state {
-            State::Free(links) => place = links.other_end + 1,
-            _ => place += 1,
-        }
+        // A vacant slot is the front of a block here. A retired one names slot 0.
+        place = place.max(slot.other_end()) + 1;
     }
     None
 }
@@ -46,7 +46,23 @@ impl<K: Key, V: Drop> HopSlotMap<K, V> {
         self.note_valid();
         let mut counted = CountedSlots::new(self.slots.as_slice());
         let (place, slot) = find_live(&mut counted, start)?;
-        Some(K::from(KeyData::exact(place, slot.version)))
+        Some(K::from(KeyData::exact(place, slot.version())))
+    }
+
+    // Returns the live key after this one, which is the first one. There are others, so its search
+    // needs no test for the end.
+    pub(crate) fn live_after(&self, key: K) -> K
+        requires first { IsNextLive K.data_of self.now.content 0 (Some key) }
+        requires stands { MayStand self.now.content ((K.data_of key).index + 1) }
+        requires others { 1 < map.len self.now.content.live }
+        ensures comes { IsNextLive K.data_of self.now.content ((K.data_of key).index + 1) (Some result) }
+        ensures valid { IsHopContent self.now }
+    {
+        self.note_valid();
+        let mut counted = CountedSlots::new(self.slots.as_slice());
+        let start = key.data().idx() as usize + 1;
+        let (place, slot) = next_live(&mut counted, start);
+        K::from(KeyData::exact(place as u32, slot.version()))
     }
 
     /// Calls a closure once for each live key, and removes the keys for which it returns `false`.

@@ -1,8 +1,9 @@
+use Rattle.std.proofs.Common.{Some}
 use Rattle.slotmap_hop.proofs.Sweeping.{Clearing, indices_left}
 use Rattle.slotmap_hop.proofs.HopSlotMap.clear.Given as goal
 
-abbrev pub invariant-loop-first : goal.invariant-loop-first
-invariant-loop-first g l = Clearing g.K.Key.data_of l.fn.self l.self l.first
+abbrev pub invariant-loop-self : goal.invariant-loop-self
+invariant-loop-self g l = Clearing g.K.Key.data_of l.fn.self l.self (Some l.key)
 
-abbrev pub decreases-loop-first : goal.decreases-loop-first
-decreases-loop-first g l = indices_left g.K.Key.data_of l.first
+abbrev pub decreases-loop-self : goal.decreases-loop-self
+decreases-loop-self g l = indices_left g.K.Key.data_of (Some l.key)

@@ -1,4 +1,4 @@
-use Rattle.std.proofs.Common.{◌≡◌, ap, sym, ◌∙◌, arith}
+use Rattle.std.proofs.Common.{◌≡◌, ◌+◌, ap, sym, ◌∙◌, arith}
 use Rattle.slotmap_core.proofs.Places.PlacesLemmas.{key}
 use Rattle.slotmap_hop.specs.Links.{fronts_of}
 use Rattle.slotmap_hop.specs.Slots.{all_links, next_place}
@@ -58,12 +58,13 @@ index-requires g c =
 
 pub exact-requires : goal.exact-requires
 exact-requires g c =
-    back_key c.self.inside c.self.view_is c.self.invariant c.if-self-eq0.false (back g (goal.at.exact-requires g c).After-links_at-block) c.index.ensures
+    rw c.version-version.ensures
+    (back_key c.self.inside c.self.view_is c.self.invariant c.if-self-eq0.false (back g (goal.at.exact-requires g c).After-links_at-block) c.index.ensures)
 
 pub overflow_add-version : goal.overflow_add-version
 overflow_add-version g c =
     let is_key = back_key c.self.inside c.self.view_is c.self.invariant c.if-self-eq0.false (back g (goal.at.overflow_add-version g c).After-links_at-block) c.index.ensures in
-    omega (arith, is_key.version_fits)
+    omega (arith, is_key.version_fits, c.version-version.ensures)
 
 pub fill_back-requires-clause-positive : goal.fill_back-requires-clause-positive
 fill_back-requires-clause-positive g c =
@@ -73,14 +74,15 @@ filled_back : (g : _) (c : After-fill_back g) (is : c.links_at-block.result.othe
     → Filled c.self.inside c.self.view_is c.self.invariant c.if-self-eq0.false is c.index.ensures c.args.value c.fill_back.new.slots
 filled_back g c is =
     filled c.self.inside c.self.view_is c.self.invariant c.if-self-eq0.false is c.index.ensures c.args.value c.as_mut_slice.result.now c.fill_back.new.slots
-    c.as_mut_slice.ensures.value c.requires c.fill_back.ensures.list c.fill_back.ensures.places
+    c.as_mut_slice.ensures.value c.requires c.fill_back.ensures.list (rw c.version-version.ensures at c.fill_back.ensures.places)
 
 pub invariant_of-self-2 : goal.invariant_of-self-2
 invariant_of-self-2 g c = let at = goal.at.invariant_of-self-2 g c in (filled_back g at.After-fill_back (back g at.After-links_at-block)).sound_after
 
 pub returns-clause-value : goal.returns-clause-value
 returns-clause-value g c =
-    c.exact.ensures ∙ sym (offered_back c.self.inside c.self.view_is c.self.invariant c.if-self-eq0.false (back g (goal.at.returns-clause-value g c).After-links_at-block) c.index.ensures)
+    c.exact.ensures ∙ ap (λ v. key c.links_at-block.result.other_end (v + 1)) c.version-version.ensures
+    ∙ sym (offered_back c.self.inside c.self.view_is c.self.invariant c.if-self-eq0.false (back g (goal.at.returns-clause-value g c).After-links_at-block) c.index.ensures)
 
 pub returns-clause-inserts : goal.returns-clause-inserts
 returns-clause-inserts g c = let at = goal.at.returns-clause-inserts g c in (filled_back g at.After-fill_back (back g at.After-links_at-block)).inserts

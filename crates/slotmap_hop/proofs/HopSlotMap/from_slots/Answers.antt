@@ -31,7 +31,7 @@ loop-slot-init g c =
     })
 
 with_next : (g : _) (c : After-push_reserved-in-loop-slot g) → c.push_reserved-in-loop-slot.new.self.items ≡ with_slot _ _ _ _ c.loop-slot.invariant.reading.read c.in-Some.slot
-with_next g c = c.push_reserved-in-loop-slot.ensures.items ∙ ap (λ s. c.loop-slot.slots.items ++ record { version = c.in-Some.slot.version; state = s } ∷ []) c.state_from-state.ensures
+with_next g c = c.push_reserved-in-loop-slot.ensures.items ∙ ap (λ s. c.loop-slot.slots.items ++ s ∷ []) c.slot_from.ensures
 
 pub open_last-requires-clause-can : goal.open_last-requires-clause-can
 open_last-requires-clause-can g c =

@@ -1,6 +1,5 @@
-use Rattle.std.proofs.Common.{length, refl, ap, ◌∙◌, arith}
-use Rattle.slotmap_hop.proofs.SlotLemmas.{slots_fit}
-use Rattle.slotmap_hop.proofs.HoppingLemmas.{Reads, way_begins, way_room, way_inside, way_hops, way_passes, way_finds}
+use Rattle.std.proofs.Common.{length, refl, sym, ap, ◌∙◌, arith}
+use Rattle.slotmap_hop.proofs.HoppingLemmas.{Reads, way_begins, way_room, way_inside, way_on, way_finds, none_here}
 use Rattle.slotmap_hop.proofs.iter.next_live.Goals.{After-read-slot}
 use Rattle.slotmap_hop.proofs.iter.next_live.Goals as goal
 
@@ -19,22 +18,15 @@ here g c =
     let read = c.read-slot.ensures in
     record { way = inv; inside = way_inside _ _ _ _ _ inv c.requires.some; found = rw inv.kept at read.value; kept = read.slots ∙ inv.kept; one = read.reads }
 
-pub returns-then-slot-eq1 : goal.returns-then-slot-eq1
-returns-then-slot-eq1 g c =
-    let finds = way_finds _ _ _ (here g (goal.at.returns-then-slot-eq1 g c).After-read-slot) c.if-slot-eq1.true in
+pub returns-then-is_live : goal.returns-then-is_live
+returns-then-is_live g c =
+    let finds = way_finds _ _ _ (here g (goal.at.returns-then-is_live g c).After-read-slot) (sym c.is_live.ensures ∙ c.if-is_live.true) in
     record { found = finds.0; slots = c.read-slot.ensures.slots ∙ c.loop-slot.invariant.kept; reads = finds.1 }
 
-pub loop-slot-smaller-in-Free : goal.loop-slot-smaller-in-Free
-loop-slot-smaller-in-Free g c = (way_hops _ _ _ (here g (goal.at.loop-slot-smaller-in-Free g c).After-read-slot) c.in-Free.links c.in-Free.is).smaller
-
-pub loop-slot-preserved-in-Free : goal.loop-slot-preserved-in-Free
-loop-slot-preserved-in-Free g c = (way_hops _ _ _ (here g (goal.at.loop-slot-preserved-in-Free g c).After-read-slot) c.in-Free.links c.in-Free.is).on
-
-pub overflow_add-place-in_default : goal.overflow_add-place-in_default
-overflow_add-place-in_default g c = let way = c.loop-slot.invariant in omega (arith, way_inside _ _ _ _ _ way c.requires.some, slots_fit _ _ _ way.stands.sound)
-
-pub loop-slot-smaller : goal.loop-slot-smaller
-loop-slot-smaller g c = let inv = c.loop-slot.invariant in rw (c.read-slot.ensures.slots, inv.kept) (omega (arith, way_inside _ _ _ _ _ inv c.requires.some))
+pub other_end-requires : goal.other_end-requires
+other_end-requires g c = none_here _ (sym c.is_live.ensures ∙ c.if-is_live.false)
 
 pub loop-slot-preserved : goal.loop-slot-preserved
-loop-slot-preserved g c = way_passes _ _ _ (here g (goal.at.loop-slot-preserved g c).After-read-slot) c.if-slot-eq1.false c.in_default.not-Free
+loop-slot-preserved g c =
+    let none = none_here _ (sym c.is_live.ensures ∙ c.if-is_live.false) in
+    rw (c.max-place.ensures, c.other_end.ensures) (way_on _ _ _ (here g (goal.at.loop-slot-preserved g c).After-read-slot) none).on

@@ -3,6 +3,7 @@ use Rattle.std.specs.Vec.{with_items}
 use Rattle.std.proofs.lemmas.List.{with_items_is}
 use Rattle.std.proofs.lemmas.Option.{same_Some}
 use Rattle.slotmap_core.proofs.Places.PlacesLemmas.{key}
+use Rattle.slotmap_hop.specs.Slots.{version_in}
 use Rattle.slotmap_hop.specs.Iter.{pairs_left, IsIter, FindsSlot}
 use Rattle.slotmap_hop.proofs.SlotLemmas.{same_length}
 use Rattle.slotmap_hop.proofs.LiveSlots.{live_key, value_is}
@@ -19,12 +20,14 @@ found : (g : _) (c : After-next_live-place g) → FindsSlot c.self.inside.slots.
 found g c = rw (c.new-counted.ensures.slots, c.as_slice.ensures.value) at c.next_live-place.ensures.found
 
 pub exact-requires : goal.exact-requires
-exact-requires g c = live_key _ _ _ c.self.invariant.stands.sound _ _ _ (found g (goal.at.exact-requires g c).After-next_live-place).finds.there
+exact-requires g c =
+    let found = found g (goal.at.exact-requires g c).After-next_live-place in
+    rw (c.version-version.ensures ∙ ap version_in found.is) (live_key _ _ _ c.self.invariant.stands.sound _ _ _ found.finds.there)
 
 -- the value that was found is moved out
-moved : (g : _) (c : After-retire-value g) → FindsSlot c.self.inside.slots.items c.self.inside.place c.next_live-place.result.0 c.next_live-place.result.1.now
+moved : (g : _) (c : After-retire-value g) (found : FindsSlot c.self.inside.slots.items c.self.inside.place c.next_live-place.result.0 c.next_live-place.result.1.now)
     → IsIter (with_items c.self.inside.slots c.retire-value.new.slots).items 0 (c.next_live-place.result.0 + 1) (c.self.inside.left - 1) × (pairs_left c.self.inside.slots.items c.self.inside.place
-    ≡ (key c.next_live-place.result.0 c.next_live-place.result.1.now.version, c.retire-value.result)
+    ≡ (key c.next_live-place.result.0 found.version, c.retire-value.result)
     ∷ pairs_left (with_items c.self.inside.slots c.retire-value.new.slots).items (c.next_live-place.result.0 + 1))
 moved g c found =
     let iterates = c.self.invariant in
@@ -44,5 +47,6 @@ returns-clause-steps g c =
     let at = goal.at.returns-clause-steps g c in
     let found = found g at.After-next_live-place in
     let is_key = live_key _ _ _ c.self.invariant.stands.sound _ _ _ found.finds.there in
-    let is = ap g.K.Key.data_of (g.met.K.Key.from_gives_key _ _ c.from-key.ensures) ∙ g.met.K.Key.from_data _ (rw c.exact.ensures is_key) ∙ c.exact.ensures in
+    let exact = rw (c.version-version.ensures ∙ ap version_in found.is) at c.exact.ensures in
+    let is = ap g.K.Key.data_of (g.met.K.Key.from_gives_key _ _ c.from-key.ensures) ∙ g.met.K.Key.from_data _ (rw exact is_key) ∙ exact in
     sym c.self.view_is ∙ (moved g at.After-retire-value found).1 ∙ rw is refl

@@ -1,4 +1,5 @@
 use Rattle.std.proofs.Common.{refl, sym, ap, ◌∙◌, arith}
+use Rattle.slotmap_hop.specs.Slots.{version_in}
 use Rattle.slotmap_hop.proofs.LiveSlots.{live_key}
 use Rattle.slotmap_hop.proofs.Iterators.{can_go_on, iter_on, left_none}
 use Rattle.slotmap_hop.proofs.iter.Iter.step.Goals as goal
@@ -10,7 +11,9 @@ pub overflow_cast-place : goal.overflow_cast-place
 overflow_cast-place g c = omega (arith, (live_key _ _ _ c.self.invariant.stands.sound _ _ _ c.next_live-place.ensures.found.finds.there).index_fits)
 
 pub exact-requires : goal.exact-requires
-exact-requires g c = live_key _ _ _ c.self.invariant.stands.sound _ _ _ c.next_live-place.ensures.found.finds.there
+exact-requires g c =
+    let found = c.next_live-place.ensures.found in
+    rw (c.version.ensures ∙ ap version_in found.is) (live_key _ _ _ c.self.invariant.stands.sound _ _ _ found.finds.there)
 
 pub invariant_of-self : goal.invariant_of-self
 invariant_of-self g c = let found = c.next_live-place.ensures in rw found.slots (iter_on c.self.invariant found.found.finds found.reads)
@@ -20,8 +23,10 @@ returns-clause-some g c =
     let found = c.next_live-place.ensures in
     let way = found.reads in
     let is_key = live_key _ _ _ c.self.invariant.stands.sound _ _ _ found.found.finds.there in
-    let is = ap g.K.Key.data_of (g.met.K.Key.from_gives_key _ _ c.from-key.ensures) ∙ g.met.K.Key.from_data _ (rw c.exact.ensures is_key) ∙ c.exact.ensures in
+    let exact = rw (c.version.ensures ∙ ap version_in found.found.is) at c.exact.ensures in
+    let is = ap g.K.Key.data_of (g.met.K.Key.from_gives_key _ _ c.from-key.ensures) ∙ g.met.K.Key.from_data _ (rw exact is_key) ∙ exact in
     record {
+      version = found.found.version;
       value = found.found.value;
       is = found.found.is;
       rest = ap (λ w. w.rest) (sym c.self.view_is) ∙ found.found.finds.first ∙ rw (is, found.slots) refl;
