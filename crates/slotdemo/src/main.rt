@@ -1,4 +1,4 @@
-//! A morning at a pond, hour by hour: two of the structures of `slotmap_uses` at work.
+//! A morning at a pond, hour by hour: an entity store and a scheduler at work.
 //!
 //! What will happen is scheduled in a `Scheduler`. Each animal at the pond is an entity of a `World`,
 //! and its position is the stone that it sits on. An event speaks of an animal by its key. If the
@@ -7,8 +7,8 @@
 #![tactic(auto)]
 
 use slotmap::DefaultKey;
-use slotmap_uses::entities::World;
-use slotmap_uses::scheduler::Scheduler;
+use slotmap_entities::World;
+use slotmap_scheduler::Scheduler;
 use std::alloc::Global;
 use std::process::ExitCode;
 
@@ -49,7 +49,7 @@ enum Event {
 // An animal comes. It will go on to the next stone, and leave. The frog is eaten before that.
 fn comes(
     pond: &mut Pond,
-    events: &mut Scheduler<Event>,
+    events: &mut Scheduler<DefaultKey, Event>,
     hour: u64,
     animal: Animal,
     stone: u32,
@@ -98,7 +98,7 @@ fn goes(rt: &HostRuntime, pond: &mut Pond, key: DefaultKey, how: &str) -> Option
 fn act(
     rt: &HostRuntime,
     pond: &mut Pond,
-    events: &mut Scheduler<Event>,
+    events: &mut Scheduler<DefaultKey, Event>,
     hour: u64,
     event: Event,
 ) -> Option<()> {
@@ -115,7 +115,12 @@ fn act(
 }
 
 // All events that are due at an hour.
-fn pass(rt: &HostRuntime, pond: &mut Pond, events: &mut Scheduler<Event>, hour: u64) -> Option<()> {
+fn pass(
+    rt: &HostRuntime,
+    pond: &mut Pond,
+    events: &mut Scheduler<DefaultKey, Event>,
+    hour: u64,
+) -> Option<()> {
     println!(rt; "{hour} o'clock").ok()?;
     for _ in 0..10 {
         let Some((_, event)) = events.pop_due(hour) else {
@@ -127,7 +132,7 @@ fn pass(rt: &HostRuntime, pond: &mut Pond, events: &mut Scheduler<Event>, hour: 
 }
 
 // What is known at dawn.
-fn agenda(alloc: Global) -> Option<Scheduler<Event>> {
+fn agenda(alloc: Global) -> Option<Scheduler<DefaultKey, Event>> {
     let mut events = Scheduler::new(alloc).ok()?;
     events.schedule(6, Event::Comes(Animal::Frog, 1)).ok()?;
     events.schedule(8, Event::Comes(Animal::Newt, 4)).ok()?;

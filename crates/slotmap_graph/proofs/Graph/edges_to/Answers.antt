@@ -1,0 +1,4 @@
+use Rattle.slotmap_graph.proofs.Graph.edges_to.Goals as goal
+
+pub returns : goal.returns
+returns g c x = rw (← c.self.view_is, c.list_of.ensures) (c.self.invariant.into_lists c.args.node x)

@@ -1,0 +1,39 @@
+use Rattle.std.proofs.Common.{◌≡◌, true, ap, ◌∙◌}
+use Rattle.std.specs.FinMap as map
+use Rattle.slotmap.proofs.Callers.{remove_spent, spent_remove}
+use Rattle.slotmap_graph.proofs.GraphSteps.{node_removed}
+use Rattle.slotmap_graph.proofs.Thinned.{none_left}
+use Rattle.slotmap_graph.proofs.Graph.remove_node.Goals as goal
+
+pub invariant_of-self : goal.invariant_of-self
+invariant_of-self g c =
+    let untouched = none_left c.args.node c.args.self.now.edges.live c.self.inside.edges.live (λ k. ap (λ s. map.get s.edges.live k) c.self.view_is ∙ c.remove_edges_of.ensures.edges k) in
+    rw (c.remove.ensures.removes, c.remove-2.ensures.removes)
+    (node_removed c.self.inside.nodes c.self.inside.edges.live c.self.inside.out.pairs c.self.inside.into.pairs c.self.invariant c.args.node untouched c.remove-3.new.self c.remove-3.ensures.live)
+
+pub returns-clause-value : goal.returns-clause-value
+returns-clause-value g c =
+    let same : c.self.inside.nodes ≡ c.args.self.now.nodes = ap (λ s. s.nodes) c.self.view_is ∙ c.remove_edges_of.ensures.nodes in
+    c.remove-3.ensures.value ∙ ap (λ n. map.get n.live c.args.node) same
+
+pub returns-clause-removed : goal.returns-clause-removed
+returns-clause-removed g c =
+    let same : c.self.inside.nodes ≡ c.args.self.now.nodes = ap (λ s. s.nodes) c.self.view_is ∙ c.remove_edges_of.ensures.nodes in
+    c.remove-3.ensures.live ∙ ap (λ n. map.remove n.live c.args.node) same
+
+pub returns-clause-for_good : goal.returns-clause-for_good
+returns-clause-for_good g c = remove_spent _ _ true c.remove-3.ensures.valid _ _ c.remove-3.ensures.value c.remove-3.ensures.removes
+
+pub returns-clause-gone : goal.returns-clause-gone
+returns-clause-gone g c =
+    let same : c.self.inside.nodes ≡ c.args.self.now.nodes = ap (λ s. s.nodes) c.self.view_is ∙ c.remove_edges_of.ensures.nodes in
+    rw (← same) (spent_remove _ _ true c.remove-3.ensures.valid _ _ c.remove-3.ensures.value c.remove-3.ensures.removes c.remove-3.ensures.unchanged)
+
+pub returns-clause-edges : goal.returns-clause-edges
+returns-clause-edges g c k = ap (λ s. map.get s.edges.live k) c.self.view_is ∙ c.remove_edges_of.ensures.edges k
+
+pub returns-clause-edges_for_good : goal.returns-clause-edges_for_good
+returns-clause-edges_for_good g c k e there touched = rw (ap (λ s. s.edges) c.self.view_is) (c.remove_edges_of.ensures.for_good k e there touched)
+
+pub returns-clause-edges_gone : goal.returns-clause-edges_gone
+returns-clause-edges_gone g c k spent = rw (ap (λ s. s.edges) c.self.view_is) (c.remove_edges_of.ensures.gone k spent)

@@ -1,0 +1,193 @@
+-- A search from a node, along the edges.
+use Rattle.std.proofs.Common.{◌≡◌, ◌≢◌, ℕ, zero, suc, ◌+◌, ◌<◌, ◌≤◌, ◌⊎◌, ⊎_elim, Bool, true, false, Some, None, List, [], ◌∷◌, ◌++◌, length, get_or}
+use Rattle.std.proofs.Common.{drop, drop-cons, add-one, append_assoc, if◌then◌else◌, is_some, refl, sym, ap, ◌∙◌, inl, inr, arith}
+use Rattle.std.specs.FinMap as map
+use Rattle.std.proofs.lemmas.List.Sums.{sum_by-append}
+use Rattle.slotmap.specs.Words.{Key, key_cmp, Content, IsLive, Pairs, IsBeside, get, contains_key}
+use Rattle.slotmap.proofs.Callers.{same_or_other, live-remove_other, len_removed, keys_total, exact_keys, secondary}
+use Rattle.std.proofs.lemmas.List.{append-nil, drop-append-le}
+use Rattle.slotmap_graph.specs.declared.Edge.{Edge}
+use Rattle.slotmap_graph.specs.Parts.{EndsLive, ListsEdges, times, same, ends_at, from}
+use Rattle.slotmap_graph.specs.Search.{LeadsBy, Leads, AllLed, HasNext, AreSeen, GoesOn, Finds}
+use Rattle.slotmap_graph.proofs.Adjacent.{one_itself, one_other, times_first, times_there, none_behind}
+
+-- what is behind the i-th key of a list
+behind_split : (ks : List Key) (i : ℕ) (k : Key) → i < length ks → k ≡ get_or ks i k → drop i ks ≡ k ∷ drop (i + 1) ks
+behind_split ks i k below is = drop-cons ks i k below ∙ ap (λ n. get_or ks i k ∷ drop n ks) (sym (add-one i)) ∙ ap (λ q. q ∷ drop (i + 1) ks) (sym is)
+
+-- a key from i on is the i-th, or behind it
+here_or_behind : (ks : List Key) (i : ℕ) (k x : Key) → i < length ks → k ≡ get_or ks i k → 0 < times x (drop i ks) → (x ≡ k) ⊎ (0 < times x (drop (i + 1) ks))
+here_or_behind ks i k x below is more = elim (same_or_other x k) [
+  | inl e ↦ inl e
+  | inr other ↦ inr (let none = one_other k x (λ s. other (sym s)) in let split = ap (times x) (behind_split ks i k below is) ∙ times_first x k (drop (i + 1) ks) in omega arith)
+]
+
+times_joined : (x : Key) (xs ys : List Key) → times x (xs ++ ys) ≡ times x xs + times x ys
+times_joined x xs ys = sum_by-append (λ q. same q x) xs ys
+
+module _ (seen : Pairs (Unit {0})) (found : List Key) (listed : AreSeen seen found) (x : Key) where
+  seen_listed : contains_key seen x ≡ true → times x found ≡ 1
+  seen_listed there = listed x ∙ ap (λ b. if b then 1 else 0) there
+
+  unseen_unlisted : contains_key seen x ≡ false → times x found ≡ 0
+  unseen_unlisted there = listed x ∙ ap (λ b. if b then 1 else 0) there
+
+  listed_seen : 0 < times x found → contains_key seen x ≡ true
+  listed_seen more = elim (contains_key seen x) as (λ b. contains_key seen x ≡ b → contains_key seen x ≡ true) [
+    | true ↦ λ is. is
+    | false ↦ λ is. absurd (let none = unseen_unlisted is in omega arith)
+  ] refl
+
+  pub listed_once : times x found ≤ 1
+  listed_once = elim (contains_key seen x) as (λ b. contains_key seen x ≡ b → times x found ≤ 1) [
+    | true ↦ λ is. (let one = seen_listed is in omega arith)
+    | false ↦ λ is. (let none = unseen_unlisted is in omega arith)
+  ] refl
+
+-- the edges of a node whose ends aren't among the nodes found are in the list from i on
+abbrev pub Pending : map.FinMap key_cmp Edge → Key → List Key → ℕ → Pairs (Unit {0}) → Type 0
+Pending edges node ks i seen = (k : Key) (e : Edge) → map.get edges k ≡ Some e → e.from ≡ node → (0 < times k (drop i ks)) ⊎ (contains_key seen e.to ≡ true)
+
+module _ (edges : map.FinMap key_cmp Edge) (node : Key) (ks : List Key) where
+  pub pending_start : (seen : Pairs (Unit {0})) → ListsEdges from edges node ks → Pending edges node ks 0 seen
+  pending_start seen lists k e there at =
+      inl (let one : ends_at from node (Some e) ≡ 1 = ap (λ q. same q node) at ∙ one_itself node in let is = lists k ∙ ap (ends_at from node) there ∙ one in omega arith)
+
+  pub pending_step : (i : ℕ) (x : Key) (e : Edge) (seen new : Pairs (Unit {0})) → i < length ks → x ≡ get_or ks i x → map.get edges x ≡ Some e → contains_key new e.to ≡ true
+      → ((q : Key) → contains_key seen q ≡ true → contains_key new q ≡ true) → Pending edges node ks i seen → Pending edges node ks (i + 1) new
+  pending_step i x e seen new below is there marked kept pending k d found at = ⊎_elim
+      (λ more. ⊎_elim
+      (λ (one : k ≡ x). inr (let same_edge : e ≡ d = (let f = rw one at found in cc) in rw (← same_edge) marked))
+      (λ behind. inl behind) (here_or_behind ks i x k below is more))
+      (λ had. inr (kept d.to had)) (pending k d found at)
+
+  pub pending_end : (i : ℕ) (seen : Pairs (Unit {0})) → length ks ≤ i → Pending edges node ks i seen → HasNext edges node seen
+  pending_end i seen past pending b join = ⊎_elim (λ more. absurd (none_behind ks i join.0 past more)) (λ had. rw (← join.4) had) (pending join.0 join.1 join.2 join.3)
+
+module _ {N : Type 0} (nodes : Content N) (edges : map.FinMap key_cmp Edge) (a : Key) (seen : Pairs (Unit {0})) (found : List Key) where
+  pub finds_start : AreSeen seen found → IsBeside nodes seen → Finds nodes edges a seen found seen found
+  finds_start listed live = record { listed = listed; live = live; behind = ([], sym (append-nil found)); kept = λ x there. there; led = λ start leads all. all }
+
+  pub finds_step : (mid : Pairs (Unit {0})) (half : List Key) → Finds nodes edges a seen found mid half → EndsLive nodes edges → (k : Key) (e : Edge) → map.get edges k ≡ Some e → e.from ≡ a
+      → (new : Pairs (Unit {0})) (now : List Key) → AreSeen new now → GoesOn half now → contains_key new e.to ≡ true → ((q : Key) → q ≢ e.to → get new q ≡ get mid q)
+      → Finds nodes edges a seen found new now
+  finds_step mid half finds ends k e there at new now listed behind marked others = record {
+    listed = listed;
+    live = λ q had. elim (same_or_other q e.to) [
+      | inl is ↦ rw is ((ends k e there).1)
+      | inr other ↦ finds.live q (ap is_some (sym (others q other)) ∙ had)
+    ];
+    behind = (finds.behind.0 ++ behind.0, behind.1 ∙ ap (λ q. q ++ behind.0) finds.behind.1 ∙ append_assoc found finds.behind.0 behind.0);
+    kept = λ q had. kept q (finds.kept q had);
+    led = λ start leads all q had. elim (same_or_other q e.to) [
+      | inl is ↦ rw is (suc leads.0, (a, leads.1, (k, e, there, at, refl)))
+      | inr other ↦ finds.led start leads all q (ap is_some (sym (others q other)) ∙ had)
+    ];
+  }
+    where
+      kept : (q : Key) → contains_key mid q ≡ true → contains_key new q ≡ true
+      kept q had = elim (same_or_other q e.to) [
+        | inl is ↦ rw is marked
+        | inr other ↦ ap is_some (others q other) ∙ had
+      ]
+
+-- a mark keeps those that were marked
+pub marked_keeps : (mid new : Pairs (Unit {0})) (k : Key) → contains_key new k ≡ true → ((q : Key) → q ≢ k → get new q ≡ get mid q) → (q : Key) → contains_key mid q ≡ true → contains_key new q ≡ true
+marked_keeps mid new k marked others q had = elim (same_or_other q k) [
+  | inl is ↦ rw is marked
+  | inr other ↦ ap is_some (others q other) ∙ had
+]
+
+pub are_none : (seen : Pairs (Unit {0})) (found : List Key) → seen ≡ map.empty → found ≡ [] → AreSeen seen found
+are_none seen found empty none x = let gone : get seen x ≡ None = rw empty (grind (arith, secondary)) in ap (times x) none ∙ sym (ap (λ o. if is_some o then 1 else 0) gone)
+
+-- a search that went as far as the node at an index
+pub record Searching {N : Type 0} (nodes : Content N) (edges : map.FinMap key_cmp Edge) (start : Key) (seen : Pairs (Unit {0})) (found : List Key) (at : ℕ) : Type 0 where
+  pub listed : AreSeen seen found
+  pub live : IsBeside nodes seen
+  pub begun : contains_key seen start ≡ true
+  pub led : AllLed edges start seen
+  pub done : (x : Key) → contains_key seen x ≡ true → (0 < times x (drop at found)) ⊎ HasNext edges x seen
+
+module _ {N : Type 0} (nodes : Content N) (edges : map.FinMap key_cmp Edge) (start : Key) where
+  -- the start is marked, where none was
+  pub searching_start : (none seen : Pairs (Unit {0})) (found : List Key) → none ≡ map.empty → IsLive nodes start → AreSeen seen found
+      → contains_key seen start ≡ true → ((q : Key) → q ≢ start → get seen q ≡ get none q)
+      → Searching nodes edges start seen found 0
+  searching_start none seen found empty live listed begun others = record {
+    listed = listed;
+    live = λ q had. rw (only q had) live;
+    begun = begun;
+    led = λ q had. (zero, sym (only q had));
+    done = λ x had. inl (let one = seen_listed seen found listed x had in omega arith);
+  }
+    where
+      only : (q : Key) → contains_key seen q ≡ true → q ≡ start
+      only q had = elim (same_or_other q start) [
+        | inl is ↦ is
+        | inr other ↦ absurd (let gone : get none q ≡ None = rw empty (grind (arith, secondary)) in let f = others q other ∙ gone in let g = ap is_some f in cc)
+      ]
+
+  module _ (seen : Pairs (Unit {0})) (found : List Key) (at : ℕ) (searching : Searching nodes edges start seen found at) where
+    pub searching_step : (a : Key) → at < length found → a ≡ get_or found at a → (new : Pairs (Unit {0})) (now : List Key)
+        → Finds nodes edges a seen found new now → HasNext edges a new → Searching nodes edges start new now (at + 1)
+    searching_step a below is new now finds next = record {
+      listed = finds.listed;
+      live = finds.live;
+      begun = finds.kept start searching.begun;
+      led = finds.led start (searching.led a (listed_seen seen found searching.listed a (times_there found at a below is))) searching.led;
+      done = λ x had. by x had (contains_key seen x) refl;
+    }
+      where
+        more : List Key
+        more = finds.behind.0
+
+        longer : drop (at + 1) now ≡ drop (at + 1) found ++ finds.behind.0
+        longer = ap (drop (at + 1)) finds.behind.1 ∙ drop-append-le (at + 1) found finds.behind.0 (omega arith)
+
+        still : (x : Key) → 0 < times x (drop (at + 1) found) → 0 < times x (drop (at + 1) now)
+        still x some = let split = ap (times x) longer ∙ times_joined x (drop (at + 1) found) finds.behind.0 in omega arith
+
+        by : (x : Key) → contains_key new x ≡ true → (b : Bool) → contains_key seen x ≡ b → (0 < times x (drop (at + 1) now)) ⊎ HasNext edges x new
+        by x had true was = ⊎_elim
+            (λ some. ⊎_elim (λ (one : x ≡ a). inr (rw one next)) (λ behind. inl (still x behind)) (here_or_behind found at a x below is some))
+            (λ (goes : HasNext edges x seen). inr (λ b join. finds.kept b (goes b join))) (searching.done x was)
+        by x had false was = inl (
+            let none = unseen_unlisted seen found searching.listed x was in
+            let one = seen_listed new now finds.listed x had in
+            let all = ap (times x) finds.behind.1 ∙ times_joined x found finds.behind.0 in
+            let split = ap (times x) longer ∙ times_joined x (drop (at + 1) found) finds.behind.0 in
+            omega arith)
+
+    module _ (past : length found ≤ at) where
+      goes_on : (x : Key) → contains_key seen x ≡ true → HasNext edges x seen
+      goes_on x had = ⊎_elim (λ more. absurd (none_behind found at x past more)) (λ (goes : HasNext edges x seen). goes) (searching.done x had)
+
+      reached : (n : ℕ) (x : Key) → LeadsBy edges n start x → contains_key seen x ≡ true
+      reached zero x is = rw (← is) searching.begun
+      reached (suc n) x path = goes_on path.0 (reached n path.0 path.1) x path.2
+
+      pub searching_all : (x : Key) → Leads edges start x → 0 < times x found
+      searching_all x leads = let one = seen_listed seen found searching.listed x (reached leads.0 x leads.1) in omega arith
+
+    pub searching_found : (x : Key) → 0 < times x found → IsLive nodes x × Leads edges start x
+    searching_found x more = let had = listed_seen seen found searching.listed x more in (searching.live x had, searching.led x had)
+
+-- distinct live keys are no more than there are
+no_more_than : {V : Type 0} (live : map.FinMap key_cmp V) (ks : List Key) → ((x : Key) → times x ks ≤ 1) → ((x : Key) → 0 < times x ks → map.contains_key live x ≡ true) → length ks ≤ map.len live
+no_more_than live [] once there = omega arith
+no_more_than live (k ∷ ks) once there =
+    let first = times_first k k ks in
+    let one = one_itself k in
+    let lives = there k (omega (arith, one)) in
+    let one_less = len_removed keys_total exact_keys live k lives in
+    let rest = no_more_than (map.remove live k) ks
+    (λ x. let split = times_first x k ks in let at_most = once x in omega arith)
+    (λ x more. let split = times_first x k ks in live-remove_other live k x (λ is. (let at_most = once k in let m = rw is at more in omega (arith, m, one))) (there x (omega arith))) in
+    omega arith
+
+-- a search found no more nodes than there are
+pub searching_fits : {N : Type 0} (nodes : Content N) (edges : map.FinMap key_cmp Edge) (start : Key) (seen : Pairs (Unit {0})) (found : List Key)
+    (at : ℕ) → Searching nodes edges start seen found at → length found ≤ map.len nodes.live
+searching_fits nodes edges start seen found at searching =
+    no_more_than nodes.live found (λ x. listed_once seen found searching.listed x) (λ x more. (searching_found nodes edges start seen found at searching x more).0)

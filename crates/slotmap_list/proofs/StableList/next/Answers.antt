@@ -1,0 +1,11 @@
+use Rattle.std.proofs.Common.{ap, sym, ◌∙◌}
+use Rattle.slotmap_list.specs.Sequence.{key_after}
+use Rattle.slotmap_list.proofs.Chains.{elements_are, next_found, next_absent}
+use Rattle.slotmap_list.proofs.StableList.next.Goals as goal
+
+pub returns : goal.returns
+returns g c = next_found _ _ _ _ c.args.cursor _ c.self.invariant (sym (rw c.in_ok-get.was at c.get.ensures.value)) ∙ ap (key_after c.args.cursor) (elements_are c.self.view_is)
+
+pub returns-in_err-get : goal.returns-in_err-get
+returns-in_err-get g c =
+    rw c.from_residual.ensures (next_absent _ _ _ _ c.args.cursor c.self.invariant (sym (rw c.in_err-get.was at c.get.ensures.value)) ∙ ap (key_after c.args.cursor) (elements_are c.self.view_is))

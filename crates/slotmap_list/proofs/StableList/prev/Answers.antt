@@ -1,0 +1,12 @@
+use Rattle.std.proofs.Common.{None, ap, sym, ◌∙◌}
+use Rattle.slotmap_list.specs.Sequence.{key_before}
+use Rattle.slotmap_list.proofs.Chains.{elements_are, prev_found, prev_absent}
+use Rattle.slotmap_list.proofs.StableList.prev.Goals as goal
+
+pub returns : goal.returns
+returns g c = prev_found _ _ _ _ c.args.cursor _ c.self.invariant (sym (rw c.in_ok-get.was at c.get.ensures.value)) ∙ ap (key_before None c.args.cursor) (elements_are c.self.view_is)
+
+pub returns-in_err-get : goal.returns-in_err-get
+returns-in_err-get g c =
+    rw c.from_residual.ensures (prev_absent _ _ _ _ c.args.cursor c.self.invariant (sym (rw c.in_err-get.was at c.get.ensures.value))
+    ∙ ap (key_before None c.args.cursor) (elements_are c.self.view_is))

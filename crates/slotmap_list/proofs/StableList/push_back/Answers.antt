@@ -1,0 +1,5 @@
+use Rattle.slotmap_list.proofs.Chains.{elements_are, gap_last}
+use Rattle.slotmap_list.proofs.StableList.push_back.Goals as goal
+
+pub put-requires : goal.put-requires
+put-requires g c = rw (← (elements_are c.self.view_is)) (gap_last _ c.self.inside.last c.self.invariant.last_is)

@@ -1,0 +1,52 @@
+use Rattle.std.proofs.Common.{true, ap, sym, ◌∙◌, subst, refl}
+use Rattle.std.specs.Option.{option_map}
+use Rattle.slotmap_list.specs.Sequence.{value_of}
+use Rattle.slotmap_list.specs.Chain.{IsChain}
+use Rattle.slotmap_list.proofs.Chains.{elements_are, value_found, put_chain, added_stands, self_chain, chain_is}
+use Rattle.slotmap.proofs.Callers.{spent_insert}
+use Rattle.slotmap_list.proofs.Cursors.{gone_stays, new_not_gone}
+use Rattle.slotmap_list.proofs.StableList.put.Goals as goal
+
+pub relink-requires-clause-prev_stands : goal.relink-requires-clause-prev_stands
+relink-requires-clause-prev_stands g c =
+    let chain = subst (IsChain c.self.inside.nodes.live c.self.inside.first c.self.inside.last) (elements_are c.self.view_is) c.self.invariant in
+    (added_stands _ _ _ _ _ _ _ _ _ c.requires chain c.in_ok-key.ensures.ok.live).0
+
+pub relink-requires-clause-next_stands : goal.relink-requires-clause-next_stands
+relink-requires-clause-next_stands g c =
+    let chain = subst (IsChain c.self.inside.nodes.live c.self.inside.first c.self.inside.last) (elements_are c.self.view_is) c.self.invariant in
+    (added_stands _ _ _ _ _ _ _ _ _ c.requires chain c.in_ok-key.ensures.ok.live).1
+
+pub invariant_of-self-2 : goal.invariant_of-self-2
+invariant_of-self-2 g c =
+    let chain = subst (IsChain c.self.inside.nodes.live c.self.inside.first c.self.inside.last) (elements_are c.self.view_is) c.self.invariant in
+    self_chain _ _ _ _ (put_chain _ _ _ _ _ c.args.prev c.args.next _ _ c.args.self.now.elements c.requires c.in_ok-key.key c.args.value chain
+    c.in_ok-key.ensures.fresh (rw (c.same.ensures, c.same-2.ensures) at c.in_ok-key.ensures.ok.live) c.relink.ensures.links)
+
+pub returns-clause-ok : goal.returns-clause-ok
+returns-clause-ok g c =
+    let chain = subst (IsChain c.self.inside.nodes.live c.self.inside.first c.self.inside.last) (elements_are c.self.view_is) c.self.invariant in (
+      c.requires.0,
+      (
+        c.requires.1.0,
+        c.requires.1.1,
+        c.requires.1.2,
+        c.requires.1.3,
+        chain_is _ _ _ _ (put_chain _ _ _ _ _ c.args.prev c.args.next _ _ c.args.self.now.elements c.requires c.in_ok-key.key c.args.value chain
+            c.in_ok-key.ensures.fresh (rw (c.same.ensures, c.same-2.ensures) at c.in_ok-key.ensures.ok.live) c.relink.ensures.links),
+      ),
+    )
+
+pub returns-clause-fresh : goal.returns-clause-fresh
+returns-clause-fresh g c =
+    sym (value_found _ _ _ _ c.in_ok-key.key c.self.invariant ∙ ap (value_of c.in_ok-key.key) (elements_are c.self.view_is)) ∙ ap (option_map (λ n. n.value)) c.in_ok-key.ensures.fresh
+
+pub returns-clause-unspent : goal.returns-clause-unspent
+returns-clause-unspent g c = rw (← c.self.view_is) (new_not_gone _ _ c.add.ensures.valid.before _ _ c.in_ok-key.ensures.ok)
+
+pub returns-clause-gone : goal.returns-clause-gone
+returns-clause-gone g c =
+    rw (← c.self.view_is) (gone_stays _ _ _ c.relink.ensures.keys (spent_insert _ _ true c.add.result c.add.ensures.valid (λ k. k) _ c.add.ensures.ok))
+
+pub returns-in_err-key-clause-gone : goal.returns-in_err-key-clause-gone
+returns-in_err-key-clause-gone g c = rw (← c.self.view_is) (gone_stays _ _ _ refl (spent_insert _ _ true c.add.result c.add.ensures.valid (λ k. k) _ c.add.ensures.ok))

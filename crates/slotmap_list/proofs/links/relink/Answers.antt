@@ -1,0 +1,16 @@
+use Rattle.std.proofs.Common.{◌≡◌, true, refl, ◌∙◌}
+use Rattle.std.specs.FinMap as map
+use Rattle.slotmap_list.specs.declared.links.Side.TheVariants.{After}
+use Rattle.slotmap_list.proofs.Chains.{if_some_so, stands-with_link}
+use Rattle.slotmap_list.proofs.links.relink.Goals as goal
+
+pub set_link-requires-2 : goal.set_link-requires-2
+set_link-requires-2 g c = rw c.set_link.ensures.nodes
+    (if_some_so (λ k. map.contains_key c.args.nodes.now.live k ≡ true) _ c.args.next (λ k there. stands-with_link After _ _ _ k there) c.requires.next_stands)
+
+pub returns-clause-links : goal.returns-clause-links
+returns-clause-links g c = rw (c.set_link-2.ensures.nodes, c.set_link.ensures.nodes, c.set_link.ensures.end, c.set_link-2.ensures.end)
+    (record { nodes = refl; first_is = refl; last_is = refl })
+
+pub returns-clause-keys : goal.returns-clause-keys
+returns-clause-keys g c = c.set_link-2.ensures.keys ∙ c.set_link.ensures.keys

@@ -1,0 +1,5 @@
+pub mod Chain
+pub mod Lends
+pub mod Neighbours
+pub mod Refused
+pub mod Sequence

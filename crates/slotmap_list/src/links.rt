@@ -1,0 +1,139 @@
+//! Links between nodes.
+
+ghost use Rattle.std.specs.Prelude.{◌≡◌, IfSome, IfOk, IfErr, IsErr, OnErr, Some, None, true};
+ghost use Rattle.std.specs.Option.{option_map};
+ghost use Rattle.std.specs.FinMap as map;
+ghost use Rattle.slotmap.specs.Words.{IsLive, Inserts, MayGrow, without_values};
+ghost use Rattle.slotmap_list.specs.Chain.{with_link, outer, HasNeighbours, Relinks, Unlinks, Links};
+ghost use Rattle.slotmap_list.specs.Neighbours.{gap_beside};
+ghost use Rattle.slotmap_list.specs.Refused.{HandsBack};
+
+use crate::{Cursor, Node, PushError};
+use slotmap::{InsertError, SlotMap};
+
+// A side of a node.
+#[derive(Drop)]
+pub(crate) enum Side {
+    Before,
+    After,
+}
+
+// Lets the link on this side of `at`, or else the list's own, lead to `to`.
+fn set_link<T: Drop>(
+    nodes: &mut SlotMap<Cursor, Node<T>>,
+    side: Side,
+    end: &mut Option<Cursor>,
+    at: Option<Cursor>,
+    to: Option<Cursor>,
+)
+    requires { IfSome at (λ key. IsLive nodes.old key) }
+    ensures nodes { nodes.new.live ≡ with_link side nodes.old.live at to }
+    ensures keys { without_values nodes.new ≡ without_values nodes.old }
+    ensures end { end.new ≡ outer at end.old to }
+{
+    match at {
+        Some(key) => match side {
+            Side::Before => nodes[key].prev = to,
+            Side::After => nodes[key].next = to,
+        },
+        None => *end = to,
+    }
+}
+
+// Lets the link after `prev` lead on to `on`, and the link before `next` back to `back`.
+pub(crate) fn relink<T: Drop>(
+    nodes: &mut SlotMap<Cursor, Node<T>>,
+    first: &mut Option<Cursor>,
+    last: &mut Option<Cursor>,
+    prev: Option<Cursor>,
+    next: Option<Cursor>,
+    on: Option<Cursor>,
+    back: Option<Cursor>,
+)
+    requires prev_stands { IfSome prev (λ key. IsLive nodes.old key) }
+    requires next_stands { IfSome next (λ key. IsLive nodes.old key) }
+    ensures links { Relinks nodes.old.live first.old last.old prev next on back nodes.new.live first.new last.new }
+    ensures keys { without_values nodes.new ≡ without_values nodes.old }
+{
+    set_link(nodes, Side::After, first, prev, on);
+    set_link(nodes, Side::Before, last, next, back);
+}
+
+// Adds a node, or hands its value back.
+pub(crate) fn add<T: Drop>(
+    nodes: &mut SlotMap<Cursor, Node<T>>,
+    node: Node<T>,
+) -> Result<Cursor, PushError<T>>
+    ensures ok { IfOk result (λ key. Inserts nodes.old key node nodes.new) }
+    ensures fresh { IfOk result (λ key. map.get nodes.old.live key ≡ None) }
+    ensures err { IfErr result (λ error. HandsBack node.value error) }
+    ensures unchanged { OnErr result (nodes.new.live ≡ nodes.old.live) }
+    ensures valid { MayGrow true nodes.old (IsErr result) nodes.new }
+{
+    match nodes.insert(node) {
+        Ok(key) => Ok(key),
+        Err(InsertError::Full(node)) => Err(PushError::Full(node.value)),
+        Err(InsertError::Memory(node)) => Err(PushError::Memory(node.value)),
+    }
+}
+
+// The neighbours of the place on this side of an element, or `None` if it isn't in the list.
+pub(crate) fn beside<T: Drop>(
+    nodes: &SlotMap<Cursor, Node<T>>,
+    side: Side,
+    key: Cursor,
+) -> Option<(Option<Cursor>, Option<Cursor>)>
+    ensures { result ≡ option_map (gap_beside side key) (map.get nodes.now.live key) }
+{
+    let node = nodes.get(key)?;
+    match side {
+        Side::Before => Some((node.prev, Some(key))),
+        Side::After => Some((Some(key), node.next)),
+    }
+}
+
+// Links the neighbours of a node to each other. The node stays in the map.
+pub(crate) fn unlink<T: Drop>(
+    nodes: &mut SlotMap<Cursor, Node<T>>,
+    first: &mut Option<Cursor>,
+    last: &mut Option<Cursor>,
+    key: Cursor,
+)
+    requires stands { IsLive nodes.old key }
+    requires linked { HasNeighbours nodes.old.live key }
+    ensures unlinks { Unlinks nodes.old.live first.old last.old key nodes.new.live first.new last.new }
+    ensures keys { without_values nodes.new ≡ without_values nodes.old }
+{
+    let node = &nodes[key];
+    let prev = same(&node.prev);
+    let next = same(&node.next);
+    relink(nodes, first, last, same(&prev), same(&next), next, prev);
+}
+
+// Links a node that stands in the map between two others.
+pub(crate) fn link<T: Drop>(
+    nodes: &mut SlotMap<Cursor, Node<T>>,
+    first: &mut Option<Cursor>,
+    last: &mut Option<Cursor>,
+    key: Cursor,
+    prev: Option<Cursor>,
+    next: Option<Cursor>,
+)
+    requires stands { IsLive nodes.old key }
+    requires prev_stands { IfSome prev (λ other. IsLive nodes.old other) }
+    requires next_stands { IfSome next (λ other. IsLive nodes.old other) }
+    ensures links { Links nodes.old.live first.old last.old key prev next nodes.new.live first.new last.new }
+    ensures keys { without_values nodes.new ≡ without_values nodes.old }
+{
+    let node = &mut nodes[key];
+    node.prev = same(&prev);
+    node.next = same(&next);
+    relink(nodes, first, last, prev, next, Some(key), Some(key));
+}
+
+// The same link: the prover does not follow a second use of an `Option` of a key.
+pub(crate) fn same(link: &Option<Cursor>) -> Option<Cursor>
+    ensures { result ≡ link.now }
+{
+    *link
+}

@@ -1,0 +1,161 @@
+//! Moves of an element within its list, and writes of its value.
+
+ghost use Rattle.std.specs.Prelude.{◌≡◌, is_some, if◌then◌else◌};
+ghost use Rattle.std.specs.Borrow.{sem};
+ghost use Rattle.std.specs.Option.{option_copied_mut};
+ghost use Rattle.slotmap_list.specs.Sequence.{value_of, moved_to_front, moved_to_back, moved_after, moved_before, are_two};
+ghost use Rattle.slotmap_list.specs.Neighbours.{gap_at, is_move, moved_to};
+
+use crate::links::{Side, beside, link, unlink};
+use crate::{Cursor, Node, StableList};
+use slotmap::SlotMap;
+
+// A place in a list: at an end, or on a side of an element.
+#[derive(Drop)]
+enum Place {
+    Front,
+    Back,
+    Beside(Side, Cursor),
+}
+
+// The neighbours of a place, or `None` if it isn't there.
+fn gap<T: Drop>(
+    nodes: &SlotMap<Cursor, Node<T>>,
+    first: &Option<Cursor>,
+    last: &Option<Cursor>,
+    place: Place,
+) -> Option<(Option<Cursor>, Option<Cursor>)>
+    ensures { result ≡ gap_at nodes.now.live first.now last.now place }
+{
+    match place {
+        Place::Front => Some((None, *first)),
+        Place::Back => Some((*last, None)),
+        Place::Beside(side, key) => beside(nodes, side, key),
+    }
+}
+
+impl<T: Drop> StableList<T> {
+    ghost use Rattle.slotmap_list.specs.Lends.{lends_element};
+
+    /// Returns a mutable reference to the value of a cursor, or `None` if it isn't in the list.
+    ///
+    /// Constant time.
+    ///
+    /// ```
+    /// let mut list = StableList::new(alloc)?;
+    /// let one = list.push_back(1)?;
+    /// if let Some(value) = list.get_mut(one) {
+    ///     *value = 5;
+    /// }
+    /// assert_eq!(rt; list.get(one), Some(&5));
+    /// ```
+    pub fn get_mut(&mut self, cursor: Cursor) -> Option<&mut T>
+        ensures* writes_back { sem 𝓛 (lends_element T.row self.entry cursor result) }
+        ensures value { option_copied_mut result ≡ value_of cursor self.old.elements }
+    {
+        match self.nodes.get_mut(cursor) {
+            Some(node) => Some(&mut node.value),
+            None => None,
+        }
+    }
+
+    /// Moves the element of a cursor to the front. It returns `false` if the cursor isn't in the list.
+    ///
+    /// Constant time. Nothing is allocated, and the element keeps its cursor.
+    pub fn move_to_front(&mut self, cursor: Cursor) -> bool
+        ensures which { result ≡ is_some (value_of cursor self.old.elements) }
+        ensures moved { self.new ≡ record self.old { elements = moved_to_front cursor self.old.elements } }
+    {
+        self.move_to(cursor, Place::Front)
+    }
+
+    /// Moves the element of a cursor to the back. It returns `false` if the cursor isn't in the list.
+    ///
+    /// Constant time. Nothing is allocated, and the element keeps its cursor.
+    pub fn move_to_back(&mut self, cursor: Cursor) -> bool
+        ensures which { result ≡ is_some (value_of cursor self.old.elements) }
+        ensures moved { self.new ≡ record self.old { elements = moved_to_back cursor self.old.elements } }
+    {
+        self.move_to(cursor, Place::Back)
+    }
+
+    /// Moves the element of a cursor to the place after another one. It returns `false`, and changes
+    /// nothing, if one of the two isn't in the list, or if they are the same.
+    ///
+    /// Constant time. Nothing is allocated, and the element keeps its cursor.
+    pub fn move_after(&mut self, cursor: Cursor, other: Cursor) -> bool
+        ensures which { result ≡ are_two cursor other self.old.elements }
+        ensures moved { self.new ≡ record self.old
+            { elements = if result then moved_after cursor other self.old.elements else self.old.elements } }
+    {
+        self.move_to(cursor, Place::Beside(Side::After, other))
+    }
+
+    /// Moves the element of a cursor to the place before another one. It returns `false`, and changes
+    /// nothing, if one of the two isn't in the list, or if they are the same.
+    ///
+    /// Constant time. Nothing is allocated, and the element keeps its cursor.
+    ///
+    /// ```
+    /// let mut list = StableList::new(alloc)?;
+    /// let one = list.push_back(1)?;
+    /// let two = list.push_back(2)?;
+    /// assert!(rt; list.move_before(two, one));
+    /// assert_eq!(rt; list.to_vec(alloc)?.as_slice(), [2, 1].as_slice());
+    /// assert!(rt; !list.move_before(two, two));
+    /// ```
+    pub fn move_before(&mut self, cursor: Cursor, other: Cursor) -> bool
+        ensures which { result ≡ are_two cursor other self.old.elements }
+        ensures moved { self.new ≡ record self.old
+            { elements = if result then moved_before cursor other self.old.elements else self.old.elements } }
+    {
+        self.move_to(cursor, Place::Beside(Side::Before, other))
+    }
+
+    // Moves the element of a cursor to a place, if it can.
+    fn move_to(&mut self, cursor: Cursor, place: Place) -> bool
+        ensures which { result ≡ is_move cursor place self.old.elements }
+        ensures moved { self.new ≡ record self.old { elements = moved_to place cursor self.old.elements } }
+    {
+        if !self.can_move(cursor, &place) {
+            return false;
+        }
+        unlink(&mut self.nodes, &mut self.first, &mut self.last, cursor);
+        let Some((prev, next)) = gap(&self.nodes, &self.first, &self.last, place) else {
+            unreachable!()
+        };
+        link(
+            &mut self.nodes,
+            &mut self.first,
+            &mut self.last,
+            cursor,
+            prev,
+            next,
+        );
+        true
+    }
+
+    // Whether the element of a cursor is in the list, and can move to a place.
+    fn can_move(&self, cursor: Cursor, place: &Place) -> bool
+        ensures { result ≡ is_move cursor place.now self.now.elements }
+    {
+        match place {
+            Place::Front => self.nodes.contains_key(cursor),
+            Place::Back => self.nodes.contains_key(cursor),
+            Place::Beside(_, other) => self.has_two(cursor, *other),
+        }
+    }
+
+    // Whether both cursors are in the list, and are two.
+    fn has_two(&self, cursor: Cursor, other: Cursor) -> bool
+        ensures { result ≡ are_two cursor other self.now.elements }
+    {
+        if cursor == other {
+            return false;
+        }
+        if !self.nodes.contains_key(cursor) {
+            return false;
+        }
+        self.nodes.contains_key(other)
+    }
+}

@@ -1,0 +1,205 @@
+-- What a change of the nodes does to the way up from each.
+use Rattle.std.proofs.Common.{◌≡◌, ◌≢◌, ℕ, zero, suc, ◌+◌, ◌≤◌, ◌<◌, ◌↔◌, true, Option, Some, None, Result, Ok, Err, IfOk, OnErr, is_some, refl, sym, ap, subst, ◌∙◌, inl, inr, arith}
+use Rattle.std.specs.FinMap as map
+use Rattle.slotmap.specs.Words.{Key}
+use Rattle.slotmap.proofs.Callers.{get-insert_here, get-insert_other, same_or_other, keys_total, exact_keys, left_in, len_removed, some_entry}
+use Rattle.slotmap_scene.specs.declared.Node.{Node}
+use Rattle.slotmap_scene.specs.Climb.{Nodes, has_node, lacks_node, parent_in, parent_of, ClimbsTo, IsTree, StepsTo, IsWithin}
+
+module _ {T : Type 0} where
+  pub leads_live : (nodes : Nodes T) (n : ℕ) (k : Key) → ClimbsTo nodes n k → has_node nodes k
+  leads_live nodes zero k leads = leads.0
+  leads_live nodes (suc n) k leads = leads.1.0
+
+  -- a way up ends at one place
+  one_way : (nodes : Nodes T) (n m : ℕ) (k : Key) → ClimbsTo nodes n k → ClimbsTo nodes m k → n ≡ m
+  one_way nodes zero zero k a b = refl
+  one_way nodes zero (suc m) k a b = absurd (let h = sym a.1 ∙ b.1.1 in cc)
+  one_way nodes (suc n) zero k a b = absurd (let h = sym b.1 ∙ a.1.1 in cc)
+  one_way nodes (suc n) (suc m) k a b =
+      let h = sym a.1.1 ∙ b.1.1 in
+      let same : a.0 ≡ b.0 = cc in
+      ap suc (one_way nodes n m b.0 (subst (ClimbsTo nodes n) same a.1.2) b.1.2)
+
+  -- the nodes of a way are distinct, so it has no more than there are
+  abbrev OnWay : Nodes T → Nodes T → ℕ → Key → Type 0
+  OnWay nodes m n k = (q : Key) (i : ℕ) → i ≤ n → ClimbsTo nodes i q → (j : ℕ) → StepsTo nodes j k q → i + j ≡ n → has_node m q
+
+  short_in : (nodes m : Nodes T) (n : ℕ) (k : Key) → ClimbsTo nodes n k → OnWay nodes m n k → n + 1 ≤ map.len m
+  short_in nodes m zero k leads on = some_entry keys_total exact_keys m k (on k zero (omega arith) leads zero refl refl)
+  short_in nodes m (suc n) k leads on =
+      let here : has_node m k = on k (suc n) (omega arith) leads zero refl (omega arith) in
+      let less = short_in nodes (map.remove m k) n leads.0 leads.1.2 (λ q i le up j steps sum.
+      let there : has_node m q = on q i (omega arith) up (suc j) (leads.0, (leads.1.1, steps)) (omega arith) in
+      let other : q ≢ k = λ same. (let e = one_way nodes i (suc n) k (subst (ClimbsTo nodes i) same up) leads in omega arith) in
+      left_in keys_total exact_keys m k q other there) in
+      let all = len_removed keys_total exact_keys m k here in
+      omega arith
+
+  pub short : (nodes : Nodes T) (n : ℕ) (k : Key) → ClimbsTo nodes n k → n < map.len nodes
+  short nodes n k leads = let h = short_in nodes nodes n k leads (λ q i le up j steps sum. leads_live nodes i q up) in omega arith
+
+  -- where a way goes on, and where it ends
+  next_up : (nodes : Nodes T) (n : ℕ) (k p : Key) → ClimbsTo nodes n k → parent_of nodes k ≡ Some p → (m : ℕ) × ((n ≡ suc m) × ClimbsTo nodes m p)
+  next_up nodes zero k p leads is = absurd (let h = sym leads.1 ∙ is in cc)
+  next_up nodes (suc n) k p leads is = let h = sym leads.1.1 ∙ is in let same : leads.0 ≡ p = cc in (n, (refl, subst (ClimbsTo nodes n) same leads.1.2))
+
+  pub ends : (nodes : Nodes T) (n : ℕ) (k : Key) → ClimbsTo nodes n k → parent_of nodes k ≡ None → n ≡ 0
+  ends nodes zero k leads is = refl
+  ends nodes (suc n) k leads is = absurd (let h = sym leads.1.1 ∙ is in cc)
+
+  -- whether k is within other is up to its parent, if k is another node
+  pub within_up : (nodes : Nodes T) (k p other : Key) → parent_of nodes k ≡ Some p → k ≢ other → IsWithin nodes k other ↔ IsWithin nodes p other
+  within_up nodes k p other is apart = (λ w. down w.0 w.1, λ w. (suc w.0, (p, (is, w.1))))
+    where
+      down : (n : ℕ) → StepsTo nodes n k other → IsWithin nodes p other
+      down zero same = absurd (apart same)
+      down (suc n) steps = let h = sym steps.1.0 ∙ is in let same : steps.0 ≡ p = cc in (n, subst (λ x. StepsTo nodes n x other) same steps.1.1)
+
+  pub root_within : (nodes : Nodes T) (k other : Key) → parent_of nodes k ≡ None → k ≢ other → IsWithin nodes k other → ⊥
+  root_within nodes k other is apart w = by w.0 w.1
+    where
+      by : (n : ℕ) → StepsTo nodes n k other → ⊥
+      by zero same = apart same
+      by (suc n) steps = let h = sym steps.1.0 ∙ is in cc
+
+  -- what a loop up from a node knows at another one, so many steps up
+  pub record Climbing (nodes : Nodes T) (from at : Key) (steps : ℕ) : Type 0 where
+    pub left : ℕ
+    pub up : ClimbsTo nodes left at
+    pub all : ClimbsTo nodes (steps + left) from
+    pub few : steps + left < map.len nodes
+
+  pub climbing_start : (nodes : Nodes T) → IsTree nodes → (k : Key) → has_node nodes k → Climbing nodes k k 0
+  climbing_start nodes tree k live =
+      let up = tree k live in
+      let less = short nodes up.0 k up.1 in
+      let same : up.0 ≡ 0 + up.0 = omega arith in
+      record { left = up.0; up = up.1; all = subst (λ n. ClimbsTo nodes n k) same up.1; few = omega arith }
+
+  module _ (nodes : Nodes T) (from at : Key) (steps : ℕ) (climbing : Climbing nodes from at steps) where
+    pub climbing_live : has_node nodes at
+    climbing_live = leads_live nodes climbing.left at climbing.up
+
+    module _ (node : Node T) (there : map.get nodes at ≡ Some node) where
+      pub climbing_step : (p : Key) → node.parent ≡ Some p → Climbing nodes from p (steps + 1)
+      climbing_step p is =
+          let next = next_up nodes climbing.left at p climbing.up (ap parent_in there ∙ is) in
+          let one = next.1.0 in
+          let few = climbing.few in
+          let sum : steps + climbing.left ≡ steps + 1 + next.0 = omega arith in
+          record { left = next.0; up = next.1.1; all = subst (λ n. ClimbsTo nodes n from) sum climbing.all; few = omega arith }
+
+      pub climbing_end : node.parent ≡ None → ClimbsTo nodes steps from
+      climbing_end is =
+          let none = ends nodes climbing.left at climbing.up (ap parent_in there ∙ is) in
+          let sum : steps + climbing.left ≡ steps = omega arith in
+          subst (λ n. ClimbsTo nodes n from) sum climbing.all
+
+      -- whether it is within another node, which isn't here, is up to the parent
+      pub within_step : (p other : Key) → at ≢ other → node.parent ≡ Some p → (IsWithin nodes from other ↔ IsWithin nodes at other) → IsWithin nodes from other ↔ IsWithin nodes p other
+      within_step p other apart is same = let up = within_up nodes at p other (ap parent_in there ∙ is) apart in (λ w. up.0 (same.0 w), λ w. same.1 (up.1 w))
+
+      pub within_none : (other : Key) → at ≢ other → node.parent ≡ None → (IsWithin nodes from other ↔ IsWithin nodes at other) → IsWithin nodes from other → ⊥
+      within_none other apart is same w = root_within nodes at other (ap parent_in there ∙ is) apart (same.0 w)
+
+  -- nodes that stay, with the same parents, lead up as before
+  leads_kept : (old new : Nodes T) → ((q : Key) → has_node old q → has_node new q × (parent_of new q ≡ parent_of old q)) → (n : ℕ) (k : Key) → ClimbsTo old n k → ClimbsTo new n k
+  leads_kept old new kept zero k leads = let h = kept k leads.0 in (h.0, h.1 ∙ leads.1)
+  leads_kept old new kept (suc n) k leads = let h = kept k leads.1.0 in (leads.0, (h.0, h.1 ∙ leads.1.1, leads_kept old new kept n leads.0 leads.1.2))
+
+  module _ (nodes : Nodes T) (k : Key) (node : Node T) (fresh : lacks_node nodes k) where
+    inserted_kept : (q : Key) → has_node nodes q → has_node (map.insert nodes k node) q × (parent_of (map.insert nodes k node) q ≡ parent_of nodes q)
+    inserted_kept q there =
+        let other : q ≢ k = λ same. (let h = sym (subst (has_node nodes) same there) ∙ fresh in cc) in
+        let is = get-insert_other nodes k node q other in
+        (ap is_some is ∙ there, ap parent_in is)
+
+    pub tree_root : IsTree nodes → node.parent ≡ None → IsTree (map.insert nodes k node)
+    tree_root tree none q there = elim (same_or_other q k) [
+      | inl same ↦ (let here = get-insert_here nodes k node in (zero, rw same (ap is_some here, ap parent_in here ∙ none)))
+      | inr other ↦ (let was : has_node nodes q = sym (ap is_some (get-insert_other nodes k node q other)) ∙ there in let up = tree q was in (up.0, leads_kept nodes (map.insert nodes k node) inserted_kept up.0 q up.1))
+    ]
+
+  -- what holds of the nodes still holds where a node was added, or nothing was done
+  pub holds_after : {E : Type 0} (P : Nodes T → Type 0) (old new : Nodes T) (f : Key → Nodes T) (result : Result Key E)
+      → IfOk result (λ k. new ≡ f k) → IfOk result (λ k. lacks_node old k) → OnErr result (new ≡ old)
+      → P old → ((k : Key) → lacks_node old k → P (f k)) → P new
+  holds_after P old new f (Ok k) is fresh same holds added = subst P (sym is) (added k fresh)
+  holds_after P old new f (Err e) is fresh same holds added = subst P (sym same) holds
+
+  -- who is whose parent, after one node got another parent or none
+  pub record Parents (old new : Nodes T) (k : Key) (parent : Option Key) : Type 0 where
+    pub same_keys : (q : Key) → map.contains_key new q ≡ map.contains_key old q
+    pub here : parent_of new k ≡ parent
+    pub others : (q : Key) → q ≢ k → parent_of new q ≡ parent_of old q
+
+  -- a node becomes a root
+  module _ (old new : Nodes T) (k : Key) (changes : Parents old new k None) (live : has_node old k) where
+    root_now : ClimbsTo new zero k
+    root_now = (changes.same_keys k ∙ live, changes.here)
+
+    still_up : (n : ℕ) (q : Key) → ClimbsTo old n q → (i : ℕ) × ClimbsTo new i q
+    still_up zero q leads = elim (same_or_other q k) [
+      | inl same ↦ (zero, subst (ClimbsTo new zero) (sym same) root_now)
+      | inr other ↦ (zero, (changes.same_keys q ∙ leads.0, changes.others q other ∙ leads.1))
+    ]
+    still_up (suc n) q leads = elim (same_or_other q k) [
+      | inl same ↦ (zero, subst (ClimbsTo new zero) (sym same) root_now)
+      | inr other ↦ (let above = still_up n leads.0 leads.1.2 in
+          (suc above.0, (leads.0, (changes.same_keys q ∙ leads.1.0, changes.others q other ∙ leads.1.1, above.1))))
+    ]
+
+    pub tree_cut : IsTree old → IsTree new
+    tree_cut tree q there = let up = tree q (sym (changes.same_keys q) ∙ there) in still_up up.0 q up.1
+
+  -- a node gets a parent that is not below it
+  module _ (old new : Nodes T) (k p : Key) (changes : Parents old new k (Some p)) (live : has_node old k) where
+    -- outside of what is below k the way up is the same
+    outside : (n : ℕ) (q : Key) → (IsWithin old q k → ⊥) → ClimbsTo old n q → ClimbsTo new n q
+    outside zero q out leads = (changes.same_keys q ∙ leads.0, changes.others q (λ same. out (zero, same)) ∙ leads.1)
+    outside (suc n) q out leads =
+        (leads.0, (changes.same_keys q ∙ leads.1.0, changes.others q (λ same. out (zero, same)) ∙ leads.1.1, outside n leads.0 (λ w. out (suc w.0, (leads.0, (leads.1.1, w.1)))) leads.1.2))
+
+    module _ (m : ℕ) (up : ClimbsTo old m p) (out : IsWithin old p k → ⊥) where
+      at_k : ClimbsTo new (suc m) k
+      at_k = (p, (changes.same_keys k ∙ live, changes.here, outside m p out up))
+
+      still : (n : ℕ) (q : Key) → ClimbsTo old n q → (i : ℕ) × ClimbsTo new i q
+      still zero q leads = elim (same_or_other q k) [
+        | inl same ↦ (suc m, subst (ClimbsTo new (suc m)) (sym same) at_k)
+        | inr other ↦ (zero, (changes.same_keys q ∙ leads.0, changes.others q other ∙ leads.1))
+      ]
+      still (suc n) q leads = elim (same_or_other q k) [
+        | inl same ↦ (suc m, subst (ClimbsTo new (suc m)) (sym same) at_k)
+        | inr other ↦ (let above = still n leads.0 leads.1.2 in
+            (suc above.0, (leads.0, (changes.same_keys q ∙ leads.1.0, changes.others q other ∙ leads.1.1, above.1))))
+      ]
+
+      pub tree_hung : IsTree old → IsTree new
+      tree_hung tree q there = let leads = tree q (sym (changes.same_keys q) ∙ there) in still leads.0 q leads.1
+
+  -- a node that has a parent is there
+  pub has_parent : (nodes : Nodes T) (k p : Key) → parent_of nodes k ≡ Some p → has_node nodes k
+  has_parent nodes k p is = by (map.get nodes k) is
+    where
+      by : (o : Option (Node T)) → parent_in o ≡ Some p → is_some o ≡ true
+      by None e = absurd (cc)
+      by (Some node) e = refl
+
+  -- no node is above itself
+  steps_sum : (nodes : Nodes T) (n j m : ℕ) (k other : Key) → ClimbsTo nodes n k → StepsTo nodes j k other → ClimbsTo nodes m other → n ≡ j + m
+  steps_sum nodes n zero m k other up same up_other = one_way nodes n m k up (subst (ClimbsTo nodes m) (sym same) up_other) ∙ omega arith
+  steps_sum nodes n (suc j) m k other up steps up_other =
+      let next = next_up nodes n k steps.0 up steps.1.0 in
+      let sum = steps_sum nodes next.0 j m steps.0 other next.1.1 steps.1.1 up_other in
+      let one = next.1.0 in
+      omega arith
+
+  pub no_cycle : (nodes : Nodes T) → IsTree nodes → (k p : Key) → parent_of nodes k ≡ Some p → IsWithin nodes p k → ⊥
+  no_cycle nodes tree k p is within =
+      let up = tree k (has_parent nodes k p is) in
+      let next = next_up nodes up.0 k p up.1 is in
+      let sum = steps_sum nodes next.0 within.0 up.0 p k next.1.1 within.1 up.1 in
+      let one = next.1.0 in
+      omega arith

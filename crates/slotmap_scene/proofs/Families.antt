@@ -1,0 +1,314 @@
+-- What a call that changes one link makes of the parent and the children of each node.
+use Rattle.std.proofs.Common.{◌≡◌, ◌≢◌, ℕ, zero, suc, ◌+◌, ◌<◌, true, false, Option, Some, None, IfSome, List, [], ◌∷◌, ◌++◌, is_some, refl, sym, ap, subst, ◌∙◌, inl, inr, arith}
+use Rattle.std.specs.Prelude.{option_map}
+use Rattle.std.specs.FinMap as map
+use Rattle.slotmap.specs.Words.{Key}
+use Rattle.slotmap.proofs.Callers.{get-insert_here, get-insert_other, same_or_other, keys_total, exact_keys}
+use Rattle.slotmap_scene.specs.declared.Node.{Node}
+use Rattle.slotmap_scene.specs.Climb.{Nodes, has_node, lacks_node, parent_in, parent_of, ClimbsTo, IsTree, IsWithin, with_parent, with_parent_in}
+use Rattle.slotmap_scene.specs.Keys.{same, times}
+use Rattle.slotmap_scene.specs.Family.{value_of, without, is_parent, children_in, children_of, AreListed, IsScene, leaf, with_children_in, with_child, without_child, as_root, attached}
+use Rattle.slotmap_scene.proofs.Keys.{one_itself, one_other, times_pushed}
+use Rattle.slotmap_scene.proofs.ChildLists.{times_without, times_gone}
+use Rattle.slotmap_scene.proofs.Climbs.{leads_live, Parents, tree_cut, tree_hung, tree_root}
+
+-- who is a parent of whom
+is_its_parent : (o : Option Key) (p : Key) → o ≡ Some p → is_parent o p ≡ 1
+is_its_parent o p is = ap (λ q. is_parent q p) is ∙ one_itself p
+
+is_no_parent : (o : Option Key) (p : Key) → o ≢ Some p → is_parent o p ≡ 0
+is_no_parent None p other = refl
+is_no_parent (Some q) p other = one_other q p (λ same. other (ap Some same))
+
+pub by_parent : (o : Option Key) (p : Key) (P : Type 0) → (o ≡ Some p → P) → (o ≢ Some p → P) → P
+by_parent None p P here other = other (λ e. absurd (cc))
+by_parent (Some q) p P here other = elim (same_or_other q p) [ inl same ↦ here (ap Some same) | inr apart ↦ other (λ e. apart (cc)) ]
+
+module _ {T : Type 0} where
+  -- the same children are written again
+  pub rewritten : (nodes : Nodes T) (p : Key) (node : Node T) → map.get nodes p ≡ Some node → (ks : List Key) → ks ≡ node.children → map.insert nodes p (record node { children = ks }) ≡ nodes
+  rewritten nodes p node there ks same = map.same_map keys_total exact_keys (map.insert nodes p (record node { children = ks })) nodes (λ q. elim (same_or_other q p) [
+    | inl is ↦ rw is (get-insert_here nodes p (record node { children = ks }) ∙ ap (λ l. Some (record node { children = l })) same ∙ sym there)
+    | inr other ↦ get-insert_other nodes p (record node { children = ks }) q other
+  ])
+
+  -- a node that gets another parent
+  module _ (nodes : Nodes T) (k : Key) (parent : Option Key) where
+    pub parented_other : (o : Option (Node T)) (q : Key) → q ≢ k → map.get (with_parent_in nodes k o parent) q ≡ map.get nodes q
+    parented_other None q other = refl
+    parented_other (Some node) q other = get-insert_other nodes k (record node { parent = parent }) q other
+
+    pub parented_here : (o : Option (Node T)) → map.get nodes k ≡ o → map.get (with_parent_in nodes k o parent) k ≡ option_map (λ (n : Node T). record n { parent = parent }) o
+    parented_here None is = is
+    parented_here (Some node) is = get-insert_here nodes k (record node { parent = parent })
+
+    kept_children : (o : Option (Node T)) → children_in (option_map (λ (n : Node T). record n { parent = parent }) o) ≡ children_in o
+    kept_children None = refl
+    kept_children (Some node) = refl
+
+    kept_some : (o : Option (Node T)) → is_some (option_map (λ (n : Node T). record n { parent = parent }) o) ≡ is_some o
+    kept_some None = refl
+    kept_some (Some node) = refl
+
+    parented_children : (q : Key) → children_of (with_parent nodes k parent) q ≡ children_of nodes q
+    parented_children q = elim (same_or_other q k) [
+      | inl same ↦ rw same (ap children_in (parented_here (map.get nodes k) refl) ∙ kept_children (map.get nodes k))
+      | inr other ↦ ap children_in (parented_other (map.get nodes k) q other)
+    ]
+
+    parented_keys : (q : Key) → map.contains_key (with_parent nodes k parent) q ≡ map.contains_key nodes q
+    parented_keys q = elim (same_or_other q k) [
+      | inl same ↦ rw same (ap is_some (parented_here (map.get nodes k) refl) ∙ kept_some (map.get nodes k))
+      | inr other ↦ ap is_some (parented_other (map.get nodes k) q other)
+    ]
+
+    parented_others : (q : Key) → q ≢ k → parent_of (with_parent nodes k parent) q ≡ parent_of nodes q
+    parented_others q other = ap parent_in (parented_other (map.get nodes k) q other)
+
+    the_parent : (o : Option (Node T)) → is_some o ≡ true → parent_in (option_map (λ (n : Node T). record n { parent = parent }) o) ≡ parent
+    the_parent None is = absurd (cc)
+    the_parent (Some node) is = refl
+
+    parented_is : has_node nodes k → parent_of (with_parent nodes k parent) k ≡ parent
+    parented_is live = ap parent_in (parented_here (map.get nodes k) refl) ∙ the_parent (map.get nodes k) live
+
+  no_parent : (nodes : Nodes T) (k : Key) → parent_of (with_parent nodes k None) k ≡ None
+  no_parent nodes k = ap parent_in (parented_here nodes k None (map.get nodes k) refl) ∙ none (map.get nodes k)
+    where
+      none : (o : Option (Node T)) → parent_in (option_map (λ (n : Node T). record n { parent = None }) o) ≡ None
+      none None = refl
+      none (Some node) = refl
+
+  -- a node that gets other children
+  module _ (nodes : Nodes T) (p : Key) (f : List Key → List Key) where
+    abbrev written : Nodes T
+    written = with_children_in nodes p (map.get nodes p) f
+
+    pub written_other : (o : Option (Node T)) (q : Key) → q ≢ p → map.get (with_children_in nodes p o f) q ≡ map.get nodes q
+    written_other None q other = refl
+    written_other (Some node) q other = get-insert_other nodes p (record node { children = f node.children }) q other
+
+    pub written_here : (o : Option (Node T)) → map.get nodes p ≡ o → map.get (with_children_in nodes p o f) p ≡ option_map (λ (n : Node T). record n { children = f n.children }) o
+    written_here None is = is
+    written_here (Some node) is = get-insert_here nodes p (record node { children = f node.children })
+
+    kept_parent : (o : Option (Node T)) → parent_in (option_map (λ (n : Node T). record n { children = f n.children }) o) ≡ parent_in o
+    kept_parent None = refl
+    kept_parent (Some node) = refl
+
+    kept_there : (o : Option (Node T)) → is_some (option_map (λ (n : Node T). record n { children = f n.children }) o) ≡ is_some o
+    kept_there None = refl
+    kept_there (Some node) = refl
+
+    pub written_parent : (q : Key) → parent_of written q ≡ parent_of nodes q
+    written_parent q = elim (same_or_other q p) [
+      | inl same ↦ rw same (ap parent_in (written_here (map.get nodes p) refl) ∙ kept_parent (map.get nodes p))
+      | inr other ↦ ap parent_in (written_other (map.get nodes p) q other)
+    ]
+
+    pub written_keys : (q : Key) → map.contains_key written q ≡ map.contains_key nodes q
+    written_keys q = elim (same_or_other q p) [
+      | inl same ↦ rw same (ap is_some (written_here (map.get nodes p) refl) ∙ kept_there (map.get nodes p))
+      | inr other ↦ ap is_some (written_other (map.get nodes p) q other)
+    ]
+
+    written_others : (q : Key) → q ≢ p → children_of written q ≡ children_of nodes q
+    written_others q other = ap children_in (written_other (map.get nodes p) q other)
+
+    the_children : (o : Option (Node T)) → is_some o ≡ true → children_in (option_map (λ (n : Node T). record n { children = f n.children }) o) ≡ f (children_in o)
+    the_children None is = absurd (cc)
+    the_children (Some node) is = refl
+
+    written_is : has_node nodes p → children_of written p ≡ f (children_of nodes p)
+    written_is live = ap children_in (written_here (map.get nodes p) refl) ∙ the_children (map.get nodes p) live
+
+  -- a node leaves the children of its parent
+  module _ (nodes : Nodes T) (k : Key) where
+    left_parent : (o : Option Key) (q : Key) → parent_of (without_child nodes o k) q ≡ parent_of nodes q
+    left_parent None q = refl
+    left_parent (Some p) q = written_parent nodes p (without k) q
+
+    left_keys : (o : Option Key) (q : Key) → map.contains_key (without_child nodes o k) q ≡ map.contains_key nodes q
+    left_keys None q = refl
+    left_keys (Some p) q = written_keys nodes p (without k) q
+
+    left_others : (o : Option Key) (q : Key) → o ≢ Some q → children_of (without_child nodes o k) q ≡ children_of nodes q
+    left_others None q other = refl
+    left_others (Some p) q other = written_others nodes p (without k) q (λ same. other (ap Some (sym same)))
+
+    left_here : (o : Option Key) (q : Key) → o ≡ Some q → has_node nodes q → children_of (without_child nodes o k) q ≡ without k (children_of nodes q)
+    left_here o q is live = rw is (written_is nodes q (without k) live)
+
+    pub detached_parents : Parents nodes (as_root nodes k) k None
+    detached_parents = record {
+      same_keys = λ q. parented_keys (without_child nodes (parent_of nodes k) k) k None q ∙ left_keys (parent_of nodes k) q;
+      here = no_parent (without_child nodes (parent_of nodes k) k) k;
+      others = λ q other. parented_others (without_child nodes (parent_of nodes k) k) k None q other ∙ left_parent (parent_of nodes k) q;
+    }
+
+    detached_others : (q : Key) → parent_of nodes k ≢ Some q → children_of (as_root nodes k) q ≡ children_of nodes q
+    detached_others q other = parented_children (without_child nodes (parent_of nodes k) k) k None q ∙ left_others (parent_of nodes k) q other
+
+    pub detached_here : (q : Key) → parent_of nodes k ≡ Some q → has_node nodes q → children_of (as_root nodes k) q ≡ without k (children_of nodes q)
+    detached_here q is live = parented_children (without_child nodes (parent_of nodes k) k) k None q ∙ left_here (parent_of nodes k) q is live
+
+  -- a root is put behind the children of another node
+  module _ (nodes : Nodes T) (k p : Key) (live : has_node nodes k) where
+    pub attached_parents : Parents nodes (attached nodes k p) k (Some p)
+    attached_parents = record {
+      same_keys = λ q. parented_keys (with_child nodes p k) k (Some p) q ∙ written_keys nodes p (λ ks. ks ++ k ∷ []) q;
+      here = parented_is (with_child nodes p k) k (Some p) (written_keys nodes p (λ ks. ks ++ k ∷ []) k ∙ live);
+      others = λ q other. parented_others (with_child nodes p k) k (Some p) q other ∙ written_parent nodes p (λ ks. ks ++ k ∷ []) q;
+    }
+
+    attached_others : (q : Key) → q ≢ p → children_of (attached nodes k p) q ≡ children_of nodes q
+    attached_others q other = parented_children (with_child nodes p k) k (Some p) q ∙ written_others nodes p (λ ks. ks ++ k ∷ []) q other
+
+    attached_here : has_node nodes p → children_of (attached nodes k p) p ≡ children_of nodes p ++ k ∷ []
+    attached_here there = parented_children (with_child nodes p k) k (Some p) p ∙ written_is nodes p (λ ks. ks ++ k ∷ []) there
+
+  module _ (nodes : Nodes T) (listed : AreListed nodes) where
+    pub listed_once : (p k : Key) → parent_of nodes k ≡ Some p → times k (children_of nodes p) ≡ 1
+    listed_once p k is = listed p k ∙ is_its_parent (parent_of nodes k) p is
+
+    pub listed_never : (p k : Key) → parent_of nodes k ≢ Some p → times k (children_of nodes p) ≡ 0
+    listed_never p k other = listed p k ∙ is_no_parent (parent_of nodes k) p other
+
+    pub listed_parent : (p k : Key) → 0 < times k (children_of nodes p) → parent_of nodes k ≡ Some p
+    listed_parent p k more = by_parent (parent_of nodes k) p (parent_of nodes k ≡ Some p) (λ is. is) (λ other. absurd (let none = listed_never p k other in omega arith))
+
+  -- what each count is by itself makes the lists right
+  pub make_listed : (nodes : Nodes T) → ((p k : Key) → parent_of nodes k ≡ Some p → times k (children_of nodes p) ≡ 1)
+      → ((p k : Key) → parent_of nodes k ≢ Some p → times k (children_of nodes p) ≡ 0) → AreListed nodes
+  make_listed nodes once never p k = by_parent (parent_of nodes k) p (times k (children_of nodes p) ≡ is_parent (parent_of nodes k) p)
+      (λ is. once p k is ∙ sym (is_its_parent (parent_of nodes k) p is)) (λ other. never p k other ∙ sym (is_no_parent (parent_of nodes k) p other))
+
+  listed_alike : (old new : Nodes T) → ((q : Key) → parent_of new q ≡ parent_of old q) → ((q : Key) → children_of new q ≡ children_of old q) → AreListed old → AreListed new
+  listed_alike old new parents children listed p k = ap (times k) (children p) ∙ listed p k ∙ ap (λ o. is_parent o p) (sym (parents k))
+
+  -- the parent of a node is there
+  pub parent_there : (nodes : Nodes T) → IsTree nodes → (k p : Key) → parent_of nodes k ≡ Some p → has_node nodes p
+  parent_there nodes tree k p is =
+      let up = tree k (some_parent (map.get nodes k) is) in above up.0 up.1
+    where
+      some_parent : (o : Option (Node T)) → parent_in o ≡ Some p → is_some o ≡ true
+      some_parent None e = absurd (cc)
+      some_parent (Some node) e = refl
+
+      above : (n : ℕ) → ClimbsTo nodes n k → has_node nodes p
+      above zero leads = absurd (let h = sym leads.1 ∙ is in cc)
+      above (suc n) leads = let h = sym leads.1.1 ∙ is in let same : leads.0 ≡ p = cc in leads_live nodes n p (subst (ClimbsTo nodes n) same leads.1.2)
+
+  -- and still is so where no parent and no key changed
+  pub parent_stands : (nodes new : Nodes T) → IsTree nodes → ((q : Key) → map.contains_key new q ≡ map.contains_key nodes q)
+      → (k : Key) → parent_of new k ≡ parent_of nodes k → IfSome (parent_of new k) (λ p. has_node new p)
+  parent_stands nodes new tree kept k same = by (parent_of new k) refl
+    where
+      by : (o : Option Key) → parent_of new k ≡ o → IfSome o (λ p. has_node new p)
+      by None is = tt
+      by (Some p) is = kept p ∙ parent_there nodes tree k p (sym same ∙ is)
+
+  pub found_stands : (nodes : Nodes T) → IsTree nodes → (k : Key) (node : Node T) → map.get nodes k ≡ Some node → IfSome node.parent (λ p. has_node nodes p)
+  found_stands nodes tree k node there = subst (λ o. IfSome o (λ p. has_node nodes p)) (ap parent_in there) (parent_stands nodes nodes tree (λ q. refl) k refl)
+
+  pub scene_leaf : (nodes : Nodes T) (k : Key) (v : T) → lacks_node nodes k → IsScene nodes → IsScene (map.insert nodes k (leaf v))
+  scene_leaf nodes k v fresh scene = record {
+    tree = tree_root nodes k (leaf v) fresh scene.tree refl;
+    listed = listed_alike nodes (map.insert nodes k (leaf v))
+        (λ q. elim (same_or_other q k) [
+          | inl is ↦ rw is (ap parent_in (get-insert_here nodes k (leaf v)) ∙ sym (ap parent_in (none (map.get nodes k) fresh)))
+          | inr other ↦ ap parent_in (get-insert_other nodes k (leaf v) q other)
+        ])
+        (λ q. elim (same_or_other q k) [
+          | inl is ↦ rw is (ap children_in (get-insert_here nodes k (leaf v)) ∙ sym (ap children_in (none (map.get nodes k) fresh)))
+          | inr other ↦ ap children_in (get-insert_other nodes k (leaf v) q other)
+        ]) scene.listed;
+  }
+    where
+      none : (o : Option (Node T)) → is_some o ≡ false → o ≡ None
+      none None is = refl
+      none (Some node) is = absurd (cc)
+
+  pub scene_detached : (nodes : Nodes T) (k : Key) → has_node nodes k → IsScene nodes → IsScene (as_root nodes k)
+  scene_detached nodes k live scene = record {
+    tree = tree_cut nodes (as_root nodes k) k (detached_parents nodes k) live scene.tree;
+    listed = make_listed (as_root nodes k)
+        (λ p c is. elim (same_or_other c k) [
+          | inl same ↦ absurd (let none = (detached_parents nodes k).here in let some = subst (λ x. parent_of (as_root nodes k) x ≡ Some p) same is in let h = sym none ∙ some in cc)
+          | inr other ↦ (let was = sym ((detached_parents nodes k).others c other) ∙ is in kept p c other ∙ listed_once nodes scene.listed p c was)
+        ])
+        (λ p c apart. elim (same_or_other c k) [
+          | inl same ↦ rw same (gone p)
+          | inr other ↦ kept p c other ∙ listed_never nodes scene.listed p c (λ was. apart ((detached_parents nodes k).others c other ∙ was))
+        ]);
+  }
+    where
+      kept : (p c : Key) → c ≢ k → times c (children_of (as_root nodes k) p) ≡ times c (children_of nodes p)
+      kept p c other = by_parent (parent_of nodes k) p (times c (children_of (as_root nodes k) p) ≡ times c (children_of nodes p))
+          (λ is. ap (times c) (detached_here nodes k p is (parent_there nodes scene.tree k p is)) ∙ times_without k c (children_of nodes p) other)
+          (λ apart. ap (times c) (detached_others nodes k p apart))
+
+      gone : (p : Key) → times k (children_of (as_root nodes k) p) ≡ 0
+      gone p = by_parent (parent_of nodes k) p (times k (children_of (as_root nodes k) p) ≡ 0)
+          (λ is. (let once = listed_once nodes scene.listed p k is in let less = times_gone k (children_of nodes p) (omega arith) in
+          ap (times k) (detached_here nodes k p is (parent_there nodes scene.tree k p is)) ∙ omega arith))
+          (λ apart. ap (times k) (detached_others nodes k p apart) ∙ listed_never nodes scene.listed p k apart)
+
+  pub scene_attached : (nodes : Nodes T) (k p : Key) → has_node nodes k → parent_of nodes k ≡ None → has_node nodes p → (IsWithin nodes p k → ⊥) → IsScene nodes → IsScene (attached nodes k p)
+  scene_attached nodes k p live root there out scene = record {
+    tree = (let up = scene.tree p there in tree_hung nodes (attached nodes k p) k p (attached_parents nodes k p live) live up.0 up.1 out scene.tree);
+    listed = make_listed (attached nodes k p)
+        (λ q c is. elim (same_or_other c k) [
+          | inl same ↦ (let now = (attached_parents nodes k p live).here in let some = subst (λ x. parent_of (attached nodes k p) x ≡ Some q) same is in
+              let h = sym now ∙ some in let at : p ≡ q = cc in rw same (subst (λ x. times k (children_of (attached nodes k p) x) ≡ 1) at once))
+          | inr other ↦ (let was = sym ((attached_parents nodes k p live).others c other) ∙ is in kept q c other ∙ listed_once nodes scene.listed q c was)
+        ])
+        (λ q c apart. elim (same_or_other c k) [
+          | inl same ↦ (let elsewhere : q ≢ p = λ at. apart (rw same ((attached_parents nodes k p live).here ∙ ap Some (sym at))) in
+              rw same (ap (times k) (attached_others nodes k p live q elsewhere) ∙ listed_never nodes scene.listed q k (λ e. (let h = sym root ∙ e in cc))))
+          | inr other ↦ kept q c other ∙ listed_never nodes scene.listed q c (λ was. apart ((attached_parents nodes k p live).others c other ∙ was))
+        ]);
+  }
+    where
+      pushed : (c : Key) → times c (children_of (attached nodes k p) p) ≡ times c (children_of nodes p) + same k c
+      pushed c = ap (times c) (attached_here nodes k p live there) ∙ times_pushed c (children_of nodes p) k
+
+      once : times k (children_of (attached nodes k p) p) ≡ 1
+      once = let sum = pushed k in let one = one_itself k in let none = listed_never nodes scene.listed p k (λ e. (let h = sym root ∙ e in cc)) in omega arith
+
+      kept : (q c : Key) → c ≢ k → times c (children_of (attached nodes k p) q) ≡ times c (children_of nodes q)
+      kept q c other = elim (same_or_other q p) [
+        | inl at ↦ rw at (let sum = pushed c in let none = one_other k c (λ s. other (sym s)) in omega arith)
+        | inr elsewhere ↦ ap (times c) (attached_others nodes k p live q elsewhere)
+      ]
+
+-- each node keeps its own value where parents and lists of children alone change
+module _ {T : Type 0} (nodes : Nodes T) where
+  value_parented : (k : Key) (parent : Option Key) (q : Key) → value_of (with_parent nodes k parent) q ≡ value_of nodes q
+  value_parented k parent q = elim (same_or_other q k) [
+    | inl same ↦ rw same (ap (option_map (λ n. n.value)) (parented_here nodes k parent (map.get nodes k) refl) ∙ kept (map.get nodes k))
+    | inr other ↦ ap (option_map (λ n. n.value)) (parented_other nodes k parent (map.get nodes k) q other)
+  ] where
+    kept : (o : Option (Node T)) → option_map (λ n. n.value) (option_map (λ (n : Node T). record n { parent = parent }) o) ≡ option_map (λ n. n.value) o
+    kept None = refl
+    kept (Some node) = refl
+
+  value_written : (p : Key) (f : List Key → List Key) (q : Key) → value_of (with_children_in nodes p (map.get nodes p) f) q ≡ value_of nodes q
+  value_written p f q = elim (same_or_other q p) [
+    | inl same ↦ rw same (ap (option_map (λ n. n.value)) (written_here nodes p f (map.get nodes p) refl) ∙ kept (map.get nodes p))
+    | inr other ↦ ap (option_map (λ n. n.value)) (written_other nodes p f (map.get nodes p) q other)
+  ] where
+    kept : (o : Option (Node T)) → option_map (λ n. n.value) (option_map (λ (n : Node T). record n { children = f n.children }) o) ≡ option_map (λ n. n.value) o
+    kept None = refl
+    kept (Some node) = refl
+
+  value_left : (o : Option Key) (k q : Key) → value_of (without_child nodes o k) q ≡ value_of nodes q
+  value_left None k q = refl
+  value_left (Some p) k q = value_written p (without k) q
+
+module _ {T : Type 0} (nodes : Nodes T) (k : Key) where
+  pub value_detached : (q : Key) → value_of (as_root nodes k) q ≡ value_of nodes q
+  value_detached q = value_parented (without_child nodes (parent_of nodes k) k) k None q ∙ value_left nodes (parent_of nodes k) k q
+
+  pub value_attached : (p q : Key) → value_of (attached nodes k p) q ≡ value_of nodes q
+  value_attached p q = value_parented (with_child nodes p k) k (Some p) q ∙ value_written nodes p (λ ks. ks ++ k ∷ []) q

@@ -1,0 +1,30 @@
+use Rattle.std.proofs.Common.{refl, sym, ◌∙◌}
+use Rattle.slotmap_scene.proofs.Climbs.{climbing_start, climbing_step}
+use Rattle.slotmap_scene.proofs.Worlds.{folding_start, folding_takes, folding_step, folding_end}
+use Rattle.slotmap_scene.proofs.Scene.fold_up.Goals as goal
+
+pub loop-step-init : goal.loop-step-init
+loop-step-init g c = record {
+  climbing = rw (← c.self.view_is) (climbing_start _ c.self.invariant.tree c.args.node (sym c.contains_key.ensures.value ∙ c.if-not-contains_key.false));
+  folding = folding_start _ _ _ _ _;
+}
+
+pub returns-in-None-clause-some : goal.returns-in-None-clause-some
+returns-in-None-clause-some g c =
+    folding_end _ _ _ _ _ _ _ _ c.loop-step.invariant.folding _ (rw c.self.view_is at c.index-node.ensures) c.f-total.new.self c.f-total.result
+    (record { shown = _; shows = refl; called = c.f-total.ensures }) c.in-None.is
+
+pub loop-step-preserved : goal.loop-step-preserved
+loop-step-preserved g c =
+    let there = rw c.self.view_is at c.index-node.ensures in
+    record {
+      climbing = climbing_step _ _ _ _ c.loop-step.invariant.climbing _ there _ c.in-Some.is;
+      folding = folding_step _ _ _ _ _ _ _ _ c.loop-step.invariant.folding _ there c.f-total.new.self c.f-total.result
+          (record { shown = _; shows = refl; called = c.f-total.ensures }) _ c.in-Some.is;
+    }
+
+pub f-total-requires : goal.f-total-requires
+f-total-requires g c =
+    let there = rw c.self.view_is at c.index-node.ensures in
+    let climbing = c.loop-step.invariant.climbing in
+    folding_takes _ _ _ _ _ _ _ _ c.loop-step.invariant.folding _ there c.requires climbing.left climbing.up _ refl

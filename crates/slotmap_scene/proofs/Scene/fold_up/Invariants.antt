@@ -1,0 +1,9 @@
+use Rattle.slotmap_scene.proofs.Climbs.{Climbing}
+use Rattle.slotmap_scene.proofs.Worlds.{Folding}
+use Rattle.slotmap_scene.proofs.Scene.fold_up.Given as goal
+
+abbrev pub invariant-loop-step : goal.invariant-loop-step
+invariant-loop-step g l = record {
+  climbing : Climbing l.self l.fn.node l.at l._step;
+  folding : Folding g.F.FnMut l.self l.fn.node l.fn.f l.fn.start l.at l.f l.total;
+}

@@ -1,0 +1,7 @@
+use Rattle.std.proofs.Common.{◌↔◌}
+use Rattle.slotmap_scene.specs.Climb.{IsWithin}
+use Rattle.slotmap_scene.proofs.Climbs.{Climbing}
+use Rattle.slotmap_scene.proofs.Scene.is_within.Given as goal
+
+abbrev pub invariant-loop-step : goal.invariant-loop-step
+invariant-loop-step g l = Climbing l.self l.fn.node l.at l._step × (IsWithin l.self l.fn.node l.fn.other ↔ IsWithin l.self l.at l.fn.other)

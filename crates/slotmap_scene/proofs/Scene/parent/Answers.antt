@@ -1,0 +1,7 @@
+use Rattle.std.proofs.Common.{sym}
+use Rattle.slotmap_scene.proofs.Families.{found_stands}
+use Rattle.slotmap_scene.proofs.Scene.parent.Goals as goal
+
+pub returns-clause-live : goal.returns-clause-live
+returns-clause-live g c =
+    rw (← c.self.view_is) (found_stands c.self.inside.nodes.live c.self.invariant.tree c.args.node c.in_ok-get.field-0.now (sym c.in_ok-get.ensures.value))

@@ -1,0 +1,229 @@
+-- What a fold of the values on the way up comes to.
+use Rattle.std.proofs.Common.{◌≡◌, ◌≢◌, ℕ, zero, suc, List, [], ◌∷◌, ◌++◌, append_assoc, Option, Some, None, IfSome, IfNone, is_some, option_map, true, refl, sym, ap, subst, ◌∙◌}
+use Rattle.std.specs.Fn.{Mut, Takes}
+use Rattle.std.specs.Borrow.{Bor}
+use Rattle.std.specs.List.{FoldsTo, fold}
+use Rattle.std.proofs.lemmas.Fn.{FoldsTo-push, chained_keeps}
+use Rattle.std.specs.FinMap as map
+use Rattle.slotmap.specs.Words.{Key}
+use Rattle.slotmap.proofs.Callers.{get-insert_here, get-insert_other}
+use Rattle.slotmap_scene.specs.declared.Node.{Node}
+use Rattle.slotmap_scene.specs.Climb.{Nodes, has_node, lacks_node, parent_of, parent_in, ClimbsTo, IsTree, IsWithin}
+use Rattle.slotmap_scene.specs.Family.{value_of, leaf, attached, as_root}
+use Rattle.slotmap_scene.proofs.Families.{parent_there, attached_parents, detached_parents, value_detached, value_attached}
+use Rattle.slotmap_scene.specs.WorldValue.{IsPathFrom, IsPathUp, world_along, IsWorld, CallsAt, FoldsUp, CallableUp}
+
+module _ {T : Type 0} (nodes : Nodes T) where
+  -- the node at k, in front of a path from its parent
+  path_step : (k : Key) (node : Node T) → map.get nodes k ≡ Some node → (above : List T) → IsPathFrom nodes node.parent above → IsPathUp nodes k (node.value ∷ above)
+  path_step k node there above path =
+      (ap (option_map (λ n. n.value)) there, subst (λ p. IsPathFrom nodes p above) (sym (ap parent_in there)) path)
+
+  -- a root is the end of its path
+  root_path : (k : Key) (node : Node T) → map.get nodes k ≡ Some node → node.parent ≡ None → IsPathUp nodes k (node.value ∷ [])
+  root_path k node there top = path_step k node there [] (subst (λ p. IsPathFrom nodes p []) (sym top) tt)
+
+  -- any other node is in front of a path from its parent
+  child_path : (k p : Key) (node : Node T) → map.get nodes k ≡ Some node → node.parent ≡ Some p → (above : List T) → IsPathUp nodes p above → IsPathUp nodes k (node.value ∷ above)
+  child_path k p node there up above path = path_step k node there above (subst (λ q. IsPathFrom nodes q above) (sym up) path)
+
+  -- a path goes up from a node that is there
+  path_live : (k : Key) (values : List T) → IsPathUp nodes k values → has_node nodes k
+  path_live k [] path = absurd path
+  path_live k (v ∷ above) path = found (map.get nodes k) path.0
+    where
+      found : (node : Option (Node T)) → option_map (λ n. n.value) node ≡ Some v → is_some node ≡ true
+      found None is = absurd (cc)
+      found (Some node) is = refl
+
+  -- there is one path
+  one_path : (p : Option Key) (a b : List T) → IsPathFrom nodes p a → IsPathFrom nodes p b → a ≡ b
+  one_path None [] [] x y = refl
+  one_path None [] (v ∷ vs) x y = absurd y
+  one_path None (v ∷ vs) b x y = absurd x
+  one_path (Some k) [] b x y = absurd x
+  one_path (Some k) (v ∷ vs) [] x y = absurd y
+  one_path (Some k) (v ∷ vs) (w ∷ ws) x y =
+      let h = sym x.0 ∙ y.0 in
+      let same : v ≡ w = cc in
+      λ i. same i ∷ one_path (parent_of nodes k) vs ws x.1 y.1 i
+
+  -- and so one value in the coordinates of the root
+  pub one_world : (under : T → T → T) (k : Key) (v w : T) → IsWorld under nodes k v → IsWorld under nodes k w → v ≡ w
+  one_world under k v w a b =
+      let same = one_path (Some k) (a.own ∷ a.above) (b.own ∷ b.above) a.path b.path in
+      let own : a.own ≡ b.own = cc in
+      let above : a.above ≡ b.above = cc in
+      a.made ∙ (λ i. world_along under (own i) (above i)) ∙ sym b.made
+
+  -- a root is where its own value says
+  pub world_root : (under : T → T → T) (k : Key) (node : Node T) → map.get nodes k ≡ Some node → node.parent ≡ None → IsWorld under nodes k node.value
+  world_root under k node there top = record { own = node.value; above = []; path = root_path k node there top; made = refl }
+
+  -- any other node is where its own value says, under its parent
+  pub world_child : (under : T → T → T) (k p : Key) (node : Node T) (w : T) → map.get nodes k ≡ Some node → node.parent ≡ Some p
+      → IsWorld under nodes p w → IsWorld under nodes k (under node.value w)
+  world_child under k p node w there up world = record {
+    own = node.value;
+    above = world.own ∷ world.above;
+    path = child_path k p node there up (world.own ∷ world.above) world.path;
+    made = ap (under node.value) world.made;
+  }
+
+  -- what `world` returns, where it is known by these two
+  pub world_is : (under : T → T → T) (k : Key) (w : T) (result : Option T) → IsWorld under nodes k w
+      → IfSome result (IsWorld under nodes k) → IfNone result (lacks_node nodes k) → result ≡ Some w
+  world_is under k w None world some none = let live = path_live k (world.own ∷ world.above) world.path in absurd (cc)
+  world_is under k w (Some v) world some none = ap Some (one_world under k v w some world)
+
+-- what is done from the node up, done from the root down
+module _ {T : Type 0} (under : T → T → T) (joins : (a b c : T) → under (under a b) c ≡ under a (under b c)) where
+  fold_under : (v p : T) (above : List T) → fold under (under v p) above ≡ under v (fold under p above)
+  fold_under v p [] = refl
+  fold_under v p (q ∷ above) = ap (λ x. fold under x above) (joins v p q) ∙ fold_under v (under p q) above
+
+  fold_world : (v : T) (above : List T) → fold under v above ≡ world_along under v above
+  fold_world v [] = refl
+  fold_world v (p ∷ above) = fold_under v p above ∙ ap (under v) (fold_world p above)
+
+-- from each node that leads up to a root there is a path
+module _ {T : Type 0} (nodes : Nodes T) where
+  live_value : (k : Key) → has_node nodes k → (v : T) × (value_of nodes k ≡ Some v)
+  live_value k live = found (map.get nodes k) live
+    where
+      found : (node : Option (Node T)) → is_some node ≡ true → (v : T) × (option_map (λ n. n.value) node ≡ Some v)
+      found None is = absurd (cc)
+      found (Some node) is = (node.value, refl)
+
+  path_of : (n : ℕ) (k : Key) → ClimbsTo nodes n k → (v : T) × (above : List T) × IsPathUp nodes k (v ∷ above)
+  path_of zero k leads = let own = live_value k leads.0 in (own.0, [], (own.1, subst (λ p. IsPathFrom nodes p []) (sym leads.1) tt))
+  path_of (suc n) k leads =
+      let own = live_value k leads.1.0 in
+      let up = path_of n leads.0 leads.1.2 in
+      (own.0, up.0 ∷ up.1, (own.1, subst (λ p. IsPathFrom nodes p (up.0 ∷ up.1)) (sym leads.1.1) up.2))
+
+-- what a loop up from a node knows at another one: the values below it, and the calls for these
+module _ {F A T : Type 0} (g : Mut F (A × (Bor T × Unit {0})) A) (nodes : Nodes T) where
+  pub record Folding (from : Key) (f₀ : F) (start : A) (at : Key) (f : F) (total : A) : Type 0 where
+    pub below : List T
+    pub calls : FoldsTo (CallsAt g) (f₀, start) below (f, total)
+    pub path : (above : List T) → IsPathUp nodes at above → IsPathUp nodes from (below ++ above)
+
+  pub folding_start : (k : Key) (f : F) (start : A) → Folding k f start k f start
+  folding_start k f start = record { below = []; calls = refl; path = λ above up. up }
+
+  module _ (from : Key) (f₀ : F) (start : A) (at : Key) (f : F) (total : A) (folding : Folding from f₀ start at f total) (node : Node T) (there : map.get nodes at ≡ Some node) where
+    pub folding_takes : CallableUp g nodes from f₀ start → (n : ℕ) → ClimbsTo nodes n at → (shown : Bor T) → shown.now ≡ node.value → Takes g f (total, (shown, tt))
+    folding_takes callable n leads shown same =
+        let up = path_of nodes n at leads in
+        let path : IsPathUp nodes at (shown.now ∷ up.1) = (ap (option_map (λ n. n.value)) there ∙ ap Some (sym same), up.2.1) in
+        callable.at folding.below up.1 f total shown (folding.path (shown.now ∷ up.1) path) folding.calls
+
+    module _ (f' : F) (next : A) (call : CallsAt g (f, total) node.value (f', next)) where
+      folded_here : FoldsTo (CallsAt g) (f₀, start) (folding.below ++ node.value ∷ []) (f', next)
+      folded_here = FoldsTo-push (CallsAt g) (f₀, start) folding.below (f, total) node.value (f', next) folding.calls call
+
+      pub folding_step : (p : Key) → node.parent ≡ Some p → Folding from f₀ start p f' next
+      folding_step p is = record {
+        below = folding.below ++ node.value ∷ [];
+        calls = folded_here;
+        path = λ above up. subst (IsPathUp nodes from) (sym (append_assoc folding.below (node.value ∷ []) above)) (folding.path (node.value ∷ above) (child_path nodes at p node there is above up));
+      }
+
+      pub folding_end : node.parent ≡ None → FoldsUp g nodes from f₀ start next
+      folding_end is = record { values = folding.below ++ node.value ∷ []; path = folding.path (node.value ∷ []) (root_path nodes at node there is); last = f'; calls = folded_here }
+
+-- a fold by the closure that puts each value under the next one
+module _ {F T : Type 0} (g : Mut F (T × (Bor T × Unit {0})) T) (under : T → T → T)
+    (puts : (f f' : F) (v p w : T) → CallsAt g (f, v) p (f', w) → w ≡ under v p) where
+  folded : (above : List T) (f last : F) (v w : T) → FoldsTo (CallsAt g) (f, v) above (last, w) → w ≡ fold under v above
+  folded [] f last v w calls = sym (ap (λ s. s.1) calls)
+  folded (p ∷ above) f last v w calls =
+      folded above calls.0.0 last calls.0.1 w calls.2 ∙ ap (λ x. fold under x above) (puts f calls.0.0 v p calls.0.1 calls.1)
+
+  module _ (joins : (a b c : T) → under (under a b) c ≡ under a (under b c)) (nodes : Nodes T) (k p : Key) (node : Node T)
+      (there : map.get nodes k ≡ Some node) (up : node.parent ≡ Some p) where
+    world_of_fold : (f : F) (w : T) → FoldsUp g nodes p f node.value w → IsWorld under nodes k w
+    world_of_fold f w folds = record {
+      own = node.value;
+      above = folds.values;
+      path = child_path nodes k p node there up folds.values folds.path;
+      made = folded folds.values f folds.last node.value w folds.calls ∙ fold_world under joins node.value folds.values;
+    }
+
+    pub world_of_folds : (f : F) (result : Option T) → IfSome result (FoldsUp g nodes p f node.value) → IfSome result (IsWorld under nodes k)
+    world_of_folds f None folds = tt
+    world_of_folds f (Some w) folds = world_of_fold f w folds
+
+-- where there is no parent, there is no node
+module _ {T : Type 0} (nodes : Nodes T) (k p : Key) (node : Node T) (there : map.get nodes k ≡ Some node) (up : node.parent ≡ Some p) where
+  pub parent_found : IsTree nodes → {X : Type 0} (result : Option X) → IfNone result (lacks_node nodes p) → IfNone result (lacks_node nodes k)
+  parent_found tree None lacks = let live = parent_there nodes tree k p (ap parent_in there ∙ up) in absurd (cc)
+  parent_found tree (Some w) lacks = tt
+
+-- where a node k is that gets another parent, or is added: all other nodes keep their values and their parents
+module _ {T : Type 0} (old new : Nodes T) (k : Key) (values : (q : Key) → has_node old q → q ≢ k → value_of new q ≡ value_of old q)
+    (parents : (q : Key) → has_node old q → q ≢ k → parent_of new q ≡ parent_of old q) where
+  -- a path that doesn't come by k stays
+  path_outside : (q : Option Key) (vs : List T) → ((r : Key) → q ≡ Some r → IsWithin old r k → ⊥) → IsPathFrom old q vs → IsPathFrom new q vs
+  path_outside None [] out path = tt
+  path_outside None (v ∷ above) out path = absurd path
+  path_outside (Some q) [] out path = absurd path
+  path_outside (Some q) (v ∷ above) out path =
+      let live = path_live old q (v ∷ above) path in
+      let apart : q ≢ k = λ same. out q refl (zero, same) in (
+        values q live apart ∙ path.0,
+        subst (λ r. IsPathFrom new r above) (sym (parents q live apart)) (path_outside (parent_of old q) above (λ r up w. out q refl (suc w.0, (r, (up, w.1)))) path.1),
+      )
+
+  -- where k wasn't there, each path stays
+  path_added : lacks_node old k → (q : Option Key) (vs : List T) → IsPathFrom old q vs → IsPathFrom new q vs
+  path_added fresh None [] path = tt
+  path_added fresh None (v ∷ above) path = absurd path
+  path_added fresh (Some q) [] path = absurd path
+  path_added fresh (Some q) (v ∷ above) path =
+      let live = path_live old q (v ∷ above) path in
+      let apart : q ≢ k = λ same. (let h = sym (subst (has_node old) same live) ∙ fresh in cc) in
+      (values q live apart ∙ path.0, subst (λ r. IsPathFrom new r above) (sym (parents q live apart)) (path_added fresh (parent_of old q) above path.1))
+
+  -- k is where its own value says, under its new parent
+  module _ (under : T → T → T) (v : T) (p : Key) (w : T) (here : value_of new k ≡ Some v) (up : parent_of new k ≡ Some p) (world : IsWorld under old p w) where
+    under_parent : IsPathFrom new (Some p) (world.own ∷ world.above) → IsWorld under new k (under v w)
+    under_parent path = record {
+      own = v;
+      above = world.own ∷ world.above;
+      path = (here, subst (λ q. IsPathFrom new q (world.own ∷ world.above)) (sym up) path);
+      made = ap (under v) world.made;
+    }
+
+    world_below : (IsWithin old p k → ⊥) → IsWorld under new k (under v w)
+    world_below out = under_parent (path_outside (Some p) (world.own ∷ world.above) (λ r is within. out (let same : r ≡ p = cc in subst (λ x. IsWithin old x k) same within)) world.path)
+
+    world_new : lacks_node old k → IsWorld under new k (under v w)
+    world_new fresh = under_parent (path_added fresh (Some p) (world.own ∷ world.above) world.path)
+
+-- after `reparent` a node is where its own value says, under its new parent, which is where it was
+module _ {T : Type 0} (nodes : Nodes T) (k p : Key) (live : has_node nodes k) (out : IsWithin nodes p k → ⊥) where
+  abbrev moved : Nodes T
+  moved = attached (as_root nodes k) k p
+
+  pub world_moved : (under : T → T → T) (v w : T) → value_of nodes k ≡ Some v → IsWorld under nodes p w → IsWorld under moved k (under v w)
+  world_moved under v w own world =
+      let gone = detached_parents nodes k in
+      let back = attached_parents (as_root nodes k) k p (gone.same_keys k ∙ live) in
+      let value : (q : Key) → value_of moved q ≡ value_of nodes q = λ q. value_attached (as_root nodes k) k p q ∙ value_detached nodes k q in
+      world_below nodes moved k (λ q there other. value q) (λ q there other. back.others q other ∙ gone.others q other) under v p w (value k ∙ own) back.here world out
+
+-- where a node is that is added
+module _ {T : Type 0} (nodes : Nodes T) (k : Key) (v : T) where
+  abbrev added : Nodes T
+  added = map.insert nodes k (leaf v)
+
+  pub world_added_root : (under : T → T → T) → IsWorld under added k v
+  world_added_root under = world_root added under k (leaf v) (get-insert_here nodes k (leaf v)) refl
+
+  pub world_added_child : lacks_node nodes k → (under : T → T → T) (p : Key) (w : T) → IsWorld under nodes p w → IsWorld under (attached added k p) k (under v w)
+  world_added_child fresh under p w world =
+      let put = attached_parents added k p (ap is_some (get-insert_here nodes k (leaf v))) in
+      world_new nodes (attached added k p) k (λ q there other. value_attached added k p q ∙ ap (option_map (λ n. n.value)) (get-insert_other nodes k (leaf v) q other))
+      (λ q there other. put.others q other ∙ ap parent_in (get-insert_other nodes k (leaf v) q other)) under v p w (value_attached added k p k ∙ ap (option_map (λ n. n.value)) (get-insert_here nodes k (leaf v))) put.here world fresh

@@ -1,0 +1,87 @@
+-- The paths from the nodes of a scene up to their roots.
+use Rattle.std.specs.Prelude.{◌≡◌, ℕ, zero, suc, Option, Some, None, List, true, false, refl, ⊤}
+use Rattle.std.specs.Coded.{Coded, code_by, coded×, coded_list, coded_option}
+use Rattle.std.specs.FinMap as map
+use Rattle.slotmap.specs.Words.{Key, key_cmp, coded_key}
+use Rattle.slotmap_scene.specs.declared.Node.{Node}
+use Rattle.slotmap_scene.specs.declared.AddError.{AddError}
+use Rattle.slotmap_scene.specs.declared.AddError.TheVariants.{Gone, Full, Memory}
+use Rattle.slotmap_scene.specs.declared.ReparentError.{ReparentError}
+use Rattle.slotmap_scene.specs.declared.ReparentError.TheVariants as move
+
+-- the node of each key
+abbrev pub Nodes : Type 0 → Type 0
+Nodes T = map.FinMap key_cmp (Node T)
+
+-- by which a proof tells two nodes apart
+abbrev pub node_code : {T : Type 0} → Coded T → Coded (Node T)
+node_code {T} t =
+    code_by (T × (Option Key × List Key)) (coded× t (coded× (coded_option coded_key) (coded_list coded_key)))
+    (λ n. (n.value, (n.parent, n.children))) (λ p. record { value = p.0; parent = p.1.0; children = p.1.1 }) (λ _. refl)
+
+module _ {T : Type 0} where
+  abbrev pub has_node : Nodes T → Key → Type 0
+  has_node nodes k = map.contains_key nodes k ≡ true
+
+  abbrev pub lacks_node : Nodes T → Key → Type 0
+  lacks_node nodes k = map.contains_key nodes k ≡ false
+
+  abbrev pub parent_in : Option (Node T) → Option Key
+  parent_in None = None
+  parent_in (Some node) = node.parent
+
+  -- the parent of k; a root has none
+  abbrev pub parent_of : Nodes T → Key → Option Key
+  parent_of nodes k = parent_in (map.get nodes k)
+
+  -- a root is so many steps up from the node k
+  abbrev pub ClimbsTo : Nodes T → ℕ → Key → Type 0
+  ClimbsTo nodes zero k = has_node nodes k × (parent_of nodes k ≡ None)
+  ClimbsTo nodes (suc n) k = (p : Key) × (has_node nodes k × (parent_of nodes k ≡ Some p) × ClimbsTo nodes n p)
+
+  -- each node has a root above it: no node is above itself
+  abbrev pub IsTree : Nodes T → Type 0
+  IsTree nodes = (k : Key) → has_node nodes k → (n : ℕ) × ClimbsTo nodes n k
+
+  -- so many steps up from k is other
+  abbrev pub StepsTo : Nodes T → ℕ → Key → Key → Type 0
+  StepsTo nodes zero k other = k ≡ other
+  StepsTo nodes (suc n) k other = (p : Key) × ((parent_of nodes k ≡ Some p) × StepsTo nodes n p other)
+
+  -- k is other, or below it
+  abbrev pub IsWithin : Nodes T → Key → Key → Type 0
+  IsWithin nodes k other = (n : ℕ) × StepsTo nodes n k other
+
+  abbrev pub with_parent_in : Nodes T → Key → Option (Node T) → Option Key → Nodes T
+  with_parent_in nodes k None parent = nodes
+  with_parent_in nodes k (Some node) parent = map.insert nodes k (record node { parent = parent })
+
+  -- k has this parent, and nothing else changed
+  abbrev pub with_parent : Nodes T → Key → Option Key → Nodes T
+  with_parent nodes k parent = with_parent_in nodes k (map.get nodes k) parent
+
+  -- the value is returned
+  abbrev pub HandsBack : T → AddError T → Type 0
+  HandsBack v (Gone back) = back ≡ v
+  HandsBack v (Full back) = back ≡ v
+  HandsBack v (Memory back) = back ≡ v
+
+  -- not for want of a parent
+  abbrev pub IsNotGone : AddError T → Type 0
+  IsNotGone (Gone back) = ⊥
+  IsNotGone (Full back) = ⊤
+  IsNotGone (Memory back) = ⊤
+
+  -- `Gone` if and only if there is no such parent; the value is returned
+  abbrev pub RefusesChild : Nodes T → Key → T → AddError T → Type 0
+  RefusesChild nodes parent v (Gone back) = lacks_node nodes parent × (back ≡ v)
+  RefusesChild nodes parent v (Full back) = has_node nodes parent × (back ≡ v)
+  RefusesChild nodes parent v (Memory back) = has_node nodes parent × (back ≡ v)
+
+  -- `GoneNode` and `GoneParent` where there is no such node; `Cycle` if and only if the parent is the node, or below it;
+  -- `Memory` only if none of them is to be said
+  abbrev pub RefusesParent : Nodes T → Key → Key → ReparentError → Type 0
+  RefusesParent nodes k parent move.GoneNode = lacks_node nodes k
+  RefusesParent nodes k parent move.GoneParent = has_node nodes k × lacks_node nodes parent
+  RefusesParent nodes k parent move.Cycle = has_node nodes k × has_node nodes parent × IsWithin nodes parent k
+  RefusesParent nodes k parent move.Memory = has_node nodes k × has_node nodes parent × (IsWithin nodes parent k → ⊥)

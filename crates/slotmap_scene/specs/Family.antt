@@ -1,0 +1,70 @@
+-- The children of each node, and how a call changes them.
+use Rattle.std.specs.Prelude.{◌≡◌, ℕ, Option, Some, None, List, [], ◌∷◌, ◌++◌, if◌then◌else◌, option_map}
+use Rattle.std.specs.FinMap as map
+use Rattle.slotmap.specs.Words.{Key}
+use Rattle.slotmap_scene.specs.declared.Node.{Node}
+use Rattle.slotmap_scene.specs.Climb.{Nodes, IsTree, parent_of, with_parent}
+use Rattle.slotmap_scene.specs.Keys.{is_key, same, times}
+
+-- a list without the first k in it
+abbrev pub without : Key → List Key → List Key
+without k [] = []
+without k (x ∷ xs) = if is_key x k then xs else x ∷ without k xs
+
+-- 1 if p is the parent, else 0
+abbrev pub is_parent : Option Key → Key → ℕ
+is_parent None p = 0
+is_parent (Some q) p = same q p
+
+module _ {T : Type 0} where
+  -- the children of a node, if there is one
+  abbrev pub children_in : Option (Node T) → List Key
+  children_in None = []
+  children_in (Some node) = node.children
+
+  -- the children of k, in order; a removed node has none
+  abbrev pub children_of : Nodes T → Key → List Key
+  children_of nodes k = children_in (map.get nodes k)
+
+  -- each node appears exactly once in its parent's list of children, and in no other
+  abbrev pub AreListed : Nodes T → Type 0
+  AreListed nodes = (p k : Key) → times k (children_of nodes p) ≡ is_parent (parent_of nodes k) p
+
+  -- what holds of every scene
+  pub record IsScene (nodes : Nodes T) : Type 0 where
+    pub tree : IsTree nodes
+    pub listed : AreListed nodes
+
+  -- a root with no children
+  abbrev pub leaf : T → Node T
+  leaf v = record { value = v; parent = None; children = [] }
+
+  -- the value of k, if k is a node
+  abbrev pub value_of : Nodes T → Key → Option T
+  value_of nodes k = option_map (λ n. n.value) (map.get nodes k)
+
+  -- a node that has lost a child
+  abbrev pub forgets : Key → Node T → Node T
+  forgets k node = record node { children = without k node.children }
+
+  -- the node under p, if there is one, has other children
+  abbrev pub with_children_in : Nodes T → Key → Option (Node T) → (List Key → List Key) → Nodes T
+  with_children_in nodes p None f = nodes
+  with_children_in nodes p (Some node) f = map.insert nodes p (record node { children = f node.children })
+
+  -- k is put behind the children of p
+  abbrev pub with_child : Nodes T → Key → Key → Nodes T
+  with_child nodes p k = with_children_in nodes p (map.get nodes p) (λ ks. ks ++ k ∷ [])
+
+  -- k is taken from the children of p
+  abbrev pub without_child : Nodes T → Option Key → Key → Nodes T
+  without_child nodes None k = nodes
+  without_child nodes (Some p) k = with_children_in nodes p (map.get nodes p) (without k)
+
+  -- k is a root, and no node has it as a child
+  abbrev pub as_root : Nodes T → Key → Nodes T
+  as_root nodes k = with_parent (without_child nodes (parent_of nodes k) k) k None
+
+  -- k, a root until now, is the last child of p
+  abbrev pub attached : Nodes T → Key → Key → Nodes T
+  attached nodes k p = with_parent (with_child nodes p k) k (Some p)

@@ -1,0 +1,51 @@
+-- The values on the way from a node up to its root, and what is made of them.
+use Rattle.std.specs.Prelude.{◌≡◌, Option, Some, None, List, [], ◌∷◌, ◌++◌, ⊤}
+use Rattle.std.specs.Fn.{Mut, Called, Takes}
+use Rattle.std.specs.Borrow.{Bor}
+use Rattle.std.specs.List.{FoldsTo}
+use Rattle.slotmap.specs.Words.{Key}
+use Rattle.slotmap_scene.specs.Climb.{Nodes, parent_of}
+use Rattle.slotmap_scene.specs.Family.{value_of}
+
+module _ {T : Type 0} where
+  -- the values from a node up to its root, its own first; above a root there are none
+  abbrev pub IsPathFrom : Nodes T → Option Key → List T → Type 0
+  IsPathFrom nodes None [] = ⊤
+  IsPathFrom nodes None (v ∷ above) = ⊥
+  IsPathFrom nodes (Some k) [] = ⊥
+  IsPathFrom nodes (Some k) (v ∷ above) = (value_of nodes k ≡ Some v) × IsPathFrom nodes (parent_of nodes k) above
+
+  -- the same, from the node k
+  abbrev pub IsPathUp : Nodes T → Key → List T → Type 0
+  IsPathUp nodes k values = IsPathFrom nodes (Some k) values
+
+  -- v, under p, where p is under what is above it, and so on
+  abbrev pub world_along : (T → T → T) → T → List T → T
+  world_along under v [] = v
+  world_along under v (p ∷ above) = under v (world_along under p above)
+
+  -- w is the value of k in the coordinates of its root: its own value under that of its parent, and so on up to the root
+  pub record IsWorld (under : T → T → T) (nodes : Nodes T) (k : Key) (w : T) : Type 0 where
+    pub own : T
+    pub above : List T
+    pub path : IsPathUp nodes k (own ∷ above)
+    pub made : w ≡ world_along under own above
+
+module _ {F A T : Type 0} (g : Mut F (A × (Bor T × Unit {0})) A) where
+  -- a call at a value, which takes the closure from one state to another, and what there is so far to its result
+  pub record CallsAt (before : F × A) (v : T) (after : F × A) : Type 0 where
+    pub shown : Bor T
+    pub shows : shown.now ≡ v
+    pub called : Called g before.0 (before.1, (shown, tt)) after.1 after.0
+
+  -- f is called once for each value from k up to its root, first that of k; each call gets the result of the one before it
+  pub record FoldsUp (nodes : Nodes T) (k : Key) (f : F) (start end : A) : Type 0 where
+    pub values : List T
+    pub path : IsPathUp nodes k values
+    pub last : F
+    pub calls : FoldsTo CallsAt (f, start) values (last, end)
+
+  -- f may be called for each value from k up to its root, after calls for all values below it
+  pub record CallableUp (nodes : Nodes T) (k : Key) (f : F) (start : A) : Type 0 where
+    pub at : (below above : List T) (f' : F) (so_far : A) (shown : Bor T) → IsPathUp nodes k (below ++ shown.now ∷ above)
+        → FoldsTo CallsAt (f, start) below (f', so_far) → Takes g f' (so_far, (shown, tt))

@@ -1,0 +1,140 @@
+//! Values that are composed along the path from a node to its root, as transforms in a scene graph.
+//!
+//! [`Scene::fold_up`] folds a closure along the values from a node up to its root. [`Scene::world`]
+//! returns a node's value in the coordinates of its root, where the values are [`Transform`]s. What is
+//! proved of them:
+//!
+//! - The closure is called once for each value from the node's own to the root's, in that order.
+//! - The result of `world` is the node's own value composed with its ancestors', up to the root.
+//! - They return `None` exactly if the node doesn't exist.
+//!
+//! Both take time linear in the number of nodes above the one that they are given. Nothing is allocated.
+//!
+//! ```
+//! let mut arm = Scene::new(alloc)?;
+//! let shoulder = arm.add_root(Offset { x: 10, y: 20 })?;
+//! let elbow = arm.add_child(shoulder, Offset { x: 5, y: 0 })?;
+//! let hand = arm.add_child(elbow, Offset { x: 3, y: -4 })?;
+//! assert_eq!(rt; arm.world(hand), Some(Offset { x: 18, y: 16 }));
+//! ```
+#![tactic(auto, using(slotmap::proofs::Callers::keys))]
+
+ghost use Rattle.std.specs.Prelude.{◌≡◌, IfSome, IfNone};
+ghost use Rattle.slotmap_scene.specs.Climb.{lacks_node};
+ghost use Rattle.slotmap_scene.specs.WorldValue.{CallableUp, FoldsUp, IsWorld};
+
+use crate::Scene;
+use slotmap::DefaultKey;
+
+/// A value that is given in the coordinates of a parent, as a position or a rotation is.
+///
+/// An implementation proves that `a.under(b)` under `c` is `a` under `b.under(c)`.
+pub trait Transform: Copy {
+    /// The first value, in the coordinates in which the second one is given.
+    ghost under: { Self → Self → Self };
+
+    /// Returns this value in the coordinates in which its parent is given.
+    ///
+    /// ```
+    /// let hand = Offset { x: 3, y: -4 };
+    /// let elbow = Offset { x: 5, y: 0 };
+    /// assert_eq!(rt; Transform::under(&hand, &elbow), Offset { x: 8, y: -4 });
+    /// ```
+    fn under(&self, parent: &Self) -> Self
+        ensures { result ≡ under self.now parent.now };
+
+    /// Of three in a row, it doesn't matter which two are put together first.
+    ghost joins: { (a b c : Self) → under (under a b) c ≡ under a (under b c) };
+}
+
+/// A shift along two axes. Sums wrap around.
+#[derive(Clone, Copy, Debug, PartialEq, Eq)]
+pub struct Offset {
+    /// Along the first axis.
+    pub x: i32,
+    /// Along the second axis.
+    pub y: i32,
+}
+
+impl Transform for Offset {
+    ghost use Rattle.slotmap_scene.specs.Offset.{shifted, shifted_joins};
+
+    ghost under = { shifted };
+
+    ghost joins = { shifted_joins };
+
+    fn under(&self, parent: &Offset) -> Offset {
+        Offset {
+            x: self.x.wrapping_add(parent.x),
+            y: self.y.wrapping_add(parent.y),
+        }
+    }
+}
+
+impl<T: Drop> Scene<T> {
+    /// Folds a closure along the values from a node up to its root, and returns the last result.
+    ///
+    /// The first call gets `start` and the node's own value. Each later one gets the result of the call
+    /// before it and the value of the next node up. It returns `None` exactly if the node doesn't exist.
+    /// Linear in the number of nodes above.
+    ///
+    /// ```
+    /// let mut scene = Scene::new(alloc)?;
+    /// let car = scene.add_root(1)?;
+    /// let wheel = scene.add_child(car, 2)?;
+    /// assert_eq!(rt; scene.fold_up(wheel, 0, |most: u64, value| most.max(*value)), Some(2));
+    /// ```
+    pub fn fold_up<A: Drop, F: FnMut(A, &T) -> A>(
+        &self,
+        node: DefaultKey,
+        start: A,
+        mut f: F,
+    ) -> Option<A>
+    where
+        F: Drop,
+        // For each value on the way, after calls for the values below it.
+        requires { CallableUp F.FnMut self.now node f start }
+        ensures some { IfSome result (FoldsUp F.FnMut self.now node f start) }
+        ensures none { IfNone result (lacks_node self.now node) }
+    {
+        if !self.nodes.contains_key(node) {
+            return None;
+        }
+        let mut at = node;
+        let mut total = start;
+        for _step in 0..self.nodes.len() {
+            let node = &self.nodes[at];
+            total = f(total, &node.value);
+            match node.parent {
+                None => return Some(total),
+                Some(parent) => at = parent,
+            }
+        }
+        None
+    }
+}
+
+impl<T: Transform> Scene<T> {
+    /// Returns the value of a node in the coordinates of its root.
+    ///
+    /// This is the node's own value composed with its ancestors', up to the root. It returns `None`
+    /// exactly if the node doesn't exist. Linear in the number of nodes above.
+    ///
+    /// ```
+    /// let mut arm = Scene::new(alloc)?;
+    /// let elbow = arm.add_root(Offset { x: 5, y: 0 })?;
+    /// let hand = arm.add_child(elbow, Offset { x: 3, y: -4 })?;
+    /// assert_eq!(rt; arm.world(hand), Some(Offset { x: 8, y: -4 }));
+    /// ```
+    pub fn world(&self, node: DefaultKey) -> Option<T>
+        ensures some { IfSome result (IsWorld T.under self.now node) }
+        ensures none { IfNone result (lacks_node self.now node) }
+    {
+        let own = self.nodes.get(node)?;
+        let local = own.value;
+        match own.parent {
+            None => Some(local),
+            Some(parent) => self.fold_up(parent, local, |below, above| below.under(above)),
+        }
+    }
+}

@@ -1,0 +1,12 @@
+pub mod Gaps
+pub mod Handles
+pub mod HeapPlaces
+pub mod HeapWritten
+pub mod Heaps
+pub mod Lookups
+pub mod Moves
+pub mod Order
+pub mod Results
+pub mod Schedules
+pub mod Seen
+pub mod Turns

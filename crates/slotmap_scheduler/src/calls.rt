@@ -1,0 +1,256 @@
+//! The calls that change which jobs wait, and in which order.
+
+ghost use Rattle.std.specs.Prelude.{◌≡◌, ℕ, ◌+◌, ◌<◌, ◌≤◌, ◌∷◌, [], Some, None, IfOk, OnOk, IfErr, OnErr, IfSome, OnSome, IfNone, IsOk, is_some, true, option_map};
+ghost use Rattle.std.specs.List.{All};
+ghost use Rattle.std.specs.FinMap as map;
+ghost use Rattle.slotmap.specs.Words.{Key as KeyOf, Inserts, Removes, Keeps, IsSpent, KeepsSpent, RefusesCapacity, used, most};
+ghost use Rattle.slotmap_scheduler.specs.Schedule.{job_of, in_turn, without, last_turn, RefusesJob, RefusesMove};
+
+use crate::heap::{Entry, settle, take_out};
+use crate::{Job, RescheduleError, ScheduleError, Scheduler};
+use slotmap::{DefaultKey, Key, ReserveError};
+
+impl<K: Key, T: Drop> Scheduler<K, T> {
+    /// Reserves room for `additional` more jobs.
+    ///
+    /// The next `additional` schedules don't allocate. The errors are these; either leaves the same
+    /// jobs waiting:
+    ///
+    /// - `TooGreat`: more than 4294967294 jobs would be there, counting handles that are used up.
+    /// - `Memory`: memory runs out.
+    ///
+    /// ```
+    /// let mut scheduler: Scheduler<DefaultKey, &str> = Scheduler::new(alloc)?;
+    /// scheduler.reserve(2)?;
+    /// let capacity = scheduler.capacity();
+    /// scheduler.schedule(30, "tea")?;
+    /// scheduler.schedule(20, "bell")?;
+    /// assert_eq!(rt; scheduler.capacity(), capacity);
+    /// ```
+    pub fn reserve(&mut self, additional: usize) -> Result<(), ReserveError>
+        ensures room { OnOk result (additional ≤ self.new.handles.room) }
+        ensures had_room { additional ≤ self.old.handles.room → IsOk result }
+        ensures reuses { additional ≤ map.len self.old.handles.next → IsOk result }
+        ensures err { IfErr result (RefusesCapacity (used self.old.handles + additional)) }
+        ensures limit { used self.old.handles ≤ most }
+        ensures keeps { Keeps self.old.handles self.new.handles }
+        ensures waiting { self.new.waiting ≡ self.old.waiting }
+        ensures turns { self.new.turns ≡ self.old.turns }
+        ensures stale { KeepsSpent self.old.handles self.new.handles }
+    {
+        if let Err(error) = self.jobs.reserve(additional) {
+            return Err(error);
+        }
+        if self.heap.reserve(additional).is_err() {
+            return Err(ReserveError::Memory);
+        }
+        Ok(())
+    }
+
+    // Schedules a job for which there is room.
+    fn put(&mut self, time: u64, job: T) -> K
+        requires room { 0 < self.old.handles.room }
+        requires turns { self.old.turns < last_turn }
+        ensures waits { self.new.waiting ≡ in_turn (K.data_of result, (time, job)) self.old.waiting }
+        ensures fresh { job_of (K.data_of result) self.old.waiting ≡ None }
+        ensures unspent { IsSpent self.old.handles (K.data_of result) → ⊥ }
+        ensures handles { Inserts self.old.handles (K.data_of result) tt self.new.handles }
+        ensures turns { self.new.turns ≡ self.old.turns + 1 }
+        ensures stale { KeepsSpent self.old.handles self.new.handles }
+    {
+        let turn = (time, self.count);
+        let place = self.heap.len();
+        let handle = self.jobs.insert(Job { turn, place, job }).unwrap();
+        let _ = self.heap.push(Entry { turn, handle });
+        self.count += 1;
+        settle(&mut self.jobs, &mut self.heap, place);
+        K::from(handle.data())
+    }
+
+    /// Schedules a job, and returns its handle. It is behind all waiting jobs of its time.
+    ///
+    /// If the call fails, the error holds the job, and the same jobs wait: no handle is used up. It
+    /// takes time logarithmic in the number of jobs, unless a vector grows.
+    ///
+    /// ```
+    /// let mut scheduler: Scheduler<DefaultKey, &str> = Scheduler::new(alloc)?;
+    /// let tea = scheduler.schedule(30, "tea")?;
+    /// scheduler.schedule(20, "bell")?;
+    /// assert_eq!(rt; scheduler.due(tea), Some(30));
+    /// assert_eq!(rt; scheduler.len(), 2);
+    /// ```
+    pub fn schedule(&mut self, time: u64, job: T) -> Result<K, ScheduleError<T>>
+        // The job waits under a new handle, which no job had before.
+        ensures waits { IfOk result (λ handle. self.new.waiting ≡ in_turn (K.data_of handle, (time, job)) self.old.waiting) }
+        ensures fresh { IfOk result (λ handle. job_of (K.data_of handle) self.old.waiting ≡ None) }
+        ensures unspent { IfOk result (λ handle. IsSpent self.old.handles (K.data_of handle) → ⊥) }
+        ensures handles { IfOk result (λ handle. Inserts self.old.handles (K.data_of handle) tt self.new.handles) }
+        ensures turns { OnOk result (self.new.turns ≡ self.old.turns + 1) }
+
+        // Why the call failed, and what that leaves. If a slot is vacant, nothing is allocated.
+        ensures err { IfErr result (RefusesJob self.old job) }
+        ensures reuses { 0 < map.len self.old.handles.next → self.old.turns < last_turn → IsOk result }
+        ensures unchanged { OnErr result (Keeps self.old.handles self.new.handles × (self.new.waiting ≡ self.old.waiting) × (self.new.turns ≡ self.old.turns)) }
+
+        // What never comes again.
+        ensures stale { KeepsSpent self.old.handles self.new.handles }
+    {
+        if self.count == u64::MAX {
+            return Err(ScheduleError::Full(job));
+        }
+        match self.reserve(1) {
+            Ok(()) => Ok(self.put(time, job)),
+            Err(ReserveError::TooGreat) => Err(ScheduleError::Full(job)),
+            Err(ReserveError::Memory) => Err(ScheduleError::Memory(job)),
+        }
+    }
+
+    /// Cancels the job of a handle, and returns it, or `None` if no job waits under it. It is never
+    /// returned later, and its handle is never used again.
+    ///
+    /// Nothing is allocated. It takes time logarithmic in the number of jobs.
+    ///
+    /// ```
+    /// let mut scheduler: Scheduler<DefaultKey, &str> = Scheduler::new(alloc)?;
+    /// let tea = scheduler.schedule(30, "tea")?;
+    /// assert_eq!(rt; scheduler.cancel(tea), Some("tea"));
+    /// assert_eq!(rt; scheduler.cancel(tea), None);
+    /// assert!(rt; !scheduler.contains(tea));
+    /// ```
+    pub fn cancel(&mut self, handle: K) -> Option<T>
+        ensures job { result ≡ option_map (λ due. due.1) (job_of (K.data_of handle) self.old.waiting) }
+        ensures removed { self.new.waiting ≡ without (K.data_of handle) self.old.waiting }
+        ensures handles { OnSome result (Removes self.old.handles (K.data_of handle) self.new.handles) }
+        ensures turns { self.new.turns ≡ self.old.turns }
+        ensures unchanged { IfNone result (self.new ≡ self.old) }
+        ensures for_good { OnSome result (IsSpent self.new.handles (K.data_of handle)) }
+        ensures stale { KeepsSpent self.old.handles self.new.handles }
+    {
+        let removed = take_out(
+            &mut self.jobs,
+            &mut self.heap,
+            DefaultKey::from(handle.data()),
+        )?;
+        Some(removed.job)
+    }
+
+    /// Moves the job of a handle to another time, behind all jobs of that time. The handle stays the
+    /// same.
+    ///
+    /// If the call fails, nothing has changed. Nothing is allocated. It takes time logarithmic in the
+    /// number of jobs.
+    ///
+    /// ```
+    /// let mut scheduler: Scheduler<DefaultKey, &str> = Scheduler::new(alloc)?;
+    /// let tea = scheduler.schedule(30, "tea")?;
+    /// let bell = scheduler.schedule(20, "bell")?;
+    /// assert!(rt; scheduler.reschedule(bell, 40).is_ok());
+    /// assert_eq!(rt; scheduler.peek(), Some((30, tea)));
+    /// ```
+    pub fn reschedule(&mut self, handle: K, time: u64) -> Result<(), RescheduleError>
+        // The job waits under the same handle, with a new turn.
+        ensures moved { (before : ℕ) (job : T) → job_of (K.data_of handle) self.old.waiting ≡ Some (before, job)
+            → OnOk result (self.new.waiting ≡ in_turn (K.data_of handle, (time, job)) (without (K.data_of handle) self.old.waiting)) }
+        ensures waits { OnOk result (is_some (job_of (K.data_of handle) self.old.waiting) ≡ true) }
+        ensures turns { OnOk result (self.new.turns ≡ self.old.turns + 1) }
+        ensures handles { self.new.handles ≡ self.old.handles }
+
+        // Why the call failed, and what that leaves.
+        ensures err { IfErr result (RefusesMove self.old (K.data_of handle)) }
+        ensures unchanged { OnErr result (self.new ≡ self.old) }
+    {
+        let key = DefaultKey::from(handle.data());
+        let Some(job) = self.jobs.get(key) else {
+            return Err(RescheduleError::Gone);
+        };
+        let place = job.place;
+        if self.count == u64::MAX {
+            return Err(RescheduleError::Full);
+        }
+        let turn = (time, self.count);
+        self.jobs[key].turn = turn;
+        self.heap[place].turn = turn;
+        self.count += 1;
+        settle(&mut self.jobs, &mut self.heap, place);
+        Ok(())
+    }
+
+    /// Returns the time and the handle of the next job, or `None` if no job waits. It takes constant
+    /// time.
+    ///
+    /// ```
+    /// let mut scheduler: Scheduler<DefaultKey, &str> = Scheduler::new(alloc)?;
+    /// let tea = scheduler.schedule(30, "tea")?;
+    /// scheduler.schedule(30, "bell")?;
+    /// assert_eq!(rt; scheduler.peek(), Some((30, tea)));
+    /// ```
+    pub fn peek(&self) -> Option<(u64, K)>
+        // It is the first of those that wait; the others are those without it.
+        ensures first { IfSome result (λ next. (job : T)
+            × (self.now.waiting ≡ (K.data_of next.1, (next.0, job)) ∷ without (K.data_of next.1) self.now.waiting)) }
+        ensures none { IfNone result (self.now.waiting ≡ []) }
+
+        // No job is due before it.
+        ensures later { (now : ℕ) → IfSome result (λ next. now < next.0 → All (λ e. now < e.1.0) self.now.waiting) }
+    {
+        let next = self.heap.first()?;
+        Some((next.turn.0, K::from(next.handle.data())))
+    }
+
+    /// Removes the next job, if it is due at `now`, and returns it with its handle. It is never
+    /// returned again, and its handle is never used again.
+    ///
+    /// Of the jobs that wait it is the one of the least time, and of those of that time the one that
+    /// was scheduled first. `None` means that no job is due. Nothing is allocated.
+    ///
+    /// ```
+    /// let mut scheduler: Scheduler<DefaultKey, &str> = Scheduler::new(alloc)?;
+    /// let bell = scheduler.schedule(20, "bell")?;
+    /// assert!(rt; scheduler.pop_due(19).is_none());
+    /// assert_eq!(rt; scheduler.pop_due(20), Some((bell, "bell")));
+    /// assert!(rt; scheduler.is_empty());
+    /// ```
+    pub fn pop_due(&mut self, now: u64) -> Option<(K, T)>
+        // The first job that waits is taken out, and was due.
+        ensures next { IfSome result (λ due. (time : ℕ) × (time ≤ now)
+            × (self.old.waiting ≡ (K.data_of due.0, (time, due.1)) ∷ self.new.waiting)) }
+        ensures handles { IfSome result (λ due. Removes self.old.handles (K.data_of due.0) self.new.handles) }
+        ensures turns { self.new.turns ≡ self.old.turns }
+
+        // None is due.
+        ensures none { IfNone result (All (λ e. now < e.1.0) self.old.waiting) }
+        ensures unchanged { IfNone result (self.new ≡ self.old) }
+
+        // What never comes again.
+        ensures for_good { IfSome result (λ due. IsSpent self.new.handles (K.data_of due.0)) }
+        ensures stale { KeepsSpent self.old.handles self.new.handles }
+    {
+        let (time, handle) = self.peek()?;
+        if time > now {
+            return None;
+        }
+        let job = self.cancel(handle).unwrap();
+        Some((handle, job))
+    }
+
+    /// Removes all jobs. Their handles are never used again. The room stays.
+    ///
+    /// It takes time linear in the number of slots.
+    ///
+    /// ```
+    /// let mut scheduler: Scheduler<DefaultKey, &str> = Scheduler::new(alloc)?;
+    /// let tea = scheduler.schedule(30, "tea")?;
+    /// scheduler.clear();
+    /// assert!(rt; scheduler.is_empty());
+    /// assert_eq!(rt; scheduler.get(tea), None);
+    /// ```
+    pub fn clear(&mut self)
+        ensures empty { self.new.waiting ≡ [] }
+        ensures for_good { (k : KeyOf) → is_some (job_of k self.old.waiting) ≡ true → IsSpent self.new.handles k }
+        ensures turns { self.new.turns ≡ self.old.turns }
+        ensures stale { KeepsSpent self.old.handles self.new.handles }
+    {
+        self.jobs.clear();
+        self.heap.clear();
+    }
+}

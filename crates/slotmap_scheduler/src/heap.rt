@@ -1,0 +1,153 @@
+//! The heap of turns, which knows the job that is next.
+
+ghost use Rattle.std.specs.Prelude.{◌≡◌, ◌≢◌, ℕ, ◌+◌, ◌<◌, ◌≤◌, IfSome, IfNone, OnSome, Some, length, vec_len, vec_capacity};
+ghost use Rattle.std.specs.List.{slice_get};
+ghost use Rattle.std.specs.Ordering.{is_lt};
+ghost use Rattle.std.specs.FinMap as map;
+ghost use Rattle.slotmap_scheduler.specs.declared.heap.Entry.{Entry as EntryOf};
+ghost use Rattle.slotmap_scheduler.specs.Heap.{turn_cmp, IsUpTo, IsChild, IsPlaced, IsHeap, IsHeapBut, IsAbove, Swapped, Resettled, TakesOut};
+
+use crate::Job;
+use slotmap::{DefaultKey, SlotMap};
+
+// The jobs under their handles.
+pub(crate) type Jobs<T> = SlotMap<DefaultKey, Job<T>>;
+
+// The turn of a job, and its handle.
+#[derive(Clone, Copy, Debug, Drop)]
+pub(crate) struct Entry {
+    pub turn: (u64, u64),
+    pub handle: DefaultKey,
+}
+
+// Whether a turn is before another.
+fn is_before(a: (u64, u64), b: (u64, u64)) -> bool
+    ensures { result ≡ is_lt (turn_cmp a b) }
+{
+    a < b
+}
+
+// Exchanges two entries, and notes their places in their jobs.
+fn exchange<T: Drop>(jobs: &mut Jobs<T>, heap: &mut Vec<Entry>, a: usize, b: usize)
+    requires placed { IsPlaced jobs.old.live heap.old.items }
+    requires a_in { a < vec_len heap.old }
+    requires b_in { b < vec_len heap.old }
+    requires apart { a ≢ b }
+    ensures placed { IsPlaced jobs.new.live heap.new.items }
+    ensures swapped { Swapped heap.old.items heap.new.items a b }
+    ensures resettled { Resettled jobs.old jobs.new }
+    ensures len { vec_len heap.new ≡ vec_len heap.old }
+    ensures capacity { vec_capacity heap.new ≡ vec_capacity heap.old }
+{
+    heap.swap(a, b);
+    jobs[heap[a].handle].place = a;
+    jobs[heap[b].handle].place = b;
+}
+
+// Moves an entry up until no turn above it is after its own, and returns its place.
+fn sift_up<T: Drop>(jobs: &mut Jobs<T>, heap: &mut Vec<Entry>, place: usize) -> usize
+    requires placed { IsPlaced jobs.old.live heap.old.items }
+    requires but { IsHeapBut place heap.old.items }
+    requires within { place < vec_len heap.old }
+    ensures placed { IsPlaced jobs.new.live heap.new.items }
+    ensures but { IsHeapBut result heap.new.items }
+    ensures above { IsAbove result heap.new.items }
+    ensures within { result < vec_len heap.new }
+    ensures resettled { Resettled jobs.old jobs.new }
+    ensures len { vec_len heap.new ≡ vec_len heap.old }
+    ensures capacity { vec_capacity heap.new ≡ vec_capacity heap.old }
+{
+    let mut at = place;
+    while at > 0 {
+        let parent = (at - 1) / 2;
+        if !is_before(heap[at].turn, heap[parent].turn) {
+            return at;
+        }
+        exchange(jobs, heap, parent, at);
+        at = parent;
+    }
+    at
+}
+
+// The child of an entry whose turn is first.
+fn first_child(heap: &[Entry], at: usize) -> Option<usize>
+    ensures some { IfSome result (λ child. IsChild at child × (child < length heap.now)
+        × ((c : ℕ) (a b : EntryOf) → IsChild at c → slice_get heap.now child ≡ Some a → slice_get heap.now c ≡ Some b → IsUpTo a.turn b.turn)) }
+    ensures none { IfNone result ((c : ℕ) → IsChild at c → length heap.now ≤ c) }
+{
+    if at >= heap.len() / 2 {
+        return None;
+    }
+    let left = 2 * at + 1;
+    if left + 1 == heap.len() {
+        return Some(left);
+    }
+    if is_before(heap[left + 1].turn, heap[left].turn) {
+        return Some(left + 1);
+    }
+    Some(left)
+}
+
+// Moves an entry down until no turn below it is before its own.
+fn sift_down<T: Drop>(jobs: &mut Jobs<T>, heap: &mut Vec<Entry>, place: usize)
+    requires placed { IsPlaced jobs.old.live heap.old.items }
+    requires but { IsHeapBut place heap.old.items }
+    requires above { IsAbove place heap.old.items }
+    requires within { place < vec_len heap.old }
+    ensures placed { IsPlaced jobs.new.live heap.new.items }
+    ensures heap { IsHeap heap.new.items }
+    ensures resettled { Resettled jobs.old jobs.new }
+    ensures len { vec_len heap.new ≡ vec_len heap.old }
+    ensures capacity { vec_capacity heap.new ≡ vec_capacity heap.old }
+{
+    let mut at = place;
+    while let Some(child) = first_child(heap, at) {
+        if !is_before(heap[child].turn, heap[at].turn) {
+            return;
+        }
+        exchange(jobs, heap, at, child);
+        at = child;
+    }
+}
+
+// Moves an entry to its place: all others are in theirs.
+pub(crate) fn settle<T: Drop>(jobs: &mut Jobs<T>, heap: &mut Vec<Entry>, place: usize)
+    requires placed { IsPlaced jobs.old.live heap.old.items }
+    requires but { IsHeapBut place heap.old.items }
+    requires within { place < vec_len heap.old }
+    ensures placed { IsPlaced jobs.new.live heap.new.items }
+    ensures heap { IsHeap heap.new.items }
+    ensures resettled { Resettled jobs.old jobs.new }
+    ensures len { vec_len heap.new ≡ vec_len heap.old }
+    ensures capacity { vec_capacity heap.new ≡ vec_capacity heap.old }
+{
+    let at = sift_up(jobs, heap, place);
+    sift_down(jobs, heap, at);
+}
+
+// Takes a job out, and its entry.
+pub(crate) fn take_out<T: Drop>(
+    jobs: &mut Jobs<T>,
+    heap: &mut Vec<Entry>,
+    handle: DefaultKey,
+) -> Option<Job<T>>
+    requires placed { IsPlaced jobs.old.live heap.old.items }
+    requires ordered { IsHeap heap.old.items }
+    ensures value { result ≡ map.get jobs.old.live handle }
+    ensures leaves { OnSome result (TakesOut jobs.old handle jobs.new) }
+    ensures placed { IsPlaced jobs.new.live heap.new.items }
+    ensures heap { IsHeap heap.new.items }
+    ensures len { OnSome result (vec_len heap.new + 1 ≡ vec_len heap.old) }
+    ensures capacity { vec_capacity heap.new ≡ vec_capacity heap.old }
+    ensures unchanged { IfNone result ((jobs.new ≡ jobs.old) × (heap.new ≡ heap.old)) }
+{
+    let removed = jobs.remove(handle)?;
+    heap.swap_remove(removed.place);
+    if removed.place == heap.len() {
+        return Some(removed);
+    }
+    let moved = heap[removed.place].handle;
+    jobs[moved].place = removed.place;
+    settle(jobs, heap, removed.place);
+    Some(removed)
+}

@@ -1,0 +1,243 @@
+//! Jobs that wait for their time, each under a handle by which it can be cancelled.
+//!
+//! A [`Scheduler`] is a timer queue. It gives each job a handle, and runs none itself:
+//! [`Scheduler::pop_due`] returns the next due job. A clause sees the jobs that wait as one list, in
+//! the order in which they will be returned. What is proved of it:
+//!
+//! - Jobs are returned by ascending time; ties go in scheduling order.
+//! - A job that was cancelled or returned is never returned again. Its handle is never used again, so
+//!   it finds no later job either.
+//! - A call that fails returns the job, and leaves the same jobs waiting. It uses up no handle.
+//! - Only [`Scheduler::schedule`] and [`Scheduler::reserve`] allocate. Where a job was taken out or
+//!   room was reserved, a schedule can't run out of memory.
+//!
+//! The jobs are in a `SlotMap`, and their turns in a heap in a `Vec`; each job has its place in the
+//! heap. So `schedule`, `reschedule`, `cancel` and `pop_due` take time logarithmic in the number of
+//! jobs. `peek`, `get`, `due`, `len` and the like take constant time.
+//!
+//! ```
+//! let mut scheduler: Scheduler<DefaultKey, &str> = Scheduler::new(alloc)?;
+//! let tea = scheduler.schedule(30, "tea")?;
+//! let bell = scheduler.schedule(20, "bell")?;
+//! scheduler.cancel(bell);
+//! assert!(rt; scheduler.pop_due(29).is_none());
+//! assert_eq!(rt; scheduler.pop_due(30), Some((tea, "tea")));
+//! ```
+#![tactic(auto, using(slotmap::proofs::Callers::keys))]
+
+ghost use Rattle.std.specs.Prelude.{◌≡◌, ℕ, ◌+◌, ◌≤◌, [], IfOk, OnOk, IfErr, IfSome, Some, true, option_copied, option_map, is_some, length, IsTrue, ◌↔◌};
+ghost use Rattle.std.specs.FinMap as map;
+ghost use Rattle.slotmap.specs.Words.{IsNew, RefusesCapacity};
+ghost use Rattle.std.specs.Borrow.{sem};
+ghost use Rattle.std.specs.Option.{option_copied_mut};
+ghost use Rattle.slotmap_scheduler.specs.Schedule.{job_of};
+
+mod calls;
+mod heap;
+
+use heap::{Entry, Jobs};
+use slotmap::{DefaultKey, Key, ReserveError, SlotMap};
+use std::alloc::Global;
+use std::marker::{Model, PhantomData};
+use std::ops::Index;
+use thiserror::Error;
+
+// A job that waits: its time and its number among all that were scheduled, and its place in the
+// heap.
+#[derive(Debug, Drop)]
+struct Job<T> {
+    turn: (u64, u64),
+    place: usize,
+    job: T,
+}
+
+/// Jobs that wait, each under a handle of the key type `K`.
+///
+/// A clause sees `waiting`, which has each handle with its time and its job, in the order in which
+/// they will be returned; `handles`, by which it says which handles are never used again; and
+/// `turns`, how many turns were given out.
+#[derive(Debug, Drop)]
+pub struct Scheduler<K, T> {
+    jobs: Jobs<T>,
+    // The turns of the jobs, none before the one above it.
+    heap: Vec<Entry>,
+    count: u64,
+    handle_type: PhantomData<K>,
+}
+
+impl<K, T> Model for Scheduler<K, T> {
+    ghost use Rattle.slotmap_scheduler.specs.Schedule.{Schedule, schedule_code, waiting_of, handles_of, IsSchedule};
+
+    ghost Value = { Schedule T };
+
+    ghost coded = { schedule_code T.code };
+
+    ghost view = { λ s. record { waiting = waiting_of s.jobs.live; handles = handles_of s.jobs s.heap; turns = s.count } };
+
+    ghost invariant = { λ s. IsSchedule s.jobs s.count s.heap };
+}
+
+/// A job was not scheduled. The error holds it.
+#[derive(Debug, Drop, Error)]
+pub enum ScheduleError<T> {
+    /// As many jobs wait as a map can hold, or all turns were given out.
+    #[error("no turn is left")]
+    Full(T),
+    /// The allocation fails.
+    #[error("out of memory")]
+    Memory(T),
+}
+
+/// A job was not rescheduled. It keeps its time.
+#[derive(Clone, Copy, Debug, Drop, Error)]
+pub enum RescheduleError {
+    /// No job waits under the handle.
+    #[error("no job waits under this handle")]
+    Gone,
+    /// All turns were given out.
+    #[error("no turn is left")]
+    Full,
+}
+
+impl<T: Drop> Scheduler<DefaultKey, T> {
+    /// Makes a scheduler with no job, with the default type of handles.
+    ///
+    /// It fails only if memory runs out.
+    pub fn new(alloc: Global) -> Result<Self, ReserveError>
+        ensures waiting { IfOk result (λ made. made.waiting ≡ []) }
+        ensures handles { IfOk result (λ made. IsNew made.handles) }
+        ensures turns { IfOk result (λ made. made.turns ≡ 0) }
+        ensures err { IfErr result (λ error. error ≡ ReserveError.Memory) }
+    {
+        Scheduler::with_key(alloc)
+    }
+
+    /// Makes a scheduler with no job and with room for `capacity` jobs, with the default type of
+    /// handles.
+    ///
+    /// The next `capacity` schedules don't allocate. It fails with `TooGreat` if `capacity` is over
+    /// 4294967294, and with `Memory` if memory runs out.
+    pub fn with_capacity(alloc: Global, capacity: usize) -> Result<Self, ReserveError>
+        ensures waiting { IfOk result (λ made. made.waiting ≡ []) }
+        ensures handles { IfOk result (λ made. IsNew made.handles) }
+        ensures room { IfOk result (λ made. capacity ≤ made.handles.room) }
+        ensures turns { IfOk result (λ made. made.turns ≡ 0) }
+        ensures err { IfErr result (RefusesCapacity capacity) }
+    {
+        Scheduler::with_capacity_and_key(alloc, capacity)
+    }
+}
+
+impl<K: Key, T: Drop> Scheduler<K, T> {
+    ghost use Rattle.slotmap_scheduler.specs.Lends.{lends_job};
+
+    /// Makes a scheduler with no job, with any type of handles.
+    ///
+    /// It fails only if memory runs out.
+    pub fn with_key(alloc: Global) -> Result<Self, ReserveError>
+        ensures waiting { IfOk result (λ made. made.waiting ≡ []) }
+        ensures handles { IfOk result (λ made. IsNew made.handles) }
+        ensures turns { IfOk result (λ made. made.turns ≡ 0) }
+        ensures err { IfErr result (λ error. error ≡ ReserveError.Memory) }
+    {
+        Scheduler::with_capacity_and_key(alloc, 0)
+    }
+
+    /// Makes a scheduler with no job and with room for `capacity` jobs, with any type of handles.
+    ///
+    /// The next `capacity` schedules don't allocate. It fails with `TooGreat` if `capacity` is over
+    /// 4294967294, and with `Memory` if memory runs out.
+    pub fn with_capacity_and_key(alloc: Global, capacity: usize) -> Result<Self, ReserveError>
+        ensures waiting { IfOk result (λ made. made.waiting ≡ []) }
+        ensures handles { IfOk result (λ made. IsNew made.handles) }
+        ensures room { IfOk result (λ made. capacity ≤ made.handles.room) }
+        ensures turns { IfOk result (λ made. made.turns ≡ 0) }
+        ensures err { IfErr result (RefusesCapacity capacity) }
+    {
+        let jobs = SlotMap::with_capacity(alloc, capacity)?;
+        let heap = Vec::with_capacity(alloc, capacity)?;
+        Ok(Scheduler {
+            jobs,
+            heap,
+            count: 0,
+            handle_type: PhantomData,
+        })
+    }
+
+    /// Returns how many jobs wait, in constant time.
+    pub fn len(&self) -> usize
+        ensures { result ≡ length self.now.waiting }
+    {
+        self.jobs.len()
+    }
+
+    /// Returns whether no job waits, in constant time.
+    pub fn is_empty(&self) -> bool
+        ensures { IsTrue result ↔ (self.now.waiting ≡ []) }
+    {
+        self.len() == 0
+    }
+
+    /// Returns for how many jobs there is memory, in constant time.
+    pub fn capacity(&self) -> usize
+        ensures { result ≡ self.now.handles.capacity }
+    {
+        self.jobs.capacity().min(self.heap.capacity())
+    }
+
+    /// Returns whether a job waits under a handle, in constant time.
+    pub fn contains(&self, handle: K) -> bool
+        ensures value { result ≡ is_some (job_of (K.data_of handle) self.now.waiting) }
+        ensures live { result ≡ map.contains_key self.now.handles.live (K.data_of handle) }
+    {
+        self.jobs.contains_key(DefaultKey::from(handle.data()))
+    }
+
+    /// Returns the job of a handle, or `None` if no job waits under it, in constant time.
+    pub fn get(&self, handle: K) -> Option<&T>
+        ensures { option_copied result ≡ option_map (λ due. due.1) (job_of (K.data_of handle) self.now.waiting) }
+    {
+        Some(&self.jobs.get(DefaultKey::from(handle.data()))?.job)
+    }
+
+    /// Returns when the job of a handle is due, or `None` if no job waits under it, in constant time.
+    pub fn due(&self, handle: K) -> Option<u64>
+        ensures { result ≡ option_map (λ due. due.0) (job_of (K.data_of handle) self.now.waiting) }
+    {
+        Some(self.jobs.get(DefaultKey::from(handle.data()))?.turn.0)
+    }
+
+    /// Returns a mutable reference to the job of a handle, or `None` if no job waits under it, in
+    /// constant time. Its turn stays.
+    ///
+    /// ```
+    /// let mut scheduler: Scheduler<DefaultKey, u64> = Scheduler::new(alloc)?;
+    /// let handle = scheduler.schedule(30, 5)?;
+    /// if let Some(job) = scheduler.get_mut(handle) {
+    ///     *job = 6;
+    /// }
+    /// assert_eq!(rt; scheduler.get(handle), Some(&6));
+    /// ```
+    pub fn get_mut(&mut self, handle: K) -> Option<&mut T>
+        ensures* writes_back { sem 𝓛 (lends_job K.row T.row self.entry (K.data_of handle) result) }
+        ensures value { option_copied_mut result ≡ option_map (λ due. due.1) (job_of (K.data_of handle) self.old.waiting) }
+    {
+        match self.jobs.get_mut(DefaultKey::from(handle.data())) {
+            Some(job) => Some(&mut job.job),
+            None => None,
+        }
+    }
+}
+
+/// `scheduler[handle]` is the job of a handle. The caller proves that it waits.
+impl<K: Key, T: Drop> Index<K> for Scheduler<K, T> {
+    type Output = T;
+
+    ghost can_index = { λ s handle. is_some (job_of (K.data_of handle) s.waiting) ≡ true };
+
+    ghost index_gives = { λ s handle job. option_map (λ due. due.1) (job_of (K.data_of handle) s.waiting) ≡ Some job };
+
+    fn index(&self, handle: K) -> &T {
+        &self.jobs[DefaultKey::from(handle.data())].job
+    }
+}

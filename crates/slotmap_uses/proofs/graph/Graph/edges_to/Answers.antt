@@ -1,4 +1,0 @@
-use Rattle.slotmap_uses.proofs.graph.Graph.edges_to.Goals as goal
-
-pub returns : goal.returns
-returns g c x = rw (← c.self.view_is, c.list_of.ensures) (c.self.invariant.into_lists c.args.node x)

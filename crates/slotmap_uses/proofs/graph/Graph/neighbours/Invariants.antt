@@ -1,6 +1,0 @@
-use Rattle.std.proofs.Common.{take}
-use Rattle.slotmap_uses.specs.GraphParts.{LeadTo}
-use Rattle.slotmap_uses.proofs.graph.Graph.neighbours.Given as goal
-
-abbrev pub invariant-loop-edge : goal.invariant-loop-edge
-invariant-loop-edge g l = LeadTo l.self.edges.live l.fn.node (take l.edge-index l.edge-items) l.found.items

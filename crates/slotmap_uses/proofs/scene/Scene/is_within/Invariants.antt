@@ -1,7 +1,0 @@
-use Rattle.std.proofs.Common.{◌↔◌}
-use Rattle.slotmap_uses.specs.Climb.{IsWithin}
-use Rattle.slotmap_uses.proofs.Climbs.{Climbing}
-use Rattle.slotmap_uses.proofs.scene.Scene.is_within.Given as goal
-
-abbrev pub invariant-loop-step : goal.invariant-loop-step
-invariant-loop-step g l = Climbing l.self l.fn.node l.at l._step × (IsWithin l.self l.fn.node l.fn.other ↔ IsWithin l.self l.at l.fn.other)

@@ -1,7 +1,0 @@
-use Rattle.std.proofs.Common.{sym}
-use Rattle.slotmap_uses.proofs.Families.{found_stands}
-use Rattle.slotmap_uses.proofs.scene.Scene.parent.Goals as goal
-
-pub returns-clause-live : goal.returns-clause-live
-returns-clause-live g c =
-    rw (← c.self.view_is) (found_stands c.self.inside.nodes.live c.self.invariant.tree c.args.node c.in_ok-get.field-0.now (sym c.in_ok-get.ensures.value))

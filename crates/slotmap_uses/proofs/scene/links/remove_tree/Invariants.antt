@@ -1,8 +1,0 @@
-use Rattle.slotmap_uses.proofs.Removals.{Removing, to_do}
-use Rattle.slotmap_uses.proofs.scene.links.remove_tree.Given as goal
-
-abbrev pub invariant-loop-child : goal.invariant-loop-child
-invariant-loop-child g l = Removing l.fn.nodes.live l.nodes.live l.fn.root l.at
-
-abbrev pub decreases-loop-child : goal.decreases-loop-child
-decreases-loop-child g l = to_do l.fn.nodes.live l.nodes.live l.at

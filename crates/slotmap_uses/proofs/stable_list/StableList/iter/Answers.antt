@@ -1,5 +1,0 @@
-use Rattle.slotmap_uses.proofs.Iterated.{walk_start}
-use Rattle.slotmap_uses.proofs.stable_list.StableList.iter.Goals as goal
-
-pub invariant_of-result : goal.invariant_of-result
-invariant_of-result g c = rw c.len.ensures.value (walk_start _ _ _ _ c.self.invariant)

@@ -1,6 +1,0 @@
-use Rattle.std.proofs.Common.{length, ap, ◌∙◌}
-use Rattle.slotmap_uses.proofs.Iterated.{walk_length}
-use Rattle.slotmap_uses.proofs.stable_list.iter.IterExactSizeIterator.len.Goals as goal
-
-pub returns-clause-value : goal.returns-clause-value
-returns-clause-value g c = walk_length _ _ _ _ c.self.invariant ∙ ap length c.self.view_is
