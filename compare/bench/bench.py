@@ -22,8 +22,13 @@ from operations import MAPS, FAMILIES, operations_of
 
 SIZES = {"instructions": [1_000, 100_000], "time": [1_000, 100_000, 1_000_000], "memory": [1_000_000]}
 
+# The families with a few operations are measured at one size each.
+ONE_SIZE = {"instructions": [1_000], "time": [100_000], "memory": [1_000_000]}
+
+# The time of growth is measured at more keys, too.
+MANY = 10_000_000
+
 # Memory is measured where a map is filled, and where it is more than a few pages.
-FILLS = ("insert", "insert-room")
 FEW = 100_000
 
 
@@ -33,15 +38,23 @@ def place_of(row):
     return list(SIZES).index(row.measure), kind.number, row.slots, names.index(row.operation)
 
 
+def sizes_of(measure, kind, operation):
+    """The numbers of slots at which an operation is measured."""
+    if kind.family in ("Valued", "Stepped"):
+        return ONE_SIZE[measure]
+    is_growth = measure == "time" and kind.family == "Primary" and operation.name == "insert"
+    return SIZES[measure] + [MANY] * is_growth
+
+
 def tasks(args):
     """What is to be measured: a measure, a map, an operation and a number of slots."""
     found = []
     for measure in args.measures:
-        for kind in MAPS:
-            for n in args.sizes or SIZES[measure]:
-                for operation in operations_of(kind) if kind.name in args.maps else []:
-                    is_wanted = not args.operations or operation.name in args.operations
-                    if is_wanted and (measure != "memory" or operation.name in FILLS and n >= FEW):
+        for kind in (it for it in MAPS if it.name in args.maps):
+            for operation in operations_of(kind):
+                is_wanted = not args.operations or operation.name in args.operations
+                for n in args.sizes or sizes_of(measure, kind, operation):
+                    if is_wanted and (measure != "memory" or operation.name.startswith("insert") and n >= FEW):
                         found.append((measure, kind, operation, n))
     return found
 
@@ -56,10 +69,10 @@ class Table:
 
     def add(self, task, figures):
         measure, kind, operation, n = task
-        port, rust, ratio = figures
+        port, rust, *ratios = figures
         count = operation.count(n)
         place = measure, kind.name, operation.name, n
-        row = results.Row(*place, port / count, rust / count, ratio, self.commit, results.today())
+        row = results.Row(*place, port / count, rust / count, *ratios, self.commit, results.today())
         with self.lock:
             print(results.line_of(row), flush=True)
             self.rows[place] = row
@@ -106,7 +119,7 @@ def options():
     parser.add_argument("--maps", type=words, default=names, help=",".join(names))
     parser.add_argument("--operations", type=words, default=[], help="names of operations.py; all if left out")
     parser.add_argument("--sizes", type=lambda it: [int(n) for n in words(it)], help="numbers of slots")
-    parser.add_argument("--runs", type=int, default=5, help="how often a time is taken on each side")
+    parser.add_argument("--runs", type=int, default=7, help="how often a time is taken on each side")
     parser.add_argument("--ms", type=int, default=40, help="milliseconds that a time takes at least")
     parser.add_argument("--jobs", type=int, default=1, help="how many proofs, and runs of callgrind, go side by side")
     parser.add_argument("--crates", metavar="FOLDER", help="the crates of another copy of the repository")

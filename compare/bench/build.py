@@ -84,9 +84,9 @@ def write_port(folder, crates):
     source = os.path.join(folder, "crates", LIBRARY, "src")
     for kind in operations.MAPS:
         if kind.name != "folded":
-            write(os.path.join(source, f"{kind.name}.rt"), source_of_map(kind))
+            write(os.path.join(source, f"{kind.name.replace('-', '_')}.rt"), source_of_map(kind))
     write(os.path.join(source, "operations.rt"), operations.source_of_enums())
-    for name in ("lib", "numbers"):
+    for name in ("lib", "numbers", "values"):
         write(os.path.join(source, f"{name}.rt"), template(name))
 
 

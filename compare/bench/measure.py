@@ -40,7 +40,7 @@ class Bench:
             sums[side] = [it[1] for it in runs]
             counts[side] = (runs[1][0] - runs[0][0]) / MORE_ROUNDS
         must_agree(kind, operation, n, sums)
-        return counts["port"], counts["rust"], counts["port"] / counts["rust"]
+        return figures_of(counts)
 
     def counted(self, side, kind, operation, n, rounds):
         with tempfile.TemporaryDirectory() as folder:
@@ -52,7 +52,7 @@ class Bench:
         return int(total.group(1)), said
 
     def time(self, kind, operation, n):
-        """For each side the median of its times of one round, and the median of the ratios of neighbouring runs."""
+        """For each side the median of its times of one round, and of the ratios of neighbouring runs the median and the quartiles."""
         sums = {side: self.ask("sum", side, kind, operation, n, 2) for side in SIDES}
         must_agree(kind, operation, n, sums)
         times = {side: [] for side in SIDES}
@@ -60,7 +60,8 @@ class Bench:
             for side in SIDES:
                 times[side].append(float(self.ask("time", side, kind, operation, n, self.milliseconds)))
         ratios = [port / rust for port, rust in zip(times["port"], times["rust"]) if rust > 0]
-        return statistics.median(times["port"]), statistics.median(times["rust"]), statistics.median(ratios)
+        least, middle, most = statistics.quantiles(ratios, n=4, method="inclusive") if len(ratios) > 1 else ratios * 3
+        return statistics.median(times["port"]), statistics.median(times["rust"]), middle, least, most
 
     def memory(self, kind, operation, n):
         """For each side the memory in bytes that a round takes beside its set-up, at its peak."""
@@ -70,7 +71,13 @@ class Bench:
             sums[side] = said[1][0]
             sizes[side] = int(said[1][1]) - int(said[0][1])
         must_agree(kind, operation, n, sums)
-        return sizes["port"], sizes["rust"], sizes["port"] / sizes["rust"]
+        return figures_of(sizes)
+
+
+def figures_of(counts):
+    """What both sides need, and the ratio, which doesn't vary."""
+    ratio = counts["port"] / counts["rust"]
+    return counts["port"], counts["rust"], ratio, ratio, ratio
 
 
 def must_agree(kind, operation, n, sums):

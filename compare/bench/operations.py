@@ -1,7 +1,8 @@
 """What is measured: the maps and their operations. The sources of both sides are written from these lists.
 
 An operation has a name, a name in the sources, the words of the tables, and how many calls, steps or keys one round has
-at `n` keys. Its number on the interface between the driver and the port is its place in the list.
+at `n` keys. Its number on the interface between the driver and the port is its place in the list. In the family `Valued` each
+operation is there once for each type of values.
 """
 
 from collections import namedtuple
@@ -18,6 +19,14 @@ def half(n):
     return n - n // 2
 
 
+def most(n):
+    return n - n // 10
+
+
+def tenth(n):
+    return n - n // 10 * 9
+
+
 def few(n):
     return n - n // 100 * 99
 
@@ -28,21 +37,32 @@ PRIMARY = [
     Operation("get-live", "GetLive", "`get` of a live key", each),
     Operation("get-stale", "GetStale", "`get` of a stale key", each),
     Operation("contains", "Contains", "`contains_key`", each),
+    Operation("contains-stale", "ContainsStale", "`contains_key`, a random half stale", each),
     Operation("get-mut", "GetMut", "`get_mut`, and a write", each),
     Operation("index", "Index", "`contains_key`, then `map[key]`", each),
+    Operation("disjoint", "Disjoint", "`get_disjoint_mut` of two keys, and their exchange", each),
     Operation("churn", "Churn", "a removal and an insert", each),
+    Operation("mix", "Mix", "half look-ups, a quarter inserts, a quarter removals", each),
     Operation("detach", "Detach", "`detach` and at once `reattach`", each),
     Operation("detach-all", "DetachAll", "`detach` of all keys, then `reattach`", each),
     Operation("iter-full", "IterFull", "a step of `iter`, all slots live", each),
+    Operation("iter-most", "IterMost", "a step of `iter`, a random 9 in 10 live", most),
     Operation("iter-half", "IterHalf", "a step of `iter`, a random half live", half),
+    Operation("iter-tenth", "IterTenth", "a step of `iter`, a random 1 in 10 live", tenth),
     Operation("iter-few", "IterFew", "a step of `iter`, 1 slot in 100 live", few),
     Operation("iter-few-run", "IterFewRun", "a step of `iter`, 1 in 100 live, adjacent", few),
     Operation("iter-mut", "IterMut", "a step of `iter_mut`, and a write", each),
     Operation("values", "Values", "a step of `values`", each),
+    Operation("values-half", "ValuesHalf", "a step of `values`, a random half live", half),
+    Operation("values-tenth", "ValuesTenth", "a step of `values`, a random 1 in 10 live", tenth),
+    Operation("values-mut", "ValuesMut", "a step of `values_mut`, and a write", each),
     Operation("keys", "Keys", "a step of `keys`", each),
+    Operation("keys-half", "KeysHalf", "a step of `keys`, a random half live", half),
+    Operation("keys-tenth", "KeysTenth", "a step of `keys`, a random 1 in 10 live", tenth),
     Operation("retain-all", "RetainAll", "`retain` that keeps all, for each key", each),
     Operation("retain-half", "RetainHalf", "`retain` that keeps half, inserts for the rest", each),
     Operation("clear", "Clear", "`clear`, for each key, and an insert", each),
+    Operation("clear-half", "ClearHalf", "an insert; a removal of each second one, then `clear`", each),
     Operation("drain", "Drain", "`drain`, for each key, and an insert", each),
     Operation("clone", "Clone", "`clone`, for each key", each),
     Operation("clone-from", "CloneFrom", "`clone_from` into a new map, for each key", each),
@@ -70,16 +90,39 @@ SECONDARY = [
     Operation("clone-remove", "CloneRemove", "`clone`, and a removal of each key", each),
 ]
 
-FAMILIES = {"Primary": PRIMARY, "Secondary": SECONDARY}
+# The types of values, and what the tables call them.
+VALUES = {"u8": "1", "u32": "4", "u64": "8", "words4": "32", "words8": "64", "words32": "256", "text": "`String`"}
 
-# `folded` is the port's sparse map beside the Rust crate's with a hasher like the port's.
+VALUED_ALONE = [
+    Operation("insert", "Insert", "`insert`, from an empty map", each),
+    Operation("get", "Get", "`get` of a live key", each),
+    Operation("churn", "Churn", "a removal and an insert", each),
+    Operation("iter-half", "IterHalf", "a step of `iter`, a random half live", half),
+]
+
+VALUED = [it._replace(name=f"{it.name}-{value}") for it in VALUED_ALONE for value in VALUES]
+
+STEPPED = [
+    Operation("read", "Read", "a step of the `SlotMap`'s `iter`, and `get`", each),
+    Operation("write", "Write", "a step of the `SlotMap`'s `iter`, and a write by `get_mut`", each),
+    Operation("churn", "Churn", "a removal and an insert in both", each),
+]
+
+FAMILIES = {"Primary": PRIMARY, "Secondary": SECONDARY, "Valued": VALUED, "Stepped": STEPPED}
+
+# `folded` is the port's sparse map beside the Rust crate's with a hasher like the port's, and `stepped` a SecondaryMap in step with
+# a SlotMap.
 MAPS = [
-    Map("basic", 0, "SlotMap", "slotmap_basic", "Primary", ["iter-mut"]),
+    Map("basic", 0, "SlotMap", "slotmap_basic", "Primary", ["disjoint", "iter-mut", "values-mut"]),
     Map("dense", 1, "DenseSlotMap", "slotmap_dense", "Primary", []),
-    Map("hop", 2, "HopSlotMap", "slotmap_hop", "Primary", ["iter-mut", "detach", "detach-all"]),
+    Map("hop", 2, "HopSlotMap", "slotmap_hop", "Primary", ["disjoint", "iter-mut", "values-mut", "detach", "detach-all"]),
     Map("secondary", 3, "SecondaryMap", "slotmap_secondary", "Secondary", []),
     Map("sparse", 4, "SparseSecondaryMap", "slotmap_sparse", "Secondary", []),
     Map("folded", 5, "SparseSecondaryMap", "slotmap_sparse", "Secondary", []),
+    Map("basic-values", 6, "SlotMap", "slotmap_basic", "Valued", []),
+    Map("dense-values", 7, "DenseSlotMap", "slotmap_dense", "Valued", []),
+    Map("hop-values", 8, "HopSlotMap", "slotmap_hop", "Valued", []),
+    Map("stepped", 9, "SecondaryMap", "slotmap_secondary", "Stepped", []),
 ]
 
 
@@ -88,9 +131,10 @@ def operations_of(kind):
 
 
 def source_of_enums():
-    """The operations as enums, in words that Rust and Rattle share."""
+    """The operations, and the types of values, as enums, in words that Rust and Rattle share."""
     parts = ["//! Which operation is asked for. Written by compare/bench/bench.py.\n"]
-    for family, operations in FAMILIES.items():
+    values = [Operation(it, it.capitalize(), "", each) for it in VALUES]
+    for family, operations in (FAMILIES | {"Valued": VALUED_ALONE, "Kind": values}).items():
         variants = "".join(f"    {it.variant},\n" for it in operations)
         arms = "".join(
             f"            {number} => Some({family}::{it.variant}),\n" for number, it in enumerate(operations)

@@ -6,8 +6,9 @@ import platform
 import subprocess
 from collections import namedtuple
 
-# measure: `instructions` or `time` (nanoseconds) for one call, step or key, or `memory` (bytes for a key).
-Row = namedtuple("Row", "measure map operation slots port rust ratio commit date")
+# measure: `instructions` or `time` (nanoseconds) for one call, step or key, or `memory` (bytes for a key). Of times, `least` and
+# `most` are the quartiles of the ratios of neighbouring runs.
+Row = namedtuple("Row", "measure map operation slots port rust ratio least most commit date")
 HEAD = "\t".join(Row._fields)
 
 
@@ -23,14 +24,15 @@ def read(path):
         lines = [it for it in file.read().split("\n") if it and not it.startswith("#") and it != HEAD]
     rows = {}
     for line in lines:
-        measure, kind, operation, slots, port, rust, ratio, commit, date = line.split("\t")
-        row = Row(measure, kind, operation, int(slots), float(port), float(rust), float(ratio), commit, date)
+        *place, slots, port, rust, ratio, least, most, commit, date = line.split("\t")
+        figures = [float(it) for it in (port, rust, ratio, least, most)]
+        row = Row(*place, int(slots), *figures, commit, date)
         rows[key_of(row)] = row
     return rows
 
 
 def line_of(row):
-    figures = [f"{row.port:.1f}", f"{row.rust:.1f}", f"{row.ratio:.2f}"]
+    figures = [f"{row.port:.1f}", f"{row.rust:.1f}", f"{row.ratio:.2f}", f"{row.least:.2f}", f"{row.most:.2f}"]
     return "\t".join([row.measure, row.map, row.operation, str(row.slots), *figures, row.commit, row.date])
 
 

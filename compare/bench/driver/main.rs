@@ -13,9 +13,11 @@ mod operations;
 mod primary;
 mod secondary;
 mod shuffler;
+mod stepped;
 mod value;
+mod valued;
 
-use operations::{Primary, Secondary};
+use operations::{Primary, Secondary, Stepped};
 use std::hint::black_box;
 use std::process::ExitCode;
 
@@ -37,6 +39,10 @@ fn rust_bench(map: u32, operation: u32, n: u64, rounds: u64) -> Option<u64> {
         3 => Some(secondary::plain::workload(secondary?, n, rounds)),
         4 => Some(secondary::sparse::workload(secondary?, n, rounds)),
         5 => Some(secondary::folded::workload(secondary?, n, rounds)),
+        6 => valued::basic::workload(operation, n, rounds),
+        7 => valued::dense::workload(operation, n, rounds),
+        8 => valued::hop::workload(operation, n, rounds),
+        9 => Some(stepped::workload(Stepped::of_number(operation)?, n, rounds)),
         _ => None,
     }
 }

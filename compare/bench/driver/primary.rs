@@ -7,9 +7,9 @@ use crate::value::{Sum, Value, number};
 use slotmap::{DefaultKey, DenseSlotMap, HopSlotMap, SlotMap};
 use std::hint::black_box;
 
-/// The operations of one map. Not each map has the calls of the last three.
+/// The operations of one map. Not each map has the calls of the last three; `$dense` is where those of one map are.
 macro_rules! primary_map {
-    ($module:ident, $map:ident, $detach:expr, $detach_all:expr, $iter_mut:expr) => {
+    ($module:ident, $map:ident, $detach:expr, $detach_all:expr, $dense:ident) => {
         pub mod $module {
             use super::*;
 
@@ -179,7 +179,13 @@ macro_rules! primary_map {
             }
 
             /// Walks over a map from which the first keys are gone.
-            fn thinned<const AT: u32>(n: u64, rounds: u64, gone: u64, in_order: bool) -> u64 {
+            fn thinned<const AT: u32>(
+                n: u64,
+                rounds: u64,
+                gone: u64,
+                in_order: bool,
+                walk: impl Fn(&Map<AT>) -> u64,
+            ) -> u64 {
                 let (mut map, mut keys) = filled::<AT>(n);
                 if !in_order {
                     Shuffler::new().shuffle(&mut keys);
@@ -188,6 +194,79 @@ macro_rules! primary_map {
                 let mut sum = Sum::default();
                 for _ in 0..rounds {
                     sum.add(walk(&map));
+                }
+                sum.0
+            }
+
+            /// Look-ups of keys of which half are stale.
+            fn half_stale<const AT: u32>(n: u64, rounds: u64) -> u64 {
+                let (mut map, mut keys) = filled::<AT>(n);
+                let mut shuffler = Shuffler::new();
+                shuffler.shuffle(&mut keys);
+                remove_all(&mut map, &keys[..n as usize / 2]);
+                shuffler.shuffle(&mut keys);
+                let mut sum = Sum::default();
+                for _ in 0..rounds {
+                    sum.add(count_all(&map, &keys));
+                }
+                sum.0
+            }
+
+            /// Half of the steps look a key up, a quarter inserts, and a quarter removes.
+            fn mix<const AT: u32>(
+                map: &mut Map<AT>,
+                keys: &mut Vec<DefaultKey>,
+                shuffler: &mut Shuffler,
+                steps: u64,
+            ) -> u64 {
+                let mut sum = Sum::default();
+                for step in 0..steps {
+                    let choice = shuffler.next() % 4;
+                    let at = shuffler.below(keys.len());
+                    if choice == 2 || at >= keys.len() {
+                        keys.push(map.insert(Value(step)));
+                    } else if choice < 2 {
+                        sum.add(map.get(keys[at]).map_or(1, |value| value.0));
+                    } else {
+                        let key = keys.swap_remove(at);
+                        sum.add(map.remove(key).map_or(1, |value| value.0));
+                    }
+                }
+                sum.0
+            }
+
+            fn mix_all<const AT: u32>(n: u64, rounds: u64) -> u64 {
+                let (mut map, mut keys) = filled::<AT>(n);
+                let mut shuffler = Shuffler::new();
+                let mut sum = Sum::default();
+                for _ in 0..rounds {
+                    sum.add(mix(&mut map, &mut keys, &mut shuffler, n));
+                }
+                sum.0
+            }
+
+            /// Fills the map, removes each second key, and clears the map.
+            fn clear_half<const AT: u32>(map: &mut Map<AT>, keys: &mut Vec<DefaultKey>, n: u64) -> u64 {
+                keys.clear();
+                let mut sum = Sum::default();
+                for i in 0..n {
+                    let key = map.insert(Value(i));
+                    sum.add(number(key));
+                    keys.push(key);
+                }
+                for key in keys.iter().step_by(2) {
+                    map.remove(*key);
+                }
+                map.clear();
+                sum.0
+            }
+
+            fn clear_halves<const AT: u32>(n: u64, rounds: u64) -> u64 {
+                let mut map: Map<AT> = $map::new();
+                let mut keys = Vec::with_capacity(n as usize);
+                let mut sum = Sum::default();
+                for _ in 0..rounds {
+                    sum.add(clear_half(&mut map, &mut keys, n));
                 }
                 sum.0
             }
@@ -218,19 +297,30 @@ macro_rules! primary_map {
                     Primary::Churn => shuffled::<7>(n, rounds, churn),
                     Primary::Detach => shuffled::<8>(n, rounds, $detach?),
                     Primary::DetachAll => shuffled::<24>(n, rounds, $detach_all?),
-                    Primary::IterFull => thinned::<9>(n, rounds, 0, false),
-                    Primary::IterHalf => thinned::<10>(n, rounds, n / 2, false),
-                    Primary::IterFew => thinned::<11>(n, rounds, n / 100 * 99, false),
-                    Primary::IterFewRun => thinned::<12>(n, rounds, n / 100 * 99, true),
-                    Primary::IterMut => shuffled::<13>(n, rounds, $iter_mut?),
+                    Primary::ContainsStale => half_stale::<25>(n, rounds),
+                    Primary::Disjoint => shuffled::<26>(n, rounds, $dense::disjoint()?),
+                    Primary::Mix => mix_all::<27>(n, rounds),
+                    Primary::IterFull => thinned::<9>(n, rounds, 0, false, walk),
+                    Primary::IterMost => thinned::<28>(n, rounds, n / 10, false, walk),
+                    Primary::IterHalf => thinned::<10>(n, rounds, n / 2, false, walk),
+                    Primary::IterTenth => thinned::<29>(n, rounds, n / 10 * 9, false, walk),
+                    Primary::IterFew => thinned::<11>(n, rounds, n / 100 * 99, false, walk),
+                    Primary::IterFewRun => thinned::<12>(n, rounds, n / 100 * 99, true, walk),
+                    Primary::IterMut => shuffled::<13>(n, rounds, $dense::iter_mut()?),
                     Primary::Values => shuffled::<14>(n, rounds, |map, _, _| walk_values(map)),
+                    Primary::ValuesHalf => thinned::<30>(n, rounds, n / 2, false, walk_values),
+                    Primary::ValuesTenth => thinned::<31>(n, rounds, n / 10 * 9, false, walk_values),
+                    Primary::ValuesMut => shuffled::<32>(n, rounds, $dense::values_mut()?),
                     Primary::Keys => shuffled::<15>(n, rounds, |map, _, _| walk_keys(map)),
+                    Primary::KeysHalf => thinned::<33>(n, rounds, n / 2, false, walk_keys),
+                    Primary::KeysTenth => thinned::<34>(n, rounds, n / 10 * 9, false, walk_keys),
                     Primary::RetainAll => shuffled::<16>(n, rounds, |map, _, _| retain_all(map)),
                     Primary::RetainHalf => shuffled::<17>(n, rounds, |map, _, round| retain_half(map, n, round)),
                     Primary::Clear => shuffled::<18>(n, rounds, |map, _, round| {
                         map.clear();
                         insert_all(map, n, round)
                     }),
+                    Primary::ClearHalf => clear_halves::<35>(n, rounds),
                     Primary::Drain => shuffled::<19>(n, rounds, |map, _, round| {
                         drain_all(map).wrapping_add(insert_all(map, n, round))
                     }),
@@ -290,19 +380,66 @@ macro_rules! detach_all {
 detach_all!(detach_all_basic, SlotMap);
 detach_all!(detach_all_dense, DenseSlotMap);
 
-fn iter_mut_dense<const AT: u32>() -> Round<DenseSlotMap<DefaultKey, Value<AT>>> {
-    Some(|map, _, _| {
-        for (_, value) in map.iter_mut() {
-            value.bump();
-        }
-        map.len() as u64
-    })
+/// The calls of a DenseSlotMap alone.
+mod dense_alone {
+    use super::*;
+
+    type Map<const AT: u32> = DenseSlotMap<DefaultKey, Value<AT>>;
+
+    pub fn iter_mut<const AT: u32>() -> Round<Map<AT>> {
+        Some(|map, _, _| {
+            for (_, value) in map.iter_mut() {
+                value.bump();
+            }
+            map.len() as u64
+        })
+    }
+
+    pub fn values_mut<const AT: u32>() -> Round<Map<AT>> {
+        Some(|map, _, _| {
+            for value in map.values_mut() {
+                value.bump();
+            }
+            map.len() as u64
+        })
+    }
+
+    /// Exchanges the values of each two neighbours in the list.
+    pub fn disjoint<const AT: u32>() -> Round<Map<AT>> {
+        Some(|map, keys, _| {
+            let mut sum = Sum::default();
+            for at in 1..keys.len() {
+                if let Some([first, second]) = map.get_disjoint_mut([keys[at - 1], keys[at]]) {
+                    sum.add(first.0);
+                    std::mem::swap(first, second);
+                }
+            }
+            sum.0
+        })
+    }
+}
+
+/// The maps that lack these.
+mod dense_lacks {
+    use super::Round;
+
+    pub fn iter_mut<M>() -> Round<M> {
+        None
+    }
+
+    pub fn values_mut<M>() -> Round<M> {
+        None
+    }
+
+    pub fn disjoint<M>() -> Round<M> {
+        None
+    }
 }
 
 fn no_call<M>() -> Round<M> {
     None
 }
 
-primary_map!(basic, SlotMap, detach_basic(), detach_all_basic(), no_call());
-primary_map!(dense, DenseSlotMap, detach_dense(), detach_all_dense(), iter_mut_dense());
-primary_map!(hop, HopSlotMap, no_call(), no_call(), no_call());
+primary_map!(basic, SlotMap, detach_basic(), detach_all_basic(), dense_lacks);
+primary_map!(dense, DenseSlotMap, detach_dense(), detach_all_dense(), dense_alone);
+primary_map!(hop, HopSlotMap, no_call(), no_call(), dense_lacks);

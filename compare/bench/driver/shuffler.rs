@@ -10,11 +10,18 @@ impl Shuffler {
         Shuffler { state: 88172645463325252 }
     }
 
-    fn next(&mut self) -> u64 {
+    pub fn next(&mut self) -> u64 {
         self.state ^= self.state << 13;
         self.state ^= self.state >> 7;
         self.state ^= self.state << 17;
         self.state
+    }
+
+    /// A number below a length, or 0.
+    pub fn below(&mut self, len: usize) -> usize {
+        let high = self.next() >> 32;
+        let at = (high.wrapping_mul(len as u64) >> 32) as usize;
+        if at < len { at } else { 0 }
     }
 
     pub fn shuffle<T>(&mut self, items: &mut [T]) {
