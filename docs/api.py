@@ -2,8 +2,8 @@
 """Writes docs/API.md and the pages in docs/api from the sources: docs/api.py. With --check it writes nothing, and fails
 where a page is out of date.
 
-docs/API.md has the table of calls and links to the pages. There is a page for each map, one for each structure of
-crates/slotmap_uses, and one each for traits, keys, errors, lists of slots and runs.
+docs/API.md has the table of calls and links to the pages. There is a page for each map, one for each structure, and
+one each for traits, keys, errors, lists of slots and runs.
 """
 
 import difflib
@@ -42,7 +42,7 @@ GROUPS = [
 ]
 
 # Traits of this library, with the page of each: an impl of one is a link to it.
-OWN_TRAITS = {"Primary": "traits", "Detaching": "traits", "Secondary": "traits", "Key": "keys", "Transform": "scene"}
+OWN_TRAITS = {"Primary": "traits", "Detaching": "traits", "Secondary": "traits", "Key": "keys", "Transform": "slotmap_scene"}
 
 # The pages in docs/api: file, title.
 PAGES = {
@@ -58,13 +58,13 @@ PAGES = {
     "runs": "Runs of commands",
 }
 PAGE_OF = {title: name for name, title in PAGES.items()}
-# The modules of the structures in crates/slotmap_uses: the main type of each, and what it is.
+# The crates of the structures on the maps: the main type of each, and what it is.
 STRUCTURES = {
-    "stable_list": ("StableList", "a doubly linked list with cursors"),
-    "graph": ("Graph", "a directed graph"),
-    "entities": ("World", "an entity store with two kinds of components"),
-    "scene": ("Scene", "trees of nodes, with children in order"),
-    "scheduler": ("Scheduler", "jobs ordered by time, each with a handle"),
+    "slotmap_list": ("StableList", "a doubly linked list with cursors"),
+    "slotmap_graph": ("Graph", "a directed graph"),
+    "slotmap_entities": ("World", "an entity store with two kinds of components"),
+    "slotmap_scene": ("Scene", "trees of nodes, with children in order"),
+    "slotmap_scheduler": ("Scheduler", "jobs ordered by time, each with a handle"),
 }
 WRITTEN = "Written by `docs/api.py` from the sources. Don't edit it by hand: `docs/api.py --check` fails if this page is out of date."
 
@@ -269,11 +269,11 @@ def new_page(name, title):
 
 
 def pages_of_structures():
-    """A page for each structure of crates/slotmap_uses."""
-    for module in STRUCTURES:
-        head, items = module_items("slotmap_uses", module)
-        page = new_page(module, f"slotmap_uses::{module}")
-        page.add("To use it, list `slotmap slotmap_uses` in `crates.txt`.", "", *prose(head), "")
+    """A page for each structure."""
+    for crate in STRUCTURES:
+        head, items = module_items(crate, "")
+        page = new_page(crate, crate)
+        page.add(f"To use it, list `slotmap {crate}` in `crates.txt`.", "", *prose(head), "")
         for item in items:
             if not item.public or item.kind not in ("struct", "enum", "type", "fn", "trait"):
                 continue
@@ -311,12 +311,12 @@ def first_page(all_items):
         "where they differ.", "")
     add_table(page, all_items)
     page.heading(2, "Structures")
-    page.add("They are in the crate `slotmap_uses`, each in a module of its own.", "")
+    page.add("Each is a crate of its own.", "")
     page.add("| Type | What it is | Calls |", "|---|---|---|")
-    for module, (name, what) in STRUCTURES.items():
-        calls = calls_of(name, module_items("slotmap_uses", module)[1])
-        cells = ", ".join(f"[`{it}`](api/{module}.md#{anchor_of(f'{name}::{it}')})" for it in calls)
-        page.add(f"| [`{module}::{name}`](api/{module}.md) | {what} | {cells} |")
+    for crate, (name, what) in STRUCTURES.items():
+        calls = calls_of(name, module_items(crate, "")[1])
+        cells = ", ".join(f"[`{it}`](api/{crate}.md#{anchor_of(f'{name}::{it}')})" for it in calls)
+        page.add(f"| [`{crate}::{name}`](api/{crate}.md) | {what} | {cells} |")
     return page
 
 

@@ -1,15 +1,15 @@
 #!/usr/bin/env python3
-"""Writes the blocks of crates/slotmap/CALLING.md and PROVING.md from the proved examples in crates/slotmap_uses.
+"""Writes the blocks of crates/slotmap/CALLING.md and PROVING.md from the proved examples in crates/slotmap_examples.
 
     docs/calling.py            writes the blocks anew
     docs/calling.py --check    says which page is out of date, with status 1
 
 A block comes after a line that names where it is from:
 
-    <!-- from examples/walks.rt: find_key -->                   these items, below the imports that they need
-    <!-- from examples/walks.rt: total, count_even; no head -->  the same without the imports
-    <!-- from examples/tour.rt -->                              the whole file
-    <!-- from examples/stale/renew/Answers.antt -->             a proof file
+    <!-- from walks.rt: find_key -->                   these items, below the imports that they need
+    <!-- from walks.rt: total, count_even; no head -->  the same without the imports
+    <!-- from tour.rt -->                              the whole file
+    <!-- from stale/renew/Answers.antt -->             a proof file
 
 In a block the crate's own name is `app`, with the example at its root.
 """
@@ -20,7 +20,7 @@ import sys
 
 TOP = os.path.dirname(os.path.dirname(os.path.abspath(__file__)))
 PAGES = ["crates/slotmap/CALLING.md", "crates/slotmap/PROVING.md"]
-USES = os.path.join(TOP, "crates/slotmap_uses")
+EXAMPLES = os.path.join(TOP, "crates/slotmap_examples")
 BLOCK = re.compile(r"(<!-- from (?P<file>\S+?)(?:: (?P<items>[^;]*?))?(?P<bare>; no head)? -->\n)\n?```\w+\n.*?\n```\n", re.S)
 ITEM = re.compile(r"(?:pub )?(?:fn|struct|enum|trait|type) (\w+)|impl\b[^{]*? for (\w+)|impl(?:<[^>]*>)? (\w+)")
 
@@ -103,7 +103,7 @@ def method(text, name):
 
 
 def source(file, wanted, bare):
-    text = read(f"{USES}/src/{file}")
+    text = read(f"{EXAMPLES}/src/{file}")
     if not wanted:
         return re.sub(r"\A(//!.*\n)+\n", "", text).rstrip("\n")
     head, items = split(text)
@@ -125,14 +125,14 @@ def source(file, wanted, bare):
 def module_of(file):
     """The path of the source file that a proof file belongs to, as a module."""
     parts = file.split("/")
-    at = next(it for it in reversed(range(len(parts))) if os.path.isfile(f"{USES}/src/{'/'.join(parts[:it])}.rt"))
+    at = next(it for it in reversed(range(len(parts))) if os.path.isfile(f"{EXAMPLES}/src/{'/'.join(parts[:it])}.rt"))
     return ".".join(parts[:at])
 
 
 def proof(file):
-    text = read(f"{USES}/proofs/{file}").rstrip("\n")
+    text = read(f"{EXAMPLES}/proofs/{file}").rstrip("\n")
     for part in ("proofs", "specs.contracts", "specs.declared"):
-        text = text.replace(f"Rattle.slotmap_uses.{part}.{module_of(file)}.", f"Rattle.app.{part}.")
+        text = text.replace(f"Rattle.slotmap_examples.{part}.{module_of(file)}.", f"Rattle.app.{part}.")
     return text
 
 

@@ -23,6 +23,7 @@ README = os.path.join(TOP, "README.md")
 FIGURES = os.path.join(TOP, "compare/bench/results.tsv")
 MAPS = {it.name: it for it in operations.MAPS}
 PRIMARY, SECONDARY = ["basic", "dense", "hop"], ["secondary", "sparse", "folded"]
+VALUED = [f"{it}-values" for it in PRIMARY]
 HEADS = {name: f"`{it.type}`" for name, it in MAPS.items()} | {"folded": "the same, a folding hasher in Rust too"}
 SLOW = 1.25
 
@@ -105,14 +106,66 @@ def times(figures, kinds):
 
 def summary(figures):
     """The means of all maps."""
-    rows = []
+    rows, kinds = [], PRIMARY + SECONDARY
     for measure, sizes in (("instructions", (1_000, 100_000)), ("time", TIMES)):
         for slots in sizes:
-            found = [figures.ratios(measure, kind, slots) for kind in MAPS]
+            found = [figures.ratios(measure, kind, slots) for kind in kinds]
             if any(found):
                 cells = [f"**{mean(it):.2f}**, to {max(it):.2f}" if it else "-" for it in found]
                 rows.append([f"{measure}, {number(slots)} slots", *cells])
-    return table(["Geometric mean, and the greatest", *HEADS.values()], rows)
+    return table(["Geometric mean, and the greatest", *[HEADS[it] for it in kinds]], rows)
+
+
+def values(figures):
+    """Some operations with values of several sizes: the ratios of instructions and of time."""
+    sizes = list(operations.VALUES.values())
+
+    def cell(kind, operation):
+        found = [figures.row("instructions", kind, operation, 1_000), figures.row("time", kind, operation, 100_000)]
+        return " · ".join(f"{it.ratio:.2f}" if it else "?" for it in found)
+
+    rows = []
+    for one in operations.VALUED_ALONE:
+        for name, size in operations.VALUES.items():
+            rows.append([f"{one.title}, {size}", *[cell(kind, f"{one.name}-{name}") for kind in VALUED]])
+    return table([f"What, and the bytes of a value ({sizes[0]} to {sizes[-2]}, or a text)", *[HEADS[it] for it in PRIMARY]], rows)
+
+
+def stepped(figures):
+    """A SecondaryMap in step with a SlotMap."""
+
+    def cell(measure, operation, slots):
+        row = figures.row(measure, "stepped", operation, slots)
+        return f"{row.port:.1f} / {row.rust:.1f} = **{row.ratio:.2f}**" if row else "?"
+
+    rows = [
+        [it.title, cell("instructions", it.name, 1_000), cell("time", it.name, 100_000)] for it in operations.STEPPED
+    ]
+    return table(["What", "instructions, 1,000 keys", "nanoseconds, 100,000 keys"], rows)
+
+
+def growth(figures):
+    """The time of an insert into a map that grows from nothing to so many keys."""
+
+    def cell(kind, slots):
+        row = figures.row("time", kind, "insert", slots)
+        return f"{row.port:.1f} / {row.rust:.1f} = **{row.ratio:.2f}**" if row else "?"
+
+    rows = [[number(slots), *[cell(kind, slots) for kind in PRIMARY]] for slots in (*TIMES, 10_000_000)]
+    return table(["Keys", *[HEADS[it] for it in PRIMARY]], rows)
+
+
+def spread(figures):
+    """How far apart the quartiles of the ratios of times are, as a part of the median: the median of this, and the greatest."""
+    rows = []
+    for slots in TIMES:
+        cells = []
+        for kind in PRIMARY + SECONDARY:
+            found = [figures.row("time", kind, it.name, slots) for it in operations.operations_of(MAPS[kind])]
+            wide = sorted((it.most - it.least) / it.ratio for it in found if it)
+            cells.append(f"{wide[len(wide) // 2]:.2f}, to {wide[-1]:.2f}" if wide else "-")
+        rows.append([f"{number(slots)} slots", *cells])
+    return table(["Spread", *[HEADS[it] for it in PRIMARY + SECONDARY]], rows)
 
 
 def memory(figures):
@@ -122,10 +175,21 @@ def memory(figures):
         row = figures.row("memory", kind, operation, slots)
         return f"{row.port:.1f} / {row.rust:.1f} = **{row.ratio:.2f}**" if row else "-"
 
-    kinds = [it for it in MAPS if it != "folded"]
+    kinds = PRIMARY + SECONDARY[:2]
     names = {"insert": "from an empty map", "insert-room": "with room"}
     rows = [[title, *[cell(kind, name) for kind in kinds]] for name, title in names.items()]
     return table(["Bytes per key", *[HEADS[it] for it in kinds]], rows)
+
+
+def memory_values(figures):
+    slots = 1_000_000
+
+    def cell(kind, name):
+        row = figures.row("memory", kind, f"insert-{name}", slots)
+        return f"{row.port:.1f} / {row.rust:.1f} = **{row.ratio:.2f}**" if row else "-"
+
+    rows = [[size, *[cell(kind, name) for kind in VALUED]] for name, size in operations.VALUES.items()]
+    return table(["Bytes of a value", *[HEADS[it] for it in PRIMARY]], rows)
 
 
 TABLES = {
@@ -137,6 +201,11 @@ TABLES = {
     "secondary-large": lambda it: counts(it, SECONDARY, 100_000),
     "secondary-time": lambda it: times(it, SECONDARY),
     "memory": memory,
+    "memory-values": memory_values,
+    "values": values,
+    "stepped": stepped,
+    "growth": growth,
+    "spread": spread,
 }
 
 
@@ -156,8 +225,9 @@ def with_tables(page, figures):
 
 def causes(page):
     """The operations that the page gives a cause for: the lines `| MAP | OPERATION; OPERATION | CAUSE |`."""
-    titles = {(it.name, op.title): op.name for it in operations.MAPS for op in operations.operations_of(it)}
-    names = {HEADS[name]: name for name in MAPS}
+    kinds = [MAPS[it] for it in PRIMARY + SECONDARY]
+    titles = {(it.name, op.title): op.name for it in kinds for op in operations.operations_of(it)}
+    names = {HEADS[it.name]: it.name for it in kinds}
     found, wrong = set(), []
     block = page.split("<!-- causes -->")[1].split("<!-- end -->")[0]
     for line in block.strip().split("\n")[2:]:
@@ -175,7 +245,7 @@ def faults_of_causes(page, figures):
     slow = {
         (kind, operation)
         for (measure, kind, operation, slots), row in figures.rows.items()
-        if measure == "instructions" and slots == 1_000 and round(row.ratio, 2) > SLOW
+        if kind in PRIMARY + SECONDARY and measure == "instructions" and slots == 1_000 and round(row.ratio, 2) > SLOW
     }
     wrong += [f"docs/PERFORMANCE.md: no cause for {kind} {operation}" for kind, operation in sorted(slow - given)]
     wrong += [f"docs/PERFORMANCE.md: {kind} {operation} needs no cause" for kind, operation in sorted(given - slow, key=str)]
@@ -185,7 +255,7 @@ def faults_of_causes(page, figures):
 def faults_of_readme(figures):
     text, wrong = read(README), []
     for name, form in README_FIGURES.items():
-        kind = next(it.name for it in operations.MAPS if it.type == name)
+        kind = next(it for it in PRIMARY + SECONDARY if MAPS[it].type == name)
         ratios = {
             op.name: f"{figures.row('instructions', kind, op.name, 1_000).ratio:.2f}"
             for op in operations.operations_of(MAPS[kind])

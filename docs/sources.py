@@ -195,14 +195,14 @@ def module_items(crate, module):
         text = file.read()
     lines = text.split("\n")
     found = read_items(path, lines, 0, len(lines), 0)
-    children = re.findall(r"(?m)^(pub )?mod (\w+);", text) if module else []
+    children = re.findall(r"(?m)^(pub )?mod (\w+);", text)
     shown = set(re.findall(r"(?m)^pub use (?:\w+::)*(\w+);", text))
     for public, child in children:
         child_path = f"crates/{crate}/src/{module}/{child}.rt"
         with open(os.path.join(TOP, child_path), encoding="utf-8") as file:
             lines = file.read().split("\n")
         items = read_items(child_path, lines, 0, len(lines), 0)
-        names = {it.name for it in items if it.public} if public and child != "callers" else shown
+        names = {it.name for it in items if it.public} if public else shown
         own = {it.name for it in found if it.public and it.kind != "impl"}
         found += [it for it in items if it.name in names or it.kind == "impl" and it.of in names | own]
     return comment_of_file(path), found

@@ -33,6 +33,8 @@ HEADS = {
     "slotmap_secondary": SECONDARY.replace("MAP", "SecondaryMap"),
     "slotmap_sparse": SECONDARY.replace("MAP", "SparseSecondaryMap"),
 }
+# The crates of the structures on the maps.
+STRUCTURES = ("slotmap_list", "slotmap_graph", "slotmap_entities", "slotmap_scene", "slotmap_scheduler")
 OTHER_HEAD = "let alloc = rt.alloc();"
 # The table of calls in CALLING.md, and the lines that come before each of its rows.
 TABLE, TABLE_HEADING = "crates/slotmap/CALLING.md", "## From Rust's slotmap"
@@ -163,19 +165,18 @@ def facade_names():
 
 
 def names_in(path, module):
-    """The structures and traits of a file of slotmap_uses and of its public modules, by their paths."""
+    """The types and traits of a file of a crate and of its public modules, by their paths."""
     with open(path, encoding="utf-8") as file:
         text = file.read()
     for item in re.findall(r"(?m)^pub (?:struct|trait) (\w+)", text):
         yield f"{module}::{item}"
     for child in re.findall(r"(?m)^pub mod (\w+);", text):
-        if child != "examples":
-            yield from names_in(os.path.join(path[:-3].removesuffix("/lib"), child + ".rt"), f"{module}::{child}")
+        yield from names_in(os.path.join(path[:-3].removesuffix("/lib"), child + ".rt"), f"{module}::{child}")
 
 
-def names_of_uses():
-    """The structures and traits of slotmap_uses by their paths, such as `slotmap_uses::graph::Graph`."""
-    return names_in(os.path.join(TOP, "crates/slotmap_uses/src/lib.rt"), "slotmap_uses")
+def names_of_structure(crate):
+    """The types and traits of a structure's crate by their paths, such as `slotmap_graph::Graph`."""
+    return names_in(os.path.join(TOP, f"crates/{crate}/src/lib.rt"), crate)
 
 
 def write_crate(folder, examples):
@@ -192,7 +193,8 @@ def write_crate(folder, examples):
         words = set(re.findall(r"\w+", text))
         names = [it for it in facade_names() + ["Key"] if it in words or it == "Key"]
         out, where = [f"use slotmap::{{{', '.join(sorted(set(names)))}}};"], {}
-        out += [f"use {it};" for it in names_of_uses() if crate == "slotmap_uses" and it.split("::")[-1] in words]
+        if crate in STRUCTURES:
+            out += [f"use {it};" for it in names_of_structure(crate) if it.split("::")[-1] in words]
         if "Value" in words:
             out.append("use serde_json::Value;")
         if "Global" in words:

@@ -30,6 +30,7 @@ LEMMAS = {
     'FromListLemmas': 'a map that is read from a list of slots',
     'IterLemmas': 'iterators',
     'PassLemmas': 'passes of a closure',
+    'Results': 'what clauses say of results',
     'RetainLemmas': '`retain`',
     'SettledLemmas': 'what calls know of slots between calls, by what the map holds',
     'SlotLemmas': 'the slots of a map in memory',
@@ -62,7 +63,7 @@ WORDS = {
     'entry_map_ref entry_map entry_lender entry_key entry_value entry_with entry_without occupied_with IsWritten Enters IsEntryOf IfEntry': 'the same of the entries of each secondary map',
     'CanReplace AreValuesOf with_values dropped CallsAt': 'several keys or calls of a closure, of each kind of map',
     'Given Step DetachStep StepInsert StepRemove StepDetach StepReattach after_insert after_remove after_detach after_reattach': 'the same of each machine',
-    'IsOnce without': 'lists of indices or keys: none twice; all but one',
+    'IsOnce without is_key same times': 'lists of indices or keys: none twice; all but one; how often a key is in one',
     'Nodes IsChain Unlinks follow': 'nodes or slots that are linked both ways',
 }
 

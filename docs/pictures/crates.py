@@ -8,6 +8,9 @@ sys.dont_write_bytecode = True
 
 from svg import BLUE, FOLDER, GREEN, INK, ORANGE, RED, SOFT, Picture
 
+# The five structures stand as one: each uses slotmap alone.
+STRUCTURES = "five structures"
+MEMBERS = {"slotmap_list", "slotmap_graph", "slotmap_entities", "slotmap_scene", "slotmap_scheduler"}
 # Where each crate is: its column and row, and what it has.
 CRATES = {
     "slotmap_core": (3.0, 0, "keys, errors, traits, lists of slots, definitions"),
@@ -25,23 +28,28 @@ CRATES = {
     "primary_rows": (0.5, 4, "checks the primary maps"),
     "secondary_rows": (2.2, 4, "checks the secondary maps"),
     "joined_rows": (3.85, 4, "checks runs on two maps"),
-    "slotmap_uses": (5.5, 4, "five structures on the maps"),
+    STRUCTURES: (5.5, 4, "list, graph, entities, scene, scheduler"),
+    "slotmap_examples": (3.85, 5, "examples of callers"),
     "slotdemo": (5.5, 5, "program: a demonstration"),
 }
 COLORS = {
-    "slotmap": BLUE, "slotrun": ORANGE, "primary_rows": GREEN, "secondary_rows": RED, "joined_rows": SOFT, "slotmap_uses": BLUE,
-    "slotdemo": ORANGE,
+    "slotmap": BLUE, "slotrun": ORANGE, "primary_rows": GREEN, "secondary_rows": RED, "joined_rows": SOFT, STRUCTURES: BLUE,
+    "slotmap_examples": SOFT, "slotdemo": ORANGE,
 }
 PITCH, LEFT, TOPS = 152, 22, [698, 598, 460, 316, 186, 66]
 HEIGHT = 56
+
+
+def shown(name):
+    return STRUCTURES if name in MEMBERS else name
 
 
 def read():
     """The crates of this repository that each crate uses, those left out that another one of them uses."""
     with open(os.path.join(FOLDER, "../../crates.txt"), encoding="utf-8") as file:
         lines = [line.split(":") for line in file if ":" in line and not line.startswith("#")]
-    uses = {name.split()[0]: set(others.split()) for name, others in lines}
-    uses = {name: others & set(uses) for name, others in uses.items()}
+    lines = [(shown(name.split()[0]), {shown(it) for it in others.split()}) for name, others in lines]
+    uses = {name: others & {it for it, _ in lines} for name, others in lines}
     below = {}
 
     def all_below(name):
@@ -84,7 +92,7 @@ def drop(name, to, shift, bus, color):
 
 
 # Two crates that use the same ones have a level and a shift each, so that their lines keep apart.
-LEVELS = {"slotmap": (30, -12), "slotrun": (52, 12), "primary_rows": (28, -12), "secondary_rows": (48, 4), "joined_rows": (38, 20), "slotmap_uses": (58, 36), "slotdemo": (32, 0)}
+LEVELS = {"slotmap": (30, -12), "slotrun": (52, 12), "primary_rows": (28, -12), "secondary_rows": (48, 4), "joined_rows": (38, 20), STRUCTURES: (58, 36), "slotmap_examples": (46, -30), "slotdemo": (32, 0)}
 for name in uses:
     for to in sorted(uses[name], key=lambda it: CRATES[it][0]):
         if to == "slotmap_core":
