@@ -74,12 +74,27 @@ def mirror(source, target):
             shutil.copyfile(entry.path, path)
 
 
+def with_crates_below(names, lines):
+    """These crates and all of the repository that they stand on. `lines` are those of crates.txt by the crate's name."""
+    found, left = set(), list(names)
+    while left:
+        name = left.pop()
+        if name in lines and name not in found:
+            found.add(name)
+            left += lines[name].split(":")[1].split()
+    return sorted(found)
+
+
 def write_port(folder, crates):
-    """A repository in `folder`: copies of the maps' crates, and the library over them."""
+    """A repository in `folder`: copies of the maps' crates and those below them, and the library over them."""
+    lines = {it.split(":")[0]: it for it in read(os.path.join(crates, "../crates.txt")).split("\n") if it}
     used = sorted({"slotmap_core"} | {it.crate for it in operations.MAPS})
-    lines = [it for it in read(os.path.join(crates, "../crates.txt")).split("\n") if it.split(":")[0] in used]
-    write(os.path.join(folder, "crates.txt"), "\n".join([*lines, f"{LIBRARY} staticlib: {' '.join(used)}", ""]))
-    for name in used:
+    copied = with_crates_below(used, lines)
+    write(
+        os.path.join(folder, "crates.txt"),
+        "\n".join([*[lines[it] for it in copied], f"{LIBRARY} staticlib: {' '.join(used)}", ""]),
+    )
+    for name in copied:
         mirror(os.path.join(crates, name), os.path.join(folder, "crates", name))
     source = os.path.join(folder, "crates", LIBRARY, "src")
     for kind in operations.MAPS:
