@@ -21,7 +21,7 @@
 //! ```
 #![tactic(auto, using(slotmap::proofs::Callers::keys))]
 
-ghost use Rattle.std.specs.Prelude.{◌≡◌, ◌≢◌, Some, None, IfOk, OnOk, IfErr, OnErr, IfSome, IsSome, IfNone, OnSome, false, true, option_copied, ◌&&◌};
+ghost use Rattle.std.specs.Prelude.{◌≡◌, ◌≢◌, Some, None, IfOk, OnOk, IfErr, OnErr, IfSome, IsSome, IfNone, OnSome, false, true, option_copied, ◌&&◌, IsTrue, ◌↔◌};
 ghost use Rattle.std.specs.FinMap as map;
 ghost use Rattle.std.specs.List.{filter};
 ghost use Rattle.slotmap.specs.Words.{Key as KeyOf, IsLive, IsNew, IsSpent, KeepsSpent, Refuses, get, contains_key};
@@ -41,7 +41,7 @@ use thiserror::Error;
 ///
 /// A clause sees `entities`, which has the value of each entity and their packed order, and the two
 /// tables.
-#[derive(Drop)]
+#[derive(Debug, Drop)]
 pub struct World<E, P, N> {
     entities: DenseSlotMap<DefaultKey, E>,
     positions: SecondaryMap<DefaultKey, P>,
@@ -134,6 +134,20 @@ impl<E: Drop, P: Drop, N: Drop> World<E, P, N> {
         ensures { result ≡ map.len self.now.entities.content.live }
     {
         self.entities.len()
+    }
+
+    /// Returns whether there is no entity, in constant time.
+    pub fn is_empty(&self) -> bool
+        ensures { IsTrue result ↔ (map.len self.now.entities.content.live ≡ 0) }
+    {
+        self.len() == 0
+    }
+
+    /// Returns whether an entity exists, in constant time.
+    pub fn contains(&self, entity: DefaultKey) -> bool
+        ensures { result ≡ map.contains_key self.now.entities.content.live entity }
+    {
+        self.entities.contains_key(entity)
     }
 
     /// Adds an entity with no component, and returns its key.

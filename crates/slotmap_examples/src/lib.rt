@@ -23,5 +23,6 @@ pub mod side_writes;
 pub mod sparse_table;
 pub mod stale;
 pub mod strangers;
+pub mod timer;
 pub mod tour;
 pub mod walks;

@@ -1,10 +1,10 @@
 -- A graph as its users see it.
-use Rattle.std.specs.Prelude.{◌≡◌, ℕ, ◌<◌, Option, Some, None, Bool, not, ◌||◌, ◌&&◌, nat_eq, if◌then◌else◌, refl, List, [], map as list_map, MatchOption, vec_len, vec_capacity}
+use Rattle.std.specs.Prelude.{◌≡◌, ℕ, ◌<◌, Option, Some, None, Bool, not, ◌||◌, ◌&&◌, nat_eq, if◌then◌else◌, refl, List, [], map as list_map, MatchOption, vec_len, vec_capacity, ⊤}
 use Rattle.std.specs.declared.vec.Vec.{Vec}
 use Rattle.std.specs.List.{sum_by}
 use Rattle.std.specs.FinMap as map
 use Rattle.std.specs.Coded.{Coded, code_by, coded×}
-use Rattle.slotmap.specs.Words.{Key, key_cmp, coded_key, Content, content_code, IsLive, Pairs, IsBeside, get, put}
+use Rattle.slotmap.specs.Words.{Key, key_cmp, coded_key, Content, content_code, IsLive, Pairs, IsBeside, get, put, used, most}
 use Rattle.slotmap_graph.specs.declared.Edge.{Edge}
 use Rattle.slotmap_graph.specs.declared.EdgeError.{EdgeError}
 use Rattle.slotmap_graph.specs.declared.EdgeError.TheVariants.{Gone, Full, Memory}
@@ -91,11 +91,17 @@ pub record PutsAlone {V : Type 0} (m : Pairs V) (k : Key) : Type 0 where
   pub here : (v : V) → get (put m k v) k ≡ Some v
   pub others : (v : V) (q : Key) → (q ≡ k → ⊥) → get (put m k v) q ≡ get m q
 
--- `Gone` if and only if one of the two nodes isn't live
-abbrev pub RefusesEdge : {N : Type 0} → Content N → Key → Key → EdgeError → Type 0
-RefusesEdge nodes from to Gone = (IsLive nodes from × IsLive nodes to) → ⊥
-RefusesEdge nodes from to Full = IsLive nodes from × IsLive nodes to
-RefusesEdge nodes from to Memory = IsLive nodes from × IsLive nodes to
+-- `Gone` if and only if one of the two nodes isn't live, `Full` only where a map can hold no more edges
+abbrev pub RefusesEdge : {N : Type 0} → Content N → Content Edge → Key → Key → EdgeError → Type 0
+RefusesEdge nodes edges from to Gone = (IsLive nodes from × IsLive nodes to) → ⊥
+RefusesEdge nodes edges from to Full = IsLive nodes from × IsLive nodes to × (used edges ≡ most)
+RefusesEdge nodes edges from to Memory = IsLive nodes from × IsLive nodes to
+
+-- the same for an edge whose nodes are live
+abbrev pub RefusesLiveEdge : Content Edge → EdgeError → Type 0
+RefusesLiveEdge edges Gone = ⊥
+RefusesLiveEdge edges Full = used edges ≡ most
+RefusesLiveEdge edges Memory = ⊤
 
 -- these are the nodes to which the edges of a list lead from a node, in its order
 abbrev pub LeadTo : map.FinMap key_cmp Edge → Key → List Key → List Key → Type 0

@@ -29,13 +29,13 @@
 //! ```
 #![tactic(auto, using(slotmap::proofs::Callers::keys))]
 
-ghost use Rattle.std.specs.Prelude.{◌≡◌, ◌≢◌, ◌<◌, ◌≤◌, List, Some, None, IfOk, OnOk, IfErr, OnErr, OnSome, IfSome, IfNone, true, false, option_copied, if◌then◌else◌};
+ghost use Rattle.std.specs.Prelude.{◌≡◌, ◌<◌, ◌≤◌, List, Some, None, IfOk, OnOk, IfErr, OnErr, OnSome, IfSome, IfNone, true, false, option_copied, if◌then◌else◌};
 ghost use Rattle.std.specs.Option.{option_and_then};
 ghost use Rattle.std.specs.FinMap as map;
 ghost use Rattle.slotmap.specs.Words.{Key as KeyOf, IsBeside, IsContent, IsLive, IsNew, IsSpent, KeepsSpent, Refuses};
 ghost use Rattle.slotmap_graph.specs.declared.Edge.{Edge as SeenEdge};
 ghost use Rattle.slotmap_graph.specs.declared.EdgeError.TheVariants as edge_error;
-ghost use Rattle.slotmap_graph.specs.Parts.{avoids, touches, from, to, ListsEdges, LeadTo, RefusesEdge, times};
+ghost use Rattle.slotmap_graph.specs.Parts.{avoids, touches, from, to, ListsEdges, LeadTo, RefusesEdge, RefusesLiveEdge, times};
 ghost use Rattle.slotmap_graph.specs.Search.{AreSeen, Finds, HasNext, Leads};
 
 use crate::lists::{Lists, first, link, list_of, make_room, unlink};
@@ -110,7 +110,7 @@ fn insert_edge(edges: &mut SlotMap<DefaultKey, Edge>, edge: Edge) -> Result<Defa
     ensures adds { IfOk result (λ key. edges.new.live ≡ map.insert edges.old.live key edge) }
     ensures fresh { IfOk result (λ key. map.get edges.old.live key ≡ None) }
     ensures unspent { IfOk result (λ key. IsSpent edges.old key → ⊥) }
-    ensures err { IfErr result (λ error. error ≢ edge_error.Gone) }
+    ensures err { IfErr result (RefusesLiveEdge edges.old) }
     ensures unchanged { OnErr result (edges.new.live ≡ edges.old.live) }
     ensures gone { KeepsSpent edges.old edges.new }
 {
@@ -168,7 +168,7 @@ impl<N: Drop> Graph<N> {
         ensures live { OnOk result (IsLive self.old.nodes from × IsLive self.old.nodes to) }
 
         // Why the call failed, and what that leaves.
-        ensures err { IfErr result (RefusesEdge self.old.nodes from to) }
+        ensures err { IfErr result (RefusesEdge self.old.nodes self.old.edges from to) }
         ensures unchanged { OnErr result (self.new.edges.live ≡ self.old.edges.live) }
 
         // All else is as before.
@@ -243,6 +243,34 @@ impl<N: Drop> Graph<N> {
         self.out.remove(node);
         self.into.remove(node);
         self.nodes.remove(node)
+    }
+
+    /// Returns the number of nodes, in constant time.
+    pub fn node_count(&self) -> usize
+        ensures { result ≡ map.len self.now.nodes.live }
+    {
+        self.nodes.len()
+    }
+
+    /// Returns the number of edges, in constant time.
+    pub fn edge_count(&self) -> usize
+        ensures { result ≡ map.len self.now.edges.live }
+    {
+        self.edges.len()
+    }
+
+    /// Returns whether a node exists, in constant time.
+    pub fn contains_node(&self, node: NodeKey) -> bool
+        ensures { result ≡ map.contains_key self.now.nodes.live node }
+    {
+        self.nodes.contains_key(node)
+    }
+
+    /// Returns whether an edge exists, in constant time.
+    pub fn contains_edge(&self, edge: DefaultKey) -> bool
+        ensures { result ≡ map.contains_key self.now.edges.live edge }
+    {
+        self.edges.contains_key(edge)
     }
 
     /// Returns the value of a node, or `None` if the node doesn't exist.

@@ -1,8 +1,8 @@
 -- The cursors of a list, without the values: which calls keep them, and which are gone for good.
 use Rattle.std.proofs.Common.{◌≡◌, true, Option, Some, None, is_some, refl, sym, ap, ◌∙◌, arith}
 use Rattle.std.specs.FinMap as map
-use Rattle.slotmap.specs.Words.{Key, key_cmp, Content, IsContent, IsLive, IsSpent, KeepsSpent, Inserts, keys_of, without_values, with_value}
-use Rattle.slotmap.proofs.Callers.{keys_total, exact_keys, keys, contains-keys_of, spent_alone, alone_spent, keeps_spent_alone, spent_finds_nothing, inserted_not_spent}
+use Rattle.slotmap.specs.Words.{Key, key_cmp, Content, IsContent, IsLive, IsSpent, KeepsSpent, Inserts, keys_of, without_values, with_value, LacksRoom, used}
+use Rattle.slotmap.proofs.Callers.{keys_total, exact_keys, keys, contains-keys_of, len-keys_of, spent_alone, alone_spent, keeps_spent_alone, spent_finds_nothing, inserted_not_spent}
 
 same_units : (a b : Option (Unit {0})) → is_some a ≡ is_some b → a ≡ b
 same_units None None is = refl
@@ -40,3 +40,10 @@ module _ {V : Type 0} where
   -- a key that is returned by an insert was not gone
   pub new_not_gone : (old mid : Content V) → IsContent true old → (k : Key) (v : V) → Inserts old k v mid → IsSpent (without_values old) k → ⊥
   new_not_gone old mid well k v inserts spent = inserted_not_spent old mid true well k v inserts k (alone_spent old k spent) refl
+
+  -- as many slots are in use, and there is as much room
+  pub used_alone : (c : Content V) → used (without_values c) ≡ used c
+  used_alone c = let same = len-keys_of c.live in omega arith
+
+  pub lacks_alone : (c : Content V) → LacksRoom c → LacksRoom (without_values c)
+  lacks_alone c lacks = record { below_limit = (let same = used_alone c in let below = lacks.below_limit in omega arith); no_room = lacks.no_room }

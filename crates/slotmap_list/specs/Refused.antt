@@ -1,20 +1,20 @@
 -- What a refused call returns.
-use Rattle.std.specs.Prelude.{◌≡◌, List, None, IsSome}
-use Rattle.slotmap.specs.Words.{Key}
+use Rattle.std.specs.Prelude.{◌≡◌, None, IsSome}
+use Rattle.slotmap.specs.Words.{Key, Content, LacksRoom, used, most}
 use Rattle.slotmap_list.specs.declared.PushError.{PushError}
 use Rattle.slotmap_list.specs.declared.PushError.TheVariants as push
-use Rattle.slotmap_list.specs.Sequence.{value_of}
+use Rattle.slotmap_list.specs.Sequence.{Sequence, value_of}
 use Rattle.slotmap_list.specs.declared.PlaceError.{PlaceError}
 use Rattle.slotmap_list.specs.declared.PlaceError.TheVariants.{Gone, Full, Memory}
 
 module _ {T : Type 0} where
-  -- the value is returned
-  abbrev pub HandsBack : T → PushError T → Type 0
-  HandsBack v (push.Full back) = back ≡ v
-  HandsBack v (push.Memory back) = back ≡ v
+  -- `Full` if and only if a map can hold no more keys, else `Memory`, where no room was promised; the value is returned
+  abbrev pub RefusesPush : Content (Unit {0}) → T → PushError T → Type 0
+  RefusesPush cursors v (push.Full back) = (used cursors ≡ most) × (back ≡ v)
+  RefusesPush cursors v (push.Memory back) = LacksRoom cursors × (back ≡ v)
 
-  -- `Gone` if and only if the cursor isn't in the list; the value is returned
-  abbrev pub IsRefused : Key → List (Key × T) → T → PlaceError T → Type 0
-  IsRefused k es v (Gone back) = (value_of k es ≡ None) × (back ≡ v)
-  IsRefused k es v (Full back) = IsSome (value_of k es) × (back ≡ v)
-  IsRefused k es v (Memory back) = IsSome (value_of k es) × (back ≡ v)
+  -- `Gone` if and only if the cursor isn't in the list, and then the same; the value is returned
+  abbrev pub RefusesPlace : Sequence T → Key → T → PlaceError T → Type 0
+  RefusesPlace s k v (Gone back) = (value_of k s.elements ≡ None) × (back ≡ v)
+  RefusesPlace s k v (Full back) = IsSome (value_of k s.elements) × ((used s.cursors ≡ most) × (back ≡ v))
+  RefusesPlace s k v (Memory back) = IsSome (value_of k s.elements) × (LacksRoom s.cursors × (back ≡ v))

@@ -28,15 +28,15 @@
 //! ```
 #![tactic(auto)]
 
-ghost use Rattle.std.specs.Prelude.{◌≡◌, ◌++◌, ◌∷◌, [], Some, None, true, false, is_some, length, option_copied, if◌then◌else◌, IsTrue, ◌↔◌};
+ghost use Rattle.std.specs.Prelude.{◌≡◌, ◌+◌, ◌<◌, ◌≤◌, IsOk, ◌++◌, ◌∷◌, [], Some, None, true, false, is_some, length, option_copied, if◌then◌else◌, IsTrue, ◌↔◌};
 ghost use Rattle.std.specs.Prelude.{IfOk, OnOk, IfErr, OnErr, IfSome, OnSome, IfNone, IsSome};
 ghost use Rattle.std.specs.Prelude.{map as map_list};
 ghost use Rattle.std.specs.FinMap as map;
-ghost use Rattle.slotmap.specs.Words.{Key as KeyOf, IsLive, IsNew, IsSpent, KeepsSpent};
+ghost use Rattle.slotmap.specs.Words.{Key as KeyOf, IsLive, IsNew, IsSpent, KeepsSpent, RefusesCapacity, used};
 ghost use Rattle.slotmap_list.specs.Sequence.{value_of, first_or, last_or, key_after, key_before, put_after, put_before, without, IsGap, PutsBetween, IsOnce};
 ghost use Rattle.slotmap_list.specs.Sequence.{moved_to_front, moved_to_back, moved_after, moved_before, are_two, TakesFront, TakesBack};
 ghost use Rattle.slotmap_list.specs.Neighbours.{insert_beside};
-ghost use Rattle.slotmap_list.specs.Refused.{IsRefused, HandsBack};
+ghost use Rattle.slotmap_list.specs.Refused.{RefusesPlace, RefusesPush};
 
 use slotmap::{ReserveError, SlotMap};
 use std::alloc::{AllocError, Global};
@@ -52,7 +52,7 @@ pub use cursor::Cursor;
 pub use iter::Iter;
 use links::{Side, add, beside, relink, same};
 
-#[derive(Drop)]
+#[derive(Debug, Drop)]
 struct Node<T> {
     value: T,
     prev: Option<Cursor>,
@@ -63,7 +63,7 @@ struct Node<T> {
 ///
 /// A clause sees `elements`, the list of the cursors with their values, from front to back, and
 /// `cursors`, by which it says that a cursor is never used again.
-#[derive(Drop)]
+#[derive(Debug, Drop)]
 pub struct StableList<T> {
     nodes: SlotMap<Cursor, Node<T>>,
     first: Option<Cursor>,
@@ -124,6 +124,77 @@ impl<T: Drop> StableList<T> {
             first: None,
             last: None,
         })
+    }
+
+    /// Makes an empty list with room for `capacity` elements.
+    ///
+    /// The next `capacity` elements are added without allocating. It fails with `TooGreat` if
+    /// `capacity` is over 4294967294, and with `Memory` if memory runs out.
+    ///
+    /// ```
+    /// let mut list: StableList<u64> = StableList::with_capacity(alloc, 2)?;
+    /// assert!(rt; list.is_empty());
+    /// assert!(rt; list.capacity() >= 2);
+    /// ```
+    pub fn with_capacity(alloc: Global, capacity: usize) -> Result<Self, ReserveError>
+        ensures empty { IfOk result (λ list. list.elements ≡ []) }
+        ensures room { IfOk result (λ list. capacity ≤ list.cursors.room) }
+        ensures err { IfErr result (RefusesCapacity capacity) }
+    {
+        Ok(StableList {
+            nodes: SlotMap::with_capacity_and_key(alloc, capacity)?,
+            first: None,
+            last: None,
+        })
+    }
+
+    /// Reserves room for `additional` more elements.
+    ///
+    /// The next `additional` elements are added without allocating. The errors are these; either
+    /// leaves the same elements:
+    ///
+    /// - `TooGreat`: more than 4294967294 elements would be there, counting cursors that are used up.
+    /// - `Memory`: memory runs out.
+    ///
+    /// ```
+    /// let mut list = StableList::new(alloc)?;
+    /// list.reserve(2)?;
+    /// let capacity = list.capacity();
+    /// list.push_back(1)?;
+    /// list.push_back(2)?;
+    /// assert_eq!(rt; list.capacity(), capacity);
+    /// ```
+    pub fn reserve(&mut self, additional: usize) -> Result<(), ReserveError>
+        ensures room { OnOk result (additional ≤ self.new.cursors.room) }
+        ensures had_room { additional ≤ self.old.cursors.room → IsOk result }
+        ensures err { IfErr result (RefusesCapacity (used self.old.cursors + additional)) }
+        ensures elements { self.new.elements ≡ self.old.elements }
+        ensures gone { KeepsSpent self.old.cursors self.new.cursors }
+    {
+        self.nodes.reserve(additional)
+    }
+
+    /// Returns for how many elements there is memory, in constant time.
+    pub fn capacity(&self) -> usize
+        ensures { result ≡ self.now.cursors.capacity }
+    {
+        self.nodes.capacity()
+    }
+
+    /// Returns whether a cursor is in the list, in constant time.
+    ///
+    /// ```
+    /// let mut list = StableList::new(alloc)?;
+    /// let one = list.push_back(1)?;
+    /// assert!(rt; list.contains(one));
+    /// list.remove(one);
+    /// assert!(rt; !list.contains(one));
+    /// ```
+    pub fn contains(&self, cursor: Cursor) -> bool
+        ensures value { result ≡ is_some (value_of cursor self.now.elements) }
+        ensures live { result ≡ map.contains_key self.now.cursors.live cursor }
+    {
+        self.nodes.contains_key(cursor)
     }
 
     /// Returns the number of elements.
@@ -190,7 +261,8 @@ impl<T: Drop> StableList<T> {
         ensures ok { IfOk result (λ key. PutsBetween self.old.elements prev next (key, value) self.new.elements) }
         ensures fresh { IfOk result (λ key. value_of key self.old.elements ≡ None) }
         ensures unspent { IfOk result (λ key. IsSpent self.old.cursors key → ⊥) }
-        ensures err { IfErr result (λ error. HandsBack value error) }
+        ensures err { IfErr result (RefusesPush self.old.cursors value) }
+        ensures reuses { 0 < map.len self.old.cursors.next → IsOk result }
         ensures unchanged { OnErr result (self.new.elements ≡ self.old.elements) }
         ensures gone { KeepsSpent self.old.cursors self.new.cursors }
     {
@@ -219,7 +291,8 @@ impl<T: Drop> StableList<T> {
         ensures ok { IfOk result (λ key. self.new.elements ≡ self.old.elements ++ (key, value) ∷ []) }
         ensures fresh { IfOk result (λ key. value_of key self.old.elements ≡ None) }
         ensures unspent { IfOk result (λ key. IsSpent self.old.cursors key → ⊥) }
-        ensures err { IfErr result (λ error. HandsBack value error) }
+        ensures err { IfErr result (RefusesPush self.old.cursors value) }
+        ensures reuses { 0 < map.len self.old.cursors.next → IsOk result }
         ensures unchanged { OnErr result (self.new.elements ≡ self.old.elements) }
         ensures gone { KeepsSpent self.old.cursors self.new.cursors }
     {
@@ -234,7 +307,8 @@ impl<T: Drop> StableList<T> {
         ensures ok { IfOk result (λ key. self.new.elements ≡ (key, value) ∷ self.old.elements) }
         ensures fresh { IfOk result (λ key. value_of key self.old.elements ≡ None) }
         ensures unspent { IfOk result (λ key. IsSpent self.old.cursors key → ⊥) }
-        ensures err { IfErr result (λ error. HandsBack value error) }
+        ensures err { IfErr result (RefusesPush self.old.cursors value) }
+        ensures reuses { 0 < map.len self.old.cursors.next → IsOk result }
         ensures unchanged { OnErr result (self.new.elements ≡ self.old.elements) }
         ensures gone { KeepsSpent self.old.cursors self.new.cursors }
     {
@@ -248,7 +322,8 @@ impl<T: Drop> StableList<T> {
         ensures fresh { IfOk result (λ key. value_of key self.old.elements ≡ None) }
         ensures unspent { IfOk result (λ key. IsSpent self.old.cursors key → ⊥) }
         ensures stands { OnOk result (IsSome (value_of cursor self.old.elements)) }
-        ensures err { IfErr result (λ error. IsRefused cursor self.old.elements value error) }
+        ensures err { IfErr result (RefusesPlace self.old cursor value) }
+        ensures reuses { IsSome (value_of cursor self.old.elements) → 0 < map.len self.old.cursors.next → IsOk result }
         ensures unchanged { OnErr result (self.new.elements ≡ self.old.elements) }
         ensures gone { KeepsSpent self.old.cursors self.new.cursors }
     {
@@ -270,7 +345,8 @@ impl<T: Drop> StableList<T> {
         ensures fresh { IfOk result (λ key. value_of key self.old.elements ≡ None) }
         ensures unspent { IfOk result (λ key. IsSpent self.old.cursors key → ⊥) }
         ensures stands { OnOk result (IsSome (value_of cursor self.old.elements)) }
-        ensures err { IfErr result (λ error. IsRefused cursor self.old.elements value error) }
+        ensures err { IfErr result (RefusesPlace self.old cursor value) }
+        ensures reuses { IsSome (value_of cursor self.old.elements) → 0 < map.len self.old.cursors.next → IsOk result }
         ensures unchanged { OnErr result (self.new.elements ≡ self.old.elements) }
         ensures gone { KeepsSpent self.old.cursors self.new.cursors }
     {
@@ -285,7 +361,8 @@ impl<T: Drop> StableList<T> {
         ensures fresh { IfOk result (λ key. value_of key self.old.elements ≡ None) }
         ensures unspent { IfOk result (λ key. IsSpent self.old.cursors key → ⊥) }
         ensures stands { OnOk result (IsSome (value_of cursor self.old.elements)) }
-        ensures err { IfErr result (λ error. IsRefused cursor self.old.elements value error) }
+        ensures err { IfErr result (RefusesPlace self.old cursor value) }
+        ensures reuses { IsSome (value_of cursor self.old.elements) → 0 < map.len self.old.cursors.next → IsOk result }
         ensures unchanged { OnErr result (self.new.elements ≡ self.old.elements) }
         ensures gone { KeepsSpent self.old.cursors self.new.cursors }
     {

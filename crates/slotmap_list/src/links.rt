@@ -1,12 +1,12 @@
 //! Links between nodes.
 
-ghost use Rattle.std.specs.Prelude.{◌≡◌, IfSome, IfOk, IfErr, IsErr, OnErr, Some, None, true};
+ghost use Rattle.std.specs.Prelude.{◌≡◌, ◌<◌, IsOk, IfSome, IfOk, IfErr, IsErr, OnErr, Some, None, true};
 ghost use Rattle.std.specs.Option.{option_map};
 ghost use Rattle.std.specs.FinMap as map;
 ghost use Rattle.slotmap.specs.Words.{IsLive, Inserts, MayGrow, without_values};
 ghost use Rattle.slotmap_list.specs.Chain.{with_link, outer, HasNeighbours, Relinks, Unlinks, Links};
 ghost use Rattle.slotmap_list.specs.Neighbours.{gap_beside};
-ghost use Rattle.slotmap_list.specs.Refused.{HandsBack};
+ghost use Rattle.slotmap_list.specs.Refused.{RefusesPush};
 
 use crate::{Cursor, Node, PushError};
 use slotmap::{InsertError, SlotMap};
@@ -66,8 +66,9 @@ pub(crate) fn add<T: Drop>(
 ) -> Result<Cursor, PushError<T>>
     ensures ok { IfOk result (λ key. Inserts nodes.old key node nodes.new) }
     ensures fresh { IfOk result (λ key. map.get nodes.old.live key ≡ None) }
-    ensures err { IfErr result (λ error. HandsBack node.value error) }
+    ensures err { IfErr result (RefusesPush (without_values nodes.old) node.value) }
     ensures unchanged { OnErr result (nodes.new.live ≡ nodes.old.live) }
+    ensures reuses { 0 < map.len nodes.old.next → IsOk result }
     ensures valid { MayGrow true nodes.old (IsErr result) nodes.new }
 {
     match nodes.insert(node) {

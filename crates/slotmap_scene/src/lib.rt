@@ -63,7 +63,7 @@ pub struct Node<T> {
 /// Nodes in trees.
 ///
 /// A clause sees the finite map from keys to nodes.
-#[derive(Drop)]
+#[derive(Debug, Drop)]
 pub struct Scene<T> {
     alloc: Global,
     nodes: SlotMap<DefaultKey, Node<T>>,
@@ -132,6 +132,20 @@ impl<T: Drop> Scene<T> {
         ensures { result ≡ map.len self.now }
     {
         self.nodes.len()
+    }
+
+    /// Returns whether there is no node, in constant time.
+    pub fn is_empty(&self) -> bool
+        ensures { IsTrue result ↔ (map.len self.now ≡ 0) }
+    {
+        self.len() == 0
+    }
+
+    /// Returns whether a node exists, in constant time.
+    pub fn contains(&self, node: DefaultKey) -> bool
+        ensures { result ≡ map.contains_key self.now node }
+    {
+        self.nodes.contains_key(node)
     }
 
     /// Returns a node with its parent and its children, or `None` if it doesn't exist.

@@ -1,4 +1,4 @@
-use Rattle.std.proofs.Common.{ap, sym, ◌∙◌, subst, refl}
+use Rattle.std.proofs.Common.{ap, sym, ◌∙◌, subst, refl, is_some}
 use Rattle.slotmap_list.specs.Sequence.{value_of, IsOnce}
 use Rattle.slotmap_list.proofs.Chains.{elements_are}
 use Rattle.slotmap_list.proofs.NeighbourLemmas.{beside_none, beside_gap, beside_put, beside_stands}
@@ -25,3 +25,8 @@ returns-in-Err-Full-clause-err g c =
 pub returns-in-Err-Memory-clause-err : goal.returns-in-Err-Memory-clause-err
 returns-in-Err-Memory-clause-err g c =
     (rw (← (elements_are c.self.view_is)) (beside_stands _ _ _ _ c.args.side c.args.cursor _ _ c.self.invariant (sym c.in-Some.ensures)), rw c.in-Err-Memory.field-0-is at c.in-Err-Memory.ensures.err)
+
+pub returns-in_default-clause-reuses : goal.returns-in_default-clause-reuses
+returns-in_default-clause-reuses g c there vacant =
+    let none = sym (beside_none _ _ _ _ c.args.side c.args.cursor c.self.invariant (sym c.in_default.ensures) ∙ ap (value_of c.args.cursor) (elements_are c.self.view_is)) in
+    absurd (let t = ap is_some none in cc)

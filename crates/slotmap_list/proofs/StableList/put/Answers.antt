@@ -1,4 +1,4 @@
-use Rattle.std.proofs.Common.{true, ap, sym, ◌∙◌, subst, refl}
+use Rattle.std.proofs.Common.{true, ap, sym, ◌∙◌, subst, refl, rules}
 use Rattle.std.specs.Option.{option_map}
 use Rattle.slotmap_list.specs.Sequence.{value_of}
 use Rattle.slotmap_list.specs.Chain.{IsChain}
@@ -50,3 +50,6 @@ returns-clause-gone g c =
 
 pub returns-in_err-key-clause-gone : goal.returns-in_err-key-clause-gone
 returns-in_err-key-clause-gone g c = rw (← c.self.view_is) (gone_stays _ _ _ refl (spent_insert _ _ true c.add.result c.add.ensures.valid (λ k. k) _ c.add.ensures.ok))
+
+pub returns-in_err-key-clause-err : goal.returns-in_err-key-clause-err
+returns-in_err-key-clause-err g c = rw (← c.self.view_is) (search rules)
