@@ -2,9 +2,10 @@
 
 ghost use Rattle.std.specs.Prelude.{◌≡◌, ◌+◌, ◌<◌, Some, IfSome, IfNone};
 ghost use Rattle.std.specs.FinMap as map;
-ghost use Rattle.slotmap_core.specs.Transition.{Leaves};
+ghost use Rattle.slotmap_core.specs.Content.{IsLive};
+ghost use Rattle.slotmap_core.specs.Transition.{Removes, Leaves};
 ghost use Rattle.slotmap_core.specs.Retain.{RetainsBy, CallableOnEach};
-ghost use Rattle.slotmap_hop.specs.HopContent.{IsHopContent, IsNextLive, MayStand, StaysHop};
+ghost use Rattle.slotmap_hop.specs.HopContent.{IsHopContent, IsNextLive, MayStand, StaysHop, blocks_without};
 ghost use Rattle.slotmap_hop.specs.Retain.{RetainsByIndex};
 ghost use Rattle.slotmap_hop.specs.Iter.{CanGoOn, FindsSlot, FindsNone, ReadsOnTheWay, ReadsToTheEnd};
 
@@ -65,6 +66,17 @@ impl<K: Key, V: Drop> HopSlotMap<K, V> {
         K::from(KeyData::exact(place as u32, slot.version()))
     }
 
+    // Removes a live key, and drops its value. Not inlined, so that the loop of `retain` is small.
+    #[inline(never)]
+    fn reject(&mut self, key: K)
+        requires { IsLive self.old.content (K.data_of key) }
+        ensures removes { Removes self.old.content (K.data_of key) self.new.content }
+        ensures blocks { self.new.blocks ≡ blocks_without self.old (K.data_of key) }
+        ensures valid { StaysHop self.old self.new }
+    {
+        self.take_live(key);
+    }
+
     /// Calls a closure once for each live key, and removes the keys for which it returns `false`.
     ///
     /// The closure gets the key and a mutable reference to its value. What it writes is kept. The
@@ -92,7 +104,7 @@ impl<K: Key, V: Drop> HopSlotMap<K, V> {
             // The key after this one is looked for first, because a removal may join blocks.
             next = self.first_live(key.data().idx() + 1);
             if !stays {
-                self.take_live(key);
+                self.reject(key);
             }
         }
     }

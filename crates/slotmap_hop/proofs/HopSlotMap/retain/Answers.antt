@@ -16,18 +16,18 @@ f-stays-requires g c =
     let comes = retaining_may_come _ _ _ _ _ _ _ (so_far g (goal.at.f-stays-requires g c).In-Some) in
     c.requires.at c.loop-next.f c.in-Some.key _ comes.0 (comes.1 ∙ c.get_unchecked_mut.ensures.value)
 
-pub take_live-requires : goal.take_live-requires
-take_live-requires g c =
+pub reject-requires : goal.reject-requires
+reject-requires g c =
     let key = g.K.Key.data_of c.in-Some.key in
-    let is_live = (so_far g (goal.at.take_live-requires g c).In-Some).sweep.comes.0 in
+    let is_live = (so_far g (goal.at.reject-requires g c).In-Some).sweep.comes.0 in
     same_live c.loop-next.self.content key c.f-stays.new.arg3 is_live key ∙ is_live
 
 pub loop-next-preserved-then-not-stays : goal.loop-next-preserved-then-not-stays
 loop-next-preserved-then-not-stays g c =
     let comes = rw (c.idx.ensures.value, c.data.ensures.value) at c.first_live-next-in-Some.ensures.comes in
-    let took = c.take_live.ensures in
+    let took = c.reject.ensures in
     retaining_dropped g.F.FnMut g.K.Key.data_of c.args.self.now c.args.f c.first_live-next.ensures.valid (CallsAt-called g.F.FnMut c.f-stays.ensures)
-    (so_far g (goal.at.loop-next-preserved-then-not-stays g c).In-Some) c.get_unchecked_mut.ensures.value _ comes c.take_live.new.self c.if-not-stays.true took.removes took.blocks took.valid
+    (so_far g (goal.at.loop-next-preserved-then-not-stays g c).In-Some) c.get_unchecked_mut.ensures.value _ comes c.reject.new.self c.if-not-stays.true took.removes took.blocks took.valid
 
 pub loop-next-preserved : goal.loop-next-preserved
 loop-next-preserved g c =
