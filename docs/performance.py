@@ -93,14 +93,15 @@ TIMES = (1_000, 100_000, 1_000_000)
 
 
 def times(figures, kinds):
-    """The ratios of processor time at each number of slots."""
+    """The ratios of processor time at each number of slots at which all operations were measured."""
+    sizes = [it for it in TIMES if all(figures.ratios("time", kind, it) for kind in kinds)]
 
     def cell(kind, operation):
-        found = [figures.row("time", kind, operation.name, it) for it in TIMES]
+        found = [figures.row("time", kind, operation.name, it) for it in sizes]
         return " · ".join(f"{it.ratio:.2f}" if it else "?" for it in found) if any(found) else "-"
 
     rows = [[it.title, *[cell(kind, it) for kind in kinds]] for it in family(kinds)]
-    means = [" · ".join(mean_text(figures.ratios("time", kind, it)) for it in TIMES) for kind in kinds]
+    means = [" · ".join(mean_text(figures.ratios("time", kind, it)) for it in sizes) for kind in kinds]
     return table(["What", *[HEADS[it] for it in kinds]], [*rows, ["geometric mean", *means]])
 
 
@@ -158,7 +159,7 @@ def growth(figures):
 def spread(figures):
     """How far apart the quartiles of the ratios of times are, as a part of the median: the median of this, and the greatest."""
     rows = []
-    for slots in TIMES:
+    for slots in (it for it in TIMES if figures.ratios("time", "basic", it)):
         cells = []
         for kind in PRIMARY + SECONDARY:
             found = [figures.row("time", kind, it.name, slots) for it in operations.operations_of(MAPS[kind])]

@@ -62,7 +62,7 @@ PRIMARY = [
     Operation("retain-all", "RetainAll", "`retain` that keeps all, for each key", each),
     Operation("retain-half", "RetainHalf", "`retain` that keeps half, inserts for the rest", each),
     Operation("clear", "Clear", "`clear`, for each key, and an insert", each),
-    Operation("clear-half", "ClearHalf", "an insert; a removal of each second one, then `clear`", each),
+    Operation("clear-half", "ClearHalf", "an insert, a removal of each second one, and `clear`", each),
     Operation("drain", "Drain", "`drain`, for each key, and an insert", each),
     Operation("clone", "Clone", "`clone`, for each key", each),
     Operation("clone-from", "CloneFrom", "`clone_from` into a new map, for each key", each),
