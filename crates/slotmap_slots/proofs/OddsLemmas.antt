@@ -122,7 +122,7 @@ module _ (n lane : ℕ) (fits : n < 2 ^ 64) (set : bit_at n lane ≡ 1) (below :
 
 -- ---- the next odd version
 -- only a version that is there is odd
-odd_within : (versions : List ℕ) (i : ℕ) → get_or versions i 0 % 2 ≡ 1 → i < length versions
+pub odd_within : (versions : List ℕ) (i : ℕ) → get_or versions i 0 % 2 ≡ 1 → i < length versions
 odd_within versions i odd = elim (dec_lt i (length versions)) [ yes p ↦ p | no p ↦ absurd (let e : get_or versions i 0 ≡ 0 = get_or-eq_default versions 0 (omega arith) in omega arith) ]
 
 module _ (versions : List ℕ) (end index bits : ℕ) (has : HasOdds versions end index bits) where
@@ -235,6 +235,10 @@ next_none versions index within even = record {
   odd = λ v at. absurd (omega (arith, slice_get_within versions (length versions) v at));
 }
 
+-- behind a chunk of which no bit is left
+pub behind_chunk : (versions : List ℕ) (end index bits : ℕ) → HasOdds versions end index bits → bits ≡ 0 → HasOdds versions end index 0
+behind_chunk versions end index bits has none = subst (HasOdds versions end index) none has
+
 -- ---- what is ahead of an iterator
 -- before the first step: the first version is even, the sentinel's
 pub ahead_start : (versions : List ℕ) → 0 < length versions → get_or versions 0 0 % 2 ≡ 0 → IsAhead versions 0 1 0 0
@@ -258,14 +262,10 @@ ahead_behind versions run end index bits past has = record {
 }
 
 module _ (versions : List ℕ) (run end index bits : ℕ) (ahead : IsAhead versions run end index bits) where
-  behind_run : run ≤ index → HasOdds versions end index bits
+  pub behind_run : run ≤ index → HasOdds versions end index bits
   behind_run past = subst (λ m. HasOdds versions end m bits) (let same : max index run ≡ index = omega (arith, past) in same) ahead.behind
 
-  -- behind a chunk of which no bit is left
-  pub behind_chunk : run ≤ index → bits ≡ 0 → HasOdds versions end index 0
-  behind_chunk past none = subst (HasOdds versions end index) none (behind_run past)
-
-  run_next : index < run → IsNextOdd versions index index
+  pub run_next : index < run → IsNextOdd versions index index
   run_next before = record {
     on = omega arith;
     within = omega (arith, odd_within versions index (ahead.odd index (omega arith) before));
@@ -273,7 +273,7 @@ module _ (versions : List ℕ) (run end index bits : ℕ) (ahead : IsAhead versi
     odd = λ v at. ap (λ x. x % 2) (sym (get_or_from_slice_get versions index v 0 at)) ∙ ahead.odd index (omega arith) before;
   }
 
-  run_step : index < run → IsAhead versions run end (index + 1) bits
+  pub run_step : index < run → IsAhead versions run end (index + 1) bits
   run_step before = record {
     odd = λ i from to. ahead.odd i (omega arith) to;
     behind = subst (λ m. HasOdds versions end m bits) (let same : max index run ≡ max (index + 1) run = omega (arith, before) in same) ahead.behind;

@@ -16,7 +16,7 @@ use Rattle.slotmap_slots.specs.declared.layout.Use.TheVariants.{InUse, Free, Det
 use Rattle.slotmap_slots.proofs.ColumnLemmas.{zip-length, zip-at}
 use Rattle.slotmap_core.proofs.General.GatherLemmas.{slice_get-set_other}
 use Rattle.slotmap_core.proofs.General.ListLemmas.{found_within}
-use Rattle.slotmap_slots.proofs.OddsLemmas.{next_none, ahead_start}
+use Rattle.slotmap_slots.proofs.OddsLemmas.{next_none, odd_within, ahead_start}
 use Rattle.slotmap_core.proofs.Places.PlacesLemmas.{key}
 use Rattle.slotmap_slots.proofs.SlotLemmas.{slots_fit}
 use Rattle.slotmap_core.proofs.Places.InOrderLemmas.{entries_from, entries-live}
@@ -157,6 +157,15 @@ next_on {V} {vs} {xs} {i} {left} iterates some {seen} whole {end} found =
     let version = found_within vs end (omega (arith, found.within, ap length whole, to.0.counted, length-pairs end (drop end vs) (drop end xs), length-drop end vs)) in
     let value = found_within xs end (omega (arith, slice_get_within vs end version.0 version.1, iterates.values_length)) in
     comes vs xs end left to.0 i to.1 version.0 value.0 version.1 value.1 (found.odd version.0 (ap (λ vs. slice_get vs end) whole ∙ version.1))
+
+-- a value is left where the version is odd
+pub left_here : {V : Type 0} {vs : List ℕ} {xs : List (Option V)} {i left : ℕ} → IsIter vs xs i left → {seen : List ℕ} → seen ≡ vs → get_or seen i 0 % 2 ≡ 1 → 0 < left
+left_here {V} {vs} {xs} {i} {left} iterates whole odd =
+    let version = found_within vs i (omega (arith, odd_within _ i odd, ap length whole)) in
+    let value = found_within xs i (omega (arith, slice_get_within vs i version.0 version.1, iterates.values_length)) in
+    let is_odd : version.0 % 2 ≡ 1 = ap (λ x. x % 2) (sym (get_or_from_slice_get vs i version.0 0 version.1)) ∙ ap (λ vs. get_or vs i 0 % 2) (sym whole) ∙ odd in
+    let n = comes vs xs i left iterates i refl version.0 value.0 version.1 value.1 is_odd in
+    omega (arith, iterates.counted, ap length n.first)
 
 -- while a value is left, a version is odd
 pub some_left : {V : Type 0} {vs : List ℕ} {xs : List (Option V)} {i left : ℕ} → IsIter vs xs i left → 0 < left → {seen : List ℕ} → seen ≡ vs

@@ -1,6 +1,6 @@
 //! The odd versions of a vector of versions, found 64 at a time.
 
-ghost use Rattle.std.specs.Prelude.{◌≡◌, ◌≢◌, ℕ, ◌+◌, ◌%◌, ◌<◌, ◌≤◌, length, get_or};
+ghost use Rattle.std.specs.Prelude.{◌≡◌, ◌≢◌, ◌↔◌, ℕ, ◌+◌, ◌%◌, ◌<◌, ◌≤◌, length, get_or, IsSome, IfSome};
 ghost use Rattle.std.specs.Int.{bit_at};
 ghost use Rattle.slotmap_slots.specs.Columns.{AllEven, IsNextOdd};
 ghost use Rattle.slotmap_slots.specs.Odds.{AreOdd, IsFound, HasOdds, IsAhead};
@@ -134,20 +134,37 @@ fn take_lowest(versions: &[u32], odds: Odds, _index: usize) -> (usize, Odds)
     (odds.end + lane - CHUNK, Odds { bits, ..odds })
 }
 
-// Returns the first index from `index` on with an odd version, and what is ahead of it. A chunk of
-// odd versions alone is passed as a run, so no step looks at a bit or a version where no slot is
-// vacant. Up to the next multiple of `NEAR` no chunk is looked at while the versions are odd, so the
-// first steps cost little.
+// Returns the first index from `index` on with an odd version, and what is ahead of it, or `None` if
+// no pair is left. Within a run only the index is tested.
 #[inline(always)]
-pub(crate) fn step(versions: &[u32], odds: Odds, index: usize) -> (usize, Odds)
+pub(crate) fn step(versions: &[u32], odds: Odds, index: usize, left: usize) -> Option<(usize, Odds)>
     requires odds { IsAhead versions.now odds.run odds.end index odds.bits }
+    requires some { 0 < left → AllEven versions.now index (length versions.now) → ⊥ }
+    requires here { get_or versions.now index 0 % 2 ≡ 1 → 0 < left }
+    ensures some { IsSome result ↔ 0 < left }
+    ensures next { IfSome result (λ found. IsNextOdd versions.now index found.0) }
+    ensures odds { IfSome result (λ found. IsAhead versions.now found.1.run found.1.end (found.0 + 1) found.1.bits) }
+{
+    if index < odds.run {
+        return Some((index, odds));
+    }
+    if left == 0 {
+        return None;
+    }
+    Some(step_behind_run(versions, odds, index))
+}
+
+// Returns the same behind a run, if an odd version is left. A chunk of odd versions alone is passed
+// as a run, so no step looks at a bit or a version where no slot is vacant. Up to the next multiple
+// of `NEAR` no chunk is looked at while the versions are odd, so the first steps cost little.
+#[inline(always)]
+fn step_behind_run(versions: &[u32], odds: Odds, index: usize) -> (usize, Odds)
+    requires behind { odds.run ≤ index }
+    requires odds { HasOdds versions.now odds.end index odds.bits }
     requires some { AllEven versions.now index (length versions.now) → ⊥ }
     ensures next { IsNextOdd versions.now index result.0 }
     ensures odds { IsAhead versions.now result.1.run result.1.end (result.0 + 1) result.1.bits }
 {
-    if index < odds.run {
-        return (index, odds);
-    }
     if odds.bits != 0 {
         return take_lowest(versions, odds, index);
     }

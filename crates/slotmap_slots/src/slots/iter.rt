@@ -73,10 +73,7 @@ impl<'a, P> Iterator for SlotIter<'a, P> {
 
     #[inline(always)]
     fn next(&mut self) -> Option<(KeyData, &'a P)> {
-        if self.left == 0 {
-            return None;
-        }
-        let (index, odds) = step(self.versions, self.odds, self.index);
+        let (index, odds) = step(self.versions, self.odds, self.index, self.left)?;
         self.odds = odds;
         self.index = index + 1;
         self.left -= 1;
@@ -155,10 +152,7 @@ impl<P: Drop> Iterator for SlotIntoIter<P> {
     ghost remaining = { item_count (λ rest. rest) };
 
     fn next(&mut self) -> Option<(KeyData, P)> {
-        if self.left == 0 {
-            return None;
-        }
-        let (index, odds) = step(&self.versions, self.odds, self.index);
+        let (index, odds) = step(&self.versions, self.odds, self.index, self.left)?;
         self.odds = odds;
         self.index = index + 1;
         self.left -= 1;
