@@ -6,6 +6,7 @@ pub mod FrontsLemmas
 pub mod Circle
 pub mod Views
 pub mod Vacating
+pub mod Joining
 pub mod Taking
 pub mod Maximal
 pub mod StackOrder

@@ -6,15 +6,18 @@ use Rattle.std.specs.List.{FoldsTo}
 use Rattle.std.specs.FinMap as map
 use Rattle.std.proofs.lemmas.Fn.{FoldsTo-push}
 use Rattle.slotmap_core.specs.Key.{Key, key_cmp}
-use Rattle.slotmap_core.specs.Transition.{Removes, with_value}
+use Rattle.slotmap_core.specs.Content.{IsLive}
+use Rattle.slotmap_core.specs.Transition.{Removes}
 use Rattle.slotmap_core.specs.Retain.{Visit, CallsAt, MayCome, seen}
-use Rattle.slotmap_core.proofs.Contents.IndexLemmas.{from_index, from_index-start, none_live, in_from}
+use Rattle.slotmap_core.proofs.Contents.IndexLemmas.{from_index, from_index-start, none_live, in_from, get-remove_other}
+use Rattle.slotmap_core.proofs.General.KeyLemmas.{keys_total, exact_keys}
+use Rattle.slotmap_core.proofs.General.Maps.{in_after_remove}
 use Rattle.slotmap_core.proofs.Contents.OrderLemmas.{entries_none}
 use Rattle.slotmap_core.proofs.General.ListingLemmas.{remove-insert}
 use Rattle.slotmap_core.proofs.Contents.SweepLemmas.{Swept-start}
 use Rattle.slotmap_core.proofs.Several.VisitLemmas.{Visits, Visits-listed, Visits-stay}
 use Rattle.slotmap_core.proofs.Several.KeyedVisits.{Keyed-from_start, Keyed-next, Keyed-same, Keyed-may_come}
-use Rattle.slotmap_hop.specs.HopContent.{HopContent, IsHopContent, IsNextLive, StaysHop, hop_with_value, blocks_without, blocks_without_all}
+use Rattle.slotmap_hop.specs.HopContent.{HopContent, IsHopContent, IsNextLive, IsNextPlace, HasKeyAt, StaysHop, hop_with_value, blocks_without, blocks_without_all}
 use Rattle.slotmap_hop.specs.Retain.{RetainsByIndex, dropped}
 use Rattle.slotmap_hop.proofs.BlocksLeft.{InOrder, InOrder-kept, InOrder-dropped}
 use Rattle.slotmap_hop.proofs.Sweeping.{Sweeping, same_comes, sweep_written, sweep_dropped}
@@ -29,7 +32,17 @@ module _ {F K V : Type 0} (g : Mut F (K × (MutBor V × Unit {0})) (Bool × (Mut
     pub visited : Visits data_of old.content.live visits (from_index index old.content.live) now.content.live
     pub in_order : InOrder data_of old visits index now
 
-  pub retaining_starts : (next : Option K) → IsHopContent old → IsNextLive data_of old.content 0 next → Retaining old next f
+  -- the same, where the index of the next key is known
+  abbrev pub RetainingAt : HopContent V → Option ℕ → F → Type 0
+  RetainingAt now None f' = Retaining now None f'
+  RetainingAt now (Some place) f' = HasKeyAt now.content place × ((k : K) → IsLive now.content (data_of k) → (data_of k).index ≡ place → Retaining now (Some k) f')
+
+  retaining_at : (now : HopContent V) (i : ℕ) (next : Option ℕ) (f' : F) → IsNextPlace now.content i next
+      → ((found : Option K) → IsNextLive data_of now.content i found → Retaining now found f') → RetainingAt now next f'
+  retaining_at now i None f' comes so_far = so_far None comes
+  retaining_at now i (Some place) f' comes so_far = (comes.0, λ k is_live at. so_far (Some k) (is_live, omega (arith, comes.1, at), λ q there from. omega (arith, comes.2 q there from, at)))
+
+  retaining_starts : (next : Option K) → IsHopContent old → IsNextLive data_of old.content 0 next → Retaining old next f
   retaining_starts next well comes = record {
     index = 0;
     sweep = record { swept = Swept-start old.content 0 well.valid; valid = well; comes = comes };
@@ -38,6 +51,9 @@ module _ {F K V : Type 0} (g : Mut F (K × (MutBor V × Unit {0})) (Bool × (Mut
     visited = Keyed-from_start data_of old.content.live;
     in_order = record { ascending = ap (λ m. map.entries m) (sym (from_index-start old.content.live)); blocks = λ ks. refl };
   }
+
+  pub retaining_starts_at : (next : Option ℕ) → IsHopContent old → IsNextPlace old.content 0 next → RetainingAt old next f
+  retaining_starts_at next well comes = retaining_at old 0 next f comes (λ found. retaining_starts found well)
 
   -- the closure may be called for the next key, whose value no call has seen
   pub retaining_may_come : (now : HopContent V) (k : K) (f' : F) → Retaining now (Some k) f'
@@ -50,13 +66,15 @@ module _ {F K V : Type 0} (g : Mut F (K × (MutBor V × Unit {0})) (Bool × (Mut
 
   -- the closure was called for that key, and the key after it was looked for
   module _ (well : IsHopContent old) {x : Visit K V} {now : HopContent V} {f' f'' : F} (call : CallsAt g f' x f'') (so_far : Retaining now (Some x.key) f')
-      (found : map.get now.content.live (data_of x.key) ≡ Some x.before) (next : Option K)
-      (comes : IsNextLive data_of (with_value now.content (data_of x.key) x.after) ((data_of x.key).index + 1) next) where
+      (found : map.get now.content.live (data_of x.key) ≡ Some x.before) where
+    abbrev pub written : HopContent V
+    written = hop_with_value now (data_of x.key) x.after
+
     called : FoldsTo (CallsAt g) f (so_far.visits ++ x ∷ []) f''
     called = FoldsTo-push (CallsAt g) f so_far.visits f' x f'' so_far.calls call
 
-    after : IsNextLive data_of now.content ((data_of x.key).index + 1) next
-    after = (same_comes data_of old now so_far.index x.key so_far.sweep x.after ((data_of x.key).index + 1) next).0 comes
+    after : (next : Option K) → IsNextLive data_of written.content ((data_of x.key).index + 1) next → IsNextLive data_of now.content ((data_of x.key).index + 1) next
+    after next comes = (same_comes data_of old now so_far.index x.key so_far.sweep x.after ((data_of x.key).index + 1) next).0 comes
 
     visited : (live : map.FinMap key_cmp V) → live ≡ cond x.stays (map.insert now.content.live (data_of x.key) x.after) (map.remove now.content.live (data_of x.key))
         → Visits data_of old.content.live (so_far.visits ++ x ∷ []) (from_index ((data_of x.key).index + 1) old.content.live) live
@@ -64,28 +82,45 @@ module _ {F K V : Type 0} (g : Mut F (K × (MutBor V × Unit {0})) (Bool × (Mut
         rw is (Keyed-next data_of old.content.live (λ k q is_live other same. well.valid.apart q k (inl (inl other)) (inl (inl is_live)) same)
         so_far.visits so_far.index now.content.live x so_far.visited so_far.sweep.comes.1 so_far.sweep.comes.2 found)
 
-    pub retaining_kept : x.stays ≡ true → Retaining (hop_with_value now (data_of x.key) x.after) next f''
-    retaining_kept stays = record {
+    retaining_kept : x.stays ≡ true → (next : Option K) → IsNextLive data_of written.content ((data_of x.key).index + 1) next → Retaining written next f''
+    retaining_kept stays next comes = record {
       index = (data_of x.key).index + 1;
-      sweep = sweep_written data_of old now so_far.index x.key so_far.sweep x.after next after;
+      sweep = sweep_written data_of old now so_far.index x.key so_far.sweep x.after next (after next comes);
       visits = so_far.visits ++ x ∷ [];
       calls = called;
       visited = visited _ (rw stays refl);
-      in_order = InOrder-kept data_of old now so_far.visits so_far.index so_far.in_order well so_far.visited x so_far.sweep.comes found (hop_with_value now (data_of x.key) x.after) stays refl refl;
+      in_order = InOrder-kept data_of old now so_far.visits so_far.index so_far.in_order well so_far.visited x so_far.sweep.comes found written stays refl refl;
     }
 
-    pub retaining_dropped : (new : HopContent V) → x.stays ≡ false → Removes (with_value now.content (data_of x.key) x.after) (data_of x.key) new.content
-        → new.blocks ≡ blocks_without (hop_with_value now (data_of x.key) x.after) (data_of x.key) → StaysHop (hop_with_value now (data_of x.key) x.after) new → Retaining new next f''
-    retaining_dropped new stays removes blocks keeps = record {
+    pub retaining_kept_at : (next : Option ℕ) → IsNextPlace written.content ((data_of x.key).index + 1) next → x.stays ≡ true → RetainingAt written next f''
+    retaining_kept_at next comes stays = retaining_at written ((data_of x.key).index + 1) next f'' comes (retaining_kept stays)
+
+    retaining_dropped : (new : HopContent V) → x.stays ≡ false → Removes written.content (data_of x.key) new.content
+        → new.blocks ≡ blocks_without written (data_of x.key) → StaysHop written new
+        → (next : Option K) → IsNextLive data_of written.content ((data_of x.key).index + 1) next → Retaining new next f''
+    retaining_dropped new stays removes blocks keeps next comes = record {
       index = (data_of x.key).index + 1;
-      sweep = sweep_dropped data_of old now so_far.index x.key so_far.sweep x.after new next after removes keeps;
+      sweep = sweep_dropped data_of old now so_far.index x.key so_far.sweep x.after new next (after next comes) removes keeps;
       visits = so_far.visits ++ x ∷ [];
       calls = called;
       visited = visited _ (removes.live ∙ remove-insert now.content.live (data_of x.key) x.after ∙ rw stays refl);
       in_order =
           InOrder-dropped data_of old now so_far.visits so_far.index so_far.in_order well so_far.visited x so_far.sweep.comes found
-          (hop_with_value now (data_of x.key) x.after) new stays refl refl removes blocks;
+          written new stays refl refl removes blocks;
     }
+
+    pub retaining_dropped_at : (new : HopContent V) (next : Option ℕ) → IsNextPlace written.content ((data_of x.key).index + 1) next → x.stays ≡ false → Removes written.content (data_of x.key) new.content
+        → new.blocks ≡ blocks_without written (data_of x.key) → StaysHop written new → RetainingAt new next f''
+    retaining_dropped_at new None comes stays removes blocks keeps = retaining_dropped new stays removes blocks keeps None comes
+    retaining_dropped_at new (Some place) comes stays removes blocks keeps =
+        let k = data_of x.key in
+        let there = comes.0 in
+        let other = get-remove_other written.content.live k there.0 (λ same. absurd (omega (arith, comes.1, there.2, ap (λ q. q.index) same))) in (
+          (there.0, ap is_some (ap (λ m. map.get m there.0) removes.live ∙ other) ∙ there.1, there.2),
+          λ q is_live at.
+          let was = in_after_remove keys_total exact_keys written.content.live k (data_of q) (sym (ap (λ m. map.contains_key m (data_of q)) removes.live) ∙ is_live) in
+          retaining_dropped new stays removes blocks keeps (Some q) (was.1, omega (arith, comes.1, at), λ p is from. omega (arith, comes.2 p is from, at)),
+        )
 
   -- no key is left
   pub retaining_ends : (now : HopContent V) (f' : F) → Retaining now None f' → RetainsByIndex g data_of f old now

@@ -30,6 +30,10 @@ abbrev pub indices_left : {K : Type 0} → (K → Key) → Option K → ℕ
 indices_left data_of None = 0
 indices_left data_of (Some k) = 2 ^ 32 - (data_of k).index
 
+abbrev pub places_left : Option ℕ → ℕ
+places_left None = 0
+places_left (Some place) = 2 ^ 32 - place
+
 -- a loop over the live keys that finds the next key before it removes the present one
 module _ {K V : Type 0} (data_of : K → Key) where
   -- between old and now, all keys below the index were visited

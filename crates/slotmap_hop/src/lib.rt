@@ -45,7 +45,7 @@ mod retain;
 pub use drain::Drain;
 pub use into_iter::IntoIter;
 pub use iter::{Iter, Keys, Values};
-use links::{Slot, lone_slot};
+use links::{Slot, sentinel};
 use slotmap_core::errors::ReserveError;
 use slotmap_core::keys::{DefaultKey, Key};
 use slotmap_core::limits::MOST_KEYS;
@@ -184,7 +184,7 @@ impl<K: Key, V: Drop> HopSlotMap<K, V> {
             return Err(ReserveError::TooGreat);
         }
         let mut slots = Vec::with_capacity(alloc, capacity + 1)?;
-        slots.push_reserved(lone_slot(0, 0));
+        slots.push_reserved(sentinel());
         Ok(HopSlotMap {
             slots,
             vacant_count: 0,

@@ -13,7 +13,7 @@ ghost use Rattle.slotmap_core.specs.Written.{Writes, WritesClones, IsRecordClone
 ghost use Rattle.std.specs.FinMap as map;
 
 use crate::HopSlotMap;
-use crate::links::{Slot, lone_slot, open_last, used_up_slot};
+use crate::links::{Slot, open_slot, sentinel, used_up_slot};
 use slotmap_core::errors::{OutOfMemory, SlotsError};
 use slotmap_core::keys::Key;
 use slotmap_core::limits::LIST_LIMIT;
@@ -137,7 +137,7 @@ impl<K: Key, V: Drop> HopSlotMap<K, V> {
         let mut slots = Vec::with_capacity(alloc, list.len())?;
         let mut records = list.into_iter();
         records.next();
-        slots.push_reserved(lone_slot(0, 0));
+        slots.push_reserved(sentinel());
         let mut vacant_count = 0;
         let mut live_count = 0;
         for slot in records {
@@ -147,7 +147,7 @@ impl<K: Key, V: Drop> HopSlotMap<K, V> {
             slots.push_reserved(slot_from(version, value));
             if is_vacant(version) {
                 vacant_count += 1;
-                open_last(slots.as_mut_slice(), index, version);
+                open_slot(slots.as_mut_slice(), index, version);
             }
         }
         Ok(HopSlotMap {

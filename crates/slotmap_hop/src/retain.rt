@@ -3,9 +3,9 @@
 ghost use Rattle.std.specs.Prelude.{◌≡◌, ◌+◌, ◌<◌, Some, IfSome, IfNone};
 ghost use Rattle.std.specs.FinMap as map;
 ghost use Rattle.slotmap_core.specs.Content.{IsLive};
-ghost use Rattle.slotmap_core.specs.Transition.{Removes, Leaves};
+ghost use Rattle.slotmap_core.specs.Transition.{Leaves};
 ghost use Rattle.slotmap_core.specs.Retain.{RetainsBy, CallableOnEach};
-ghost use Rattle.slotmap_hop.specs.HopContent.{IsHopContent, IsNextLive, MayStand, StaysHop, blocks_without};
+ghost use Rattle.slotmap_hop.specs.HopContent.{IsHopContent, IsNextLive, IsNextPlace, HasKeyAt, MayStand, StaysHop};
 ghost use Rattle.slotmap_hop.specs.Retain.{RetainsByIndex};
 ghost use Rattle.slotmap_hop.specs.Iter.{CanGoOn, FindsSlot, FindsNone, ReadsOnTheWay, ReadsToTheEnd};
 
@@ -38,16 +38,35 @@ fn find_live<'a, V>(counted: &mut CountedSlots<'a, V>, start: u32) -> Option<(u3
 }
 
 impl<K: Key, V: Drop> HopSlotMap<K, V> {
+    // Returns the smallest index of a live key, from this one on.
+    pub(crate) fn first_place(&self, start: u32) -> Option<u32>
+        requires { MayStand self.now.content start }
+        ensures comes { IsNextPlace self.now.content start result }
+        ensures valid { IsHopContent self.now }
+    {
+        self.note_valid();
+        let mut counted = CountedSlots::new(self.slots.as_slice());
+        let (place, _) = find_live(&mut counted, start)?;
+        Some(place)
+    }
+
+    // Returns the live key of this index.
+    pub(crate) fn key_at(&self, place: u32) -> K
+        requires { HasKeyAt self.now.content place }
+        ensures live { IsLive self.now.content (K.data_of result) }
+        ensures index { (K.data_of result).index ≡ place }
+    {
+        K::from(KeyData::exact(place, self.slots[place as usize].version()))
+    }
+
     // Returns the live key with the smallest index from this one on.
     pub(crate) fn first_live(&self, start: u32) -> Option<K>
         requires { MayStand self.now.content start }
         ensures comes { IsNextLive K.data_of self.now.content start result }
         ensures valid { IsHopContent self.now }
     {
-        self.note_valid();
-        let mut counted = CountedSlots::new(self.slots.as_slice());
-        let (place, slot) = find_live(&mut counted, start)?;
-        Some(K::from(KeyData::exact(place, slot.version())))
+        let place = self.first_place(start)?;
+        Some(self.key_at(place))
     }
 
     // Returns the live key after this one, which is the first one. There are others, so its search
@@ -64,17 +83,6 @@ impl<K: Key, V: Drop> HopSlotMap<K, V> {
         let start = key.data().idx() as usize + 1;
         let (place, slot) = next_live(&mut counted, start);
         K::from(KeyData::exact(place as u32, slot.version()))
-    }
-
-    // Removes a live key, and drops its value. Not inlined, so that the loop of `retain` is small.
-    #[inline(never)]
-    fn reject(&mut self, key: K)
-        requires { IsLive self.old.content (K.data_of key) }
-        ensures removes { Removes self.old.content (K.data_of key) self.new.content }
-        ensures blocks { self.new.blocks ≡ blocks_without self.old (K.data_of key) }
-        ensures valid { StaysHop self.old self.new }
-    {
-        self.take_live(key);
     }
 
     /// Calls a closure once for each live key, and removes the keys for which it returns `false`.
@@ -98,13 +106,15 @@ impl<K: Key, V: Drop> HopSlotMap<K, V> {
         ensures leaves { Leaves self.old.content self.new.content }
         ensures valid { StaysHop self.old self.new }
     {
-        let mut next = self.first_live(0);
-        while let Some(key) = next {
+        let mut next = self.first_place(0);
+        while let Some(place) = next {
+            let key = self.key_at(place);
             let stays = f(key, self.get_unchecked_mut(key));
-            // The key after this one is looked for first, because a removal may join blocks.
-            next = self.first_live(key.data().idx() + 1);
+            // The slot after this one is looked for first, because a removal may join blocks. From
+            // the key its index would wait for the version, which a key is packed with.
+            next = self.first_place(place + 1);
             if !stays {
-                self.reject(key);
+                self.take_live(key);
             }
         }
     }

@@ -23,7 +23,7 @@ loop-slot-init g c =
         first = taken.0;
         all = whole;
         left_is = omega (arith, taken.2, ap length whole, c.into_iter-records.ensures.len, list.ok.0);
-        read = rw (c.push_reserved.ensures.items, made.items, c.lone_slot.ensures) (AreRead-first taken.0);
+        read = rw (c.push_reserved.ensures.items, made.items, c.sentinel.ensures) (AreRead-first taken.0);
         few_vacant = omega arith;
         few_elems = omega arith;
       };
@@ -33,15 +33,18 @@ loop-slot-init g c =
 with_next : (g : _) (c : After-push_reserved-in-loop-slot g) → c.push_reserved-in-loop-slot.new.self.items ≡ with_slot _ _ _ _ c.loop-slot.invariant.reading.read c.in-Some.slot
 with_next g c = c.push_reserved-in-loop-slot.ensures.items ∙ ap (λ s. c.loop-slot.slots.items ++ s ∷ []) c.slot_from.ensures
 
-pub open_last-requires-clause-can : goal.open_last-requires-clause-can
-open_last-requires-clause-can g c =
+pub open_slot-requires : goal.open_slot-requires
+open_slot-requires g c =
     let at = c.loop-slot in
-    let short = (accepted g (goal.at.open_last-requires-clause-can g c).In_ok-check_slots).short in
-    let next = with_next g (goal.at.open_last-requires-clause-can g c).After-push_reserved-in-loop-slot in
+    let short = (accepted g (goal.at.open_slot-requires g c).In_ok-check_slots).short in
+    let next = with_next g (goal.at.open_slot-requires g c).After-push_reserved-in-loop-slot in
     let reading = at.invariant.reading in
     let count = read_count _ _ _ _ reading.read in
-    rw (c.as_mut_slice.ensures.value, next, c.len-index.ensures, at.slots.ok.0)
-    (can_open _ _ _ _ reading.read c.in-Some.slot (omega arith) (omega (arith, short, reading_counted _ _ _ _ _ _ _ reading, c.in-Some.ensures.steps.1)))
+    record {
+      can =
+          rw (c.as_mut_slice.ensures.value, next, c.len-index.ensures, at.slots.ok.0)
+          (can_open _ _ _ _ reading.read c.in-Some.slot (omega arith) (omega (arith, short, reading_counted _ _ _ _ _ _ _ reading, c.in-Some.ensures.steps.1)));
+    }
 
 pub loop-slot-preserved-then-is_vacant : goal.loop-slot-preserved-then-is_vacant
 loop-slot-preserved-then-is_vacant g c =
@@ -52,14 +55,14 @@ loop-slot-preserved-then-is_vacant g c =
     let accepts = accepted g (goal.at.loop-slot-preserved-then-is_vacant g c).In_ok-check_slots in
     let next = with_next g (goal.at.loop-slot-preserved-then-is_vacant g c).After-push_reserved-in-loop-slot in
     let m = c.push_reserved-in-loop-slot.new.self in
-    let after = rw (c.as_mut_slice.ensures.value, next, c.len-index.ensures, at.slots.ok.0) at c.open_last.ensures.places in
-    let joined = rw (c.as_mut_slice.ensures.value, next, c.len-index.ensures, at.slots.ok.0) at c.open_last.ensures.blocks.are in
-    let items = with_items_is m c.open_last.new.slots (same_length _ _ _ _ after ∙ ap length (sym next) ∙ sym m.ok.0) in
+    let after = rw (c.as_mut_slice.ensures.value, next, c.len-index.ensures, at.slots.ok.0) at c.open_slot.ensures.places in
+    let joined = rw (c.as_mut_slice.ensures.value, next, c.len-index.ensures, at.slots.ok.0) at c.open_slot.ensures.blocks.are in
+    let items = with_items_is m c.open_slot.new.slots (same_length _ _ _ _ after ∙ ap length (sym next) ∙ sym m.ok.0) in
     record {
       reading =
           rw items (reading_on _ _ _ _ _ _ _ reading slot _ _ steps.0 steps.1 4294967295 accepts _ _ (omega arith)
-          (λ consistent. AreRead-vacant _ _ _ _ reading.read slot consistent (omega arith) c.open_last.new.slots (sym c.is_vacant.ensures ∙ c.if-is_vacant.true)
-          c.open_last.ensures.blocks.list joined after));
+          (λ consistent. AreRead-vacant _ _ _ _ reading.read slot consistent (omega arith) c.open_slot.new.slots (sym c.is_vacant.ensures ∙ c.if-is_vacant.true)
+          c.open_slot.ensures.blocks.list joined after));
       room = omega (arith, at.invariant.room, steps.1, c.push_reserved-in-loop-slot.ensures.len, c.push_reserved-in-loop-slot.ensures.capacity);
     }
 

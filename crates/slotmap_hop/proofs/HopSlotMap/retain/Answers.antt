@@ -1,39 +1,44 @@
 use Rattle.std.proofs.Common.{Some, ◌∙◌}
 use Rattle.slotmap_core.proofs.Contents.LeaveLemmas.{same_live}
 use Rattle.slotmap_core.proofs.Several.VisitLemmas.{CallsAt-called}
-use Rattle.slotmap_hop.proofs.Retaining.{Retaining, retaining_starts, retaining_may_come, retaining_kept, retaining_dropped, retaining_ends}
-use Rattle.slotmap_hop.proofs.HopSlotMap.retain.Goals.{In-Some}
+use Rattle.slotmap_hop.proofs.Retaining.{Retaining, RetainingAt, retaining_starts_at, retaining_may_come, retaining_kept_at, retaining_dropped_at, retaining_ends}
+use Rattle.slotmap_hop.proofs.HopSlotMap.retain.Goals.{In-Some, After-key_at-key}
 use Rattle.slotmap_hop.proofs.HopSlotMap.retain.Goals as goal
 
 pub loop-next-init : goal.loop-next-init
-loop-next-init g c = retaining_starts g.F.FnMut g.K.Key.data_of c.args.self.now c.args.f _ c.first_live-next.ensures.valid c.first_live-next.ensures.comes
+loop-next-init g c = retaining_starts_at g.F.FnMut g.K.Key.data_of c.args.self.now c.args.f _ c.first_place-next.ensures.valid c.first_place-next.ensures.comes
 
-so_far : (g : _) (c : In-Some g) → Retaining g.F.FnMut g.K.Key.data_of c.args.self.now c.args.f c.loop-next.self (Some c.in-Some.key) c.loop-next.f
-so_far g c = rw c.in-Some.is at c.loop-next.invariant
+at_place : (g : _) (c : In-Some g) → RetainingAt g.F.FnMut g.K.Key.data_of c.args.self.now c.args.f c.loop-next.self (Some c.in-Some.place) c.loop-next.f
+at_place g c = rw c.in-Some.is at c.loop-next.invariant
+
+pub key_at-key-requires : goal.key_at-key-requires
+key_at-key-requires g c = (at_place g (goal.at.key_at-key-requires g c).In-Some).0
+
+so_far : (g : _) (c : After-key_at-key g) → Retaining g.F.FnMut g.K.Key.data_of c.args.self.now c.args.f c.loop-next.self (Some c.key_at-key.result) c.loop-next.f
+so_far g c = (at_place g (goal.at.After-key_at-key g c).In-Some).1 c.key_at-key.result c.key_at-key.ensures.live c.key_at-key.ensures.index
 
 pub f-stays-requires : goal.f-stays-requires
 f-stays-requires g c =
-    let comes = retaining_may_come _ _ _ _ _ _ _ (so_far g (goal.at.f-stays-requires g c).In-Some) in
-    c.requires.at c.loop-next.f c.in-Some.key _ comes.0 (comes.1 ∙ c.get_unchecked_mut.ensures.value)
+    let comes = retaining_may_come _ _ _ _ _ _ _ (so_far g (goal.at.f-stays-requires g c).After-key_at-key) in
+    c.requires.at c.loop-next.f c.key_at-key.result _ comes.0 (comes.1 ∙ c.get_unchecked_mut.ensures.value)
 
-pub reject-requires : goal.reject-requires
-reject-requires g c =
-    let key = g.K.Key.data_of c.in-Some.key in
-    let is_live = (so_far g (goal.at.reject-requires g c).In-Some).sweep.comes.0 in
-    same_live c.loop-next.self.content key c.f-stays.new.arg3 is_live key ∙ is_live
+pub take_live-requires : goal.take_live-requires
+take_live-requires g c =
+    let key = g.K.Key.data_of c.key_at-key.result in
+    same_live c.loop-next.self.content key c.f-stays.new.arg3 c.key_at-key.ensures.live key ∙ c.key_at-key.ensures.live
 
 pub loop-next-preserved-then-not-stays : goal.loop-next-preserved-then-not-stays
 loop-next-preserved-then-not-stays g c =
-    let comes = rw (c.idx.ensures.value, c.data.ensures.value) at c.first_live-next-in-Some.ensures.comes in
-    let took = c.reject.ensures in
-    retaining_dropped g.F.FnMut g.K.Key.data_of c.args.self.now c.args.f c.first_live-next.ensures.valid (CallsAt-called g.F.FnMut c.f-stays.ensures)
-    (so_far g (goal.at.loop-next-preserved-then-not-stays g c).In-Some) c.get_unchecked_mut.ensures.value _ comes c.reject.new.self c.if-not-stays.true took.removes took.blocks took.valid
+    let comes = rw (← c.key_at-key.ensures.index) at c.first_place-next-in-Some.ensures.comes in
+    let took = c.take_live.ensures in
+    retaining_dropped_at g.F.FnMut g.K.Key.data_of c.args.self.now c.args.f c.first_place-next.ensures.valid (CallsAt-called g.F.FnMut c.f-stays.ensures)
+    (so_far g (goal.at.loop-next-preserved-then-not-stays g c).After-key_at-key) c.get_unchecked_mut.ensures.value c.take_live.new.self _ comes c.if-not-stays.true took.removes took.blocks took.valid
 
 pub loop-next-preserved : goal.loop-next-preserved
 loop-next-preserved g c =
-    let comes = rw (c.idx.ensures.value, c.data.ensures.value) at c.first_live-next-in-Some.ensures.comes in
-    retaining_kept g.F.FnMut g.K.Key.data_of c.args.self.now c.args.f c.first_live-next.ensures.valid (CallsAt-called g.F.FnMut c.f-stays.ensures)
-    (so_far g (goal.at.loop-next-preserved g c).In-Some) c.get_unchecked_mut.ensures.value _ comes c.if-not-stays.false
+    let comes = rw (← c.key_at-key.ensures.index) at c.first_place-next-in-Some.ensures.comes in
+    retaining_kept_at g.F.FnMut g.K.Key.data_of c.args.self.now c.args.f c.first_place-next.ensures.valid (CallsAt-called g.F.FnMut c.f-stays.ensures)
+    (so_far g (goal.at.loop-next-preserved g c).After-key_at-key) c.get_unchecked_mut.ensures.value _ comes c.if-not-stays.false
 
 pub returns-clause-by_index : goal.returns-clause-by_index
 returns-clause-by_index g c = retaining_ends g.F.FnMut g.K.Key.data_of c.args.self.now c.args.f _ _ (rw c.in_default.is at c.loop-next.invariant)

@@ -1,9 +1,9 @@
-use Rattle.slotmap_hop.proofs.Sweeping.{indices_left}
-use Rattle.slotmap_hop.proofs.Retaining.{Retaining}
+use Rattle.slotmap_hop.proofs.Sweeping.{places_left}
+use Rattle.slotmap_hop.proofs.Retaining.{RetainingAt}
 use Rattle.slotmap_hop.proofs.HopSlotMap.retain.Given as goal
 
 abbrev pub invariant-loop-next : goal.invariant-loop-next
-invariant-loop-next g l = Retaining g.F.FnMut g.K.Key.data_of l.fn.self l.fn.f l.self l.next l.f
+invariant-loop-next g l = RetainingAt g.F.FnMut g.K.Key.data_of l.fn.self l.fn.f l.self l.next l.f
 
 abbrev pub decreases-loop-next : goal.decreases-loop-next
-decreases-loop-next g l = indices_left g.K.Key.data_of l.next
+decreases-loop-next g l = places_left l.next

@@ -6,19 +6,19 @@ use Rattle.slotmap_hop.proofs.SlotLemmas.{valid}
 use Rattle.slotmap_hop.proofs.HopSlotMap.with_capacity_and_key.Goals as goal
 
 pub invariant_of-result : goal.invariant_of-result
-invariant_of-result g c = rw (c.push_reserved.ensures.items, c.in_ok-slots.ensures.items, c.lone_slot.ensures) (IsSound-new g.row.V.Denot)
+invariant_of-result g c = rw (c.push_reserved.ensures.items, c.in_ok-slots.ensures.items, c.sentinel.ensures) (IsSound-new g.row.V.Denot)
 
 pub returns-clause-starts : goal.returns-clause-starts
 returns-clause-starts g c =
-    rw (c.push_reserved.ensures.items, c.in_ok-slots.ensures.items, c.lone_slot.ensures)
+    rw (c.push_reserved.ensures.items, c.in_ok-slots.ensures.items, c.sentinel.ensures)
     (let none = sentinel_alone _ 1 in record { live = none.0; detached = none.1; retired = none.2; next = none.3 })
 
 pub returns-clause-blocks : goal.returns-clause-blocks
-returns-clause-blocks g c = rw (c.push_reserved.ensures.items, c.in_ok-slots.ensures.items, c.lone_slot.ensures) (refl, refl)
+returns-clause-blocks g c = rw (c.push_reserved.ensures.items, c.in_ok-slots.ensures.items, c.sentinel.ensures) (refl, refl)
 
 pub returns-clause-room : goal.returns-clause-room
 returns-clause-room g c =
-    rw (c.push_reserved.ensures.items, c.in_ok-slots.ensures.items, c.lone_slot.ensures)
+    rw (c.push_reserved.ensures.items, c.in_ok-slots.ensures.items, c.sentinel.ensures)
     (omega (arith, used_places-sentinel g.row.V.Denot, c.push_reserved.ensures.capacity, c.in_ok-slots.ensures.capacity, c.if-capacity-gt-MOST_KEYS.false))
 
 pub returns-clause-valid : goal.returns-clause-valid
