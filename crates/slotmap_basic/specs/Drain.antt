@@ -7,6 +7,7 @@ use Rattle.slotmap_core.specs.Content.{Content}
 use Rattle.slotmap_core.specs.Draining.{KeepsLoan}
 use Rattle.slotmap_core.specs.Listing.{NoneBelow}
 use Rattle.slotmap_core.specs.Transition.{TakesPair, TakesFirst, EmptiesByIndex}
+use Rattle.slotmap_slots.specs.Ahead.{AreOddsOf}
 use Rattle.slotmap_basic.specs.declared.drain.Drain.{Drain}
 
 module _ {K V : Type 0} where
@@ -18,9 +19,10 @@ module _ {K V : Type 0} where
   abbrev pub drain_live : Drain K V → map.FinMap key_cmp V
   drain_live d = d.map.now.live
 
-  -- no key at an index before that of the drain is live
-  abbrev pub DrainCanStep : Drain K V → Type 0
-  DrainCanStep d = NoneBelow (drain_live d) d.index
+  -- no key at an index before that of the drain is live, and what it knows of the others is so
+  pub record DrainCanStep (d : Drain K V) : Type 0 where
+    pub above : NoneBelow (drain_live d) d.odds.index
+    pub odds : AreOddsOf d.map.now d.odds
 
   -- `next` took old to new, and yielded the item
   abbrev pub DrainSteps : (K → Key) → Drain K V → Option (K × V) → Drain K V → Type 0

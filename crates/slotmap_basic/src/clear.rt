@@ -48,9 +48,8 @@ impl<K: Key, V: Drop> SlotMap<K, V> {
         ensures valid { IsContent true self.now }
     {
         out.reserve(self.len())?;
-        let mut index = 0;
-        while let Some(key) = self.live_from(index) {
-            index = key.data().idx() as usize + 1;
+        let mut odds = self.slots.odds_from(0);
+        while let Some(key) = self.next_live(&mut odds) {
             out.push_reserved(key);
         }
         Ok(())
@@ -79,9 +78,8 @@ impl<K: Key, V: Drop> SlotMap<K, V> {
         ensures valid { StaysValid true self.old self.new }
     {
         out.reserve(self.len())?;
-        let mut index = 0;
-        while let Some(key) = self.live_from(index) {
-            index = key.data().idx() as usize + 1;
+        let mut odds = self.slots.odds_from(0);
+        while let Some(key) = self.next_live(&mut odds) {
             let value = self.take_live(key);
             out.push_reserved((key, value));
         }

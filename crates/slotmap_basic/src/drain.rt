@@ -7,6 +7,7 @@ ghost use Rattle.slotmap_core.specs.Transition.{EmptiesByIndex};
 
 use crate::SlotMap;
 use slotmap_core::keys::Key;
+use slotmap_slots::layout::Odds;
 use std::fmt;
 use std::iter::FusedIterator;
 
@@ -16,8 +17,8 @@ use std::iter::FusedIterator;
 /// map is live then.
 pub struct Drain<'a, K: Key, V> {
     map: &'a mut SlotMap<K, V>,
-    // The next slot to look at.
-    index: usize,
+    // Where the next occupied slot is looked for.
+    odds: Odds,
 }
 
 impl<'a, K: Key, V: Drop> Drop for Drain<'a, K, V> {
@@ -27,8 +28,8 @@ impl<'a, K: Key, V: Drop> Drop for Drain<'a, K, V> {
         ensures ends { DrainCanStep self.entry → EmptiesByIndex (drain_loan self.entry).now self.exit.0.now }
         ensures valid { IsContent true self.exit.0.now }
     {
-        let Drain { map, index } = self;
-        map.slots.clear_from(index);
+        let Drain { map, odds } = self;
+        map.slots.clear_from(odds.index());
     }
 }
 
@@ -45,10 +46,8 @@ impl<'a, K: Key, V: Drop> Iterator for Drain<'a, K, V> {
     ghost remaining = { drain_count drain_live };
 
     fn next(&mut self) -> Option<(K, V)> {
-        let index = self.index;
         let map = &mut *self.map;
-        let key = map.live_from(index)?;
-        self.index = key.data().idx() as usize + 1;
+        let key = map.next_live(&mut self.odds)?;
         Some((key, map.take_live(key)))
     }
 
@@ -109,10 +108,7 @@ impl<K: Key, V: Drop> SlotMap<K, V> {
 
         ensures valid { IsContent true self.old }
     {
-        self.slots.note_valid();
-        Drain {
-            map: self,
-            index: 0,
-        }
+        let odds = self.slots.odds_from(0);
+        Drain { map: self, odds }
     }
 }

@@ -1,14 +1,16 @@
 //! Removals, and one step of an iteration over the slots.
 
-ghost use Rattle.std.specs.Prelude.{◌≡◌, ◌<◌, ◌≤◌, OnSome, IfNone, IfSome, Some, true};
+ghost use Rattle.std.specs.Prelude.{◌≡◌, ◌+◌, ◌<◌, ◌≤◌, OnSome, IfNone, IfSome, Some, true};
 ghost use Rattle.std.specs.FinMap as map;
 ghost use Rattle.slotmap_core.specs.Key.{Key as KeyOf};
 ghost use Rattle.slotmap_core.specs.Content.{IsContent, IsLive};
 ghost use Rattle.slotmap_core.specs.Transition.{Removes};
 ghost use Rattle.slotmap_core.specs.Call.{StaysValid};
+ghost use Rattle.slotmap_slots.specs.Ahead.{AreOddsOf};
 
 use crate::SlotMap;
 use slotmap_core::keys::Key;
+use slotmap_slots::layout::Odds;
 
 impl<K: Key, V: Drop> SlotMap<K, V> {
     /// Removes a live key and returns its value, or `None` if the key isn't live.
@@ -42,17 +44,30 @@ impl<K: Key, V: Drop> SlotMap<K, V> {
         self.slots.take(key.data())
     }
 
-    // Returns the live key with the smallest index from `start` on.
+    // Removes a live key, and drops its value. Not inlined, so that the loop of `retain` is small.
+    #[inline(never)]
+    pub(crate) fn reject(&mut self, key: K)
+        requires { IsLive self.old (K.data_of key) }
+        ensures removes { Removes self.old (K.data_of key) self.new }
+        ensures valid { StaysValid true self.old self.new }
+    {
+        self.take_live(key);
+    }
+
+    // Returns the next live key of a loop, by ascending index.
     #[inline(always)]
-    pub(crate) fn live_from(&self, start: usize) -> Option<K>
+    pub(crate) fn next_live(&self, odds: &mut Odds) -> Option<K>
+        requires { AreOddsOf self.now odds.old }
         ensures live { IfSome result (λ key.
-            IsLive self.now (K.data_of key) × (start ≤ (K.data_of key).index)) }
+            IsLive self.now (K.data_of key) × (odds.old.index ≤ (K.data_of key).index)) }
         ensures first { IfSome result (λ key. (other : KeyOf) → IsLive self.now other →
-            start ≤ other.index → (K.data_of key).index ≤ other.index) }
-        ensures none { IfNone result ((other : KeyOf) → IsLive self.now other → other.index < start) }
+            odds.old.index ≤ other.index → (K.data_of key).index ≤ other.index) }
+        ensures on { IfSome result (λ key. odds.new.index ≡ (K.data_of key).index + 1) }
+        ensures none { IfNone result ((other : KeyOf) → IsLive self.now other → other.index < odds.old.index) }
+        ensures odds { AreOddsOf self.now odds.new }
         ensures valid { IsContent true self.now }
     {
-        let data = self.slots.live_from(start)?;
+        let data = self.slots.next_live(odds)?;
         Some(K::from(data))
     }
 }

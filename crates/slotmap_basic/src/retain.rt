@@ -30,15 +30,12 @@ impl<K: Key, V: Drop> SlotMap<K, V> {
         ensures order { FreesByIndex self.old self.new }
         ensures valid { StaysValid true self.old self.new }
     {
-        self.slots.note_valid();
-        let mut index = 0;
-        loop {
-            index = self.slots.first_rejected(index, &mut f);
-            let Some(key) = self.live_from(index) else {
-                break;
-            };
-            self.take_live(key);
-            index += 1;
+        let mut odds = self.slots.odds_from(0);
+        while let Some(key) = self.next_live(&mut odds) {
+            let stays = f(key, self.get_unchecked_mut(key));
+            if !stays {
+                self.reject(key);
+            }
         }
     }
 }

@@ -6,4 +6,3 @@ pub mod Rest
 pub mod Drain
 pub mod IterMut
 pub mod Retain
-pub mod Pass

@@ -3,7 +3,7 @@
 use Rattle.std.proofs.Common.{◌≡◌, ℕ, zero, suc, ◌<◌, ◌≤◌, ◌%◌, List, [], ◌∷◌, ◌++◌, length, set, slice_get, get_or, Option, None, Some, IsSome, option_and_then, refl, sym, ap, subst, ◌∙◌, arith}
 use Rattle.std.proofs.lemmas.Grind.{get_or_default_zero}
 use Rattle.std.proofs.lemmas.Option.{slice_get_read, slice_get_past}
-use Rattle.slotmap_slots.specs.Slot.{SlotList, version_at, usage_at, next_at, next_of, payload_at, with_payload}
+use Rattle.slotmap_slots.specs.Slot.{SlotList, versions_of, version_at, usage_at, next_at, next_of, payload_at, with_payload}
 use Rattle.slotmap_slots.specs.Columns.{zip_slots, IsColumns}
 use Rattle.slotmap_slots.specs.Numbers.{use_of, uses_of}
 use Rattle.slotmap_slots.specs.declared.layout.Use.{Use}
@@ -28,6 +28,11 @@ module _ {P : Type 0} where
   zip-reads (v ∷ vs) (l ∷ ls) (x ∷ xs) zero same_l same_x = (refl, refl, refl)
   zip-reads (v ∷ vs) (l ∷ ls) (x ∷ xs) (suc i) same_l same_x = zip-reads vs ls xs i (omega arith) (omega arith)
   zip-reads vs ls xs i same_l same_x = absurd (omega arith)
+
+  pub zip-versions : (vs : List ℕ) (ls : List Use) (xs : List (Option P)) → length ls ≡ length vs → length xs ≡ length vs → versions_of (zip_slots vs ls xs) ≡ vs
+  zip-versions [] ls xs same_l same_x = refl
+  zip-versions (v ∷ vs) (l ∷ ls) (x ∷ xs) same_l same_x = ap (λ ws. v ∷ ws) (zip-versions vs ls xs (omega arith) (omega arith))
+  zip-versions (v ∷ vs) ls xs same_l same_x = absurd (omega arith)
 
   zip-within : (vs : List ℕ) (ls : List Use) (xs : List (Option P)) (i : ℕ) → IsSome (payload_at (zip_slots vs ls xs) i) → i < length vs
   zip-within (v ∷ vs) (l ∷ ls) (x ∷ xs) zero some = omega arith
@@ -90,6 +95,10 @@ module _ {P : Type 0} where
 pub slot_list-length : {P : Type 0} {vs ns : List ℕ} {xs : List (Option P)} {n a b d : ℕ} → IsColumns vs ns xs n a b d → {l : SlotList P}
     → record { slots = zip_slots vs (uses_of vs ns) xs; capacity = n } ≡ l → (length l.slots ≡ length vs) × (l.capacity ≡ n)
 slot_list-length {P} {vs} {ns} {xs} columns view = grind (arith, zip-length, uses-length)
+
+pub slot_list-versions : {P : Type 0} {vs ns : List ℕ} {xs : List (Option P)} {n a b d : ℕ} → IsColumns vs ns xs n a b d → {l : SlotList P}
+    → record { slots = zip_slots vs (uses_of vs ns) xs; capacity = n } ≡ l → versions_of l.slots ≡ vs
+slot_list-versions {P} {vs} {ns} {xs} columns view = ap (λ l. versions_of l.slots) (sym view) ∙ zip-versions vs (uses_of vs ns) xs (uses-length vs ns columns.numbers_length) columns.payloads_length
 
 -- what the tactics need of three vectors of one length, whose uses are numbers
 pub slot_list-known : {P : Type 0} (vs ns : List ℕ) (xs : List (Option P)) → length ns ≡ length vs → length xs ≡ length vs

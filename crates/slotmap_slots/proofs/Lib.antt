@@ -8,5 +8,5 @@ pub mod SlotClones
 pub mod IterClones
 pub mod SettledLemmas
 pub mod FromListLemmas
-pub mod PassLemmas
+pub mod AheadLemmas
 pub mod PairsLemmas

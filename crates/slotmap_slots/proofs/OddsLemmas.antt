@@ -7,8 +7,9 @@ use lib.Bits.{and_mask}
 use lib.ListN.{get_or-eq_default}
 use Rattle.std.proofs.lemmas.Nat.Bits.{bit_at-zero, bit_at-suc, bit_at_lowest, bit_at_and, bit_at_set_same, bit_at_set_other, bit_at_ones}
 use Rattle.std.proofs.lemmas.Option.{get_or_from_slice_get, slice_get_within}
+use Rattle.slotmap_core.proofs.General.ListLemmas.{found_within}
 use Rattle.slotmap_slots.specs.Columns.{AllEven, IsNextOdd}
-use Rattle.slotmap_slots.specs.Odds.{AreOdd, IsFound, HasOdds, IsAhead}
+use Rattle.slotmap_slots.specs.Odds.{AreOdd, AllOdd, IsRun, IsFound, HasOdds, IsAhead}
 
 -- ---- a lane
 not_zero : (r : ℕ) → r < 2 → 1 - cond {A = ℕ} (eqb r 0) 1 0 ≡ r
@@ -169,21 +170,19 @@ module _ (versions : List ℕ) (end index bits : ℕ) (has : HasOdds versions en
         ];
       }
 
-module _ (versions : List ℕ) (end index : ℕ) (has : HasOdds versions end index 0) where
-  -- no version is left in the chunk
-  none_left : AllEven versions index end
-  none_left i v on below at = elim (dec_lt (i + 64) end) [
-    | yes p ↦ has.before i v on p at
-    | no p ↦ even_at versions end index 0 has i v on (omega arith) (omega arith) at (λ k e. bit_at-zero k)
-  ]
+-- no version is left in a chunk of which no bit is left
+pub none_left : (versions : List ℕ) (end index bits : ℕ) → HasOdds versions end index bits → bits ≡ 0 → AllEven versions index end
+none_left versions end index bits has none i v on below at = elim (dec_lt (i + 64) end) [
+  | yes p ↦ has.before i v on p at
+  | no p ↦ even_at versions end index bits has i v on (omega arith) (omega arith) at (λ k e. ap (λ b. bit_at b k) none ∙ bit_at-zero k)
+]
 
-  -- the version after the chunk is odd
-  pub odds_after : end < length versions → ((v : ℕ) → slice_get versions end ≡ Some v → v % 2 ≡ 1) → IsNextOdd versions index end
-  odds_after within odd = record { on = has.upto; within = omega (arith, within); passed = none_left; odd = odd }
+-- even versions are passed
+pub passed_to : (versions : List ℕ) (i j n : ℕ) → AllEven versions i j → AllEven versions j n → AllEven versions i n
+passed_to versions i j n first then k v on below at = elim (dec_lt k j) [ yes p ↦ first k v on p at | no p ↦ then k v (omega arith) below at ]
 
-  -- the chunk ends before the last version, if an odd version is left
-  pub ends_within : (AllEven versions index (length versions) → ⊥) → end < length versions
-  ends_within some = elim (dec_lt end (length versions)) [ yes p ↦ p | no p ↦ absurd (some (λ i v on below at. none_left i v on (omega (arith, below)) at)) ]
+pub next_from : (versions : List ℕ) (i j found : ℕ) → i ≤ j → AllEven versions i j → IsNextOdd versions j found → IsNextOdd versions i found
+next_from versions i j found on even next = record { on = omega (arith, next.on); within = next.within; passed = passed_to versions i j found even next.passed; odd = next.odd }
 
 -- ---- the next chunk
 pub odds_start : (versions : List ℕ) (i : ℕ) → i ≤ length versions → HasOdds versions i i 0
@@ -226,20 +225,7 @@ even_chunk versions end bits odd none i v from below at =
     let k = i + 64 - end in
     ap (λ x. x % 2) (sym (get_or_from_slice_get versions i v 0 at)) ∙ sym (odd i k (omega arith) (omega arith) (omega arith)) ∙ ap (λ b. bit_at b k) none ∙ bit_at-zero k
 
--- where no version is odd from an index on
-pub next_none : (versions : List ℕ) (index : ℕ) → index ≤ length versions → AllEven versions index (length versions) → IsNextOdd versions index (length versions)
-next_none versions index within even = record {
-  on = within;
-  within = omega arith;
-  passed = even;
-  odd = λ v at. absurd (omega (arith, slice_get_within versions (length versions) v at));
-}
-
--- behind a chunk of which no bit is left
-pub behind_chunk : (versions : List ℕ) (end index bits : ℕ) → HasOdds versions end index bits → bits ≡ 0 → HasOdds versions end index 0
-behind_chunk versions end index bits has none = subst (HasOdds versions end index) none has
-
--- ---- what is ahead of an iterator
+-- ---- what is ahead of a loop
 -- before the first step: the first version is even, the sentinel's
 pub ahead_start : (versions : List ℕ) → 0 < length versions → get_or versions 0 0 % 2 ≡ 0 → IsAhead versions 0 1 0 0
 ahead_start versions some even = record {
@@ -255,7 +241,7 @@ ahead_start versions some even = record {
 }
 
 -- behind a run
-ahead_behind : (versions : List ℕ) (run end index bits : ℕ) → run ≤ index → HasOdds versions end index bits → IsAhead versions run end index bits
+pub ahead_behind : (versions : List ℕ) (run end index bits : ℕ) → run ≤ index → HasOdds versions end index bits → IsAhead versions run end index bits
 ahead_behind versions run end index bits past has = record {
   odd = λ j from to. absurd (omega arith);
   behind = subst (λ m. HasOdds versions end m bits) (let same : index ≡ max index run = omega (arith, past) in same) has;
@@ -279,6 +265,27 @@ module _ (versions : List ℕ) (run end index bits : ℕ) (ahead : IsAhead versi
     behind = subst (λ m. HasOdds versions end m bits) (let same : max index run ≡ max (index + 1) run = omega (arith, before) in same) ahead.behind;
   }
 
+pub AllOdd-on : (versions : List ℕ) (start end : ℕ) → AllOdd versions start end → get_or versions end 0 % 2 ≡ 1 → AllOdd versions start (end + 1)
+AllOdd-on versions start end odd one i from to = elim (dec_lt i end) [ yes p ↦ odd i from p | no p ↦ ap (λ j. get_or versions j 0 % 2) (let same : i ≡ end = omega arith in same) ∙ one ]
+
+-- at a run that begins at the index
+ahead_run : (versions : List ℕ) (run index : ℕ) → index < run → AllOdd versions index run → IsAhead versions run run index 0
+ahead_run versions run index some odd = record {
+  odd = odd;
+  behind = subst (λ m. HasOdds versions run m 0) (let same : run ≡ max index run = omega (arith, some) in same)
+      (odds_start versions run (omega (arith, odd_within versions (run - 1) (odd (run - 1) (omega arith) (omega arith)))));
+}
+
+module _ (versions : List ℕ) (at start end : ℕ) (run : IsRun versions at start end) where
+  at_run : IsAhead versions end end start 0
+  at_run = ahead_run versions end start run.some run.odd
+
+  pub run_first : IsNextOdd versions at start
+  run_first = next_from versions at start start run.on run.passed (run_next versions end end start 0 at_run run.some)
+
+  pub run_ahead : IsAhead versions end end (start + 1) 0
+  run_ahead = run_step versions end end start 0 at_run run.some
+
 -- a chunk of odd versions alone
 module _ (versions : List ℕ) (end index : ℕ) (on : index + 64 ≤ end) (has : HasOdds versions end index (2 ^ 64 - 1)) where
   full_odd : (i : ℕ) → end ≤ i + 64 → i < end → get_or versions i 0 % 2 ≡ 1
@@ -287,18 +294,26 @@ module _ (versions : List ℕ) (end index : ℕ) (on : index + 64 ≤ end) (has 
       let e : i + 64 ≡ end + k = omega arith in
       sym (has.odd i k (omega arith) e (omega arith)) ∙ bit_at_ones 64 k (omega arith)
 
-  pub full_next : IsNextOdd versions index (end - 64)
-  full_next = record {
-    on = omega arith;
-    within = omega (arith, odd_within versions (end - 64) (full_odd (end - 64) (omega arith) (omega arith)));
-    passed = λ i v from below at. has.before i v from (omega arith) at;
-    odd = λ v at. ap (λ x. x % 2) (sym (get_or_from_slice_get versions (end - 64) v 0 at)) ∙ full_odd (end - 64) (omega arith) (omega arith);
-  }
+  pub full_run : IsRun versions index (end - 64) end
+  full_run = record { on = omega arith; some = omega arith; passed = λ i v from below at. has.before i v from (omega arith) at; odd = λ i from to. full_odd i (omega arith) to }
 
-  pub full_step : IsAhead versions end end (end - 64 + 1) 0
-  full_step =
-      let within : end - 1 < length versions = odd_within versions (end - 1) (full_odd (end - 1) (omega arith) (omega arith)) in
-      record {
-        odd = λ i from to. full_odd i (omega arith) to;
-        behind = subst (λ m. HasOdds versions end m 0) (let same : end ≡ max (end - 64 + 1) end = omega (arith, on) in same) (odds_start versions end (omega (arith, on, within)));
-      }
+-- other versions of which the same are odd ahead
+module _ (versions other : List ℕ) (run end index bits : ℕ) (ahead : IsAhead versions run end index bits) (all : length other ≡ length versions)
+    (same : (i : ℕ) → index ≤ i → get_or other i 0 % 2 ≡ get_or versions i 0 % 2) where
+  even_too : (i v : ℕ) → index ≤ i → ((w : ℕ) → slice_get versions i ≡ Some w → w % 2 ≡ 0) → slice_get other i ≡ Some v → v % 2 ≡ 0
+  even_too i v from even at =
+      let there = found_within versions i (omega (arith, slice_get_within other i v at, all)) in
+      ap (λ x. x % 2) (sym (get_or_from_slice_get other i v 0 at)) ∙ same i from ∙ ap (λ x. x % 2) (get_or_from_slice_get versions i there.0 0 there.1) ∙ even there.0 there.1
+
+  pub ahead_same : IsAhead other run end index bits
+  ahead_same = record {
+    odd = λ i from to. same i from ∙ ahead.odd i from to;
+    behind = record {
+      within = omega (arith, ahead.behind.within, all);
+      at = omega (arith, ahead.behind.at, all);
+      upto = ahead.behind.upto;
+      before = λ i v from below at. even_too i v (omega (arith, from)) (λ w read. ahead.behind.before i w from below read) at;
+      odd = λ i k l e from. ahead.behind.odd i k l e from ∙ sym (same i (omega (arith, from)));
+      passed = ahead.behind.passed;
+    };
+  }

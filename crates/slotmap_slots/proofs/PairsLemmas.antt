@@ -2,7 +2,7 @@
 -- For this crate alone.
 use Rattle.std.proofs.Common.{◌≡◌, ℕ, zero, suc, ◌+◌, ◌-◌, ◌<◌, ◌≤◌, ◌%◌, ◌^◌, List, [], ◌∷◌, length, set, drop, slice_get, get_or, Option, Some, None, IsSome, ◌↔◌, refl, sym, ap, subst, ◌∙◌, arith}
 use Rattle.std.proofs.lemmas.Option.{same_Some, slice_get_within, get_or_from_slice_get}
-use Rattle.std.proofs.lemmas.List.{length-set, length-drop, drop_more, drop-set-lt}
+use Rattle.std.proofs.lemmas.List.{length-set, drop_more, drop_all, drop-set-lt}
 use native.Mathlib.Decide.{dec_lt}
 use Rattle.std.specs.FinMap as map
 use Rattle.slotmap_slots.specs.Columns.{zip_slots, AllEven, IsNextOdd}
@@ -16,7 +16,7 @@ use Rattle.slotmap_slots.specs.declared.layout.Use.TheVariants.{InUse, Free, Det
 use Rattle.slotmap_slots.proofs.ColumnLemmas.{zip-length, zip-at}
 use Rattle.slotmap_core.proofs.General.GatherLemmas.{slice_get-set_other}
 use Rattle.slotmap_core.proofs.General.ListLemmas.{found_within}
-use Rattle.slotmap_slots.proofs.OddsLemmas.{next_none, odd_within, ahead_start}
+use Rattle.slotmap_slots.proofs.OddsLemmas.{ahead_start}
 use Rattle.slotmap_core.proofs.Places.PlacesLemmas.{key}
 use Rattle.slotmap_slots.proofs.SlotLemmas.{slots_fit}
 use Rattle.slotmap_core.proofs.Places.InOrderLemmas.{entries_from, entries-live}
@@ -147,29 +147,26 @@ pass_all vs xs left (suc n) i iterates within even =
     let rest = pass_all vs xs left n (i + 1) one.0 (omega arith) (λ j v from below. even j v (omega arith) (omega arith)) in
     subst (λ m. IsIter vs xs m left × (pairs_left m vs xs ≡ pairs_left i vs xs)) (omega arith) (rest.0, rest.1 ∙ one.1)
 
--- while a value is left, the next one is at the first odd version, also if the versions were read as another list
-pub next_on : {V : Type 0} {vs : List ℕ} {xs : List (Option V)} {i left : ℕ} → IsIter vs xs i left → 0 < left → {seen : List ℕ} → seen ≡ vs
-    → {end : ℕ} → IsNextOdd seen i end → Next vs xs i left end
-next_on {V} {vs} {xs} {i} {left} iterates some {seen} whole {end} found =
+-- the next pair is at the first odd version, also if the versions were read as another list
+pub next_on : {V : Type 0} {vs : List ℕ} {xs : List (Option V)} {i left : ℕ} → IsIter vs xs i left → {seen : List ℕ} → seen ≡ vs
+    → {end : ℕ} → IsNextOdd seen i end → end < length seen → Next vs xs i left end
+next_on {V} {vs} {xs} {i} {left} iterates {seen} whole {end} found there =
     let stop : i + (end - i) ≡ end = omega (arith, found.on) in
     let past = pass_all vs xs left (end - i) i iterates (omega (arith, ap length whole, found.on, found.within)) (λ j v from below at. found.passed j v from (omega (arith, found.on)) (ap (λ vs. slice_get vs j) whole ∙ at)) in
     let to : IsIter vs xs end left × (pairs_left end vs xs ≡ pairs_left i vs xs) = subst (λ m. IsIter vs xs m left × (pairs_left m vs xs ≡ pairs_left i vs xs)) stop past in
-    let version = found_within vs end (omega (arith, found.within, ap length whole, to.0.counted, length-pairs end (drop end vs) (drop end xs), length-drop end vs)) in
+    let version = found_within vs end (omega (arith, there, ap length whole)) in
     let value = found_within xs end (omega (arith, slice_get_within vs end version.0 version.1, iterates.values_length)) in
     comes vs xs end left to.0 i to.1 version.0 value.0 version.1 value.1 (found.odd version.0 (ap (λ vs. slice_get vs end) whole ∙ version.1))
 
--- a value is left where the version is odd
-pub left_here : {V : Type 0} {vs : List ℕ} {xs : List (Option V)} {i left : ℕ} → IsIter vs xs i left → {seen : List ℕ} → seen ≡ vs → get_or seen i 0 % 2 ≡ 1 → 0 < left
-left_here {V} {vs} {xs} {i} {left} iterates whole odd =
-    let version = found_within vs i (omega (arith, odd_within _ i odd, ap length whole)) in
-    let value = found_within xs i (omega (arith, slice_get_within vs i version.0 version.1, iterates.values_length)) in
-    let is_odd : version.0 % 2 ≡ 1 = ap (λ x. x % 2) (sym (get_or_from_slice_get vs i version.0 0 version.1)) ∙ ap (λ vs. get_or vs i 0 % 2) (sym whole) ∙ odd in
-    let n = comes vs xs i left iterates i refl version.0 value.0 version.1 value.1 is_odd in
-    omega (arith, iterates.counted, ap length n.first)
+pub some_left : {V : Type 0} {vs : List ℕ} {xs : List (Option V)} {i left end : ℕ} → IsIter vs xs i left → Next vs xs i left end → 0 < left
+some_left iterates next = omega (arith, iterates.counted, ap length next.first)
 
--- while a value is left, a version is odd
-pub some_left : {V : Type 0} {vs : List ℕ} {xs : List (Option V)} {i left : ℕ} → IsIter vs xs i left → 0 < left → {seen : List ℕ} → seen ≡ vs
-    → i ≤ length seen → AllEven seen i (length seen) → ⊥
-some_left {V} {vs} {xs} {i} {left} iterates some {seen} whole within even =
-    let n = next_on iterates some whole (next_none seen i within even) in
-    omega (arith, slice_get_within vs (length seen) n.version n.version_there, ap length whole)
+-- at the end of the vectors nothing is yielded any more
+pub ends_at : {V : Type 0} {vs : List ℕ} {xs : List (Option V)} {i left : ℕ} → IsIter vs xs i left → {seen : List ℕ} → seen ≡ vs → i ≤ length seen → AllEven seen i (length seen)
+    → {end : ℕ} → end ≡ length seen → (pairs_left i vs xs ≡ []) × IsIter vs xs end left × (pairs_left end vs xs ≡ [])
+ends_at {V} {vs} {xs} {i} {left} iterates {seen} whole within even {end} at =
+    let stop : i + (length vs - i) ≡ end = omega (arith, within, at, ap length whole) in
+    let past = pass_all vs xs left (length vs - i) i iterates (omega (arith, within, ap length whole)) (λ j v from below read. even j v from (omega (arith, within, ap length whole)) (ap (λ vs. slice_get vs j) whole ∙ read)) in
+    let to : IsIter vs xs end left × (pairs_left end vs xs ≡ pairs_left i vs xs) = subst (λ m. IsIter vs xs m left × (pairs_left m vs xs ≡ pairs_left i vs xs)) stop past in
+    let none : pairs_left end vs xs ≡ [] = ap (λ vs. pairs_from end vs (drop end xs)) (drop_all end vs (omega (arith, at, ap length whole))) in
+    (sym to.1 ∙ none, to.0, none)

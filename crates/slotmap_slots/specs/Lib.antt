@@ -3,7 +3,7 @@ pub mod LayoutLends
 pub mod Numbers
 pub mod Columns
 pub mod Odds
+pub mod Ahead
 pub mod Rows
 pub mod SlotsLend
 pub mod Iter
-pub mod Pass

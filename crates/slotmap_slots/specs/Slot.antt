@@ -59,6 +59,9 @@ module _ {P : Type 0} where
   with_payload (s ∷ slots) zero p = record s { payload = Some p } ∷ slots
   with_payload (s ∷ slots) (suc i) p = s ∷ with_payload slots i p
 
+  abbrev pub versions_of : List (Slot P) → List ℕ
+  versions_of slots = list_map (λ s. s.version) slots
+
   -- each slot from the one index to the other has an even version
   abbrev pub NoneLive : List (Slot P) → ℕ → ℕ → Type 0
   NoneLive slots start end = (i v : ℕ) → start ≤ i → i < end → version_at slots i ≡ Some v → v % 2 ≡ 0

@@ -14,7 +14,7 @@ mod rows;
 
 pub use columns::Columns;
 pub(crate) use columns::version_in;
-pub(crate) use odds::{Odds, step};
+pub use odds::Odds;
 pub use rows::Rows;
 
 /// What a slot is used for.

@@ -23,7 +23,6 @@ mod detach;
 mod insert;
 mod iter;
 mod list;
-mod pass;
 mod remove;
 mod search;
 

@@ -1,16 +1,13 @@
 //! Slots in three vectors of one length.
 
-ghost use Rattle.std.specs.Prelude.{◌≡◌, ◌<◌, ◌≤◌, ◌%◌, ◌^◌, ℕ, List, length, slice_get, Some, IsSome, refl, vec_capacity};
-ghost use Rattle.slotmap_slots.specs.Columns.{HasEachOdd, zip_slots};
+ghost use Rattle.std.specs.Prelude.{◌≡◌, ◌+◌, ◌<◌, ◌≤◌, ◌^◌, ℕ, List, length, slice_get, Some, IfSome, IfNone, refl, vec_capacity};
+ghost use Rattle.slotmap_slots.specs.Columns.{zip_slots};
 ghost use Rattle.slotmap_slots.specs.Numbers.{uses_of};
-ghost use Rattle.slotmap_slots.specs.Pass.{MayPass, Passes, in_columns, in_slots, stage};
-ghost use Rattle.slotmap_slots.specs.Slot.{version_at, payload_at};
 ghost use Rattle.slotmap_slots.specs.declared.layout.Use.{Use as UseOf};
 
 use super::numbers::{number_for, use_for};
-use super::odds::next_odd;
+use super::odds::Odds;
 use super::{CopyLayout, Layout, Use};
-use slotmap_core::keys::{Key, KeyData};
 use slotmap_core::sure::{sure, sure_mut};
 use std::alloc::{AllocError, Global};
 use std::marker::Model;
@@ -55,39 +52,6 @@ pub(crate) fn version_in(versions: &[u32], index: usize) -> u32
     versions[index]
 }
 
-// Calls a closure for each odd version from an index on, with its key and the payload at its index,
-// until it returns `false`. Returns the index for which it did, or the number of versions.
-fn find_rejected<K: Key, P, F: FnMut(K, &mut P) -> bool>(
-    versions: &[u32],
-    payloads: &mut [Option<P>],
-    from: usize,
-    f: &mut F,
-) -> usize
-    requires from { from ≤ length versions.now }
-    requires few { length versions.now < 2 ^ 32 }
-    requires same_length { length payloads.old ≡ length versions.now }
-    requires placed { HasEachOdd versions.now payloads.old }
-    requires callable { MayPass (in_columns K.data_of versions.now) F.FnMut (stage from payloads.old f.old) }
-    ensures passes { Passes (in_columns K.data_of versions.now) F.FnMut (stage from payloads.old f.old) (stage result payloads.new f.new) }
-    ensures within { result ≤ length versions.now }
-    ensures same_length { length payloads.new ≡ length payloads.old }
-{
-    let mut index = from;
-    while index < versions.len() {
-        let version = versions[index];
-        if version % 2 == 0 {
-            index = next_odd(versions, index + 1);
-            continue;
-        }
-        let key = KeyData::exact(index as u32, version);
-        if !f(K::from(key), sure_mut(&mut payloads[index])) {
-            return index;
-        }
-        index += 1;
-    }
-    index
-}
-
 // Returns how many more slots to allocate if `additional` are needed. Each growth moves three
 // vectors, so it pays to have few of them.
 fn growth(len: usize, additional: usize) -> usize
@@ -118,29 +82,6 @@ impl<P> Columns<P> {
         ensures { (uses : List UseOf) × (length uses ≡ length result.0.now) × (length result.1.now ≡ length result.0.now) × (zip_slots result.0.now uses result.1.now ≡ self.now.slots) }
     {
         (self.versions.as_slice(), self.payloads.as_slice())
-    }
-
-    // Calls a closure for each slot that is in use from an index on, with its key and its payload,
-    // until it returns `false`. Returns the index for which it did, or the number of slots.
-    pub(crate) fn first_rejected<K: Key, F: FnMut(K, &mut P) -> bool>(
-        &mut self,
-        from: usize,
-        f: &mut F,
-    ) -> usize
-        requires from { from ≤ length self.old.slots }
-        requires few { length self.old.slots < 2 ^ 32 }
-        requires placed { (i v : ℕ) → version_at self.old.slots i ≡ Some v → v % 2 ≡ 1 → IsSome (payload_at self.old.slots i) }
-        requires callable { MayPass (in_slots K.data_of) F.FnMut (stage from self.old.slots f.old) }
-        ensures passes { Passes (in_slots K.data_of) F.FnMut (stage from self.old.slots f.old) (stage result self.new.slots f.new) }
-        ensures within { result ≤ length self.new.slots }
-        ensures same_room { self.new.capacity ≡ self.old.capacity }
-    {
-        find_rejected(
-            self.versions.as_slice(),
-            self.payloads.as_mut_slice(),
-            from,
-            f,
-        )
     }
 }
 
@@ -177,17 +118,20 @@ impl<P> Columns<P> {
 
 #[tactic(auto, using(crate::proofs::ColumnLemmas::slot_list))]
 impl<P> Columns<P> {
-    ghost use Rattle.slotmap_slots.specs.Slot.{NoneLive};
+    ghost use Rattle.slotmap_slots.specs.Slot.{versions_of};
+    ghost use Rattle.slotmap_slots.specs.Columns.{AllEven, IsNextOdd};
+    ghost use Rattle.slotmap_slots.specs.Odds.{IsAhead};
 
-    // Returns the first index from `start` on with an odd version, or the number of slots.
-    pub(crate) fn next_live(&self, start: usize) -> usize
-        requires { start ≤ length self.now.slots }
-        ensures on { start ≤ result }
-        ensures within { result ≤ length self.now.slots }
-        ensures passed { NoneLive self.now.slots start result }
-        ensures odd { (v : ℕ) → version_at self.now.slots result ≡ Some v → v % 2 ≡ 1 }
+    // Returns the next index with an odd version, or `None` if there is none.
+    #[inline(always)]
+    pub(crate) fn next_odd(&self, odds: &mut Odds) -> Option<usize>
+        requires { IsAhead (versions_of self.now.slots) odds.old.run odds.old.end odds.old.index odds.old.bits }
+        ensures next { IfSome result (IsNextOdd (versions_of self.now.slots) odds.old.index) }
+        ensures on { IfSome result (λ found. odds.new.index ≡ found + 1) }
+        ensures none { IfNone result (AllEven (versions_of self.now.slots) odds.old.index (length (versions_of self.now.slots))) }
+        ensures ahead { IsAhead (versions_of self.now.slots) odds.new.run odds.new.end odds.new.index odds.new.bits }
     {
-        next_odd(&self.versions, start)
+        odds.next(&self.versions)
     }
 }
 

@@ -1,16 +1,16 @@
 //! The odd versions of a vector of versions, found 64 at a time.
 
-ghost use Rattle.std.specs.Prelude.{◌≡◌, ◌≢◌, ◌↔◌, ℕ, ◌+◌, ◌%◌, ◌<◌, ◌≤◌, length, get_or, IsSome, IfSome};
+ghost use Rattle.std.specs.Prelude.{◌≡◌, ◌≢◌, ℕ, ◌+◌, ◌%◌, ◌<◌, ◌≤◌, length, get_or, IfSome, IfNone};
 ghost use Rattle.std.specs.Int.{bit_at};
 ghost use Rattle.slotmap_slots.specs.Columns.{AllEven, IsNextOdd};
-ghost use Rattle.slotmap_slots.specs.Odds.{AreOdd, IsFound, HasOdds, IsAhead};
+ghost use Rattle.slotmap_slots.specs.Odds.{AreOdd, AllOdd, IsFound, HasOdds, IsSeen, IsAhead};
 
 use std::simd::prelude::*;
 
 // How many versions are looked at together.
 const CHUNK: usize = 64;
 
-// How far an odd version is looked for, at most, before a chunk is.
+// The first chunk that is looked at begins at a multiple of this.
 const NEAR: usize = 16;
 
 // A bit for each lane that is odd.
@@ -70,31 +70,18 @@ fn next_chunk(versions: &[u32], start: usize) -> (usize, u64)
     (at + CHUNK, bits_of_tail(versions, at))
 }
 
-/// What an iterator knows of the versions ahead of it: a run of odd ones, or else what is left of a
-/// chunk of 64 versions.
+/// How far a loop over the odd versions is, by ascending index, and what is known of the versions
+/// ahead of it: a run of odd ones, or else what is left of a chunk of 64 versions.
 #[derive(Clone, Copy)]
-pub(crate) struct Odds {
+pub struct Odds {
+    // The next index to look at.
+    index: usize,
     // The index after the run.
     run: usize,
     // The index after the chunk.
     end: usize,
-    // A bit for each odd version of the chunk that the iterator hasn't passed.
+    // A bit for each odd version of the chunk that wasn't passed.
     bits: u64,
-}
-
-impl Odds {
-    // Returns those of an iterator before its first step: the first version, of the sentinel, is even.
-    pub(crate) fn of_all() -> Odds
-        ensures run { result.run ≡ 0 }
-        ensures end { result.end ≡ 1 }
-        ensures bits { result.bits ≡ 0 }
-    {
-        Odds {
-            run: 0,
-            end: 1,
-            bits: 0,
-        }
-    }
 }
 
 // Returns the lowest bit that is set.
@@ -119,115 +106,145 @@ fn without_lowest(bits: u64, _lane: usize) -> u64
     bits & bits.wrapping_sub(1)
 }
 
-// Takes the lowest bit. Returns its version's index, and what is left of the chunk. The index that
-// is given is for the contract only.
+// Takes the lowest bit. Returns what is ahead at its version.
 #[inline(always)]
-fn take_lowest(versions: &[u32], odds: Odds, _index: usize) -> (usize, Odds)
-    requires odds { HasOdds versions.now odds.end _index odds.bits }
+fn take_lowest(versions: &[u32], odds: Odds) -> Odds
+    requires odds { HasOdds versions.now odds.end odds.index odds.bits }
     requires some { odds.bits ≢ 0 }
-    ensures next { IsNextOdd versions.now _index result.0 }
-    ensures run { result.1.run ≡ odds.run }
-    ensures odds { HasOdds versions.now result.1.end (result.0 + 1) result.1.bits }
+    ensures next { IsNextOdd versions.now odds.index result.index }
+    ensures run { result.run ≡ odds.run }
+    ensures odds { HasOdds versions.now result.end (result.index + 1) result.bits }
 {
     let lane = lowest(odds.bits);
     let bits = without_lowest(odds.bits, lane);
-    (odds.end + lane - CHUNK, Odds { bits, ..odds })
+    Odds {
+        index: odds.end + lane - CHUNK,
+        bits,
+        ..odds
+    }
 }
 
-// Returns the first index from `index` on with an odd version, and what is ahead of it, or `None` if
-// no pair is left. Within a run only the index is tested.
-#[inline(always)]
-pub(crate) fn step(versions: &[u32], odds: Odds, index: usize, left: usize) -> Option<(usize, Odds)>
-    requires odds { IsAhead versions.now odds.run odds.end index odds.bits }
-    requires some { 0 < left → AllEven versions.now index (length versions.now) → ⊥ }
-    requires here { get_or versions.now index 0 % 2 ≡ 1 → 0 < left }
-    ensures some { IsSome result ↔ 0 < left }
-    ensures next { IfSome result (λ found. IsNextOdd versions.now index found.0) }
-    ensures odds { IfSome result (λ found. IsAhead versions.now found.1.run found.1.end (found.0 + 1) found.1.bits) }
+// Returns the index after the odd versions from `at` on, up to the next multiple of `NEAR`.
+fn near_run(versions: &[u32], at: usize) -> usize
+    requires { at ≤ length versions.now }
+    ensures on { at ≤ result }
+    ensures near { result < at + 16 }
+    ensures odd { AllOdd versions.now at result }
 {
-    if index < odds.run {
-        return Some((index, odds));
+    let mut run = at;
+    while run % NEAR != 0 && run < versions.len() && versions[run] % 2 == 1 {
+        run += 1;
     }
-    if left == 0 {
-        return None;
-    }
-    Some(step_behind_run(versions, odds, index))
+    run
 }
 
-// Returns the same behind a run, if an odd version is left. A chunk of odd versions alone is passed
-// as a run, so no step looks at a bit or a version where no slot is vacant. Up to the next multiple
-// of `NEAR` no chunk is looked at while the versions are odd, so the first steps cost little.
-#[inline(always)]
-fn step_behind_run(versions: &[u32], odds: Odds, index: usize) -> (usize, Odds)
-    requires behind { odds.run ≤ index }
-    requires odds { HasOdds versions.now odds.end index odds.bits }
-    requires some { AllEven versions.now index (length versions.now) → ⊥ }
-    ensures next { IsNextOdd versions.now index result.0 }
-    ensures odds { IsAhead versions.now result.1.run result.1.end (result.0 + 1) result.1.bits }
-{
-    if odds.bits != 0 {
-        return take_lowest(versions, odds, index);
-    }
-    let at = odds.end;
-    if at % NEAR != 0 && versions[at] % 2 == 1 {
-        return (
-            at,
-            Odds {
-                end: at + 1,
-                ..odds
-            },
-        );
-    }
-    let (end, bits) = next_chunk(versions, at);
-    if bits == u64::MAX {
-        let run = end;
-        return (end - CHUNK, Odds { run, end, bits: 0 });
-    }
-    take_lowest(versions, Odds { end, bits, ..odds }, index)
-}
-
-// Returns the first index from `start` on with an odd version, or the number of versions.
-#[inline(always)]
-pub(crate) fn next_odd(versions: &[u32], start: usize) -> usize
-    requires { start ≤ length versions.now }
-    ensures { IsNextOdd versions.now start result }
-{
-    if start < versions.len() && versions[start] % 2 == 1 {
-        return start;
-    }
-    search_odd(versions, start)
-}
-
-// Returns the same, if the version at `start` is mostly even. The call at its end is a jump, so
-// nothing is saved and restored.
+// Looks for odd versions from `at` on. Returns the index after a chunk, and a bit for each of its odd
+// versions, or 0 if there are no more. If all bits are set, the index is that after a run. Up to the
+// next multiple of `NEAR` no chunk is looked at, so the first steps cost little.
 #[cold]
 #[inline(never)]
-fn search_odd(versions: &[u32], start: usize) -> usize
-    requires { start ≤ length versions.now }
-    ensures { IsNextOdd versions.now start result }
+fn look_ahead(versions: &[u32], at: usize) -> (usize, u64)
+    ensures { IsSeen versions.now at result.0 result.1 }
 {
-    let mut index = start;
-    while index < versions.len() {
-        if versions[index] % 2 == 1 {
-            return index;
-        }
-        index += 1;
-        if index % NEAR == 0 {
-            return search_chunks(versions, index);
-        }
+    if at >= versions.len() {
+        return (at, 0);
     }
-    index
+    let run = near_run(versions, at);
+    if run > at {
+        return (run, u64::MAX);
+    }
+    next_chunk(versions, at)
 }
 
-// Returns the same, if many versions may be even.
-#[inline(never)]
-fn search_chunks(versions: &[u32], start: usize) -> usize
-    requires { start ≤ length versions.now }
-    ensures { IsNextOdd versions.now start result }
+// Returns what is ahead at the next odd version, or `None` if there is none. Within a run only the
+// index is tested. A chunk of odd versions alone is a run, so no step looks at a bit or a version
+// where no slot is vacant.
+#[inline(always)]
+fn at_next(versions: &[u32], odds: Odds) -> Option<Odds>
+    requires { IsAhead versions.now odds.run odds.end odds.index odds.bits }
+    ensures next { IfSome result (λ found. IsNextOdd versions.now odds.index found.index) }
+    ensures ahead { IfSome result (λ found. IsAhead versions.now found.run found.end (found.index + 1) found.bits) }
+    ensures none { IfNone result (AllEven versions.now odds.index (length versions.now)) }
 {
-    let (end, bits) = next_chunk(versions, start);
-    if bits == 0 {
-        return versions.len();
+    if odds.index < odds.run {
+        return Some(odds);
     }
-    end + lowest(bits) - CHUNK
+    if odds.bits != 0 {
+        return Some(take_lowest(versions, odds));
+    }
+    let (end, bits) = look_ahead(versions, odds.end);
+    if bits == u64::MAX {
+        let index = end.max(odds.end + CHUNK) - CHUNK;
+        let run = end;
+        return Some(Odds {
+            index,
+            run,
+            end,
+            bits: 0,
+        });
+    }
+    if bits == 0 {
+        return None;
+    }
+    Some(take_lowest(versions, Odds { end, bits, ..odds }))
+}
+
+impl Odds {
+    // Returns those of a loop over the versions from an index on.
+    pub(crate) fn from(index: usize) -> Odds
+        ensures index { result.index ≡ index }
+        ensures run { result.run ≡ 0 }
+        ensures end { result.end ≡ index }
+        ensures bits { result.bits ≡ 0 }
+    {
+        Odds {
+            index,
+            run: 0,
+            end: index,
+            bits: 0,
+        }
+    }
+
+    // Returns those of a loop over all slots: the first version, of the sentinel, is even.
+    pub(crate) fn of_all() -> Odds
+        ensures index { result.index ≡ 0 }
+        ensures run { result.run ≡ 0 }
+        ensures end { result.end ≡ 1 }
+        ensures bits { result.bits ≡ 0 }
+    {
+        Odds {
+            index: 0,
+            run: 0,
+            end: 1,
+            bits: 0,
+        }
+    }
+
+    /// Returns the next index to look at.
+    pub fn index(&self) -> usize
+        ensures { result ≡ self.now.index }
+    {
+        self.index
+    }
+
+    // Returns the next index with an odd version, or `None` if there is none.
+    #[inline(always)]
+    pub(crate) fn next(&mut self, versions: &[u32]) -> Option<usize>
+        requires { IsAhead versions.now self.old.run self.old.end self.old.index self.old.bits }
+        ensures next { IfSome result (IsNextOdd versions.now self.old.index) }
+        ensures on { IfSome result (λ found. self.new.index ≡ found + 1) }
+        ensures none { IfNone result (AllEven versions.now self.old.index (length versions.now)) }
+        ensures end { IfNone result (self.new.index ≡ length versions.now) }
+        ensures ahead { IsAhead versions.now self.new.run self.new.end self.new.index self.new.bits }
+    {
+        let Some(found) = at_next(versions, *self) else {
+            *self = Odds::from(versions.len());
+            return None;
+        };
+        *self = Odds {
+            index: found.index + 1,
+            ..found
+        };
+        Some(found.index)
+    }
 }

@@ -6,7 +6,7 @@ ghost use Rattle.std.specs.FinMap as map;
 ghost use Rattle.slotmap_core.specs.Clones.{ClonesEqual, AreClones};
 
 use super::Slots;
-use crate::layout::{Columns, Odds, step, version_in};
+use crate::layout::{Columns, Odds, version_in};
 use slotmap_core::keys::KeyData;
 use slotmap_core::sure::sure;
 use std::alloc::AllocError;
@@ -18,9 +18,7 @@ use std::marker::Model;
 pub struct SlotIter<'a, P> {
     versions: &'a [u32],
     payloads: &'a [Option<P>],
-    // The next slot to look at.
-    index: usize,
-    // What is known of the versions from there on.
+    // Where the next occupied slot is looked for.
     odds: Odds,
     // How many payloads are left.
     left: usize,
@@ -34,9 +32,9 @@ impl<'a, P> Model for SlotIter<'a, P> {
 
     ghost Value = { List (Key × P) };
 
-    ghost view = { λ it. pairs_left it.index it.versions.now it.payloads.now };
+    ghost view = { λ it. pairs_left it.odds.index it.versions.now it.payloads.now };
 
-    ghost invariant = { λ it. IsIter it.versions.now it.payloads.now it.index it.left × IsAhead it.versions.now it.odds.run it.odds.end it.index it.odds.bits };
+    ghost invariant = { λ it. IsIter it.versions.now it.payloads.now it.odds.index it.left × IsAhead it.versions.now it.odds.run it.odds.end it.odds.index it.odds.bits };
 }
 
 impl<'a, P> SlotIter<'a, P> {
@@ -57,7 +55,6 @@ impl<'a, P> Clone for SlotIter<'a, P> {
         Ok(SlotIter {
             versions: self.versions,
             payloads: self.payloads,
-            index: self.index,
             odds: self.odds,
             left: self.left,
         })
@@ -73,9 +70,7 @@ impl<'a, P> Iterator for SlotIter<'a, P> {
 
     #[inline(always)]
     fn next(&mut self) -> Option<(KeyData, &'a P)> {
-        let (index, odds) = step(self.versions, self.odds, self.index, self.left)?;
-        self.odds = odds;
-        self.index = index + 1;
+        let index = self.odds.next(self.versions)?;
         self.left -= 1;
         let version = version_in(self.versions, index);
         let key = KeyData::exact(index as u32, version);
@@ -98,9 +93,7 @@ impl<'a, P> Iterator for SlotIter<'a, P> {
 pub struct SlotIntoIter<P> {
     versions: Vec<u32>,
     payloads: Vec<Option<P>>,
-    // The next slot to look at.
-    index: usize,
-    // What is known of the versions from there on.
+    // Where the next occupied slot is looked for.
     odds: Odds,
     // How many payloads are left.
     left: usize,
@@ -114,9 +107,9 @@ impl<P> Model for SlotIntoIter<P> {
 
     ghost Value = { List (Key × P) };
 
-    ghost view = { λ it. pairs_left it.index it.versions.items it.payloads.items };
+    ghost view = { λ it. pairs_left it.odds.index it.versions.items it.payloads.items };
 
-    ghost invariant = { λ it. IsIter it.versions.items it.payloads.items it.index it.left × IsAhead it.versions.items it.odds.run it.odds.end it.index it.odds.bits };
+    ghost invariant = { λ it. IsIter it.versions.items it.payloads.items it.odds.index it.left × IsAhead it.versions.items it.odds.run it.odds.end it.odds.index it.odds.bits };
 }
 
 impl<P> SlotIntoIter<P> {
@@ -137,7 +130,6 @@ impl<P: Clone> SlotIntoIter<P> {
         Ok(SlotIntoIter {
             versions: self.versions.clone()?,
             payloads: self.payloads.clone()?,
-            index: self.index,
             odds: self.odds,
             left: self.left,
         })
@@ -152,9 +144,7 @@ impl<P: Drop> Iterator for SlotIntoIter<P> {
     ghost remaining = { item_count (λ rest. rest) };
 
     fn next(&mut self) -> Option<(KeyData, P)> {
-        let (index, odds) = step(&self.versions, self.odds, self.index, self.left)?;
-        self.odds = odds;
-        self.index = index + 1;
+        let index = self.odds.next(&self.versions)?;
         self.left -= 1;
         let version = self.versions[index];
         let key = KeyData::exact(index as u32, version);
@@ -180,7 +170,6 @@ impl<P> Slots<P, Columns<P>> {
         SlotIter {
             versions,
             payloads,
-            index: 0,
             odds: Odds::of_all(),
             left: self.live_count as usize,
         }
@@ -195,7 +184,6 @@ impl<P> Slots<P, Columns<P>> {
         SlotIntoIter {
             versions,
             payloads,
-            index: 0,
             odds: Odds::of_all(),
             left,
         }

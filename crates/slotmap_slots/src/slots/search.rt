@@ -7,42 +7,41 @@ ghost use Rattle.slotmap_core.specs.Content.{IsContent, IsLive};
 ghost use Rattle.slotmap_core.specs.Listing.{NoneBelow};
 ghost use Rattle.slotmap_core.specs.Transition.{Leaves, FreesByIndex};
 ghost use Rattle.slotmap_core.specs.Call.{StaysValid};
+ghost use Rattle.slotmap_slots.specs.Ahead.{AreOddsOf};
 
 use super::Slots;
-use crate::layout::{Columns, Layout};
+use crate::layout::{Columns, Layout, Odds};
 use slotmap_core::keys::KeyData;
 
 impl<P> Slots<P, Columns<P>> {
-    // Returns index and version of the live key with the smallest index from `start` on, as numbers:
-    // a key that comes from two places is packed into one register, and taken apart again.
-    #[inline(always)]
-    fn live_slot(&self, start: usize) -> Option<(usize, u32)>
-        ensures live { IfSome result (λ at. IsLive self.now (record { index = at.0; version = at.1 }) × (start ≤ at.0)) }
-        ensures first { IfSome result (λ at. (other : Key) → IsLive self.now other → start ≤ other.index → at.0 ≤ other.index) }
-        ensures none { IfNone result ((other : Key) → IsLive self.now other → other.index < start) }
+    /// Returns where a loop over the live keys from an index on begins.
+    pub fn odds_from(&self, start: usize) -> Odds
+        ensures odds { AreOddsOf self.now result }
+        ensures on { result.index ≤ start }
+        ensures from { (k : Key) → IsLive self.now k → result.index ≤ k.index → start ≤ k.index }
         ensures valid { IsContent true self.now }
     {
-        if start >= self.layout.len() {
-            return None;
+        if start == 0 {
+            Odds::of_all()
+        } else {
+            Odds::from(start.min(self.layout.len()))
         }
-        let version = self.layout.version(start);
-        if version % 2 == 1 {
-            return Some((start, version));
-        }
-        let index = self.layout.next_live(start);
-        let version = self.layout.find_version(index)?;
-        Some((index, version))
     }
 
-    /// Returns the live key with the smallest index from `start` on.
+    /// Returns the next live key of a loop, by ascending index. A removal of a key that was returned
+    /// changes nothing ahead of the loop.
     #[inline(always)]
-    pub fn live_from(&self, start: usize) -> Option<KeyData>
-        ensures live { IfSome result (λ key. IsLive self.now key × (start ≤ key.index)) }
-        ensures first { IfSome result (λ key. (other : Key) → IsLive self.now other → start ≤ other.index → key.index ≤ other.index) }
-        ensures none { IfNone result ((other : Key) → IsLive self.now other → other.index < start) }
+    pub fn next_live(&self, odds: &mut Odds) -> Option<KeyData>
+        requires { AreOddsOf self.now odds.old }
+        ensures live { IfSome result (λ key. IsLive self.now key × (odds.old.index ≤ key.index)) }
+        ensures first { IfSome result (λ key. (other : Key) → IsLive self.now other → odds.old.index ≤ other.index → key.index ≤ other.index) }
+        ensures on { IfSome result (λ key. odds.new.index ≡ key.index + 1) }
+        ensures none { IfNone result ((other : Key) → IsLive self.now other → other.index < odds.old.index) }
+        ensures odds { AreOddsOf self.now odds.new }
         ensures valid { IsContent true self.now }
     {
-        let (index, version) = self.live_slot(start)?;
+        let index = self.layout.next_odd(odds)?;
+        let version = self.layout.version(index);
         Some(KeyData::exact(index as u32, version))
     }
 }
@@ -56,10 +55,8 @@ impl<P: Drop> Slots<P, Columns<P>> {
         ensures order { FreesByIndex self.old self.new }
         ensures valid { StaysValid true self.old self.new }
     {
-        self.note_valid();
-        let mut index = start;
-        while let Some(key) = self.live_from(index) {
-            index = key.idx() as usize + 1;
+        let mut odds = self.odds_from(start);
+        while let Some(key) = self.next_live(&mut odds) {
             self.take(key);
         }
     }

@@ -4,12 +4,14 @@ use Rattle.std.proofs.lemmas.List.{map-append}
 use Rattle.slotmap_core.proofs.Contents.IndexLemmas.{none_live}
 use Rattle.slotmap_core.proofs.Contents.OrderLemmas.{entries_none}
 use Rattle.slotmap_core.proofs.Contents.SweepLemmas.{Swept-start, Swept-to, Swept-removed, first_entry, above_next}
+use Rattle.slotmap_slots.proofs.AheadLemmas.{odds_removed}
 use Rattle.slotmap_basic.proofs.SlotMap.drain_into.Goals as goal
 
 pub loop-key-init : goal.loop-key-init
 loop-key-init g c = record {
-  swept = Swept-start c.args.self.now 0 c.len.ensures.valid;
-  above = λ q there. omega arith;
+  swept = Swept-start c.args.self.now _ c.len.ensures.valid;
+  odds = rw c.self.view_is at c.odds_from-odds.ensures.odds;
+  above = λ q there. omega (arith, c.odds_from-odds.ensures.on);
   pairs = [];
   pushed = c.reserve.ensures.items ∙ sym (append-nil c.args.out.now.items);
   listed = refl;
@@ -19,7 +21,7 @@ loop-key-init g c = record {
 pub push_reserved-requires : goal.push_reserved-requires
 push_reserved-requires g c =
     let at = c.loop-key in
-    let next = first_entry at.self at.invariant.swept.well at.index
+    let next = first_entry at.self at.invariant.swept.well at.odds.index
     (g.K.Key.data_of c.in-Some.key) c.in-Some.ensures.first c.take_live-value.result at.invariant.above c.take_live-value.ensures.value in
     omega (arith, at.invariant.room, ap length next)
 
@@ -32,18 +34,18 @@ loop-key-preserved g c =
     let found = c.in-Some.ensures.live in
     let removes = c.take_live-value.ensures.removes in
     let valid = c.take_live-value.ensures.valid in
-    let next = first_entry at.self at.invariant.swept.well at.index key c.in-Some.ensures.first value at.invariant.above c.take_live-value.ensures.value
+    let next = first_entry at.self at.invariant.swept.well at.odds.index key c.in-Some.ensures.first value at.invariant.above c.take_live-value.ensures.value
     ∙ ap (λ m. (key, value) ∷ map.entries m) (sym removes.live) in
-    rw (c.idx.ensures.value, c.data.ensures.value) (record {
-      swept =
-          Swept-removed c.args.self.now at.self c.take_live-value.new.self key.index key
-          (Swept-to c.args.self.now at.self at.index key.index at.invariant.swept found.1) found.0 refl removes valid.capacity valid.after;
-      above = rw removes.live (above_next at.self at.invariant.swept.well at.index key c.in-Some.ensures.first found.0 at.invariant.above);
+    record {
+      swept = rw c.in-Some.ensures.on (Swept-removed c.args.self.now at.self c.take_live-value.new.self key.index key
+          (Swept-to c.args.self.now at.self at.odds.index key.index at.invariant.swept found.1) found.0 refl removes valid.capacity valid.after);
+      odds = odds_removed at.self c.take_live-value.new.self c.next_live.new.odds c.next_live.ensures.odds at.invariant.swept.well key found.0 (omega (arith, c.in-Some.ensures.on)) removes;
+      above = rw (c.in-Some.ensures.on, removes.live) (above_next at.self at.invariant.swept.well at.odds.index key c.in-Some.ensures.first found.0 at.invariant.above);
       pairs = at.invariant.pairs ++ (c.in-Some.key, value) ∷ [];
       pushed = c.push_reserved.ensures.items ∙ ap (λ xs. xs ++ (c.in-Some.key, value) ∷ []) at.invariant.pushed ∙ append_assoc c.args.out.now.items at.invariant.pairs ((c.in-Some.key, value) ∷ []);
       listed = simp (map-append, append_assoc) (at.invariant.listed ∙ ap (λ es. list_map (λ p. (data_of p.0, p.1)) at.invariant.pairs ++ es) next);
       room = omega (arith, at.invariant.room, ap length next, c.push_reserved.ensures.len, c.push_reserved.ensures.capacity);
-    })
+    }
 
 pub returns-clause-empty : goal.returns-clause-empty
 returns-clause-empty g c =

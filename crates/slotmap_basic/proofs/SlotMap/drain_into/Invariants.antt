@@ -3,12 +3,14 @@ use Rattle.std.specs.FinMap as map
 use Rattle.slotmap_core.specs.Content.{places}
 use Rattle.slotmap_core.specs.Listing.{NoneBelow}
 use Rattle.slotmap_core.proofs.Contents.SweepLemmas.{Swept}
+use Rattle.slotmap_slots.specs.Ahead.{AreOddsOf}
 use Rattle.slotmap_basic.proofs.SlotMap.drain_into.Given as goal
 
 abbrev pub invariant-loop-key : goal.invariant-loop-key
 invariant-loop-key g l = record {
-  swept : Swept true l.fn.self l.self l.index;
-  above : NoneBelow l.self.live l.index;
+  odds : AreOddsOf l.self l.odds;
+  swept : Swept true l.fn.self l.self l.odds.index;
+  above : NoneBelow l.self.live l.odds.index;
   pairs : List (g.row.K.Denot × g.row.V.Denot);
   pushed : l.out.items ≡ l.fn.out.items ++ pairs;
   listed : map.entries l.fn.self.live ≡ list_map (λ p. (g.K.Key.data_of p.0, p.1)) pairs ++ map.entries l.self.live;
@@ -16,4 +18,4 @@ invariant-loop-key g l = record {
 }
 
 abbrev pub decreases-loop-key : goal.decreases-loop-key
-decreases-loop-key g l = places l.fn.self + 1 - l.index
+decreases-loop-key g l = places l.fn.self + 1 - l.odds.index

@@ -1,8 +1,8 @@
-use Rattle.std.proofs.Common.{◌∷◌, [], ◌++◌, length, map as list_map, sym, ap, ◌∙◌, append_assoc, append-nil, arith}
+use Rattle.std.proofs.Common.{◌≡◌, ◌∷◌, [], ◌++◌, length, map as list_map, sym, ap, ◌∙◌, append_assoc, append-nil, arith}
 use Rattle.std.specs.FinMap as map
 use Rattle.std.proofs.lemmas.List.{map-append}
 use Rattle.slotmap_core.proofs.Contents.ContentLemmas.{some_is}
-use Rattle.slotmap_core.proofs.Contents.IndexLemmas.{from_index-start, from_index-end}
+use Rattle.slotmap_core.proofs.Contents.IndexLemmas.{from_index, from_index-start, from_index-end}
 use Rattle.slotmap_core.proofs.Contents.OrderLemmas.{entries_none}
 use Rattle.slotmap_core.proofs.Contents.SweepLemmas.{next_entry}
 use Rattle.slotmap_basic.proofs.SlotMap.keys_into.Goals as goal
@@ -10,18 +10,20 @@ use Rattle.slotmap_basic.proofs.SlotMap.keys_into.Goals as goal
 pub loop-key-init : goal.loop-key-init
 loop-key-init g c =
     let m = c.args.self.now.live in
+    let all : from_index c.odds_from-odds.result.index m ≡ m = rw (let first : c.odds_from-odds.result.index ≡ 0 = omega (arith, c.odds_from-odds.ensures.on) in first) (from_index-start m) in
     record {
+      odds = rw c.self.view_is at c.odds_from-odds.ensures.odds;
       keys = [];
       pushed = c.reserve.ensures.items ∙ sym (append-nil c.args.out.now.items);
-      listed = ap (λ n. map.keys n) (sym (from_index-start m));
-      room = omega (arith, ap (λ n. length (map.entries n)) (from_index-start m), map.len-entries m, c.len.ensures.value, c.in_ok-reserve.ensures.ok);
+      listed = ap (λ n. map.keys n) (sym all);
+      room = omega (arith, ap (λ n. length (map.entries n)) all, map.len-entries m, c.len.ensures.value, c.in_ok-reserve.ensures.ok);
     }
 
 pub push_reserved-requires : goal.push_reserved-requires
 push_reserved-requires g c =
     let found = c.in-Some.ensures.live in
     let value = some_is (map.get c.args.self.now.live (g.K.Key.data_of c.in-Some.key)) found.0 in
-    let next = next_entry c.args.self.now c.live_from.ensures.valid c.loop-key.index (g.K.Key.data_of c.in-Some.key) c.in-Some.ensures.first value.0 found.1 value.1 in
+    let next = next_entry c.args.self.now c.next_live.ensures.valid c.loop-key.odds.index (g.K.Key.data_of c.in-Some.key) c.in-Some.ensures.first value.0 found.1 value.1 in
     omega (arith, c.loop-key.invariant.room, ap length next)
 
 pub loop-key-preserved : goal.loop-key-preserved
@@ -31,17 +33,18 @@ loop-key-preserved g c =
     let key = g.K.Key.data_of c.in-Some.key in
     let found = c.in-Some.ensures.live in
     let value = some_is (map.get m key) found.0 in
-    let next = next_entry c.args.self.now c.live_from.ensures.valid at.index key c.in-Some.ensures.first value.0 found.1 value.1 in
-    rw (c.idx.ensures.value, c.data.ensures.value) (record {
+    let next = next_entry c.args.self.now c.next_live.ensures.valid at.odds.index key c.in-Some.ensures.first value.0 found.1 value.1 in
+    record {
+      odds = c.next_live.ensures.odds;
       keys = at.invariant.keys ++ c.in-Some.key ∷ [];
       pushed = c.push_reserved.ensures.items ∙ ap (λ xs. xs ++ c.in-Some.key ∷ []) at.invariant.pushed ∙ append_assoc c.args.out.now.items at.invariant.keys (c.in-Some.key ∷ []);
-      listed = simp (map-append, append_assoc) (at.invariant.listed ∙ ap (λ es. list_map g.K.Key.data_of at.invariant.keys ++ list_map (λ e. e.0) es) next);
-      room = omega (arith, at.invariant.room, ap length next, c.push_reserved.ensures.len, c.push_reserved.ensures.capacity);
-    })
+      listed = rw c.in-Some.ensures.on (simp (map-append, append_assoc) (at.invariant.listed ∙ ap (λ es. list_map g.K.Key.data_of at.invariant.keys ++ list_map (λ e. e.0) es) next));
+      room = rw c.in-Some.ensures.on (omega (arith, at.invariant.room, ap length next, c.push_reserved.ensures.len, c.push_reserved.ensures.capacity));
+    }
 
 pub returns-clause-ok : goal.returns-clause-ok
 returns-clause-ok g c =
     let at = c.loop-key in
     let m = c.args.self.now.live in
-    let none = ap (λ n. map.keys n) (from_index-end at.index m c.in_default.ensures.none) ∙ ap (λ es. list_map (λ e. e.0) es) entries_none in
+    let none = ap (λ n. map.keys n) (from_index-end at.odds.index m c.in_default.ensures.none) ∙ ap (λ es. list_map (λ e. e.0) es) entries_none in
     (at.invariant.keys, at.invariant.pushed, sym (at.invariant.listed ∙ ap (λ ks. list_map g.K.Key.data_of at.invariant.keys ++ ks) none ∙ append-nil (list_map g.K.Key.data_of at.invariant.keys)))

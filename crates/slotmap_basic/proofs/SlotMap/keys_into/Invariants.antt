@@ -2,15 +2,17 @@ use Rattle.std.proofs.Common.{◌≡◌, ◌+◌, ◌-◌, ◌≤◌, ◌++◌, 
 use Rattle.std.specs.FinMap as map
 use Rattle.slotmap_core.specs.Content.{places}
 use Rattle.slotmap_core.proofs.Contents.IndexLemmas.{from_index}
+use Rattle.slotmap_slots.specs.Ahead.{AreOddsOf}
 use Rattle.slotmap_basic.proofs.SlotMap.keys_into.Given as goal
 
 abbrev pub invariant-loop-key : goal.invariant-loop-key
 invariant-loop-key g l = record {
+  odds : AreOddsOf l.self l.odds;
   keys : List g.row.K.Denot;
   pushed : l.out.items ≡ l.fn.out.items ++ keys;
-  listed : map.keys l.self.live ≡ list_map g.K.Key.data_of keys ++ map.keys (from_index l.index l.self.live);
-  room : vec_len l.out + length (map.entries (from_index l.index l.self.live)) ≤ vec_capacity l.out;
+  listed : map.keys l.self.live ≡ list_map g.K.Key.data_of keys ++ map.keys (from_index l.odds.index l.self.live);
+  room : vec_len l.out + length (map.entries (from_index l.odds.index l.self.live)) ≤ vec_capacity l.out;
 }
 
 abbrev pub decreases-loop-key : goal.decreases-loop-key
-decreases-loop-key g l = places l.fn.self + 1 - l.index
+decreases-loop-key g l = places l.fn.self + 1 - l.odds.index

@@ -1,14 +1,14 @@
-use Rattle.std.proofs.Common.{◌+◌, ◌-◌, ◌≤◌}
+use Rattle.std.proofs.Common.{◌+◌, ◌-◌}
 use Rattle.slotmap_core.specs.Content.{places}
-use Rattle.slotmap_slots.specs.Pass.{stage}
+use Rattle.slotmap_slots.specs.Ahead.{AreOddsOf}
 use Rattle.slotmap_basic.proofs.RetainLemmas.{Going}
 use Rattle.slotmap_basic.proofs.SlotMap.retain.Given as goal
 
 abbrev pub invariant-loop-key : goal.invariant-loop-key
 invariant-loop-key g l = record {
-  going : Going g.F.FnMut g.K.Key.data_of l.fn.self l.fn.f (stage l.index l.self l.f);
-  within : l.index ≤ places l.fn.self + 1;
+  going : Going g.F.FnMut g.K.Key.data_of l.fn.self l.fn.f l.self l.odds.index l.f;
+  odds : AreOddsOf l.self l.odds;
 }
 
 abbrev pub decreases-loop-key : goal.decreases-loop-key
-decreases-loop-key g l = places l.fn.self + 1 - l.index
+decreases-loop-key g l = places l.fn.self + 1 - l.odds.index

@@ -5,27 +5,37 @@ use Rattle.slotmap_core.proofs.General.KeyLemmas.{keys_total, exact_keys}
 use Rattle.slotmap_core.proofs.General.Maps.{len_removed}
 use Rattle.slotmap_core.proofs.Contents.IndexLemmas.{none_live}
 use Rattle.slotmap_core.proofs.Contents.SweepLemmas.{Empties-first, first_entry, above_next}
+use Rattle.slotmap_slots.proofs.AheadLemmas.{odds_removed}
+use Rattle.slotmap_basic.specs.Drain.{DrainCanStep}
 use Rattle.slotmap_basic.proofs.drain.DrainIterator.next.Goals as goal
 
-later : (g : _) (c : goal.After-take_live g) → NoneBelow c.take_live.new.self.live (c.idx.result + 1)
+later : (g : _) (c : goal.After-take_live g) → NoneBelow c.take_live.new.self.live c.next_live.new.odds.index
 later g c =
     let now = c.args.self.now.map.now in
     let key = g.K.Key.data_of c.in_ok-key.key in
-    let next = above_next now c.live_from.ensures.valid c.args.self.now.index key c.in_ok-key.ensures.first c.in_ok-key.ensures.live.0 c.requires in
-    rw (c.idx.ensures.value, c.data.ensures.value, c.take_live.ensures.removes.live) next
+    let next = above_next now c.next_live.ensures.valid c.args.self.now.odds.index key c.in_ok-key.ensures.first c.in_ok-key.ensures.live.0 c.requires.above in
+    rw (c.in_ok-key.ensures.on, c.take_live.ensures.removes.live) next
+
+-- the drain can go on
+goes_on : (g : _) (c : goal.After-take_live g) → DrainCanStep {K = g.row.K.Denot} (record { map = record c.args.self.now.map { now = c.take_live.new.self }; odds = c.next_live.new.odds })
+goes_on g c = record {
+  above = later g c;
+  odds = odds_removed c.args.self.now.map.now c.take_live.new.self c.next_live.new.odds c.next_live.ensures.odds c.next_live.ensures.valid (g.K.Key.data_of c.in_ok-key.key)
+      c.in_ok-key.ensures.live.0 (omega (arith, c.in_ok-key.ensures.on)) c.take_live.ensures.removes;
+}
 
 pub returns-in_err-key-clause-steps : goal.returns-in_err-key-clause-steps
 returns-in_err-key-clause-steps g c =
     let now = c.args.self.now.map.now in
-    let none = none_live now.live (λ q there. absurd (omega (arith, c.in_err-key.ensures.none q there, c.requires q there))) in
-    rw c.from_residual.ensures ((none, refl), (refl, λ end empties. empties), c.requires, tt)
+    let none = none_live now.live (λ q there. absurd (omega (arith, c.in_err-key.ensures.none q there, c.requires.above q there))) in
+    rw c.from_residual.ensures ((none, refl), (refl, λ end empties. empties), record { above = λ q there. absurd (omega (arith, c.in_err-key.ensures.none q there, c.requires.above q there)); odds = c.next_live.ensures.odds }, tt)
 
 pub returns-clause-steps : goal.returns-clause-steps
 returns-clause-steps g c =
     let now = c.args.self.now.map.now in
     let key = g.K.Key.data_of c.in_ok-key.key in
     let found = c.in_ok-key.ensures.live in
-    let well = c.live_from.ensures.valid in
+    let well = c.next_live.ensures.valid in
     let removes = c.take_live.ensures.removes in
     let value = c.take_live.ensures.value in
     let above = later g c in (
@@ -33,19 +43,18 @@ returns-clause-steps g c =
       (
         refl,
         λ end empties. Empties-first now c.take_live.new.self end key well found.0 removes c.take_live.ensures.valid.capacity
-            (λ q there. omega (arith, above q there, c.idx.ensures.value, ap (λ k. k.index) c.data.ensures.value)) empties,
+            (λ q there. omega (arith, above q there, c.in_ok-key.ensures.on)) empties,
       ),
-      above,
-      first_entry now well c.args.self.now.index key c.in_ok-key.ensures.first c.take_live.result c.requires value ∙ ap (λ m. (key, c.take_live.result) ∷ map.entries m) (sym removes.live),
+      goes_on g c,
+      first_entry now well c.args.self.now.odds.index key c.in_ok-key.ensures.first c.take_live.result c.requires.above value ∙ ap (λ m. (key, c.take_live.result) ∷ map.entries m) (sym removes.live),
     )
 
 pub returns-clause-goes : goal.returns-clause-goes
 returns-clause-goes g c =
     let now = c.args.self.now.map.now in
     let key = g.K.Key.data_of c.in_ok-key.key in
-    let above = later g c in
     record {
-      on = λ finite. (above, finite, omega (arith, ap map.len c.take_live.ensures.removes.live, len_removed keys_total exact_keys now.live key c.in_ok-key.ensures.live.0));
-      keeps = above;
+      on = λ finite. (goes_on g c, finite, omega (arith, ap map.len c.take_live.ensures.removes.live, len_removed keys_total exact_keys now.live key c.in_ok-key.ensures.live.0));
+      keeps = goes_on g c;
       rests = λ _. tt;
     }

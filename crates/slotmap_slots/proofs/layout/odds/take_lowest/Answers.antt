@@ -10,11 +10,11 @@ returns c =
     let has = c.requires.odds in
     let lane = c.lowest-lane.result in
     let low = c.lowest-lane.ensures in
-    let on = odds_on vs end c.args._index bits has lane low.bound low.set low.below in
+    let on = odds_on vs end c.args.odds.index bits has lane low.bound low.set low.below in
     let found = end + lane - 64 in
     let is : found + 64 ≡ end + lane = omega (arith, on) in
     record {
-      next = odds_next vs end c.args._index bits has lane low.bound low.set low.below found is;
+      next = odds_next vs end c.args.odds.index bits has lane low.bound low.set low.below found is;
       run = refl;
-      odds = odds_step vs end c.args._index bits has lane low.bound low.set low.below found is c.without_lowest-bits.result c.without_lowest-bits.ensures.gone (λ k l apart. c.without_lowest-bits.ensures.kept k apart);
+      odds = odds_step vs end c.args.odds.index bits has lane low.bound low.set low.below found is c.without_lowest-bits.result c.without_lowest-bits.ensures.gone (λ k l apart. c.without_lowest-bits.ensures.kept k apart);
     }

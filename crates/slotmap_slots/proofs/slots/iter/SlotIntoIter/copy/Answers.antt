@@ -17,7 +17,7 @@ pub returns-clause-clones : goal.returns-clause-clones
 returns-clause-clones g c =
     let xs : AllZip (IsCloneOf g.P.Clone.is_clone) c.self.inside.payloads.items c.in_ok-clone-2.field-0.items = option_clones _ _ (λ w r. r) (λ v r. r) (λ v w r. r) _ _ c.in_ok-clone-2.ensures.cases.0 in
     let vs : c.in_ok-clone.field-0.items ≡ c.self.inside.versions.items = same_from_all_zip _ _ _ c.in_ok-clone.ensures.cases.0 (λ x y r. r) in
-    rw (vs, ← c.self.view_is) (pairs_left-clones g.P.Clone.is_clone _ _ _ xs c.self.inside.index)
+    rw (vs, ← c.self.view_is) (pairs_left-clones g.P.Clone.is_clone _ _ _ xs c.self.inside.odds.index)
 
 pub returns-clause-copies_if_clones_equal : goal.returns-clause-copies_if_clones_equal
 returns-clause-copies_if_clones_equal g c same = pairs_equal _ same _ _ (returns-clause-clones g c)

@@ -1,11 +1,21 @@
-use Rattle.std.proofs.Common.{true, refl, ap, ◌∙◌, inl, arith}
+use Rattle.std.proofs.Common.{true, refl, sym, ap, ◌∙◌, inl, arith}
+use Rattle.std.specs.FinMap as map
+use Rattle.slotmap_core.proofs.General.KeyLemmas.{keys_total, exact_keys}
+use Rattle.slotmap_core.proofs.General.Maps.{in_after_remove}
 use Rattle.slotmap_core.proofs.Places.PlaceCount.{removed_places}
 use Rattle.slotmap_core.proofs.Contents.IndexLemmas.{alone_at, NoneBelow-removed, none_live, get-remove_other}
 use Rattle.slotmap_core.proofs.Contents.SweepLemmas.{Swept-start, Swept-to, Swept-removed}
+use Rattle.slotmap_slots.proofs.AheadLemmas.{odds_removed}
 use Rattle.slotmap_slots.proofs.slots.search.Slots+P+Columns+P.clear_from.Goals as goal
 
 pub loop-key-init : goal.loop-key-init
-loop-key-init g c = record { swept = Swept-start c.args.self.now c.args.start c.note_valid.ensures; stay = λ k below. refl; from = omega arith; above = λ none. none }
+loop-key-init g c = record {
+  swept = Swept-start c.args.self.now _ c.odds_from-odds.ensures.valid;
+  stay = λ k below. refl;
+  odds = c.odds_from-odds.ensures.odds;
+  from = c.odds_from-odds.ensures.from;
+  above = λ none q there. omega (arith, none q there, c.odds_from-odds.ensures.on);
+}
 
 pub loop-key-preserved : goal.loop-key-preserved
 loop-key-preserved g c =
@@ -13,26 +23,29 @@ loop-key-preserved g c =
     let key = c.in-Some.key in
     let found = c.in-Some.ensures.live in
     let first = c.in-Some.ensures.first in
-    let swept = Swept-to c.args.self.now at.self at.index key.index at.invariant.swept found.1 in
+    let swept = Swept-to c.args.self.now at.self at.odds.index key.index at.invariant.swept found.1 in
     let alone = alone_at at.self swept.well key key.index found.0 refl in
     let removes = c.take.ensures.removes in
     let valid = c.take.ensures.valid in
     let after = Swept-removed c.args.self.now at.self c.take.new.self key.index key swept found.0 refl removes valid.capacity valid.after in
-    rw c.idx.ensures.value (record {
-      swept = after;
-      stay = λ k below. rw removes.live (get-remove_other at.self.live key k (λ same. omega (arith, ap (λ q. q.index) same, at.invariant.from)) ∙ at.invariant.stay k below);
-      from = omega (arith, at.invariant.from);
-      above = λ none. rw removes.live (NoneBelow-removed at.self.live key.index key alone (λ q there. first q there (at.invariant.above none q there)));
-    })
+    record {
+      swept = rw c.in-Some.ensures.on after;
+      stay = λ k below. rw removes.live (get-remove_other at.self.live key k (λ same. omega (arith, ap (λ q. q.index) same, at.invariant.from key found.0 found.1)) ∙ at.invariant.stay k below);
+      odds = odds_removed at.self c.take.new.self c.next_live.new.odds c.next_live.ensures.odds swept.well key found.0 (omega (arith, c.in-Some.ensures.on)) removes;
+      from = λ k is_live from.
+          at.invariant.from k (in_after_remove keys_total exact_keys at.self.live key k (ap (λ m. map.contains_key m k) (sym removes.live) ∙ is_live)).1
+          (omega (arith, from, c.in-Some.ensures.on, found.1));
+      above = λ none. rw (c.in-Some.ensures.on, removes.live) (NoneBelow-removed at.self.live key.index key alone (λ q there. first q there (at.invariant.above none q there)));
+    }
 
 pub loop-key-smaller : goal.loop-key-smaller
 loop-key-smaller g c =
     let at = c.loop-key in
     let key = c.in-Some.key in
     let found = c.in-Some.ensures.live in
-    let within = c.live_from.ensures.valid.within key (inl (inl found.0)) in
-    let same = removed_places true at.self c.take.new.self c.live_from.ensures.valid key found.0 c.take.ensures.removes in
-    rw c.idx.ensures.value (omega (arith, within.1, found.1))
+    let within = c.next_live.ensures.valid.within key (inl (inl found.0)) in
+    let same = removed_places true at.self c.take.new.self c.next_live.ensures.valid key found.0 c.take.ensures.removes in
+    rw c.in-Some.ensures.on (omega (arith, within.1, found.1))
 
 pub returns-clause-empty : goal.returns-clause-empty
 returns-clause-empty g c = λ none.

@@ -1,0 +1,14 @@
+-- What a loop over the live keys of a map knows of those ahead of it.
+use Rattle.std.specs.Prelude.{◌≡◌, ℕ, ◌+◌, ◌%◌, ◌≤◌, List, length, get_or}
+use Rattle.slotmap_core.specs.Key.{Key}
+use Rattle.slotmap_core.specs.Content.{Content, IsLive, places}
+use Rattle.slotmap_slots.specs.Odds.{IsAhead}
+use Rattle.slotmap_slots.specs.declared.layout.odds.Odds.{Odds}
+
+-- From the index of a loop on, the live keys are at the odd ones of some versions, and this is ahead of the loop among them
+pub record AreOddsOf {P : Type 0} (c : Content P) (odds : Odds) : Type 0 where
+  pub versions : List ℕ
+  pub all : length versions ≡ places c + 1
+  pub live : (k : Key) → IsLive c k → odds.index ≤ k.index → get_or versions k.index 0 % 2 ≡ 1
+  pub odd : (i : ℕ) → odds.index ≤ i → get_or versions i 0 % 2 ≡ 1 → (k : Key) × IsLive c k × (k.index ≡ i)
+  pub ahead : IsAhead versions odds.run odds.end odds.index odds.bits
