@@ -3,7 +3,7 @@ use Rattle.std.proofs.Common.{Option, Some, ◌≡◌, ℕ, ◌+◌, ◌-◌, �
 use Rattle.std.proofs.lemmas.List.{map-set, length-map}
 use Rattle.slotmap_hop.specs.declared.links.Links.{Links}
 use Rattle.slotmap_hop.specs.Blocks.{vacated_alone, vacated_before, vacated_after, vacated_between}
-use Rattle.slotmap_hop.specs.Links.{is_vacant, vacant_at, links_at, next_at, prev_at, occurs, fronts_of, blocks_of, Leads, Joins, Puts, SetsEnd, JoinsEnds, KeepsEnds, HasBlocks, CanVacate, Vacated}
+use Rattle.slotmap_hop.specs.Links.{is_vacant, vacant_at, links_at, next_at, prev_at, occurs, fronts_of, blocks_of, LeadsTo, Joins, Puts, SetsEnd, JoinsEnds, KeepsEnds, HasBlocks, CanVacate, Vacated}
 use Rattle.slotmap_hop.proofs.Writes.{links_here, links_other}
 use Rattle.slotmap_hop.proofs.Circle.{next_vacant, prev_vacant}
 use Rattle.slotmap_hop.proofs.Vacating.{Vacated-write, HasLinks, zero_in_circle, mid_last, mid_right, left_block, right_block, right_front, alone, before, after, between}
@@ -44,7 +44,7 @@ module _ {old : List (Option Links)} {i : ℕ} (live : CanVacate old i) where
 
   -- neither neighbour is vacant
   pub joins_alone : (led : List (Option Links)) → vacant_at old (i - 1) ≡ false → vacant_at old (i + 1) ≡ false
-      → Leads (next_at old) (prev_at old) (next_at led) (prev_at led) (prev_at old 0) 0 i → KeepsEnds old led
+      → LeadsTo (next_at old) (prev_at old) (next_at led) (prev_at led) (prev_at old 0) 0 i → KeepsEnds old led
       → HasBlocks (set led i (Some (record { next = 0; prev = prev_at old 0; other_end = i }))) (vacated_alone (blocks_of old) i)
   joins_alone led left right leads keeps =
       let own : Links = record { next = 0; prev = prev_at old 0; other_end = i } in
@@ -69,7 +69,7 @@ module _ {old : List (Option Links)} {i : ℕ} (live : CanVacate old i) where
 
   -- only the right neighbour is vacant
   pub joins_before : (led named : List (Option Links)) {block : Links} → vacant_at old (i - 1) ≡ false → HasLinks old (i + 1) block
-      → Leads (next_at old) (prev_at old) (next_at led) (prev_at led) block.prev block.next i → KeepsEnds old led → SetsEnd led named block.other_end i
+      → LeadsTo (next_at old) (prev_at old) (next_at led) (prev_at led) block.prev block.next i → KeepsEnds old led → SetsEnd led named block.other_end i
       → HasBlocks (set named i (Some block)) (vacated_before (blocks_of old) i)
   joins_before led named {block} left right leads keeps sets =
       let lone : Links = record { next = block.next; prev = block.prev; other_end = i } in
@@ -103,5 +103,5 @@ module _ {old : List (Option Links)} {i : ℕ} (live : CanVacate old i) where
       let unlinks : Joins (next_at mid) (prev_at mid) (next_at unl) (prev_at unl) block.prev block.next = grind (arith, here, links_other joined i (Some own), joins, did, own_links, apart) in
       let kept : KeepsEnds mid unl = grind (arith, here, links_other joined i (Some own), keeps, did, same) in
       let join : JoinsEnds unl new links.other_end block.other_end =
-          grind (arith, here, there, links_other joined i (Some own), links_other ended i (Some own), ends, same, same_new, live.live, front_ready left, back_ready right) in
+      grind (arith, here, there, links_other joined i (Some own), links_other ended i (Some own), ends, same, same_new, live.live, front_ready left, back_ready right) in
       between live did unl new left right unlinks kept join

@@ -118,8 +118,8 @@ module _ {F K V : Type 0} (g : Mut F (K × (MutBor V × Unit {0})) (Bool × (Mut
         let other = get-remove_other written.content.live k there.0 (λ same. absurd (omega (arith, comes.1, there.2, ap (λ q. q.index) same))) in (
           (there.0, ap is_some (ap (λ m. map.get m there.0) removes.live ∙ other) ∙ there.1, there.2),
           λ q is_live at.
-          let was = in_after_remove keys_total exact_keys written.content.live k (data_of q) (sym (ap (λ m. map.contains_key m (data_of q)) removes.live) ∙ is_live) in
-          retaining_dropped new stays removes blocks keeps (Some q) (was.1, omega (arith, comes.1, at), λ p is from. omega (arith, comes.2 p is from, at)),
+              let was = in_after_remove keys_total exact_keys written.content.live k (data_of q) (sym (ap (λ m. map.contains_key m (data_of q)) removes.live) ∙ is_live) in
+              retaining_dropped new stays removes blocks keeps (Some q) (was.1, omega (arith, comes.1, at), λ p is from. omega (arith, comes.2 p is from, at)),
         )
 
   -- no key is left
