@@ -38,6 +38,7 @@ mod rows;
 mod stop;
 mod sum;
 mod texts;
+mod walks;
 mod words;
 
 pub use call::{Call, Mode, Words};
@@ -51,4 +52,5 @@ pub use rows::{File, Subject};
 pub use stop::Stop;
 pub use sum::Sum;
 pub use texts::{SHOWN, write_key, write_keys, write_option, write_pair, write_pairs, write_slots};
+pub use walks::{Item, Shown, write_item, write_steps, write_taken, write_walked};
 pub use words::Word;
