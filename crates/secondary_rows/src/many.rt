@@ -2,7 +2,7 @@
 
 use crate::held::Held;
 use crate::maps::Maps;
-use crate::walks::{Walk, write_walked};
+use crate::walks::write_walked;
 use slotmap::{DefaultKey, Secondary};
 use slotmap_rows::{Number, Stop};
 
@@ -11,15 +11,15 @@ impl<'a, M: Held<'a, H> + Secondary<DefaultKey, Number<'a>>, H: Copy> Maps<'a, M
     pub fn on_steps(&mut self, name: &str, number: u64, reply: &mut String) -> Result<(), Stop> {
         let steps = number as usize;
         let (alloc, is_ordered) = (self.supply.alloc, M::IS_ORDERED);
-        let (walk, walked) = match name {
-            "drain" => (Walk::Pairs, self.map.drain_some(alloc, steps)?),
-            "into_iter" => (Walk::Pairs, self.map.copy()?.take_some(alloc, steps)?),
-            "iter" => (Walk::Pairs, self.map.walk_pairs(alloc, steps)?),
-            "keys" => (Walk::Keys, self.map.walk_keys(alloc, steps)?),
-            "values" => (Walk::Values, self.map.walk_values(alloc, steps)?),
+        let (items, walked) = match name {
+            "drain" => ("pairs", self.map.drain_some(alloc, steps)?),
+            "into_iter" => ("pairs", self.map.copy()?.take_some(alloc, steps)?),
+            "iter" => ("pairs", self.map.walk_pairs(alloc, steps)?),
+            "keys" => ("keys", self.map.walk_keys(alloc, steps)?),
+            "values" => ("values", self.map.walk_values(alloc, steps)?),
             _ => return self.on_number(name, number, reply),
         };
-        write_walked(reply, walk, is_ordered, walked)
+        write_walked(reply, items, is_ordered, walked)
     }
 
     /// The calls with no word.
@@ -30,7 +30,7 @@ impl<'a, M: Held<'a, H> + Secondary<DefaultKey, Number<'a>>, H: Copy> Maps<'a, M
             "clear" => self.map.clear_all(),
             "for" => {
                 let walked = self.map.walk_all(self.supply.alloc)?;
-                return write_walked(reply, Walk::Pairs, M::IS_ORDERED, walked);
+                return write_walked(reply, "pairs", M::IS_ORDERED, walked);
             }
             _ => return self.on_bare(name, reply),
         }

@@ -9,7 +9,7 @@ use slotmap_core::keys::DefaultKey;
 use std::alloc::AllocError;
 
 /// What an iterator yields, with the number of a value.
-#[derive(Clone, Copy, PartialEq, Eq)]
+#[derive(Clone, Copy, PartialEq, Eq, PartialOrd, Ord)]
 pub enum Item {
     Key(DefaultKey),
     Value(u64),
