@@ -2,7 +2,9 @@
 
 use crate::maps::Maps;
 use slotmap::{DefaultKey, DenseSlotMap};
-use slotmap_rows::{Call, Number, Shown, Stop, Words, write_item, write_keys, write_pair, write_taken};
+use slotmap_rows::{
+    Call, Number, Shown, Stop, Words, write_item, write_keys, write_pair, write_taken,
+};
 use std::mem;
 
 type Map<'a> = DenseSlotMap<DefaultKey, Number<'a>>;

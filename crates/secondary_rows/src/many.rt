@@ -4,7 +4,7 @@ use crate::held::Held;
 use crate::maps::Maps;
 use crate::walks::write_walked;
 use slotmap::{DefaultKey, Secondary};
-use slotmap_rows::{Number, Stop};
+use slotmap_rows::{Number, Outcome, Stop};
 
 impl<'a, M: Held<'a, H> + Secondary<DefaultKey, Number<'a>>, H: Copy> Maps<'a, M, H> {
     /// The iterators, or the other calls with a number.
@@ -25,16 +25,15 @@ impl<'a, M: Held<'a, H> + Secondary<DefaultKey, Number<'a>>, H: Copy> Maps<'a, M
     /// The calls with no word.
     pub fn on_all(&mut self, name: &str, reply: &mut String) -> Result<(), Stop> {
         match name {
-            "len" => write!(reply, "{}", self.map.len())?,
-            "is_empty" => write!(reply, "{}", self.map.is_vacant())?,
-            "clear" => self.map.clear_all(),
+            "len" => Outcome::Number(self.map.len() as u64).write(reply),
+            "is_empty" => Outcome::Flag(self.map.is_vacant()).write(reply),
+            "clear" => Ok(self.map.clear_all()),
             "for" => {
                 let walked = self.map.walk_all(self.supply.alloc)?;
-                return write_walked(reply, "pairs", M::IS_ORDERED, walked);
+                write_walked(reply, "pairs", M::IS_ORDERED, walked)
             }
-            _ => return self.on_bare(name, reply),
+            _ => self.on_bare(name, reply),
         }
-        Ok(())
     }
 
     // The other calls with no word, and those on lists that are empty.

@@ -152,11 +152,7 @@ pub fn write_walked(
 }
 
 // Writes items, or how many they are.
-fn write_items(
-    reply: &mut String,
-    order: (bool, bool),
-    mut items: Vec<Item>,
-) -> Result<(), Stop> {
+fn write_items(reply: &mut String, order: (bool, bool), mut items: Vec<Item>) -> Result<(), Stop> {
     let (is_ordered, is_open) = order;
     let len = items.len();
     if len > SHOWN || (is_open && len > 0) {

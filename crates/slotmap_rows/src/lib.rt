@@ -33,6 +33,7 @@ mod call;
 mod files;
 mod maps;
 mod number;
+mod outcome;
 mod progress;
 mod rows;
 mod stop;
@@ -48,6 +49,7 @@ pub use maps::{
     write_put_two, write_reserved,
 };
 pub use number::{Counts, Number, Supply, keep_even, look};
+pub use outcome::{Outcome, taken};
 pub use rows::{File, Subject};
 pub use stop::Stop;
 pub use sum::Sum;
