@@ -10,20 +10,6 @@ use slotmap_rows::{
 use std::alloc::{AllocError, Global};
 use std::mem;
 
-// Writes whether so many steps of an iterator read a number of slots within bounds, and where its clone counts otherwise.
-macro_rules! read {
-    ($walk:expr, $steps:expr, $bounds:expr, $reply:expr) => {{
-        let mut walk = $walk;
-        for _ in 0..$steps {
-            walk.next();
-        }
-        let copy = walk.clone()?;
-        let reads = walk.reads();
-        walk.next();
-        write_reads($reply, reads, copy.reads(), $bounds)
-    }};
-}
-
 impl<'a> Held<'a> for HopSlotMap<DefaultKey, Number<'a>> {
     fn made(alloc: Global, capacity: Option<usize>) -> Result<Self, ReserveError> {
         match capacity {
@@ -108,14 +94,42 @@ impl<'a> Held<'a> for HopSlotMap<DefaultKey, Number<'a>> {
         let ("reads", Words::Bounded(walk, steps, least, most)) = (call.name, call.words) else {
             return Err(Stop::Unknown);
         };
-        let bounds = (least, most);
-        match walk {
-            Mode::Iter => read!(maps.map.iter(), steps, bounds, reply),
-            Mode::Keys => read!(maps.map.keys(), steps, bounds, reply),
-            Mode::Values => read!(maps.map.values(), steps, bounds, reply),
-            _ => Err(Stop::Unknown),
-        }
+        let (reads, copied) = match walk {
+            Mode::Iter => count_pairs(&maps.map, steps)?,
+            Mode::Keys => count_keys(&maps.map, steps)?,
+            Mode::Values => count_values(&maps.map, steps)?,
+            _ => return Err(Stop::Unknown),
+        };
+        write_reads(reply, reads, copied, (least, most))
     }
+}
+
+type Map<'a> = HopSlotMap<DefaultKey, Number<'a>>;
+
+// How many slots so many steps of an iterator read, as it and a clone of it say.
+macro_rules! counted {
+    ($walk:expr, $steps:expr) => {{
+        let mut walk = $walk;
+        for _ in 0..$steps {
+            walk.next();
+        }
+        let copy = walk.clone()?;
+        let reads = walk.reads();
+        walk.next();
+        Ok((reads, copy.reads()))
+    }};
+}
+
+fn count_pairs(map: &Map<'_>, steps: u64) -> Result<(usize, usize), AllocError> {
+    counted!(map.iter(), steps)
+}
+
+fn count_keys(map: &Map<'_>, steps: u64) -> Result<(usize, usize), AllocError> {
+    counted!(map.keys(), steps)
+}
+
+fn count_values(map: &Map<'_>, steps: u64) -> Result<(usize, usize), AllocError> {
+    counted!(map.values(), steps)
 }
 
 // Writes whether a number of reads is within bounds, and where a clone counts another one.

@@ -33,13 +33,13 @@ impl<'a> Maps<'a, Map<'a>> {
     // The calls on slices.
     fn on_slices(&mut self, call: &Call<'_>, reply: &mut String) -> Result<(), Stop> {
         match (call.name, call.words) {
-            ("keys_as_slice", Words::Nothing) => write_keys(reply, self.map.keys_as_slice())?,
+            ("keys_as_slice", Words::Nothing) => Ok(write_keys(reply, self.map.keys_as_slice())?),
             ("values_as_slice", Words::Nothing) => {
-                write_values(reply, self.map.values_as_slice())?;
+                write_values(reply, self.map.values_as_slice())
             }
             ("as_slices", Words::Nothing) => {
                 let (keys, values) = self.map.as_slices();
-                write_slices(reply, keys, values)?;
+                write_slices(reply, keys, values)
             }
             ("values_as_mut_slice", Words::Numbers(position, value)) => {
                 let value = self.supply.number(value);
@@ -48,18 +48,27 @@ impl<'a> Maps<'a, Map<'a>> {
                     position as usize,
                     value,
                     reply,
-                )?;
+                )
             }
             ("as_mut_slices", Words::Numbers(position, value)) => {
-                let value = self.supply.number(value);
-                let (keys, values) = self.map.as_mut_slices();
-                write_keys(reply, keys)?;
-                reply.push_str(", ")?;
-                put(values, position as usize, value, reply)?;
+                self.put_behind_keys(position as usize, value, reply)
             }
-            _ => return self.on_detached(call, reply),
+            _ => self.on_detached(call, reply),
         }
-        Ok(())
+    }
+
+    // Writes the keys, and exchanges the value at a position.
+    fn put_behind_keys(
+        &mut self,
+        position: usize,
+        value: u64,
+        reply: &mut String,
+    ) -> Result<(), Stop> {
+        let value = self.supply.number(value);
+        let (keys, values) = self.map.as_mut_slices();
+        write_keys(reply, keys)?;
+        reply.push_str(", ")?;
+        put(values, position, value, reply)
     }
 }
 

@@ -70,8 +70,8 @@ pub fn stepped<I: ExactSizeIterator>(
 ) -> Result<Walked, Stop>
 where
     I::Item: Shown,
-    requires always { (state : I) → I.can_next state }
-    requires ends { (state : I) → IsFinite (I.remaining state) }
+    requires can { I.can_next walk }
+    requires ends { IsFinite (I.remaining walk) }
 {
     step(&mut walk, &mut items, steps)?;
     Ok(Walked::after(alloc, items, walk.len(), walk.size_hint()))
@@ -99,8 +99,8 @@ where
 fn step<I: Iterator>(walk: &mut I, items: &mut Vec<Item>, steps: usize) -> Result<(), Stop>
 where
     I::Item: Shown,
-    requires always { (state : I) → I.can_next state }
-    requires ends { (state : I) → IsFinite (I.remaining state) }
+    requires can { I.can_next walk.old }
+    requires ends { IsFinite (I.remaining walk.old) }
 {
     for _ in 0..steps {
         let Some(item) = walk.next() else {

@@ -7,7 +7,7 @@ use crate::texts::write_option;
 use slotmap_core::errors::ReserveError;
 
 /// The result of a call, before it is written. So a function with many calls writes only once.
-#[derive(Clone, Copy)]
+#[derive(Drop)]
 pub enum Outcome {
     Number(u64),
     Flag(bool),

@@ -85,8 +85,8 @@ pub fn write_steps<I: ExactSizeIterator>(
 ) -> Result<(), Stop>
 where
     I::Item: Shown,
-    requires always { (state : I) → I.can_next state }
-    requires ends { (state : I) → IsFinite (I.remaining state) }
+    requires can { I.can_next walk.old }
+    requires ends { IsFinite (I.remaining walk.old) }
 {
     let mut taken: usize = 0;
     for _ in 0..steps {
@@ -123,8 +123,8 @@ pub fn write_taken<I: ExactSizeIterator>(
 ) -> Result<(), Stop>
 where
     I::Item: Shown,
-    requires always { (state : I) → I.can_next state }
-    requires ends { (state : I) → IsFinite (I.remaining state) }
+    requires can { I.can_next walk }
+    requires ends { IsFinite (I.remaining walk) }
 {
     reply.push_str(name)?;
     write_steps(&mut walk, steps, reply)
