@@ -2,7 +2,7 @@
 
 use crate::held::Held;
 use crate::maps::Maps;
-use crate::walks::write_walked;
+use crate::walks::{Walked, write_walked};
 use slotmap::{DefaultKey, Secondary};
 use slotmap_rows::{Number, Outcome, Stop};
 
@@ -12,14 +12,19 @@ impl<'a, M: Held<'a, H> + Secondary<DefaultKey, Number<'a>>, H: Copy> Maps<'a, M
         let steps = number as usize;
         let (alloc, is_ordered) = (self.supply.alloc, M::IS_ORDERED);
         let (items, walked) = match name {
-            "drain" => ("pairs", self.map.drain_some(alloc, steps)?),
-            "into_iter" => ("pairs", self.map.copy()?.take_some(alloc, steps)?),
-            "iter" => ("pairs", self.map.walk_pairs(alloc, steps)?),
-            "keys" => ("keys", self.map.walk_keys(alloc, steps)?),
-            "values" => ("values", self.map.walk_values(alloc, steps)?),
+            "drain" => ("pairs", self.map.drain_some(alloc, steps)),
+            "into_iter" => ("pairs", self.take_some(steps)),
+            "iter" => ("pairs", self.map.walk_pairs(alloc, steps)),
+            "keys" => ("keys", self.map.walk_keys(alloc, steps)),
+            "values" => ("values", self.map.walk_values(alloc, steps)),
             _ => return self.on_number(name, number, reply),
         };
-        write_walked(reply, items, is_ordered, walked)
+        write_walked(reply, items, is_ordered, walked?)
+    }
+
+    // So many steps of `into_iter` of a clone.
+    fn take_some(&self, steps: usize) -> Result<Walked, Stop> {
+        self.map.copy()?.take_some(self.supply.alloc, steps)
     }
 
     /// The calls with no word.
