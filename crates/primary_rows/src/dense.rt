@@ -2,13 +2,10 @@
 
 use crate::held::Held;
 use crate::maps::Maps;
-use crate::walks::{
-    next_item, of_key, of_pair, of_taken, of_value, stepped, taken, walked, write_both, write_end,
-    write_item, write_left, write_step,
-};
 use slotmap::{DefaultKey, DenseSlotMap, OutOfMemory, ReserveError, SlotsError};
 use slotmap_rows::{
-    Call, Exchanged, ExchangedThree, ExchangedTwo, Number, Slots, Stop, Way, looked, written,
+    Call, Exchanged, ExchangedThree, ExchangedTwo, Number, Shown, Slots, Stop, Way, looked,
+    write_item, write_taken, write_walked, written,
 };
 use std::alloc::{AllocError, Global};
 use std::mem;
@@ -62,35 +59,35 @@ impl<'a> Held<'a> for DenseSlotMap<DefaultKey, Number<'a>> {
     }
 
     fn walk_pairs(&self, steps: usize, reply: &mut String) -> Result<(), Stop> {
-        walked!(self.iter(), "pairs", of_pair, steps, reply)
+        write_walked("pairs", self.iter(), steps, reply)
     }
 
     fn walk_keys(&self, steps: usize, reply: &mut String) -> Result<(), Stop> {
-        walked!(self.keys(), "keys", of_key, steps, reply)
+        write_walked("keys", self.keys(), steps, reply)
     }
 
     fn walk_values(&self, steps: usize, reply: &mut String) -> Result<(), Stop> {
-        walked!(self.values(), "values", of_value, steps, reply)
+        write_walked("values", self.values(), steps, reply)
     }
 
     fn walk_all(&self, reply: &mut String) -> Result<(), Stop> {
         reply.push_str("pairs")?;
         for pair in self {
-            write_item(reply, of_pair(pair))?;
+            write_item(reply, pair.shown())?;
         }
         Ok(())
     }
 
     fn drain_some(&mut self, steps: usize, reply: &mut String) -> Result<(), Stop> {
-        taken!(self.drain(), steps, reply)
+        write_taken("pairs", self.drain(), steps, reply)
     }
 
     fn take_some(self, steps: usize, reply: &mut String) -> Result<(), Stop> {
-        taken!(self.into_iter(), steps, reply)
+        write_taken("pairs", self.into_iter(), steps, reply)
     }
 
     fn take_all(self, steps: usize, reply: &mut String) -> Result<(), Stop> {
-        walked!(self.into_iter(), "pairs", of_taken, steps, reply)
+        write_walked("pairs", self.into_iter(), steps, reply)
     }
 
     fn own(maps: &mut Maps<'a, Self>, call: &Call<'_>, reply: &mut String) -> Result<(), Stop> {

@@ -2,31 +2,13 @@
 
 use crate::held::Held;
 use crate::maps::Maps;
-use crate::walks::{
-    next_item, of_key, of_pair, of_taken, of_value, stepped, taken, walked, write_both, write_end,
-    write_item, write_left, write_step,
-};
 use slotmap::{DefaultKey, HopSlotMap, OutOfMemory, ReserveError, SlotsError};
 use slotmap_rows::{
-    Call, Exchanged, ExchangedThree, ExchangedTwo, Mode, Number, Slots, Stop, Way, Words, looked,
-    written,
+    Call, Exchanged, ExchangedThree, ExchangedTwo, Mode, Number, Shown, Slots, Stop, Way, Words,
+    looked, write_item, write_taken, write_walked, written,
 };
 use std::alloc::{AllocError, Global};
 use std::mem;
-
-// Writes whether so many steps of an iterator read a number of slots within bounds, and where its clone counts otherwise.
-macro_rules! read {
-    ($walk:expr, $steps:expr, $bounds:expr, $reply:expr) => {{
-        let mut walk = $walk;
-        for _ in 0..$steps {
-            walk.next();
-        }
-        let copy = walk.clone()?;
-        let reads = walk.reads();
-        walk.next();
-        write_reads($reply, reads, copy.reads(), $bounds)
-    }};
-}
 
 impl<'a> Held<'a> for HopSlotMap<DefaultKey, Number<'a>> {
     fn made(alloc: Global, capacity: Option<usize>) -> Result<Self, ReserveError> {
@@ -77,49 +59,77 @@ impl<'a> Held<'a> for HopSlotMap<DefaultKey, Number<'a>> {
     }
 
     fn walk_pairs(&self, steps: usize, reply: &mut String) -> Result<(), Stop> {
-        walked!(self.iter(), "pairs", of_pair, steps, reply)
+        write_walked("pairs", self.iter(), steps, reply)
     }
 
     fn walk_keys(&self, steps: usize, reply: &mut String) -> Result<(), Stop> {
-        walked!(self.keys(), "keys", of_key, steps, reply)
+        write_walked("keys", self.keys(), steps, reply)
     }
 
     fn walk_values(&self, steps: usize, reply: &mut String) -> Result<(), Stop> {
-        walked!(self.values(), "values", of_value, steps, reply)
+        write_walked("values", self.values(), steps, reply)
     }
 
     fn walk_all(&self, reply: &mut String) -> Result<(), Stop> {
         reply.push_str("pairs")?;
         for pair in self {
-            write_item(reply, of_pair(pair))?;
+            write_item(reply, pair.shown())?;
         }
         Ok(())
     }
 
     fn drain_some(&mut self, steps: usize, reply: &mut String) -> Result<(), Stop> {
-        taken!(self.drain(), steps, reply)
+        write_taken("pairs", self.drain(), steps, reply)
     }
 
     fn take_some(self, steps: usize, reply: &mut String) -> Result<(), Stop> {
-        taken!(self.into_iter(), steps, reply)
+        write_taken("pairs", self.into_iter(), steps, reply)
     }
 
     fn take_all(self, steps: usize, reply: &mut String) -> Result<(), Stop> {
-        walked!(self.into_iter(), "pairs", of_taken, steps, reply)
+        write_walked("pairs", self.into_iter(), steps, reply)
     }
 
     fn own(maps: &mut Maps<'a, Self>, call: &Call<'_>, reply: &mut String) -> Result<(), Stop> {
         let ("reads", Words::Bounded(walk, steps, least, most)) = (call.name, call.words) else {
             return Err(Stop::Unknown);
         };
-        let bounds = (least, most);
-        match walk {
-            Mode::Iter => read!(maps.map.iter(), steps, bounds, reply),
-            Mode::Keys => read!(maps.map.keys(), steps, bounds, reply),
-            Mode::Values => read!(maps.map.values(), steps, bounds, reply),
-            _ => Err(Stop::Unknown),
-        }
+        let (reads, copied) = match walk {
+            Mode::Iter => count_pairs(&maps.map, steps)?,
+            Mode::Keys => count_keys(&maps.map, steps)?,
+            Mode::Values => count_values(&maps.map, steps)?,
+            _ => return Err(Stop::Unknown),
+        };
+        write_reads(reply, reads, copied, (least, most))
     }
+}
+
+type Map<'a> = HopSlotMap<DefaultKey, Number<'a>>;
+
+// How many slots so many steps of an iterator read, as it and a clone of it say.
+macro_rules! counted {
+    ($walk:expr, $steps:expr) => {{
+        let mut walk = $walk;
+        for _ in 0..$steps {
+            walk.next();
+        }
+        let copy = walk.clone()?;
+        let reads = walk.reads();
+        walk.next();
+        Ok((reads, copy.reads()))
+    }};
+}
+
+fn count_pairs(map: &Map<'_>, steps: u64) -> Result<(usize, usize), AllocError> {
+    counted!(map.iter(), steps)
+}
+
+fn count_keys(map: &Map<'_>, steps: u64) -> Result<(usize, usize), AllocError> {
+    counted!(map.keys(), steps)
+}
+
+fn count_values(map: &Map<'_>, steps: u64) -> Result<(usize, usize), AllocError> {
+    counted!(map.values(), steps)
 }
 
 // Writes whether a number of reads is within bounds, and where a clone counts another one.

@@ -4,25 +4,23 @@ use crate::held::Held;
 use crate::maps::Maps;
 use slotmap::{DefaultKey, Primary};
 use slotmap_rows::{
-    Call, Number, Stop, Way, Words, write_option, write_put, write_put_three, write_put_two,
+    Call, Number, Outcome, Stop, Way, Words, taken, write_put, write_put_three, write_put_two,
 };
 
 impl<'a, M: Held<'a> + Primary<DefaultKey, Number<'a>>> Maps<'a, M> {
     /// The calls that look for a key, or the next ones.
     pub fn on_key(&mut self, call: &Call<'_>, reply: &mut String) -> Result<(), Stop> {
-        match (call.name, call.words) {
-            ("get", Words::Key(key)) => write_option(reply, self.get(key))?,
-            ("contains_key", Words::Key(key)) => write!(reply, "{}", self.map.contains_key(key))?,
-            ("remove", Words::Key(key)) => {
-                write_option(reply, self.map.remove(key).map(|value| value.value))?;
-            }
-            ("index", Words::Key(key)) => write_option(reply, self.map.look(Way::Index, key))?,
-            ("get_unchecked", Words::Key(key)) => {
-                write_option(reply, self.map.look(Way::Unchecked, key))?;
-            }
+        let outcome = match (call.name, call.words) {
+            ("get", Words::Key(key)) => Outcome::Value(self.get(key)),
+            ("contains_key", Words::Key(key)) => Outcome::Flag(self.map.contains_key(key)),
+            ("remove", Words::Key(key)) => Outcome::Value(taken(self.map.remove(key))),
+            ("index", Words::Key(key)) => Outcome::Value(self.map.look(Way::Index, key)),
+            ("get_unchecked", Words::Key(key)) => Outcome::Value(
+                self.map.look(Way::Unchecked, key),
+            ),
             _ => return self.on_value(call, reply),
-        }
-        Ok(())
+        };
+        outcome.write(reply)
     }
 
     fn get(&self, key: DefaultKey) -> Option<u64> {

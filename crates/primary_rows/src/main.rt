@@ -71,7 +71,6 @@ mod runs;
 mod script;
 mod sized;
 mod steps;
-mod walks;
 
 use crate::held::Held;
 use crate::maps::Maps;

@@ -53,13 +53,19 @@ impl<'a, M: Held<'a> + Primary<DefaultKey, Number<'a>>> Maps<'a, M> {
             ("values", Words::Number(steps)) => self.map.walk_values(steps as usize, reply),
             ("for", Words::Nothing) => self.map.walk_all(reply),
             ("drain", Words::Number(steps)) => self.map.drain_some(steps as usize, reply),
-            ("into_iter", Words::Number(steps)) => {
-                self.map.copy()?.take_some(steps as usize, reply)
-            }
-            ("into_iter", Words::Named(Mode::Rest, steps)) => {
-                self.map.copy()?.take_all(steps as usize, reply)
-            }
+            ("into_iter", Words::Number(steps)) => self.take_some(steps as usize, reply),
+            ("into_iter", Words::Named(Mode::Rest, steps)) => self.take_all(steps as usize, reply),
             _ => self.on_list(call, reply),
         }
+    }
+
+    // So many steps of `into_iter` of a clone.
+    fn take_some(&self, steps: usize, reply: &mut String) -> Result<(), Stop> {
+        self.map.copy()?.take_some(steps, reply)
+    }
+
+    // The same, and the rest.
+    fn take_all(&self, steps: usize, reply: &mut String) -> Result<(), Stop> {
+        self.map.copy()?.take_all(steps, reply)
     }
 }

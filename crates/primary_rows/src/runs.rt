@@ -7,7 +7,9 @@ use slotmap::{
     Command, DefaultKey, DetachCommand, Detaching, Primary, Reply, run, run_detaching,
     run_detaching_new, run_new,
 };
-use slotmap_rows::{Call, Number, Stop, Subject, Sum, Supply, Word, Words, keep_even, look};
+use slotmap_rows::{
+    Call, Number, Outcome, Stop, Subject, Sum, Supply, Word, Words, keep_even, look,
+};
 use std::marker::PhantomData;
 
 type Answers<'a> = Vec<Answer<'a>>;
@@ -174,27 +176,37 @@ impl<'a, M: Drop, C: Runner<'a, M>> Runs<'a, M, C> {
 
     // Runs all commands of the row on a new map, and once more in two runs: writes the last reply.
     fn run_all(&mut self, reply: &mut String) -> Result<(), Stop> {
-        let (supply, counts) = (self.supply, self.supply.counts);
-        counts.begin_looks();
-        let (map, replies) = run_steps::<M, C>(supply, &self.steps)?;
-        write_last(reply, &replies, self.steps.len())?;
-        let looks = counts.looks();
-        counts.begin_looks();
-        let (first, second) = self.steps.split_at(self.steps.len() / 2);
-        let (mut other, replies) = run_steps::<M, C>(supply, first)?;
-        all_served(&replies)?;
-        let commands = commands::<M, C>(supply, second)?;
-        let replies = C::run(supply, &mut other, commands).ok_or(Stop::Memory)?;
-        self.again.clear();
-        write_last(&mut self.again, &replies, second.len())?;
+        let (map, looks) = self.run_at_once(reply)?;
+        let looks_of_two = self.run_in_two()?;
         if reply.as_str() != self.again.as_str() {
             write!(reply, " and by two runs {}", self.again)?;
         }
-        if looks != counts.looks() {
+        if looks != looks_of_two {
             write!(reply, " and by two runs another number of looks")?;
         }
         self.map = Some(map);
         Ok(())
+    }
+
+    // Writes the last reply of one run, and returns its map and how often it called `look`.
+    fn run_at_once(&self, reply: &mut String) -> Result<(M, u64), Stop> {
+        self.supply.counts.begin_looks();
+        let (map, replies) = run_steps::<M, C>(self.supply, &self.steps)?;
+        write_last(reply, &replies, self.steps.len())?;
+        Ok((map, self.supply.counts.looks()))
+    }
+
+    // Notes the last reply of two runs, and returns how often they called `look`.
+    fn run_in_two(&mut self) -> Result<u64, Stop> {
+        self.supply.counts.begin_looks();
+        let (first, second) = self.steps.split_at(self.steps.len() / 2);
+        let (mut map, replies) = run_steps::<M, C>(self.supply, first)?;
+        all_served(&replies)?;
+        let commands = commands::<M, C>(self.supply, second)?;
+        let replies = C::run(self.supply, &mut map, commands).ok_or(Stop::Memory)?;
+        self.again.clear();
+        write_last(&mut self.again, &replies, second.len())?;
+        Ok(self.supply.counts.looks())
     }
 
     // Runs the list of a number on a map of its own, and writes the sum of its replies.
@@ -202,42 +214,60 @@ impl<'a, M: Drop, C: Runner<'a, M>> Runs<'a, M, C> {
         let commands = listed::<M, C>(self.supply, number, detaches)?;
         let (_map, replies) = C::run_new(self.supply, commands).ok_or(Stop::Memory)?;
         all_served(&replies)?;
-        let mut sum = Sum::new();
-        for answer in &replies {
-            self.again.clear();
-            write_answer(&mut self.again, answer)?;
-            sum.add(self.again.as_str());
-        }
-        Ok(write!(reply, "{}", sum.value())?)
+        let sum = sum_of(&mut self.again, &replies)?;
+        Ok(write!(reply, "{sum}")?)
     }
 
     // Adds the commands of a call, and runs all. `looks` adds none.
     fn add(&mut self, call: &Call<'_>, reply: &mut String) -> Result<(), Stop> {
-        match (call.name, call.words) {
-            ("looks", Words::Nothing) => {
-                return Ok(write!(reply, "{}", self.supply.counts.looks())?);
-            }
+        let outcome = match (call.name, call.words) {
+            ("looks", Words::Nothing) => Outcome::Number(self.supply.counts.looks()),
             ("capacity_is_within", Words::Number(most)) => {
-                let capacity = match &self.map {
-                    Some(map) => C::capacity(map),
-                    None => 0,
-                };
-                return Ok(write!(reply, "{}", capacity as u64 <= most)?);
+                Outcome::Flag(self.capacity() as u64 <= most)
             }
             ("list", Words::Number(number)) => return self.run_list(number, false, reply),
             ("detaching_list", Words::Number(number)) => {
                 return self.run_list(number, true, reply);
             }
             ("insert_many", Words::Number(count)) => {
-                for value in 0..count {
-                    let command = Command::Insert(value.wrapping_add(1));
-                    self.steps.push(DetachCommand::Plain(command))?;
-                }
+                self.add_inserts(count)?;
+                return self.run_all(reply);
             }
-            _ => self.steps.push(read_step(call).ok_or(Stop::Unknown)?)?,
-        }
-        self.run_all(reply)
+            _ => {
+                self.steps.push(read_step(call).ok_or(Stop::Unknown)?)?;
+                return self.run_all(reply);
+            }
+        };
+        outcome.write(reply)
     }
+
+    // The capacity of the map of the last run.
+    fn capacity(&self) -> usize {
+        match &self.map {
+            Some(map) => C::capacity(map),
+            None => 0,
+        }
+    }
+
+    // Adds so many inserts.
+    fn add_inserts(&mut self, count: u64) -> Result<(), Stop> {
+        for value in 0..count {
+            let command = Command::Insert(value.wrapping_add(1));
+            self.steps.push(DetachCommand::Plain(command))?;
+        }
+        Ok(())
+    }
+}
+
+// The sum of replies, each of which is written to `text`.
+fn sum_of(text: &mut String, replies: &[Answer<'_>]) -> Result<u64, Stop> {
+    let mut sum = Sum::new();
+    for answer in replies {
+        text.clear();
+        write_answer(text, answer)?;
+        sum.add(text.as_str());
+    }
+    Ok(sum.value())
 }
 
 // Fails where memory ran out for a command.

@@ -3,29 +3,29 @@
 use crate::held::Held;
 use crate::maps::Maps;
 use slotmap::{DefaultKey, Primary};
-use slotmap_rows::{Call, Number, Stop, Words, write_reserved};
+use slotmap_rows::{Call, Number, Outcome, Stop, Words, write_reserved};
 
 impl<'a, M: Held<'a> + Primary<DefaultKey, Number<'a>>> Maps<'a, M> {
     /// The calls on the size of a map, or the next ones.
     pub fn on_size(&mut self, call: &Call<'_>, reply: &mut String) -> Result<(), Stop> {
-        match (call.name, call.words) {
-            ("len", Words::Nothing) => write!(reply, "{}", self.map.len())?,
-            ("is_empty", Words::Nothing) => write!(reply, "{}", self.map.is_empty())?,
+        let outcome = match (call.name, call.words) {
+            ("len", Words::Nothing) => Outcome::Number(self.map.len() as u64),
+            ("is_empty", Words::Nothing) => Outcome::Flag(self.map.is_empty()),
             ("has_capacity", Words::Number(least)) => {
-                write!(reply, "{}", self.map.capacity() as u64 >= least)?;
+                Outcome::Flag(self.map.capacity() as u64 >= least)
             }
             ("capacity_is_within", Words::Number(most)) => {
-                write!(reply, "{}", self.map.capacity() as u64 <= most)?;
+                Outcome::Flag(self.map.capacity() as u64 <= most)
             }
             ("reserve", Words::Number(additional)) => {
-                return write_reserved(reply, self.map.reserve(additional as usize));
+                Outcome::Reserved(self.map.reserve(additional as usize))
             }
             ("try_reserve", Words::Number(additional)) => {
-                return write_reserved(reply, self.map.try_reserve(additional as usize));
+                Outcome::Reserved(self.map.try_reserve(additional as usize))
             }
             _ => return self.on_new(call, reply),
-        }
-        Ok(())
+        };
+        outcome.write(reply)
     }
 
     // The calls that make a map, which is kept instead of the row's.

@@ -3,20 +3,20 @@
 use crate::held::{Held, Pair};
 use crate::maps::Maps;
 use slotmap::{DefaultKey, OrPut, PutError, Secondary};
-use slotmap_rows::{Number, Stop, Way, write_option, write_put};
+use slotmap_rows::{Number, Outcome, Stop, Way, taken, write_option, write_put};
 
 impl<'a, M: Held<'a, H> + Secondary<DefaultKey, Number<'a>>, H: Copy> Maps<'a, M, H> {
     /// The calls on a key, or those on its entry.
     pub fn on_key(&mut self, name: &str, key: DefaultKey, reply: &mut String) -> Result<(), Stop> {
-        match name {
-            "get" => write_option(reply, self.get(key))?,
-            "contains_key" => write!(reply, "{}", self.map.contains_key(key))?,
-            "remove" => write_option(reply, self.map.remove(key).map(|value| value.value))?,
-            "index" => write_option(reply, self.map.look(Way::Index, key))?,
-            "get_unchecked" => write_option(reply, self.map.look(Way::Unchecked, key))?,
+        let outcome = match name {
+            "get" => Outcome::Value(self.get(key)),
+            "contains_key" => Outcome::Flag(self.map.contains_key(key)),
+            "remove" => Outcome::Value(taken(self.map.remove(key))),
+            "index" => Outcome::Value(self.map.look(Way::Index, key)),
+            "get_unchecked" => Outcome::Value(self.map.look(Way::Unchecked, key)),
             _ => return self.enter(name, key, reply),
-        }
-        Ok(())
+        };
+        outcome.write(reply)
     }
 
     // The number of a value.
@@ -43,7 +43,7 @@ impl<'a, M: Held<'a, H> + Secondary<DefaultKey, Number<'a>>, H: Copy> Maps<'a, M
 
     fn insert(&mut self, key: DefaultKey, value: u64, reply: &mut String) -> Result<(), Stop> {
         match self.map.insert(key, self.supply.number(value)) {
-            Ok(before) => Ok(write_option(reply, before.map(|before| before.value))?),
+            Ok(before) => Ok(write_option(reply, taken(before))?),
             Err(PutError(back)) if back.value == value => Err(Stop::Memory),
             Err(PutError(_)) => Ok(reply.push_str("another value back")?),
         }

@@ -6,7 +6,8 @@ use crate::held::{Held, Keep};
 use crate::maps::Maps;
 use slotmap::{DefaultKey, Secondary, SlotsError};
 use slotmap_rows::{
-    Number, Slots, Stop, Supply, Word, read_slots, write_put_three, write_put_two, write_slots,
+    Number, Outcome, Slots, Stop, Supply, Word, read_slots, write_put_three, write_put_two,
+    write_slots,
 };
 
 impl<'a, M: Held<'a, H> + Secondary<DefaultKey, Number<'a>>, H: Copy> Maps<'a, M, H> {
@@ -19,22 +20,28 @@ impl<'a, M: Held<'a, H> + Secondary<DefaultKey, Number<'a>>, H: Copy> Maps<'a, M
     ) -> Result<(), Stop> {
         match name {
             "extend" => self.extend(list),
-            "from_iter" => {
-                self.map = self.of_pairs(read_pairs(self.supply, list)?)?;
-                Ok(())
-            }
-            "equals" => {
-                let other = self.of_pairs(read_pairs(self.supply, list)?)?;
-                Ok(write!(reply, "{}", self.map == other)?)
-            }
-            "from_slots" => {
-                let list = read_slots(self.supply, list)?;
-                self.from_list(list, reply)
-            }
+            "from_iter" => self.from_pairs(list),
+            "equals" => self.equals(list, reply),
+            "from_slots" => self.from_slots(list, reply),
             "retain" => self.retain(list, reply),
             "replace_disjoint" => self.replace_disjoint(list, reply),
             _ => Err(Stop::Unknown),
         }
+    }
+
+    fn from_pairs(&mut self, list: &[Word<'_>]) -> Result<(), Stop> {
+        self.map = self.of_pairs(read_pairs(self.supply, list)?)?;
+        Ok(())
+    }
+
+    fn equals(&self, list: &[Word<'_>], reply: &mut String) -> Result<(), Stop> {
+        let other = self.of_pairs(read_pairs(self.supply, list)?)?;
+        Outcome::Flag(self.map == other).write(reply)
+    }
+
+    fn from_slots(&mut self, list: &[Word<'_>], reply: &mut String) -> Result<(), Stop> {
+        let list = read_slots(self.supply, list)?;
+        self.from_list(list, reply)
     }
 
     fn retain(&mut self, list: &[Word<'_>], reply: &mut String) -> Result<(), Stop> {

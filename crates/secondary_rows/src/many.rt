@@ -2,39 +2,43 @@
 
 use crate::held::Held;
 use crate::maps::Maps;
-use crate::walks::{Walk, write_walked};
+use crate::walks::{Walked, write_walked};
 use slotmap::{DefaultKey, Secondary};
-use slotmap_rows::{Number, Stop};
+use slotmap_rows::{Number, Outcome, Stop};
 
 impl<'a, M: Held<'a, H> + Secondary<DefaultKey, Number<'a>>, H: Copy> Maps<'a, M, H> {
     /// The iterators, or the other calls with a number.
     pub fn on_steps(&mut self, name: &str, number: u64, reply: &mut String) -> Result<(), Stop> {
         let steps = number as usize;
         let (alloc, is_ordered) = (self.supply.alloc, M::IS_ORDERED);
-        let (walk, walked) = match name {
-            "drain" => (Walk::Pairs, self.map.drain_some(alloc, steps)?),
-            "into_iter" => (Walk::Pairs, self.map.copy()?.take_some(alloc, steps)?),
-            "iter" => (Walk::Pairs, self.map.walk_pairs(alloc, steps)?),
-            "keys" => (Walk::Keys, self.map.walk_keys(alloc, steps)?),
-            "values" => (Walk::Values, self.map.walk_values(alloc, steps)?),
+        let (items, walked) = match name {
+            "drain" => ("pairs", self.map.drain_some(alloc, steps)),
+            "into_iter" => ("pairs", self.take_some(steps)),
+            "iter" => ("pairs", self.map.walk_pairs(alloc, steps)),
+            "keys" => ("keys", self.map.walk_keys(alloc, steps)),
+            "values" => ("values", self.map.walk_values(alloc, steps)),
             _ => return self.on_number(name, number, reply),
         };
-        write_walked(reply, walk, is_ordered, walked)
+        write_walked(reply, items, is_ordered, walked?)
+    }
+
+    // So many steps of `into_iter` of a clone.
+    fn take_some(&self, steps: usize) -> Result<Walked, Stop> {
+        self.map.copy()?.take_some(self.supply.alloc, steps)
     }
 
     /// The calls with no word.
     pub fn on_all(&mut self, name: &str, reply: &mut String) -> Result<(), Stop> {
         match name {
-            "len" => write!(reply, "{}", self.map.len())?,
-            "is_empty" => write!(reply, "{}", self.map.is_vacant())?,
-            "clear" => self.map.clear_all(),
+            "len" => Outcome::Number(self.map.len() as u64).write(reply),
+            "is_empty" => Outcome::Flag(self.map.is_vacant()).write(reply),
+            "clear" => Ok(self.map.clear_all()),
             "for" => {
                 let walked = self.map.walk_all(self.supply.alloc)?;
-                return write_walked(reply, Walk::Pairs, M::IS_ORDERED, walked);
+                write_walked(reply, "pairs", M::IS_ORDERED, walked)
             }
-            _ => return self.on_bare(name, reply),
+            _ => self.on_bare(name, reply),
         }
-        Ok(())
     }
 
     // The other calls with no word, and those on lists that are empty.

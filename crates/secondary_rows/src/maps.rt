@@ -2,7 +2,7 @@
 
 use crate::held::Held;
 use slotmap::{DefaultKey, Secondary};
-use slotmap_rows::{Call, Number, Stop, Subject, Supply, Word, Words};
+use slotmap_rows::{Call, Number, Outcome, Stop, Subject, Supply, Word, Words};
 use std::mem;
 
 /// The map of a row, and the map set beside it.
@@ -32,7 +32,7 @@ impl<'a, M: Held<'a, H> + Secondary<DefaultKey, Number<'a>>, H: Copy> Maps<'a, M
         match (name, &mut self.other) {
             ("clone", _) => self.other = Some(self.map.copy()?),
             ("clone_from", Some(other)) => self.map.copy_from(other)?,
-            ("is_same", Some(other)) => write!(reply, "{}", self.map == *other)?,
+            ("is_same", Some(other)) => return Outcome::Flag(self.map == *other).write(reply),
             ("exchange", Some(other)) => mem::swap(&mut self.map, other),
             ("drop_clone", _) => self.other = None,
             _ => return Err(Stop::Unknown),

@@ -3,7 +3,7 @@
 use crate::call::read_pair;
 use crate::fresh::Fresh;
 use slotmap::{DefaultKey, OutOfMemory, Secondary, SecondaryMap, SparseSecondaryMap};
-use slotmap_rows::{Call, Stop, Subject, Word, Words, write_option};
+use slotmap_rows::{Call, Outcome, Stop, Subject, Word, Words};
 use std::alloc::Global;
 
 /// What such a map can do beside the calls of `Secondary`. Each method makes the map's own call.
@@ -66,18 +66,18 @@ impl<M: Plain> Subject for PlainMap<M> {
     }
 
     fn call(&mut self, call: &Call<'_>, list: &[Word<'_>], reply: &mut String) -> Result<(), Stop> {
-        match (call.name, call.words) {
-            ("extend_refs", _) => extend_refs(self.alloc, &mut self.map, list)?,
-            ("or_default", Words::Key(key)) => write_option(reply, self.map.put_default(key)?)?,
-            ("insert", Words::Put(key, value)) => {
-                let before = self.map.insert(key, value).map_err(|_| Stop::Memory)?;
-                write_option(reply, before)?;
-            }
-            ("get", Words::Key(key)) => write_option(reply, self.map.get(key).copied())?,
-            ("len", Words::Nothing) => write!(reply, "{}", self.map.len())?,
+        let outcome = match (call.name, call.words) {
+            ("extend_refs", _) => return extend_refs(self.alloc, &mut self.map, list),
+            ("or_default", Words::Key(key)) => Outcome::Value(self.map.put_default(key)?),
+            ("insert", Words::Put(key, value)) => match self.map.insert(key, value) {
+                Ok(before) => Outcome::Value(before),
+                Err(_) => return Err(Stop::Memory),
+            },
+            ("get", Words::Key(key)) => Outcome::Value(self.map.get(key).copied()),
+            ("len", Words::Nothing) => Outcome::Number(self.map.len() as u64),
             _ => return Err(Stop::Unknown),
-        }
-        Ok(())
+        };
+        outcome.write(reply)
     }
 }
 

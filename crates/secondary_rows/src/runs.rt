@@ -5,7 +5,7 @@ use crate::keyed::write_or_put;
 use slotmap::{
     DefaultKey, KeyData, ReserveError, Secondary, SecondaryCommand, SecondaryReply, run_secondary,
 };
-use slotmap_rows::{Call, Number, Stop, Subject, Supply, Word, Words, look, write_option};
+use slotmap_rows::{Call, Number, Outcome, Stop, Subject, Supply, Word, Words, look, write_option};
 use std::alloc::Global;
 use std::marker::PhantomData;
 
@@ -61,18 +61,22 @@ impl<'a, B: Bench<'a, Step>, Step: Drop> Runs<'a, B, Step> {
     fn add(&mut self, call: &Call<'_>, reply: &mut String) -> Result<(), Stop> {
         match (call.name, call.words) {
             ("looks", Words::Nothing) => {
-                return Ok(write!(reply, "{}", self.supply.counts.looks())?);
+                return Outcome::Number(self.supply.counts.looks()).write(reply);
             }
             ("next_list", Words::Nothing) => self.steps.push(None)?,
-            ("insert_many", Words::Number(count)) => {
-                for turn in 0..count {
-                    let step = B::nth(turn.wrapping_add(1)).ok_or(Stop::Unknown)?;
-                    self.steps.push(Some(step))?;
-                }
-            }
+            ("insert_many", Words::Number(count)) => self.add_inserts(count)?,
             _ => self.steps.push(Some(B::read(call).ok_or(Stop::Unknown)?))?,
         }
         self.run(reply)
+    }
+
+    // Adds so many inserts.
+    fn add_inserts(&mut self, count: u64) -> Result<(), Stop> {
+        for turn in 0..count {
+            let step = B::nth(turn.wrapping_add(1)).ok_or(Stop::Unknown)?;
+            self.steps.push(Some(step))?;
+        }
+        Ok(())
     }
 
     // Runs all lists of the row on a new map, and writes the last reply.

@@ -3,7 +3,7 @@
 use crate::hashers::{Made, NoHasher, OfPairs, Pairs};
 use crate::held::{Change, Changed, Given, Held, Keep, Put, Stored, Told};
 use crate::shared::{change_by_entry, put_by_entry, retained, told};
-use crate::walks::{Shown, Walked, drained, listed, looped, stepped, walked};
+use crate::walks::{Walked, looped, room_for, stepped, stepped_to_end};
 use slotmap::secondary::Entry;
 use slotmap::{DefaultKey, NoEntry, OutOfMemory, ReserveError, SecondaryMap, SlotsError};
 use slotmap_rows::{
@@ -109,28 +109,30 @@ impl<'a> Held<'a, NoHasher> for SecondaryMap<DefaultKey, Number<'a>> {
     }
 
     fn walk_pairs(&self, alloc: Global, steps: usize) -> Result<Walked, Stop> {
-        walked!(self.iter(), steps, alloc)
+        stepped_to_end(self.iter(), steps, alloc)
     }
 
     fn walk_keys(&self, alloc: Global, steps: usize) -> Result<Walked, Stop> {
-        walked!(self.keys(), steps, alloc)
+        stepped_to_end(self.keys(), steps, alloc)
     }
 
     fn walk_values(&self, alloc: Global, steps: usize) -> Result<Walked, Stop> {
-        walked!(self.values(), steps, alloc)
+        stepped_to_end(self.values(), steps, alloc)
     }
 
     fn walk_all(&self, alloc: Global) -> Result<Walked, Stop> {
-        looped!(self, alloc)
+        looped(self, self.len(), alloc)
     }
 
     fn drain_some(&mut self, alloc: Global, steps: usize) -> Result<Walked, Stop> {
-        drained!(self, steps, alloc)
+        // The room is made before the drain begins, since a drain empties its map however it ends.
+        let items = room_for(self.len(), steps, alloc)?;
+        stepped(self.drain(), items, steps, alloc)
     }
 
     fn take_some(self, alloc: Global, steps: usize) -> Result<Walked, Stop> {
-        let mut walk = self.into_iter();
-        Ok(stepped!(walk, steps, alloc))
+        let items = room_for(self.len(), steps, alloc)?;
+        stepped(self.into_iter(), items, steps, alloc)
     }
 
     fn tell(&mut self, key: DefaultKey) -> Result<Told, Stop> {

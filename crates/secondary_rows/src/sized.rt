@@ -3,23 +3,23 @@
 use crate::held::Held;
 use crate::maps::Maps;
 use slotmap::{DefaultKey, Secondary};
-use slotmap_rows::{Number, Stop, write_reserved};
+use slotmap_rows::{Number, Outcome, Stop, write_reserved};
 
 impl<'a, M: Held<'a, H> + Secondary<DefaultKey, Number<'a>>, H: Copy> Maps<'a, M, H> {
     /// The calls with a number that are no iterator's.
     pub fn on_number(&mut self, name: &str, number: u64, reply: &mut String) -> Result<(), Stop> {
-        match name {
-            "has_capacity" => write!(reply, "{}", self.map.room() as u64 >= number)?,
-            "capacity_is_within" => write!(reply, "{}", self.map.room() as u64 <= number)?,
+        let outcome = match name {
+            "has_capacity" => Outcome::Flag(self.map.room() as u64 >= number),
+            "capacity_is_within" => Outcome::Flag(self.map.room() as u64 <= number),
             "with_capacity" | "with_capacity_and_hasher" => {
                 return self.on_new(name, Some(number as usize), reply);
             }
-            _ => match self.map.make_room(name, number as usize) {
-                Some(made) => write_reserved(reply, made)?,
-                None => return Err(Stop::Unknown),
-            },
-        }
-        Ok(())
+            _ => {
+                let made = self.map.make_room(name, number as usize);
+                Outcome::Reserved(made.ok_or(Stop::Unknown)?)
+            }
+        };
+        outcome.write(reply)
     }
 
     /// The calls that make a map, which is kept instead of the row's.

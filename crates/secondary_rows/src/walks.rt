@@ -2,21 +2,8 @@
 
 ghost use Rattle.std.specs.Iterator.{IsFinite};
 
-use slotmap::{DefaultKey, Key};
-use slotmap_rows::{Number, SHOWN, Stop, write_key, write_pair};
-use std::alloc::{AllocError, Global};
-
-/// What an iterator of a map yields.
-#[derive(Clone, Copy, PartialEq, Eq)]
-pub enum Walk {
-    Pairs,
-    Keys,
-    Values,
-}
-
-/// A key and the number of a value: what an iterator yields, with the null key or 0 for what it
-/// lacks.
-pub type Item = (DefaultKey, u64);
+use slotmap_rows::{Item, SHOWN, Shown, Stop, write_item};
+use std::alloc::Global;
 
 /// What an iterator yielded in some steps, and afterwards.
 #[derive(Drop)]
@@ -27,50 +14,6 @@ pub struct Walked {
     pub rest: Vec<Item>,
     /// Whether its size hint and its clone agree with that.
     pub is_sound: bool,
-}
-
-/// What an iterator yields.
-pub trait Shown {
-    fn shown(self) -> Item;
-}
-
-impl Shown for DefaultKey {
-    fn shown(self) -> Item {
-        (self, 0)
-    }
-}
-
-impl<'a, 'n> Shown for &'a Number<'n> {
-    fn shown(self) -> Item {
-        (DefaultKey::null(), self.value)
-    }
-}
-
-impl<'a, 'n> Shown for (DefaultKey, &'a Number<'n>) {
-    fn shown(self) -> Item {
-        (self.0, self.1.value)
-    }
-}
-
-/// A pair that was taken out of its map; the value is dropped.
-impl<'n> Shown for (DefaultKey, Number<'n>) {
-    fn shown(self) -> Item {
-        (self.0, self.1.value)
-    }
-}
-
-/// What an iterator yields, to its end.
-pub fn listed<I: Iterator + Drop>(walk: I, alloc: Global) -> Result<Vec<Item>, Stop>
-where
-    I::Item: Shown + Drop,
-    requires can { I.can_next walk }
-    requires ends { IsFinite (I.remaining walk) }
-{
-    let mut items = Vec::new(alloc);
-    for item in walk {
-        items.push(item.shown())?;
-    }
-    Ok(items)
 }
 
 impl Walked {
@@ -99,61 +42,88 @@ impl Walked {
     }
 }
 
-/// So many steps of an iterator. The room for the items is asked for before the first step.
-macro_rules! stepped {
-    ($walk:ident, $steps:expr, $alloc:expr) => {{
-        let mut items = Vec::with_capacity($alloc, $walk.len().min($steps))?;
-        for item in $walk.by_ref().take($steps) {
-            items.push(item.shown())?;
-        }
-        Walked::after($alloc, items, $walk.len(), $walk.size_hint())
-    }};
+/// Room for so many steps of an iterator over so many items.
+pub fn room_for(len: usize, steps: usize, alloc: Global) -> Result<Vec<Item>, Stop> {
+    Ok(Vec::with_capacity(alloc, len.min(steps))?)
 }
 
-/// So many steps of a map's drain, which is then dropped. The room for the items is asked for before
-/// the drain begins, since a drain empties its map however it ends.
-macro_rules! drained {
-    ($map:expr, $steps:expr, $alloc:expr) => {{
-        let mut items = Vec::with_capacity($alloc, $map.len().min($steps))?;
-        let mut drain = $map.drain();
-        for pair in drain.by_ref().take($steps) {
-            items.push(pair.shown())?;
-        }
-        Ok(Walked::after(
-            $alloc,
-            items,
-            drain.len(),
-            drain.size_hint(),
-        ))
-    }};
+/// What an iterator yields, to its end.
+pub fn listed<I: Iterator>(walk: I, alloc: Global) -> Result<Vec<Item>, Stop>
+where
+    I::Item: Shown,
+    requires can { I.can_next walk }
+    requires ends { IsFinite (I.remaining walk) }
+{
+    let mut items = Vec::new(alloc);
+    for item in walk {
+        items.push(item.shown())?;
+    }
+    Ok(items)
+}
+
+/// So many steps of an iterator, which is then dropped. There is room for the items.
+pub fn stepped<I: ExactSizeIterator>(
+    mut walk: I,
+    mut items: Vec<Item>,
+    steps: usize,
+    alloc: Global,
+) -> Result<Walked, Stop>
+where
+    I::Item: Shown,
+    requires can { I.can_next walk }
+    requires ends { IsFinite (I.remaining walk) }
+{
+    step(&mut walk, &mut items, steps)?;
+    Ok(Walked::after(alloc, items, walk.len(), walk.size_hint()))
 }
 
 /// So many steps of an iterator and the rest of it, which a clone has to yield too.
-macro_rules! walked {
-    ($walk:expr, $steps:expr, $alloc:expr) => {{
-        let mut walk = $walk;
-        let walked = stepped!(walk, $steps, $alloc);
-        let again = listed(walk.clone()?, $alloc)?;
-        let rest = listed(walk, $alloc)?;
-        Ok(walked.with_rest(rest, again))
-    }};
+pub fn stepped_to_end<I: ExactSizeIterator + Clone>(
+    mut walk: I,
+    steps: usize,
+    alloc: Global,
+) -> Result<Walked, Stop>
+where
+    I::Item: Shown,
+    requires always { (state : I) → I.can_next state }
+    requires ends { (state : I) → IsFinite (I.remaining state) }
+{
+    let mut items = room_for(walk.len(), steps, alloc)?;
+    step(&mut walk, &mut items, steps)?;
+    let walked = Walked::after(alloc, items, walk.len(), walk.size_hint());
+    let again = listed(walk.clone()?, alloc)?;
+    Ok(walked.with_rest(listed(walk, alloc)?, again))
 }
 
-/// The items of `for` over `&map`.
-macro_rules! looped {
-    ($map:expr, $alloc:expr) => {{
-        let mut items = Vec::with_capacity($alloc, $map.len())?;
-        for pair in $map {
-            items.push(pair.shown())?;
-        }
-        Ok(Walked::after($alloc, items, 0, (0, Some(0))))
-    }};
+// Adds the items of so many steps.
+fn step<I: Iterator>(walk: &mut I, items: &mut Vec<Item>, steps: usize) -> Result<(), Stop>
+where
+    I::Item: Shown,
+    requires can { I.can_next walk.old }
+    requires ends { IsFinite (I.remaining walk.old) }
+{
+    for _ in 0..steps {
+        let Some(item) = walk.next() else {
+            break;
+        };
+        items.push(item.shown())?;
+    }
+    Ok(())
 }
 
-pub(crate) use drained;
-pub(crate) use looped;
-pub(crate) use stepped;
-pub(crate) use walked;
+/// The items of `for` over a map.
+pub fn looped<C: IntoIterator + Drop>(map: C, len: usize, alloc: Global) -> Result<Walked, Stop>
+where
+    C::Item: Shown,
+    requires always { (state : C.IntoIter) → C.IntoIter.can_next state }
+    requires ends { (state : C.IntoIter) → IsFinite (C.IntoIter.remaining state) }
+{
+    let mut items = room_for(len, len, alloc)?;
+    for item in map {
+        items.push(item.shown())?;
+    }
+    Ok(Walked::after(alloc, items, 0, (0, Some(0))))
+}
 
 /// Writes what an iterator yielded in some steps, how many were left then, and the rest.
 ///
@@ -161,15 +131,11 @@ pub(crate) use walked;
 /// written.
 pub fn write_walked(
     reply: &mut String,
-    walk: Walk,
+    name: &str,
     is_ordered: bool,
     walked: Walked,
 ) -> Result<(), Stop> {
-    reply.push_str(match walk {
-        Walk::Pairs => "pairs",
-        Walk::Keys => "keys",
-        Walk::Values => "values",
-    })?;
+    reply.push_str(name)?;
     let Walked {
         items,
         left,
@@ -177,21 +143,16 @@ pub fn write_walked(
         is_sound,
     } = walked;
     let is_open = !is_ordered && !items.is_empty() && left > 0;
-    write_items(reply, walk, (is_ordered, is_open), items)?;
+    write_items(reply, (is_ordered, is_open), items)?;
     write!(reply, ", {left} left")?;
     if !is_sound {
         reply.push_str(" and another clone or size hint")?;
     }
-    write_items(reply, walk, (is_ordered, is_open), rest)
+    write_items(reply, (is_ordered, is_open), rest)
 }
 
 // Writes items, or how many they are.
-fn write_items(
-    reply: &mut String,
-    walk: Walk,
-    order: (bool, bool),
-    mut items: Vec<Item>,
-) -> Result<(), Stop> {
+fn write_items(reply: &mut String, order: (bool, bool), mut items: Vec<Item>) -> Result<(), Stop> {
     let (is_ordered, is_open) = order;
     let len = items.len();
     if len > SHOWN || (is_open && len > 0) {
@@ -202,19 +163,7 @@ fn write_items(
         items.sort_unstable();
     }
     for item in items {
-        write_item(reply, walk, item)?;
+        write_item(reply, item)?;
     }
     Ok(())
-}
-
-// Writes a blank and an item.
-fn write_item(reply: &mut String, walk: Walk, item: Item) -> Result<(), AllocError> {
-    match walk {
-        Walk::Keys => {
-            reply.push_str(" ")?;
-            write_key(reply, item.0)
-        }
-        Walk::Values => write!(reply, " {}", item.1),
-        _ => write_pair(reply, item.0, item.1),
-    }
 }

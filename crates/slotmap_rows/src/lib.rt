@@ -33,11 +33,13 @@ mod call;
 mod files;
 mod maps;
 mod number;
+mod outcome;
 mod progress;
 mod rows;
 mod stop;
 mod sum;
 mod texts;
+mod walks;
 mod words;
 
 pub use call::{Call, Mode, Words};
@@ -47,8 +49,10 @@ pub use maps::{
     write_put_two, write_reserved,
 };
 pub use number::{Counts, Number, Supply, keep_even, look};
+pub use outcome::{Outcome, taken};
 pub use rows::{File, Subject};
 pub use stop::Stop;
 pub use sum::Sum;
 pub use texts::{SHOWN, write_key, write_keys, write_option, write_pair, write_pairs, write_slots};
+pub use walks::{Item, Shown, write_item, write_steps, write_taken, write_walked};
 pub use words::Word;

@@ -93,6 +93,11 @@ impl<'a> Number<'a> {
         count(&counts.made);
         Number { value, counts }
     }
+
+    /// Adds a digit behind the last one.
+    pub fn append(&mut self, digit: u64) {
+        self.value = self.value.wrapping_mul(10).wrapping_add(digit);
+    }
 }
 
 /// What calls take memory and numbers from.

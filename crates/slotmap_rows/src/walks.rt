@@ -1,0 +1,176 @@
+//! Iterators, step by step.
+
+ghost use Rattle.std.specs.Iterator.{IsFinite};
+
+use crate::number::Number;
+use crate::stop::Stop;
+use crate::texts::{SHOWN, write_key, write_pair};
+use slotmap_core::keys::DefaultKey;
+use std::alloc::AllocError;
+
+/// What an iterator yields, with the number of a value.
+#[derive(Clone, Copy, PartialEq, Eq, PartialOrd, Ord)]
+pub enum Item {
+    Key(DefaultKey),
+    Value(u64),
+    Pair(DefaultKey, u64),
+}
+
+/// What an iterator of a map yields, as an [`Item`].
+pub trait Shown: Drop {
+    fn shown(self) -> Item;
+}
+
+impl Shown for DefaultKey {
+    fn shown(self) -> Item {
+        Item::Key(self)
+    }
+}
+
+impl<'a, 'n> Shown for &'a Number<'n> {
+    fn shown(self) -> Item {
+        Item::Value(self.value)
+    }
+}
+
+impl<'a, 'n> Shown for (DefaultKey, &'a Number<'n>) {
+    fn shown(self) -> Item {
+        Item::Pair(self.0, self.1.value)
+    }
+}
+
+/// A pair that was taken out of its map; the value is dropped.
+impl<'n> Shown for (DefaultKey, Number<'n>) {
+    fn shown(self) -> Item {
+        Item::Pair(self.0, self.1.value)
+    }
+}
+
+/// What an iterator lends for writing: the digit 1 is appended to the value behind a key.
+impl<'a, 'n> Shown for (DefaultKey, &'a mut Number<'n>) {
+    fn shown(self) -> Item {
+        let before = self.1.value;
+        self.1.append(1);
+        Item::Pair(self.0, before)
+    }
+}
+
+/// The digit 2 is appended to a value without its key.
+impl<'a, 'n> Shown for &'a mut Number<'n> {
+    fn shown(self) -> Item {
+        let before = self.value;
+        self.append(2);
+        Item::Value(before)
+    }
+}
+
+/// Writes a blank and an item.
+pub fn write_item(reply: &mut String, item: Item) -> Result<(), AllocError> {
+    match item {
+        Item::Key(key) => {
+            reply.push_str(" ")?;
+            write_key(reply, key)
+        }
+        Item::Value(value) => write!(reply, " {value}"),
+        Item::Pair(key, value) => write_pair(reply, key, value),
+    }
+}
+
+/// Writes so many items of an iterator, and how many are left then. The size hint has to say that
+/// too.
+pub fn write_steps<I: ExactSizeIterator>(
+    walk: &mut I,
+    steps: usize,
+    reply: &mut String,
+) -> Result<(), Stop>
+where
+    I::Item: Shown,
+    requires can { I.can_next walk.old }
+    requires ends { IsFinite (I.remaining walk.old) }
+{
+    let mut taken: usize = 0;
+    for _ in 0..steps {
+        let Some(item) = walk.next() else {
+            break;
+        };
+        let item = item.shown();
+        if steps <= SHOWN {
+            write_item(reply, item)?;
+        }
+        taken = taken.wrapping_add(1);
+    }
+    if steps > SHOWN {
+        write!(reply, " ({taken})")?;
+    }
+    let (left, hint) = (walk.len(), walk.size_hint());
+    write_left(reply, left, hint)
+}
+
+fn write_left(reply: &mut String, left: usize, hint: (usize, Option<usize>)) -> Result<(), Stop> {
+    write!(reply, ", {left} left")?;
+    if hint != (left, Some(left)) {
+        write!(reply, " and another size hint")?;
+    }
+    Ok(())
+}
+
+/// The same of an iterator that is then dropped.
+pub fn write_taken<I: ExactSizeIterator>(
+    name: &str,
+    mut walk: I,
+    steps: usize,
+    reply: &mut String,
+) -> Result<(), Stop>
+where
+    I::Item: Shown,
+    requires can { I.can_next walk }
+    requires ends { IsFinite (I.remaining walk) }
+{
+    reply.push_str(name)?;
+    write_steps(&mut walk, steps, reply)
+}
+
+/// The same, and the rest of the iterator, which a clone has to yield too.
+pub fn write_walked<I: ExactSizeIterator + Clone>(
+    name: &str,
+    mut walk: I,
+    steps: usize,
+    reply: &mut String,
+) -> Result<(), Stop>
+where
+    I::Item: Shown,
+    requires always { (state : I) → I.can_next state }
+    requires ends { (state : I) → IsFinite (I.remaining state) }
+{
+    reply.push_str(name)?;
+    write_steps(&mut walk, steps, reply)?;
+    let copy = walk.clone()?;
+    write_rest(walk, copy, reply)
+}
+
+// Writes the rest of an iterator, and where its length, or the copy, has another one.
+fn write_rest<I: ExactSizeIterator>(
+    mut walk: I,
+    mut copy: I,
+    reply: &mut String,
+) -> Result<(), Stop>
+where
+    I::Item: Shown,
+    requires always { (state : I) → I.can_next state }
+    requires ends { (state : I) → IsFinite (I.remaining state) }
+{
+    for _ in 0..walk.len() {
+        let (Some(item), Some(other)) = (walk.next(), copy.next()) else {
+            return Ok(write!(reply, " and another item")?);
+        };
+        let item = item.shown();
+        if item != other.shown() {
+            return Ok(write!(reply, " and another item")?);
+        }
+        write_item(reply, item)?;
+    }
+    if walk.next().is_some() {
+        write!(reply, " and too many items")?;
+    }
+    Ok(())
+}
