@@ -1,5 +1,6 @@
 pub mod Adjacent
-pub mod Leads
-pub mod Searches
+pub mod ByNode
+pub mod Followed
 pub mod GraphSteps
+pub mod Searches
 pub mod Thinned

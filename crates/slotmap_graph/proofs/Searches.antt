@@ -1,29 +1,15 @@
 -- A search from a node, along the edges.
 use Rattle.std.proofs.Common.{◌≡◌, ◌≢◌, ℕ, zero, suc, ◌+◌, ◌<◌, ◌≤◌, ◌⊎◌, ⊎_elim, Bool, true, false, Some, None, List, [], ◌∷◌, ◌++◌, length, get_or}
-use Rattle.std.proofs.Common.{drop, drop-cons, add-one, append_assoc, if◌then◌else◌, is_some, refl, sym, ap, ◌∙◌, inl, inr, arith}
+use Rattle.std.proofs.Common.{drop, append_assoc, if◌then◌else◌, is_some, refl, sym, ap, ◌∙◌, inl, inr, arith}
 use Rattle.std.specs.FinMap as map
-use Rattle.std.proofs.lemmas.List.Sums.{sum_by-append}
 use Rattle.slotmap.specs.Words.{Key, key_cmp, Content, IsLive, Pairs, IsBeside, get, contains_key}
 use Rattle.slotmap.proofs.Callers.{same_or_other, live-remove_other, len_removed, keys_total, exact_keys, secondary}
 use Rattle.std.proofs.lemmas.List.{append-nil, drop-append-le}
 use Rattle.slotmap_graph.specs.declared.Edge.{Edge}
-use Rattle.slotmap_graph.specs.Parts.{EndsLive, ListsEdges, times, same, ends_at, from}
+use Rattle.slotmap_keylist.specs.KeyLists.{same, times}
+use Rattle.slotmap_keylist.proofs.Counts.{one_itself, times_first, times_joined, times_there, here_or_behind, none_behind}
+use Rattle.slotmap_graph.specs.Parts.{Edges, EndsLive, ListsEdges, ends_at, from}
 use Rattle.slotmap_graph.specs.Search.{LeadsBy, Leads, AllLed, HasNext, AreSeen, GoesOn, Finds}
-use Rattle.slotmap_graph.proofs.Adjacent.{one_itself, one_other, times_first, times_there, none_behind}
-
--- what is behind the i-th key of a list
-behind_split : (ks : List Key) (i : ℕ) (k : Key) → i < length ks → k ≡ get_or ks i k → drop i ks ≡ k ∷ drop (i + 1) ks
-behind_split ks i k below is = drop-cons ks i k below ∙ ap (λ n. get_or ks i k ∷ drop n ks) (sym (add-one i)) ∙ ap (λ q. q ∷ drop (i + 1) ks) (sym is)
-
--- a key from i on is the i-th, or behind it
-here_or_behind : (ks : List Key) (i : ℕ) (k x : Key) → i < length ks → k ≡ get_or ks i k → 0 < times x (drop i ks) → (x ≡ k) ⊎ (0 < times x (drop (i + 1) ks))
-here_or_behind ks i k x below is more = elim (same_or_other x k) [
-  | inl e ↦ inl e
-  | inr other ↦ inr (let none = one_other k x (λ s. other (sym s)) in let split = ap (times x) (behind_split ks i k below is) ∙ times_first x k (drop (i + 1) ks) in omega arith)
-]
-
-times_joined : (x : Key) (xs ys : List Key) → times x (xs ++ ys) ≡ times x xs + times x ys
-times_joined x xs ys = sum_by-append (λ q. same q x) xs ys
 
 module _ (seen : Pairs (Unit {0})) (found : List Key) (listed : AreSeen seen found) (x : Key) where
   seen_listed : contains_key seen x ≡ true → times x found ≡ 1
@@ -45,15 +31,15 @@ module _ (seen : Pairs (Unit {0})) (found : List Key) (listed : AreSeen seen fou
   ] refl
 
 -- the edges of a node whose ends aren't among the nodes found are in the list from i on
-abbrev pub Pending : map.FinMap key_cmp Edge → Key → List Key → ℕ → Pairs (Unit {0}) → Type 0
-Pending edges node ks i seen = (k : Key) (e : Edge) → map.get edges k ≡ Some e → e.from ≡ node → (0 < times k (drop i ks)) ⊎ (contains_key seen e.to ≡ true)
+abbrev pub Pending : {E : Type 0} → Edges E → Key → List Key → ℕ → Pairs (Unit {0}) → Type 0
+Pending {E} edges node ks i seen = (k : Key) (e : Edge E) → map.get edges k ≡ Some e → e.from ≡ node → (0 < times k (drop i ks)) ⊎ (contains_key seen e.to ≡ true)
 
-module _ (edges : map.FinMap key_cmp Edge) (node : Key) (ks : List Key) where
+module _ {E : Type 0} (edges : Edges E) (node : Key) (ks : List Key) where
   pub pending_start : (seen : Pairs (Unit {0})) → ListsEdges from edges node ks → Pending edges node ks 0 seen
   pending_start seen lists k e there at =
       inl (let one : ends_at from node (Some e) ≡ 1 = ap (λ q. same q node) at ∙ one_itself node in let is = lists k ∙ ap (ends_at from node) there ∙ one in omega arith)
 
-  pub pending_step : (i : ℕ) (x : Key) (e : Edge) (seen new : Pairs (Unit {0})) → i < length ks → x ≡ get_or ks i x → map.get edges x ≡ Some e → contains_key new e.to ≡ true
+  pub pending_step : (i : ℕ) (x : Key) (e : Edge E) (seen new : Pairs (Unit {0})) → i < length ks → x ≡ get_or ks i x → map.get edges x ≡ Some e → contains_key new e.to ≡ true
       → ((q : Key) → contains_key seen q ≡ true → contains_key new q ≡ true) → Pending edges node ks i seen → Pending edges node ks (i + 1) new
   pending_step i x e seen new below is there marked kept pending k d found at = ⊎_elim
       (λ more. ⊎_elim
@@ -64,11 +50,11 @@ module _ (edges : map.FinMap key_cmp Edge) (node : Key) (ks : List Key) where
   pub pending_end : (i : ℕ) (seen : Pairs (Unit {0})) → length ks ≤ i → Pending edges node ks i seen → HasNext edges node seen
   pending_end i seen past pending b join = ⊎_elim (λ more. absurd (none_behind ks i join.0 past more)) (λ had. rw (← join.4) had) (pending join.0 join.1 join.2 join.3)
 
-module _ {N : Type 0} (nodes : Content N) (edges : map.FinMap key_cmp Edge) (a : Key) (seen : Pairs (Unit {0})) (found : List Key) where
+module _ {N E : Type 0} (nodes : Content N) (edges : Edges E) (a : Key) (seen : Pairs (Unit {0})) (found : List Key) where
   pub finds_start : AreSeen seen found → IsBeside nodes seen → Finds nodes edges a seen found seen found
   finds_start listed live = record { listed = listed; live = live; behind = ([], sym (append-nil found)); kept = λ x there. there; led = λ start leads all. all }
 
-  pub finds_step : (mid : Pairs (Unit {0})) (half : List Key) → Finds nodes edges a seen found mid half → EndsLive nodes edges → (k : Key) (e : Edge) → map.get edges k ≡ Some e → e.from ≡ a
+  pub finds_step : (mid : Pairs (Unit {0})) (half : List Key) → Finds nodes edges a seen found mid half → EndsLive nodes edges → (k : Key) (e : Edge E) → map.get edges k ≡ Some e → e.from ≡ a
       → (new : Pairs (Unit {0})) (now : List Key) → AreSeen new now → GoesOn half now → contains_key new e.to ≡ true → ((q : Key) → q ≢ e.to → get new q ≡ get mid q)
       → Finds nodes edges a seen found new now
   finds_step mid half finds ends k e there at new now listed behind marked others = record {
@@ -102,14 +88,14 @@ pub are_none : (seen : Pairs (Unit {0})) (found : List Key) → seen ≡ map.emp
 are_none seen found empty none x = let gone : get seen x ≡ None = rw empty (grind (arith, secondary)) in ap (times x) none ∙ sym (ap (λ o. if is_some o then 1 else 0) gone)
 
 -- a search that went as far as the node at an index
-pub record Searching {N : Type 0} (nodes : Content N) (edges : map.FinMap key_cmp Edge) (start : Key) (seen : Pairs (Unit {0})) (found : List Key) (at : ℕ) : Type 0 where
+pub record Searching {N E : Type 0} (nodes : Content N) (edges : Edges E) (start : Key) (seen : Pairs (Unit {0})) (found : List Key) (at : ℕ) : Type 0 where
   pub listed : AreSeen seen found
   pub live : IsBeside nodes seen
   pub begun : contains_key seen start ≡ true
   pub led : AllLed edges start seen
   pub done : (x : Key) → contains_key seen x ≡ true → (0 < times x (drop at found)) ⊎ HasNext edges x seen
 
-module _ {N : Type 0} (nodes : Content N) (edges : map.FinMap key_cmp Edge) (start : Key) where
+module _ {N E : Type 0} (nodes : Content N) (edges : Edges E) (start : Key) where
   -- the start is marked, where none was
   pub searching_start : (none seen : Pairs (Unit {0})) (found : List Key) → none ≡ map.empty → IsLive nodes start → AreSeen seen found
       → contains_key seen start ≡ true → ((q : Key) → q ≢ start → get seen q ≡ get none q)
@@ -187,7 +173,7 @@ no_more_than live (k ∷ ks) once there =
     omega arith
 
 -- a search found no more nodes than there are
-pub searching_fits : {N : Type 0} (nodes : Content N) (edges : map.FinMap key_cmp Edge) (start : Key) (seen : Pairs (Unit {0})) (found : List Key)
+pub searching_fits : {N E : Type 0} (nodes : Content N) (edges : Edges E) (start : Key) (seen : Pairs (Unit {0})) (found : List Key)
     (at : ℕ) → Searching nodes edges start seen found at → length found ≤ map.len nodes.live
 searching_fits nodes edges start seen found at searching =
     no_more_than nodes.live found (λ x. listed_once seen found searching.listed x) (λ x more. (searching_found nodes edges start seen found at searching x more).0)

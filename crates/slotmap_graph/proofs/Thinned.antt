@@ -1,30 +1,34 @@
 -- Edges that are taken out one after the other, each of which touches a node.
-use Rattle.std.proofs.Common.{◌≡◌, ◌≢◌, ◌⊎◌, ⊎_elim, Bool, true, false, Option, Some, None, not, if◌then◌else◌, refl, sym, ap, ◌∙◌, inl, inr, arith}
+use Rattle.std.proofs.Common.{◌≡◌, ◌≢◌, ◌⊎◌, ⊎_elim, Bool, true, false, Option, Some, None, not, cond, List, is_some, refl, sym, ap, ◌∙◌, inl, inr, arith}
 use Rattle.std.specs.Option.{option_and_then}
+use Rattle.std.specs.List.{filter}
 use Rattle.std.specs.FinMap as map
-use Rattle.slotmap.specs.Words.{Key, key_cmp, Content, IsSpent, KeepsSpent}
+use Rattle.slotmap.specs.Words.{Key, Content, IsSpent, KeepsSpent}
 use Rattle.slotmap.proofs.Callers.{keys, same_or_other}
 use Rattle.slotmap_graph.specs.declared.Edge.{Edge}
-use Rattle.slotmap_graph.specs.Parts.{touches, avoids}
+use Rattle.slotmap_keylist.specs.KeyLists.{is_key, without}
+use Rattle.slotmap_keylist.proofs.Counts.{is_other, filter_less, filter_all}
+use Rattle.slotmap_graph.specs.Parts.{Edges, touches, avoids, ListsEdges}
+use Rattle.slotmap_graph.proofs.Adjacent.{listed_edge}
 
 -- this edge touched the node, and is gone for good
-pub record IsTaken (node : Key) (old now : Content Edge) (k : Key) : Type 0 where
-  pub edge : Edge
+pub record IsTaken {E : Type 0} (node : Key) (old now : Content (Edge E)) (k : Key) : Type 0 where
+  pub edge : Edge E
   pub was : map.get old.live k ≡ Some edge
   pub touched : touches node edge ≡ true
   pub gone : map.get now.live k ≡ None
   pub for_good : IsSpent now k
 
-pub record Thinned (node : Key) (old now : Content Edge) : Type 0 where
+pub record Thinned {E : Type 0} (node : Key) (old now : Content (Edge E)) : Type 0 where
   pub each : (k : Key) → (map.get now.live k ≡ map.get old.live k) ⊎ IsTaken node old now k
   pub keeps : KeepsSpent old now
 
-module _ (node : Key) (old now : Content Edge) where
+module _ {E : Type 0} (node : Key) (old now : Content (Edge E)) where
   pub thinned_start : now ≡ old → Thinned node old now
   thinned_start is = rw is (record { each = λ k. inl refl; keeps = λ k spent. spent })
 
   module _ (thinned : Thinned node old now) where
-    pub thinned_step : (new : Content Edge) (x : Key) (e : Edge) → map.get now.live x ≡ Some e → touches node e ≡ true → new.live ≡ map.remove now.live x
+    pub thinned_step : (new : Content (Edge E)) (x : Key) (e : Edge E) → map.get now.live x ≡ Some e → touches node e ≡ true → new.live ≡ map.remove now.live x
         → IsSpent new x → KeepsSpent now new → Thinned node old new
     thinned_step new x e there touched is spent keeps = record {
       each = λ k. elim (same_or_other k x) [
@@ -45,20 +49,20 @@ module _ (node : Key) (old now : Content Edge) where
         elsewhere k other (inl same) = inl (stays k other ∙ same)
         elsewhere k other (inr t) = inr (record { edge = t.edge; was = t.was; touched = t.touched; gone = stays k other ∙ t.gone; for_good = keeps k t.for_good })
 
-    module _ (none : (k : Key) (e : Edge) → map.get now.live k ≡ Some e → touches node e ≡ false) where
-      abbrev kept : Option Edge → Option Edge
-      kept o = option_and_then (λ e. if avoids node e then Some e else None) o
+    module _ (none : (k : Key) (e : Edge E) → map.get now.live k ≡ Some e → touches node e ≡ false) where
+      abbrev kept : Option (Edge E) → Option (Edge E)
+      kept o = option_and_then (λ e. cond (avoids node e) (Some e) None) o
 
-      kept_touched : (e : Edge) → touches node e ≡ true → kept (Some e) ≡ None
-      kept_touched e t = ap (λ b. if not b then Some e else None) t
+      kept_touched : (e : Edge E) → touches node e ≡ true → kept (Some e) ≡ None
+      kept_touched e t = ap (λ b. cond (not b) (Some e) None) t
 
-      kept_untouched : (e : Edge) → touches node e ≡ false → kept (Some e) ≡ Some e
-      kept_untouched e t = ap (λ b. if not b then Some e else None) t
+      kept_untouched : (e : Edge E) → touches node e ≡ false → kept (Some e) ≡ Some e
+      kept_untouched e t = ap (λ b. cond (not b) (Some e) None) t
 
-      pub thinned_end : (k : Key) → map.get now.live k ≡ option_and_then (λ e. if avoids node e then Some e else None) (map.get old.live k)
+      pub thinned_end : (k : Key) → map.get now.live k ≡ option_and_then (λ e. cond (avoids node e) (Some e) None) (map.get old.live k)
       thinned_end k = by (thinned.each k)
         where
-          same_kept : (o : Option Edge) → map.get now.live k ≡ o → o ≡ kept o
+          same_kept : (o : Option (Edge E)) → map.get now.live k ≡ o → o ≡ kept o
           same_kept None is = refl
           same_kept (Some e) is = sym (kept_untouched e (none k e is))
 
@@ -66,18 +70,39 @@ module _ (node : Key) (old now : Content Edge) where
           by (inl same) = rw (← same) (same_kept (map.get now.live k) refl)
           by (inr t) = t.gone ∙ sym (ap kept t.was ∙ kept_touched t.edge t.touched)
 
-      pub thinned_spent : (k : Key) (e : Edge) → map.get old.live k ≡ Some e → touches node e ≡ true → IsSpent now k
+      pub thinned_spent : (k : Key) (e : Edge E) → map.get old.live k ≡ Some e → touches node e ≡ true → IsSpent now k
       thinned_spent k e was touched = ⊎_elim (λ same. absurd (let f = none k e (same ∙ was) in cc)) (λ (t : IsTaken node old now k). t.for_good) (thinned.each k)
 
 -- what is left touches the node no more
-pub none_left : (node : Key) (old now : map.FinMap key_cmp Edge) → ((k : Key) → map.get now k ≡ option_and_then (λ e. if avoids node e then Some e else None) (map.get old k))
-    → (k : Key) (e : Edge) → map.get now k ≡ Some e → touches node e ≡ false
-none_left node old now each k e found = by (map.get old k) (sym found ∙ each k)
+pub none_left : {E : Type 0} (node : Key) (old now : Edges E) → ((k : Key) → map.get now k ≡ option_and_then (λ e. cond (avoids node e) (Some e) None) (map.get old k))
+    → (k : Key) (e : Edge E) → map.get now k ≡ Some e → touches node e ≡ false
+none_left {E} node old now each k e found = by (map.get old k) (sym found ∙ each k)
   where
-    by : (o : Option Edge) → Some e ≡ option_and_then (λ e. if avoids node e then Some e else None) o → touches node e ≡ false
+    by : (o : Option (Edge E)) → Some e ≡ option_and_then (λ e. cond (avoids node e) (Some e) None) o → touches node e ≡ false
     by None is = absurd (cc)
     by (Some d) is = at (touches node d) refl
       where
         at : (b : Bool) → touches node d ≡ b → touches node e ≡ false
-        at true t = absurd (let h = is ∙ ap (λ b. if not b then Some d else None) t in cc)
-        at false t = let h = is ∙ ap (λ b. if not b then Some d else None) t in let one : e ≡ d = cc in ap (touches node) one ∙ t
+        at true t = absurd (let h = is ∙ ap (λ b. cond (not b) (Some d) None) t in cc)
+        at false t = let h = is ∙ ap (λ b. cond (not b) (Some d) None) t in let one : e ≡ d = cc in ap (touches node) one ∙ t
+
+-- a list, where each time the edge that goes is taken out
+module _ {E : Type 0} (edges : Edges E) (first now : List Key) (so_far : filter (map.contains_key edges) first ≡ filter (map.contains_key edges) now) where
+  pub thin_step : (x : Key) → filter (map.contains_key (map.remove edges x)) first ≡ filter (map.contains_key (map.remove edges x)) (without x now)
+  thin_step x = sym (filter_less _ (map.contains_key edges) less first) ∙ ap (filter (map.contains_key (map.remove edges x))) so_far
+      ∙ filter_less _ (map.contains_key edges) less now ∙ sym (filter_less _ (λ q. not (is_key q x)) apart now)
+    where
+      less : (q : Key) → map.contains_key (map.remove edges x) q ≡ true → map.contains_key edges q ≡ true
+      less q there = grind (arith, keys)
+
+      gone : map.contains_key (map.remove edges x) x ≡ false
+      gone = grind (arith, keys)
+
+      apart : (q : Key) → map.contains_key (map.remove edges x) q ≡ true → not (is_key q x) ≡ true
+      apart q there = elim (same_or_other q x) [
+        | inl is ↦ absurd (let f = ap (map.contains_key (map.remove edges x)) is ∙ gone in cc)
+        | inr other ↦ ap not (is_other q x other)
+      ]
+
+  pub thin_end : (end : Edge E → Key) (k : Key) → ListsEdges end edges k now → now ≡ filter (map.contains_key edges) first
+  thin_end end k lists = sym (so_far ∙ filter_all (map.contains_key edges) now (λ x more. ap is_some (listed_edge end edges k now lists x more).1))

@@ -1,14 +1,29 @@
--- Which nodes a search finds.
-use Rattle.std.specs.Prelude.{◌≡◌, ℕ, zero, suc, Some, true, List, ◌++◌, if◌then◌else◌}
+-- Which nodes a search finds, and in which order.
+use Rattle.std.specs.Prelude.{◌≡◌, ℕ, zero, suc, Option, Some, None, Bool, true, false, nat_eq, List, [], ◌∷◌, ◌++◌, cond, if◌then◌else◌, option_map}
+use Rattle.std.specs.List.{filter_map, fold}
 use Rattle.std.specs.FinMap as map
-use Rattle.slotmap.specs.Words.{Key, key_cmp, Content, IsBeside, Pairs, contains_key}
+use Rattle.slotmap.specs.Words.{Key, Content, IsBeside, Pairs, contains_key}
+use Rattle.slotmap_keylist.specs.KeyLists.{is_key, times}
 use Rattle.slotmap_graph.specs.declared.Edge.{Edge}
-use Rattle.slotmap_graph.specs.Parts.{times}
+use Rattle.slotmap_graph.specs.Parts.{Edges}
 
-module _ (edges : map.FinMap key_cmp Edge) where
+module _ {E : Type 0} where
+  -- where the edges of a list begin, or end
+  abbrev pub ends_of : (Edge E → Key) → Edges E → List Key → List Key
+  ends_of end edges ks = filter_map (λ k. option_map end (map.get edges k)) ks
+
+  abbrev pub ends_in : Key → Option (Edge E) → Bool
+  ends_in b None = false
+  ends_in b (Some e) = is_key e.to b
+
+  -- the edge k goes to b
+  abbrev pub goes_to : Edges E → Key → Key → Bool
+  goes_to edges b k = ends_in b (map.get edges k)
+
+module _ {E : Type 0} (edges : Edges E) where
   -- an edge goes from a to b
   abbrev pub HasEdge : Key → Key → Type 0
-  HasEdge a b = (k : Key) × (e : Edge) × (map.get edges k ≡ Some e) × (e.from ≡ a) × (e.to ≡ b)
+  HasEdge a b = (k : Key) × (e : Edge E) × (map.get edges k ≡ Some e) × (e.from ≡ a) × (e.to ≡ b)
 
   -- a path of so many edges goes from a to b
   abbrev pub LeadsBy : ℕ → Key → Key → Type 0
@@ -35,8 +50,16 @@ AreSeen seen found = (x : Key) → times x found ≡ (if contains_key seen x the
 abbrev pub GoesOn : List Key → List Key → Type 0
 GoesOn xs ys = (more : List Key) × (ys ≡ xs ++ more)
 
+-- k is put behind the others, unless it is among them
+abbrev pub marked : List Key → Key → List Key
+marked ks k = cond (nat_eq (times k ks) 0) (ks ++ k ∷ []) ks
+
+-- the start comes first; the list goes on with the next nodes of each of its nodes, in turn, where they aren't in it yet
+abbrev pub IsBreadthFirst : (Key → List Key) → Key → List Key → Type 0
+IsBreadthFirst next start found = found ≡ fold (λ ks k. fold marked ks (next k)) (start ∷ []) found
+
 -- a search found more, by outgoing edges of a
-pub record Finds {N : Type 0} (nodes : Content N) (edges : map.FinMap key_cmp Edge) (a : Key) (seen : Pairs (Unit {0})) (found : List Key) (new : Pairs (Unit {0})) (now : List Key) : Type 0 where
+pub record Finds {N E : Type 0} (nodes : Content N) (edges : Edges E) (a : Key) (seen : Pairs (Unit {0})) (found : List Key) (new : Pairs (Unit {0})) (now : List Key) : Type 0 where
   pub listed : AreSeen new now
   pub live : IsBeside nodes new
   pub behind : GoesOn found now

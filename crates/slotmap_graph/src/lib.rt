@@ -1,4 +1,4 @@
-//! A directed graph: nodes and edges under keys of their own.
+//! A directed graph: nodes and edges with values, under keys of their own.
 //!
 //! An edge of a [`Graph`] goes from one node to another or to itself, and two nodes may have several.
 //! What is proved of it:
@@ -6,21 +6,23 @@
 //! - Edges only join existing nodes: [`Graph::remove_node`] removes the node's edges with it, and no
 //!   others.
 //! - A removed key stays stale, also that of an edge.
-//! - A call that fails changes nothing.
+//! - The edges of a node are listed in the order in which they were added.
+//! - A call that fails changes nothing, and returns the value.
 //!
 //! Each node has a list of its outgoing edges, and one of its incoming edges. So a call
 //! takes constant time, unless a vector grows, with these exceptions:
 //!
-//! - [`Graph::neighbours`] takes time linear in the number of edges from the node.
-//! - [`Graph::remove_edge`] searches two lists, the outgoing edges of its first node and the incoming
-//!   edges of its second. Edges that were added first are found first.
+//! - [`Graph::neighbours`] and [`Graph::find_edge`] take time linear in the number of edges from the
+//!   node.
+//! - [`Graph::remove_edge`] searches two lists from the back, the outgoing edges of its first node and
+//!   the incoming edges of its second. Edges that were added last are found first.
 //! - [`Graph::remove_node`] looks for each of the node's edges in one other list.
 //!
 //! ```
-//! let mut graph = Graph::new(alloc)?;
+//! let mut graph: Graph<NodeKey, &str, u64> = Graph::new(alloc)?;
 //! let a = graph.add_node("a")?;
 //! let b = graph.add_node("b")?;
-//! let edge = graph.add_edge(a, b)?;
+//! let edge = graph.add_edge(a, b, 5)?;
 //! assert_eq!(rt; graph.edges_from(a), [edge].as_slice());
 //! assert_eq!(rt; graph.neighbours(alloc, a)?.as_slice(), [b].as_slice());
 //! graph.remove_node(b);
@@ -29,100 +31,80 @@
 //! ```
 #![tactic(auto, using(slotmap::proofs::Callers::keys))]
 
-ghost use Rattle.std.specs.Prelude.{◌≡◌, ◌<◌, ◌≤◌, List, Some, None, IfOk, OnOk, IfErr, OnErr, OnSome, IfSome, IfNone, true, false, option_copied, if◌then◌else◌};
-ghost use Rattle.std.specs.Option.{option_and_then};
+ghost use Rattle.std.specs.Prelude.{◌≡◌, ◌+◌, ◌≤◌, Some, None, IfOk, IfErr, IsOk, IfSome, length, option_copied, option_map, map as list_map, true};
 ghost use Rattle.std.specs.FinMap as map;
-ghost use Rattle.slotmap.specs.Words.{Key as KeyOf, IsBeside, IsContent, IsLive, IsNew, IsSpent, KeepsSpent, Refuses};
-ghost use Rattle.slotmap_graph.specs.declared.Edge.{Edge as SeenEdge};
-ghost use Rattle.slotmap_graph.specs.declared.EdgeError.TheVariants as edge_error;
-ghost use Rattle.slotmap_graph.specs.Parts.{avoids, touches, from, to, ListsEdges, LeadTo, RefusesEdge, RefusesLiveEdge, times};
-ghost use Rattle.slotmap_graph.specs.Search.{AreSeen, Finds, HasNext, Leads};
+ghost use Rattle.std.specs.Borrow.{sem};
+ghost use Rattle.std.specs.Option.{option_copied_mut};
+ghost use Rattle.slotmap.specs.Words.{IsNew, IsLive, MakesRoom, RefusesCapacity, used};
+ghost use Rattle.slotmap_graph.specs.Parts.{both, edges_at, ends, from, to, value, ListsEdges, RefusesEither, SameEdges};
 
-use crate::lists::{Lists, first, link, list_of, make_room, unlink};
-use crate::search::{Seen, mark, none_seen};
-use slotmap::{DefaultKey, InsertError, NodeKey, ReserveError, SecondaryMap, SlotMap};
-use std::alloc::{AllocError, Global};
-use std::marker::Model;
-use thiserror::Error;
-
+mod change;
+mod edge_key;
 mod lists;
 mod search;
 
-/// An edge from one node to another, or to itself.
-#[derive(Clone, Copy, Debug)]
-pub struct Edge {
-    /// The node where the edge begins.
-    pub from: NodeKey,
-    /// The node where it ends.
-    pub to: NodeKey,
+use crate::lists::{Lists, list_of};
+pub use edge_key::EdgeKey;
+use slotmap::basic::Keys;
+use slotmap::{DefaultKey, Key, NodeKey, ReserveError, SecondaryMap, SlotMap};
+use slotmap_keylist::{inner, outer};
+use std::alloc::Global;
+use std::fmt;
+use std::marker::{Model, PhantomData};
+use thiserror::Error;
+
+/// An edge from one node to another, or to itself, with its value.
+#[derive(Debug, Drop)]
+pub struct Edge<E> {
+    from: DefaultKey,
+    to: DefaultKey,
+    value: E,
 }
 
-/// Nodes with values of type `N`, and edges between them.
+/// Nodes with values of type `N` under keys of type `K`, and edges between them with values of type
+/// `E`.
 ///
 /// A clause sees `nodes` and `edges`. Their `live` is the finite map from the keys to the values, or
-/// to the edges, and `IsSpent` says which keys are never used again.
+/// to the edges, and `IsSpent` says which keys are never used again. It sees `out` and `into` as well,
+/// by which `edges_at` has the edges of a node in their order.
 #[derive(Drop)]
-pub struct Graph<N> {
+pub struct Graph<K, N, E> {
     alloc: Global,
-    nodes: SlotMap<NodeKey, N>,
-    edges: SlotMap<DefaultKey, Edge>,
+    nodes: SlotMap<K, N>,
+    edges: SlotMap<EdgeKey, Edge<E>>,
     // The edges from each node, and those to it.
     out: Lists,
     into: Lists,
 }
 
-impl<N> Model for Graph<N> {
-    ghost use Rattle.slotmap_graph.specs.Parts.{Seen, seen_code, IsGraph};
+impl<K, N, E> Model for Graph<K, N, E> {
+    ghost use Rattle.slotmap_graph.specs.Parts.{Seen, seen_code, IsGraph, by_node};
 
-    ghost Value = { Seen N };
+    ghost Value = { Seen N E };
 
-    ghost coded = { seen_code N.code };
+    ghost coded = { seen_code N.code E.code };
 
-    ghost view = { λ g. record { nodes = g.nodes; edges = g.edges } };
+    ghost view = { λ g. record { nodes = g.nodes; edges = g.edges; out = by_node g.nodes g.out.pairs; into = by_node g.nodes g.into.pairs } };
 
     ghost invariant = { λ g. IsGraph g.nodes g.edges.live g.out.pairs g.into.pairs };
 }
 
-/// An edge was not added. The graph is unchanged.
-#[derive(Clone, Copy, Debug, Drop, PartialEq, Eq, Error)]
-pub enum EdgeError {
+/// An edge was not added. The graph is unchanged, and the error holds the edge's value.
+#[derive(Debug, Drop, Error)]
+pub enum EdgeError<E> {
     /// One of its two nodes doesn't exist.
     #[error("a node is gone")]
-    Gone,
+    Gone(E),
     /// There are as many edges as a map can hold.
     #[error("the graph is full")]
-    Full,
+    Full(E),
     /// The allocation fails.
     #[error("out of memory")]
-    Memory,
+    Memory(E),
 }
 
-impl From<AllocError> for EdgeError {
-    ghost from_gives = { λ a e. e ≡ edge_error.Memory };
-
-    fn from(_: AllocError) -> EdgeError {
-        EdgeError::Memory
-    }
-}
-
-// Adds an edge to the map of edges.
-fn insert_edge(edges: &mut SlotMap<DefaultKey, Edge>, edge: Edge) -> Result<DefaultKey, EdgeError>
-    ensures adds { IfOk result (λ key. edges.new.live ≡ map.insert edges.old.live key edge) }
-    ensures fresh { IfOk result (λ key. map.get edges.old.live key ≡ None) }
-    ensures unspent { IfOk result (λ key. IsSpent edges.old key → ⊥) }
-    ensures err { IfErr result (RefusesLiveEdge edges.old) }
-    ensures unchanged { OnErr result (edges.new.live ≡ edges.old.live) }
-    ensures gone { KeepsSpent edges.old edges.new }
-{
-    match edges.insert(edge) {
-        Ok(key) => Ok(key),
-        Err(InsertError::Full(_)) => Err(EdgeError::Full),
-        Err(InsertError::Memory(_)) => Err(EdgeError::Memory),
-    }
-}
-
-impl<N: Drop> Graph<N> {
-    /// Makes a graph with no node.
+impl<N: Drop, E: Drop> Graph<NodeKey, N, E> {
+    /// Makes a graph with no node, whose nodes have keys of type `NodeKey`.
     ///
     /// It fails only if memory runs out.
     pub fn new(alloc: Global) -> Result<Self, ReserveError>
@@ -130,8 +112,47 @@ impl<N: Drop> Graph<N> {
         ensures edges { IfOk result (λ graph. IsNew graph.edges) }
         ensures err { IfErr result (λ error. error ≡ ReserveError.Memory) }
     {
-        let nodes = SlotMap::with_key(alloc)?;
-        let edges = SlotMap::new(alloc)?;
+        Graph::with_key(alloc)
+    }
+}
+
+impl<K: Key, N: Drop, E: Drop> Graph<K, N, E> {
+    ghost use Rattle.slotmap_graph.specs.Lends.{lends_node, lends_edge};
+
+    /// Makes a graph with no node, with any type of keys of nodes.
+    ///
+    /// It fails only if memory runs out.
+    pub fn with_key(alloc: Global) -> Result<Self, ReserveError>
+        ensures nodes { IfOk result (λ graph. IsNew graph.nodes) }
+        ensures edges { IfOk result (λ graph. IsNew graph.edges) }
+        ensures err { IfErr result (λ error. error ≡ ReserveError.Memory) }
+    {
+        Graph::with_capacity_and_key(alloc, 0, 0)
+    }
+
+    /// Makes a graph with no node and with room for so many nodes and edges, with any type of keys of
+    /// nodes.
+    ///
+    /// It fails with `TooGreat` if one of the two is over 4294967294, and with `Memory` if memory runs
+    /// out.
+    ///
+    /// ```
+    /// let graph: Graph<DefaultKey, &str, u64> = Graph::with_capacity_and_key(alloc, 2, 4)?;
+    /// assert_eq!(rt; graph.node_count(), 0);
+    /// ```
+    pub fn with_capacity_and_key(
+        alloc: Global,
+        nodes: usize,
+        edges: usize,
+    ) -> Result<Self, ReserveError>
+        ensures nodes { IfOk result (λ graph. IsNew graph.nodes) }
+        ensures edges { IfOk result (λ graph. IsNew graph.edges) }
+        ensures node_room { IfOk result (λ graph. nodes ≤ graph.nodes.room) }
+        ensures edge_room { IfOk result (λ graph. edges ≤ graph.edges.room) }
+        ensures err { IfErr result (RefusesEither nodes edges) }
+    {
+        let nodes = SlotMap::with_capacity_and_key(alloc, nodes)?;
+        let edges = SlotMap::with_capacity_and_key(alloc, edges)?;
         let out = SecondaryMap::new(alloc)?;
         let into = SecondaryMap::new(alloc)?;
         Ok(Graph {
@@ -143,106 +164,48 @@ impl<N: Drop> Graph<N> {
         })
     }
 
-    /// Adds a node with no edge, and returns its key.
+    /// Reserves room for `additional` more nodes: to add them can't fail then.
     ///
-    /// If the call fails, the error holds the value, and the graph is unchanged.
-    pub fn add_node(&mut self, node: N) -> Result<NodeKey, InsertError<N>>
-        ensures adds { IfOk result (λ key. self.new.nodes.live ≡ map.insert self.old.nodes.live key node) }
-        ensures fresh { IfOk result (λ key. map.get self.old.nodes.live key ≡ None) }
+    /// It fails with `TooGreat` if more than 4294967294 nodes would be there, and with `Memory` if
+    /// memory runs out. The graph has the same nodes then.
+    ///
+    /// ```
+    /// let mut graph: Graph<NodeKey, &str, u64> = Graph::new(alloc)?;
+    /// graph.reserve_nodes(2)?;
+    /// assert!(rt; graph.add_node("a").is_ok());
+    /// ```
+    pub fn reserve_nodes(&mut self, additional: usize) -> Result<(), ReserveError>
+        ensures makes_room { MakesRoom true self.old.nodes additional (IsOk result) self.new.nodes }
+        ensures err { IfErr result (RefusesCapacity (used self.old.nodes + additional)) }
+        ensures reuses { additional ≤ map.len self.old.nodes.next → IsOk result }
         ensures edges { self.new.edges ≡ self.old.edges }
-        ensures err { IfErr result (Refuses self.old.nodes node) }
-        ensures unchanged { OnErr result (self.new.nodes.live ≡ self.old.nodes.live) }
-        ensures gone { KeepsSpent self.old.nodes self.new.nodes }
+        ensures out { SameEdges self.old.out self.new.out }
+        ensures into { SameEdges self.old.into self.new.into }
     {
-        self.nodes.insert(node)
+        self.nodes.reserve(additional)
     }
 
-    /// Adds an edge from one node to another, and returns its key, which no edge had before.
+    /// Reserves room for `additional` more edges. To add one may still need memory for the lists of its
+    /// two nodes.
     ///
-    /// Memory is allocated before anything changes. If the call fails, the graph is unchanged.
-    pub fn add_edge(&mut self, from: NodeKey, to: NodeKey) -> Result<DefaultKey, EdgeError>
-        // The edge is there under a new key.
-        ensures adds { IfOk result (λ key. self.new.edges.live ≡ map.insert self.old.edges.live key (record { from = from; to = to })) }
-        ensures fresh { IfOk result (λ key. map.get self.old.edges.live key ≡ None) }
-        ensures unspent { IfOk result (λ key. IsSpent self.old.edges key → ⊥) }
-        ensures live { OnOk result (IsLive self.old.nodes from × IsLive self.old.nodes to) }
-
-        // Why the call failed, and what that leaves.
-        ensures err { IfErr result (RefusesEdge self.old.nodes self.old.edges from to) }
-        ensures unchanged { OnErr result (self.new.edges.live ≡ self.old.edges.live) }
-
-        // All else is as before.
+    /// It fails with `TooGreat` if more than 4294967294 edges would be there, and with `Memory` if
+    /// memory runs out. The graph has the same edges then.
+    ///
+    /// ```
+    /// let mut graph: Graph<NodeKey, &str, u64> = Graph::new(alloc)?;
+    /// graph.reserve_edges(2)?;
+    /// let a = graph.add_node("a")?;
+    /// assert!(rt; graph.add_edge(a, a, 5).is_ok());
+    /// ```
+    pub fn reserve_edges(&mut self, additional: usize) -> Result<(), ReserveError>
+        ensures makes_room { MakesRoom true self.old.edges additional (IsOk result) self.new.edges }
+        ensures err { IfErr result (RefusesCapacity (used self.old.edges + additional)) }
+        ensures reuses { additional ≤ map.len self.old.edges.next → IsOk result }
         ensures nodes { self.new.nodes ≡ self.old.nodes }
-        ensures gone { KeepsSpent self.old.edges self.new.edges }
+        ensures out { SameEdges self.old.out self.new.out }
+        ensures into { SameEdges self.old.into self.new.into }
     {
-        if !self.nodes.contains_key(from) || !self.nodes.contains_key(to) {
-            return Err(EdgeError::Gone);
-        }
-        make_room(self.alloc, &mut self.out, from)?;
-        make_room(self.alloc, &mut self.into, to)?;
-        let key = insert_edge(&mut self.edges, Edge { from, to })?;
-        link(&mut self.out, from, key);
-        link(&mut self.into, to, key);
-        Ok(key)
-    }
-
-    /// Removes an edge, and returns it, or `None` if it doesn't exist. Its key is never used again.
-    pub fn remove_edge(&mut self, edge: DefaultKey) -> Option<Edge>
-        ensures value { result ≡ map.get self.old.edges.live edge }
-        ensures removed { self.new.edges.live ≡ map.remove self.old.edges.live edge }
-        ensures for_good { OnSome result (IsSpent self.new.edges edge) }
-        ensures nodes { self.new.nodes ≡ self.old.nodes }
-        ensures gone { KeepsSpent self.old.edges self.new.edges }
-    {
-        let removed = self.edges.remove(edge)?;
-        unlink(&mut self.out, removed.from, edge);
-        unlink(&mut self.into, removed.to, edge);
-        Some(removed)
-    }
-
-    // An edge from a node or to it, or `None` if there is none.
-    fn edge_at(&self, node: NodeKey) -> Option<DefaultKey>
-        ensures some { IfSome result (λ key. (e : SeenEdge) × (map.get self.now.edges.live key ≡ Some e) × (touches node e ≡ true)) }
-        ensures none { IfNone result ((k : KeyOf) (e : SeenEdge) → map.get self.now.edges.live k ≡ Some e → touches node e ≡ false) }
-    {
-        match first(&self.out, node) {
-            Some(edge) => Some(edge),
-            None => first(&self.into, node),
-        }
-    }
-
-    /// Removes every edge from a node or to it, and no other. Their keys are spent for good.
-    pub fn remove_edges_of(&mut self, node: NodeKey)
-        ensures edges { (k : KeyOf) → map.get self.new.edges.live k ≡ option_and_then
-            (λ e. if avoids node e then Some e else None) (map.get self.old.edges.live k) }
-        ensures for_good { (k : KeyOf) (e : SeenEdge) → map.get self.old.edges.live k ≡ Some e → touches node e ≡ true → IsSpent self.new.edges k }
-        ensures nodes { self.new.nodes ≡ self.old.nodes }
-        ensures gone { KeepsSpent self.old.edges self.new.edges }
-    {
-        while let Some(edge) = self.edge_at(node) {
-            self.remove_edge(edge);
-        }
-    }
-
-    /// Removes a node, and every edge from it or to it. It returns the node's value, or `None` if
-    /// the node doesn't exist. The key of the node and those of its edges are never used again.
-    pub fn remove_node(&mut self, node: NodeKey) -> Option<N>
-        // The node is gone.
-        ensures value { result ≡ map.get self.old.nodes.live node }
-        ensures removed { self.new.nodes.live ≡ map.remove self.old.nodes.live node }
-        ensures for_good { OnSome result (IsSpent self.new.nodes node) }
-        ensures gone { KeepsSpent self.old.nodes self.new.nodes }
-
-        // Its edges are gone, and no others.
-        ensures edges { (k : KeyOf) → map.get self.new.edges.live k ≡ option_and_then
-            (λ e. if avoids node e then Some e else None) (map.get self.old.edges.live k) }
-        ensures edges_for_good { (k : KeyOf) (e : SeenEdge) → map.get self.old.edges.live k ≡ Some e → touches node e ≡ true → IsSpent self.new.edges k }
-        ensures edges_gone { KeepsSpent self.old.edges self.new.edges }
-    {
-        self.remove_edges_of(node);
-        self.out.remove(node);
-        self.into.remove(node);
-        self.nodes.remove(node)
+        self.edges.reserve(additional)
     }
 
     /// Returns the number of nodes, in constant time.
@@ -260,108 +223,174 @@ impl<N: Drop> Graph<N> {
     }
 
     /// Returns whether a node exists, in constant time.
-    pub fn contains_node(&self, node: NodeKey) -> bool
-        ensures { result ≡ map.contains_key self.now.nodes.live node }
+    pub fn contains_node(&self, node: K) -> bool
+        ensures { result ≡ map.contains_key self.now.nodes.live (K.data_of node) }
     {
         self.nodes.contains_key(node)
     }
 
     /// Returns whether an edge exists, in constant time.
-    pub fn contains_edge(&self, edge: DefaultKey) -> bool
+    pub fn contains_edge(&self, edge: EdgeKey) -> bool
         ensures { result ≡ map.contains_key self.now.edges.live edge }
     {
         self.edges.contains_key(edge)
     }
 
-    /// Returns the value of a node, or `None` if the node doesn't exist.
-    pub fn get(&self, node: NodeKey) -> Option<&N>
-        ensures { option_copied result ≡ map.get self.now.nodes.live node }
+    /// Returns an iterator over the keys of the nodes, by ascending index.
+    ///
+    /// All its steps together read each slot once.
+    ///
+    /// ```
+    /// let mut graph: Graph<NodeKey, &str, u64> = Graph::new(alloc)?;
+    /// let a = graph.add_node("a")?;
+    /// let b = graph.add_node("b")?;
+    /// let mut nodes = graph.nodes();
+    /// assert_eq!(rt; nodes.next(), Some(a));
+    /// assert_eq!(rt; nodes.next(), Some(b));
+    /// assert_eq!(rt; nodes.next(), None);
+    /// ```
+    pub fn nodes(&self) -> Keys<'_, K, N>
+        ensures { result ≡ map.keys self.now.nodes.live }
+    {
+        self.nodes.keys()
+    }
+
+    /// Returns an iterator over the keys of the edges, by ascending index.
+    ///
+    /// All its steps together read each slot once.
+    ///
+    /// ```
+    /// let mut graph: Graph<NodeKey, &str, u64> = Graph::new(alloc)?;
+    /// let a = graph.add_node("a")?;
+    /// let edge = graph.add_edge(a, a, 5)?;
+    /// let mut edges = graph.edges();
+    /// assert_eq!(rt; edges.next(), Some(edge));
+    /// assert_eq!(rt; edges.next(), None);
+    /// ```
+    pub fn edges(&self) -> Keys<'_, EdgeKey, Edge<E>>
+        ensures { result ≡ map.keys self.now.edges.live }
+    {
+        self.edges.keys()
+    }
+
+    /// Returns the value of a node, or `None` if the node doesn't exist, in constant time.
+    pub fn node(&self, node: K) -> Option<&N>
+        ensures { option_copied result ≡ map.get self.now.nodes.live (K.data_of node) }
     {
         self.nodes.get(node)
     }
 
-    /// Returns an edge, or `None` if the edge doesn't exist. Both its nodes exist.
-    pub fn edge(&self, edge: DefaultKey) -> Option<&Edge>
-        ensures value { option_copied result ≡ map.get self.now.edges.live edge }
-        ensures live { IfSome result (λ e. IsLive self.now.nodes e.now.from × IsLive self.now.nodes e.now.to) }
+    /// Returns a mutable reference to the value of a node, or `None` if the node doesn't exist, in
+    /// constant time.
+    ///
+    /// ```
+    /// let mut graph: Graph<NodeKey, u64, u64> = Graph::new(alloc)?;
+    /// let a = graph.add_node(1)?;
+    /// if let Some(value) = graph.node_mut(a) {
+    ///     *value = 2;
+    /// }
+    /// assert_eq!(rt; graph.node(a), Some(&2));
+    /// ```
+    pub fn node_mut(&mut self, node: K) -> Option<&mut N>
+        ensures* writes_back { sem 𝓛 (lends_node K.row N.row E.row self.entry (K.data_of node) result) }
+        ensures value { option_copied_mut result ≡ map.get self.old.nodes.live (K.data_of node) }
     {
-        self.edges.get(edge)
+        match self.nodes.get_mut(node) {
+            Some(value) => Some(value),
+            None => None,
+        }
     }
 
-    /// Returns the keys of a node's outgoing edges, each once, in no particular order.
+    /// Returns the value of an edge, or `None` if the edge doesn't exist, in constant time.
+    pub fn edge(&self, edge: EdgeKey) -> Option<&E>
+        ensures { option_copied result ≡ option_map value (map.get self.now.edges.live edge) }
+    {
+        Some(&self.edges.get(edge)?.value)
+    }
+
+    /// Returns a mutable reference to the value of an edge, or `None` if the edge doesn't exist, in
+    /// constant time.
+    ///
+    /// ```
+    /// let mut graph: Graph<NodeKey, u64, u64> = Graph::new(alloc)?;
+    /// let a = graph.add_node(1)?;
+    /// let edge = graph.add_edge(a, a, 5)?;
+    /// if let Some(value) = graph.edge_mut(edge) {
+    ///     *value = 6;
+    /// }
+    /// assert_eq!(rt; graph.edge(edge), Some(&6));
+    /// ```
+    pub fn edge_mut(&mut self, edge: EdgeKey) -> Option<&mut E>
+        ensures* writes_back { sem 𝓛 (lends_edge K.row N.row E.row self.entry edge result) }
+        ensures value { option_copied_mut result ≡ option_map value (map.get self.old.edges.live edge) }
+    {
+        match self.edges.get_mut(edge) {
+            Some(edge) => Some(&mut edge.value),
+            None => None,
+        }
+    }
+
+    /// Returns the nodes where an edge begins and ends, or `None` if the edge doesn't exist, in
+    /// constant time. Both nodes exist.
+    ///
+    /// ```
+    /// let mut graph: Graph<NodeKey, &str, u64> = Graph::new(alloc)?;
+    /// let a = graph.add_node("a")?;
+    /// let b = graph.add_node("b")?;
+    /// let edge = graph.add_edge(a, b, 5)?;
+    /// assert_eq!(rt; graph.edge_ends(edge), Some((a, b)));
+    /// ```
+    pub fn edge_ends(&self, edge: EdgeKey) -> Option<(K, K)>
+        ensures ends { option_map (both K.data_of) result ≡ option_map ends (map.get self.now.edges.live edge) }
+        ensures live { IfSome result (λ ends. IsLive self.now.nodes (K.data_of ends.0) × IsLive self.now.nodes (K.data_of ends.1)) }
+    {
+        let edge = self.edges.get(edge)?;
+        Some((outer(edge.from), outer(edge.to)))
+    }
+
+    /// Returns the keys of a node's outgoing edges, each once, in the order in which they were added.
     ///
     /// Constant time. A removed node has none.
-    pub fn edges_from(&self, node: NodeKey) -> &[DefaultKey]
-        ensures { ListsEdges from self.now.edges.live node result.now }
+    pub fn edges_from(&self, node: K) -> &[EdgeKey]
+        ensures in_order { result.now ≡ edges_at self.now.out (K.data_of node) }
+        ensures listed { ListsEdges from self.now.edges.live (K.data_of node) result.now }
     {
-        list_of(&self.out, node)
+        list_of(&self.out, inner(node))
     }
 
-    /// Returns the keys of a node's incoming edges, each once, in no particular order.
+    /// Returns the keys of a node's incoming edges, each once, in the order in which they were added.
     ///
     /// Constant time. A removed node has none.
-    pub fn edges_to(&self, node: NodeKey) -> &[DefaultKey]
-        ensures { ListsEdges to self.now.edges.live node result.now }
+    pub fn edges_to(&self, node: K) -> &[EdgeKey]
+        ensures in_order { result.now ≡ edges_at self.now.into (K.data_of node) }
+        ensures listed { ListsEdges to self.now.edges.live (K.data_of node) result.now }
     {
-        list_of(&self.into, node)
+        list_of(&self.into, inner(node))
     }
 
-    /// Returns the nodes where this node's outgoing edges end, one for each edge, in the order of
-    /// [`Graph::edges_from`].
-    ///
-    /// It fails only if memory runs out.
-    pub fn neighbours(&self, alloc: Global, node: NodeKey) -> Result<Vec<NodeKey>, AllocError>
-        ensures { IfOk result (λ found. (keys : List KeyOf) × ListsEdges from self.now.edges.live node keys × LeadTo self.now.edges.live node keys found.items) }
+    /// Returns how many edges go out of a node, in constant time.
+    pub fn out_degree(&self, node: K) -> usize
+        ensures { result ≡ length (edges_at self.now.out (K.data_of node)) }
     {
-        let mut found = Vec::new(alloc);
-        for edge in self.edges_from(node) {
-            found.push(self.edges[*edge].to)?;
-        }
-        Ok(found)
+        self.edges_from(node).len()
     }
 
-    // Finds the nodes to which an edge leads from one node.
-    fn mark_neighbours(
-        &self,
-        found: &mut Vec<NodeKey>,
-        seen: &mut Seen,
-        node: NodeKey,
-    ) -> Result<(), AllocError>
-        requires valid { IsContent true self.now.nodes }
-        requires listed { AreSeen seen.old.pairs found.old.items }
-        requires live { IsBeside self.now.nodes seen.old.pairs }
-        ensures finds { OnOk result (Finds self.now.nodes self.now.edges.live node seen.old.pairs found.old.items seen.new.pairs found.new.items) }
-        ensures next { OnOk result (HasNext self.now.edges.live node seen.new.pairs) }
+    /// Returns how many edges come into a node, in constant time.
+    pub fn in_degree(&self, node: K) -> usize
+        ensures { result ≡ length (edges_at self.now.into (K.data_of node)) }
     {
-        for edge in self.edges_from(node) {
-            mark(found, seen, self.edges[*edge].to)?;
-        }
-        Ok(())
-    }
-
-    /// Returns the nodes that are reachable from this one, each once, the node itself first. If the
-    /// node doesn't exist, there are none.
-    ///
-    /// It takes time linear in the number of these nodes and their outgoing edges, and in the largest
-    /// index of one of them: the marks are in a `SecondaryMap`. It fails only if memory runs out.
-    pub fn reachable(&self, alloc: Global, from: NodeKey) -> Result<Vec<NodeKey>, AllocError>
-        ensures once { IfOk result (λ found. (x : KeyOf) → times x found.items ≤ 1) }
-        ensures found_is_reachable { IfOk result (λ found. (x : KeyOf) → 0 < times x found.items → Leads self.now.edges.live from x) }
-        ensures reachable_is_found { IfOk result (λ found. (x : KeyOf) → IsLive self.now.nodes from → Leads self.now.edges.live from x → 0 < times x found.items) }
-        ensures live { IfOk result (λ found. (x : KeyOf) → 0 < times x found.items → IsLive self.now.nodes from × IsLive self.now.nodes x) }
-    {
-        let mut found = Vec::new(alloc);
-        if !self.nodes.contains_key(from) {
-            return Ok(found);
-        }
-        let mut seen = none_seen(alloc)?;
-        mark(&mut found, &mut seen, from)?;
-        let mut at = 0;
-        while at < found.len() {
-            let node = found[at];
-            self.mark_neighbours(&mut found, &mut seen, node)?;
-            at += 1;
-        }
-        Ok(found)
+        self.edges_to(node).len()
     }
 }
+
+impl<K: Key, N: fmt::Debug, E: fmt::Debug> fmt::Debug for Graph<K, N, E> {
+    fn fmt<W: fmt::Write>(&self, f: &mut fmt::Formatter<W>) -> fmt::Result {
+        f.debug_struct("Graph")
+            .field("nodes", &self.nodes)
+            .field("edges", &self.edges)
+            .finish()
+    }
+}
+
+#[cfg(test)]
+mod tests;

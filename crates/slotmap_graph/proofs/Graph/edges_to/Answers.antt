@@ -1,4 +1,11 @@
+use Rattle.std.proofs.Common.{ap, sym, ◌∙◌}
+use Rattle.slotmap_graph.specs.Parts.{listed}
+use Rattle.slotmap_graph.proofs.ByNode.{at_node}
 use Rattle.slotmap_graph.proofs.Graph.edges_to.Goals as goal
 
-pub returns : goal.returns
-returns g c x = rw (← c.self.view_is, c.list_of.ensures) (c.self.invariant.into_lists c.args.node x)
+pub returns-clause-in_order : goal.returns-clause-in_order
+returns-clause-in_order g c = rw (← c.self.view_is)
+    (c.list_of.ensures ∙ ap (listed c.self.inside.into.pairs) c.inner.ensures ∙ sym (at_node c.self.inside.nodes c.self.inside.into.pairs c.self.invariant.into_beside (g.K.Key.data_of c.args.node)))
+
+pub returns-clause-listed : goal.returns-clause-listed
+returns-clause-listed g c x = rw (← c.self.view_is, c.list_of.ensures, c.inner.ensures) (c.self.invariant.into_lists (g.K.Key.data_of c.args.node) x)

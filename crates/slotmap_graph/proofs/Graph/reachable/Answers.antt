@@ -1,54 +1,87 @@
-use Rattle.std.proofs.Common.{sym, ◌∙◌, arith}
+use Rattle.std.proofs.Common.{◌≡◌, ◌<◌, ◌≤◌, length, get_or, sym, ap, ◌∙◌, arith}
+use Rattle.std.proofs.Common.{map as list_map}
+use Rattle.std.proofs.lemmas.List.{get_or-map, length-map}
 use Rattle.slotmap.specs.Words.{IsLive}
 use Rattle.slotmap.proofs.Callers.{beside_empty}
+use Rattle.slotmap_graph.specs.Parts.{edges_at, to}
+use Rattle.slotmap_graph.specs.Search.{ends_of, marked}
 use Rattle.slotmap_graph.proofs.GraphSteps.{puts_alone}
+use Rattle.slotmap_graph.proofs.Followed.{order_step, order_end}
 use Rattle.slotmap_graph.proofs.Searches.{are_none, listed_once, searching_start, searching_step, searching_all, searching_found, searching_fits}
 use Rattle.slotmap_graph.proofs.Graph.reachable.Goals as goal
 
 pub mark-requires-clause-alone : goal.mark-requires-clause-alone
 mark-requires-clause-alone g c =
-    puts_alone c.self.inside.nodes c.in_ok-seen.seen.pairs c.args.from (beside_empty c.self.inside.nodes c.in_ok-seen.seen.pairs c.in_ok-seen.ensures)
+    puts_alone c.self.inside.nodes c.in_ok-seen.seen.pairs (g.K.Key.data_of c.args.from) (beside_empty c.self.inside.nodes c.in_ok-seen.seen.pairs c.in_ok-seen.ensures)
     (sym c.contains_key.ensures.value ∙ c.if-not-contains_key.false) c.contains_key.ensures.valid
 
 pub mark-requires-clause-listed : goal.mark-requires-clause-listed
-mark-requires-clause-listed g c = are_none c.in_ok-seen.seen.pairs c.new-found.result.items c.in_ok-seen.ensures c.new-found.ensures.items
+mark-requires-clause-listed g c = are_none c.in_ok-seen.seen.pairs _ c.in_ok-seen.ensures (ap (list_map g.K.Key.data_of) c.new-found.ensures.items)
 
 pub loop-at-init : goal.loop-at-init
 loop-at-init g c =
-    let live : IsLive c.args.self.now.nodes c.args.from = rw (← c.self.view_is) (sym c.contains_key.ensures.value ∙ c.if-not-contains_key.false) in
-    searching_start c.args.self.now.nodes c.args.self.now.edges.live c.args.from c.in_ok-seen.seen.pairs c.mark.new.seen.pairs c.mark.new.found.items
-    c.in_ok-seen.ensures live c.in_ok-mark.ensures.listed c.in_ok-mark.ensures.there c.mark.ensures.others
+    let from = g.K.Key.data_of c.args.from in
+    let live : IsLive c.args.self.now.nodes from = rw (← c.self.view_is) (sym c.contains_key.ensures.value ∙ c.if-not-contains_key.false) in
+    record {
+      searching = searching_start c.args.self.now.nodes c.args.self.now.edges.live from c.in_ok-seen.seen.pairs c.mark.new.seen.pairs (list_map g.K.Key.data_of c.mark.new.found.items)
+          c.in_ok-seen.ensures live c.in_ok-mark.ensures.listed c.in_ok-mark.ensures.there c.mark.ensures.others;
+      order = c.in_ok-mark.ensures.marks ∙ ap (λ l. marked (list_map g.K.Key.data_of l) from) c.new-found.ensures.items;
+    }
 
 pub mark_neighbours-requires-clause-listed : goal.mark_neighbours-requires-clause-listed
-mark_neighbours-requires-clause-listed g c = c.loop-at.invariant.listed
+mark_neighbours-requires-clause-listed g c = c.loop-at.invariant.searching.listed
 
 pub mark_neighbours-requires-clause-live : goal.mark_neighbours-requires-clause-live
-mark_neighbours-requires-clause-live g c = c.loop-at.invariant.live
+mark_neighbours-requires-clause-live g c = c.loop-at.invariant.searching.live
 
 pub loop-at-smaller : goal.loop-at-smaller
 loop-at-smaller g c =
-    let fits = searching_fits c.args.self.now.nodes c.args.self.now.edges.live c.args.from c.loop-at.seen.pairs c.loop-at.found.items c.loop-at.at c.loop-at.invariant in
-    omega (arith, c.loop-at.found.ok.0, fits)
+    let keys = list_map g.K.Key.data_of c.loop-at.found.items in
+    let fits = searching_fits c.args.self.now.nodes c.args.self.now.edges.live (g.K.Key.data_of c.args.from) c.loop-at.seen.pairs keys c.loop-at.at c.loop-at.invariant.searching in
+    let long : length keys ≡ length c.loop-at.found.items = length-map c.loop-at.found.items g.K.Key.data_of in
+    omega (arith, c.loop-at.found.ok.0, fits, long)
 
 pub loop-at-preserved : goal.loop-at-preserved
 loop-at-preserved g c =
-    searching_step c.args.self.now.nodes c.args.self.now.edges.live c.args.from c.loop-at.seen.pairs c.loop-at.found.items c.loop-at.at c.loop-at.invariant c.index-node.result.now
-    (omega (arith, c.loop-at.found.ok.0)) c.index-node.ensures c.mark_neighbours.new.seen.pairs c.mark_neighbours.new.found.items
-    c.in_ok-mark_neighbours.ensures.finds c.in_ok-mark_neighbours.ensures.next
+    let nodes = c.args.self.now.nodes in
+    let edges = c.args.self.now.edges.live in
+    let from = g.K.Key.data_of c.args.from in
+    let keys = list_map g.K.Key.data_of c.loop-at.found.items in
+    let long : length keys ≡ length c.loop-at.found.items = length-map c.loop-at.found.items g.K.Key.data_of in
+    let node = g.K.Key.data_of c.index-node.result.now in
+    let short : c.loop-at.at < length c.loop-at.found.items = omega (arith, c.loop-at.found.ok.0) in
+    let below : c.loop-at.at < length keys = omega (arith, short, long) in
+    let is : node ≡ get_or keys c.loop-at.at node = ap g.K.Key.data_of c.index-node.ensures ∙ sym (get_or-map g.K.Key.data_of c.loop-at.found.items c.loop-at.at c.index-node.result.now node short) in
+    let finds = c.in_ok-mark_neighbours.ensures.finds in
+    record {
+      searching = searching_step nodes edges from c.loop-at.seen.pairs keys c.loop-at.at c.loop-at.invariant.searching node below is
+          c.mark_neighbours.new.seen.pairs _ finds c.in_ok-mark_neighbours.ensures.next;
+      order = order_step (λ k. ends_of to edges (edges_at c.args.self.now.out k)) from keys c.loop-at.at c.loop-at.invariant.order node below is _ finds.behind c.in_ok-mark_neighbours.ensures.order;
+    }
 
 pub returns-clause-once : goal.returns-clause-once
-returns-clause-once g c x = listed_once c.loop-at.seen.pairs c.loop-at.found.items c.loop-at.invariant.listed x
+returns-clause-once g c x = listed_once c.loop-at.seen.pairs (list_map g.K.Key.data_of c.loop-at.found.items) c.loop-at.invariant.searching.listed x
 
 pub returns-clause-found_is_reachable : goal.returns-clause-found_is_reachable
 returns-clause-found_is_reachable g c x more =
-    (searching_found c.args.self.now.nodes c.args.self.now.edges.live c.args.from c.loop-at.seen.pairs c.loop-at.found.items c.loop-at.at c.loop-at.invariant x more).1
+    (searching_found c.args.self.now.nodes c.args.self.now.edges.live (g.K.Key.data_of c.args.from) c.loop-at.seen.pairs _ c.loop-at.at c.loop-at.invariant.searching x more).1
 
 pub returns-clause-reachable_is_found : goal.returns-clause-reachable_is_found
 returns-clause-reachable_is_found g c x live leads =
-    searching_all c.args.self.now.nodes c.args.self.now.edges.live c.args.from c.loop-at.seen.pairs c.loop-at.found.items c.loop-at.at c.loop-at.invariant (omega (arith, c.loop-at.found.ok.0)) x leads
+    let keys = list_map g.K.Key.data_of c.loop-at.found.items in
+    let long : length keys ≡ length c.loop-at.found.items = length-map c.loop-at.found.items g.K.Key.data_of in
+    let past : length keys ≤ c.loop-at.at = omega (arith, c.loop-at.found.ok.0, long) in
+    searching_all c.args.self.now.nodes c.args.self.now.edges.live (g.K.Key.data_of c.args.from) c.loop-at.seen.pairs keys c.loop-at.at c.loop-at.invariant.searching past x leads
 
 pub returns-clause-live : goal.returns-clause-live
 returns-clause-live g c x more = (
   rw (← c.self.view_is) (sym c.contains_key.ensures.value ∙ c.if-not-contains_key.false),
-  (searching_found c.args.self.now.nodes c.args.self.now.edges.live c.args.from c.loop-at.seen.pairs c.loop-at.found.items c.loop-at.at c.loop-at.invariant x more).0,
+  (searching_found c.args.self.now.nodes c.args.self.now.edges.live (g.K.Key.data_of c.args.from) c.loop-at.seen.pairs _ c.loop-at.at c.loop-at.invariant.searching x more).0,
 )
+
+pub returns-clause-in_order : goal.returns-clause-in_order
+returns-clause-in_order g c live =
+    let keys = list_map g.K.Key.data_of c.loop-at.found.items in
+    let long : length keys ≡ length c.loop-at.found.items = length-map c.loop-at.found.items g.K.Key.data_of in
+    let past : length keys ≤ c.loop-at.at = omega (arith, c.loop-at.found.ok.0, long) in
+    order_end (λ k. ends_of to c.args.self.now.edges.live (edges_at c.args.self.now.out k)) (g.K.Key.data_of c.args.from) keys c.loop-at.at c.loop-at.invariant.order past

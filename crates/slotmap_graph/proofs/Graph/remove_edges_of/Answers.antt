@@ -1,33 +1,46 @@
 use Rattle.std.proofs.Common.{is_some, refl, ap, ◌∙◌, arith}
+use Rattle.std.specs.Option.{option_map}
 use Rattle.slotmap.proofs.Callers.{keys_total, exact_keys, len_removed, of_some}
-use Rattle.slotmap_graph.proofs.Thinned.{thinned_start, thinned_step, thinned_end, thinned_spent}
+use Rattle.slotmap_graph.specs.Parts.{edges_at, from, to, value}
+use Rattle.slotmap_graph.proofs.Thinned.{thinned_start, thinned_step, thinned_end, thinned_spent, thin_step, thin_end}
 use Rattle.slotmap_graph.proofs.Graph.remove_edges_of.Goals as goal
 
 pub loop-edge-init : goal.loop-edge-init
-loop-edge-init g c = (thinned_start c.args.node c.args.self.now.edges c.args.self.now.edges refl, refl)
+loop-edge-init g c = record { thinned = thinned_start c.inner-node.result c.args.self.now.edges c.args.self.now.edges refl; nodes = refl; out = λ k. refl; into = λ k. refl }
 
 pub loop-edge-smaller : goal.loop-edge-smaller
 loop-edge-smaller g c =
     let less = len_removed keys_total exact_keys c.loop-edge.self.edges.live c.in-Some.edge (ap is_some c.in-Some.ensures.some.1) in
-    rw c.remove_edge.ensures.removed (omega arith)
+    rw c.remove_edge.ensures.live (omega arith)
 
-pub loop-edge-preserved : goal.loop-edge-preserved
-loop-edge-preserved g c =
+pub loop-edge-preserved-in-Some : goal.loop-edge-preserved-in-Some
+loop-edge-preserved-in-Some g c =
     let there = c.in-Some.ensures.some in
-    let spent = of_some _ c.remove_edge.result (ap is_some (c.remove_edge.ensures.value ∙ there.1)) c.remove_edge.ensures.for_good in (
-      thinned_step c.args.node c.args.self.now.edges c.loop-edge.self.edges c.loop-edge.invariant.0 c.remove_edge.new.self.edges c.in-Some.edge there.0
-          there.1 there.2 c.remove_edge.ensures.removed spent c.remove_edge.ensures.gone,
-      c.remove_edge.ensures.nodes ∙ c.loop-edge.invariant.1,
-    )
+    let spent = of_some _ c.remove_edge.result (ap is_some (c.remove_edge.ensures.value ∙ ap (option_map value) there.1)) c.remove_edge.ensures.for_good in
+    let now = c.loop-edge.self.edges.live in
+    let so_far = c.loop-edge.invariant in
+    record {
+      thinned = thinned_step c.inner-node.result c.args.self.now.edges c.loop-edge.self.edges so_far.thinned c.remove_edge.new.self.edges c.in-Some.edge there.0
+          there.1 there.2 c.remove_edge.ensures.live spent c.remove_edge.ensures.gone;
+      nodes = c.remove_edge.ensures.nodes ∙ so_far.nodes;
+      out = λ k. rw (c.remove_edge.ensures.live, c.remove_edge.ensures.out k) (thin_step now (edges_at c.args.self.now.out k) (edges_at c.loop-edge.self.out k) (so_far.out k) c.in-Some.edge);
+      into = λ k. rw (c.remove_edge.ensures.live, c.remove_edge.ensures.into k) (thin_step now (edges_at c.args.self.now.into k) (edges_at c.loop-edge.self.into k) (so_far.into k) c.in-Some.edge);
+    }
 
 pub returns-clause-edges : goal.returns-clause-edges
-returns-clause-edges g c = thinned_end c.args.node c.args.self.now.edges c.loop-edge.self.edges c.loop-edge.invariant.0 c.in_default.ensures.none
+returns-clause-edges g c = rw (← c.inner-node.ensures) (thinned_end c.inner-node.result c.args.self.now.edges c.loop-edge.self.edges c.loop-edge.invariant.thinned c.in_default.ensures.none)
 
 pub returns-clause-for_good : goal.returns-clause-for_good
-returns-clause-for_good g c = thinned_spent c.args.node c.args.self.now.edges c.loop-edge.self.edges c.loop-edge.invariant.0 c.in_default.ensures.none
+returns-clause-for_good g c = rw (← c.inner-node.ensures) (thinned_spent c.inner-node.result c.args.self.now.edges c.loop-edge.self.edges c.loop-edge.invariant.thinned c.in_default.ensures.none)
+
+pub returns-clause-out : goal.returns-clause-out
+returns-clause-out g c k = thin_end c.loop-edge.self.edges.live (edges_at c.args.self.now.out k) (edges_at c.loop-edge.self.out k) (c.loop-edge.invariant.out k) from k (c.in_default.ensures.out k)
+
+pub returns-clause-into : goal.returns-clause-into
+returns-clause-into g c k = thin_end c.loop-edge.self.edges.live (edges_at c.args.self.now.into k) (edges_at c.loop-edge.self.into k) (c.loop-edge.invariant.into k) to k (c.in_default.ensures.into k)
 
 pub returns-clause-nodes : goal.returns-clause-nodes
-returns-clause-nodes g c = c.loop-edge.invariant.1
+returns-clause-nodes g c = c.loop-edge.invariant.nodes
 
 pub returns-clause-gone : goal.returns-clause-gone
-returns-clause-gone g c = c.loop-edge.invariant.0.keeps
+returns-clause-gone g c = c.loop-edge.invariant.thinned.keeps

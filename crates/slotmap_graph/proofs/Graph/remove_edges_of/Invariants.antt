@@ -1,10 +1,18 @@
 use Rattle.std.proofs.Common.{◌≡◌}
+use Rattle.std.specs.List.{filter}
 use Rattle.std.specs.FinMap as map
+use Rattle.slotmap.specs.Words.{Key}
+use Rattle.slotmap_graph.specs.Parts.{edges_at}
 use Rattle.slotmap_graph.proofs.Thinned.{Thinned}
 use Rattle.slotmap_graph.proofs.Graph.remove_edges_of.Given as goal
 
 abbrev pub invariant-loop-edge : goal.invariant-loop-edge
-invariant-loop-edge g l = Thinned l.node l.fn.self.edges l.self.edges × (l.self.nodes ≡ l.fn.self.nodes)
+invariant-loop-edge g l = record {
+  thinned : Thinned l.node l.fn.self.edges l.self.edges;
+  nodes : l.self.nodes ≡ l.fn.self.nodes;
+  out : (k : Key) → filter (map.contains_key l.self.edges.live) (edges_at l.fn.self.out k) ≡ filter (map.contains_key l.self.edges.live) (edges_at l.self.out k);
+  into : (k : Key) → filter (map.contains_key l.self.edges.live) (edges_at l.fn.self.into k) ≡ filter (map.contains_key l.self.edges.live) (edges_at l.self.into k);
+}
 
 abbrev pub decreases-loop-edge : goal.decreases-loop-edge
 decreases-loop-edge g l = map.len l.self.edges.live

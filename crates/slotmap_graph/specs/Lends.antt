@@ -1,0 +1,14 @@
+-- What a graph is once a returned `&mut` to a value of a node or an edge ends.
+use Rattle.std.specs.Prelude.{Option}
+use Rattle.std.specs.Borrow.{LendsIf, Fml, RattleType, MutBor}
+use Rattle.slotmap.specs.Words.{Key, with_value}
+use Rattle.slotmap_graph.specs.Parts.{Seen, with_edge}
+use Rattle.slotmap_graph.specs.contracts.Graph.{the_row}
+
+-- once the borrow ends, the node has the last value written through it; at `None` nothing changes
+abbrev pub lends_node : (K N E : RattleType) → MutBor (Seen N.Denot E.Denot) → Key → Option (MutBor N.Denot) → Fml
+lends_node K N E graph k r = LendsIf (the_row K N E) N graph r (λ v. record graph.now { nodes = with_value graph.now.nodes k v }) graph.now
+
+-- the same for an edge
+abbrev pub lends_edge : (K N E : RattleType) → MutBor (Seen N.Denot E.Denot) → Key → Option (MutBor E.Denot) → Fml
+lends_edge K N E graph k r = LendsIf (the_row K N E) E graph r (λ v. record graph.now { edges = with_edge graph.now.edges k v }) graph.now

@@ -1,0 +1,235 @@
+//! The calls that add and remove nodes and edges.
+
+ghost use Rattle.std.specs.Prelude.{◌≡◌, ◌<◌, ◌++◌, ◌∷◌, [], Some, None, IfOk, OnOk, IfErr, OnErr, IsOk, OnSome, IfSome, IfNone, option_map, true, false, cond};
+ghost use Rattle.std.specs.Option.{option_and_then};
+ghost use Rattle.std.specs.List.{filter};
+ghost use Rattle.std.specs.FinMap as map;
+ghost use Rattle.slotmap.specs.Words.{Key as KeyOf, Inserts, Removes, Keeps, Leaves, IsLive, IsSpent, KeepsSpent, Refuses};
+ghost use Rattle.slotmap_keylist.specs.KeyLists.{without};
+ghost use Rattle.slotmap_graph.specs.declared.Edge.{Edge as SeenEdge};
+ghost use Rattle.slotmap_graph.specs.Parts.{avoids, touches, from, to, value, edges_at, ListsEdges, IsLinked, SameEdges, RefusesEdge, RefusesLiveEdge};
+
+use crate::lists::{last, link, make_rooms, unlink};
+use crate::{Edge, EdgeError, EdgeKey, Graph};
+use slotmap::{DefaultKey, InsertError, Key, SlotMap};
+use slotmap_keylist::inner;
+
+// Adds an edge to the map of edges.
+fn insert_edge<E: Drop>(
+    edges: &mut SlotMap<EdgeKey, Edge<E>>,
+    from: DefaultKey,
+    to: DefaultKey,
+    value: E,
+) -> Result<EdgeKey, EdgeError<E>>
+    ensures adds { IfOk result (λ key. Inserts edges.old key (record { from = from; to = to; value = value }) edges.new) }
+    ensures fresh { IfOk result (λ key. map.get edges.old.live key ≡ None) }
+    ensures unspent { IfOk result (λ key. IsSpent edges.old key → ⊥) }
+    ensures err { IfErr result (RefusesLiveEdge edges.old value) }
+    ensures unchanged { OnErr result (Keeps edges.old edges.new) }
+    ensures gone { KeepsSpent edges.old edges.new }
+{
+    match edges.insert(Edge { from, to, value }) {
+        Ok(key) => Ok(key),
+        Err(InsertError::Full(edge)) => Err(EdgeError::Full(edge.value)),
+        Err(InsertError::Memory(edge)) => Err(EdgeError::Memory(edge.value)),
+    }
+}
+
+impl<K: Key, N: Drop, E: Drop> Graph<K, N, E> {
+    /// Adds a node with no edge, and returns its key, which no node had before.
+    ///
+    /// If a node was removed or room was reserved, nothing is allocated. If the call fails, the error
+    /// holds the value, and the graph is unchanged.
+    ///
+    /// ```
+    /// let mut graph: Graph<NodeKey, &str, u64> = Graph::new(alloc)?;
+    /// let a = graph.add_node("a")?;
+    /// assert_eq!(rt; graph.node(a), Some(&"a"));
+    /// ```
+    pub fn add_node(&mut self, node: N) -> Result<K, InsertError<N>>
+        // The node is there under a new key, and has no edge.
+        ensures adds { IfOk result (λ key. Inserts self.old.nodes (K.data_of key) node self.new.nodes) }
+        ensures fresh { IfOk result (λ key. map.get self.old.nodes.live (K.data_of key) ≡ None) }
+        ensures unspent { IfOk result (λ key. IsSpent self.old.nodes (K.data_of key) → ⊥) }
+        ensures gone { KeepsSpent self.old.nodes self.new.nodes }
+        ensures edges { self.new.edges ≡ self.old.edges }
+        ensures out { SameEdges self.old.out self.new.out }
+        ensures into { SameEdges self.old.into self.new.into }
+
+        // Why the call failed, and what that leaves.
+        ensures err { IfErr result (Refuses self.old.nodes node) }
+        ensures reuses { 0 < map.len self.old.nodes.next → IsOk result }
+        ensures room { 0 < self.old.nodes.room → IsOk result }
+        ensures unchanged { OnErr result (Keeps self.old.nodes self.new.nodes) }
+    {
+        self.nodes.insert(node)
+    }
+
+    /// Adds an edge from one node to another, and returns its key, which no edge had before.
+    ///
+    /// It is the last of the outgoing edges of the one, and of the incoming edges of the other. Memory
+    /// is allocated before anything changes. If the call fails, the error holds the value, and the graph
+    /// is unchanged.
+    ///
+    /// ```
+    /// let mut graph: Graph<NodeKey, &str, u64> = Graph::new(alloc)?;
+    /// let a = graph.add_node("a")?;
+    /// let b = graph.add_node("b")?;
+    /// let edge = graph.add_edge(a, b, 5)?;
+    /// assert_eq!(rt; graph.edges_to(b), [edge].as_slice());
+    /// graph.remove_node(b);
+    /// assert!(rt; matches!(graph.add_edge(a, b, 6), Err(EdgeError::Gone(6))));
+    /// ```
+    pub fn add_edge(&mut self, from: K, to: K, edge: E) -> Result<EdgeKey, EdgeError<E>>
+        // The edge is there under a new key, behind the other edges of its two nodes.
+        ensures adds { IfOk result (λ key. Inserts self.old.edges key (record { from = K.data_of from; to = K.data_of to; value = edge }) self.new.edges) }
+        ensures fresh { IfOk result (λ key. map.get self.old.edges.live key ≡ None) }
+        ensures unspent { IfOk result (λ key. IsSpent self.old.edges key → ⊥) }
+        ensures live { OnOk result (IsLive self.old.nodes (K.data_of from) × IsLive self.old.nodes (K.data_of to)) }
+        ensures out { IfOk result (λ key. IsLinked self.old.out (K.data_of from) key self.new.out) }
+        ensures into { IfOk result (λ key. IsLinked self.old.into (K.data_of to) key self.new.into) }
+
+        // Why the call failed, and what that leaves.
+        ensures err { IfErr result (RefusesEdge self.old.nodes self.old.edges (K.data_of from) (K.data_of to) edge) }
+        ensures unchanged { OnErr result (Keeps self.old.edges self.new.edges × SameEdges self.old.out self.new.out × SameEdges self.old.into self.new.into) }
+
+        // All else is as before.
+        ensures nodes { self.new.nodes ≡ self.old.nodes }
+        ensures gone { KeepsSpent self.old.edges self.new.edges }
+    {
+        if !self.nodes.contains_key(from) || !self.nodes.contains_key(to) {
+            return Err(EdgeError::Gone(edge));
+        }
+        let from = inner(from);
+        let to = inner(to);
+        if make_rooms(self.alloc, &mut self.out, from, &mut self.into, to).is_err() {
+            return Err(EdgeError::Memory(edge));
+        }
+        let key = insert_edge(&mut self.edges, from, to, edge)?;
+        link(&mut self.out, from, key);
+        link(&mut self.into, to, key);
+        Ok(key)
+    }
+
+    /// Removes an edge, and returns its value, or `None` if it doesn't exist. Its key is never used
+    /// again.
+    ///
+    /// ```
+    /// let mut graph: Graph<NodeKey, &str, u64> = Graph::new(alloc)?;
+    /// let a = graph.add_node("a")?;
+    /// let edge = graph.add_edge(a, a, 5)?;
+    /// assert_eq!(rt; graph.remove_edge(edge), Some(5));
+    /// assert_eq!(rt; graph.remove_edge(edge), None);
+    /// ```
+    pub fn remove_edge(&mut self, edge: EdgeKey) -> Option<E>
+        ensures value { result ≡ option_map value (map.get self.old.edges.live edge) }
+        ensures live { self.new.edges.live ≡ map.remove self.old.edges.live edge }
+        ensures removes { OnSome result (Removes self.old.edges edge self.new.edges) }
+        ensures unchanged { IfNone result (self.new.edges ≡ self.old.edges) }
+        ensures for_good { OnSome result (IsSpent self.new.edges edge) }
+        ensures out { (k : KeyOf) → edges_at self.new.out k ≡ without edge (edges_at self.old.out k) }
+        ensures into { (k : KeyOf) → edges_at self.new.into k ≡ without edge (edges_at self.old.into k) }
+        ensures nodes { self.new.nodes ≡ self.old.nodes }
+        ensures gone { KeepsSpent self.old.edges self.new.edges }
+    {
+        let removed = self.edges.remove(edge)?;
+        unlink(&mut self.out, removed.from, edge);
+        unlink(&mut self.into, removed.to, edge);
+        Some(removed.value)
+    }
+
+    // An edge from a node or to it, or `None` if there is none.
+    fn edge_at(&self, node: DefaultKey) -> Option<EdgeKey>
+        ensures some { IfSome result (λ key. (e : SeenEdge E) × (map.get self.now.edges.live key ≡ Some e) × (touches node e ≡ true)) }
+        ensures none { IfNone result ((k : KeyOf) (e : SeenEdge E) → map.get self.now.edges.live k ≡ Some e → touches node e ≡ false) }
+        ensures out { (k : KeyOf) → ListsEdges from self.now.edges.live k (edges_at self.now.out k) }
+        ensures into { (k : KeyOf) → ListsEdges to self.now.edges.live k (edges_at self.now.into k) }
+    {
+        match last(&self.out, node) {
+            Some(edge) => Some(edge),
+            None => last(&self.into, node),
+        }
+    }
+
+    /// Removes every edge from a node or to it, and no other. Their keys are spent for good.
+    ///
+    /// ```
+    /// let mut graph: Graph<NodeKey, &str, u64> = Graph::new(alloc)?;
+    /// let a = graph.add_node("a")?;
+    /// graph.add_edge(a, a, 5)?;
+    /// graph.remove_edges_of(a);
+    /// assert_eq!(rt; graph.edge_count(), 0);
+    /// ```
+    pub fn remove_edges_of(&mut self, node: K)
+        ensures edges { (k : KeyOf) → map.get self.new.edges.live k ≡ option_and_then
+            (λ e. cond (avoids (K.data_of node) e) (Some e) None) (map.get self.old.edges.live k) }
+        ensures for_good { (k : KeyOf) (e : SeenEdge E) → map.get self.old.edges.live k ≡ Some e → touches (K.data_of node) e ≡ true → IsSpent self.new.edges k }
+        ensures out { (k : KeyOf) → edges_at self.new.out k ≡ filter (map.contains_key self.new.edges.live) (edges_at self.old.out k) }
+        ensures into { (k : KeyOf) → edges_at self.new.into k ≡ filter (map.contains_key self.new.edges.live) (edges_at self.old.into k) }
+        ensures nodes { self.new.nodes ≡ self.old.nodes }
+        ensures gone { KeepsSpent self.old.edges self.new.edges }
+    {
+        let node = inner(node);
+        while let Some(edge) = self.edge_at(node) {
+            self.remove_edge(edge);
+        }
+    }
+
+    /// Removes a node, and every edge from it or to it. It returns the node's value, or `None` if
+    /// the node doesn't exist. The key of the node and those of its edges are never used again.
+    ///
+    /// ```
+    /// let mut graph: Graph<NodeKey, &str, u64> = Graph::new(alloc)?;
+    /// let a = graph.add_node("a")?;
+    /// let b = graph.add_node("b")?;
+    /// graph.add_edge(a, b, 5)?;
+    /// assert_eq!(rt; graph.remove_node(b), Some("b"));
+    /// assert_eq!(rt; graph.edge_count(), 0);
+    /// ```
+    pub fn remove_node(&mut self, node: K) -> Option<N>
+        // The node is gone.
+        ensures value { result ≡ map.get self.old.nodes.live (K.data_of node) }
+        ensures live { self.new.nodes.live ≡ map.remove self.old.nodes.live (K.data_of node) }
+        ensures removes { OnSome result (Removes self.old.nodes (K.data_of node) self.new.nodes) }
+        ensures unchanged { IfNone result (self.new.nodes ≡ self.old.nodes) }
+        ensures for_good { OnSome result (IsSpent self.new.nodes (K.data_of node)) }
+        ensures gone { KeepsSpent self.old.nodes self.new.nodes }
+
+        // Its edges are gone, and no others.
+        ensures edges { (k : KeyOf) → map.get self.new.edges.live k ≡ option_and_then
+            (λ e. cond (avoids (K.data_of node) e) (Some e) None) (map.get self.old.edges.live k) }
+        ensures edges_for_good { (k : KeyOf) (e : SeenEdge E) → map.get self.old.edges.live k ≡ Some e → touches (K.data_of node) e ≡ true → IsSpent self.new.edges k }
+        ensures edges_gone { KeepsSpent self.old.edges self.new.edges }
+        ensures out { (k : KeyOf) → edges_at self.new.out k ≡ filter (map.contains_key self.new.edges.live) (edges_at self.old.out k) }
+        ensures into { (k : KeyOf) → edges_at self.new.into k ≡ filter (map.contains_key self.new.edges.live) (edges_at self.old.into k) }
+    {
+        self.remove_edges_of(node);
+        self.out.remove(inner(node));
+        self.into.remove(inner(node));
+        self.nodes.remove(node)
+    }
+
+    /// Removes all nodes and all edges. Their keys are never used again. The room stays.
+    ///
+    /// It takes time linear in the number of slots.
+    ///
+    /// ```
+    /// let mut graph: Graph<NodeKey, &str, u64> = Graph::new(alloc)?;
+    /// let a = graph.add_node("a")?;
+    /// graph.clear();
+    /// assert!(rt; !graph.contains_node(a));
+    /// ```
+    pub fn clear(&mut self)
+        ensures nodes { self.new.nodes.live ≡ map.empty }
+        ensures edges { self.new.edges.live ≡ map.empty }
+        ensures nodes_leave { Leaves self.old.nodes self.new.nodes }
+        ensures edges_leave { Leaves self.old.edges self.new.edges }
+        ensures for_good { (k : KeyOf) → IsLive self.old.nodes k → IsSpent self.new.nodes k }
+        ensures edges_for_good { (k : KeyOf) → IsLive self.old.edges k → IsSpent self.new.edges k }
+    {
+        self.nodes.clear();
+        self.edges.clear();
+        self.out.clear();
+        self.into.clear();
+    }
+}

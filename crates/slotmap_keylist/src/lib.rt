@@ -1,0 +1,59 @@
+//! What structures over the maps share: lists of keys, and keys of one type inside of them.
+//!
+//! A structure with keys of any type `K` keeps those of the default type, and changes them by [`inner`]
+//! and [`outer`] where its calls take and return them. The words of lists of keys, with lemmas about
+//! them, stand in `specs` and `proofs`.
+#![tactic(auto, using(slotmap::proofs::Callers::keys))]
+
+ghost use Rattle.std.specs.Prelude.{◌≡◌, ◌≤◌, not};
+ghost use Rattle.std.specs.List.{count_by, filter};
+
+use slotmap::{DefaultKey, Key};
+
+/// Takes an item out of a list in which it appears at most once. Those behind it move up.
+///
+/// It is searched from the back: time linear in the number of items from it on.
+///
+/// ```
+/// let mut list = vec![in alloc; 1, 2, 3]?;
+/// take_out(&mut list, 2);
+/// assert_eq!(rt; list.as_slice(), [1, 3].as_slice());
+/// ```
+pub fn take_out<T: Copy + PartialEq>(list: &mut Vec<T>, item: T)
+    requires { count_by (λ x. T.eq x item) list.old.items ≤ 1 }
+    ensures { list.new.items ≡ filter (λ x. not (T.eq x item)) list.old.items }
+{
+    let mut end = list.len();
+    while end > 0 {
+        end -= 1;
+        if list[end] == item {
+            list.remove(end);
+            return;
+        }
+    }
+}
+
+/// Returns the key of the default type with the data of this key.
+///
+/// ```
+/// let key = NodeKey::from(KeyData::new(2, 3));
+/// assert_eq!(rt; inner(key), DefaultKey::from(KeyData::new(2, 3)));
+/// ```
+pub fn inner<K: Key>(key: K) -> DefaultKey
+    ensures { result ≡ K.data_of key }
+{
+    DefaultKey::from(key.data())
+}
+
+/// Returns the key of any type with the data of a key of the default type.
+///
+/// ```
+/// let key = DefaultKey::from(KeyData::new(2, 3));
+/// let node: NodeKey = outer(key);
+/// assert_eq!(rt; inner(node), key);
+/// ```
+pub fn outer<K: Key>(key: DefaultKey) -> K
+    ensures { K.data_of result ≡ key }
+{
+    K::from(key.data())
+}
