@@ -12,6 +12,7 @@ use crate::HopSlotMap;
 use crate::links::{Slot, fill_back, links_at};
 use slotmap_core::errors::{InsertError, InsertWithError, ReserveError, TryInsertError};
 use slotmap_core::keys::{Key, KeyData};
+use slotmap_core::limits::MOST_KEYS;
 
 impl<K: Key, V: Drop> HopSlotMap<K, V> {
     // The key that the next insert returns.
@@ -34,12 +35,7 @@ impl<K: Key, V: Drop> HopSlotMap<K, V> {
         ensures valid { IsHopContent self.now }
     {
         self.note_valid();
-        if self.vacant_count > 0 {
-            return true;
-        }
-        // There are at most u32::MAX slots, so a comparison of 32 bits tells whether one may be added.
-        let len = self.slots.len();
-        len < self.slots.capacity() && len as u32 != u32::MAX
+        self.vacant_count > 0 || self.slots.len() < self.slots.capacity().min(MOST_KEYS + 1)
     }
 
     // Makes room for one more key.

@@ -1,11 +1,14 @@
-use Rattle.std.proofs.Common.{◌≢◌, ◌^◌, ◌-◌, arith}
-use Rattle.slotmap_hop.proofs.SlotLemmas.{slots_fit}
-use Rattle.slotmap_hop.proofs.RoomLemmas.{spare_room}
+use Rattle.std.proofs.Common.{arith, ltb-true}
+use Rattle.slotmap_hop.proofs.RoomLemmas.{vacant_room, spare_room}
 use Rattle.slotmap_hop.proofs.HopSlotMap.has_room.Goals as goal
 
-pub returns-then-len-capacity-clause-room : goal.returns-then-len-capacity-clause-room
-returns-then-len-capacity-clause-room g c = λ more.
+pub returns-then-self-gt0-clause-room : goal.returns-then-self-gt0-clause-room
+returns-then-self-gt0-clause-room g c = λ _.
     let slots = c.self.inside.slots in
-    let apart : c.len-len.result ≢ 2 ^ 32 - 1 = grind (arith, more) in
-    spare_room _ _ _ c.self.invariant _ (omega (arith, slots.ok.0, slots.ok.1)) c.self.view_is
-    (omega (arith, apart, slots_fit _ _ _ c.self.invariant, slots.ok.0, c.len-len.ensures, c.capacity.ensures, c.if-len-capacity.true))
+    omega (arith, vacant_room _ _ _ c.self.invariant _ (omega (arith, slots.ok.0, slots.ok.1)) c.self.view_is)
+
+pub returns-else-self-gt0-clause-room : goal.returns-else-self-gt0-clause-room
+returns-else-self-gt0-clause-room g c = λ less.
+    let slots = c.self.inside.slots in
+    let spare = ltb-true c.len.result c.min.result less in
+    spare_room _ _ _ c.self.invariant _ (omega (arith, slots.ok.0, slots.ok.1)) c.self.view_is (omega (arith, slots.ok.0, c.len.ensures, c.capacity.ensures, c.min.ensures))
