@@ -10,7 +10,7 @@ from svg import BLUE, FOLDER, GREEN, INK, ORANGE, RED, SOFT, Picture
 
 # The five structures stand as one: each uses slotmap alone.
 STRUCTURES = "five structures"
-MEMBERS = {"slotmap_list", "slotmap_graph", "slotmap_entities", "slotmap_scene", "slotmap_scheduler"}
+MEMBERS = {"slotmap_list", "slotmap_keylist", "slotmap_graph", "slotmap_entities", "slotmap_scene", "slotmap_scheduler"}
 # Where each crate is: its column and row, and what it has.
 CRATES = {
     "slotmap_core": (3.0, 0, "keys, errors, traits, lists of slots, definitions"),

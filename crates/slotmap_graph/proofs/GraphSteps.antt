@@ -9,7 +9,7 @@ use Rattle.slotmap.proofs.Callers.{beside_removed, live-remove_other, live-inser
 use Rattle.slotmap_keylist.specs.KeyLists.{is_key, times, without}
 use Rattle.slotmap_keylist.proofs.Counts.{is_itself, is_other}
 use Rattle.slotmap_graph.specs.declared.Edge.{Edge}
-use Rattle.slotmap_graph.specs.Parts.{Edges, IsGraph, IsAdjacency, IsLinked, IsRoomed, ListsEdges, PutsAlone, SameEdges, list_in, listed, by_node, edges_at, ends_at, from, to, touches}
+use Rattle.slotmap_graph.specs.Parts.{Edges, IsGraph, IsAdjacency, PutsBehind, IsRoomed, ListsEdges, PutsAlone, SameEdges, list_in, listed, by_node, edges_at, ends_at, from, to, touches}
 use Rattle.slotmap_graph.proofs.Adjacent.{lists_added, lists_removed, lists_written, listed_edge, none_listed, nothing_listed, unlisted, absent_unlisted}
 use Rattle.slotmap_graph.proofs.ByNode.{at_node, same_edges}
 
@@ -56,7 +56,7 @@ module _ {N Z : Type 0} (nodes : Content N) (lists mid : Pairs (Vec Key Z)) (k :
   roomed_seen = same_edges nodes nodes lists mid beside roomed_beside roomed_same
 
   module _ (new : Pairs (Vec Key Z)) (others : (q : Key) → q ≢ k → get new q ≡ get mid q) where
-    pub linked_seen : (x : Key) → listed new k ≡ listed mid k ++ x ∷ [] → IsLinked (by_node nodes lists) k x (by_node nodes new)
+    pub linked_seen : (x : Key) → listed new k ≡ listed mid k ++ x ∷ [] → PutsBehind (by_node nodes lists) k x (by_node nodes new)
     linked_seen x adds q = at_node nodes new (still_beside nodes mid k roomed_beside live new others) q ∙ linked nodes mid k roomed_beside live new others x adds q
         ∙ ap (λ l. cond (is_key q k) (l ++ x ∷ []) l) (roomed_same q ∙ sym (at_node nodes lists beside q))
 

@@ -89,8 +89,8 @@ abbrev pub both : {K : Type 0} → (K → Key) → K × K → Key × Key
 both data_of ks = (data_of ks.0, data_of ks.1)
 
 -- k is put behind the edges of one node
-abbrev pub IsLinked : ByNode → Key → Key → ByNode → Type 0
-IsLinked old node x new = (k : Key) → edges_at new k ≡ cond (is_key k node) (edges_at old k ++ x ∷ []) (edges_at old k)
+abbrev pub PutsBehind : ByNode → Key → Key → ByNode → Type 0
+PutsBehind old node x new = (k : Key) → edges_at new k ≡ cond (is_key k node) (edges_at old k ++ x ∷ []) (edges_at old k)
 
 -- the same edges at each node
 abbrev pub SameEdges : ByNode → ByNode → Type 0

@@ -7,7 +7,7 @@ ghost use Rattle.std.specs.FinMap as map;
 ghost use Rattle.slotmap.specs.Words.{Key as KeyOf, Inserts, Removes, Keeps, Leaves, IsLive, IsSpent, KeepsSpent, Refuses};
 ghost use Rattle.slotmap_keylist.specs.KeyLists.{without};
 ghost use Rattle.slotmap_graph.specs.declared.Edge.{Edge as SeenEdge};
-ghost use Rattle.slotmap_graph.specs.Parts.{avoids, touches, from, to, value, edges_at, ListsEdges, IsLinked, SameEdges, RefusesEdge, RefusesLiveEdge};
+ghost use Rattle.slotmap_graph.specs.Parts.{avoids, touches, from, to, value, edges_at, ListsEdges, PutsBehind, SameEdges, RefusesEdge, RefusesLiveEdge};
 
 use crate::lists::{last, link, make_rooms, unlink};
 use crate::{Edge, EdgeError, EdgeKey, Graph};
@@ -86,8 +86,8 @@ impl<K: Key, N: Drop, E: Drop> Graph<K, N, E> {
         ensures fresh { IfOk result (λ key. map.get self.old.edges.live key ≡ None) }
         ensures unspent { IfOk result (λ key. IsSpent self.old.edges key → ⊥) }
         ensures live { OnOk result (IsLive self.old.nodes (K.data_of from) × IsLive self.old.nodes (K.data_of to)) }
-        ensures out { IfOk result (λ key. IsLinked self.old.out (K.data_of from) key self.new.out) }
-        ensures into { IfOk result (λ key. IsLinked self.old.into (K.data_of to) key self.new.into) }
+        ensures out { IfOk result (λ key. PutsBehind self.old.out (K.data_of from) key self.new.out) }
+        ensures into { IfOk result (λ key. PutsBehind self.old.into (K.data_of to) key self.new.into) }
 
         // Why the call failed, and what that leaves.
         ensures err { IfErr result (RefusesEdge self.old.nodes self.old.edges (K.data_of from) (K.data_of to) edge) }
