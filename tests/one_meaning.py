@@ -29,7 +29,6 @@ LEMMAS = {
     'DrainLemmas': 'drains',
     'FromListLemmas': 'a map that is read from a list of slots',
     'IterLemmas': 'iterators',
-    'PassLemmas': 'passes of a closure',
     'Results': 'what clauses say of results',
     'RetainLemmas': '`retain`',
     'SettledLemmas': 'what calls know of slots between calls, by what the map holds',

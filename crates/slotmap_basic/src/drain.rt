@@ -45,6 +45,7 @@ impl<'a, K: Key, V: Drop> Iterator for Drain<'a, K, V> {
 
     ghost remaining = { drain_count drain_live };
 
+    #[inline(always)]
     fn next(&mut self) -> Option<(K, V)> {
         let map = &mut *self.map;
         let key = map.next_live(&mut self.odds)?;

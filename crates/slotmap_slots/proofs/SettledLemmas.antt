@@ -1,9 +1,8 @@
 -- What calls know of slots, by what the map holds.
 -- For this crate alone.
 use Rattle.std.proofs.Common.{◌≡◌, ◌≢◌, ℕ, zero, suc, ◌+◌, ◌-◌, ◌<◌, ◌≤◌, ◌^◌, ◌%◌, true, List, [], ◌∷◌, ◌++◌, length, set, slice_get, Some}
-use Rattle.std.proofs.Common.{None, is_some, refl, sym, ap, subst, ◌∙◌, arith}
+use Rattle.std.proofs.Common.{is_some, refl, sym, ap, subst, ◌∙◌, arith}
 use Rattle.std.proofs.lemmas.List.{length-set, length_push}
-use Rattle.std.proofs.lemmas.Option.{slice_get_within}
 use Rattle.std.specs.FinMap as map
 use Rattle.std.specs.FinSet as set
 use Rattle.slotmap_core.specs.Key.{Key}
@@ -11,7 +10,6 @@ use Rattle.slotmap_core.specs.Content.{Content, IsContent, IsLive, IsDetached, p
 use Rattle.slotmap_core.specs.Call.{MakesRoom, StaysValid}
 use Rattle.slotmap_core.specs.StackMap.{content_of_places, used_places}
 use Rattle.slotmap_slots.specs.Slot.{Slot, full, version_at, payload_at, NoneLive, with_payload, places_of, IsSound, vacancies, IsSettled, map_of}
-use Rattle.slotmap_core.proofs.General.ListLemmas.{past_end, mapped_none}
 use Rattle.slotmap_core.proofs.Places.PlacesLemmas.{key}
 use Rattle.slotmap_slots.proofs.SlotLemmas.{Present, present, count_positive, live_slot, get-live_slot, rewritten, reattached, with_payload-is, valid, slots_fit, used_places-slots, free_below}
 use Rattle.slotmap_core.proofs.Contents.StepLemmas.{keeps}
@@ -74,10 +72,6 @@ module _ {P : Type 0} {slots : List (Slot P)} {fits head aside count : ℕ} (set
   -- no live key is between two indices if no version there is odd
   pub settled_passed : (start end : ℕ) → NoneLive slots start end → (q : Key) → IsLive now q → start ≤ q.index → end ≤ q.index
   settled_passed start end passed q is_live from = grind (arith, settled_present q is_live, passed q.index q.version from)
-
-  pub settled_ended : (start end : ℕ) → NoneLive slots start end → version_at slots end ≡ None → (q : Key) → IsLive now q → q.index < start
-  settled_ended start end passed ended q is_live =
-      grind (arith, settled_present q is_live, past_end slots end (mapped_none (λ s. s.version) (slice_get slots end) ended), settled_passed start end passed q is_live, slice_get_within, mapped_none)
 
 -- what is held after a call that allocates nothing
 pub settled_stays : {P : Type 0} (slots : List (Slot P)) (fits head aside count : ℕ) → IsSettled slots fits head aside count → {now : Content P}

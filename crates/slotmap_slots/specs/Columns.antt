@@ -15,10 +15,6 @@ pub record IsNextOdd (versions : List ℕ) (start found : ℕ) : Type 0 where
   pub odd : (v : ℕ) → slice_get versions found ≡ Some v → v % 2 ≡ 1
 
 module _ {P : Type 0} where
-  -- there is a payload at each odd version
-  abbrev pub HasEachOdd : List ℕ → List (Option P) → Type 0
-  HasEachOdd versions payloads = (i v : ℕ) → slice_get versions i ≡ Some v → v % 2 ≡ 1 → (p : P) × (slice_get payloads i ≡ Some (Some p))
-
   -- slot i has the i-th elements
   abbrev pub zip_slots : List ℕ → List Use → List (Option P) → List (Slot P)
   zip_slots [] uses payloads = []
