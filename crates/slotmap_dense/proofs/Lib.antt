@@ -9,6 +9,7 @@ pub mod FromBackLemmas
 pub mod RestLemmas
 pub mod DrainLemmas
 pub mod RetainLemmas
+pub mod PassLemmas
 pub mod CloneLemmas
 pub mod PositionLists
 pub mod LastKeyLemmas

@@ -6,3 +6,4 @@ pub mod Rest
 pub mod Drain
 pub mod IterMut
 pub mod Retain
+pub mod Pass

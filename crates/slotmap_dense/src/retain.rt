@@ -1,12 +1,12 @@
 //! The calls that visit all live keys of a map.
 
-ghost use Rattle.std.specs.Prelude.{◌≡◌, ◌<◌, ◌+◌, Some, length, slice_get};
-ghost use Rattle.std.specs.FinMap as map;
-ghost use Rattle.std.specs.Borrow.{sem};
+ghost use Rattle.std.specs.Prelude.{◌≡◌, ◌<◌, ◌≤◌, ◌+◌, Some, map as list_map, length, slice_get};
 ghost use Rattle.slotmap_core.specs.Transition.{Leaves};
+ghost use Rattle.slotmap_dense.specs.Pass.{MayPass, Passes, stage};
 ghost use Rattle.slotmap_core.specs.Retain.{RetainsBy, CallableOnEach};
 ghost use Rattle.slotmap_core.specs.Key.{Key as KeyOf};
-ghost use Rattle.slotmap_dense.specs.Rest.{Comes, LeavesFrom};
+ghost use Rattle.slotmap_dense.specs.Pass.{beside, packed_order};
+ghost use Rattle.slotmap_dense.specs.Rest.{LeavesFrom};
 ghost use Rattle.slotmap_dense.specs.Dense.{TakesLast};
 ghost use Rattle.slotmap_dense.specs.Call.{StaysDense};
 ghost use Rattle.slotmap_dense.specs.Retain.{RetainsPacked};
@@ -15,9 +15,30 @@ use crate::DenseSlotMap;
 use crate::remove::close_gap;
 use slotmap_core::keys::Key;
 
-impl<K: Key, V: Drop> DenseSlotMap<K, V> {
-    ghost use Rattle.slotmap_dense.specs.Lends.{lends_value};
+// Calls a closure for each key from a position on, with the value at the same position, until it
+// returns `false`. Returns the position of the key for which it did, or the number of keys.
+fn find_rejected<K: Key, V, F: FnMut(K, &mut V) -> bool>(
+    keys: &[K],
+    values: &mut [V],
+    from: usize,
+    f: &mut F,
+) -> usize
+    requires from { from ≤ length keys.now }
+    requires same_length { length values.old ≡ length keys.now }
+    requires callable { MayPass (beside K.data_of (list_map K.data_of keys.now)) F.FnMut (stage from values.old f.old) }
+    ensures passes { Passes (beside K.data_of (list_map K.data_of keys.now)) F.FnMut (stage from values.old f.old) (stage result values.new f.new) }
+    ensures within { result ≤ length keys.now }
+    ensures same_length { length values.new ≡ length values.old }
+{
+    for position in from..keys.len() {
+        if !f(keys[position], &mut values[position]) {
+            return position;
+        }
+    }
+    keys.len()
+}
 
+impl<K: Key, V: Drop> DenseSlotMap<K, V> {
     // Takes out the last pair of the packed order, or returns `None` if no key is live.
     pub(crate) fn take_last(&mut self) -> Option<(K, V)>
         ensures takes { TakesLast K.data_of self.old result self.new }
@@ -28,22 +49,17 @@ impl<K: Key, V: Drop> DenseSlotMap<K, V> {
         Some((key, self.values.take_last()))
     }
 
-    // Returns the key at a position of the packed order.
-    fn key_at(&self, position: usize) -> K
-        requires { position < length self.now.keys }
-        ensures { Comes self.now position (K.data_of result) }
+    // Calls a closure for the pairs from a position on, in packed order, until it returns `false`.
+    // Returns the position of the pair for which it did, or the number of pairs.
+    fn first_rejected<F: FnMut(K, &mut V) -> bool>(&mut self, from: usize, f: &mut F) -> usize
+        requires from { from ≤ length self.old.keys }
+        requires callable { MayPass (packed_order K.data_of) F.FnMut (stage from self.old f.old) }
+        ensures passes { Passes (packed_order K.data_of) F.FnMut (stage from self.old f.old) (stage result self.new f.new) }
+        ensures within { result ≤ length self.new.keys }
+        ensures keys { self.new.keys ≡ self.old.keys }
+        ensures valid { StaysDense self.old self.new }
     {
-        self.keys[position]
-    }
-
-    // Returns a mutable reference to the value at the position of a key. The key is for the contract
-    // only.
-    fn value_at(&mut self, position: usize, _key: K) -> &mut V
-        requires { slice_get self.old.keys position ≡ Some (K.data_of _key) }
-        ensures* writes_back { sem 𝓛 (lends_value K.row V.row K.Key self.entry (K.data_of _key) result) }
-        ensures value { map.get self.old.content.live (K.data_of _key) ≡ Some result.now }
-    {
-        &mut self.values[position]
+        find_rejected(self.keys.as_slice(), self.values.as_mut_slice(), from, f)
     }
 
     // Removes the key at a position of the packed order.
@@ -86,13 +102,12 @@ impl<K: Key, V: Drop> DenseSlotMap<K, V> {
     {
         self.note_valid();
         let mut position = 0;
-        while position < self.len() {
-            let key = self.key_at(position);
-            if f(key, self.value_at(position, key)) {
-                position += 1;
-            } else {
-                self.take_at(position);
+        loop {
+            position = self.first_rejected(position, &mut f);
+            if position == self.len() {
+                break;
             }
+            self.take_at(position);
         }
     }
 }

@@ -1,12 +1,13 @@
-use Rattle.std.proofs.Common.{◌-◌, ◌≤◌, length}
-use Rattle.slotmap_dense.proofs.RetainLemmas.{Going}
+use Rattle.std.proofs.Common.{◌≤◌, length}
+use Rattle.slotmap_dense.specs.Pass.{stage}
+use Rattle.slotmap_dense.proofs.PassLemmas.{Going}
 use Rattle.slotmap_dense.proofs.DenseSlotMap.retain.Given as goal
 
 abbrev pub invariant-loop-position : goal.invariant-loop-position
 invariant-loop-position g l = record {
-  going : Going g.F.FnMut g.K.Key.data_of l.fn.self l.fn.f l.self l.position l.f;
+  going : Going g.F.FnMut g.K.Key.data_of l.fn.self l.fn.f (stage l.position l.self l.f);
   within : l.position ≤ length l.self.keys;
 }
 
 abbrev pub decreases-loop-position : goal.decreases-loop-position
-decreases-loop-position g l = length l.self.keys - l.position
+decreases-loop-position g l = length l.self.keys
