@@ -20,7 +20,7 @@ use Rattle.slotmap_core.proofs.Several.KeyedVisits.{Keyed-from_start, Keyed-next
 use Rattle.slotmap_hop.specs.HopContent.{HopContent, IsHopContent, IsNextLive, IsNextPlace, HasKeyAt, StaysHop, hop_with_value, blocks_without, blocks_without_all}
 use Rattle.slotmap_hop.specs.Retain.{RetainsByIndex, dropped}
 use Rattle.slotmap_hop.proofs.BlocksLeft.{InOrder, InOrder-kept, InOrder-dropped}
-use Rattle.slotmap_hop.proofs.Sweeping.{Sweeping, key_of_next, same_comes, sweep_written, sweep_dropped}
+use Rattle.slotmap_hop.proofs.Sweeping.{Sweeping, same_comes, sweep_written, sweep_dropped}
 
 module _ {F K V : Type 0} (g : Mut F (K × (MutBor V × Unit {0})) (Bool × (MutBor V × Unit {0}))) (data_of : K → Key) (old : HopContent V) (f : F) where
   -- the calls so far, and the key for which the closure is called next
@@ -40,7 +40,7 @@ module _ {F K V : Type 0} (g : Mut F (K × (MutBor V × Unit {0})) (Bool × (Mut
   retaining_at : (now : HopContent V) (i : ℕ) (next : Option ℕ) (f' : F) → IsNextPlace now.content i next
       → ((found : Option K) → IsNextLive data_of now.content i found → Retaining now found f') → RetainingAt now next f'
   retaining_at now i None f' comes so_far = so_far None comes
-  retaining_at now i (Some place) f' comes so_far = (comes.0, λ k is_live at. so_far (Some k) (key_of_next data_of now.content i place k comes is_live at))
+  retaining_at now i (Some place) f' comes so_far = (comes.0, λ k is_live at. so_far (Some k) (is_live, omega (arith, comes.1, at), λ q there from. omega (arith, comes.2 q there from, at)))
 
   retaining_starts : (next : Option K) → IsHopContent old → IsNextLive data_of old.content 0 next → Retaining old next f
   retaining_starts next well comes = record {

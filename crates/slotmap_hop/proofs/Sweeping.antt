@@ -12,7 +12,7 @@ use Rattle.slotmap_core.proofs.Contents.SweepLemmas.{first_entry, above_next, Sw
 use Rattle.slotmap_core.proofs.Contents.LeaveLemmas.{same_live}
 use Rattle.slotmap_core.proofs.General.ListingLemmas.{remove-insert}
 use Rattle.slotmap_hop.specs.declared.links.Slot.{Slot}
-use Rattle.slotmap_hop.specs.HopContent.{HopContent, IsHopContent, IsNextLive, IsNextPlace, MayStand, StaysHop, hop_with_value, blocks_without, blocks_without_all}
+use Rattle.slotmap_hop.specs.HopContent.{HopContent, IsHopContent, IsNextLive, MayStand, StaysHop, hop_with_value, blocks_without, blocks_without_all}
 use Rattle.slotmap_hop.specs.Slots.{hop_content, IsSound}
 use Rattle.slotmap_hop.specs.Iter.{CanGoOn}
 use Rattle.slotmap_hop.proofs.SlotLemmas.{same_counts}
@@ -36,13 +36,6 @@ places_left (Some place) = 2 ^ 32 - place
 
 -- a loop over the live keys that finds the next key before it removes the present one
 module _ {K V : Type 0} (data_of : K → Key) where
-  pub place_of_next : (c : Content V) (i : ℕ) (k : K) → IsNextLive data_of c i (Some k) → IsNextPlace c i (Some (data_of k).index)
-  place_of_next c i k comes = ((data_of k, comes.0, refl), comes.1, comes.2)
-
-  -- a key at that index
-  pub key_of_next : (c : Content V) (i place : ℕ) (k : K) → IsNextPlace c i (Some place) → IsLive c (data_of k) → (data_of k).index ≡ place → IsNextLive data_of c i (Some k)
-  key_of_next c i place k comes is_live at = (is_live, omega (arith, comes.1, at), λ q there from. omega (arith, comes.2 q there from, at))
-
   -- between old and now, all keys below the index were visited
   pub record Sweeping (old now : HopContent V) (index : ℕ) (next : Option K) : Type 0 where
     pub swept : Swept true old.content now.content index

@@ -27,15 +27,13 @@ impl<K: Key, V: Drop> HopSlotMap<K, V> {
         ensures blocks { self.new.blocks ≡ blocks_without_all self.old (map.keys self.old.content.live) }
         ensures valid { StaysHop self.old self.new }
     {
-        let Some(mut place) = self.first_place(0) else {
+        let Some(mut key) = self.first_live(0) else {
             return;
         };
-        let mut key = self.key_at(place);
         while self.len() > 1 {
-            // The index is kept beside the key: taken out of it, it would wait for the version.
-            let next = self.live_after(place);
+            let next = self.live_after(key);
             self.take_live(key);
-            (place, key) = next;
+            key = next;
         }
         self.take_live(key);
     }

@@ -69,21 +69,20 @@ impl<K: Key, V: Drop> HopSlotMap<K, V> {
         Some(self.key_at(place))
     }
 
-    // Returns the next live key after the first one, which has this index, and its own index. There
-    // are others, so its search needs no test for the end.
-    pub(crate) fn live_after(&self, place: u32) -> (u32, K)
-        requires first { IsNextPlace self.now.content 0 (Some place) }
-        requires stands { MayStand self.now.content (place + 1) }
+    // Returns the live key after this one, which is the first one. There are others, so its search
+    // needs no test for the end.
+    pub(crate) fn live_after(&self, key: K) -> K
+        requires first { IsNextLive K.data_of self.now.content 0 (Some key) }
+        requires stands { MayStand self.now.content ((K.data_of key).index + 1) }
         requires others { 1 < map.len self.now.content.live }
-        ensures comes { IsNextLive K.data_of self.now.content (place + 1) (Some result.1) }
-        ensures index { (K.data_of result.1).index ≡ result.0 }
+        ensures comes { IsNextLive K.data_of self.now.content ((K.data_of key).index + 1) (Some result) }
         ensures valid { IsHopContent self.now }
     {
         self.note_valid();
         let mut counted = CountedSlots::new(self.slots.as_slice());
-        let (found, slot) = next_live(&mut counted, place as usize + 1);
-        let next = found as u32;
-        (next, K::from(KeyData::exact(next, slot.version())))
+        let start = key.data().idx() as usize + 1;
+        let (place, slot) = next_live(&mut counted, start);
+        K::from(KeyData::exact(place as u32, slot.version()))
     }
 
     /// Calls a closure once for each live key, and removes the keys for which it returns `false`.
