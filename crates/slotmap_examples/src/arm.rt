@@ -3,7 +3,7 @@
 ghost use Rattle.std.specs.Prelude.{◌≡◌, ◌+ℤ◌, Some, IfOk};
 ghost use Rattle.std.specs.Int.{int_wrap, w32};
 
-use slotmap::{DefaultKey, ReserveError};
+use slotmap::{DefaultKey, InsertError, ReserveError};
 use slotmap_scene::world::{Offset, Transform};
 use slotmap_scene::{AddError, Scene};
 use std::alloc::Global;
@@ -14,6 +14,8 @@ use thiserror::Error;
 pub enum ArmError {
     #[error("no scene: {0}")]
     Scene(#[from] ReserveError),
+    #[error("no first piece: {0}")]
+    First(#[from] InsertError<Offset>),
     #[error("no piece: {0}")]
     Piece(#[from] AddError<Offset>),
 }
@@ -40,8 +42,12 @@ pub fn hand_of_arm(
 /// Moves the hand to another piece of its arm, and returns where it is then.
 ///
 /// It keeps its own shift, and is then under that piece, which stays where it was.
-pub fn move_hand(arm: &mut Scene<Offset>, hand: DefaultKey, piece: DefaultKey) -> Option<Offset> {
-    let shift = arm.get(hand)?.value;
+pub fn move_hand(
+    arm: &mut Scene<DefaultKey, Offset>,
+    hand: DefaultKey,
+    piece: DefaultKey,
+) -> Option<Offset> {
+    let shift = *arm.get(hand)?;
     let base = arm.world(piece)?;
     let Ok(()) = arm.reparent(hand, piece) else {
         return None;

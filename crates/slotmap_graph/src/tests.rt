@@ -1,6 +1,6 @@
-//! Each call once on its happy path.
+//! Calls on their happy path, in short functions.
 
-use crate::{EdgeError, EdgeKey, Graph};
+use crate::{EdgeKey, Graph};
 use slotmap::NodeKey;
 use std::alloc::Global;
 use std::test::Fail;
@@ -15,82 +15,36 @@ fn pair(alloc: Global) -> Result<(Graph<NodeKey, u64, u64>, NodeKey, NodeKey, Ed
 }
 
 #[test]
-fn values_and_ends(rt: HostRuntime) -> Result<(), Fail> {
-    let (mut graph, a, b, edge) = pair(rt.alloc())?;
-    if let Some(value) = graph.node_mut(a) {
-        *value = 3;
-    }
-    if let Some(value) = graph.edge_mut(edge) {
-        *value = 6;
-    }
-    assert_eq!(rt; graph.node(a), Some(&3));
-    assert_eq!(rt; graph.edge(edge), Some(&6));
+fn values(rt: HostRuntime) -> Result<(), Fail> {
+    let (graph, a, b, edge) = pair(rt.alloc())?;
+    assert_eq!(rt; graph.node(a), Some(&1));
+    assert_eq!(rt; graph.edge(edge), Some(&5));
     assert_eq!(rt; graph.edge_ends(edge), Some((a, b)));
     Ok(())
 }
 
 #[test]
-fn lists_and_counts(rt: HostRuntime) -> Result<(), Fail> {
-    let (mut graph, a, b, edge) = pair(rt.alloc())?;
-    graph.reserve_nodes(1)?;
-    graph.reserve_edges(1)?;
-    let own = graph.add_edge(a, a, 7)?;
-    assert_eq!(rt; graph.edges_from(a), [edge, own].as_slice());
-    assert_eq!(rt; graph.edges_to(a), [own].as_slice());
-    assert_eq!(rt; graph.out_degree(a), 2);
-    assert_eq!(rt; graph.in_degree(b), 1);
-    assert_eq!(rt; graph.node_count(), 2);
-    assert_eq!(rt; graph.edge_count(), 2);
-    Ok(())
-}
-
-#[test]
-fn keys_in_order(rt: HostRuntime) -> Result<(), Fail> {
+fn lists(rt: HostRuntime) -> Result<(), Fail> {
     let (graph, a, b, edge) = pair(rt.alloc())?;
-    let mut nodes = graph.nodes();
-    assert_eq!(rt; nodes.next(), Some(a));
-    assert_eq!(rt; nodes.next(), Some(b));
-    assert_eq!(rt; nodes.next(), None);
-    let mut edges = graph.edges();
-    assert_eq!(rt; edges.next(), Some(edge));
-    assert!(rt; graph.contains_node(a));
-    assert!(rt; graph.contains_edge(edge));
+    assert_eq!(rt; graph.edges_from(a), [edge].as_slice());
+    assert_eq!(rt; graph.in_degree(b), 1);
+    assert_eq!(rt; graph.find_edge(a, b), Some(edge));
     Ok(())
 }
 
 #[test]
 fn searches(rt: HostRuntime) -> Result<(), Fail> {
     let alloc = rt.alloc();
-    let (mut graph, a, b, edge) = pair(alloc)?;
-    let c = graph.add_node(3)?;
-    graph.add_edge(a, c, 6)?;
-    graph.add_edge(c, b, 7)?;
-    assert_eq!(rt; graph.find_edge(a, b), Some(edge));
-    assert_eq!(rt; graph.find_edge(b, a), None);
-    assert_eq!(rt; graph.neighbours(alloc, a)?.as_slice(), [b, c].as_slice());
-    assert_eq!(rt; graph.reachable(alloc, a)?.as_slice(), [a, b, c].as_slice());
+    let (graph, a, b, _) = pair(alloc)?;
+    assert_eq!(rt; graph.neighbours(alloc, a)?.as_slice(), [b].as_slice());
+    assert_eq!(rt; graph.reachable(alloc, a)?.as_slice(), [a, b].as_slice());
     Ok(())
 }
 
 #[test]
 fn removals(rt: HostRuntime) -> Result<(), Fail> {
-    let (mut graph, a, b, edge) = pair(rt.alloc())?;
-    let own = graph.add_edge(a, a, 7)?;
-    assert_eq!(rt; graph.remove_edge(own), Some(7));
-    graph.remove_edges_of(b);
-    assert_eq!(rt; graph.edge(edge), None);
+    let (mut graph, _, b, edge) = pair(rt.alloc())?;
     assert_eq!(rt; graph.remove_node(b), Some(2));
-    assert!(rt; matches!(graph.add_edge(a, b, 8), Err(EdgeError::Gone(8))));
-    graph.clear();
-    assert!(rt; !graph.contains_node(a));
-    Ok(())
-}
-
-#[test]
-fn debug_text(rt: HostRuntime) -> Result<(), Fail> {
-    let alloc = rt.alloc();
-    let graph: Graph<NodeKey, u64, u64> = Graph::new(alloc)?;
-    let text = format!(in alloc; "{graph:?}")?;
-    assert_eq!(rt; text.as_str(), "Graph { nodes: {}, edges: {} }");
+    assert!(rt; !graph.contains_edge(edge));
     Ok(())
 }

@@ -108,6 +108,10 @@ module _ {T : Type 0} where
   leads_kept old new kept zero k leads = let h = kept k leads.0 in (h.0, h.1 ∙ leads.1)
   leads_kept old new kept (suc n) k leads = let h = kept k leads.1.0 in (leads.0, (h.0, h.1 ∙ leads.1.1, leads_kept old new kept n leads.0 leads.1.2))
 
+  pub tree_same : (old new : Nodes T) → ((q : Key) → map.contains_key new q ≡ map.contains_key old q) → ((q : Key) → parent_of new q ≡ parent_of old q) → IsTree old → IsTree new
+  tree_same old new keys parents tree q there =
+      let up = tree q (sym (keys q) ∙ there) in (up.0, leads_kept old new (λ k live. (keys k ∙ live, parents k)) up.0 q up.1)
+
   module _ (nodes : Nodes T) (k : Key) (node : Node T) (fresh : lacks_node nodes k) where
     inserted_kept : (q : Key) → has_node nodes q → has_node (map.insert nodes k node) q × (parent_of (map.insert nodes k node) q ≡ parent_of nodes q)
     inserted_kept q there =

@@ -1,16 +1,15 @@
 -- What a call that changes one link makes of the parent and the children of each node.
-use Rattle.std.proofs.Common.{◌≡◌, ◌≢◌, ℕ, zero, suc, ◌+◌, ◌<◌, true, false, Option, Some, None, IfSome, List, [], ◌∷◌, ◌++◌, is_some, refl, sym, ap, subst, ◌∙◌, inl, inr, arith}
+use Rattle.std.proofs.Common.{◌≡◌, ◌≢◌, ◌⊎◌, ℕ, zero, suc, ◌+◌, ◌<◌, true, false, Option, Some, None, List, [], ◌∷◌, ◌++◌, is_some, refl, sym, ap, subst, ◌∙◌, inl, inr, arith}
 use Rattle.std.specs.Prelude.{option_map}
 use Rattle.std.specs.FinMap as map
 use Rattle.slotmap.specs.Words.{Key}
 use Rattle.slotmap.proofs.Callers.{get-insert_here, get-insert_other, same_or_other, keys_total, exact_keys}
 use Rattle.slotmap_scene.specs.declared.Node.{Node}
 use Rattle.slotmap_scene.specs.Climb.{Nodes, has_node, lacks_node, parent_in, parent_of, ClimbsTo, IsTree, IsWithin, with_parent, with_parent_in}
-use Rattle.slotmap_scene.specs.Keys.{same, times}
-use Rattle.slotmap_scene.specs.Family.{value_of, without, is_parent, children_in, children_of, AreListed, IsScene, leaf, with_children_in, with_child, without_child, as_root, attached}
-use Rattle.slotmap_scene.proofs.Keys.{one_itself, one_other, times_pushed}
-use Rattle.slotmap_scene.proofs.ChildLists.{times_without, times_gone}
-use Rattle.slotmap_scene.proofs.Climbs.{leads_live, Parents, tree_cut, tree_hung, tree_root}
+use Rattle.slotmap_keylist.specs.KeyLists.{same, times, without}
+use Rattle.slotmap_keylist.proofs.Counts.{one_itself, one_other, times_pushed, times_gone, times_without}
+use Rattle.slotmap_scene.specs.Family.{value_of, is_parent, children_in, children_of, AreListed, IsScene, MayLeave, child, with_children_in, with_child, without_child, as_root, attached}
+use Rattle.slotmap_scene.proofs.Climbs.{leads_live, Parents, tree_cut, tree_hung, tree_root, tree_same}
 
 -- who is a parent of whom
 is_its_parent : (o : Option Key) (p : Key) → o ≡ Some p → is_parent o p ≡ 1
@@ -119,7 +118,7 @@ module _ {T : Type 0} where
     the_children None is = absurd (cc)
     the_children (Some node) is = refl
 
-    written_is : has_node nodes p → children_of written p ≡ f (children_of nodes p)
+    pub written_is : has_node nodes p → children_of written p ≡ f (children_of nodes p)
     written_is live = ap children_in (written_here (map.get nodes p) refl) ∙ the_children (map.get nodes p) live
 
   -- a node leaves the children of its parent
@@ -199,29 +198,28 @@ module _ {T : Type 0} where
       above zero leads = absurd (let h = sym leads.1 ∙ is in cc)
       above (suc n) leads = let h = sym leads.1.1 ∙ is in let same : leads.0 ≡ p = cc in leads_live nodes n p (subst (ClimbsTo nodes n) same leads.1.2)
 
-  -- and still is so where no parent and no key changed
-  pub parent_stands : (nodes new : Nodes T) → IsTree nodes → ((q : Key) → map.contains_key new q ≡ map.contains_key nodes q)
-      → (k : Key) → parent_of new k ≡ parent_of nodes k → IfSome (parent_of new k) (λ p. has_node new p)
-  parent_stands nodes new tree kept k same = by (parent_of new k) refl
+  pub found_stands : (nodes : Nodes T) → IsTree nodes → (k p : Key) (node : Node T) → map.get nodes k ≡ Some node → node.parent ≡ Some p → has_node nodes p
+  found_stands nodes tree k p node there is = parent_there nodes tree k p (ap parent_in there ∙ is)
+
+  -- so a node may leave its parent
+  pub may_leave : (nodes : Nodes T) → IsScene nodes → (k : Key) → MayLeave nodes k (parent_of nodes k)
+  may_leave nodes scene k = by (parent_of nodes k) refl
     where
-      by : (o : Option Key) → parent_of new k ≡ o → IfSome o (λ p. has_node new p)
+      by : (o : Option Key) → parent_of nodes k ≡ o → MayLeave nodes k o
       by None is = tt
-      by (Some p) is = kept p ∙ parent_there nodes tree k p (sym same ∙ is)
+      by (Some p) is = (parent_there nodes scene.tree k p is, let one = listed_once nodes scene.listed p k is in omega arith)
 
-  pub found_stands : (nodes : Nodes T) → IsTree nodes → (k : Key) (node : Node T) → map.get nodes k ≡ Some node → IfSome node.parent (λ p. has_node nodes p)
-  found_stands nodes tree k node there = subst (λ o. IfSome o (λ p. has_node nodes p)) (ap parent_in there) (parent_stands nodes nodes tree (λ q. refl) k refl)
-
-  pub scene_leaf : (nodes : Nodes T) (k : Key) (v : T) → lacks_node nodes k → IsScene nodes → IsScene (map.insert nodes k (leaf v))
+  pub scene_leaf : (nodes : Nodes T) (k : Key) (v : T) → lacks_node nodes k → IsScene nodes → IsScene (map.insert nodes k (child None v))
   scene_leaf nodes k v fresh scene = record {
-    tree = tree_root nodes k (leaf v) fresh scene.tree refl;
-    listed = listed_alike nodes (map.insert nodes k (leaf v))
+    tree = tree_root nodes k (child None v) fresh scene.tree refl;
+    listed = listed_alike nodes (map.insert nodes k (child None v))
         (λ q. elim (same_or_other q k) [
-          | inl is ↦ rw is (ap parent_in (get-insert_here nodes k (leaf v)) ∙ sym (ap parent_in (none (map.get nodes k) fresh)))
-          | inr other ↦ ap parent_in (get-insert_other nodes k (leaf v) q other)
+          | inl is ↦ rw is (ap parent_in (get-insert_here nodes k (child None v)) ∙ sym (ap parent_in (none (map.get nodes k) fresh)))
+          | inr other ↦ ap parent_in (get-insert_other nodes k (child None v) q other)
         ])
         (λ q. elim (same_or_other q k) [
-          | inl is ↦ rw is (ap children_in (get-insert_here nodes k (leaf v)) ∙ sym (ap children_in (none (map.get nodes k) fresh)))
-          | inr other ↦ ap children_in (get-insert_other nodes k (leaf v) q other)
+          | inl is ↦ rw is (ap children_in (get-insert_here nodes k (child None v)) ∙ sym (ap children_in (none (map.get nodes k) fresh)))
+          | inr other ↦ ap children_in (get-insert_other nodes k (child None v) q other)
         ]) scene.listed;
   }
     where
@@ -250,8 +248,7 @@ module _ {T : Type 0} where
 
       gone : (p : Key) → times k (children_of (as_root nodes k) p) ≡ 0
       gone p = by_parent (parent_of nodes k) p (times k (children_of (as_root nodes k) p) ≡ 0)
-          (λ is. (let once = listed_once nodes scene.listed p k is in let less = times_gone k (children_of nodes p) (omega arith) in
-          ap (times k) (detached_here nodes k p is (parent_there nodes scene.tree k p is)) ∙ omega arith))
+          (λ is. ap (times k) (detached_here nodes k p is (parent_there nodes scene.tree k p is)) ∙ times_gone k (children_of nodes p))
           (λ apart. ap (times k) (detached_others nodes k p apart) ∙ listed_never nodes scene.listed p k apart)
 
   pub scene_attached : (nodes : Nodes T) (k p : Key) → has_node nodes k → parent_of nodes k ≡ None → has_node nodes p → (IsWithin nodes p k → ⊥) → IsScene nodes → IsScene (attached nodes k p)
@@ -312,3 +309,24 @@ module _ {T : Type 0} (nodes : Nodes T) (k : Key) where
 
   pub value_attached : (p q : Key) → value_of (attached nodes k p) q ≡ value_of nodes q
   value_attached p q = value_parented (with_child nodes p k) k (Some p) q ∙ value_written nodes p (λ ks. ks ++ k ∷ []) q
+
+-- a value that is written
+module _ {T : Type 0} (nodes : Nodes T) (k : Key) (n : Node T) (v : T) (there : map.get nodes k ≡ Some n) where
+  valued : (q : Key) → (parent_of (map.insert nodes k (record n { value = v })) q ≡ parent_of nodes q) × (children_of (map.insert nodes k (record n { value = v })) q ≡ children_of nodes q)
+  valued q = elim (same_or_other q k) [
+    | inl is ↦ rw is (ap parent_in (get-insert_here nodes k (record n { value = v })) ∙ sym (ap parent_in there), ap children_in (get-insert_here nodes k (record n { value = v })) ∙ sym (ap children_in there))
+    | inr other ↦ (let same = get-insert_other nodes k (record n { value = v }) q other in (ap parent_in same, ap children_in same))
+  ]
+
+  pub scene_valued : IsScene nodes → IsScene (map.insert nodes k (record n { value = v }))
+  scene_valued scene = record {
+    tree = tree_same nodes (map.insert nodes k (record n { value = v })) (λ q. elim (same_or_other q k) [
+      | inl is ↦ rw is (ap is_some (get-insert_here nodes k (record n { value = v })) ∙ sym (ap is_some there))
+      | inr other ↦ ap is_some (get-insert_other nodes k (record n { value = v }) q other)
+    ]) (λ q. (valued q).0) scene.tree;
+    listed = listed_alike nodes (map.insert nodes k (record n { value = v })) (λ q. (valued q).0) (λ q. (valued q).1) scene.listed;
+  }
+
+-- a reference that is lent gives the same scene back
+pub same_lent : {N A B : Type 0} (n : N) (f g : A → B) → ((w : A) → f w ≡ g w) → ◌≡◌ {A = (N × (A → B)) ⊎ B} (inl (n, f)) (inl (n, g))
+same_lent n f g same = λ i. inl (n, λ w. same w i)

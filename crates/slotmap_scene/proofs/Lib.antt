@@ -1,8 +1,7 @@
-pub mod ChildLists
 pub mod Climbs
 pub mod Families
-pub mod Keys
+pub mod Lasts
 pub mod Moved
 pub mod Removals
-pub mod Results
+pub mod Spared
 pub mod Worlds

@@ -6,9 +6,9 @@ use Rattle.slotmap.specs.Words.{Key}
 use Rattle.slotmap.proofs.Callers.{keys, same_or_other, keys_total, exact_keys, left_in, len_removed, get_after_remove}
 use Rattle.slotmap_scene.specs.declared.Node.{Node}
 use Rattle.slotmap_scene.specs.Climb.{Nodes, has_node, lacks_node, parent_in, parent_of, ClimbsTo, IsTree, StepsTo, IsWithin}
-use Rattle.slotmap_scene.specs.Keys.{same, times}
+use Rattle.slotmap_keylist.specs.KeyLists.{same, times}
+use Rattle.slotmap_keylist.proofs.Counts.{one_itself, one_other, times_pushed}
 use Rattle.slotmap_scene.specs.Family.{children_in, children_of, IsScene, value_of}
-use Rattle.slotmap_scene.proofs.Keys.{one_itself, one_other, times_pushed}
 use Rattle.slotmap_scene.proofs.Climbs.{short, within_up, root_within, has_parent, no_cycle}
 use Rattle.slotmap_scene.proofs.Families.{by_parent, listed_once, listed_never, listed_parent, parent_there, make_listed}
 

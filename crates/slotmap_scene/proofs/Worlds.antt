@@ -3,14 +3,15 @@ use Rattle.std.proofs.Common.{◌≡◌, ◌≢◌, ℕ, zero, suc, List, [], �
 use Rattle.std.specs.Fn.{Mut, Takes}
 use Rattle.std.specs.Borrow.{Bor}
 use Rattle.std.specs.List.{FoldsTo, fold}
-use Rattle.std.proofs.lemmas.Fn.{FoldsTo-push, chained_keeps}
+use Rattle.std.proofs.lemmas.Fn.{FoldsTo-push}
 use Rattle.std.specs.FinMap as map
 use Rattle.slotmap.specs.Words.{Key}
 use Rattle.slotmap.proofs.Callers.{get-insert_here, get-insert_other}
 use Rattle.slotmap_scene.specs.declared.Node.{Node}
 use Rattle.slotmap_scene.specs.Climb.{Nodes, has_node, lacks_node, parent_of, parent_in, ClimbsTo, IsTree, IsWithin}
-use Rattle.slotmap_scene.specs.Family.{value_of, leaf, attached, as_root}
+use Rattle.slotmap_scene.specs.Family.{value_of, child, with_child, attached, as_root}
 use Rattle.slotmap_scene.proofs.Families.{parent_there, attached_parents, detached_parents, value_detached, value_attached}
+use Rattle.slotmap_scene.proofs.Moved.{child_attached}
 use Rattle.slotmap_scene.specs.WorldValue.{IsPathFrom, IsPathUp, world_along, IsWorld, CallsAt, FoldsUp, CallableUp}
 
 module _ {T : Type 0} (nodes : Nodes T) where
@@ -217,13 +218,19 @@ module _ {T : Type 0} (nodes : Nodes T) (k p : Key) (live : has_node nodes k) (o
 -- where a node is that is added
 module _ {T : Type 0} (nodes : Nodes T) (k : Key) (v : T) where
   abbrev added : Nodes T
-  added = map.insert nodes k (leaf v)
+  added = map.insert nodes k (child None v)
 
   pub world_added_root : (under : T → T → T) → IsWorld under added k v
-  world_added_root under = world_root added under k (leaf v) (get-insert_here nodes k (leaf v)) refl
+  world_added_root under = world_root added under k (child None v) (get-insert_here nodes k (child None v)) refl
 
   pub world_added_child : lacks_node nodes k → (under : T → T → T) (p : Key) (w : T) → IsWorld under nodes p w → IsWorld under (attached added k p) k (under v w)
   world_added_child fresh under p w world =
-      let put = attached_parents added k p (ap is_some (get-insert_here nodes k (leaf v))) in
-      world_new nodes (attached added k p) k (λ q there other. value_attached added k p q ∙ ap (option_map (λ n. n.value)) (get-insert_other nodes k (leaf v) q other))
-      (λ q there other. put.others q other ∙ ap parent_in (get-insert_other nodes k (leaf v) q other)) under v p w (value_attached added k p k ∙ ap (option_map (λ n. n.value)) (get-insert_here nodes k (leaf v))) put.here world fresh
+      let put = attached_parents added k p (ap is_some (get-insert_here nodes k (child None v))) in
+      world_new nodes (attached added k p) k (λ q there other. value_attached added k p q ∙ ap (option_map (λ n. n.value)) (get-insert_other nodes k (child None v) q other))
+      (λ q there other. put.others q other ∙ ap parent_in (get-insert_other nodes k (child None v) q other)) under v p w (value_attached added k p k ∙ ap (option_map (λ n. n.value)) (get-insert_here nodes k (child None v))) put.here world fresh
+
+  -- the same, by what the clause of a call says that adds a child
+  pub world_added_below : lacks_node nodes k → (under : T → T → T) (p : Key) (w : T) → IsWorld under nodes p w → IsWorld under (map.insert (with_child nodes p k) k (child (Some p) v)) k (under v w)
+  world_added_below fresh under p w world =
+      let apart : k ≢ p = λ same. (let live = subst (has_node nodes) (sym same) (path_live nodes p (world.own ∷ world.above) world.path) in cc) in
+      subst (λ m. IsWorld under m k (under v w)) (sym (child_attached nodes p k v apart)) (world_added_child fresh under p w world)

@@ -1,13 +1,9 @@
 -- The paths from the nodes of a scene up to their roots.
-use Rattle.std.specs.Prelude.{◌≡◌, ℕ, zero, suc, Option, Some, None, List, true, false, refl, ⊤}
+use Rattle.std.specs.Prelude.{◌≡◌, ℕ, zero, suc, Option, Some, None, List, true, false, refl}
 use Rattle.std.specs.Coded.{Coded, code_by, coded×, coded_list, coded_option}
 use Rattle.std.specs.FinMap as map
 use Rattle.slotmap.specs.Words.{Key, key_cmp, coded_key}
 use Rattle.slotmap_scene.specs.declared.Node.{Node}
-use Rattle.slotmap_scene.specs.declared.AddError.{AddError}
-use Rattle.slotmap_scene.specs.declared.AddError.TheVariants.{Gone, Full, Memory}
-use Rattle.slotmap_scene.specs.declared.ReparentError.{ReparentError}
-use Rattle.slotmap_scene.specs.declared.ReparentError.TheVariants as move
 
 -- the node of each key
 abbrev pub Nodes : Type 0 → Type 0
@@ -59,29 +55,3 @@ module _ {T : Type 0} where
   -- k has this parent, and nothing else changed
   abbrev pub with_parent : Nodes T → Key → Option Key → Nodes T
   with_parent nodes k parent = with_parent_in nodes k (map.get nodes k) parent
-
-  -- the value is returned
-  abbrev pub HandsBack : T → AddError T → Type 0
-  HandsBack v (Gone back) = back ≡ v
-  HandsBack v (Full back) = back ≡ v
-  HandsBack v (Memory back) = back ≡ v
-
-  -- not for want of a parent
-  abbrev pub IsNotGone : AddError T → Type 0
-  IsNotGone (Gone back) = ⊥
-  IsNotGone (Full back) = ⊤
-  IsNotGone (Memory back) = ⊤
-
-  -- `Gone` if and only if there is no such parent; the value is returned
-  abbrev pub RefusesChild : Nodes T → Key → T → AddError T → Type 0
-  RefusesChild nodes parent v (Gone back) = lacks_node nodes parent × (back ≡ v)
-  RefusesChild nodes parent v (Full back) = has_node nodes parent × (back ≡ v)
-  RefusesChild nodes parent v (Memory back) = has_node nodes parent × (back ≡ v)
-
-  -- `GoneNode` and `GoneParent` where there is no such node; `Cycle` if and only if the parent is the node, or below it;
-  -- `Memory` only if none of them is to be said
-  abbrev pub RefusesParent : Nodes T → Key → Key → ReparentError → Type 0
-  RefusesParent nodes k parent move.GoneNode = lacks_node nodes k
-  RefusesParent nodes k parent move.GoneParent = has_node nodes k × lacks_node nodes parent
-  RefusesParent nodes k parent move.Cycle = has_node nodes k × has_node nodes parent × IsWithin nodes parent k
-  RefusesParent nodes k parent move.Memory = has_node nodes k × has_node nodes parent × (IsWithin nodes parent k → ⊥)

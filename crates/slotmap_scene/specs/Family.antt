@@ -1,15 +1,10 @@
 -- The children of each node, and how a call changes them.
-use Rattle.std.specs.Prelude.{◌≡◌, ℕ, Option, Some, None, List, [], ◌∷◌, ◌++◌, if◌then◌else◌, option_map}
+use Rattle.std.specs.Prelude.{◌≡◌, ℕ, Option, Some, None, List, [], ◌∷◌, ◌++◌, ◌≤◌, ⊤, option_map}
 use Rattle.std.specs.FinMap as map
 use Rattle.slotmap.specs.Words.{Key}
 use Rattle.slotmap_scene.specs.declared.Node.{Node}
-use Rattle.slotmap_scene.specs.Climb.{Nodes, IsTree, parent_of, with_parent}
-use Rattle.slotmap_scene.specs.Keys.{is_key, same, times}
-
--- a list without the first k in it
-abbrev pub without : Key → List Key → List Key
-without k [] = []
-without k (x ∷ xs) = if is_key x k then xs else x ∷ without k xs
+use Rattle.slotmap_scene.specs.Climb.{Nodes, IsTree, has_node, parent_of, with_parent}
+use Rattle.slotmap_keylist.specs.KeyLists.{same, times, without}
 
 -- 1 if p is the parent, else 0
 abbrev pub is_parent : Option Key → Key → ℕ
@@ -35,13 +30,21 @@ module _ {T : Type 0} where
     pub tree : IsTree nodes
     pub listed : AreListed nodes
 
-  -- a root with no children
-  abbrev pub leaf : T → Node T
-  leaf v = record { value = v; parent = None; children = [] }
+  -- a node with no children
+  abbrev pub child : Option Key → T → Node T
+  child parent v = record { value = v; parent = parent; children = [] }
 
   -- the value of k, if k is a node
   abbrev pub value_of : Nodes T → Key → Option T
   value_of nodes k = option_map (λ n. n.value) (map.get nodes k)
+
+  abbrev pub with_value_in : Nodes T → Key → Option (Node T) → T → Nodes T
+  with_value_in nodes k None v = nodes
+  with_value_in nodes k (Some node) v = map.insert nodes k (record node { value = v })
+
+  -- k has this value, and nothing else changed
+  abbrev pub with_value : Nodes T → Key → T → Nodes T
+  with_value nodes k v = with_value_in nodes k (map.get nodes k) v
 
   -- a node that has lost a child
   abbrev pub forgets : Key → Node T → Node T
@@ -60,6 +63,11 @@ module _ {T : Type 0} where
   abbrev pub without_child : Nodes T → Option Key → Key → Nodes T
   without_child nodes None k = nodes
   without_child nodes (Some p) k = with_children_in nodes p (map.get nodes p) (without k)
+
+  -- the parent of k, if it has one, is there, and has k as a child at most once
+  abbrev pub MayLeave : Nodes T → Key → Option Key → Type 0
+  MayLeave nodes k None = ⊤
+  MayLeave nodes k (Some p) = has_node nodes p × (times k (children_of nodes p) ≤ 1)
 
   -- k is a root, and no node has it as a child
   abbrev pub as_root : Nodes T → Key → Nodes T

@@ -1,5 +1,6 @@
 pub mod Climb
 pub mod Family
-pub mod Keys
+pub mod Lends
 pub mod Offset
+pub mod Refusals
 pub mod WorldValue

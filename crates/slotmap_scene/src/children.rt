@@ -1,17 +1,17 @@
 //! The children of a node, in order.
 
-ghost use Rattle.std.specs.Prelude.{◌≡◌, ◌++◌, [], ◌∷◌, IfNone, OnOk, OnErr, option_to_list};
-ghost use Rattle.slotmap_scene.specs.Family.{without};
+ghost use Rattle.std.specs.Prelude.{◌≡◌, ◌≤◌, ◌++◌, [], ◌∷◌, IfNone, OnOk, OnErr, List, option_to_list};
+ghost use Rattle.slotmap.specs.Words.{Key as KeyOf};
+ghost use Rattle.slotmap_keylist.specs.KeyLists.{times, without};
 
 use slotmap::DefaultKey;
+use slotmap_keylist::take_out;
 use std::alloc::{AllocError, Global};
 use std::marker::Model;
 
-/// The keys of the children of a node, in order.
-///
-/// A clause sees the list of the keys.
+// The keys of the children of a node, in order. A clause sees the list of the keys.
 #[derive(Debug, Drop)]
-pub struct Children {
+pub(crate) struct Children {
     keys: Vec<DefaultKey>,
 }
 
@@ -29,7 +29,7 @@ impl Model for Children {
 
 impl Children {
     // No children.
-    pub(crate) fn new(alloc: Global) -> Children
+    pub fn new(alloc: Global) -> Children
         ensures { result ≡ [] }
     {
         Children {
@@ -37,24 +37,17 @@ impl Children {
         }
     }
 
-    /// Returns the keys, in order.
+    // Returns the keys, in order.
     pub fn as_slice(&self) -> &[DefaultKey]
         ensures { result.now ≡ self.now }
     {
         self.keys.as_slice()
     }
 
-    // Makes room for one more child.
-    pub(crate) fn reserve(&mut self) -> Result<(), AllocError>
-        ensures { self.new ≡ self.old }
-    {
-        self.keys.reserve(1)
-    }
-
     // Puts a child behind the others.
-    pub(crate) fn push(&mut self, child: DefaultKey) -> Result<(), AllocError>
+    pub fn push(&mut self, child: DefaultKey) -> Result<(), AllocError>
         ensures ok { OnOk result (self.new ≡ self.old ++ child ∷ []) }
-        ensures err { OnErr result (self.new ≡ self.old) }
+        ensures unchanged { OnErr result (self.new ≡ self.old) }
     {
         match self.keys.push(child) {
             Ok(()) => Ok(()),
@@ -63,29 +56,30 @@ impl Children {
     }
 
     // Takes the last child.
-    pub(crate) fn pop(&mut self) -> Option<DefaultKey>
+    pub fn pop(&mut self) -> Option<DefaultKey>
         ensures last { self.old ≡ self.new ++ option_to_list result }
         ensures none { IfNone result (self.old ≡ []) }
+        ensures shorter { (others : List KeyOf) (last : KeyOf) → self.old ≡ others ++ last ∷ [] → self.new ≡ others }
     {
         self.keys.pop()
     }
 
-    // Takes a child out, if it is there. Those behind it move up.
-    pub(crate) fn take_out(&mut self, child: DefaultKey)
+    // Puts another child in the place of the last one, if there is one.
+    pub fn set_last(&mut self, child: DefaultKey)
+        ensures { (others : List KeyOf) (last : KeyOf) → self.old ≡ others ++ last ∷ [] → self.new ≡ others ++ child ∷ [] }
+    {
+        let len = self.keys.len();
+        if len == 0 {
+            return;
+        }
+        self.keys[len - 1] = child;
+    }
+
+    // Takes a child out. Those behind it move up.
+    pub fn take_out(&mut self, child: DefaultKey)
+        requires { times child self.old ≤ 1 }
         ensures { self.new ≡ without child self.old }
     {
         take_out(&mut self.keys, child);
-    }
-}
-
-// Takes a key out of a list, if it is there.
-fn take_out(keys: &mut Vec<DefaultKey>, key: DefaultKey)
-    ensures { keys.new.items ≡ without key keys.old.items }
-{
-    for at in 0..keys.len() {
-        if keys[at] == key {
-            keys.remove(at);
-            return;
-        }
     }
 }

@@ -7,23 +7,27 @@
 //! - Each node appears exactly once in its parent's list of children, and in no other.
 //! - [`Scene::reparent`] moves a node with its subtree, as the last child of its new parent. Unless
 //!   memory runs out, it is refused exactly if a node doesn't exist or the move would make a cycle.
-//! - [`Scene::remove`] removes a node with its subtree, and no other node.
-//! - A call that fails changes nothing, and returns what it was given.
+//! - [`Scene::remove`] removes a node with its subtree, and no other node. Their keys are never used
+//!   again.
+//! - A call that fails changes nothing, and returns what it was given. It uses up no key.
 //!
 //! A call takes constant time, unless a vector grows, with these exceptions:
 //!
-//! - [`Scene::depth`] takes time linear in the number of nodes above the node, and
-//!   [`Scene::reparent`] in the number of those above the new parent.
+//! - [`Scene::depth`] and [`Scene::is_within`] take time linear in the number of nodes above the node,
+//!   and [`Scene::reparent`] in the number of those above the new parent.
 //! - [`Scene::reparent`], [`Scene::make_root`] and [`Scene::remove`] search the children of the node's
-//!   parent, and move up those behind it: time linear in the number of siblings.
+//!   parent from the back, and move up those behind it.
 //! - [`Scene::remove`] also takes time linear in the number of nodes that it removes.
+//! - [`Scene::clear`] takes time linear in the number of slots.
 //!
 //! ```
-//! let mut scene = Scene::new(alloc)?;
+//! let mut scene: Scene<DefaultKey, &str> = Scene::new(alloc)?;
 //! let car = scene.add_root("car")?;
 //! let wheel = scene.add_child(car, "wheel")?;
 //! let door = scene.add_child(car, "door")?;
-//! assert_eq!(rt; scene.children(car), [wheel, door].as_slice());
+//! let mut children = scene.children(car);
+//! assert_eq!(rt; children.next(), Some(wheel));
+//! assert_eq!(rt; children.next(), Some(door));
 //! assert_eq!(rt; scene.depth(wheel), Some(1));
 //! assert!(rt; scene.reparent(car, wheel).is_err());
 //! assert_eq!(rt; scene.remove(car), Some("car"));
@@ -31,55 +35,62 @@
 //! ```
 #![tactic(auto, using(slotmap::proofs::Callers::keys))]
 
-ghost use Rattle.std.specs.Prelude.{◌≡◌, ◌↔◌, Some, None, IfOk, IfErr, OnOk, OnErr, IfSome, IfNone, IsTrue, false, true, option_copied, option_map};
+ghost use Rattle.std.specs.Prelude.{◌≡◌, ◌↔◌, ◌≤◌, ◌+◌, IfOk, IfErr, IsOk, IfSome, IsTrue, option_copied, option_map, true};
 ghost use Rattle.std.specs.FinMap as map;
-ghost use Rattle.slotmap.specs.Words.{Key as KeyOf};
-ghost use Rattle.slotmap_scene.specs.Climb.{HandsBack, IsNotGone, RefusesChild, RefusesParent, ClimbsTo, IsWithin, has_node, lacks_node, parent_of};
-ghost use Rattle.slotmap_scene.specs.Family.{attached, children_of, as_root, forgets, is_parent, leaf, value_of};
-ghost use Rattle.slotmap_scene.specs.Keys.{times};
+ghost use Rattle.std.specs.Borrow.{sem};
+ghost use Rattle.std.specs.Option.{option_copied_mut};
+ghost use Rattle.slotmap.specs.Words.{Key as KeyOf, IsNew, MakesRoom, RefusesCapacity, used};
+ghost use Rattle.slotmap_keylist.specs.KeyLists.{times};
+ghost use Rattle.slotmap_scene.specs.Climb.{has_node, parent_of};
+ghost use Rattle.slotmap_scene.specs.Family.{children_of, is_parent, value_of};
 
-pub use crate::children::Children;
-use crate::links::{add, add_below, leave_parent, push_child, remove_tree, set_parent};
-use slotmap::{DefaultKey, ReserveError, SlotMap};
+use crate::children::Children;
+use crate::links::Nodes;
+pub use iter::ChildKeys;
+use slotmap::{DefaultKey, InsertError, Key, ReserveError, SlotMap};
+use slotmap_keylist::{inner, outer};
 use std::alloc::Global;
-use std::marker::Model;
+use std::marker::{Model, PhantomData};
 use thiserror::Error;
 
 mod children;
+mod climb;
+mod iter;
 mod links;
+mod nodes;
 pub mod world;
 
-/// A node: its value, the key of its parent and those of its children. A root has no parent.
+// A node: its value, the key of its parent and those of its children. A root has no parent.
 #[derive(Debug, Drop)]
-pub struct Node<T> {
-    /// What the node holds.
-    pub value: T,
-    /// The key of its parent.
-    pub parent: Option<DefaultKey>,
-    /// The keys of its children, in order.
-    pub children: Children,
+struct Node<T> {
+    value: T,
+    parent: Option<DefaultKey>,
+    children: Children,
 }
 
-/// Nodes in trees.
+/// Nodes in trees, under keys of type `K`.
 ///
-/// A clause sees the finite map from keys to nodes.
+/// A clause sees the content of the map of the nodes. Its `live` is the finite map from the keys to the
+/// nodes, each with its value, its parent and its children, and `IsSpent` says which keys are never used
+/// again.
 #[derive(Debug, Drop)]
-pub struct Scene<T> {
+pub struct Scene<K, T> {
     alloc: Global,
-    nodes: SlotMap<DefaultKey, Node<T>>,
+    nodes: Nodes<T>,
+    key_type: PhantomData<K>,
 }
 
-impl<T> Model for Scene<T> {
-    ghost use Rattle.std.specs.FinMap as map;
-    ghost use Rattle.slotmap.specs.Words.{coded_key};
-    ghost use Rattle.slotmap_scene.specs.Climb.{Nodes, node_code};
+impl<K, T> Model for Scene<K, T> {
+    ghost use Rattle.slotmap.specs.Words.{Content, content_code};
+    ghost use Rattle.slotmap_scene.specs.declared.Node.{Node};
+    ghost use Rattle.slotmap_scene.specs.Climb.{node_code};
     ghost use Rattle.slotmap_scene.specs.Family.{IsScene};
 
-    ghost Value = { Nodes T };
+    ghost Value = { Content (Node T) };
 
-    ghost coded = { map.code coded_key (node_code T.code) };
+    ghost coded = { content_code (node_code T.code) };
 
-    ghost view = { λ scene. scene.nodes.live };
+    ghost view = { λ scene. scene.nodes };
 
     ghost invariant = { λ scene. IsScene scene.nodes.live };
 }
@@ -96,6 +107,19 @@ pub enum AddError<T> {
     /// The allocation fails.
     #[error("out of memory")]
     Memory(T),
+}
+
+impl<T> From<InsertError<T>> for AddError<T> {
+    ghost use Rattle.slotmap_scene.specs.Refusals.{as_add_error};
+
+    ghost from_gives = { λ from error. error ≡ as_add_error from };
+
+    fn from(error: InsertError<T>) -> AddError<T> {
+        match error {
+            InsertError::Full(value) => AddError::Full(value),
+            InsertError::Memory(value) => AddError::Memory(value),
+        }
+    }
 }
 
 /// A node was not moved. The scene is unchanged.
@@ -115,191 +139,135 @@ pub enum ReparentError {
     Memory,
 }
 
-impl<T: Drop> Scene<T> {
-    /// Makes a scene with no node.
+impl<T: Drop> Scene<DefaultKey, T> {
+    /// Makes a scene with no node, with the default type of keys.
     ///
     /// It fails only if memory runs out.
     pub fn new(alloc: Global) -> Result<Self, ReserveError>
-        ensures empty { IfOk result (λ scene. scene ≡ map.empty) }
+        ensures empty { IfOk result IsNew }
         ensures err { IfErr result (λ error. error ≡ ReserveError.Memory) }
     {
-        let nodes = SlotMap::new(alloc)?;
-        Ok(Scene { alloc, nodes })
+        Scene::with_key(alloc)
+    }
+}
+
+impl<K: Key, T: Drop> Scene<K, T> {
+    ghost use Rattle.slotmap_scene.specs.Lends.{lends_value_of};
+
+    /// Makes a scene with no node, with any type of keys.
+    ///
+    /// It fails only if memory runs out.
+    pub fn with_key(alloc: Global) -> Result<Self, ReserveError>
+        ensures empty { IfOk result IsNew }
+        ensures err { IfErr result (λ error. error ≡ ReserveError.Memory) }
+    {
+        Scene::with_capacity_and_key(alloc, 0)
     }
 
-    /// Returns how many nodes there are.
+    /// Makes a scene with no node and with room for `capacity` nodes, with any type of keys.
+    ///
+    /// It fails with `TooGreat` if `capacity` is over 4294967294, and with `Memory` if memory runs out.
+    pub fn with_capacity_and_key(alloc: Global, capacity: usize) -> Result<Self, ReserveError>
+        ensures empty { IfOk result IsNew }
+        ensures room { IfOk result (λ scene. capacity ≤ scene.room) }
+        ensures err { IfErr result (RefusesCapacity capacity) }
+    {
+        let nodes = SlotMap::with_capacity(alloc, capacity)?;
+        Ok(Scene {
+            alloc,
+            nodes,
+            key_type: PhantomData,
+        })
+    }
+
+    /// Reserves room for `additional` more nodes: to add roots can't fail then. To add a child may still
+    /// need memory for the list of its parent.
+    ///
+    /// It fails with `TooGreat` if more than 4294967294 nodes would be there, and with `Memory` if
+    /// memory runs out. The scene has the same nodes then.
+    ///
+    /// ```
+    /// let mut scene: Scene<DefaultKey, &str> = Scene::new(alloc)?;
+    /// scene.reserve(2)?;
+    /// assert!(rt; scene.add_root("car").is_ok());
+    /// ```
+    pub fn reserve(&mut self, additional: usize) -> Result<(), ReserveError>
+        ensures makes_room { MakesRoom true self.old additional (IsOk result) self.new }
+        ensures err { IfErr result (RefusesCapacity (used self.old + additional)) }
+        ensures reuses { additional ≤ map.len self.old.next → IsOk result }
+    {
+        self.nodes.reserve(additional)
+    }
+
+    /// Returns how many nodes there are, in constant time.
     pub fn len(&self) -> usize
-        ensures { result ≡ map.len self.now }
+        ensures { result ≡ map.len self.now.live }
     {
         self.nodes.len()
     }
 
     /// Returns whether there is no node, in constant time.
     pub fn is_empty(&self) -> bool
-        ensures { IsTrue result ↔ (map.len self.now ≡ 0) }
+        ensures { IsTrue result ↔ (map.len self.now.live ≡ 0) }
     {
         self.len() == 0
     }
 
     /// Returns whether a node exists, in constant time.
-    pub fn contains(&self, node: DefaultKey) -> bool
-        ensures { result ≡ map.contains_key self.now node }
+    pub fn contains_key(&self, node: K) -> bool
+        ensures { result ≡ map.contains_key self.now.live (K.data_of node) }
     {
-        self.nodes.contains_key(node)
+        self.nodes.contains_key(inner(node))
     }
 
-    /// Returns a node with its parent and its children, or `None` if it doesn't exist.
-    pub fn get(&self, node: DefaultKey) -> Option<&Node<T>>
-        ensures { option_copied result ≡ map.get self.now node }
+    /// Returns the value of a node, or `None` if it doesn't exist, in constant time.
+    pub fn get(&self, node: K) -> Option<&T>
+        ensures { option_copied result ≡ value_of self.now.live (K.data_of node) }
     {
-        self.nodes.get(node)
+        Some(&self.nodes.get(inner(node))?.value)
     }
 
-    /// Returns the keys of the children of a node, in order: each node whose parent it is, once.
+    /// Returns a mutable reference to the value of a node, or `None` if it doesn't exist, in constant
+    /// time.
+    ///
+    /// ```
+    /// let mut scene: Scene<DefaultKey, u64> = Scene::new(alloc)?;
+    /// let car = scene.add_root(1)?;
+    /// if let Some(value) = scene.get_mut(car) {
+    ///     *value = 2;
+    /// }
+    /// assert_eq!(rt; scene.get(car), Some(&2));
+    /// ```
+    pub fn get_mut(&mut self, node: K) -> Option<&mut T>
+        ensures* writes_back { sem 𝓛 (lends_value_of K.row T.row self.entry (K.data_of node) result) }
+        ensures value { option_copied_mut result ≡ value_of self.old.live (K.data_of node) }
+    {
+        match self.nodes.get_mut(inner(node)) {
+            Some(node) => Some(&mut node.value),
+            None => None,
+        }
+    }
+
+    /// Returns an iterator over the keys of the children of a node, in order: each node whose parent it
+    /// is, once.
     ///
     /// A removed node has none.
-    pub fn children(&self, node: DefaultKey) -> &[DefaultKey]
-        ensures value { result.now ≡ children_of self.now node }
-        ensures listed { (k : KeyOf) → times k result.now ≡ is_parent (parent_of self.now k) node }
+    pub fn children(&self, node: K) -> ChildKeys<'_, K>
+        ensures value { result ≡ children_of self.now.live (K.data_of node) }
+        ensures listed { (k : KeyOf) → times k result ≡ is_parent (parent_of self.now.live k) (K.data_of node) }
     {
-        match self.nodes.get(node) {
-            Some(node) => node.children.as_slice(),
-            None => &[],
+        match self.nodes.get(inner(node)) {
+            Some(node) => ChildKeys::over(node.children.as_slice()),
+            None => ChildKeys::over(&[]),
         }
     }
 
     /// Returns the key of the parent of a node, or `None` if the node is a root or doesn't
     /// exist. The parent exists.
-    pub fn parent(&self, node: DefaultKey) -> Option<DefaultKey>
-        ensures value { result ≡ parent_of self.now node }
-        ensures live { IfSome result (λ parent. has_node self.now parent) }
+    pub fn parent(&self, node: K) -> Option<K>
+        ensures value { option_map K.data_of result ≡ parent_of self.now.live (K.data_of node) }
+        ensures live { IfSome result (λ parent. has_node self.now.live (K.data_of parent)) }
     {
-        self.nodes.get(node)?.parent
-    }
-
-    /// Adds a root with no children, and returns its key.
-    ///
-    /// If the call fails, the error holds the value, and the scene is unchanged.
-    pub fn add_root(&mut self, value: T) -> Result<DefaultKey, AddError<T>>
-        ensures adds { IfOk result (λ key. self.new ≡ map.insert self.old key (leaf value)) }
-        ensures fresh { IfOk result (λ key. lacks_node self.old key) }
-        ensures err { IfErr result (HandsBack value) }
-        ensures not_gone { IfErr result IsNotGone }
-        ensures unchanged { OnErr result (self.new ≡ self.old) }
-    {
-        add(&mut self.nodes, self.alloc, value)
-    }
-
-    /// Adds a node with no children as the last child of another one, and returns its key.
-    ///
-    /// If the call fails, the error holds the value, and the scene is unchanged.
-    pub fn add_child(&mut self, parent: DefaultKey, value: T) -> Result<DefaultKey, AddError<T>>
-        ensures adds { IfOk result (λ key. self.new ≡ attached (map.insert self.old key (leaf value)) key parent) }
-        ensures fresh { IfOk result (λ key. lacks_node self.old key) }
-        ensures live { OnOk result (has_node self.old parent) }
-        ensures err { IfErr result (RefusesChild self.old parent value) }
-        ensures unchanged { OnErr result (self.new ≡ self.old) }
-    {
-        if !self.nodes.contains_key(parent) {
-            return Err(AddError::Gone(value));
-        }
-        add_below(&mut self.nodes, self.alloc, parent, value)
-    }
-
-    /// Returns how many nodes are above a node, or `None` if it doesn't exist.
-    pub fn depth(&self, node: DefaultKey) -> Option<usize>
-        ensures some { IfSome result (λ steps. ClimbsTo self.now steps node) }
-        ensures none { IfNone result (lacks_node self.now node) }
-    {
-        if !self.nodes.contains_key(node) {
-            return None;
-        }
-        let mut at = node;
-        for depth in 0..self.nodes.len() {
-            match self.nodes[at].parent {
-                None => return Some(depth),
-                Some(parent) => at = parent,
-            }
-        }
-        None
-    }
-
-    // Whether a node is another one, or below it.
-    fn is_within(&self, node: DefaultKey, other: DefaultKey) -> bool
-        requires { has_node self.now node }
-        ensures { IsTrue result ↔ IsWithin self.now node other }
-    {
-        let mut at = node;
-        for _step in 0..self.nodes.len() {
-            if at == other {
-                return true;
-            }
-            match self.nodes[at].parent {
-                None => return false,
-                Some(parent) => at = parent,
-            }
-        }
-        false
-    }
-
-    /// Makes a node the last child of another one, with its subtree.
-    ///
-    /// It is the last child even if it was a child of the new parent before.
-    ///
-    /// It fails exactly if one of the two doesn't exist, if the new parent is the node or below it, or
-    /// if memory runs out. The scene is then unchanged.
-    pub fn reparent(&mut self, node: DefaultKey, parent: DefaultKey) -> Result<(), ReparentError>
-        ensures moved { OnOk result (self.new ≡ attached (as_root self.old node) node parent) }
-        ensures nodes { OnOk result (has_node self.old node × has_node self.old parent) }
-        ensures no_cycle { OnOk result (IsWithin self.old parent node → ⊥) }
-        ensures err { IfErr result (RefusesParent self.old node parent) }
-        ensures unchanged { OnErr result (self.new ≡ self.old) }
-    {
-        if !self.nodes.contains_key(node) {
-            return Err(ReparentError::GoneNode);
-        }
-        if !self.nodes.contains_key(parent) {
-            return Err(ReparentError::GoneParent);
-        }
-        if self.is_within(parent, node) {
-            return Err(ReparentError::Cycle);
-        }
-        if push_child(&mut self.nodes, parent, node).is_err() {
-            return Err(ReparentError::Memory);
-        }
-        leave_parent(&mut self.nodes, node);
-        set_parent(&mut self.nodes, node, Some(parent));
-        Ok(())
-    }
-
-    /// Makes a node a root, with its subtree, and returns whether the node exists.
-    ///
-    /// It allocates nothing.
-    pub fn make_root(&mut self, node: DefaultKey) -> bool
-        ensures which { IsTrue result ↔ has_node self.old node }
-        ensures new { self.new ≡ as_root self.old node }
-    {
-        if !self.nodes.contains_key(node) {
-            return false;
-        }
-        leave_parent(&mut self.nodes, node);
-        set_parent(&mut self.nodes, node, None);
-        true
-    }
-
-    /// Removes a node with its subtree, and returns its value, or `None` if it doesn't exist.
-    ///
-    /// It allocates nothing.
-    pub fn remove(&mut self, node: DefaultKey) -> Option<T>
-        ensures value { result ≡ value_of self.old node }
-        ensures removed { (k : KeyOf) → IsWithin self.old k node → lacks_node self.new k }
-        ensures others { (k : KeyOf) → (IsWithin self.old k node → ⊥) → map.get self.new k ≡ option_map (forgets node) (map.get self.old k) }
-        ensures unchanged { IfNone result (self.new ≡ self.old) }
-    {
-        if !self.nodes.contains_key(node) {
-            return None;
-        }
-        self.make_root(node);
-        Some(remove_tree(&mut self.nodes, node))
+        Some(outer(self.nodes.get(inner(node))?.parent?))
     }
 }

@@ -1,108 +1,101 @@
 //! Links between nodes: each call changes one link, or one end of it.
 
-ghost use Rattle.std.specs.Prelude.{◌≡◌, Some, None, IfOk, IfErr, IfSome, OnOk, OnErr, option_map};
+ghost use Rattle.std.specs.Prelude.{◌≡◌, ◌<◌, Some, None, IfOk, IfErr, IsOk, IfSome, OnOk, OnErr, option_map, true};
 ghost use Rattle.std.specs.FinMap as map;
-ghost use Rattle.slotmap.specs.Words.{Key as KeyOf};
-ghost use Rattle.slotmap_scene.specs.Climb.{HandsBack, IsNotGone, IsWithin, has_node, lacks_node, parent_of, with_parent};
-ghost use Rattle.slotmap_scene.specs.Family.{IsScene, attached, leaf, value_of, with_child, without_child};
+ghost use Rattle.slotmap.specs.Words.{Key as KeyOf, IsContent, IsSpent, KeepsSpent, Inserts, Keeps, MayGrow};
+ghost use Rattle.slotmap_scene.specs.Climb.{IsWithin, has_node, lacks_node, parent_of, with_parent};
+ghost use Rattle.slotmap_scene.specs.Family.{IsScene, child, value_of, with_child, without_child, MayLeave};
+ghost use Rattle.slotmap_scene.specs.Refusals.{RefusesNode, RefusesBelow};
 
 use crate::children::Children;
 use crate::{AddError, Node};
-use slotmap::{DefaultKey, InsertError, SlotMap};
+use slotmap::{DefaultKey, InsertError, Key, SlotMap};
 use std::alloc::{AllocError, Global};
 
-// Adds a root with no children.
+// The nodes under their keys.
+pub(crate) type Nodes<T> = SlotMap<DefaultKey, Node<T>>;
+
+// Adds a node with no children, which no other node has as a child yet.
 pub(crate) fn add<T: Drop>(
-    nodes: &mut SlotMap<DefaultKey, Node<T>>,
+    nodes: &mut Nodes<T>,
     alloc: Global,
+    parent: Option<DefaultKey>,
     value: T,
-) -> Result<DefaultKey, AddError<T>>
-    ensures adds { IfOk result (λ key. nodes.new.live ≡ map.insert nodes.old.live key (leaf value)) }
+) -> Result<DefaultKey, InsertError<T>>
+    ensures adds { IfOk result (λ key. Inserts nodes.old key (child parent value) nodes.new) }
+    ensures err { IfErr result (RefusesNode nodes.old value) }
+    ensures reuses { 0 < map.len nodes.old.next → IsOk result }
+    ensures room { 0 < nodes.old.room → IsOk result }
     ensures fresh { IfOk result (λ key. lacks_node nodes.old.live key) }
-    ensures err { IfErr result (HandsBack value) }
-    ensures not_gone { IfErr result IsNotGone }
-    ensures unchanged { OnErr result (nodes.new.live ≡ nodes.old.live) }
+    ensures unspent { IfOk result (λ key. IsSpent nodes.old key → ⊥) }
+    ensures unchanged { OnErr result (Keeps nodes.old nodes.new) }
+    ensures stale { KeepsSpent nodes.old nodes.new }
 {
-    let root = Node {
+    let node = Node {
         value,
-        parent: None,
+        parent,
         children: Children::new(alloc),
     };
-    match nodes.insert(root) {
+    match nodes.insert(node) {
         Ok(key) => Ok(key),
-        Err(InsertError::Full(node)) => Err(AddError::Full(node.value)),
-        Err(InsertError::Memory(node)) => Err(AddError::Memory(node.value)),
+        Err(InsertError::Full(node)) => Err(InsertError::Full(node.value)),
+        Err(InsertError::Memory(node)) => Err(InsertError::Memory(node.value)),
     }
-}
-
-// Makes room for one more child of a node.
-pub(crate) fn make_room<T: Drop>(
-    nodes: &mut SlotMap<DefaultKey, Node<T>>,
-    parent: DefaultKey,
-) -> Result<(), AllocError>
-    requires { has_node nodes.old.live parent }
-    ensures { nodes.new.live ≡ nodes.old.live }
-{
-    nodes[parent].children.reserve()
 }
 
 // Puts a node behind the children of another one.
 pub(crate) fn push_child<T: Drop>(
-    nodes: &mut SlotMap<DefaultKey, Node<T>>,
+    nodes: &mut Nodes<T>,
     parent: DefaultKey,
     node: DefaultKey,
 ) -> Result<(), AllocError>
     requires { has_node nodes.old.live parent }
-    ensures ok { OnOk result (nodes.new.live ≡ with_child nodes.old.live parent node) }
-    ensures err { OnErr result (nodes.new.live ≡ nodes.old.live) }
+    ensures ok { OnOk result (nodes.new ≡ record nodes.old { live = with_child nodes.old.live parent node }) }
+    ensures unchanged { OnErr result (nodes.new ≡ nodes.old) }
+    ensures stale { KeepsSpent nodes.old nodes.new }
+    ensures valid { IsContent true nodes.old }
 {
     nodes[parent].children.push(node)
 }
 
 // Adds a node with no children behind the children of another one.
 //
-// Room in the list is made first, so that no key is spent if memory runs out.
+// A place in the list is taken first, so that no key is used up if memory runs out.
 pub(crate) fn add_below<T: Drop>(
-    nodes: &mut SlotMap<DefaultKey, Node<T>>,
+    nodes: &mut Nodes<T>,
     alloc: Global,
     parent: DefaultKey,
     value: T,
 ) -> Result<DefaultKey, AddError<T>>
     requires { has_node nodes.old.live parent }
-    ensures adds { IfOk result (λ key. nodes.new.live ≡ attached (map.insert nodes.old.live key (leaf value)) key parent) }
+    ensures adds { IfOk result (λ key. Inserts (record nodes.old { live = with_child nodes.old.live parent key }) key (child (Some parent) value) nodes.new) }
     ensures fresh { IfOk result (λ key. lacks_node nodes.old.live key) }
-    ensures err { IfErr result (HandsBack value) }
-    ensures not_gone { IfErr result IsNotGone }
-    ensures unchanged { OnErr result (nodes.new.live ≡ nodes.old.live) }
+    ensures unspent { IfOk result (λ key. IsSpent nodes.old key → ⊥) }
+    ensures err { IfErr result (RefusesBelow nodes.old value) }
+    ensures unchanged { OnErr result (Keeps nodes.old nodes.new) }
+    ensures stale { KeepsSpent nodes.old nodes.new }
 {
-    if make_room(nodes, parent).is_err() {
+    if push_child(nodes, parent, DefaultKey::null()).is_err() {
         return Err(AddError::Memory(value));
     }
-    let key = add(nodes, alloc, value)?;
-    if push_child(nodes, parent, key).is_err() {
-        return Err(AddError::Memory(take_back(nodes, key)));
-    }
-    set_parent(nodes, key, Some(parent));
-    Ok(key)
-}
-
-// Removes a node, and returns its value.
-fn take_back<T: Drop>(nodes: &mut SlotMap<DefaultKey, Node<T>>, node: DefaultKey) -> T
-    requires { has_node nodes.old.live node }
-    ensures value { value_of nodes.old.live node ≡ Some result }
-    ensures removed { nodes.new.live ≡ map.remove nodes.old.live node }
-{
-    match nodes.remove(node) {
-        Some(node) => node.value,
-        None => unreachable!(),
+    match add(nodes, alloc, Some(parent), value) {
+        Ok(key) => {
+            nodes[parent].children.set_last(key);
+            Ok(key)
+        }
+        Err(error) => {
+            nodes[parent].children.pop();
+            Err(AddError::from(error))
+        }
     }
 }
 
 // Takes a node from the children of its parent, if it has one.
-pub(crate) fn leave_parent<T: Drop>(nodes: &mut SlotMap<DefaultKey, Node<T>>, node: DefaultKey)
+pub(crate) fn leave_parent<T: Drop>(nodes: &mut Nodes<T>, node: DefaultKey)
     requires there { has_node nodes.old.live node }
-    requires parent { IfSome (parent_of nodes.old.live node) (λ parent. has_node nodes.old.live parent) }
-    ensures { nodes.new.live ≡ without_child nodes.old.live (parent_of nodes.old.live node) node }
+    requires parent { MayLeave nodes.old.live node (parent_of nodes.old.live node) }
+    ensures leaves { nodes.new ≡ record nodes.old { live = without_child nodes.old.live (parent_of nodes.old.live node) node } }
+    ensures stale { KeepsSpent nodes.old nodes.new }
 {
     if let Some(parent) = nodes[node].parent {
         nodes[parent].children.take_out(node);
@@ -111,12 +104,13 @@ pub(crate) fn leave_parent<T: Drop>(nodes: &mut SlotMap<DefaultKey, Node<T>>, no
 
 // Lets a node have another parent, or none.
 pub(crate) fn set_parent<T: Drop>(
-    nodes: &mut SlotMap<DefaultKey, Node<T>>,
+    nodes: &mut Nodes<T>,
     node: DefaultKey,
     parent: Option<DefaultKey>,
 )
     requires { has_node nodes.old.live node }
-    ensures { nodes.new.live ≡ with_parent nodes.old.live node parent }
+    ensures sets { nodes.new ≡ record nodes.old { live = with_parent nodes.old.live node parent } }
+    ensures stale { KeepsSpent nodes.old nodes.new }
 {
     nodes[node].parent = parent;
 }
@@ -125,13 +119,15 @@ pub(crate) fn set_parent<T: Drop>(
 //
 // It goes down to the last child of each node, which it takes out of the list, as far as a leaf. It
 // removes the leaf, and goes on from the parent.
-pub(crate) fn remove_tree<T: Drop>(nodes: &mut SlotMap<DefaultKey, Node<T>>, root: DefaultKey) -> T
+pub(crate) fn remove_tree<T: Drop>(nodes: &mut Nodes<T>, root: DefaultKey) -> T
     requires there { has_node nodes.old.live root }
     requires root { parent_of nodes.old.live root ≡ None }
     requires scene { IsScene nodes.old.live }
     ensures value { value_of nodes.old.live root ≡ Some result }
     ensures removed { (k : KeyOf) → IsWithin nodes.old.live k root → lacks_node nodes.new.live k }
     ensures others { (k : KeyOf) → (IsWithin nodes.old.live k root → ⊥) → map.get nodes.new.live k ≡ map.get nodes.old.live k }
+    ensures for_good { (k : KeyOf) → has_node nodes.old.live k → lacks_node nodes.new.live k → IsSpent nodes.new k }
+    ensures stale { KeepsSpent nodes.old nodes.new }
 {
     let mut at = root;
     loop {

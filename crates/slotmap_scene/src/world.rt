@@ -11,7 +11,7 @@
 //! Both take time linear in the number of nodes above the one that they are given. Nothing is allocated.
 //!
 //! ```
-//! let mut arm = Scene::new(alloc)?;
+//! let mut arm: Scene<DefaultKey, Offset> = Scene::new(alloc)?;
 //! let shoulder = arm.add_root(Offset { x: 10, y: 20 })?;
 //! let elbow = arm.add_child(shoulder, Offset { x: 5, y: 0 })?;
 //! let hand = arm.add_child(elbow, Offset { x: 3, y: -4 })?;
@@ -24,7 +24,8 @@ ghost use Rattle.slotmap_scene.specs.Climb.{lacks_node};
 ghost use Rattle.slotmap_scene.specs.WorldValue.{CallableUp, FoldsUp, IsWorld};
 
 use crate::Scene;
-use slotmap::DefaultKey;
+use slotmap::Key;
+use slotmap_keylist::{inner, outer};
 
 /// A value that is given in the coordinates of a parent, as a position or a rotation is.
 ///
@@ -71,7 +72,7 @@ impl Transform for Offset {
     }
 }
 
-impl<T: Drop> Scene<T> {
+impl<K: Key, T: Drop> Scene<K, T> {
     /// Folds a closure along the values from a node up to its root, and returns the last result.
     ///
     /// The first call gets `start` and the node's own value. Each later one gets the result of the call
@@ -79,28 +80,23 @@ impl<T: Drop> Scene<T> {
     /// Linear in the number of nodes above.
     ///
     /// ```
-    /// let mut scene = Scene::new(alloc)?;
+    /// let mut scene: Scene<DefaultKey, u64> = Scene::new(alloc)?;
     /// let car = scene.add_root(1)?;
     /// let wheel = scene.add_child(car, 2)?;
     /// assert_eq!(rt; scene.fold_up(wheel, 0, |most: u64, value| most.max(*value)), Some(2));
     /// ```
-    pub fn fold_up<A: Drop, F: FnMut(A, &T) -> A>(
-        &self,
-        node: DefaultKey,
-        start: A,
-        mut f: F,
-    ) -> Option<A>
+    pub fn fold_up<A: Drop, F: FnMut(A, &T) -> A>(&self, node: K, start: A, mut f: F) -> Option<A>
     where
         F: Drop,
         // For each value on the way, after calls for the values below it.
-        requires { CallableUp F.FnMut self.now node f start }
-        ensures some { IfSome result (FoldsUp F.FnMut self.now node f start) }
-        ensures none { IfNone result (lacks_node self.now node) }
+        requires { CallableUp F.FnMut self.now.live (K.data_of node) f start }
+        ensures some { IfSome result (FoldsUp F.FnMut self.now.live (K.data_of node) f start) }
+        ensures none { IfNone result (lacks_node self.now.live (K.data_of node)) }
     {
-        if !self.nodes.contains_key(node) {
+        let mut at = inner(node);
+        if !self.nodes.contains_key(at) {
             return None;
         }
-        let mut at = node;
         let mut total = start;
         for _step in 0..self.nodes.len() {
             let node = &self.nodes[at];
@@ -114,27 +110,31 @@ impl<T: Drop> Scene<T> {
     }
 }
 
-impl<T: Transform> Scene<T> {
+impl<K: Key, T: Transform> Scene<K, T> {
     /// Returns the value of a node in the coordinates of its root.
     ///
     /// This is the node's own value composed with its ancestors', up to the root. It returns `None`
     /// exactly if the node doesn't exist. Linear in the number of nodes above.
     ///
     /// ```
-    /// let mut arm = Scene::new(alloc)?;
+    /// let mut arm: Scene<DefaultKey, Offset> = Scene::new(alloc)?;
     /// let elbow = arm.add_root(Offset { x: 5, y: 0 })?;
     /// let hand = arm.add_child(elbow, Offset { x: 3, y: -4 })?;
     /// assert_eq!(rt; arm.world(hand), Some(Offset { x: 8, y: -4 }));
     /// ```
-    pub fn world(&self, node: DefaultKey) -> Option<T>
-        ensures some { IfSome result (IsWorld T.under self.now node) }
-        ensures none { IfNone result (lacks_node self.now node) }
+    pub fn world(&self, node: K) -> Option<T>
+        ensures some { IfSome result (IsWorld T.under self.now.live (K.data_of node)) }
+        ensures none { IfNone result (lacks_node self.now.live (K.data_of node)) }
     {
-        let own = self.nodes.get(node)?;
+        let own = self.nodes.get(inner(node))?;
         let local = own.value;
         match own.parent {
             None => Some(local),
-            Some(parent) => self.fold_up(parent, local, |below, above| below.under(above)),
+            Some(parent) => self.fold_up(
+                outer::<K>(parent),
+                local,
+                |below, above| below.under(above),
+            ),
         }
     }
 }

@@ -1,4 +1,4 @@
-use Rattle.std.proofs.Common.{◌≡◌, ℕ, ◌+◌, ◌-◌, ◌<◌, length, not, sym, ap, ◌∙◌, arith, drop}
+use Rattle.std.proofs.Common.{◌≡◌, ◌+◌, ◌-◌, ◌<◌, length, not, sym, ap, ◌∙◌, arith, drop}
 use Rattle.std.specs.List.{count_by, filter}
 use Rattle.slotmap_keylist.proofs.Searched.{found_last, none_filtered}
 use Rattle.slotmap_keylist.proofs.take_out.Goals as goal

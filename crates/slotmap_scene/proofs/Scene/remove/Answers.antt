@@ -1,33 +1,82 @@
 use Rattle.std.proofs.Common.{◌≡◌, None, sym, ap, subst, ◌∙◌}
 use Rattle.std.specs.FinMap as map
-use Rattle.slotmap_scene.specs.Climb.{IsWithin, parent_of}
-use Rattle.slotmap_scene.specs.Family.{IsScene}
-use Rattle.slotmap_scene.proofs.Families.{detached_parents}
+use Rattle.slotmap_scene.specs.Climb.{IsWithin, has_node, parent_of, with_parent}
+use Rattle.slotmap_scene.specs.Family.{IsScene, as_root, value_of}
+use Rattle.slotmap_scene.proofs.Families.{may_leave, scene_detached, detached_parents, value_detached}
 use Rattle.slotmap_scene.proofs.Moved.{gone_within, gone_forgotten, within_after, scene_removed}
 use Rattle.slotmap_scene.proofs.Removals.{scene_without}
 use Rattle.slotmap_scene.proofs.Scene.remove.Goals as goal
 
 pub returns-then-not-contains_key-clause-removed : goal.returns-then-not-contains_key-clause-removed
 returns-then-not-contains_key-clause-removed g c =
-    rw (← c.self.view_is) (gone_within c.self.inside.nodes.live c.args.node (sym c.contains_key.ensures.value ∙ c.if-not-contains_key.true) c.self.invariant)
+    rw (← c.self.view_is, ← c.inner-node.ensures) (gone_within c.self.inside.nodes.live c.inner-node.result (sym c.contains_key.ensures.value ∙ c.if-not-contains_key.true) c.self.invariant)
 
 pub returns-then-not-contains_key-clause-others : goal.returns-then-not-contains_key-clause-others
 returns-then-not-contains_key-clause-others g c =
-    rw (← c.self.view_is) (λ k out. gone_forgotten c.self.inside.nodes.live c.args.node (sym c.contains_key.ensures.value ∙ c.if-not-contains_key.true) c.self.invariant k)
+    rw (← c.self.view_is, ← c.inner-node.ensures) (λ k out. gone_forgotten c.self.inside.nodes.live c.inner-node.result (sym c.contains_key.ensures.value ∙ c.if-not-contains_key.true) c.self.invariant k)
+
+pub returns-then-not-contains_key-clause-for_good : goal.returns-then-not-contains_key-clause-for_good
+returns-then-not-contains_key-clause-for_good g c =
+    rw (← c.self.view_is, ← c.inner-node.ensures) (λ k live within.
+    absurd (let dead = gone_within c.self.inside.nodes.live c.inner-node.result (sym c.contains_key.ensures.value ∙ c.if-not-contains_key.true) c.self.invariant k within in cc))
+
+pub leave_parent-requires-clause-parent : goal.leave_parent-requires-clause-parent
+leave_parent-requires-clause-parent g c = may_leave c.self.inside.nodes.live c.self.invariant c.inner-node.result
+
+pub remove_tree-requires-clause-there : goal.remove_tree-requires-clause-there
+remove_tree-requires-clause-there g c =
+    let mid : c.set_parent.new.nodes.live ≡ as_root c.self.inside.nodes.live c.inner-node.result =
+    ap (λ m. m.live) c.set_parent.ensures.sets ∙ ap (λ m. with_parent m.live c.inner-node.result None) c.leave_parent.ensures.leaves in
+    subst (λ m. has_node m c.inner-node.result) (sym mid) ((detached_parents c.self.inside.nodes.live c.inner-node.result).same_keys c.inner-node.result ∙ (sym c.contains_key.ensures.value ∙ c.if-not-contains_key.false))
+
+pub remove_tree-requires-clause-root : goal.remove_tree-requires-clause-root
+remove_tree-requires-clause-root g c =
+    let mid : c.set_parent.new.nodes.live ≡ as_root c.self.inside.nodes.live c.inner-node.result =
+    ap (λ m. m.live) c.set_parent.ensures.sets ∙ ap (λ m. with_parent m.live c.inner-node.result None) c.leave_parent.ensures.leaves in
+    subst (λ m. parent_of m c.inner-node.result ≡ None) (sym mid) (detached_parents c.self.inside.nodes.live c.inner-node.result).here
+
+pub remove_tree-requires-clause-scene : goal.remove_tree-requires-clause-scene
+remove_tree-requires-clause-scene g c =
+    let mid : c.set_parent.new.nodes.live ≡ as_root c.self.inside.nodes.live c.inner-node.result =
+    ap (λ m. m.live) c.set_parent.ensures.sets ∙ ap (λ m. with_parent m.live c.inner-node.result None) c.leave_parent.ensures.leaves in
+    subst IsScene (sym mid) (scene_detached c.self.inside.nodes.live c.inner-node.result (sym c.contains_key.ensures.value ∙ c.if-not-contains_key.false) c.self.invariant)
 
 pub invariant_of-self : goal.invariant_of-self
 invariant_of-self g c =
-    let mid = c.self-2.view_is ∙ c.make_root.ensures.new in
-    let top = subst (λ m. parent_of m c.args.node ≡ None) (sym mid) (detached_parents c.args.self.now c.args.node).here in
-    scene_without c.self-2.inside.nodes.live c.remove_tree.new.nodes.live c.args.node c.self-2.invariant top c.remove_tree.ensures.removed c.remove_tree.ensures.others
+    let mid : c.set_parent.new.nodes.live ≡ as_root c.self.inside.nodes.live c.inner-node.result =
+    ap (λ m. m.live) c.set_parent.ensures.sets ∙ ap (λ m. with_parent m.live c.inner-node.result None) c.leave_parent.ensures.leaves in
+    scene_without c.set_parent.new.nodes.live c.remove_tree.new.nodes.live c.inner-node.result (subst IsScene (sym mid) (scene_detached c.self.inside.nodes.live c.inner-node.result (sym c.contains_key.ensures.value ∙ c.if-not-contains_key.false) c.self.invariant))
+    (subst (λ m. parent_of m c.inner-node.result ≡ None) (sym mid) (detached_parents c.self.inside.nodes.live c.inner-node.result).here) c.remove_tree.ensures.removed c.remove_tree.ensures.others
+
+pub returns-clause-value : goal.returns-clause-value
+returns-clause-value g c =
+    let mid : c.set_parent.new.nodes.live ≡ as_root c.self.inside.nodes.live c.inner-node.result =
+    ap (λ m. m.live) c.set_parent.ensures.sets ∙ ap (λ m. with_parent m.live c.inner-node.result None) c.leave_parent.ensures.leaves in
+    rw (← c.self.view_is, ← c.inner-node.ensures)
+    (sym c.remove_tree.ensures.value ∙ ap (λ m. value_of m c.inner-node.result) mid ∙ value_detached c.self.inside.nodes.live c.inner-node.result c.inner-node.result)
 
 pub returns-clause-removed : goal.returns-clause-removed
-returns-clause-removed g c k within =
-    let mid = c.self-2.view_is ∙ c.make_root.ensures.new in
-    c.remove_tree.ensures.removed k (subst (λ m. IsWithin m k c.args.node) (sym mid) (within_after c.args.self.now c.args.node k within))
+returns-clause-removed g c =
+    let mid : c.set_parent.new.nodes.live ≡ as_root c.self.inside.nodes.live c.inner-node.result =
+    ap (λ m. m.live) c.set_parent.ensures.sets ∙ ap (λ m. with_parent m.live c.inner-node.result None) c.leave_parent.ensures.leaves in
+    rw (← c.self.view_is, ← c.inner-node.ensures) (λ k within.
+    c.remove_tree.ensures.removed k (subst (λ m. IsWithin m k c.inner-node.result) (sym mid) (within_after c.self.inside.nodes.live c.inner-node.result k within)))
 
 pub returns-clause-others : goal.returns-clause-others
-returns-clause-others g c k out =
-    let mid = c.self-2.view_is ∙ c.make_root.ensures.new in
-    scene_removed c.args.self.now c.args.node (subst IsScene c.self.view_is c.self.invariant) c.remove_tree.new.nodes.live
-    (λ q apart. c.remove_tree.ensures.others q (λ w. apart (subst (λ m. IsWithin m q c.args.node) mid w)) ∙ ap (λ m. map.get m q) mid) k out
+returns-clause-others g c =
+    let mid : c.set_parent.new.nodes.live ≡ as_root c.self.inside.nodes.live c.inner-node.result =
+    ap (λ m. m.live) c.set_parent.ensures.sets ∙ ap (λ m. with_parent m.live c.inner-node.result None) c.leave_parent.ensures.leaves in
+    rw (← c.self.view_is, ← c.inner-node.ensures) (λ k out.
+    scene_removed c.self.inside.nodes.live c.inner-node.result c.self.invariant c.remove_tree.new.nodes.live
+    (λ q apart. c.remove_tree.ensures.others q (λ w. apart (subst (λ m. IsWithin m q c.inner-node.result) mid w)) ∙ ap (λ m. map.get m q) mid) k out)
+
+pub returns-clause-for_good : goal.returns-clause-for_good
+returns-clause-for_good g c =
+    let mid : c.set_parent.new.nodes.live ≡ as_root c.self.inside.nodes.live c.inner-node.result =
+    ap (λ m. m.live) c.set_parent.ensures.sets ∙ ap (λ m. with_parent m.live c.inner-node.result None) c.leave_parent.ensures.leaves in
+    rw (← c.self.view_is, ← c.inner-node.ensures) (λ k live within.
+    c.remove_tree.ensures.for_good k (subst (λ m. has_node m k) (sym mid) ((detached_parents c.self.inside.nodes.live c.inner-node.result).same_keys k ∙ live))
+    (c.remove_tree.ensures.removed k (subst (λ m. IsWithin m k c.inner-node.result) (sym mid) (within_after c.self.inside.nodes.live c.inner-node.result k within))))
+
+pub returns-clause-stale : goal.returns-clause-stale
+returns-clause-stale g c k spent = c.remove_tree.ensures.stale k (c.set_parent.ensures.stale k (c.leave_parent.ensures.stale k (rw (← c.self.view_is) at spent)))

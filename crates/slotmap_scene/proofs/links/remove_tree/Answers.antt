@@ -1,45 +1,61 @@
+use Rattle.std.proofs.Common.{is_some, sym, ap}
+use Rattle.slotmap_scene.proofs.Spared.{spares_start, spares_written, spares_removed}
 use Rattle.slotmap_scene.proofs.Removals.{removing_start, removing_down, down_less, went_up, up_less, ended_value, ended_removed, ended_others}
 use Rattle.slotmap_scene.proofs.links.remove_tree.Goals as goal
 
 pub loop-child-init : goal.loop-child-init
-loop-child-init g c = removing_start c.args.nodes.now.live c.args.root c.requires.scene c.requires.root c.requires.there
+loop-child-init g c = record { removing = removing_start c.args.nodes.now.live c.args.root c.requires.scene c.requires.root c.requires.there; spares = spares_start c.args.nodes.now }
 
 pub loop-child-preserved-in-Some : goal.loop-child-preserved-in-Some
 loop-child-preserved-in-Some g c =
-    removing_down c.args.nodes.now.live c.args.root c.requires.scene c.requires.root c.loop-child.nodes.live c.loop-child.at c.loop-child.invariant
-    c.index_mut.result.now c.index_mut.ensures.value c.pop.new.self c.in-Some.child c.in-Some.ensures.last
+    record {
+      removing = removing_down c.args.nodes.now.live c.args.root c.requires.scene c.requires.root c.loop-child.nodes.live c.loop-child.at c.loop-child.invariant.removing
+          c.index_mut.result.now c.index_mut.ensures.value c.pop.new.self c.in-Some.child c.in-Some.ensures.last;
+      spares = spares_written c.args.nodes.now c.loop-child.nodes c.loop-child.invariant.spares c.loop-child.at _ (ap is_some c.index_mut.ensures.value);
+    }
 
 pub loop-child-smaller-in-Some : goal.loop-child-smaller-in-Some
 loop-child-smaller-in-Some g c =
-    down_less c.args.nodes.now.live c.args.root c.requires.scene c.requires.root c.loop-child.nodes.live c.loop-child.at c.loop-child.invariant
+    down_less c.args.nodes.now.live c.args.root c.requires.scene c.requires.root c.loop-child.nodes.live c.loop-child.at c.loop-child.invariant.removing
     c.index_mut.result.now c.index_mut.ensures.value c.pop.new.self c.in-Some.child c.in-Some.ensures.last
 
 pub loop-child-preserved : goal.loop-child-preserved
 loop-child-preserved g c =
-    went_up c.args.nodes.now.live c.args.root c.requires.scene c.requires.root c.loop-child.nodes.live c.loop-child.at c.loop-child.invariant
-    c.index_mut.result.now c.index_mut.ensures.value c.pop.new.self c.in-None.ensures.none c.in-None.ensures.last
-    c.remove.new.self.live c.remove.ensures.live c.in-Some-remove.leaf c.in-Some-remove.ensures.value c.in-Some-parent.parent c.in-Some-parent.is
+    record {
+      removing = went_up c.args.nodes.now.live c.args.root c.requires.scene c.requires.root c.loop-child.nodes.live c.loop-child.at c.loop-child.invariant.removing
+          c.index_mut.result.now c.index_mut.ensures.value c.pop.new.self c.in-None.ensures.none c.in-None.ensures.last
+          c.remove.new.self.live c.remove.ensures.live c.in-Some-remove.leaf c.in-Some-remove.ensures.value c.in-Some-parent.parent c.in-Some-parent.is;
+      spares = spares_removed c.args.nodes.now _ c.remove.new.self (spares_written c.args.nodes.now c.loop-child.nodes c.loop-child.invariant.spares c.loop-child.at _ (ap is_some c.index_mut.ensures.value)) c.loop-child.at (ap is_some (sym c.in-Some-remove.ensures.value)) c.remove.ensures.valid.before c.in-Some-remove.ensures.removes;
+    }
 
 pub loop-child-smaller : goal.loop-child-smaller
 loop-child-smaller g c =
-    up_less c.args.nodes.now.live c.args.root c.requires.scene c.requires.root c.loop-child.nodes.live c.loop-child.at c.loop-child.invariant
+    up_less c.args.nodes.now.live c.args.root c.requires.scene c.requires.root c.loop-child.nodes.live c.loop-child.at c.loop-child.invariant.removing
     c.index_mut.result.now c.index_mut.ensures.value c.pop.new.self c.in-None.ensures.none c.in-None.ensures.last
     c.remove.new.self.live c.remove.ensures.live c.in-Some-remove.leaf c.in-Some-remove.ensures.value c.in-Some-parent.parent c.in-Some-parent.is
 
 pub returns-in-None-parent-clause-value : goal.returns-in-None-parent-clause-value
 returns-in-None-parent-clause-value g c =
-    ended_value c.args.nodes.now.live c.args.root c.requires.scene c.requires.root c.loop-child.nodes.live c.loop-child.at c.loop-child.invariant
+    ended_value c.args.nodes.now.live c.args.root c.requires.scene c.requires.root c.loop-child.nodes.live c.loop-child.at c.loop-child.invariant.removing
     c.index_mut.result.now c.index_mut.ensures.value c.pop.new.self c.in-None.ensures.none c.in-None.ensures.last
     c.remove.new.self.live c.remove.ensures.live c.in-Some-remove.leaf c.in-Some-remove.ensures.value c.in-None-parent.is
 
 pub returns-in-None-parent-clause-removed : goal.returns-in-None-parent-clause-removed
 returns-in-None-parent-clause-removed g c =
-    ended_removed c.args.nodes.now.live c.args.root c.requires.scene c.requires.root c.loop-child.nodes.live c.loop-child.at c.loop-child.invariant
+    ended_removed c.args.nodes.now.live c.args.root c.requires.scene c.requires.root c.loop-child.nodes.live c.loop-child.at c.loop-child.invariant.removing
     c.index_mut.result.now c.index_mut.ensures.value c.pop.new.self c.in-None.ensures.none c.in-None.ensures.last
     c.remove.new.self.live c.remove.ensures.live c.in-Some-remove.leaf c.in-Some-remove.ensures.value c.in-None-parent.is
 
 pub returns-in-None-parent-clause-others : goal.returns-in-None-parent-clause-others
 returns-in-None-parent-clause-others g c =
-    ended_others c.args.nodes.now.live c.args.root c.requires.scene c.requires.root c.loop-child.nodes.live c.loop-child.at c.loop-child.invariant
+    ended_others c.args.nodes.now.live c.args.root c.requires.scene c.requires.root c.loop-child.nodes.live c.loop-child.at c.loop-child.invariant.removing
     c.index_mut.result.now c.index_mut.ensures.value c.pop.new.self c.in-None.ensures.none c.in-None.ensures.last
     c.remove.new.self.live c.remove.ensures.live c.in-Some-remove.leaf c.in-Some-remove.ensures.value c.in-None-parent.is
+
+pub returns-in-None-parent-clause-for_good : goal.returns-in-None-parent-clause-for_good
+returns-in-None-parent-clause-for_good g c =
+    (spares_removed c.args.nodes.now _ c.remove.new.self (spares_written c.args.nodes.now c.loop-child.nodes c.loop-child.invariant.spares c.loop-child.at _ (ap is_some c.index_mut.ensures.value)) c.loop-child.at (ap is_some (sym c.in-Some-remove.ensures.value)) c.remove.ensures.valid.before c.in-Some-remove.ensures.removes).gone
+
+pub returns-in-None-parent-clause-stale : goal.returns-in-None-parent-clause-stale
+returns-in-None-parent-clause-stale g c =
+    (spares_removed c.args.nodes.now _ c.remove.new.self (spares_written c.args.nodes.now c.loop-child.nodes c.loop-child.invariant.spares c.loop-child.at _ (ap is_some c.index_mut.ensures.value)) c.loop-child.at (ap is_some (sym c.in-Some-remove.ensures.value)) c.remove.ensures.valid.before c.in-Some-remove.ensures.removes).keeps

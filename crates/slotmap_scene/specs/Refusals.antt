@@ -1,0 +1,41 @@
+-- When a node isn't added or moved.
+use Rattle.std.specs.Prelude.{◌≡◌}
+use Rattle.slotmap.specs.Words.{Key, Content, LacksRoom, used, most}
+use Rattle.slotmap.specs.declared.InsertError.{InsertError}
+use Rattle.slotmap.specs.declared.InsertError.TheVariants as insert
+use Rattle.slotmap_scene.specs.declared.Node.{Node}
+use Rattle.slotmap_scene.specs.declared.AddError.{AddError}
+use Rattle.slotmap_scene.specs.declared.AddError.TheVariants.{Gone, Full, Memory}
+use Rattle.slotmap_scene.specs.declared.ReparentError.{ReparentError}
+use Rattle.slotmap_scene.specs.declared.ReparentError.TheVariants as move
+use Rattle.slotmap_scene.specs.Climb.{Nodes, has_node, lacks_node, IsWithin}
+
+module _ {T : Type 0} where
+  -- `Full` if and only if the limit is reached, else `Memory`, where no room was promised; the error holds the value
+  abbrev pub RefusesNode : Content (Node T) → T → InsertError T → Type 0
+  RefusesNode c v (insert.Full back) = (used c ≡ most) × (back ≡ v)
+  RefusesNode c v (insert.Memory back) = LacksRoom c × (back ≡ v)
+
+  abbrev pub as_add_error : InsertError T → AddError T
+  as_add_error (insert.Full v) = Full v
+  as_add_error (insert.Memory v) = Memory v
+
+  -- `Full` if and only if the limit is reached and there is memory for one more child, else `Memory`; the error holds the value
+  abbrev pub RefusesBelow : Content (Node T) → T → AddError T → Type 0
+  RefusesBelow c v (Gone back) = ⊥
+  RefusesBelow c v (Full back) = (used c ≡ most) × (back ≡ v)
+  RefusesBelow c v (Memory back) = back ≡ v
+
+  -- the same, but `Gone` if and only if there is no such parent
+  abbrev pub RefusesChild : Content (Node T) → Key → T → AddError T → Type 0
+  RefusesChild c parent v (Gone back) = lacks_node c.live parent × (back ≡ v)
+  RefusesChild c parent v (Full back) = has_node c.live parent × (used c ≡ most) × (back ≡ v)
+  RefusesChild c parent v (Memory back) = has_node c.live parent × (back ≡ v)
+
+  -- `GoneNode` and `GoneParent` where there is no such node; `Cycle` if and only if the parent is the node, or below it;
+  -- `Memory` only if none of them is to be said
+  abbrev pub RefusesParent : Nodes T → Key → Key → ReparentError → Type 0
+  RefusesParent nodes k parent move.GoneNode = lacks_node nodes k
+  RefusesParent nodes k parent move.GoneParent = has_node nodes k × lacks_node nodes parent
+  RefusesParent nodes k parent move.Cycle = has_node nodes k × has_node nodes parent × IsWithin nodes parent k
+  RefusesParent nodes k parent move.Memory = has_node nodes k × has_node nodes parent × (IsWithin nodes parent k → ⊥)

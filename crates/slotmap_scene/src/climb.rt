@@ -1,0 +1,57 @@
+//! The calls that go up from a node.
+
+ghost use Rattle.std.specs.Prelude.{◌↔◌, IfSome, IfNone, IsTrue};
+ghost use Rattle.slotmap_scene.specs.Climb.{ClimbsTo, IsWithin, has_node, lacks_node};
+
+use crate::Scene;
+use slotmap::Key;
+use slotmap_keylist::inner;
+
+impl<K: Key, T: Drop> Scene<K, T> {
+    /// Returns how many nodes are above a node, or `None` if it doesn't exist.
+    pub fn depth(&self, node: K) -> Option<usize>
+        ensures some { IfSome result (λ steps. ClimbsTo self.now.live steps (K.data_of node)) }
+        ensures none { IfNone result (lacks_node self.now.live (K.data_of node)) }
+    {
+        let mut at = inner(node);
+        if !self.nodes.contains_key(at) {
+            return None;
+        }
+        for depth in 0..self.nodes.len() {
+            match self.nodes[at].parent {
+                None => return Some(depth),
+                Some(parent) => at = parent,
+            }
+        }
+        None
+    }
+
+    /// Returns whether a node exists and is another one, or below it.
+    ///
+    /// ```
+    /// let mut scene: Scene<DefaultKey, &str> = Scene::new(alloc)?;
+    /// let car = scene.add_root("car")?;
+    /// let wheel = scene.add_child(car, "wheel")?;
+    /// assert!(rt; scene.is_within(wheel, car));
+    /// assert!(rt; !scene.is_within(car, wheel));
+    /// ```
+    pub fn is_within(&self, node: K, other: K) -> bool
+        ensures { IsTrue result ↔ (has_node self.now.live (K.data_of node) × IsWithin self.now.live (K.data_of node) (K.data_of other)) }
+    {
+        let mut at = inner(node);
+        if !self.nodes.contains_key(at) {
+            return false;
+        }
+        let other = inner(other);
+        for _step in 0..self.nodes.len() {
+            if at == other {
+                return true;
+            }
+            match self.nodes[at].parent {
+                None => return false,
+                Some(parent) => at = parent,
+            }
+        }
+        false
+    }
+}

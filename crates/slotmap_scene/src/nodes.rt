@@ -1,0 +1,149 @@
+//! The calls that add, move and remove nodes.
+
+ghost use Rattle.std.specs.Prelude.{◌≡◌, ◌↔◌, ◌<◌, Some, None, IfOk, IfErr, IsOk, OnOk, OnErr, IfSome, IfNone, OnSome, IsTrue, true, option_map};
+ghost use Rattle.std.specs.FinMap as map;
+ghost use Rattle.slotmap.specs.Words.{Key as KeyOf, IsSpent, KeepsSpent, Inserts, Keeps, Leaves};
+ghost use Rattle.slotmap_scene.specs.Climb.{IsWithin, has_node, lacks_node};
+ghost use Rattle.slotmap_scene.specs.Family.{attached, as_root, child, forgets, value_of, with_child};
+ghost use Rattle.slotmap_scene.specs.Refusals.{RefusesNode, RefusesChild, RefusesParent};
+
+use crate::links::{add, add_below, leave_parent, push_child, remove_tree, set_parent};
+use crate::{AddError, ReparentError, Scene};
+use slotmap::{DefaultKey, InsertError, Key};
+use slotmap_keylist::{inner, outer};
+
+impl<K: Key, T: Drop> Scene<K, T> {
+    /// Adds a root with no children, and returns its key, which no node had before.
+    ///
+    /// If a node was removed or room was reserved, nothing is allocated. If the call fails, the error
+    /// holds the value, and the scene is unchanged.
+    pub fn add_root(&mut self, value: T) -> Result<K, InsertError<T>>
+        ensures adds { IfOk result (λ key. Inserts self.old (K.data_of key) (child None value) self.new) }
+        ensures fresh { IfOk result (λ key. lacks_node self.old.live (K.data_of key)) }
+        ensures unspent { IfOk result (λ key. IsSpent self.old (K.data_of key) → ⊥) }
+        ensures stale { KeepsSpent self.old self.new }
+        ensures err { IfErr result (RefusesNode self.old value) }
+        ensures reuses { 0 < map.len self.old.next → IsOk result }
+        ensures room { 0 < self.old.room → IsOk result }
+        ensures unchanged { OnErr result (Keeps self.old self.new) }
+    {
+        match add(&mut self.nodes, self.alloc, None, value) {
+            Ok(key) => Ok(outer(key)),
+            Err(error) => Err(error),
+        }
+    }
+
+    /// Adds a node with no children as the last child of another one, and returns its key, which no node
+    /// had before.
+    ///
+    /// If the call fails, the error holds the value, and the scene is unchanged.
+    pub fn add_child(&mut self, parent: K, value: T) -> Result<K, AddError<T>>
+        // The parent has one more child, under a new key.
+        ensures adds { IfOk result (λ key. Inserts (record self.old { live = with_child self.old.live (K.data_of parent) (K.data_of key) })
+            (K.data_of key) (child (Some (K.data_of parent)) value) self.new) }
+        ensures fresh { IfOk result (λ key. lacks_node self.old.live (K.data_of key)) }
+        ensures unspent { IfOk result (λ key. IsSpent self.old (K.data_of key) → ⊥) }
+        ensures stale { KeepsSpent self.old self.new }
+        ensures live { OnOk result (has_node self.old.live (K.data_of parent)) }
+        ensures err { IfErr result (RefusesChild self.old (K.data_of parent) value) }
+        ensures unchanged { OnErr result (Keeps self.old self.new) }
+    {
+        let parent = inner(parent);
+        if !self.nodes.contains_key(parent) {
+            return Err(AddError::Gone(value));
+        }
+        match add_below(&mut self.nodes, self.alloc, parent, value) {
+            Ok(key) => Ok(outer(key)),
+            Err(error) => Err(error),
+        }
+    }
+
+    /// Makes a node the last child of another one, with its subtree.
+    ///
+    /// It is the last child even if it was a child of the new parent before.
+    ///
+    /// It fails exactly if one of the two doesn't exist, if the new parent is the node or below it, or
+    /// if memory runs out. The scene is then unchanged.
+    pub fn reparent(&mut self, node: K, parent: K) -> Result<(), ReparentError>
+        ensures moved { OnOk result (self.new ≡ record self.old { live = attached (as_root self.old.live (K.data_of node)) (K.data_of node) (K.data_of parent) }) }
+        ensures nodes { OnOk result (has_node self.old.live (K.data_of node) × has_node self.old.live (K.data_of parent)) }
+        ensures no_cycle { OnOk result (IsWithin self.old.live (K.data_of parent) (K.data_of node) → ⊥) }
+        ensures stale { KeepsSpent self.old self.new }
+        ensures err { IfErr result (RefusesParent self.old.live (K.data_of node) (K.data_of parent)) }
+        ensures unchanged { OnErr result (self.new ≡ self.old) }
+    {
+        if !self.contains_key(node) {
+            return Err(ReparentError::GoneNode);
+        }
+        if !self.contains_key(parent) {
+            return Err(ReparentError::GoneParent);
+        }
+        if self.is_within(parent, node) {
+            return Err(ReparentError::Cycle);
+        }
+        let node = inner(node);
+        let parent = inner(parent);
+        // A place is taken first, so that nothing has changed if memory runs out.
+        if push_child(&mut self.nodes, parent, DefaultKey::null()).is_err() {
+            return Err(ReparentError::Memory);
+        }
+        leave_parent(&mut self.nodes, node);
+        set_parent(&mut self.nodes, node, Some(parent));
+        self.nodes[parent].children.set_last(node);
+        Ok(())
+    }
+
+    /// Makes a node a root, with its subtree, and returns whether the node exists.
+    ///
+    /// It allocates nothing.
+    pub fn make_root(&mut self, node: K) -> bool
+        ensures which { IsTrue result ↔ has_node self.old.live (K.data_of node) }
+        ensures new { self.new ≡ record self.old { live = as_root self.old.live (K.data_of node) } }
+        ensures stale { KeepsSpent self.old self.new }
+    {
+        let node = inner(node);
+        if !self.nodes.contains_key(node) {
+            return false;
+        }
+        leave_parent(&mut self.nodes, node);
+        set_parent(&mut self.nodes, node, None);
+        true
+    }
+
+    /// Removes a node with its subtree, and returns its value, or `None` if it doesn't exist. Their keys
+    /// are never used again.
+    ///
+    /// It allocates nothing.
+    pub fn remove(&mut self, node: K) -> Option<T>
+        ensures value { result ≡ value_of self.old.live (K.data_of node) }
+        ensures removed { (k : KeyOf) → IsWithin self.old.live k (K.data_of node) → lacks_node self.new.live k }
+        ensures others { (k : KeyOf) → (IsWithin self.old.live k (K.data_of node) → ⊥) → map.get self.new.live k ≡ option_map (forgets (K.data_of node)) (map.get self.old.live k) }
+        ensures for_good { (k : KeyOf) → has_node self.old.live k → IsWithin self.old.live k (K.data_of node) → IsSpent self.new k }
+        ensures stale { KeepsSpent self.old self.new }
+        ensures unchanged { IfNone result (self.new ≡ self.old) }
+    {
+        let node = inner(node);
+        if !self.nodes.contains_key(node) {
+            return None;
+        }
+        leave_parent(&mut self.nodes, node);
+        set_parent(&mut self.nodes, node, None);
+        Some(remove_tree(&mut self.nodes, node))
+    }
+
+    /// Removes all nodes. Their keys are never used again. The room stays.
+    ///
+    /// ```
+    /// let mut scene: Scene<DefaultKey, &str> = Scene::new(alloc)?;
+    /// let car = scene.add_root("car")?;
+    /// scene.clear();
+    /// assert!(rt; !scene.contains_key(car));
+    /// ```
+    pub fn clear(&mut self)
+        ensures empty { self.new.live ≡ map.empty }
+        ensures leaves { Leaves self.old self.new }
+        ensures for_good { (k : KeyOf) → has_node self.old.live k → IsSpent self.new k }
+    {
+        self.nodes.clear();
+    }
+}
