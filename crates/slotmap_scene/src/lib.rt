@@ -271,3 +271,6 @@ impl<K: Key, T: Drop> Scene<K, T> {
         Some(outer(self.nodes.get(inner(node))?.parent?))
     }
 }
+
+#[cfg(test)]
+mod tests;

@@ -1,0 +1,55 @@
+//! Calls on their happy path, in short functions.
+
+use crate::Scene;
+use slotmap::NodeKey;
+use std::alloc::Global;
+use std::test::Fail;
+
+// A root of value 1 with two children, of the values 2 and 3.
+fn family(alloc: Global) -> Result<(Scene<NodeKey, u64>, NodeKey, NodeKey, NodeKey), Fail> {
+    let mut scene = Scene::with_capacity_and_key(alloc, 3)?;
+    let top = scene.add_root(1)?;
+    let first = scene.add_child(top, 2)?;
+    let second = scene.add_child(top, 3)?;
+    Ok((scene, top, first, second))
+}
+
+#[test]
+fn parents_and_children(rt: HostRuntime) -> Result<(), Fail> {
+    let (scene, top, first, second) = family(rt.alloc())?;
+    assert_eq!(rt; scene.parent(second), Some(top));
+    assert_eq!(rt; scene.children(top).next(), Some(first));
+    assert_eq!(rt; scene.depth(second), Some(1));
+    Ok(())
+}
+
+#[test]
+fn moves(rt: HostRuntime) -> Result<(), Fail> {
+    let (mut scene, top, first, second) = family(rt.alloc())?;
+    assert!(rt; scene.reparent(second, first).is_ok());
+    assert!(rt; scene.is_within(second, top));
+    assert!(rt; scene.make_root(first));
+    assert_eq!(rt; scene.depth(second), Some(1));
+    Ok(())
+}
+
+#[test]
+fn values(rt: HostRuntime) -> Result<(), Fail> {
+    let (mut scene, _, first, _) = family(rt.alloc())?;
+    if let Some(value) = scene.get_mut(first) {
+        *value = 7;
+    }
+    assert_eq!(rt; scene.get(first), Some(&7));
+    scene.clear();
+    assert!(rt; scene.is_empty());
+    Ok(())
+}
+
+#[test]
+fn removals(rt: HostRuntime) -> Result<(), Fail> {
+    let (mut scene, top, first, _) = family(rt.alloc())?;
+    assert_eq!(rt; scene.remove(top), Some(1));
+    assert!(rt; !scene.contains_key(first));
+    assert_eq!(rt; scene.len(), 0);
+    Ok(())
+}
