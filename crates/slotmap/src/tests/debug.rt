@@ -1,13 +1,25 @@
 //! What maps, iterators and entries print, and that iterators say how much is left.
 
-use crate::{DefaultKey, DenseSlotMap, HopSlotMap, SecondaryMap, SlotMap, SparseSecondaryMap};
+use crate::{
+    DefaultKey, DenseSlotMap, HopSlotMap, Primary, SecondaryMap, SlotMap, SparseSecondaryMap,
+};
 use std::alloc::Global;
 use std::fmt::Debug;
 use std::iter::FusedIterator;
 use std::test::Fail;
 
-fn shows<D: Debug>(alloc: Global, value: &D, text: &str) -> Result<bool, Fail> {
-    Ok(format!(in alloc; "{value:?}")?.as_str() == text)
+fn shows<D: Debug>(alloc: Global, value: &D, text: &str) -> bool {
+    match format!(in alloc; "{value:?}") {
+        Ok(found) => found.as_str() == text,
+        Err(_) => false,
+    }
+}
+
+// Whether a new map shows the value 5 under its first key.
+fn shows_one<M: Primary<DefaultKey, u64> + Debug + Drop>(alloc: Global) -> Result<bool, Fail> {
+    let mut map = M::with_key(alloc)?;
+    map.insert(5)?;
+    Ok(shows(alloc, &map, "{DefaultKey(1v1): 5}"))
 }
 
 fn left<I: ExactSizeIterator + FusedIterator>(items: &I) -> usize {
@@ -17,29 +29,36 @@ fn left<I: ExactSizeIterator + FusedIterator>(items: &I) -> usize {
 #[test]
 fn primary_maps(rt: HostRuntime) -> Result<(), Fail> {
     let alloc = rt.alloc();
-    let mut basic: SlotMap<DefaultKey, u64> = SlotMap::new(alloc)?;
-    basic.insert(5)?;
-    assert!(rt; shows(alloc, &basic, "{DefaultKey(1v1): 5}")?);
-    let mut dense: DenseSlotMap<DefaultKey, u64> = DenseSlotMap::new(alloc)?;
-    dense.insert(6)?;
-    assert!(rt; shows(alloc, &dense, "{DefaultKey(1v1): 6}")?);
-    let mut hop: HopSlotMap<DefaultKey, u64> = HopSlotMap::new(alloc)?;
-    hop.insert(7)?;
-    assert!(rt; shows(alloc, &hop, "{DefaultKey(1v1): 7}")?);
+    assert!(rt; shows_one::<SlotMap<DefaultKey, u64>>(alloc)?);
+    assert!(rt; shows_one::<DenseSlotMap<DefaultKey, u64>>(alloc)?);
+    assert!(rt; shows_one::<HopSlotMap<DefaultKey, u64>>(alloc)?);
     Ok(())
+}
+
+// A map of two values.
+fn two(alloc: Global) -> Result<SlotMap<DefaultKey, u64>, Fail> {
+    let mut map = SlotMap::new(alloc)?;
+    map.insert(5)?;
+    map.insert(6)?;
+    Ok(map)
 }
 
 #[test]
 fn iterators(rt: HostRuntime) -> Result<(), Fail> {
     let alloc = rt.alloc();
-    let mut map: SlotMap<DefaultKey, u64> = SlotMap::new(alloc)?;
-    map.insert(5)?;
-    map.insert(6)?;
+    let map = two(alloc)?;
     let mut pairs = map.iter();
-    assert!(rt; shows(alloc, &pairs, "Iter { remaining: 2 }")?);
+    assert!(rt; shows(alloc, &pairs, "Iter { remaining: 2 }"));
     pairs.next();
     assert_eq!(rt; left(&pairs), 1);
-    assert!(rt; shows(alloc, &map.drain(), "Drain { remaining: 2 }")?);
+    Ok(())
+}
+
+#[test]
+fn drains(rt: HostRuntime) -> Result<(), Fail> {
+    let alloc = rt.alloc();
+    let mut map = two(alloc)?;
+    assert!(rt; shows(alloc, &map.drain(), "Drain { remaining: 2 }"));
     Ok(())
 }
 
@@ -50,12 +69,12 @@ fn side_maps_and_entries(rt: HostRuntime) -> Result<(), Fail> {
     let key = map.insert(5)?;
     let mut side: SecondaryMap<DefaultKey, u64> = SecondaryMap::new(alloc)?;
     let vacant = "Vacant(VacantEntry { key: DefaultKey(1v1) })";
-    assert!(rt; shows(alloc, &side.try_entry(key)?, vacant)?);
+    assert!(rt; shows(alloc, &side.try_entry(key)?, vacant));
     side.insert(key, 7)?;
-    assert!(rt; shows(alloc, &side, "{DefaultKey(1v1): 7}")?);
+    assert!(rt; shows(alloc, &side, "{DefaultKey(1v1): 7}"));
     let mut sparse: SparseSecondaryMap<DefaultKey, u64> = SparseSecondaryMap::new(alloc)?;
     sparse.insert(key, 8)?;
     let occupied = "Occupied(OccupiedEntry { key: DefaultKey(1v1), value: 8 })";
-    assert!(rt; shows(alloc, &sparse.try_entry(key)?, occupied)?);
+    assert!(rt; shows(alloc, &sparse.try_entry(key)?, occupied));
     Ok(())
 }
