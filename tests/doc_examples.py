@@ -33,8 +33,15 @@ HEADS = {
     "slotmap_secondary": SECONDARY.replace("MAP", "SecondaryMap"),
     "slotmap_sparse": SECONDARY.replace("MAP", "SparseSecondaryMap"),
 }
-# The crates of the structures on the maps.
-STRUCTURES = ("slotmap_list", "slotmap_graph", "slotmap_entities", "slotmap_scene", "slotmap_scheduler")
+# The crates of the structures on the maps, and of what they share.
+STRUCTURES = (
+    "slotmap_list",
+    "slotmap_keylist",
+    "slotmap_graph",
+    "slotmap_entities",
+    "slotmap_scene",
+    "slotmap_scheduler",
+)
 OTHER_HEAD = "let alloc = rt.alloc();"
 # The table of calls in CALLING.md, and the lines that come before each of its rows.
 TABLE, TABLE_HEADING = "crates/slotmap/CALLING.md", "## From Rust's slotmap"
@@ -165,17 +172,19 @@ def facade_names():
 
 
 def names_in(path, module):
-    """The types and traits of a file of a crate and of its public modules, by their paths."""
+    """The public items of a file of a crate and of its public modules, by their paths."""
     with open(path, encoding="utf-8") as file:
         text = file.read()
-    for item in re.findall(r"(?m)^pub (?:struct|trait) (\w+)", text):
+    for item in re.findall(r"(?m)^pub (?:struct|enum|trait|fn) (\w+)", text):
         yield f"{module}::{item}"
+    for items in re.findall(r"(?m)^pub use \w+::\{?([\w, ]+)\}?;", text):
+        yield from (f"{module}::{item.strip()}" for item in items.split(","))
     for child in re.findall(r"(?m)^pub mod (\w+);", text):
         yield from names_in(os.path.join(path[:-3].removesuffix("/lib"), child + ".rt"), f"{module}::{child}")
 
 
 def names_of_structure(crate):
-    """The types and traits of a structure's crate by their paths, such as `slotmap_graph::Graph`."""
+    """The public items of a structure's crate by their paths, such as `slotmap_graph::Graph`."""
     return names_in(os.path.join(TOP, f"crates/{crate}/src/lib.rt"), crate)
 
 
