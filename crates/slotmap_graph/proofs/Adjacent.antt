@@ -82,7 +82,7 @@ module _ {E : Type 0} (end : Edge E → Key) (edges : Edges E) where
 
   module _ (k : Key) where
     -- what a list has is an edge whose end is the node
-    pub some_listed : (x : Key) → 0 < ends_at end k (map.get edges x) → (e : Edge E) × (map.get edges x ≡ Some e) × (end e ≡ k)
+    some_listed : (x : Key) → 0 < ends_at end k (map.get edges x) → (e : Edge E) × (map.get edges x ≡ Some e) × (end e ≡ k)
     some_listed x more = elim (map.get edges x) as (λ o. map.get edges x ≡ o → 0 < ends_at end k o → (e : Edge E) × (map.get edges x ≡ Some e) × (end e ≡ k)) [
       | None ↦ λ is less. absurd (omega arith)
       | Some e ↦ λ is less. elim (same_or_other (end e) k) [
@@ -96,7 +96,7 @@ module _ {E : Type 0} (end : Edge E → Key) (edges : Edges E) where
       listed_edge x more = some_listed x (let is = lists x in omega arith)
 
       -- and each such edge is in it
-      pub edge_listed : (x : Key) (e : Edge E) → map.get edges x ≡ Some e → end e ≡ k → times x ks ≡ 1
+      edge_listed : (x : Key) (e : Edge E) → map.get edges x ≡ Some e → end e ≡ k → times x ks ≡ 1
       edge_listed x e there at = lists x ∙ ap (ends_at end k) there ∙ ap (λ q. same q k) at ∙ one_itself k
 
     -- if the list is empty, no edge has that end, and the other way round

@@ -40,7 +40,7 @@ module _ {E : Type 0} (edges : Edges E) (b : Key) (ks : List Key) (i : ℕ) wher
   none_found past none = ap (find (goes_to edges b)) (sym (take_all i ks past)) ∙ none
 
 -- a mark changes nothing in front
-pub marked_behind : (ks : List Key) (k : Key) → GoesOn ks (marked ks k)
+marked_behind : (ks : List Key) (k : Key) → GoesOn ks (marked ks k)
 marked_behind ks k = elim (nat_eq (times k ks) 0) as (λ b. GoesOn ks (cond b (ks ++ k ∷ []) ks)) [
   | true ↦ (k ∷ [], refl)
   | false ↦ ([], sym (append-nil ks))

@@ -32,7 +32,7 @@ module _ {N Z : Type 0} (nodes : Content N) (lists : Pairs (Vec Key Z)) (k : Key
     | inr other ↦ other_lists q other
   ]
 
-  pub still_beside : IsBeside nodes new
+  still_beside : IsBeside nodes new
   still_beside q there = elim (same_or_other q k) [
     | inl e ↦ rw e live
     | inr other ↦ beside q (ap is_some (sym (others q other)) ∙ there)
@@ -46,10 +46,10 @@ module _ {N Z : Type 0} (nodes : Content N) (lists : Pairs (Vec Key Z)) (k : Key
 
 -- room is made in the list of a live node, and then an edge is put behind the others
 module _ {N Z : Type 0} (nodes : Content N) (lists mid : Pairs (Vec Key Z)) (k : Key) (live : IsLive nodes k) (beside : IsBeside nodes lists) (roomed : IsRoomed lists k mid) where
-  pub roomed_beside : IsBeside nodes mid
+  roomed_beside : IsBeside nodes mid
   roomed_beside = still_beside nodes lists k beside live mid roomed.others
 
-  pub roomed_same : (q : Key) → listed mid q ≡ listed lists q
+  roomed_same : (q : Key) → listed mid q ≡ listed lists q
   roomed_same = same_lists nodes lists k beside live mid roomed.others roomed.same
 
   pub roomed_seen : SameEdges (by_node nodes lists) (by_node nodes mid)
@@ -62,7 +62,7 @@ module _ {N Z : Type 0} (nodes : Content N) (lists mid : Pairs (Vec Key Z)) (k :
 
 module _ {N E Z : Type 0} (nodes : Content N) (edges : Edges E) (out into : Pairs (Vec Key Z)) (graph : IsGraph nodes edges out into) where
   -- the same lists, otherwise made
-  pub graph_same : (out' into' : Pairs (Vec Key Z)) → IsBeside nodes out' → IsBeside nodes into' → ((q : Key) → listed out' q ≡ listed out q) → ((q : Key) → listed into' q ≡ listed into q)
+  graph_same : (out' into' : Pairs (Vec Key Z)) → IsBeside nodes out' → IsBeside nodes into' → ((q : Key) → listed out' q ≡ listed out q) → ((q : Key) → listed into' q ≡ listed into q)
       → IsGraph nodes edges out' into'
   graph_same out' into' beside_out beside_into same_out same_into = record {
     ends = graph.ends;

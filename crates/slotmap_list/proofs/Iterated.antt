@@ -5,7 +5,8 @@ use Rattle.slotmap.specs.Words.{Key}
 use Rattle.slotmap_list.specs.declared.Node.{Node}
 use Rattle.slotmap_list.specs.Sequence.{first_or, last_or, IsOnce}
 use Rattle.slotmap_list.specs.Chain.{Nodes, follow_node, follow, node_at, IsChain, IsWalk}
-use Rattle.slotmap_list.proofs.Chains.{last_or-append, follow_part, node_here, snoc_view}
+use Rattle.slotmap_list.proofs.NodeLists.{last_or-append, snoc_view}
+use Rattle.slotmap_list.proofs.Chains.{follow_part, node_here}
 
 module _ {T : Type 0} where
   -- all elements are left at the beginning

@@ -5,7 +5,7 @@ use Rattle.std.specs.Ordering.{eq_by_cmp}
 use Rattle.slotmap.specs.Words.{Key, key_cmp}
 use Rattle.slotmap.proofs.Callers.{keys_total, exact_keys, itself}
 use Rattle.slotmap_list.specs.Sequence.{value_of, IsOnce}
-use Rattle.slotmap_list.proofs.Chains.{value_of-append, once_apart}
+use Rattle.slotmap_list.proofs.NodeLists.{value_of-append, once_apart}
 
 module _ {T : Type 0} where
   -- what stands in the list is still ahead, or was passed with this fact

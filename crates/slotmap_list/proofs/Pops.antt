@@ -8,7 +8,8 @@ use Rattle.slotmap.proofs.Callers.{keys_total, exact_keys, keys, itself, left_sp
 use Rattle.slotmap_list.specs.declared.Node.{Node}
 use Rattle.slotmap_list.specs.Sequence.{value_of, first_or, last_or, without, IsOnce}
 use Rattle.slotmap_list.specs.Chain.{IsChain}
-use Rattle.slotmap_list.proofs.Chains.{snoc_view, last_or-append, value_of-append, once_apart, without-split, first_stands, last_stands}
+use Rattle.slotmap_list.proofs.NodeLists.{snoc_view, last_or-append, value_of-append, once_apart, first_stands, last_stands}
+use Rattle.slotmap_list.proofs.Chains.{without-split}
 use Rattle.slotmap_list.proofs.Moving.{stands_here}
 use Rattle.slotmap_list.proofs.Cursors.{gone_here}
 

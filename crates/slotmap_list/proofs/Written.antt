@@ -8,7 +8,8 @@ use Rattle.slotmap.proofs.Callers.{keys_total, exact_keys, tied, itself}
 use Rattle.slotmap_list.specs.declared.Node.{Node}
 use Rattle.slotmap_list.specs.Sequence.{Sequence, value_of, first_or, last_or, with_value_at, IsOnce}
 use Rattle.slotmap_list.specs.Chain.{Nodes, follow, node_at, IsChain}
-use Rattle.slotmap_list.proofs.Chains.{chain_is, len_written}
+use Rattle.slotmap_list.proofs.NodeLists.{len_written}
+use Rattle.slotmap_list.proofs.Chains.{chain_is}
 use Rattle.slotmap_list.proofs.Cursors.{alone-written}
 
 -- what is lent ends as the same

@@ -126,7 +126,7 @@ module _ {T : Type 0} where
     ]
 
   -- what holds of the nodes still holds where a node was added, or nothing was done
-  pub holds_after : {E : Type 0} (P : Nodes T → Type 0) (old new : Nodes T) (f : Key → Nodes T) (result : Result Key E)
+  holds_after : {E : Type 0} (P : Nodes T → Type 0) (old new : Nodes T) (f : Key → Nodes T) (result : Result Key E)
       → IfOk result (λ k. new ≡ f k) → IfOk result (λ k. lacks_node old k) → OnErr result (new ≡ old)
       → P old → ((k : Key) → lacks_node old k → P (f k)) → P new
   holds_after P old new f (Ok k) is fresh same holds added = subst P (sym is) (added k fresh)

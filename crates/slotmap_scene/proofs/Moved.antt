@@ -35,7 +35,7 @@ module _ {T : Type 0} where
         let none = ap (times q) (ap children_in leaf_here) in
         absurd (omega arith)
 
-    pub scene_child : IsScene (attached with_leaf k p)
+    scene_child : IsScene (attached with_leaf k p)
     scene_child = scene_attached with_leaf k p (ap is_some leaf_here) (ap parent_in leaf_here) (still_in keys_total exact_keys nodes k (child None v) p there)
         (λ w. (let same = nothing_within w.0 p w.1 in let h = sym (subst (has_node nodes) same there) ∙ fresh in cc)) scene_with_leaf
 
@@ -139,7 +139,7 @@ module _ {T : Type 0} where
           let n_is : n ≡ record m { children = m.children ++ g ∷ [] } = cc in
           ap (λ (x : Node T). Some (record x { children = ks })) n_is ∙ ap (λ l. Some (record m { children = l })) (fill m.children g (ap (λ (x : Node T). x.children) n_is))
 
-      pub place_filled : map.insert added p (record n { children = ks }) ≡ map.insert (with_child nodes p k) k new
+      place_filled : map.insert added p (record n { children = ks }) ≡ map.insert (with_child nodes p k) k new
       place_filled = map.same_map keys_total exact_keys _ _ (λ q. elim (same_or_other q p) [
         | inl is ↦ rw is (get-insert_here added p (record n { children = ks }) ∙ gained (map.get nodes p) refl
             ∙ sym (get-insert_other (with_child nodes p k) k new p (λ s. apart (sym s)) ∙ pushed_here nodes k p))
@@ -201,7 +201,7 @@ module _ {T : Type 0} where
         (λ foreign. taken_other held k (parent_of held k) q foreign
         ∙ forgotten k (map.get held q) (count_held q ∙ listed_never nodes scene.listed q k (λ own. foreign (parent_same ∙ own))))
 
-    pub left_live : has_node left k
+    left_live : has_node left k
     left_live = ap is_some (left_is k ∙ ap (option_map (forgets k)) (pushed_other nodes g p k (λ s. apart (sym s)))) ∙ kept (map.get nodes k) live
       where
         kept : (o : Option (Node T)) → is_some o ≡ true → is_some (option_map (forgets k) o) ≡ true
@@ -258,7 +258,7 @@ module _ {T : Type 0} where
         (λ w. out (within_before nodes k p k w)) (scene_detached nodes k live scene)
 
 -- the same count where the children of one node changed
-pub len_child : {T : Type 0} (nodes : Nodes T) (p k : Key) → map.len (with_child nodes p k) ≡ map.len nodes
+len_child : {T : Type 0} (nodes : Nodes T) (p k : Key) → map.len (with_child nodes p k) ≡ map.len nodes
 len_child {T} nodes p k = by (map.get nodes p) refl
   where
     by : (o : Option (Node T)) → map.get nodes p ≡ o → map.len (with_children_in nodes p o (λ ks. ks ++ k ∷ [])) ≡ map.len nodes
@@ -294,7 +294,7 @@ module _ {T : Type 0} (old held mid : Content (Node T)) (p g k : Key) (new : Nod
       mid_is : mid.live ≡ map.insert (with_child old.live p g) k new
       mid_is = inserts.live ∙ ap (λ c. map.insert c.live k new) is
 
-      pub mid_there : has_node mid.live p
+      mid_there : has_node mid.live p
       mid_there = ap (λ m. map.contains_key m p) inserts.live ∙ still_in keys_total exact_keys held.live k new p (held_live p ∙ there)
 
       pub below_added : (n : Node T) → map.get mid.live p ≡ Some n → (ks : List Key) → ((others : List Key) (last : Key) → n.children ≡ others ++ last ∷ [] → ks ≡ others ++ k ∷ [])

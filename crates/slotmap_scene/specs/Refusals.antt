@@ -20,13 +20,13 @@ module _ {T : Type 0} where
   as_add_error (insert.Full v) = Full v
   as_add_error (insert.Memory v) = Memory v
 
-  -- `Full` if and only if the limit is reached and there is memory for one more child, else `Memory`; the error holds the value
+  -- `Full` only where the limit is reached; the error holds the value
   abbrev pub RefusesBelow : Content (Node T) → T → AddError T → Type 0
   RefusesBelow c v (Gone back) = ⊥
   RefusesBelow c v (Full back) = (used c ≡ most) × (back ≡ v)
   RefusesBelow c v (Memory back) = back ≡ v
 
-  -- the same, but `Gone` if and only if there is no such parent
+  -- the same, and `Gone` if and only if there is no such parent
   abbrev pub RefusesChild : Content (Node T) → Key → T → AddError T → Type 0
   RefusesChild c parent v (Gone back) = lacks_node c.live parent × (back ≡ v)
   RefusesChild c parent v (Full back) = has_node c.live parent × (used c ≡ most) × (back ≡ v)

@@ -3,7 +3,8 @@ use Rattle.std.specs.Option.{option_map}
 use Rattle.std.specs.FinMap as map
 use Rattle.slotmap.proofs.Callers.{contains-keys_of}
 use Rattle.slotmap_list.specs.declared.Node.{Node}
-use Rattle.slotmap_list.proofs.Chains.{elements_are, value_found}
+use Rattle.slotmap_list.proofs.NodeLists.{elements_are}
+use Rattle.slotmap_list.proofs.Chains.{value_found}
 use Rattle.slotmap_list.proofs.StableList.contains.Goals as goal
 
 is_some_mapped : {A B : Type 0} (f : A → B) (o : Option A) → is_some o ≡ is_some (option_map f o)

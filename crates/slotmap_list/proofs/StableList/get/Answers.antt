@@ -2,7 +2,8 @@ use Rattle.std.proofs.Common.{ap, ◌∙◌}
 use Rattle.std.specs.Option.{option_map}
 use Rattle.std.specs.FinMap as map
 use Rattle.slotmap.specs.Words.{key_cmp}
-use Rattle.slotmap_list.proofs.Chains.{elements_are, value_found}
+use Rattle.slotmap_list.proofs.NodeLists.{elements_are}
+use Rattle.slotmap_list.proofs.Chains.{value_found}
 use Rattle.slotmap_list.proofs.Cursors.{gone_finds_nothing}
 use Rattle.slotmap_list.proofs.StableList.get.Goals as goal
 

@@ -1,7 +1,7 @@
 use Rattle.std.proofs.Common.{subst, sym, ◌∙◌}
 use Rattle.slotmap_list.specs.Sequence.{is_same}
 use Rattle.slotmap_list.specs.Chain.{IsChain}
-use Rattle.slotmap_list.proofs.Chains.{elements_are}
+use Rattle.slotmap_list.proofs.NodeLists.{elements_are}
 use Rattle.slotmap_list.proofs.Moving.{stands_here, not_two, both_two}
 use Rattle.slotmap_list.proofs.StableList.has_two.Goals as goal
 

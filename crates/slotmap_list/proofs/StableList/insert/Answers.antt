@@ -1,6 +1,6 @@
 use Rattle.std.proofs.Common.{ap, sym, ◌∙◌, subst, refl, is_some}
 use Rattle.slotmap_list.specs.Sequence.{value_of, IsOnce}
-use Rattle.slotmap_list.proofs.Chains.{elements_are}
+use Rattle.slotmap_list.proofs.NodeLists.{elements_are}
 use Rattle.slotmap_list.proofs.NeighbourLemmas.{beside_none, beside_gap, beside_put, beside_stands}
 use Rattle.slotmap_list.proofs.StableList.insert.Goals as goal
 

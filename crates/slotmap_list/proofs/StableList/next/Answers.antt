@@ -1,6 +1,7 @@
 use Rattle.std.proofs.Common.{ap, sym, ◌∙◌}
 use Rattle.slotmap_list.specs.Sequence.{key_after}
-use Rattle.slotmap_list.proofs.Chains.{elements_are, next_found, next_absent}
+use Rattle.slotmap_list.proofs.NodeLists.{elements_are}
+use Rattle.slotmap_list.proofs.Chains.{next_found, next_absent}
 use Rattle.slotmap_list.proofs.StableList.next.Goals as goal
 
 pub returns : goal.returns

@@ -1,6 +1,6 @@
 use Rattle.std.proofs.Common.{◌≡◌, [], ◌∷◌, ◌++◌, None, sym, ap, subst, ◌∙◌}
 use Rattle.slotmap_list.specs.Sequence.{last_or, IsOnce}
-use Rattle.slotmap_list.proofs.Chains.{elements_are}
+use Rattle.slotmap_list.proofs.NodeLists.{elements_are}
 use Rattle.slotmap_list.proofs.Pops.{no_last, last_is_some, back_off}
 use Rattle.slotmap_list.proofs.StableList.pop_back.Goals as goal
 

@@ -1,6 +1,7 @@
 use Rattle.std.proofs.Common.{None, ap, sym, ◌∙◌}
 use Rattle.slotmap_list.specs.Sequence.{key_before}
-use Rattle.slotmap_list.proofs.Chains.{elements_are, prev_found, prev_absent}
+use Rattle.slotmap_list.proofs.NodeLists.{elements_are}
+use Rattle.slotmap_list.proofs.Chains.{prev_found, prev_absent}
 use Rattle.slotmap_list.proofs.StableList.prev.Goals as goal
 
 pub returns : goal.returns

@@ -1,4 +1,5 @@
-use Rattle.slotmap_list.proofs.Chains.{elements_are, gap_last}
+use Rattle.slotmap_list.proofs.NodeLists.{elements_are}
+use Rattle.slotmap_list.proofs.Chains.{gap_last}
 use Rattle.slotmap_list.proofs.StableList.push_back.Goals as goal
 
 pub put-requires : goal.put-requires

@@ -2,7 +2,8 @@ use Rattle.std.proofs.Common.{true, ap, sym, ◌∙◌, subst, refl, rules}
 use Rattle.std.specs.Option.{option_map}
 use Rattle.slotmap_list.specs.Sequence.{value_of}
 use Rattle.slotmap_list.specs.Chain.{IsChain}
-use Rattle.slotmap_list.proofs.Chains.{elements_are, value_found, put_chain, added_stands, self_chain, chain_is}
+use Rattle.slotmap_list.proofs.NodeLists.{elements_are}
+use Rattle.slotmap_list.proofs.Chains.{value_found, put_chain, added_stands, self_chain, chain_is}
 use Rattle.slotmap.proofs.Callers.{spent_insert}
 use Rattle.slotmap_list.proofs.Cursors.{gone_stays, new_not_gone}
 use Rattle.slotmap_list.proofs.StableList.put.Goals as goal

@@ -1,7 +1,8 @@
 use Rattle.std.proofs.Common.{true, is_some, ap, sym, ◌∙◌}
 use Rattle.std.specs.Option.{option_map}
 use Rattle.slotmap_list.specs.Sequence.{value_of, without}
-use Rattle.slotmap_list.proofs.Chains.{elements_are, value_found, removed_chain, removed_stands, without_absent, self_chain, chain_is}
+use Rattle.slotmap_list.proofs.NodeLists.{elements_are}
+use Rattle.slotmap_list.proofs.Chains.{value_found, removed_chain, removed_stands, without_absent, self_chain, chain_is}
 use Rattle.slotmap.proofs.Callers.{removed_spent, spent_removes}
 use Rattle.slotmap_list.proofs.Cursors.{gone_stays, gone_here}
 use Rattle.slotmap_list.proofs.StableList.remove.Goals as goal

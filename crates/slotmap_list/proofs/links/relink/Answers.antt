@@ -1,7 +1,8 @@
 use Rattle.std.proofs.Common.{◌≡◌, true, refl, ◌∙◌}
 use Rattle.std.specs.FinMap as map
 use Rattle.slotmap_list.specs.declared.links.Side.TheVariants.{After}
-use Rattle.slotmap_list.proofs.Chains.{if_some_so, stands-with_link}
+use Rattle.slotmap_list.proofs.NodeLists.{if_some_so}
+use Rattle.slotmap_list.proofs.Chains.{stands-with_link}
 use Rattle.slotmap_list.proofs.links.relink.Goals as goal
 
 pub set_link-requires-2 : goal.set_link-requires-2
