@@ -1,20 +1,10 @@
 -- What the calls of a closure did so far to a map, by ascending index.
 use Rattle.std.proofs.Common.{◌≡◌, ℕ, ◌+◌, ◌<◌, ◌≤◌, Bool, true, false, cond, inl, List, [], ◌∷◌, ◌++◌, Some, is_some, refl, ap, subst, ◌∙◌, arith}
-use Rattle.std.proofs.lemmas.Fn.{FoldsTo-push}
-use Rattle.std.specs.Fn.{Mut, Takes}
 use Rattle.std.specs.Borrow.{MutBor}
-use Rattle.std.specs.List.{FoldsTo}
 use Rattle.std.specs.FinMap as map
-use Rattle.slotmap_core.specs.Key.{Key}
-use Rattle.slotmap_core.specs.Content.{Content, IsContent, IsLive}
-use Rattle.slotmap_core.specs.Retain.{Visit, CallsAt, CallableOnEach, RetainsBy}
-use Rattle.slotmap_core.specs.Transition.{Removes, with_value}
-use Rattle.slotmap_core.proofs.Contents.IndexLemmas.{from_index}
-use Rattle.slotmap_core.proofs.Contents.LeaveLemmas.{same_live}
-use Rattle.slotmap_core.proofs.Contents.SweepLemmas.{Swept, Swept-start, Swept-on, Swept-next, Swept-removed, IsNextLive}
-use Rattle.slotmap_core.proofs.General.ListingLemmas.{remove-insert}
-use Rattle.slotmap_core.proofs.Several.KeyedVisits.{Keyed-from_start, Keyed-next, Keyed-same, Keyed-may_come, Keyed-done}
-use Rattle.slotmap_core.proofs.Several.VisitLemmas.{Visits, Visits-listed, Visits-stay}
+use Rattle.slotmap_core.specs.Words.{Mut, Takes, FoldsTo, Key, Content, IsContent, IsLive, Visit, CallsAt, CallableOnEach, RetainsBy, Removes, with_value}
+use Rattle.slotmap_core.proofs.Lemmas.{FoldsTo-push, from_index, same_live, Swept, Swept-start, Swept-on, Swept-next, Swept-removed, IsNextLive, remove-insert}
+use Rattle.slotmap_core.proofs.Lemmas.{Keyed-from_start, Keyed-next, Keyed-same, Keyed-may_come, Keyed-done, Visits, Visits-listed, Visits-stay}
 
 module _ {F K V : Type 0} (g : Mut F (K × (MutBor V × Unit {0})) (Bool × (MutBor V × Unit {0}))) (data_of : K → Key) (old : Content V) (first : F) where
   -- the calls for the keys below this index took the map to `now`, and the closure to f

@@ -2,11 +2,8 @@
 use Rattle.std.specs.Prelude.{Option}
 use Rattle.std.specs.Borrow.{MutBor}
 use Rattle.std.specs.FinMap as map
-use Rattle.slotmap_core.specs.Key.{Key, key_cmp}
-use Rattle.slotmap_core.specs.Content.{Content}
-use Rattle.slotmap_core.specs.Draining.{KeepsLoan}
-use Rattle.slotmap_core.specs.Listing.{NoneBelow}
-use Rattle.slotmap_core.specs.Transition.{TakesPair, TakesFirst, EmptiesByIndex}
+use Rattle.slotmap_core.specs.Words.{Key, key_cmp, Content, KeepsLoan, NoneBelow, TakesPair, EmptiesByIndex}
+use Rattle.slotmap_core.specs.Transition.{TakesFirst}
 use Rattle.slotmap_slots.specs.Ahead.{AreOddsOf}
 use Rattle.slotmap_basic.specs.declared.drain.Drain.{Drain}
 

@@ -2,12 +2,7 @@
 
 ghost use Rattle.std.specs.Prelude.{◌≡◌, ◌↔◌, IsTrue, IsOk, IfOk, OnOk, OnErr, IfErr, option_copied, Some, true, map as map_list};
 ghost use Rattle.std.specs.FinMap as map;
-ghost use Rattle.std.specs.Borrow.{sem};
-ghost use Rattle.std.specs.Option.{option_copied_mut};
-ghost use Rattle.slotmap_core.specs.Content.{IsContent, IsLive};
-ghost use Rattle.slotmap_core.specs.Transition.{with_value};
-ghost use Rattle.slotmap_core.specs.Disjoint.{CanReplace, AreValuesOf, with_values};
-ghost use Rattle.slotmap_core.specs.Call.{StaysValid};
+ghost use Rattle.slotmap_core.specs.Words.{sem, option_copied_mut, IsContent, IsLive, with_value, CanReplace, AreValuesOf, with_values, StaysValid};
 
 use crate::SlotMap;
 use slotmap_core::keys::Key;

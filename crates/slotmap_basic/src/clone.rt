@@ -1,9 +1,7 @@
 //! Copies of a map.
 
 ghost use Rattle.std.specs.Prelude.{◌≡◌, true, IfOk, OnOk, OnErr};
-ghost use Rattle.slotmap_core.specs.Clones.{ClonesEqual};
-ghost use Rattle.slotmap_core.specs.Content.{IsContent};
-ghost use Rattle.slotmap_core.specs.Copy.{IsCopy, IsCloneBy};
+ghost use Rattle.slotmap_core.specs.Words.{ClonesEqual, IsContent, IsCopy, IsCloneBy};
 
 use crate::SlotMap;
 use slotmap_core::keys::Key;

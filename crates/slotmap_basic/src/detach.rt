@@ -2,9 +2,7 @@
 
 ghost use Rattle.std.specs.Prelude.{◌≡◌, OnSome, IfNone, OnOk, OnErr, IfErr, true};
 ghost use Rattle.std.specs.FinMap as map;
-ghost use Rattle.slotmap_core.specs.Content.{IsDetached};
-ghost use Rattle.slotmap_core.specs.Transition.{Detaches, Reattaches};
-ghost use Rattle.slotmap_core.specs.Call.{StaysValid};
+ghost use Rattle.slotmap_core.specs.Words.{IsDetached, Detaches, Reattaches, StaysValid};
 
 use crate::SlotMap;
 use slotmap_core::errors::ReattachError;

@@ -1,9 +1,7 @@
 //! The iterator that takes the pairs out of a map.
 
 ghost use Rattle.std.specs.Prelude.{◌≡◌, ◌≤◌, true, Some, IfSome};
-ghost use Rattle.std.specs.Iterator.{size, UpTo};
-ghost use Rattle.slotmap_core.specs.Content.{IsContent};
-ghost use Rattle.slotmap_core.specs.Transition.{EmptiesByIndex};
+ghost use Rattle.slotmap_core.specs.Words.{size, UpTo, IsContent, EmptiesByIndex};
 
 use crate::SlotMap;
 use slotmap_core::keys::Key;
@@ -34,7 +32,7 @@ impl<'a, K: Key, V: Drop> Drop for Drain<'a, K, V> {
 }
 
 impl<'a, K: Key, V: Drop> Iterator for Drain<'a, K, V> {
-    ghost use Rattle.slotmap_core.specs.Draining.{drain_count};
+    ghost use Rattle.slotmap_core.specs.Words.{drain_count};
     ghost use Rattle.slotmap_basic.specs.Drain.{drain_live, DrainSteps, DrainCanStep};
 
     type Item = (K, V);
@@ -79,7 +77,7 @@ impl<'a, K: Key, V: Drop> fmt::Debug for Drain<'a, K, V> {
 }
 
 impl<K: Key, V: Drop> SlotMap<K, V> {
-    ghost use Rattle.slotmap_core.specs.Draining.{KeepsLoan, KeepsAlong, ListsAlong, InOrderAlong};
+    ghost use Rattle.slotmap_core.specs.Words.{KeepsLoan, KeepsAlong, ListsAlong, InOrderAlong};
     ghost use Rattle.slotmap_basic.specs.Drain.{drain_loan, drain_live, DrainCanStep, DrainSteps};
 
     /// Returns an iterator that removes the live keys and yields them with their values, by

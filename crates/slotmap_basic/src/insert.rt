@@ -2,10 +2,7 @@
 
 ghost use Rattle.std.specs.Prelude.{◌≡◌, ◌<◌, IfOk, IfErr, IsOk, IsErr, Ok, Err, true};
 ghost use Rattle.std.specs.FinMap as map;
-ghost use Rattle.slotmap_core.specs.Content.{used, most};
-ghost use Rattle.slotmap_core.specs.Transition.{Inserts};
-ghost use Rattle.slotmap_core.specs.Refusal.{Refuses, RefusesInsert, RefusesWith};
-ghost use Rattle.slotmap_core.specs.Call.{MayGrow, MakesRoom};
+ghost use Rattle.slotmap_core.specs.Words.{used, most, Inserts, Refuses, RefusesInsert, RefusesWith, MayGrow, MakesRoom};
 
 use crate::SlotMap;
 use slotmap_core::errors::{InsertError, InsertWithError, ReserveError, TryInsertError};

@@ -1,10 +1,8 @@
 //! Iterators over the keys and values of a map, by ascending index.
 
 ghost use Rattle.std.specs.Prelude.{◌≡◌, ◌≤◌, length, Some, IfSome, ⊤, true};
-ghost use Rattle.std.specs.Iterator.{YieldsFirstBy, item_count, at_most, UpTo};
 ghost use Rattle.std.specs.FinMap as map;
-ghost use Rattle.slotmap_core.specs.Content.{IsContent};
-ghost use Rattle.slotmap_core.specs.Listing.{IsListing, IsKeyListing, IsValueListing, ListsByIndex};
+ghost use Rattle.slotmap_core.specs.Words.{YieldsFirstBy, item_count, at_most, UpTo, IsContent, IsListing, IsKeyListing, IsValueListing, ListsByIndex};
 
 use crate::SlotMap;
 use slotmap_core::keys::Key;
@@ -26,7 +24,7 @@ pub struct Iter<'a, K, V> {
 
 impl<'a, K, V> Model for Iter<'a, K, V> {
     ghost use Rattle.std.specs.Prelude.{List};
-    ghost use Rattle.slotmap_core.specs.Key.{Key};
+    ghost use Rattle.slotmap_core.specs.Words.{Key};
 
     ghost Value = { List (Key × V) };
 
@@ -114,7 +112,7 @@ pub struct Keys<'a, K, V> {
 
 impl<'a, K, V> Model for Keys<'a, K, V> {
     ghost use Rattle.std.specs.Prelude.{List, map};
-    ghost use Rattle.slotmap_core.specs.Key.{Key};
+    ghost use Rattle.slotmap_core.specs.Words.{Key};
 
     ghost Value = { List Key };
 

@@ -20,10 +20,7 @@
 
 ghost use Rattle.std.specs.Prelude.{◌≡◌, [], Some, ◌+◌, ◌≤◌, ◌↔◌, IsTrue, IfOk, IfErr, IsOk, true};
 ghost use Rattle.std.specs.FinMap as map;
-ghost use Rattle.slotmap_core.specs.Content.{IsContent, used};
-ghost use Rattle.slotmap_core.specs.Transition.{IsNew};
-ghost use Rattle.slotmap_core.specs.Refusal.{RefusesCapacity};
-ghost use Rattle.slotmap_core.specs.Call.{MakesRoom};
+ghost use Rattle.slotmap_core.specs.Words.{IsContent, used, IsNew, RefusesCapacity, MakesRoom};
 
 mod access;
 mod clear;
@@ -73,7 +70,7 @@ pub struct SlotMap<K, V> {
 }
 
 impl<K, V> Model for SlotMap<K, V> {
-    ghost use Rattle.slotmap_core.specs.Content.{Content, content_code};
+    ghost use Rattle.slotmap_core.specs.Words.{Content, content_code};
 
     ghost Value = { Content V };
 

@@ -2,13 +2,8 @@
 
 ghost use Rattle.std.specs.Prelude.{◌≡◌, IfOk, IsOk, IfErr, true, Some};
 ghost use Rattle.std.specs.FinMap as map;
-ghost use Rattle.slotmap_core.specs.Clones.{ClonesEqual, IsCloneOf};
-ghost use Rattle.slotmap_core.specs.Content.{IsContent};
-ghost use Rattle.slotmap_core.specs.FromList.{start_live, start_stack};
-ghost use Rattle.slotmap_core.specs.Key.{Key as KeyOf};
-ghost use Rattle.slotmap_core.specs.ListRead.{ReadsAs};
-ghost use Rattle.slotmap_core.specs.Accepted.{Accepts, RefusesStart};
-ghost use Rattle.slotmap_core.specs.Written.{Writes, WritesClones};
+ghost use Rattle.slotmap_core.specs.Words.{ClonesEqual, IsCloneOf, IsContent, start_live, start_stack, Key as KeyOf, ReadsAs, Accepts, RefusesStart, Writes};
+ghost use Rattle.slotmap_core.specs.Words.{WritesClones};
 
 use crate::SlotMap;
 use slotmap_core::errors::{OutOfMemory, SlotsError};

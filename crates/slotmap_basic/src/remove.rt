@@ -2,10 +2,7 @@
 
 ghost use Rattle.std.specs.Prelude.{◌≡◌, ◌+◌, ◌<◌, ◌≤◌, OnSome, IfNone, IfSome, Some, true};
 ghost use Rattle.std.specs.FinMap as map;
-ghost use Rattle.slotmap_core.specs.Key.{Key as KeyOf};
-ghost use Rattle.slotmap_core.specs.Content.{IsContent, IsLive};
-ghost use Rattle.slotmap_core.specs.Transition.{Removes};
-ghost use Rattle.slotmap_core.specs.Call.{StaysValid};
+ghost use Rattle.slotmap_core.specs.Words.{Key as KeyOf, IsContent, IsLive, Removes, StaysValid};
 ghost use Rattle.slotmap_slots.specs.Ahead.{AreOddsOf};
 
 use crate::SlotMap;

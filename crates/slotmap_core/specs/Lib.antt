@@ -38,3 +38,4 @@ pub mod SecondaryExtend
 pub mod SecondaryWritten
 pub mod SecondaryClones
 pub mod ListRead
+pub mod Words

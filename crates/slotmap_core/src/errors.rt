@@ -8,7 +8,7 @@
 ghost use Rattle.std.specs.Prelude.{◌≡◌};
 ghost use Rattle.slotmap_core.specs.declared.errors.JsonError.TheVariants.{Memory as JsonMemory};
 ghost use Rattle.slotmap_core.specs.declared.errors.SlotsError.TheVariants.{Memory as SlotsMemory};
-ghost use Rattle.slotmap_core.specs.Returned.{uninserted, unattached, with_uninserted, with_unattached};
+ghost use Rattle.slotmap_core.specs.Words.{uninserted, unattached, with_uninserted, with_unattached};
 
 use std::alloc::{AllocError, AllocFailed};
 use std::fmt::Display;

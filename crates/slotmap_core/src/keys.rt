@@ -5,7 +5,7 @@
 //! value.
 
 ghost use Rattle.std.specs.Prelude.{◌≡◌, ◌↔◌, ◌/◌, ◌%◌, ◌^◌, IsTrue, refl};
-ghost use Rattle.slotmap_core.specs.Key.{Key as KeyOf, IsKey, null_key, ffi, key_from, is_older};
+ghost use Rattle.slotmap_core.specs.Words.{Key as KeyOf, IsKey, null_key, ffi, key_from, is_older};
 
 use std::fmt;
 use std::hash::{Hash, Hasher};
@@ -36,7 +36,7 @@ pub struct KeyData {
 }
 
 impl Model for KeyData {
-    ghost use Rattle.slotmap_core.specs.Key.{Key, IsKey};
+    ghost use Rattle.slotmap_core.specs.Words.{Key, IsKey};
 
     ghost Value = { Key };
 
@@ -181,9 +181,9 @@ impl Default for KeyData {
 }
 
 impl Hash for KeyData {
-    ghost use Rattle.slotmap_core.specs.Key.{hashed};
     ghost use Rattle.std.proofs.Common.{rules};
     ghost use Rattle.std.specs.Cmp.Rules.{hashing};
+    ghost use Rattle.slotmap_core.specs.Words.{hashed};
 
     ghost hash_input = { hashed };
 
@@ -221,7 +221,7 @@ impl fmt::Debug for KeyData {
 /// assert!(rt; key < NodeKey::null());
 /// ```
 pub trait Key: From<KeyData> + Copy + Default + Eq + Ord + Hash + fmt::Debug {
-    ghost use Rattle.slotmap_core.specs.Key.{Key, IsKey, key_cmp, hashed, null_key};
+    ghost use Rattle.slotmap_core.specs.Words.{Key, IsKey, key_cmp, hashed, null_key};
 
     /// The data of a key.
     ghost data_of: { Self → Key };
@@ -292,7 +292,7 @@ pub trait Key: From<KeyData> + Copy + Default + Eq + Ord + Hash + fmt::Debug {
 pub struct DefaultKey(KeyData);
 
 impl Model for DefaultKey {
-    ghost use Rattle.slotmap_core.specs.Key.{Key};
+    ghost use Rattle.slotmap_core.specs.Words.{Key};
 
     ghost Value = { Key };
 
@@ -343,8 +343,8 @@ impl Key for DefaultKey {
 
     ghost from_gives_key = { λ d k h. h };
 
-    ghost use Rattle.slotmap_core.specs.Key.{same_keys};
     ghost use Rattle.std.proofs.Common.{sym};
+    ghost use Rattle.slotmap_core.specs.Words.{same_keys};
 
     ghost clone_same = { λ a b h. sym h };
 

@@ -9,12 +9,9 @@
 
 ghost use Rattle.std.specs.Prelude.{◌≡◌, ◌↔◌, ◌+◌, ◌<◌, ◌≤◌, IsTrue, IfOk, IfErr, IfNone, OnErr, OnOk, OnSome, IsOk, IsErr, IsSome, option_copied, Bool, true, false, Ok, Err, Some, List, ◌++◌, map as list_map};
 ghost use Rattle.std.specs.FinMap as map;
-ghost use Rattle.slotmap_core.specs.Content.{Content, IsContent, used, most};
-ghost use Rattle.slotmap_core.specs.Transition.{IsNew, Inserts, Removes, Detaches, Reattaches, Leaves, with_value};
-ghost use Rattle.slotmap_core.specs.Call.{StaysValid, MayGrow, MakesRoom};
-ghost use Rattle.slotmap_core.specs.Listing.{IsListing, IsKeyListing};
-ghost use Rattle.slotmap_core.specs.Retain.{RetainsBy, CallableOnEach};
-ghost use Rattle.slotmap_core.specs.Refusal.{Refuses, RefusesInsert, RefusesWith, RefusesCapacity, RefusesReattach};
+ghost use Rattle.slotmap_core.specs.Words.{Content, IsContent, used, most, IsNew, Inserts, Removes, Detaches, Reattaches, Leaves, with_value, StaysValid};
+ghost use Rattle.slotmap_core.specs.Words.{MayGrow, MakesRoom, IsListing, IsKeyListing, RetainsBy, CallableOnEach, Refuses, RefusesInsert, RefusesWith};
+ghost use Rattle.slotmap_core.specs.Words.{RefusesCapacity, RefusesReattach};
 
 use crate::errors::{
     InsertError, InsertWithError, OutOfMemory, ReattachError, ReserveError, TryInsertError,

@@ -1,12 +1,9 @@
 -- A dense map with clones of another's values.
 use Rattle.std.proofs.Common.{ℕ, zero, suc, List, [], ◌∷◌, slice_get, Option, None, Some, refl}
-use Rattle.std.specs.List.{AllZip, zip}
-use Rattle.std.proofs.lemmas.List.Elements.{same_from_all_zip}
+use Rattle.std.specs.List.{zip}
 use Rattle.std.specs.FinMap as map
-use Rattle.slotmap_core.specs.Clones.{ClonesEqual, IsCloneOf, AreClones}
-use Rattle.slotmap_core.specs.Content.{Content}
-use Rattle.slotmap_core.specs.Copy.{IsCopy, IsCloneBy}
-use Rattle.slotmap_core.specs.Key.{Key}
+use Rattle.slotmap_core.specs.Words.{AllZip, ClonesEqual, IsCloneOf, AreClones, Content, IsCopy, IsCloneBy, Key}
+use Rattle.slotmap_core.proofs.Lemmas.{same_from_all_zip}
 use Rattle.slotmap_dense.specs.Dense.{Dense, SameOrder, ClonesInOrder}
 use Rattle.slotmap_dense.specs.Packed.{IsPacked, dense_of, at_position}
 use Rattle.slotmap_dense.proofs.PackedLemmas.{get-packed}

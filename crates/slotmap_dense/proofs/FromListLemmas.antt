@@ -1,27 +1,14 @@
 -- A list of slots is read into a list of positions and two packed lists.
 use Rattle.std.proofs.Common.{◌≡◌, ℕ, zero, suc, ◌+◌, ◌<◌, ◌≤◌, ◌%◌, Bool, true, false, List, [], ◌∷◌, ◌++◌}
 use Rattle.std.proofs.Common.{length, slice_get, map as list_map, Option, None, Some, is_some, refl, sym, ap, ◌∙◌, arith}
-use Rattle.std.proofs.lemmas.Bool.Decides.{nat_tests}
-use Rattle.std.proofs.lemmas.List.{length_push, length-map, map_push}
-use Rattle.std.proofs.lemmas.Option.{slice_get-map, slice_get_within}
 use Rattle.std.specs.FinMap as map
-use Rattle.slotmap_core.specs.Key.{Key}
-use Rattle.slotmap_core.specs.Content.{Content, IsContent}
-use Rattle.slotmap_core.specs.Gather.{gather}
-use Rattle.slotmap_core.specs.ListRead.{ReadsAs}
-use Rattle.slotmap_core.specs.FromList.{start_live, live_slot, vacant_slot, retired_slot, start_next, start_retired, start_stack}
-use Rattle.slotmap_core.specs.Accepted.{Accepts, RefusesStart}
+use Rattle.slotmap_core.specs.Words.{Key, Content, IsContent, gather, ReadsAs, start_live, live_slot, vacant_slot, retired_slot, start_next, start_retired}
+use Rattle.slotmap_core.specs.Words.{start_stack, Accepts, RefusesStart}
+use Rattle.slotmap_core.proofs.Lemmas.{nat_tests, length_push, length-map, map_push, slice_get-map, slice_get_within, gather-push_put, gather-push_same}
+use Rattle.slotmap_core.proofs.Lemmas.{live_laws, some_is, live_in, found_within, none_from, entries_none, reads_as, key}
 use Rattle.slotmap_core.specs.declared.errors.SlotsError.{SlotsError}
 use Rattle.slotmap_core.specs.declared.errors.SlotsError.TheVariants.{TooMany, FirstNotEmpty, Inconsistent, Memory}
 use Rattle.slotmap_core.specs.declared.serial.SlotRecord.{SlotRecord}
-use Rattle.slotmap_core.proofs.General.GatherLemmas.{gather-push_put, gather-push_same}
-use Rattle.slotmap_core.proofs.General.MapLaws.{live_laws}
-use Rattle.slotmap_core.proofs.General.Maps.{some_is}
-use Rattle.slotmap_core.proofs.FromList.AtKeysLemmas.{live_in}
-use Rattle.slotmap_core.proofs.General.ListLemmas.{found_within, none_from}
-use Rattle.slotmap_core.proofs.Contents.OrderLemmas.{entries_none}
-use Rattle.slotmap_core.proofs.FromList.ReadsAsLemmas.{reads_as}
-use Rattle.slotmap_core.proofs.Places.PlacesLemmas.{key}
 use Rattle.slotmap_dense.specs.Packed.{IsPacked, IsSound, live_of, dense_of}
 use Rattle.slotmap_dense.proofs.PackedLemmas.{IsPacked-none, IsPacked-push, live-push}
 use Rattle.slotmap_dense.proofs.WellFormed.{same_keys}

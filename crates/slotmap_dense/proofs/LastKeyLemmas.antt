@@ -1,15 +1,9 @@
 -- A key that is larger than all others comes last.
 use Rattle.std.proofs.Common.{arith, ◌≡◌, ◌<◌, true, List, [], ◌∷◌, ◌++◌, map as list_map, refl, sym, ap, ◌∙◌, nat_cmp}
 use Rattle.std.specs.declared.cmp.Ordering.TheVariants.{Greater}
-use Rattle.std.specs.Ordering.{eq_by_cmp, ordering_then}
-use Rattle.std.specs.Cmp.{nat_cmp_is}
-use Rattle.std.specs.List.{list_any}
 use Rattle.std.specs.FinMap as map
-use Rattle.std.specs.FinMap.Entries.{put}
-use Rattle.std.proofs.lemmas.List.{map-append}
-use Rattle.slotmap_core.specs.Key.{Key, key_cmp}
-use Rattle.slotmap_core.proofs.General.KeyLemmas.{keys_total, exact_keys, itself}
-use Rattle.slotmap_core.proofs.General.Maps.{or_right}
+use Rattle.slotmap_core.specs.Words.{eq_by_cmp, ordering_then, nat_cmp_is, list_any, put, Key, key_cmp}
+use Rattle.slotmap_core.proofs.Lemmas.{map-append, keys_total, exact_keys, itself, or_right}
 
 greater : (k q : Key) → q.index < k.index → key_cmp k q ≡ Greater
 greater k q less = ap (λ o. ordering_then o (nat_cmp k.version q.version)) (sym (nat_cmp_is k.index q.index Greater less))

@@ -2,14 +2,8 @@
 use Rattle.std.proofs.Common.{◌≡◌, ℕ, ◌<◌, ◌≤◌, Bool, true, List, [], ◌∷◌, ◌++◌, length, Some, None, inl, arith}
 use Rattle.std.specs.FinMap as map
 use Rattle.std.specs.List.{swap_remove}
-use Rattle.std.proofs.lemmas.List.{length_push}
-use Rattle.std.proofs.lemmas.Option.{slice_get_within}
-use Rattle.std.proofs.lemmas.Grind.{common_steps}
-use Rattle.slotmap_core.specs.Key.{Key, IsKey}
-use Rattle.slotmap_core.specs.Content.{Content, IsContent, IsDetached, used, most}
-use Rattle.slotmap_core.specs.Transition.{Inserts, Removes, Detaches, Reattaches}
-use Rattle.slotmap_core.proofs.Contents.UndoLemmas.{offer_unused}
-use Rattle.slotmap_core.proofs.General.Maps.{none_of, false_of}
+use Rattle.slotmap_core.specs.Words.{Key, IsKey, Content, IsContent, IsDetached, used, most, Inserts, Removes, Detaches, Reattaches}
+use Rattle.slotmap_core.proofs.Lemmas.{length_push, slice_get_within, common_steps, offer_unused, none_of, false_of}
 use Rattle.slotmap_dense.specs.Packed.{IsPacked, IsSound, live_of, dense_of}
 use Rattle.slotmap_dense.proofs.SwapRemoveLemmas.{length-swap_remove}
 use Rattle.slotmap_dense.proofs.PackedLemmas.{live-push, rest-closed, IsPacked-push}

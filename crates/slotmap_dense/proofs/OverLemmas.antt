@@ -1,9 +1,8 @@
 -- The content with the same keys and other values is well formed too.
 use Rattle.std.proofs.Common.{◌≡◌, ℕ, ◌+◌, ◌≤◌, true, false, arith}
 use Rattle.std.specs.FinMap as map
-use Rattle.slotmap_core.specs.Key.{Key, key_cmp}
-use Rattle.slotmap_core.specs.Content.{Content, IsContent}
-use Rattle.slotmap_core.proofs.Contents.CloneLemmas.{IsContent-with_live}
+use Rattle.slotmap_core.specs.Words.{Key, key_cmp, Content, IsContent}
+use Rattle.slotmap_core.proofs.Lemmas.{IsContent-with_live}
 use Rattle.slotmap_dense.specs.Packed.{over}
 
 -- both maps have the same keys

@@ -1,27 +1,19 @@
 -- What a pass over the pairs of a map is where they are held in another way, and what it leaves of the map.
 use Rattle.std.proofs.Common.{◌≡◌, ℕ, ◌+◌, ◌≤◌, Bool, true, false, cond, inl, inr, List, [], ◌∷◌, ◌++◌, append-nil}
 use Rattle.std.proofs.Common.{length, set, drop, map as list_map, get_or, ◌<◌, Some, is_some, slice_get, refl, sym, ap, subst, ◌∙◌, arith}
-use Rattle.std.proofs.lemmas.Fn.{FoldsTo-push}
 use Rattle.std.proofs.lemmas.List.{length-set, take_at}
-use Rattle.std.proofs.lemmas.Option.{slice_get_read, slice_get-map, slice_get-get_or, slice_get_within}
-use Rattle.std.specs.Fn.{Mut, Called}
 use Rattle.std.specs.Borrow.{MutBor}
-use Rattle.std.specs.List.{FoldsTo}
 use Rattle.std.specs.Option.{option_map}
 use Rattle.std.specs.FinMap as map
-use Rattle.slotmap_core.specs.Content.{Content}
-use Rattle.slotmap_core.specs.Key.{Key}
+use Rattle.slotmap_core.specs.Words.{Mut, Called, FoldsTo, Content, Key, Visit, CallsAt, CallableOnEach, Leaves, with_items}
+use Rattle.slotmap_core.proofs.Lemmas.{FoldsTo-push, slice_get_read, slice_get-map, slice_get-get_or, slice_get_within, remove-insert, Leaves-refl}
+use Rattle.slotmap_core.proofs.Lemmas.{Leaves-trans, Leaves-with_value, Leaves-removed, same_live, CallsAt-called, Visits, Visits-start, Visits-call}
+use Rattle.slotmap_core.proofs.Lemmas.{Visits-rest, Visits-listed, Visits-stay}
 use Rattle.slotmap_dense.specs.Pass.{Stage, stage, Holding, Calls, Stays, Rejects, Passes, MayPass}
-use Rattle.slotmap_core.specs.Retain.{Visit, CallsAt, CallableOnEach}
-use Rattle.slotmap_core.specs.Transition.{Leaves}
-use Rattle.slotmap_core.proofs.General.ListingLemmas.{remove-insert}
-use Rattle.slotmap_core.proofs.Contents.LeaveLemmas.{Leaves-refl, Leaves-trans, Leaves-with_value, Leaves-removed, same_live}
-use Rattle.slotmap_core.proofs.Several.VisitLemmas.{CallsAt-called, Visits, Visits-start, Visits-call, Visits-rest, Visits-listed, Visits-stay}
 use Rattle.slotmap_dense.specs.Dense.{Dense, IsDense, with_value_of}
 use Rattle.slotmap_dense.specs.Packed.{IsSound, dense_of, at_position}
 use Rattle.slotmap_dense.specs.Pass.{beside, packed_order}
 use Rattle.std.specs.Global.{Vec}
-use Rattle.std.specs.Vec.{with_items}
 use Rattle.slotmap_dense.specs.Retain.{RetainsPacked}
 use Rattle.slotmap_dense.specs.Rest.{rest_of, LeavesFrom}
 use Rattle.slotmap_dense.proofs.PackedLemmas.{get-packed}

@@ -2,18 +2,11 @@
 use Rattle.std.proofs.Common.{◌≡◌, ℕ, ◌+◌, ◌<◌, ◌≤◌, ◌∷◌, [], ◌++◌, min, true, List, Some, None}
 use Rattle.std.proofs.Common.{length, take, drop, slice_get, get_or, option_map, map as list_map, vec_capacity, vec_len, refl, sym, ap, subst, ◌∙◌, arith}
 use Rattle.std.specs.Global.{Vec}
-use Rattle.std.specs.Vec.{with_items}
 use Rattle.std.specs.FinMap as map
 use Rattle.std.specs.List.{swap_remove}
-use Rattle.std.proofs.lemmas.List.{length-map, length_push, map-append}
-use Rattle.std.proofs.lemmas.Option.{slice_get_within, slice_get_read, slice_get-map}
-use Rattle.slotmap_core.specs.Key.{Key}
-use Rattle.slotmap_core.specs.Content.{Content, IsContent, used}
-use Rattle.slotmap_core.specs.Call.{MakesRoom as SlotsMakeRoom}
-use Rattle.slotmap_core.specs.Transition.{Keeps, Inserts, Removes, Detaches, Reattaches}
-use Rattle.slotmap_core.proofs.General.GatherLemmas.{slice_get_push}
-use Rattle.slotmap_core.proofs.General.KeyLemmas.{keys_total, exact_keys}
-use Rattle.slotmap_core.proofs.General.MapLaws.{remove_absent}
+use Rattle.slotmap_core.specs.Words.{with_items, Key, Content, IsContent, used, MakesRoom as SlotsMakeRoom, Keeps, Inserts, Removes, Detaches, Reattaches}
+use Rattle.slotmap_core.proofs.Lemmas.{length-map, length_push, map-append, slice_get_within, slice_get_read, slice_get-map, slice_get_push, keys_total}
+use Rattle.slotmap_core.proofs.Lemmas.{exact_keys, remove_absent}
 use Rattle.slotmap_dense.specs.declared.DenseSlotMap.TheInside.{Inside}
 use Rattle.slotmap_dense.specs.Dense.{Dense, IsDense, ClosesGap, refilled, with_values_in}
 use Rattle.slotmap_dense.specs.Call.{StaysDense, GrowsDense, MakesDenseRoom}

@@ -1,19 +1,15 @@
 -- The elements of a list after `swap_remove`, and the entries of two parallel lists.
 use Rattle.std.proofs.Common.{◌≡◌, ◌≢◌, ℕ, zero, suc, ◌+◌, ◌-◌, ◌<◌, cond, List, [], ◌∷◌, ◌++◌, length, set, take, get_or}
 use Rattle.std.proofs.Common.{slice_get, map as list_map, Some, None, refl, ap, arith}
-use Rattle.std.proofs.lemmas.Grind.{common_steps}
-use Rattle.std.proofs.lemmas.Option.{gets, slice_get_cases}
-use Rattle.std.proofs.lemmas.List.{nil_from_length, length-set, length-take, get_or-take, set-append_left, set-append_right, map-set, take-map, get_or-map, length-map}
+use Rattle.std.proofs.lemmas.List.{length-set, length-take, get_or-take, get_or-map}
 use Rattle.std.specs.List.{swap_remove, zip}
 use Rattle.std.specs.Option.{option_map}
-use Rattle.std.specs.Ordering.{eq_by_cmp}
 use Rattle.std.specs.FinMap as map
 use Rattle.std.specs.FinMap.Entries.{find}
+use Rattle.slotmap_core.specs.Words.{eq_by_cmp, Key, key_cmp}
+use Rattle.slotmap_core.proofs.Lemmas.{common_steps, gets, slice_get_cases, nil_from_length, set-append_left, set-append_right, map-set, take-map, length-map}
+use Rattle.slotmap_core.proofs.Lemmas.{slice_get-set_same, slice_get-set_other, len_inserted, keys_total, exact_keys, tied, itself}
 use Rattle.slotmap_dense.specs.Dense.{put_beside}
-use Rattle.slotmap_core.specs.Key.{Key, key_cmp}
-use Rattle.slotmap_core.proofs.General.GatherLemmas.{slice_get-set_same, slice_get-set_other}
-use Rattle.slotmap_core.proofs.General.Maps.{len_inserted}
-use Rattle.slotmap_core.proofs.General.KeyLemmas.{keys_total, exact_keys, tied, itself}
 
 module _ {X : Type 0} where
   slice_get-take : (n : ℕ) (xs : List X) (i : ℕ) → i < n → slice_get (take n xs) i ≡ slice_get xs i

@@ -1,8 +1,7 @@
 -- What the calls of a dense map guarantee, whatever they return.
 use Rattle.std.specs.Prelude.{◌≡◌, ℕ, ◌+◌, ◌≤◌}
 use Rattle.std.specs.FinMap as map
-use Rattle.slotmap_core.specs.Content.{used, most}
-use Rattle.slotmap_core.specs.Transition.{Keeps}
+use Rattle.slotmap_core.specs.Words.{used, most, Keeps}
 use Rattle.slotmap_dense.specs.Dense.{Dense, IsDense, SameOrder}
 
 module _ {V : Type 0} where

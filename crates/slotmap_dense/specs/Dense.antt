@@ -2,13 +2,9 @@
 use Rattle.std.specs.Prelude.{◌≡◌, ℕ, refl, false, List, [], ◌∷◌, ◌++◌, length, Option, None, Some, reverse, slice_get, take, drop, if◌then◌else◌}
 use Rattle.std.specs.Option.{option_map}
 use Rattle.std.specs.FinMap as map
-use Rattle.std.specs.List.{AllZip, zip, swap_remove}
-use Rattle.std.specs.Ordering.{eq_by_cmp}
-use Rattle.std.specs.Coded.{Coded, code_by, coded×, coded_list}
-use Rattle.slotmap_core.specs.Key.{Key, key_cmp, coded_key}
-use Rattle.slotmap_core.specs.Content.{Content, content_code, IsContent}
-use Rattle.slotmap_core.specs.Listing.{IsListing}
-use Rattle.slotmap_core.specs.Transition.{Removes, Leaves, with_value, pushed_all}
+use Rattle.std.specs.List.{zip, swap_remove}
+use Rattle.slotmap_core.specs.Words.{AllZip, eq_by_cmp, Coded, code_by, coded×, coded_list, Key, key_cmp, coded_key, Content, content_code, IsContent}
+use Rattle.slotmap_core.specs.Words.{IsListing, Removes, Leaves, with_value, pushed_all}
 
 pub record Dense (V : Type 0) : Type 0 where
   pub content : Content V

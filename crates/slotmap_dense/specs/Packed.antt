@@ -3,8 +3,7 @@
 use Rattle.std.specs.Prelude.{◌≡◌, ◌≢◌, ℕ, ◌+◌, ◌-◌, ◌<◌, min, true, List, length, Option, None, Some, slice_get}
 use Rattle.std.specs.FinMap as map
 use Rattle.std.specs.List.{zip}
-use Rattle.slotmap_core.specs.Key.{Key, key_cmp}
-use Rattle.slotmap_core.specs.Content.{Content, IsContent}
+use Rattle.slotmap_core.specs.Words.{Key, key_cmp, Content, IsContent}
 use Rattle.slotmap_core.specs.declared.serial.SlotRecord.{SlotRecord}
 use Rattle.slotmap_dense.specs.Dense.{Dense}
 

@@ -2,9 +2,7 @@
 
 ghost use Rattle.std.specs.Prelude.{◌≡◌, ◌≢◌, ◌<◌, length, slice_get, ◌↔◌, IsTrue, IsOk, IfOk, OnOk, OnErr, IfErr, IsSome, IfSome, option_copied, Some, [], ◌∷◌, map as map_list};
 ghost use Rattle.std.specs.FinMap as map;
-ghost use Rattle.std.specs.Borrow.{sem};
-ghost use Rattle.std.specs.Option.{option_copied_mut};
-ghost use Rattle.slotmap_core.specs.Content.{IsLive};
+ghost use Rattle.slotmap_core.specs.Words.{sem, option_copied_mut, IsLive};
 ghost use Rattle.slotmap_core.specs.Several.{CanReplace, AreValuesOf, with_values};
 ghost use Rattle.slotmap_dense.specs.Dense.{IsDense, value_of, with_value_of};
 ghost use Rattle.slotmap_dense.specs.Lends.{lends_two};

@@ -3,8 +3,7 @@
 ghost use Rattle.std.specs.Prelude.{◌≡◌, ◌<◌, ◌+◌, ◌++◌, OnOk, OnErr, Some, List, map as list_map, reverse};
 ghost use Rattle.std.specs.FinMap as map;
 ghost use Rattle.std.specs.List.{zip};
-ghost use Rattle.slotmap_core.specs.Transition.{Leaves};
-ghost use Rattle.slotmap_core.specs.Listing.{IsListing, IsKeyListing};
+ghost use Rattle.slotmap_core.specs.Words.{Leaves, IsListing, IsKeyListing};
 ghost use Rattle.slotmap_dense.specs.Dense.{IsDense, IsEmpty, FreesFromBack};
 ghost use Rattle.slotmap_dense.specs.Call.{StaysDense};
 

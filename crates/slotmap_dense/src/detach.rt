@@ -2,8 +2,7 @@
 
 ghost use Rattle.std.specs.Prelude.{◌≡◌, OnSome, IfSome, IfNone, OnOk, IfErr, IsErr, false};
 ghost use Rattle.std.specs.FinMap as map;
-ghost use Rattle.slotmap_core.specs.Transition.{Detaches, Reattaches};
-ghost use Rattle.slotmap_core.specs.Refusal.{RefusesReattach};
+ghost use Rattle.slotmap_core.specs.Words.{Detaches, Reattaches, RefusesReattach};
 ghost use Rattle.slotmap_dense.specs.Dense.{Appends, ClosesGap};
 ghost use Rattle.slotmap_dense.specs.Call.{StaysDense, GrowsDense};
 

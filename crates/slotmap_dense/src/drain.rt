@@ -1,7 +1,7 @@
 //! The iterator that takes the pairs out of a map.
 
 ghost use Rattle.std.specs.Prelude.{◌≡◌, ◌≤◌, Some, IfSome};
-ghost use Rattle.std.specs.Iterator.{size, UpTo};
+ghost use Rattle.slotmap_core.specs.Words.{size, UpTo};
 ghost use Rattle.slotmap_dense.specs.Dense.{IsDense, Empties};
 
 use crate::DenseSlotMap;
@@ -30,7 +30,7 @@ impl<'a, K: Key, V: Drop> Drop for Drain<'a, K, V> {
 }
 
 impl<'a, K: Key, V: Drop> Iterator for Drain<'a, K, V> {
-    ghost use Rattle.slotmap_core.specs.Draining.{drain_count};
+    ghost use Rattle.slotmap_core.specs.Words.{drain_count};
     ghost use Rattle.slotmap_dense.specs.Drain.{drain_live, DrainSteps};
 
     type Item = (K, V);
@@ -73,7 +73,7 @@ impl<'a, K: Key, V: Drop> fmt::Debug for Drain<'a, K, V> {
 }
 
 impl<K: Key, V: Drop> DenseSlotMap<K, V> {
-    ghost use Rattle.slotmap_core.specs.Draining.{KeepsLoan, Along, KeepsAlong, ListsAlong};
+    ghost use Rattle.slotmap_core.specs.Words.{KeepsLoan, Along, KeepsAlong, ListsAlong};
     ghost use Rattle.slotmap_dense.specs.Drain.{drain_loan, drain_live, DrainSteps, DrainsFromBack};
 
     /// Returns an iterator that removes the live keys and yields them with their values, from the

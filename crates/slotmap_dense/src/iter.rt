@@ -1,9 +1,8 @@
 //! Iterators over the keys and values of a map, in packed order.
 
 ghost use Rattle.std.specs.Prelude.{◌≡◌, ◌≤◌, length, Some, IfSome, ⊤};
-ghost use Rattle.std.specs.Iterator.{YieldsFirstBy, item_count, at_most, UpTo};
 ghost use Rattle.std.specs.List.{zip};
-ghost use Rattle.slotmap_core.specs.Listing.{IsListing, IsKeyListing, IsValueListing};
+ghost use Rattle.slotmap_core.specs.Words.{YieldsFirstBy, item_count, at_most, UpTo, IsListing, IsKeyListing, IsValueListing};
 ghost use Rattle.slotmap_dense.specs.Dense.{IsDense, ListsPairs};
 
 use crate::DenseSlotMap;
@@ -28,7 +27,7 @@ pub struct Iter<'a, K: Key, V> {
 impl<'a, K: Key, V> Model for Iter<'a, K, V> {
     ghost use Rattle.std.specs.Prelude.{◌≡◌, ◌≤◌, List, drop, length as list_length, map as list_map};
     ghost use Rattle.std.specs.List.{zip};
-    ghost use Rattle.slotmap_core.specs.Key.{Key};
+    ghost use Rattle.slotmap_core.specs.Words.{Key};
 
     ghost Value = { List (Key × V) };
 
@@ -122,7 +121,7 @@ pub struct Keys<'a, K: Key, V> {
 
 impl<'a, K: Key, V> Model for Keys<'a, K, V> {
     ghost use Rattle.std.specs.Prelude.{List, map};
-    ghost use Rattle.slotmap_core.specs.Key.{Key};
+    ghost use Rattle.slotmap_core.specs.Words.{Key};
 
     ghost Value = { List Key };
 

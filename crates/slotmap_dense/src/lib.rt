@@ -16,10 +16,7 @@
 
 ghost use Rattle.std.specs.Prelude.{◌≡◌, [], Some, ◌+◌, ◌≤◌, ◌↔◌, IsTrue, IfOk, IfErr, IsOk, OnOk, true, vec_len, vec_capacity};
 ghost use Rattle.std.specs.FinMap as map;
-ghost use Rattle.slotmap_core.specs.Content.{used};
-ghost use Rattle.slotmap_core.specs.Transition.{IsNew};
-ghost use Rattle.slotmap_core.specs.Refusal.{RefusesCapacity};
-ghost use Rattle.slotmap_core.specs.Call.{MakesRoom as SlotsMakeRoom};
+ghost use Rattle.slotmap_core.specs.Words.{used, IsNew, RefusesCapacity, MakesRoom as SlotsMakeRoom};
 ghost use Rattle.slotmap_dense.specs.Dense.{IsDense, IsEmpty};
 ghost use Rattle.slotmap_dense.specs.Call.{MakesDenseRoom};
 

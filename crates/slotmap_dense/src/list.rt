@@ -2,12 +2,8 @@
 
 ghost use Rattle.std.specs.Prelude.{◌≡◌, ◌<◌, ◌^◌, IfOk, IsOk, IfErr, IfSome, Some, false, length};
 ghost use Rattle.std.specs.FinMap as map;
-ghost use Rattle.slotmap_core.specs.Clones.{ClonesEqual, IsCloneOf};
-ghost use Rattle.slotmap_core.specs.FromList.{start_live, start_stack};
-ghost use Rattle.slotmap_core.specs.Key.{Key as KeyOf};
-ghost use Rattle.slotmap_core.specs.ListRead.{ReadsAs};
-ghost use Rattle.slotmap_core.specs.Accepted.{Accepts, RefusesStart};
-ghost use Rattle.slotmap_core.specs.Written.{Writes, WritesClones, IsRecordClone};
+ghost use Rattle.slotmap_core.specs.Words.{ClonesEqual, IsCloneOf, start_live, start_stack, Key as KeyOf, ReadsAs, Accepts, RefusesStart, Writes, WritesClones};
+ghost use Rattle.slotmap_core.specs.Words.{IsRecordClone};
 ghost use Rattle.slotmap_dense.specs.Dense.{IsDense};
 ghost use Rattle.slotmap_dense.specs.Packed.{with_packed_value};
 

@@ -3,9 +3,7 @@
 ghost use Rattle.std.specs.Prelude.{◌≡◌, ◌+◌, ◌<◌, OnSome, IfSome, IfNone, Some, true, slice_get, length, vec_capacity, map as list_map};
 ghost use Rattle.std.specs.List.{swap_remove};
 ghost use Rattle.std.specs.FinMap as map;
-ghost use Rattle.slotmap_core.specs.Key.{Key as KeyOf};
-ghost use Rattle.slotmap_core.specs.Content.{IsContent};
-ghost use Rattle.slotmap_core.specs.Transition.{Removes};
+ghost use Rattle.slotmap_core.specs.Words.{Key as KeyOf, IsContent, Removes};
 ghost use Rattle.slotmap_dense.specs.Dense.{ClosesGap};
 ghost use Rattle.slotmap_dense.specs.Call.{StaysDense};
 ghost use Rattle.slotmap_dense.specs.Packed.{IsPacked, IsGapped};

@@ -1,13 +1,12 @@
 -- A map with no key: slot 0 alone.
 use Rattle.std.proofs.Common.{⊎_elim, ◌≡◌, zero, suc, List, [], ◌∷◌, refl, arith}
-use Rattle.slotmap_core.specs.Places.{Detached, Vacant}
-use Rattle.slotmap_core.proofs.General.GatherLemmas.{at_push}
+use Rattle.slotmap_core.specs.Words.{Detached, Vacant}
+use Rattle.slotmap_core.proofs.Lemmas.{at_push, IsStacked-sentinel, live-sentinel}
 use Rattle.slotmap_hop.specs.declared.links.Slot.{Slot}
 use Rattle.slotmap_hop.specs.declared.links.Slot.TheVariants.{Free}
 use Rattle.slotmap_hop.specs.Links.{is_front, vacant_at, end_at, ListsOnce, NamesEnds}
 use Rattle.slotmap_hop.proofs.Circle.{shut}
 use Rattle.slotmap_hop.specs.Slots.{all_links, IsSound}
-use Rattle.slotmap_core.proofs.Places.StackLemmas.{IsStacked-sentinel, live-sentinel}
 
 abbrev pub sentinel_alone : (V : Type 0) → List (Slot V)
 sentinel_alone V = Free 0 (record { next = 0; prev = 0; other_end = 0 }) ∷ []

@@ -1,24 +1,14 @@
 -- The slots while a list of slots is read into them.
 use Rattle.std.proofs.Common.{◌≡◌, ℕ, ◌+◌, ◌%◌, ◌^◌, ◌<◌, ◌≤◌, Bool, true, false, cond, List, [], ◌∷◌, ◌++◌, length, set, take, append-nil, append_assoc, add-one, slice_get, None, Some, refl}
 use Rattle.std.proofs.Common.{sym, ap, subst, ◌∙◌, arith, eqb, map as list_map}
-use Rattle.std.proofs.Math.Seq.{set-append_seam}
-use Rattle.std.proofs.lemmas.Bool.Decides.{nat_tests}
-use Rattle.std.proofs.lemmas.List.{nil_from_length, length-append, length_push, length-map, map_push, take_all}
-use Rattle.std.proofs.lemmas.Option.{slice_get-map}
+use Rattle.std.proofs.lemmas.List.{length-append, take_all}
 use Rattle.std.specs.FinMap as map
-use Rattle.slotmap_core.specs.FromList.{is_vacant_version, vacant_slot, place_of_record, start_places, start_stack, StartsFrom}
-use Rattle.slotmap_core.specs.Places.{Detached, Vacant, live}
-use Rattle.slotmap_core.specs.Accepted.{IsConsistent, Accepts, AllFitBelow}
-use Rattle.slotmap_core.specs.StackMap.{IsStacked}
-use Rattle.slotmap_core.specs.Written.{Writes, record_of, records_of}
+use Rattle.slotmap_core.specs.Words.{is_vacant_version, vacant_slot, place_of_record, start_places, start_stack, StartsFrom, Detached, Vacant, live}
+use Rattle.slotmap_core.specs.Words.{IsConsistent, Accepts, AllFitBelow, IsStacked, Writes, record_of, records_of}
+use Rattle.slotmap_core.proofs.Lemmas.{set-append_seam, nat_tests, nil_from_length, length_push, length-map, map_push, slice_get-map, vacant_split, vacant_is}
+use Rattle.slotmap_core.proofs.Lemmas.{slot_vacant, slice_get_push, len-live-push, odd_of, even_where, vacant_place, length-start_places, start_places-push}
+use Rattle.slotmap_core.proofs.Lemmas.{start_place_at, start_stack-push, IsStacked-start_places, writes-places, starts-stack, next_consistent}
 use Rattle.slotmap_core.specs.declared.serial.SlotRecord.{SlotRecord}
-use Rattle.slotmap_core.proofs.FromList.AtKeysLemmas.{vacant_split, vacant_is, slot_vacant}
-use Rattle.slotmap_core.proofs.General.GatherLemmas.{slice_get_push}
-use Rattle.slotmap_core.proofs.Places.PlacesLemmas.{len-live-push}
-use Rattle.slotmap_core.proofs.FromList.StartLemmas.{odd_of, even_where, vacant_place, length-start_places, start_places-push, start_place_at}
-use Rattle.slotmap_core.proofs.FromList.StartStack.{start_stack-push, IsStacked-start_places}
-use Rattle.slotmap_core.proofs.FromList.WrittenLemmas.{writes-places}
-use Rattle.slotmap_core.proofs.FromList.StartFits.{starts-stack}
 use Rattle.slotmap_hop.specs.declared.links.Slot.{Slot}
 use Rattle.slotmap_hop.specs.Blocks.{Blocks, Ascend, vacated}
 use Rattle.slotmap_hop.specs.Links.{vacant_at, blocks_of, HasBlockList, CanVacate}
@@ -26,7 +16,6 @@ use Rattle.slotmap_hop.specs.Slots.{version_in, links_in, value_in, read_slot, p
 use Rattle.slotmap_hop.proofs.Taking.{HasBlockList-pushed, blocks_pushed}
 use Rattle.slotmap_hop.proofs.SlotReads.{length-all_links, length-places, slot_cases, place_at}
 use Rattle.slotmap_hop.proofs.Empty.{sentinel_alone, IsSound-new}
-use Rattle.slotmap_core.proofs.FromList.ReadsAsLemmas.{next_consistent}
 
 -- blocks by ascending index
 

@@ -1,15 +1,9 @@
 -- What an insert makes of sound slots, and what stays when one place changes.
 use Rattle.std.proofs.Common.{⊎_elim, ◌≡◌, ◌≢◌, ℕ, ◌+◌, ◌-◌, ◌^◌, ◌<◌, ◌≤◌, List, [], ◌∷◌, ◌++◌, length, set, slice_get, Some, None, sym, ap, subst, ◌∙◌, arith}
-use Rattle.std.proofs.lemmas.List.{map-append}
 use Rattle.std.specs.FinMap as map
-use Rattle.slotmap_core.specs.Key.{Key}
-use Rattle.slotmap_core.specs.Content.{most}
-use Rattle.slotmap_core.specs.Transition.{Removes, Inserts}
-use Rattle.slotmap_core.specs.Places.{Place, Live, Detached, Vacant, live, left_by}
-use Rattle.slotmap_core.specs.StackMap.{content_of_places, used_places, filled, IsVersion, IsStacked}
-use Rattle.slotmap_core.proofs.Places.PlacesLemmas.{key, len-live-set, len-live-push}
-use Rattle.slotmap_core.proofs.Places.StackLemmas.{IsStacked-filled, IsStacked-pushed}
-use Rattle.slotmap_core.proofs.Contents.StepLemmas.{removes, inserts}
+use Rattle.slotmap_core.specs.Words.{Key, most, Removes, Inserts, Place, Live, Detached, Vacant, live, left_by, content_of_places, used_places, filled}
+use Rattle.slotmap_core.specs.Words.{IsVersion, IsStacked}
+use Rattle.slotmap_core.proofs.Lemmas.{map-append, key, len-live-set, len-live-push, IsStacked-filled, IsStacked-pushed, removes, inserts, at_set, at_push}
 use Rattle.slotmap_hop.specs.declared.links.Slot.{Slot}
 use Rattle.slotmap_hop.specs.declared.links.Slot.TheVariants.{Occupied}
 use Rattle.slotmap_hop.specs.Blocks.{shorter}
@@ -18,7 +12,6 @@ use Rattle.slotmap_hop.specs.Slots.{version_in, links_in, place_in, all_links, p
 use Rattle.slotmap_hop.proofs.SlotReads.{length-all_links, length-places}
 use Rattle.slotmap_hop.proofs.Taking.{HasBlockList-pushed, blocks_pushed, shorter_none}
 use Rattle.slotmap_hop.proofs.StackOrder.{IsStacked-first, length_removed, untold, Inserts-untold, Removes-untold}
-use Rattle.slotmap_core.proofs.General.GatherLemmas.{at_set, at_push}
 use Rattle.slotmap_hop.proofs.SlotLemmas.{vacant_slot, back_vacant, empty_stack, in_order, ordered_map, content_is}
 
 module _ {V : Type 0} (slots : List (Slot V)) (vacant elems : ℕ) (sound : IsSound slots vacant elems) (new : List (Slot V)) where

@@ -1,16 +1,12 @@
 -- A search for the next live place skips a block of vacant places in one step.
 use Rattle.std.proofs.Common.{◌≡◌, ◌≢◌, ℕ, max, zero, suc, ◌+◌, ◌-◌, ◌*◌, ◌<◌, ◌≤◌, ◌^◌, true, false, List, [], ◌∷◌, ◌++◌, length, drop, slice_get, Some, None, is_some, refl, sym, ap, ◌∙◌, arith}
-use Rattle.std.proofs.lemmas.Option.{slice_get_within, get_or_from_slice_get}
-use Rattle.std.proofs.lemmas.List.{drop_more, drop_all, append_assoc, length-append}
-use Rattle.std.proofs.lemmas.List.Elements.{All-nil, All-cons, All-push, All-weaker}
+use Rattle.std.proofs.lemmas.List.{append_assoc, length-append}
 use Rattle.std.specs.List.{All}
 use Rattle.std.specs.FinMap as map
-use Rattle.slotmap_core.specs.Key.{Key, last_version}
-use Rattle.slotmap_core.specs.Places.{Place, Live, Detached, Vacant, Retired as RetiredPlace, live, live_entry, retired_entry}
-use Rattle.slotmap_core.specs.Gather.{gather}
-use Rattle.slotmap_core.specs.StackMap.{HasVersion}
-use Rattle.slotmap_core.proofs.Contents.ContentLemmas.{live_at}
-use Rattle.slotmap_core.proofs.Places.PlacesLemmas.{key, get-live_at}
+use Rattle.slotmap_core.specs.Words.{Key, last_version, Place, Live, Detached, Vacant, Retired as RetiredPlace, live, live_entry, retired_entry, gather}
+use Rattle.slotmap_core.specs.Words.{HasVersion}
+use Rattle.slotmap_core.proofs.Lemmas.{slice_get_within, get_or_from_slice_get, drop_more, drop_all, All-nil, All-cons, All-push, All-weaker, live_at, key}
+use Rattle.slotmap_core.proofs.Lemmas.{get-live_at}
 use Rattle.slotmap_hop.specs.declared.links.Links.{Links}
 use Rattle.slotmap_hop.specs.declared.links.Slot.{Slot}
 use Rattle.slotmap_hop.specs.declared.links.Slot.TheVariants.{Occupied, Free, Retired}

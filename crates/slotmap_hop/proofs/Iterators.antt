@@ -1,17 +1,11 @@
 -- What an iterator that skips blocks has yet to yield, at its start and after each step.
 use Rattle.std.proofs.Common.{◌≡◌, ℕ, ◌+◌, ◌-◌, ◌<◌, ◌≤◌, true, List, [], ◌∷◌, length, drop, set, ◌∙◌, refl, sym, ap, subst, arith}
-use Rattle.std.proofs.lemmas.Option.{slice_get_within}
-use Rattle.std.proofs.lemmas.List.{nil_from_length, drop-set-lt}
+use Rattle.std.proofs.lemmas.List.{drop-set-lt}
 use Rattle.std.specs.FinMap as map
 use Rattle.std.specs.FinSet as set
-use Rattle.slotmap_core.specs.Key.{Key, key_cmp}
-use Rattle.slotmap_core.specs.Places.{Place, Live, Retired, live, retired, retired_entry}
-use Rattle.slotmap_core.specs.Gather.{gather}
-use Rattle.slotmap_core.proofs.Contents.ContentLemmas.{live_at}
-use Rattle.slotmap_core.proofs.Places.PlacesLemmas.{retired_fits}
-use Rattle.slotmap_core.proofs.General.MapLaws.{detached_laws}
-use Rattle.slotmap_core.proofs.General.GatherLemmas.{len-add}
-use Rattle.slotmap_core.proofs.Places.InOrderLemmas.{entries-live}
+use Rattle.slotmap_core.specs.Words.{Key, key_cmp, Place, Live, Retired, live, retired_entry, gather}
+use Rattle.slotmap_core.proofs.Lemmas.{slice_get_within, nil_from_length, live_at, retired_fits, detached_laws, len-add, entries-live}
+use Rattle.slotmap_core.specs.Places.{retired}
 use Rattle.slotmap_hop.specs.declared.links.Slot.{Slot}
 use Rattle.slotmap_hop.specs.Blocks.{Begins, IsBlock}
 use Rattle.slotmap_hop.specs.Links.{vacant_at, end_at, fronts_of}

@@ -1,17 +1,10 @@
 -- The slot of a live key: what a look-up, a removal or a write knows of it, and makes of it.
 use Rattle.std.proofs.Common.{option_and_then, ◌≡◌, ◌≢◌, ℕ, ◌+◌, ◌-◌, ◌^◌, ◌<◌, ◌≤◌, true, false, ◌==◌, List, ◌∷◌, length, set, slice_get, get_or, Some, None, is_some, sym, ap, subst, ◌∙◌, arith}
-use Rattle.std.proofs.lemmas.Bool.Decides.{nat_tests}
-use Rattle.std.proofs.lemmas.Option.{slice_get_past, get_or_from_slice_get}
-use Rattle.std.proofs.Math.Seq.{map-set_same}
 use Rattle.std.proofs.lemmas.List.{length-set}
 use Rattle.std.specs.FinMap as map
-use Rattle.slotmap_core.specs.Key.{Key, IsKey, key_cmp, last_version}
-use Rattle.slotmap_core.specs.Places.{Live, Vacant, Retired, live, live_value}
-use Rattle.slotmap_core.proofs.General.GatherLemmas.{slice_get-set_other}
-use Rattle.slotmap_core.proofs.Places.PlacesLemmas.{key, get-live, get-live_at, len-live-set, total}
-use Rattle.slotmap_core.proofs.Contents.ContentLemmas.{live_at}
-use Rattle.slotmap_core.proofs.Places.StackLemmas.{not_first, IsStacked-kept, IsStacked-freed}
-use Rattle.slotmap_core.proofs.Contents.StepLemmas.{content-written}
+use Rattle.slotmap_core.specs.Words.{Key, IsKey, key_cmp, last_version, Live, Vacant, Retired, live, live_value}
+use Rattle.slotmap_core.proofs.Lemmas.{nat_tests, slice_get_past, get_or_from_slice_get, map-set_same, slice_get-set_other, key, get-live, get-live_at}
+use Rattle.slotmap_core.proofs.Lemmas.{len-live-set, total, live_at, not_first, IsStacked-kept, IsStacked-freed, content-written, same_read}
 use Rattle.slotmap_hop.specs.declared.links.Slot.{Slot}
 use Rattle.slotmap_hop.specs.declared.links.Slot.TheVariants.{Occupied}
 use Rattle.slotmap_hop.specs.Links.{blocks_of, HasBlockList}
@@ -19,7 +12,6 @@ use Rattle.slotmap_hop.specs.HopContent.{hop_with_value}
 use Rattle.slotmap_hop.specs.Slots.{version_in, links_in, place_in, all_links, places_of, value_in, value_at, CanFree, next_place, offer_at, hop_content, IsSound}
 use Rattle.slotmap_hop.proofs.SlotReads.{length-all_links, length-places, slot_cases, places_written}
 use Rattle.slotmap_hop.proofs.Growth.{IsSound-set}
-use Rattle.slotmap_core.proofs.General.ListLemmas.{same_read}
 use Rattle.slotmap_hop.proofs.SlotLemmas.{key_is, vacant_slot, place_not_vacant, slots_fit, back_vacant, in_order, ordered_map}
 
 -- the slot of a live place

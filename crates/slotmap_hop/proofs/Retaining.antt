@@ -1,22 +1,11 @@
 -- A loop that calls a closure for each live key, by ascending index, and removes the keys that it rejects.
 use Rattle.std.proofs.Common.{◌≡◌, ℕ, ◌+◌, Bool, cond, true, false, List, [], ◌∷◌, ◌++◌, append-nil, Option, Some, None, is_some, refl, sym, ap, ◌∙◌, inl, arith}
-use Rattle.std.specs.Fn.{Mut}
 use Rattle.std.specs.Borrow.{MutBor}
-use Rattle.std.specs.List.{FoldsTo}
 use Rattle.std.specs.FinMap as map
-use Rattle.std.proofs.lemmas.Fn.{FoldsTo-push}
-use Rattle.slotmap_core.specs.Key.{Key, key_cmp}
-use Rattle.slotmap_core.specs.Content.{IsLive}
-use Rattle.slotmap_core.specs.Transition.{Removes}
-use Rattle.slotmap_core.specs.Retain.{Visit, CallsAt, MayCome, seen}
-use Rattle.slotmap_core.proofs.Contents.IndexLemmas.{from_index, from_index-start, none_live, in_from, get-remove_other}
-use Rattle.slotmap_core.proofs.General.KeyLemmas.{keys_total, exact_keys}
-use Rattle.slotmap_core.proofs.General.Maps.{in_after_remove}
-use Rattle.slotmap_core.proofs.Contents.OrderLemmas.{entries_none}
-use Rattle.slotmap_core.proofs.General.ListingLemmas.{remove-insert}
-use Rattle.slotmap_core.proofs.Contents.SweepLemmas.{Swept-start}
-use Rattle.slotmap_core.proofs.Several.VisitLemmas.{Visits, Visits-listed, Visits-stay}
-use Rattle.slotmap_core.proofs.Several.KeyedVisits.{Keyed-from_start, Keyed-next, Keyed-same, Keyed-may_come}
+use Rattle.slotmap_core.specs.Words.{Mut, FoldsTo, Key, key_cmp, IsLive, Removes, Visit, CallsAt, MayCome, seen}
+use Rattle.slotmap_core.proofs.Lemmas.{FoldsTo-push, from_index, from_index-start, none_live, in_from, get-remove_other, keys_total, exact_keys}
+use Rattle.slotmap_core.proofs.Lemmas.{in_after_remove, entries_none, remove-insert, Swept-start, Visits, Visits-listed, Visits-stay, Keyed-from_start}
+use Rattle.slotmap_core.proofs.Lemmas.{Keyed-next, Keyed-same, Keyed-may_come}
 use Rattle.slotmap_hop.specs.HopContent.{HopContent, IsHopContent, IsNextLive, IsNextPlace, HasKeyAt, StaysHop, hop_with_value, blocks_without, blocks_without_all}
 use Rattle.slotmap_hop.specs.Retain.{RetainsByIndex, dropped}
 use Rattle.slotmap_hop.proofs.BlocksLeft.{InOrder, InOrder-kept, InOrder-dropped}

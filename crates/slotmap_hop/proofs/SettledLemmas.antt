@@ -1,16 +1,8 @@
 -- What calls know of a map's slots, by what the map holds.
 use Rattle.std.proofs.Common.{◌≡◌, ◌≢◌, ℕ, ◌+◌, ◌-◌, ◌^◌, ◌<◌, List, length, set, get_or, Some, vec_capacity, refl, sym, ap, subst, ◌∙◌, arith, eq-eqb, ne_eqb}
-use Rattle.std.proofs.lemmas.Bool.Decides.{nat_tests}
-use Rattle.std.specs.Vec.{with_items}
 use Rattle.std.specs.FinMap as map
-use Rattle.std.proofs.lemmas.List.{with_items_is}
-use Rattle.slotmap_core.specs.Key.{Key, IsKey, last_version}
-use Rattle.slotmap_core.specs.Content.{IsLive, most}
-use Rattle.slotmap_core.specs.Transition.{Inserts, Removes}
-use Rattle.slotmap_core.specs.Places.{Place, Live, Vacant, Retired, left_by}
-use Rattle.slotmap_core.specs.StackMap.{used_places}
-use Rattle.slotmap_core.proofs.Places.PlacesLemmas.{key}
-use Rattle.slotmap_core.proofs.General.ListLemmas.{same_read}
+use Rattle.slotmap_core.specs.Words.{with_items, Key, IsKey, last_version, IsLive, most, Inserts, Removes, Place, Live, Vacant, Retired, left_by, used_places}
+use Rattle.slotmap_core.proofs.Lemmas.{nat_tests, with_items_is, key, same_read}
 use Rattle.slotmap_hop.specs.declared.HopSlotMap.TheInside.{Inside}
 use Rattle.slotmap_hop.specs.declared.links.Slot.{Slot}
 use Rattle.slotmap_hop.specs.Blocks.{vacated}

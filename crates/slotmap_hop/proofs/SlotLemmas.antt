@@ -2,17 +2,13 @@
 use mathlib.Core.Path.{fun_ext}
 use Rattle.std.proofs.Common.{◌≡◌, ◌≢◌, inl, ℕ, zero, suc, ◌+◌, ◌^◌, ◌<◌, ◌≤◌, Bool, true, false, eqb, ◌==◌, ◌||◌, List, [], ◌∷◌, ◌++◌, length, set, slice_get, Option, Some, refl, sym, ap, subst}
 use Rattle.std.proofs.Common.{arith, cond}
-use Rattle.std.proofs.lemmas.Bool.Decides.{nat_tests}
 use Rattle.std.proofs.lemmas.List.{length-set}
 use Rattle.std.specs.FinMap as map
 use Rattle.std.specs.FinSet as set
-use Rattle.slotmap_core.specs.Key.{IsKey, key_cmp}
-use Rattle.slotmap_core.specs.Content.{IsContent, places}
-use Rattle.slotmap_core.specs.Places.{Place, Vacant, detached, next}
-use Rattle.slotmap_core.specs.StackMap.{StackMap, content_of_places, offer, used_places, filled, IsVersion, IsStacked}
-use Rattle.slotmap_core.proofs.Places.PlacesLemmas.{key, contains-detached, get-next_at, vacant_at as next_found, total}
-use Rattle.slotmap_core.proofs.Contents.ContentLemmas.{IsContent-stacked}
-use Rattle.slotmap_core.proofs.General.KeyLemmas.{keys_total, exact_keys}
+use Rattle.slotmap_core.specs.Words.{IsKey, key_cmp, IsContent, places, Place, Vacant, detached, next, StackMap, content_of_places, offer, used_places, filled}
+use Rattle.slotmap_core.specs.Words.{IsVersion, IsStacked}
+use Rattle.slotmap_core.proofs.Lemmas.{nat_tests, key, contains-detached, get-next_at, vacant_at as next_found, total, IsContent-stacked, keys_total}
+use Rattle.slotmap_core.proofs.Lemmas.{exact_keys}
 use Rattle.slotmap_hop.specs.declared.links.Links.{Links}
 use Rattle.slotmap_hop.specs.declared.links.Slot.{Slot}
 use Rattle.slotmap_hop.specs.Blocks.{HasMaximalBlocks}

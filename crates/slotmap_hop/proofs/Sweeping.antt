@@ -1,16 +1,9 @@
 -- A loop over the live keys of a map, which skips vacant places.
 use Rattle.std.proofs.Common.{◌∷◌, ◌≡◌, ◌↔◌, ℕ, ◌+◌, ◌-◌, ◌<◌, ◌≤◌, true, Option, Some, None, List, ◌^◌, refl, sym, ap, ◌∙◌, arith}
 use Rattle.std.specs.FinMap as map
-use Rattle.slotmap_core.specs.Key.{Key}
-use Rattle.slotmap_core.specs.Content.{Content, IsLive}
-use Rattle.slotmap_core.specs.Listing.{NoneBelow}
-use Rattle.slotmap_core.specs.Transition.{Removes, with_value}
-use Rattle.slotmap_core.proofs.Contents.IndexLemmas.{NoneBelow-end, get-remove_other}
-use Rattle.slotmap_core.proofs.General.Maps.{in_after_remove, len_removed, some_entry}
-use Rattle.slotmap_core.proofs.General.KeyLemmas.{keys_total, exact_keys}
-use Rattle.slotmap_core.proofs.Contents.SweepLemmas.{first_entry, above_next, Swept, Swept-start, Swept-to, Swept-on, Swept-next, Swept-removed}
-use Rattle.slotmap_core.proofs.Contents.LeaveLemmas.{same_live}
-use Rattle.slotmap_core.proofs.General.ListingLemmas.{remove-insert}
+use Rattle.slotmap_core.specs.Words.{Key, Content, IsLive, NoneBelow, Removes, with_value}
+use Rattle.slotmap_core.proofs.Lemmas.{NoneBelow-end, get-remove_other, in_after_remove, len_removed, some_entry, keys_total, exact_keys, first_entry}
+use Rattle.slotmap_core.proofs.Lemmas.{above_next, Swept, Swept-start, Swept-to, Swept-on, Swept-next, Swept-removed, same_live, remove-insert}
 use Rattle.slotmap_hop.specs.declared.links.Slot.{Slot}
 use Rattle.slotmap_hop.specs.HopContent.{HopContent, IsHopContent, IsNextLive, MayStand, StaysHop, hop_with_value, blocks_without, blocks_without_all}
 use Rattle.slotmap_hop.specs.Slots.{hop_content, IsSound}

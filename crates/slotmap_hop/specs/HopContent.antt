@@ -3,12 +3,8 @@ use Rattle.std.specs.Prelude.{◌≡◌, ◌⊎◌, ℕ, ◌+◌, ◌-◌, ◌<�
 use Rattle.std.specs.Ordering.{nat_cmp}
 use Rattle.std.specs.FinMap as map
 use Rattle.std.specs.FinSet as set
-use Rattle.std.specs.Coded.{Coded, code_by, coded×}
-use Rattle.slotmap_core.specs.Key.{Key, is_last}
-use Rattle.slotmap_core.specs.Content.{Content, content_code, IsContent, IsLive, used, places, most}
-use Rattle.slotmap_core.specs.Transition.{freed, with_value}
-use Rattle.slotmap_core.specs.Call.{MakesRoom}
-use Rattle.slotmap_core.specs.Disjoint.{with_values}
+use Rattle.slotmap_core.specs.Words.{Coded, code_by, coded×, Key, is_last, Content, content_code, IsContent, IsLive, used, places, most, freed, with_value}
+use Rattle.slotmap_core.specs.Words.{MakesRoom, with_values}
 use Rattle.slotmap_hop.specs.Blocks.{Blocks, coded_blocks, HasMaximalBlocks, vacated, offer_place}
 
 pub record HopContent (V : Type 0) : Type 0 where

@@ -3,10 +3,7 @@ use Rattle.std.specs.Prelude.{◌≡◌, ℕ, ◌+◌, ◌*◌, ◌<◌, ◌≤�
 use Rattle.std.specs.List.{All}
 use Rattle.std.specs.FinMap as map
 use Rattle.std.specs.FinSet as set
-use Rattle.slotmap_core.specs.Key.{Key}
-use Rattle.slotmap_core.specs.Gather.{gather}
-use Rattle.slotmap_core.specs.Listing.{ListsByIndex}
-use Rattle.slotmap_core.specs.Places.{Live, live, live_entry, retired_entry}
+use Rattle.slotmap_core.specs.Words.{Key, gather, ListsByIndex, Live, live, live_entry, retired_entry}
 use Rattle.slotmap_hop.specs.declared.links.Slot.{Slot}
 use Rattle.slotmap_hop.specs.declared.links.Slot.TheVariants.{Occupied}
 use Rattle.slotmap_hop.specs.Blocks.{Begins}

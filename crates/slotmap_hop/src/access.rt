@@ -2,10 +2,7 @@
 
 ghost use Rattle.std.specs.Prelude.{◌≡◌, ◌↔◌, IsTrue, IsOk, IfOk, OnOk, OnErr, IfErr, IfNone, IfSome, option_copied, Some, false, map as map_list};
 ghost use Rattle.std.specs.FinMap as map;
-ghost use Rattle.std.specs.Borrow.{sem};
-ghost use Rattle.std.specs.Option.{option_copied_mut};
-ghost use Rattle.slotmap_core.specs.Content.{IsLive};
-ghost use Rattle.slotmap_core.specs.Disjoint.{CanReplace, AreValuesOf};
+ghost use Rattle.slotmap_core.specs.Words.{sem, option_copied_mut, IsLive, CanReplace, AreValuesOf};
 ghost use Rattle.slotmap_hop.specs.HopContent.{IsHopContent, StaysHop, hop_with_value, hop_with_values};
 
 use crate::HopSlotMap;

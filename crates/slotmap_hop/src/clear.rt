@@ -2,7 +2,7 @@
 
 ghost use Rattle.std.specs.Prelude.{◌≡◌, ◌+◌, ◌<◌, ◌++◌, Some, OnOk, OnErr, List, map as list_map};
 ghost use Rattle.std.specs.FinMap as map;
-ghost use Rattle.slotmap_core.specs.Transition.{Leaves, FreesByIndex};
+ghost use Rattle.slotmap_core.specs.Words.{Leaves, FreesByIndex};
 ghost use Rattle.slotmap_hop.specs.HopContent.{IsHopContent, StaysHop, blocks_without_all};
 
 use crate::HopSlotMap;

@@ -1,7 +1,7 @@
 //! The iterator that takes the pairs out of a map.
 
 ghost use Rattle.std.specs.Prelude.{◌≡◌, ◌≤◌, Some, IfSome};
-ghost use Rattle.std.specs.Iterator.{size, UpTo};
+ghost use Rattle.slotmap_core.specs.Words.{size, UpTo};
 ghost use Rattle.slotmap_hop.specs.HopContent.{IsHopContent};
 
 use crate::HopSlotMap;
@@ -33,7 +33,7 @@ impl<'a, K: Key, V: Drop> Drop for Drain<'a, K, V> {
 }
 
 impl<'a, K: Key, V: Drop> Iterator for Drain<'a, K, V> {
-    ghost use Rattle.slotmap_core.specs.Draining.{drain_count};
+    ghost use Rattle.slotmap_core.specs.Words.{drain_count};
     ghost use Rattle.slotmap_hop.specs.Drain.{drain_live, DrainSteps, DrainCanStep};
 
     type Item = (K, V);
@@ -78,7 +78,7 @@ impl<'a, K: Key, V: Drop> fmt::Debug for Drain<'a, K, V> {
 }
 
 impl<K: Key, V: Drop> HopSlotMap<K, V> {
-    ghost use Rattle.slotmap_core.specs.Draining.{KeepsLoan, KeepsAlong, ListsAlong, InOrderAlong};
+    ghost use Rattle.slotmap_core.specs.Words.{KeepsLoan, KeepsAlong, ListsAlong, InOrderAlong};
     ghost use Rattle.slotmap_hop.specs.Drain.{drain_loan, drain_live, EmptiesMap, DrainCanStep, DrainSteps};
 
     /// Returns an iterator that removes the live keys and yields them with their values, by

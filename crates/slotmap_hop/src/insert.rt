@@ -2,9 +2,7 @@
 
 ghost use Rattle.std.specs.Prelude.{◌≡◌, ◌+◌, ◌<◌, ◌≤◌, IfOk, OnErr, IfErr, IsOk, IsTrue, MatchResult, Ok, Err};
 ghost use Rattle.std.specs.FinMap as map;
-ghost use Rattle.slotmap_core.specs.Content.{used, most};
-ghost use Rattle.slotmap_core.specs.Transition.{Keeps, Inserts};
-ghost use Rattle.slotmap_core.specs.Refusal.{Refuses, RefusesCapacity, RefusesInsert, RefusesWith};
+ghost use Rattle.slotmap_core.specs.Words.{used, most, Keeps, Inserts, Refuses, RefusesCapacity, RefusesInsert, RefusesWith};
 ghost use Rattle.slotmap_hop.specs.Blocks.{shorter};
 ghost use Rattle.slotmap_hop.specs.HopContent.{GrowsHop, IsHopContent, MakesHopRoom, StaysHop};
 

@@ -1,9 +1,8 @@
 //! Iterators over the keys and values of a map, by ascending index.
 
 ghost use Rattle.std.specs.Prelude.{◌≡◌, ◌<◌, ◌≤◌, [], length, Some, IfSome, IfNone, ⊤};
-ghost use Rattle.std.specs.Iterator.{YieldsFirstBy, item_count, at_most, UpTo};
 ghost use Rattle.std.specs.FinMap as map;
-ghost use Rattle.slotmap_core.specs.Listing.{IsListing, IsKeyListing, IsValueListing};
+ghost use Rattle.slotmap_core.specs.Words.{YieldsFirstBy, item_count, at_most, UpTo, IsListing, IsKeyListing, IsValueListing};
 ghost use Rattle.slotmap_hop.specs.HopContent.{IsHopContent};
 ghost use Rattle.slotmap_hop.specs.Iter.{pairs_left, CanGoOn, FindsSlot, StepsOn, ReadsOnTheWay, CountsReads, CountsReadsSomewhere, ListsRetired, StartsIter};
 
@@ -37,7 +36,7 @@ pub struct Iter<'a, K, V> {
 }
 
 impl<'a, K, V> Model for Iter<'a, K, V> {
-    ghost use Rattle.slotmap_core.specs.Key.{Key};
+    ghost use Rattle.slotmap_core.specs.Words.{Key};
     ghost use Rattle.slotmap_hop.specs.Iter.{HopIter, pairs_left, retired_left, IsIter};
 
     ghost Value = { HopIter (Key × V) };
@@ -202,7 +201,7 @@ pub struct Keys<'a, K, V> {
 
 impl<'a, K, V> Model for Keys<'a, K, V> {
     ghost use Rattle.std.specs.Prelude.{List, map};
-    ghost use Rattle.slotmap_core.specs.Key.{Key};
+    ghost use Rattle.slotmap_core.specs.Words.{Key};
     ghost use Rattle.slotmap_hop.specs.Iter.{HopIter};
 
     ghost Value = { HopIter Key };
@@ -302,7 +301,7 @@ pub struct Values<'a, K, V> {
 
 impl<'a, K, V> Model for Values<'a, K, V> {
     ghost use Rattle.std.specs.Prelude.{List, map};
-    ghost use Rattle.slotmap_core.specs.Key.{Key};
+    ghost use Rattle.slotmap_core.specs.Words.{Key};
     ghost use Rattle.slotmap_hop.specs.Iter.{HopIter};
 
     ghost Value = { HopIter V };

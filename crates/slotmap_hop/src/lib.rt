@@ -23,9 +23,7 @@
 
 ghost use Rattle.std.specs.Prelude.{◌≡◌, [], ◌+◌, ◌≤◌, ◌↔◌, IsTrue, IfOk, IfErr, IsOk};
 ghost use Rattle.std.specs.FinMap as map;
-ghost use Rattle.slotmap_core.specs.Content.{used, most};
-ghost use Rattle.slotmap_core.specs.Transition.{IsNew};
-ghost use Rattle.slotmap_core.specs.Refusal.{RefusesCapacity};
+ghost use Rattle.slotmap_core.specs.Words.{used, most, IsNew, RefusesCapacity};
 ghost use Rattle.slotmap_hop.specs.HopContent.{IsHopContent, MakesHopRoom, NoBlocks};
 
 mod access;

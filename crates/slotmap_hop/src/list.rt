@@ -1,15 +1,11 @@
 //! Lists of slots: a map written out, and a map read back.
 
 ghost use Rattle.std.specs.Prelude.{◌≡◌, ◌<◌, ◌^◌, IfOk, IsOk, IfErr, true, Some, List, length};
-ghost use Rattle.slotmap_core.specs.FromList.{start_live, is_vacant_version};
+ghost use Rattle.slotmap_core.specs.Words.{start_live, is_vacant_version, ClonesEqual, IsCloneOf, Key, ReadsAs, Accepts, RefusesStart, Writes, WritesClones};
+ghost use Rattle.slotmap_core.specs.Words.{IsRecordClone};
 ghost use Rattle.slotmap_hop.specs.Blocks.{Ascend};
 ghost use Rattle.slotmap_hop.specs.HopContent.{IsHopContent};
 ghost use Rattle.slotmap_hop.specs.Slots.{version_in, value_in, read_slot};
-ghost use Rattle.slotmap_core.specs.Clones.{ClonesEqual, IsCloneOf};
-ghost use Rattle.slotmap_core.specs.Key.{Key};
-ghost use Rattle.slotmap_core.specs.ListRead.{ReadsAs};
-ghost use Rattle.slotmap_core.specs.Accepted.{Accepts, RefusesStart};
-ghost use Rattle.slotmap_core.specs.Written.{Writes, WritesClones, IsRecordClone};
 ghost use Rattle.std.specs.FinMap as map;
 
 use crate::HopSlotMap;

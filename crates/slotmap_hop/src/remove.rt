@@ -2,8 +2,7 @@
 
 ghost use Rattle.std.specs.Prelude.{◌≡◌, OnSome, IfNone, Some};
 ghost use Rattle.std.specs.FinMap as map;
-ghost use Rattle.slotmap_core.specs.Content.{IsLive};
-ghost use Rattle.slotmap_core.specs.Transition.{Removes};
+ghost use Rattle.slotmap_core.specs.Words.{IsLive, Removes};
 ghost use Rattle.slotmap_hop.specs.HopContent.{StaysHop, blocks_without};
 
 use crate::HopSlotMap;

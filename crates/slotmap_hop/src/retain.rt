@@ -2,9 +2,7 @@
 
 ghost use Rattle.std.specs.Prelude.{◌≡◌, ◌+◌, ◌<◌, Some, IfSome, IfNone};
 ghost use Rattle.std.specs.FinMap as map;
-ghost use Rattle.slotmap_core.specs.Content.{IsLive};
-ghost use Rattle.slotmap_core.specs.Transition.{Leaves};
-ghost use Rattle.slotmap_core.specs.Retain.{RetainsBy, CallableOnEach};
+ghost use Rattle.slotmap_core.specs.Words.{IsLive, Leaves, RetainsBy, CallableOnEach};
 ghost use Rattle.slotmap_hop.specs.HopContent.{IsHopContent, IsNextLive, IsNextPlace, HasKeyAt, MayStand, StaysHop};
 ghost use Rattle.slotmap_hop.specs.Retain.{RetainsByIndex};
 ghost use Rattle.slotmap_hop.specs.Iter.{CanGoOn, FindsSlot, FindsNone, ReadsOnTheWay, ReadsToTheEnd};

@@ -1,14 +1,9 @@
 -- What was written as JSON is read back: for callers, who write keys and lists of slots, and read them again.
 use Rattle.std.proofs.Common.{◌≡◌, ℕ, ◌<◌, ◌^◌, List, [], ◌∷◌, ◌++◌, Result, Ok, Err, Option, Some, None, option_map, Bool, ◌⊎◌, inl, inr, refl, sym, ap, ◌∙◌, subst, arith}
-use Rattle.std.specs.Result.{result_ok}
-use Rattle.std.specs.List.{AllZip, AllByRecursion}
+use Rattle.slotmap_core.specs.Words.{result_ok, AllZip, AllByRecursion, Key, IsKey, key_from, Content, IsContent, ReadsAs, Writes, Restores}
 use Rattle.serde_json.specs.Data.{Data, null, array}
 use Rattle.serde_json.specs.Find.{as_array}
 use Rattle.serde_json.specs.View.{items_of}
-use Rattle.slotmap_core.specs.Key.{Key, IsKey, key_from}
-use Rattle.slotmap_core.specs.Content.{Content, IsContent}
-use Rattle.slotmap_core.specs.ListRead.{ReadsAs}
-use Rattle.slotmap_core.specs.Written.{Writes, Restores}
 use Rattle.slotmap_core.specs.declared.errors.JsonError.{JsonError}
 use Rattle.slotmap_core.specs.declared.errors.JsonError.TheVariants.{Shape, Memory}
 use Rattle.slotmap_core.specs.declared.serial.SlotRecord.{SlotRecord}

@@ -1,13 +1,11 @@
 -- The JSON of keys and of lists of slots.
 use Rattle.std.specs.Prelude.{◌≡◌, ℕ, ◌^◌, ◌⊎◌, List, ◌∷◌, ◌++◌, codes, Option, Some, None, Result, Ok, Err, MatchOption, option_map, option_and_then, nat_lt, if◌then◌else◌}
-use Rattle.std.specs.Fn.{Shared, FnReturnsAt}
-use Rattle.std.specs.List.{AllZip}
 use Rattle.std.specs.Borrow.{Bor}
+use Rattle.slotmap_core.specs.Words.{Shared, FnReturnsAt, AllZip, Key, key_from}
 use Rattle.serde_json.specs.Data.{Data, null, number, unsigned, array, object, member, no_members}
 use Rattle.serde_json.specs.Find.{get, as_number, as_u64, as_array}
 use Rattle.serde_json.specs.View.{view, items_of}
 use Rattle.serde_json.specs.declared.value.Value.{Value}
-use Rattle.slotmap_core.specs.Key.{Key, key_from}
 use Rattle.slotmap_core.specs.declared.errors.JsonError.{JsonError}
 use Rattle.slotmap_core.specs.declared.errors.JsonError.TheVariants.{Shape, Memory}
 use Rattle.slotmap_core.specs.declared.errors.OutOfMemory.{OutOfMemory}

@@ -2,16 +2,13 @@
 use Rattle.std.proofs.Common.{Ok, ◌≡◌, List, Some, true, false, ◌⊎◌, inl, ap, is_some, arith}
 use Rattle.std.specs.FinMap as map
 use Rattle.std.specs.FinSet as set
-use Rattle.slotmap_core.specs.Machine.{State, IsIssued}
-use Rattle.slotmap_core.specs.Given.{Given}
-use Rattle.slotmap_core.specs.Step.{DetachStep}
+use Rattle.slotmap_core.specs.Words.{State, IsIssued, Given, DetachStep, keys_told, DetachedNotReissued, DetachedReattaches, ReattachBinds, Spares}
+use Rattle.slotmap_core.proofs.Lemmas.{keys_total, exact_keys, itself}
 use Rattle.slotmap_core.specs.declared.commands.Command.TheVariants as command
 use Rattle.slotmap_core.specs.declared.commands.DetachCommand.{DetachCommand}
 use Rattle.slotmap_core.specs.declared.commands.DetachCommand.TheVariants as detaching
 use Rattle.slotmap_core.specs.declared.commands.Reply.{Reply}
 use Rattle.slotmap_core.specs.declared.commands.Reply.TheVariants as reply
-use Rattle.slotmap_core.specs.Law.{keys_told, DetachedNotReissued, DetachedReattaches, ReattachBinds, Spares}
-use Rattle.slotmap_core.proofs.General.KeyLemmas.{keys_total, exact_keys, itself}
 use Rattle.slotmap_run.proofs.MapChanges.{changes}
 use Rattle.slotmap_run.proofs.Laws.{IsGood, good_stays, told_new, weaker}
 use Rattle.slotmap_run.proofs.StepCases.{detach_machine, detached_stays}

@@ -3,18 +3,12 @@ use Rattle.std.proofs.Common.{◌≡◌, ◌≢◌, ℕ, ◌+◌, ◌^◌, ◌<�
 use Rattle.std.specs.Ordering.{nat_cmp}
 use Rattle.std.specs.FinMap as map
 use Rattle.std.specs.FinSet as set
-use Rattle.slotmap_core.specs.Key.{Key, key_cmp}
-use Rattle.slotmap_core.specs.Content.{Content, IsContent, Stands, used, most}
-use Rattle.slotmap_core.specs.Transition.{IsNew, Inserts}
+use Rattle.slotmap_core.specs.Words.{Key, key_cmp, Content, IsContent, Stands, used, most, IsNew, Inserts, State, IsIssued, StandsIn, Fresh, after_insert}
+use Rattle.slotmap_core.specs.Words.{after_remove, after_replace, after_reserve, after_detach, after_reattach, retired, Fits, Lasts}
+use Rattle.slotmap_core.proofs.Lemmas.{keys_total, exact_keys, itself, in_inserted, offer_free, free, places_grow, new_stands, inserted_stands, inserted_vacant}
+use Rattle.slotmap_core.proofs.Lemmas.{in_retired}
 use Rattle.slotmap_core.specs.Machine as machine
-use Rattle.slotmap_core.specs.Machine.{State, IsIssued, StandsIn, Fresh, after_insert, after_remove, after_replace, after_reserve, after_detach, after_reattach, retired}
-use Rattle.slotmap_core.specs.Fit.{Fits, Lasts}
-use Rattle.slotmap_core.proofs.General.KeyLemmas.{keys_total, exact_keys, itself}
 use Rattle.slotmap_run.proofs.MapChanges.{changes}
-use Rattle.slotmap_core.proofs.General.Maps.{in_inserted}
-use Rattle.slotmap_core.proofs.Places.PlaceCount.{offer_free, free, places_grow}
-use Rattle.slotmap_core.proofs.Contents.StandsLemmas.{new_stands, inserted_stands, inserted_vacant}
-use Rattle.slotmap_core.proofs.Contents.Retired.{in_retired}
 use Rattle.slotmap_run.proofs.OtherSteps.{Moves}
 
 module _ {V : Type 0} (s : State V) (c : Content V) (fits : Fits s c) where

@@ -2,19 +2,11 @@
 use Rattle.std.proofs.Common.{◌≡◌, ℕ, ◌+◌, ◌^◌, List, [], ◌∷◌, length, refl, ap, ◌∙◌, subst, arith}
 use Rattle.std.specs.Ordering.{nat_cmp}
 use Rattle.std.specs.Prelude.{Result, IfOk, OnErr}
-use Rattle.std.proofs.lemmas.Result.{IfOk-weaker, on_err_weaker}
 use Rattle.std.specs.FinMap as map
 use Rattle.std.specs.FinSet as set
-use Rattle.slotmap_core.specs.Key.{Key, key_cmp}
-use Rattle.slotmap_core.specs.Content.{Content, places}
-use Rattle.slotmap_core.specs.Transition.{IsNew}
-use Rattle.slotmap_core.specs.Machine.{State, empty_state}
-use Rattle.slotmap_core.specs.Fit.{Fits, Lasts}
-use Rattle.slotmap_core.specs.Secondary.{Pairs}
-use Rattle.slotmap_core.specs.Joined.{Joined, RunsBeside}
-use Rattle.slotmap_core.specs.Dictionary.{Dictionary, WithDictionary, RunsByDictionary, unused}
-use Rattle.slotmap_core.specs.Run.{Run}
-use Rattle.slotmap_core.proofs.Contents.StandsLemmas.{new_stands}
+use Rattle.slotmap_core.specs.Words.{Key, key_cmp, Content, places, IsNew, State, empty_state, Fits, Lasts, Pairs, Joined, RunsBeside, Dictionary}
+use Rattle.slotmap_core.specs.Words.{WithDictionary, RunsByDictionary, unused, Run}
+use Rattle.slotmap_core.proofs.Lemmas.{IfOk-weaker, on_err_weaker, new_stands}
 use Rattle.slotmap_run.proofs.Fits.{new_fits, new_lasts}
 use Rattle.slotmap_run.proofs.Runs.{run_keeps}
 use Rattle.slotmap_run.specs.Ties.{joined, told_by, Known, JoinFollows, JoinServed}

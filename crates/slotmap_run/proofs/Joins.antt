@@ -3,22 +3,14 @@ use Rattle.std.proofs.Common.{◌≡◌, ℕ, zero, suc, ◌+◌, ◌^◌, List,
 use Rattle.std.proofs.Common.{inl, inr, refl, sym, ap, ◌∙◌}
 use Rattle.std.specs.List.{slice_get}
 use Rattle.std.specs.Prelude.{Result, Ok, Err, OnSome, IfNone, OnOk, IfErr, IsErr}
-use Rattle.std.proofs.lemmas.Option.{same_Some}
 use Rattle.std.specs.FinMap as map
-use Rattle.slotmap_core.specs.Key.{Key}
-use Rattle.slotmap_core.specs.Content.{Content, IsContent}
-use Rattle.slotmap_core.specs.Transition.{Inserts, Keeps, Removes, Detaches, Reattaches}
-use Rattle.slotmap_core.specs.Given.{Given as First}
-use Rattle.slotmap_core.specs.Machine.{State, IsIssued, StandsIn}
+use Rattle.slotmap_core.specs.Words.{Key, Content, IsContent, Inserts, Keeps, Removes, Detaches, Reattaches, Given as First, State, IsIssued, StandsIn, Fits}
+use Rattle.slotmap_core.specs.Words.{Lasts, Follows as FollowsFirst, reply_keys, Pairs, get, remove, RefusesPut, LooksAt, Joined, named, Dictionary}
+use Rattle.slotmap_core.specs.Words.{WithDictionary, noted, RepliesByDictionary, DictionaryStep, DetachDictionaryStep, MayGrow, Refuses, RefusesReattach}
+use Rattle.slotmap_core.proofs.Lemmas.{same_Some}
 use Rattle.slotmap_core.specs.Step as first_step
-use Rattle.slotmap_core.specs.Fit.{Fits, Lasts, Follows as FollowsFirst}
-use Rattle.slotmap_core.specs.Law.{reply_keys}
-use Rattle.slotmap_core.specs.Secondary.{Pairs, get, put, remove, RefusesPut}
-use Rattle.slotmap_core.specs.SecondaryStep.{LooksAt}
-use Rattle.slotmap_core.specs.Joined.{Given, Joined, named, Step, DetachStep}
-use Rattle.slotmap_core.specs.Dictionary.{Dictionary, WithDictionary, noted, RepliesByDictionary, DictionaryStep, DetachDictionaryStep}
-use Rattle.slotmap_core.specs.Call.{MayGrow}
-use Rattle.slotmap_core.specs.Refusal.{Refuses, RefusesReattach}
+use Rattle.slotmap_core.specs.Secondary.{put}
+use Rattle.slotmap_core.specs.Joined.{Given, Step, DetachStep}
 use Rattle.slotmap_core.specs.declared.errors.ReattachError.{ReattachError}
 use Rattle.slotmap_core.specs.declared.errors.ReattachError.TheVariants as again
 use Rattle.slotmap_core.specs.declared.errors.InsertError.TheVariants.{Full, Memory}

@@ -1,20 +1,14 @@
 -- What follows from a run of a machine alone.
 use Rattle.std.proofs.Common.{◌≡◌, ◌≢◌, ◌+◌, ◌≤◌, List, [], ◌∷◌, length, true, false, ◌⊎◌, inl, inr, refl, ap, arith}
-use Rattle.std.specs.List.{IsDistinct, AllByRecursion}
-use Rattle.std.specs.Ordering.{eq_by_cmp}
 use Rattle.std.specs.FinMap as map
 use Rattle.std.specs.FinSet as set
-use Rattle.slotmap_core.specs.Key.{Key, key_cmp}
-use Rattle.slotmap_core.specs.Content.{most}
-use Rattle.slotmap_core.specs.Machine.{State, IsIssued, StandsIn, Fresh, after_insert, empty_state, retired, used}
-use Rattle.slotmap_core.specs.Run.{Run, Unretiring}
-use Rattle.slotmap_core.specs.Given.{Given}
+use Rattle.slotmap_core.specs.Words.{IsDistinct, AllByRecursion, eq_by_cmp, Key, key_cmp, most, State, IsIssued, StandsIn, Fresh, after_insert, empty_state}
+use Rattle.slotmap_core.specs.Words.{retired, Run, Unretiring, Given, reply_keys, keys_told, NoKeyTwice}
+use Rattle.slotmap_core.proofs.Lemmas.{keys_total, exact_keys, itself, in_retired}
+use Rattle.slotmap_core.specs.Machine.{used}
 use Rattle.slotmap_core.specs.Step as plain
 use Rattle.slotmap_core.specs.declared.commands.Command.{Command}
 use Rattle.slotmap_core.specs.declared.commands.Reply.{Reply}
-use Rattle.slotmap_core.specs.Law.{reply_keys, keys_told, NoKeyTwice}
-use Rattle.slotmap_core.proofs.General.KeyLemmas.{keys_total, exact_keys, itself}
-use Rattle.slotmap_core.proofs.Contents.Retired.{in_retired}
 use Rattle.slotmap_run.proofs.Runs.{run_keeps}
 use Rattle.slotmap_run.proofs.MapChanges.{changes}
 use Rattle.slotmap_run.proofs.UsedCounts.{IsApart, bound_held, no_more_used, one_more_used, apart_after}

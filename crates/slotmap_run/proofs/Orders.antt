@@ -1,27 +1,19 @@
 -- The calls of a map with a stack are the steps of the machine that reuses the slot freed last.
 use Rattle.std.proofs.Common.{◌≡◌, ℕ, ◌+◌, ◌<◌, max, List, [], ◌∷◌, ◌++◌, Some, Bool, true, if◌then◌else◌, refl, ap, ◌∙◌, arith, is_some}
-use Rattle.std.specs.List.{AllByRecursion}
 use Rattle.std.specs.Ordering.{nat_cmp}
-use Rattle.std.specs.Cmp.{nat_cmp_total}
-use Rattle.std.proofs.lemmas.Map.Lookups.{exact_unsigned}
-use Rattle.std.proofs.lemmas.List.{nil_from_length}
 use Rattle.std.specs.FinMap as map
 use Rattle.std.specs.FinSet as set
-use Rattle.slotmap_core.specs.Key.{Key, key_cmp}
-use Rattle.slotmap_core.specs.Content.{Content, IsContent, IsLive, used, places, most}
-use Rattle.slotmap_core.specs.Transition.{IsNew, Inserts, Keeps, Removes, Detaches, Reattaches}
+use Rattle.slotmap_core.specs.Words.{AllByRecursion, nat_cmp_total, Key, key_cmp, Content, IsContent, IsLive, used, places, most, IsNew, Inserts, Keeps}
+use Rattle.slotmap_core.specs.Words.{Removes, Detaches, Reattaches, Lifo, offer_of, top_key, places_after, keys_told, IsRefusal, Run}
+use Rattle.slotmap_core.proofs.Lemmas.{exact_unsigned, nil_from_length, keys_total, some_is, some_entry, places_grow, kept_places, removed_places}
+use Rattle.slotmap_core.proofs.Lemmas.{detached_places, reattached_places}
 use Rattle.slotmap_core.specs.Lifo as lifo
-use Rattle.slotmap_core.specs.Lifo.{Lifo, offer_of, top_key, places_after, after_insert}
-use Rattle.slotmap_core.proofs.General.KeyLemmas.{keys_total}
-use Rattle.slotmap_core.proofs.General.Maps.{some_is, some_entry}
-use Rattle.slotmap_core.specs.Law.{keys_told, IsRefusal}
-use Rattle.slotmap_core.specs.Run.{Run}
+use Rattle.slotmap_core.specs.Lifo.{after_insert}
 use Rattle.slotmap_core.specs.declared.commands.DetachCommand.{DetachCommand}
 use Rattle.slotmap_core.specs.declared.commands.Reply.{Reply}
 use Rattle.slotmap_run.specs.Order.{IsLifo, Orders}
 use Rattle.slotmap_run.proofs.MapChanges.{changes}
 use Rattle.slotmap_run.proofs.Fits.{new_fits}
-use Rattle.slotmap_core.proofs.Places.PlaceCount.{places_grow, kept_places, removed_places, detached_places, reattached_places}
 
 module _ {V : Type 0} (reuses : Bool) (old new : Content V) (ok : IsContent reuses old) (l : Lifo) (is : IsLifo l old) where
   -- if the map isn't full, the machine's offer is the map's

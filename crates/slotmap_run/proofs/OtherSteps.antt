@@ -1,17 +1,12 @@
 -- After any other call than an insert on a content that a state fits, the machine's next state fits the new content.
 use Rattle.std.proofs.Common.{◌≡◌, ℕ, ◌+◌, ◌≤◌, Bool, inl, arith}
-use Rattle.std.proofs.lemmas.Grind.{common_steps}
 use Rattle.std.specs.FinSet as set
-use Rattle.slotmap_core.specs.Key.{Key}
-use Rattle.slotmap_core.specs.Content.{Content, IsContent, Stands, IsLive, places}
-use Rattle.slotmap_core.specs.Transition.{Keeps, Removes, Replaces, Leaves, Detaches, Reattaches}
-use Rattle.slotmap_core.specs.Machine.{State, after_remove, after_replace, after_reserve, after_detach, after_reattach, retired}
-use Rattle.slotmap_core.specs.Fit.{Fits, Lasts}
-use Rattle.slotmap_core.proofs.General.KeyLemmas.{keys_total, exact_keys}
+use Rattle.slotmap_core.specs.Words.{Key, Content, IsContent, Stands, IsLive, places, Keeps, Removes, Replaces, Leaves, Detaches, Reattaches, State}
+use Rattle.slotmap_core.specs.Words.{after_remove, after_replace, after_reserve, after_detach, after_reattach, retired, Fits, Lasts}
+use Rattle.slotmap_core.proofs.Lemmas.{common_steps, keys_total, exact_keys, Vacates, same_vacant, kept_stands, replaced_stands, detached_stands}
+use Rattle.slotmap_core.proofs.Lemmas.{reattached_stands, removed_stands, removed_vacant, left_stands, left_vacant, in_retired, kept_places, replaced_places}
+use Rattle.slotmap_core.proofs.Lemmas.{detached_places, reattached_places, removed_places}
 use Rattle.slotmap_run.proofs.MapChanges.{changes}
-use Rattle.slotmap_core.proofs.Contents.StandsLemmas.{Vacates, same_vacant, kept_stands, replaced_stands, detached_stands, reattached_stands, removed_stands, removed_vacant, left_stands, left_vacant}
-use Rattle.slotmap_core.proofs.Contents.Retired.{in_retired}
-use Rattle.slotmap_core.proofs.Places.PlaceCount.{kept_places, replaced_places, detached_places, reattached_places, removed_places}
 
 -- the state after one that fits old fits new; and if no slot is retired in n + 1 calls from old, none is in n calls from new
 pub record Moves {V : Type 0} (after : State V → State V) (old new : Content V) : Type 0 where

@@ -1,16 +1,13 @@
 -- What a reserve promised is kept.
 use Rattle.std.proofs.Common.{◌≡◌, ◌+◌, ◌≤◌, max, List, ap, arith}
-use Rattle.slotmap_core.specs.Machine.{State, used}
-use Rattle.slotmap_core.specs.Content.{most}
-use Rattle.slotmap_core.specs.Given.{Given}
-use Rattle.slotmap_core.specs.Step.{Step, DetachStep}
+use Rattle.slotmap_core.specs.Words.{State, most, Given, Step, DetachStep, NeedsRoom, DetachNeedsRoom, IsRefusal, ReserveHolds}
+use Rattle.slotmap_core.specs.Machine.{used}
 use Rattle.slotmap_core.specs.declared.commands.Command.{Command}
 use Rattle.slotmap_core.specs.declared.commands.Command.TheVariants as command
 use Rattle.slotmap_core.specs.declared.commands.DetachCommand.{DetachCommand}
 use Rattle.slotmap_core.specs.declared.commands.DetachCommand.TheVariants as detaching
 use Rattle.slotmap_core.specs.declared.commands.Reply.{Reply}
 use Rattle.slotmap_core.specs.declared.commands.Reply.TheVariants as reply
-use Rattle.slotmap_core.specs.Law.{NeedsRoom, DetachNeedsRoom, IsRefusal, ReserveHolds}
 use Rattle.slotmap_run.proofs.Laws.{IsMachine, IsGood, good_stays, still_promised}
 use Rattle.slotmap_run.proofs.Runs.{run_split, run_keeps}
 use Rattle.slotmap_run.proofs.NewRuns.{RunsWell}

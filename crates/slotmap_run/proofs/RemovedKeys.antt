@@ -1,15 +1,12 @@
 -- A key that was removed is gone.
 use Rattle.std.proofs.Common.{◌≡◌, List, Some, None, true, inl, refl, ap, is_some, arith}
 use Rattle.std.specs.FinMap as map
-use Rattle.slotmap_core.specs.Key.{Key}
-use Rattle.slotmap_core.specs.Machine.{State, after_remove}
-use Rattle.slotmap_core.specs.Given.{Given}
+use Rattle.slotmap_core.specs.Words.{Key, State, after_remove, Given, RemovedForGood}
+use Rattle.slotmap_core.proofs.Lemmas.{keys_total, exact_keys, itself}
 use Rattle.slotmap_core.specs.declared.commands.Command.{Command}
 use Rattle.slotmap_core.specs.declared.commands.Command.TheVariants as command
 use Rattle.slotmap_core.specs.declared.commands.Reply.{Reply}
 use Rattle.slotmap_core.specs.declared.commands.Reply.TheVariants as reply
-use Rattle.slotmap_core.specs.Law.{RemovedForGood}
-use Rattle.slotmap_core.proofs.General.KeyLemmas.{keys_total, exact_keys, itself}
 use Rattle.slotmap_run.proofs.MapChanges.{changes}
 use Rattle.slotmap_run.proofs.Laws.{IsMachine, Gone, IsGood, good_stays, gone_stays}
 use Rattle.slotmap_run.proofs.Runs.{run_split, run_keeps}

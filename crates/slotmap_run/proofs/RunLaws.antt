@@ -1,16 +1,9 @@
 -- The laws of the two machines, and calls on maps as a run on the contents of the maps.
 use Rattle.std.proofs.Common.{◌≡◌, List, Bool, true, is_some}
 use Rattle.std.specs.Prelude.{Result, IfOk}
-use Rattle.std.proofs.lemmas.Result.{IfOk-weaker}
-use Rattle.slotmap_core.specs.Content.{Content, IsContent}
-use Rattle.slotmap_core.specs.Transition.{IsNew}
-use Rattle.slotmap_core.specs.Machine.{State}
-use Rattle.slotmap_core.specs.Given.{Given, any_closures}
-use Rattle.slotmap_core.specs.Step.{Step, DetachStep}
-use Rattle.slotmap_core.specs.Run.{Run}
-use Rattle.slotmap_core.specs.Fit.{Follows}
-use Rattle.slotmap_core.specs.Law.{Laws, DetachLaws, LastFreedFirst, NeedsRoom, DetachNeedsRoom}
-use Rattle.slotmap_core.specs.Lifo.{no_places}
+use Rattle.slotmap_core.specs.Words.{Content, IsContent, IsNew, State, Given, any_closures, Step, DetachStep, Run, Follows, Laws, DetachLaws, LastFreedFirst}
+use Rattle.slotmap_core.specs.Words.{NeedsRoom, DetachNeedsRoom, no_places}
+use Rattle.slotmap_core.proofs.Lemmas.{IfOk-weaker}
 use Rattle.slotmap_core.specs.declared.commands.Command.{Command}
 use Rattle.slotmap_core.specs.declared.commands.DetachCommand.{DetachCommand}
 use Rattle.slotmap_core.specs.declared.commands.Reply.{Reply}

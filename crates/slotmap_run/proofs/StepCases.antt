@@ -2,16 +2,12 @@
 use Rattle.std.proofs.Common.{◌≡◌, arith, [], true, ◌⊎◌, inl, inr, refl}
 use Rattle.std.specs.FinMap as map
 use Rattle.std.specs.FinSet as set
-use Rattle.slotmap_core.specs.Key.{Key, key_cmp}
-use Rattle.slotmap_core.specs.Machine.{State}
-use Rattle.slotmap_core.specs.Given.{Given}
-use Rattle.slotmap_core.specs.Step.{Step, DetachStep}
+use Rattle.slotmap_core.specs.Words.{Key, key_cmp, State, Given, Step, DetachStep, reply_keys, Spares}
 use Rattle.slotmap_core.specs.declared.commands.Command.TheVariants as command
 use Rattle.slotmap_core.specs.declared.commands.DetachCommand.{DetachCommand}
 use Rattle.slotmap_core.specs.declared.commands.DetachCommand.TheVariants as detaching
 use Rattle.slotmap_core.specs.declared.commands.Reply.{Reply}
 use Rattle.slotmap_core.specs.declared.commands.Reply.TheVariants as reply
-use Rattle.slotmap_core.specs.Law.{reply_keys, Spares}
 use Rattle.slotmap_run.proofs.MapChanges.{changes}
 use Rattle.slotmap_run.proofs.Laws.{Binds, Shrinks, IsMachine}
 

@@ -2,22 +2,15 @@
 use Rattle.std.proofs.Common.{◌≡◌, ◌≢◌, ℕ, ◌+◌, ◌≤◌, List, [], ◌∷◌, ◌++◌, Vec, Global, Result, Ok, Err, IfOk, OnOk, IfErr, OnErr, IsErr, IsOk, Option}
 use Rattle.std.proofs.Common.{Some, None, Bool, false, refl, sym, ap, ◌∙◌, subst, arith, is_some}
 use Rattle.std.specs.Prelude.{map as list_map, MatchOption, IsSomeAnd, OnSome, IfNone, option_copied}
-use Rattle.std.specs.Fn.{Mut}
 use Rattle.std.specs.Borrow.{Bor, MutBor}
 use Rattle.std.specs.FinMap as map
 use Rattle.std.specs.FinSet as set
-use Rattle.slotmap_core.specs.Key.{Key, key_cmp}
-use Rattle.slotmap_core.specs.Content.{Content, IsContent, IsLive, used, most}
-use Rattle.slotmap_core.specs.Listing.{IsListing, IsKeyListing}
-use Rattle.slotmap_core.specs.Transition.{Inserts, Keeps, Removes, Replaces, Leaves, Detaches, Reattaches, with_value}
-use Rattle.slotmap_core.specs.Call.{MayGrow, MakesRoom}
-use Rattle.slotmap_core.specs.Refusal.{LacksRoom, Refuses, RefusesWith, RefusesCapacity, RefusesReattach}
-use Rattle.slotmap_core.specs.Retain.{Visit, CallsAt, RetainsBy}
-use Rattle.slotmap_core.specs.Given.{Given}
+use Rattle.slotmap_core.specs.Words.{Mut, Key, key_cmp, Content, IsContent, IsLive, used, most, IsListing, IsKeyListing, Inserts, Keeps, Removes, Replaces}
+use Rattle.slotmap_core.specs.Words.{Leaves, Detaches, Reattaches, with_value, MayGrow, MakesRoom, LacksRoom, Refuses, RefusesWith, RefusesCapacity}
+use Rattle.slotmap_core.specs.Words.{RefusesReattach, Visit, CallsAt, RetainsBy, Given, State, Fresh, after_insert, MayLackMemory, MayLackRoom, Step}
+use Rattle.slotmap_core.specs.Words.{DetachStep, Fits, Follows, Lifo, IsBasic, answer, after_command, IsRefusal, reply_keys}
+use Rattle.slotmap_core.proofs.Lemmas.{none_of, false_of, retained_none, retained_at}
 use Rattle.slotmap_core.specs.Machine as machine
-use Rattle.slotmap_core.specs.Machine.{State, Fresh, after_insert}
-use Rattle.slotmap_core.specs.Step.{MayLackMemory, MayLackRoom, Step, DetachStep}
-use Rattle.slotmap_core.specs.Fit.{Fits, Follows}
 use Rattle.slotmap_core.specs.declared.commands.Command.{Command}
 use Rattle.slotmap_core.specs.declared.commands.Command.TheVariants as command
 use Rattle.slotmap_core.specs.declared.commands.DetachCommand.{DetachCommand}
@@ -33,12 +26,8 @@ use Rattle.slotmap_core.specs.declared.errors.ReserveError.TheVariants as capaci
 use Rattle.slotmap_core.specs.declared.errors.ReattachError.{ReattachError}
 use Rattle.slotmap_core.specs.declared.errors.ReattachError.TheVariants as again
 use Rattle.slotmap_core.specs.declared.errors.OutOfMemory.{OutOfMemory}
-use Rattle.slotmap_core.proofs.General.Maps.{none_of, false_of}
-use Rattle.slotmap_core.proofs.Several.RetainLemmas.{retained_none, retained_at}
 use Rattle.slotmap_run.proofs.Fits.{used_same, below, offer_fresh, inserts_fresh, inserts as inserts_moves}
 use Rattle.slotmap_run.proofs.OtherSteps.{Moves, keeps, promises, replaces, detaches, reattaches, removes, leaves}
-use Rattle.slotmap_core.specs.Lifo.{Lifo, IsBasic, answer, after_command}
-use Rattle.slotmap_core.specs.Law.{IsRefusal, reply_keys}
 use Rattle.slotmap_run.specs.Order.{Served, IsLifo}
 use Rattle.slotmap_run.specs.Replies.{insert_reply_of, insert_with_reply_of, reserve_reply_of, reattach_reply_of}
 use Rattle.slotmap_run.proofs.Orders.{lifo_inserts, lifo_keeps, lifo_removes, lifo_detaches, lifo_reattaches}

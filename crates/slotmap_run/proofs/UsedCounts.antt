@@ -2,10 +2,9 @@
 use Rattle.std.proofs.Common.{◌≡◌, ◌+◌, ◌≤◌, true, ◌&&◌, ◌||◌, ◌⊎◌, arith}
 use Rattle.std.specs.FinMap as map
 use Rattle.std.specs.FinSet as set
-use Rattle.slotmap_core.specs.Key.{Key, key_cmp, is_last}
-use Rattle.slotmap_core.specs.Machine.{State, StandsIn, Fresh, after_insert, retired, used}
-use Rattle.slotmap_core.proofs.General.KeyLemmas.{keys_total}
-use Rattle.slotmap_core.proofs.Contents.Retired.{in_retired}
+use Rattle.slotmap_core.specs.Words.{Key, key_cmp, is_last, State, StandsIn, Fresh, after_insert, retired}
+use Rattle.slotmap_core.proofs.Lemmas.{keys_total, in_retired}
+use Rattle.slotmap_core.specs.Machine.{used}
 use Rattle.slotmap_run.proofs.MapChanges.{changes}
 use Rattle.slotmap_run.proofs.SetCounts.{all_keys, contains-all_keys, len-all_keys, len-subset}
 

@@ -2,14 +2,7 @@
 use Rattle.std.specs.Prelude.{◌≡◌, Bool, true, Some, IsSome}
 use Rattle.std.specs.FinMap as map
 use Rattle.std.specs.FinSet as set
-use Rattle.slotmap_core.specs.Key.{Key}
-use Rattle.slotmap_core.specs.Content.{Content, IsContent, places}
-use Rattle.slotmap_core.specs.Transition.{IsNew}
-use Rattle.slotmap_core.specs.Machine.{State}
-use Rattle.slotmap_core.specs.Given.{Given}
-use Rattle.slotmap_core.specs.Fit.{Follows}
-use Rattle.slotmap_core.specs.Lifo.{Lifo, IsBasic, after_command, answer}
-use Rattle.slotmap_core.specs.Law.{reply_keys, IsRefusal}
+use Rattle.slotmap_core.specs.Words.{Key, Content, IsContent, places, IsNew, State, Given, Follows, Lifo, IsBasic, after_command, answer, reply_keys, IsRefusal}
 use Rattle.slotmap_core.specs.declared.commands.DetachCommand.{DetachCommand}
 use Rattle.slotmap_core.specs.declared.commands.Reply.{Reply}
 

@@ -2,13 +2,7 @@
 use Rattle.std.specs.Prelude.{◌≡◌, ℕ, ◌+◌, ◌^◌, ◌<◌, Some, List}
 use Rattle.std.specs.List.{slice_get}
 use Rattle.std.specs.FinMap as map
-use Rattle.slotmap_core.specs.Key.{Key}
-use Rattle.slotmap_core.specs.Content.{Content, Stands}
-use Rattle.slotmap_core.specs.Machine.{State, IsIssued}
-use Rattle.slotmap_core.specs.Fit.{Fits, Lasts}
-use Rattle.slotmap_core.specs.Secondary.{Pairs, get}
-use Rattle.slotmap_core.specs.Joined.{Joined}
-use Rattle.slotmap_core.specs.Dictionary.{Dictionary, WithDictionary}
+use Rattle.slotmap_core.specs.Words.{Key, Content, Stands, State, IsIssued, Fits, Lasts, Pairs, get, Joined, Dictionary, WithDictionary}
 use Rattle.slotmap_run.specs.declared.joined.Beside.{Beside}
 
 module _ {K V W : Type 0} where

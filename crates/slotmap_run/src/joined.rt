@@ -1,10 +1,8 @@
 //! Runs of commands on a primary map and a secondary map beside it.
 
 ghost use Rattle.std.specs.Prelude.{◌≡◌, ◌+◌, ◌<◌, ◌≤◌, vec_len, vec_capacity, IfOk, IfErr, OnErr};
-ghost use Rattle.slotmap_core.specs.Content.{IsContent};
-ghost use Rattle.slotmap_core.specs.Fit.{Starts};
-ghost use Rattle.slotmap_core.specs.Joined.{given_joined, named, Step, DetachStep, RunsBeside};
-ghost use Rattle.slotmap_core.specs.Dictionary.{DictionaryStep, DetachDictionaryStep, RunsByDictionary};
+ghost use Rattle.slotmap_core.specs.Words.{IsContent, Starts, given_joined, named, RunsBeside, DictionaryStep, DetachDictionaryStep, RunsByDictionary};
+ghost use Rattle.slotmap_core.specs.Joined.{Step, DetachStep};
 ghost use Rattle.slotmap_run.specs.Replies.{joined_reattach_reply_of};
 ghost use Rattle.slotmap_run.specs.Ties.{JoinServed};
 

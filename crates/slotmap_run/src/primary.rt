@@ -1,16 +1,8 @@
 //! Runs of commands on primary maps, which hand out keys.
 
 ghost use Rattle.std.specs.Prelude.{◌≡◌, ◌^◌, ◌<◌, length, Ok, IfOk, IfErr, OnErr, IsErr};
-ghost use Rattle.std.specs.Fn.{FnReturns};
-ghost use Rattle.slotmap_core.specs.Content.{IsContent};
-ghost use Rattle.slotmap_core.specs.Transition.{Inserts};
-ghost use Rattle.slotmap_core.specs.Call.{MayGrow};
-ghost use Rattle.slotmap_core.specs.Refusal.{RefusesWith};
-ghost use Rattle.slotmap_core.specs.Given.{given, any_closures};
-ghost use Rattle.slotmap_core.specs.Step.{Step, DetachStep};
-ghost use Rattle.slotmap_core.specs.Run.{Unretiring};
-ghost use Rattle.slotmap_core.specs.Fit.{Starts, RunFollows, RunsAnew, Continues};
-ghost use Rattle.slotmap_core.specs.Law.{Laws, DetachLaws, LastFreedFirst};
+ghost use Rattle.slotmap_core.specs.Words.{FnReturns, IsContent, Inserts, MayGrow, RefusesWith, given, any_closures, Step, DetachStep, Unretiring, Starts};
+ghost use Rattle.slotmap_core.specs.Words.{RunFollows, RunsAnew, Continues, Laws, DetachLaws, LastFreedFirst};
 ghost use Rattle.slotmap_core.specs.declared.commands.DetachCommand.TheVariants as detaching;
 ghost use Rattle.slotmap_run.specs.Order.{Served};
 

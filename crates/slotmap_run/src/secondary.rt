@@ -1,10 +1,8 @@
 //! Runs of commands on secondary maps: the maps that hold values under the keys of another map.
 
 ghost use Rattle.std.specs.Prelude.{◌≡◌, IfOk, IfErr, OnErr};
-ghost use Rattle.std.specs.List.{AllByRecursion};
-ghost use Rattle.slotmap_core.specs.Run.{Run};
-ghost use Rattle.slotmap_core.specs.SecondaryStep.{Step, given_secondary};
-ghost use Rattle.slotmap_core.specs.SecondaryLaw.{HadMemory, Shows, seen_by, EachAgrees};
+ghost use Rattle.slotmap_core.specs.Words.{AllByRecursion, Run, given_secondary, HadMemory, Shows, seen_by, EachAgrees};
+ghost use Rattle.slotmap_core.specs.SecondaryStep.{Step};
 
 use crate::given::GivenLook;
 use crate::serves::{Serves, run_all};

@@ -1,9 +1,7 @@
 //! The one loop of all runs.
 
 ghost use Rattle.std.specs.Prelude.{◌≡◌, ℕ, ◌+◌, ◌≤◌, [], vec_capacity, length, IfOk, IfErr, OnErr};
-ghost use Rattle.slotmap_core.specs.Content.{IsContent};
-ghost use Rattle.slotmap_core.specs.Run.{Run};
-ghost use Rattle.slotmap_core.specs.Fit.{Starts};
+ghost use Rattle.slotmap_core.specs.Words.{IsContent, Run, Starts};
 ghost use Rattle.slotmap_run.specs.Order.{StartsNew};
 
 use slotmap_core::keys::Key;

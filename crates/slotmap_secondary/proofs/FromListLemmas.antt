@@ -1,24 +1,15 @@
 -- What a map holds that is read from a list of slots.
 use Rattle.std.proofs.Common.{◌≡◌, ℕ, ◌+◌, ◌<◌, ◌%◌, ◌^◌, List, [], ◌∷◌, ◌++◌, length, map as list_map, slice_get, Option, None, Some, option_map, is_some, true, refl, sym, ap, subst, ◌∙◌, arith}
-use Rattle.std.proofs.lemmas.Option.{slice_get_within, slice_get_past, slice_get-map}
-use Rattle.std.proofs.lemmas.List.{length-map, map_push}
-use Rattle.std.proofs.lemmas.Cmp.{nat_cmp_total}
-use Rattle.std.proofs.lemmas.Map.Lookups.{exact_unsigned}
 use Rattle.std.specs.Ordering.{nat_cmp}
 use Rattle.std.specs.FinMap as map
-use Rattle.slotmap_core.specs.Secondary.{keyed}
-use Rattle.slotmap_core.specs.FromList.{start_live}
-use Rattle.slotmap_core.specs.SecondaryWritten.{slot_pair}
-use Rattle.slotmap_core.specs.Accepted.{Accepts, AllFitBelow}
+use Rattle.slotmap_core.specs.Words.{keyed, start_live, slot_pair, Accepts, AllFitBelow}
+use Rattle.slotmap_core.proofs.Lemmas.{slice_get_within, slice_get_past, slice_get-map, length-map, map_push, nat_cmp_total, exact_unsigned, len_inserted}
+use Rattle.slotmap_core.proofs.Lemmas.{mapped, gather-push_put, contents_by_place}
 use Rattle.slotmap_core.specs.declared.serial.SlotRecord.{SlotRecord}
-use Rattle.slotmap_core.proofs.General.Maps.{len_inserted}
-use Rattle.slotmap_core.proofs.General.ListLemmas.{mapped}
-use Rattle.slotmap_core.proofs.General.GatherLemmas.{gather-push_put}
 use Rattle.slotmap_secondary.specs.declared.slot.Slot.{Slot}
 use Rattle.slotmap_secondary.specs.declared.slot.Slot.TheVariants.{Vacant, Occupied}
 use Rattle.slotmap_secondary.specs.Slots.{pair_at, entry_in, pairs_of, IsSlotAt, IsSound}
 use Rattle.slotmap_secondary.proofs.SlotLemmas.{laws, entry_fits, get-pairs, pairs-push}
-use Rattle.slotmap_core.proofs.SecondaryMaps.SecondaryWrittenLemmas.{contents_by_place}
 
 pub pairs-none : (V : Type 0) → map.len (pairs_of {V = V} []) ≡ 0
 unfolding pairs_of

@@ -1,10 +1,8 @@
 -- What a put after the last slot makes of the map.
 use Rattle.std.proofs.Common.{◌≡◌, ◌≢◌, ℕ, ◌+◌, ◌<◌, ◌≤◌, ◌^◌, cond, List, ◌∷◌, [], ◌++◌, length, None, ne_eqb, eq-eqb, refl, sym, ap, subst, ◌∙◌, arith}
-use Rattle.std.proofs.lemmas.List.{length_push}
 use Rattle.std.specs.FinMap as map
-use Rattle.slotmap_core.specs.Key.{Key, IsKey, null_key}
-use Rattle.slotmap_core.specs.Secondary.{no_entry, vacant, entry_at, entry, bind}
-use Rattle.slotmap_core.proofs.General.ListLemmas.{none_from}
+use Rattle.slotmap_core.specs.Words.{Key, IsKey, null_key, no_entry, vacant, entry_at, entry, bind}
+use Rattle.slotmap_core.proofs.Lemmas.{length_push, none_from}
 use Rattle.slotmap_secondary.specs.declared.slot.Slot.{Slot}
 use Rattle.slotmap_secondary.specs.declared.slot.Slot.TheVariants.{Occupied}
 use Rattle.slotmap_secondary.specs.Content.{Content, IsContent}

@@ -2,7 +2,7 @@
 
 ghost use Rattle.std.specs.Prelude.{◌≡◌, ◌<◌, None, IfSome, IfNone, true};
 ghost use Rattle.std.specs.FinMap as map;
-ghost use Rattle.slotmap_core.specs.Secondary.{contains_key, entry};
+ghost use Rattle.slotmap_core.specs.Words.{contains_key, entry};
 ghost use Rattle.slotmap_secondary.specs.Content.{IsContent};
 
 use crate::SecondaryMap;

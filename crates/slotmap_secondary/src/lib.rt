@@ -21,8 +21,7 @@
 
 ghost use Rattle.std.specs.Prelude.{◌≡◌, ◌≤◌, ◌+◌, ◌↔◌, IsTrue, IfOk, OnOk, IfErr};
 ghost use Rattle.std.specs.FinMap as map;
-ghost use Rattle.slotmap_core.specs.Content.{most};
-ghost use Rattle.slotmap_core.specs.Refusal.{RefusesCapacity};
+ghost use Rattle.slotmap_core.specs.Words.{most, RefusesCapacity};
 ghost use Rattle.slotmap_secondary.specs.Content.{IsContent, SetsCapacity};
 
 mod access;

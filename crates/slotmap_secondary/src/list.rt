@@ -2,11 +2,7 @@
 
 ghost use Rattle.std.specs.Prelude.{◌≡◌, length, IfOk, IsOk, IfErr};
 ghost use Rattle.std.specs.FinMap as map;
-ghost use Rattle.slotmap_core.specs.Clones.{ClonesEqual, IsCloneOf};
-ghost use Rattle.slotmap_core.specs.Key.{Key};
-ghost use Rattle.slotmap_core.specs.Secondary.{get, keyed};
-ghost use Rattle.slotmap_core.specs.FromList.{start_live};
-ghost use Rattle.slotmap_core.specs.Accepted.{Accepts, RefusesStart};
+ghost use Rattle.slotmap_core.specs.Words.{ClonesEqual, IsCloneOf, Key, get, keyed, start_live, Accepts, RefusesStart};
 ghost use Rattle.slotmap_secondary.specs.Content.{IsContent};
 ghost use Rattle.slotmap_secondary.specs.Written.{Writes, WritesClones};
 

@@ -1,7 +1,7 @@
 //! The calls that remove one value.
 
 ghost use Rattle.std.specs.Prelude.{◌≡◌, ◌<◌, Some, true};
-ghost use Rattle.slotmap_core.specs.Secondary.{get, contains_key, remove};
+ghost use Rattle.slotmap_core.specs.Words.{get, contains_key, remove};
 ghost use Rattle.slotmap_secondary.specs.Content.{IsContent};
 
 use crate::SecondaryMap;

@@ -1,18 +1,11 @@
 -- What a loop over the live keys of a map knows of those ahead of it.
 -- For the crates of maps.
 use Rattle.std.proofs.Common.{◌≡◌, ℕ, ◌-◌, ◌%◌, ◌<◌, ◌≤◌, ◌↔◌, true, List, length, get_or, Some, is_some, slice_get, option_map, refl, sym, ap, ◌∙◌, inl, arith}
-use Rattle.std.proofs.lemmas.List.{length-map}
-use Rattle.std.proofs.lemmas.Option.{slice_get-map, get_or_from_slice_get, slice_get-get_or}
+use Rattle.slotmap_core.proofs.Lemmas.{length-map, slice_get-map, get_or_from_slice_get, slice_get-get_or}
 use native.Mathlib.Decide.{dec_lt}
 use Rattle.std.specs.FinMap as map
-use Rattle.slotmap_core.specs.Key.{Key}
-use Rattle.slotmap_core.specs.Content.{Content, IsContent, IsLive, places}
-use Rattle.slotmap_core.specs.StackMap.{content_of_places}
-use Rattle.slotmap_core.specs.Transition.{Removes, with_value}
-use Rattle.slotmap_core.proofs.General.KeyLemmas.{keys_total}
-use Rattle.slotmap_core.proofs.Contents.IndexLemmas.{get-remove_other}
-use Rattle.slotmap_core.proofs.Contents.LeaveLemmas.{same_live}
-use Rattle.slotmap_core.proofs.Places.PlaceCount.{removed_places}
+use Rattle.slotmap_core.specs.Words.{Key, Content, IsContent, IsLive, places, content_of_places, Removes, with_value}
+use Rattle.slotmap_core.proofs.Lemmas.{keys_total, get-remove_other, same_live, removed_places}
 use Rattle.slotmap_slots.specs.Ahead.{AreOddsOf}
 use Rattle.slotmap_slots.specs.Columns.{AllEven, IsNextOdd}
 use Rattle.slotmap_slots.specs.Odds.{IsAhead}

@@ -1,8 +1,7 @@
 -- Three vectors as one list of slots.
 -- For this crate alone.
 use Rattle.std.proofs.Common.{◌≡◌, ℕ, zero, suc, ◌<◌, ◌≤◌, ◌%◌, List, [], ◌∷◌, ◌++◌, length, set, slice_get, get_or, Option, None, Some, IsSome, option_and_then, refl, sym, ap, subst, ◌∙◌, arith}
-use Rattle.std.proofs.lemmas.Grind.{get_or_default_zero}
-use Rattle.std.proofs.lemmas.Option.{slice_get_read, slice_get_past}
+use Rattle.slotmap_core.proofs.Lemmas.{get_or_default_zero, slice_get_read, slice_get_past}
 use Rattle.slotmap_slots.specs.Slot.{SlotList, versions_of, version_at, usage_at, next_at, next_of, payload_at, with_payload}
 use Rattle.slotmap_slots.specs.Columns.{zip_slots, IsColumns}
 use Rattle.slotmap_slots.specs.Numbers.{use_of, uses_of}

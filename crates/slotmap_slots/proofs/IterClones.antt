@@ -1,11 +1,9 @@
 -- An iterator over slots by value, and one over clones of the values.
 -- For this crate alone.
 use Rattle.std.proofs.Common.{ℕ, ◌+◌, List, [], ◌∷◌, drop, Option, None, Some, refl, sym, ◌∙◌, arith}
-use Rattle.std.specs.List.{AllZip}
-use Rattle.slotmap_core.specs.Clones.{IsCloneOf, AreClones}
+use Rattle.slotmap_core.specs.Words.{AllZip, IsCloneOf, AreClones}
+use Rattle.slotmap_core.proofs.Lemmas.{zip_length, zip_left, zip_drop, clone_is_some}
 use Rattle.slotmap_slots.specs.Iter.{pairs_from, pairs_left, IsIter}
-use Rattle.slotmap_core.proofs.General.ListLemmas.{zip_length, zip_left, zip_drop}
-use Rattle.slotmap_core.proofs.Places.PlaceClones.{clone_is_some}
 
 module _ {V : Type 0} (is_clone : V → V → Type 0) where
   pairs_from-clones : (i : ℕ) (versions : List ℕ) (xs ys : List (Option V)) → AllZip (IsCloneOf is_clone) xs ys → AreClones is_clone (pairs_from i versions xs) (pairs_from i versions ys)

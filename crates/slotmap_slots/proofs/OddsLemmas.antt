@@ -1,13 +1,12 @@
 -- Chunks of versions, whose odd ones are bits.
 -- For this crate alone.
 use Rattle.std.proofs.Common.{◌≡◌, ◌≢◌, ℕ, zero, suc, ◌+◌, ◌-◌, ◌*◌, ◌/◌, ◌%◌, ◌^◌, ◌<◌, ◌≤◌, List, cond, eqb, length, get_or, slice_get, Some, refl, sym, ap, ◌∙◌, arith, w64, bit_and, bit_or, min, max, subst}
-use Rattle.std.specs.Int.{bit_at}
+use Rattle.slotmap_core.specs.Words.{bit_at}
 use native.Mathlib.Decide.{dec_lt}
 use lib.Bits.{and_mask}
 use lib.ListN.{get_or-eq_default}
-use Rattle.std.proofs.lemmas.Nat.Bits.{bit_at-zero, bit_at-suc, bit_at_lowest, bit_at_and, bit_at_set_same, bit_at_set_other, bit_at_ones}
-use Rattle.std.proofs.lemmas.Option.{get_or_from_slice_get, slice_get_within}
-use Rattle.slotmap_core.proofs.General.ListLemmas.{found_within}
+use Rattle.slotmap_core.proofs.Lemmas.{bit_at-zero, bit_at-suc, bit_at_lowest, bit_at_and, bit_at_set_same, bit_at_set_other, bit_at_ones}
+use Rattle.slotmap_core.proofs.Lemmas.{get_or_from_slice_get, slice_get_within, found_within}
 use Rattle.slotmap_slots.specs.Columns.{AllEven, IsNextOdd}
 use Rattle.slotmap_slots.specs.Odds.{AreOdd, AllOdd, IsRun, IsFound, HasOdds, IsAhead}
 

@@ -1,25 +1,21 @@
 -- What an iterator over the vectors of slots yields.
 -- For this crate alone.
 use Rattle.std.proofs.Common.{◌≡◌, ℕ, zero, suc, ◌+◌, ◌-◌, ◌<◌, ◌≤◌, ◌%◌, ◌^◌, List, [], ◌∷◌, length, set, drop, slice_get, get_or, Option, Some, None, IsSome, ◌↔◌, refl, sym, ap, subst, ◌∙◌, arith}
-use Rattle.std.proofs.lemmas.Option.{same_Some, slice_get_within, get_or_from_slice_get}
-use Rattle.std.proofs.lemmas.List.{length-set, drop_more, drop_all, drop-set-lt}
+use Rattle.std.proofs.lemmas.List.{length-set, drop-set-lt}
+use Rattle.slotmap_core.proofs.Lemmas.{same_Some, slice_get_within, get_or_from_slice_get, drop_more, drop_all}
 use native.Mathlib.Decide.{dec_lt}
 use Rattle.std.specs.FinMap as map
 use Rattle.slotmap_slots.specs.Columns.{zip_slots, AllEven, IsNextOdd}
-use Rattle.slotmap_core.specs.Key.{IsKey}
+use Rattle.slotmap_core.specs.Words.{IsKey, Vacant, live}
+use Rattle.slotmap_core.proofs.Lemmas.{slice_get-set_other, found_within, key, entries_from, entries-live}
 use Rattle.slotmap_slots.specs.Odds.{IsAhead}
-use Rattle.slotmap_core.specs.Places.{Vacant, live}
 use Rattle.slotmap_slots.specs.Slot.{Slot, IsSlot, IsSound, place_by, places_of}
 use Rattle.slotmap_slots.specs.Iter.{pairs_from, pairs_left, IsIter}
 use Rattle.slotmap_slots.specs.declared.layout.Use.{Use}
 use Rattle.slotmap_slots.specs.declared.layout.Use.TheVariants.{InUse, Free, Detached, Retired}
 use Rattle.slotmap_slots.proofs.ColumnLemmas.{zip-length, zip-at}
-use Rattle.slotmap_core.proofs.General.GatherLemmas.{slice_get-set_other}
-use Rattle.slotmap_core.proofs.General.ListLemmas.{found_within}
 use Rattle.slotmap_slots.proofs.OddsLemmas.{ahead_start}
-use Rattle.slotmap_core.proofs.Places.PlacesLemmas.{key}
 use Rattle.slotmap_slots.proofs.SlotLemmas.{slots_fit}
-use Rattle.slotmap_core.proofs.Places.InOrderLemmas.{entries_from, entries-live}
 
 module _ {V : Type 0} where
   -- the pairs are the entries of the places

@@ -2,17 +2,13 @@
 -- For this crate alone.
 use Rattle.std.proofs.Common.{◌≡◌, ◌≢◌, ℕ, zero, suc, ◌+◌, ◌-◌, ◌<◌, ◌≤◌, ◌^◌, ◌%◌, true, List, [], ◌∷◌, ◌++◌, length, set, slice_get, Some}
 use Rattle.std.proofs.Common.{is_some, refl, sym, ap, subst, ◌∙◌, arith}
-use Rattle.std.proofs.lemmas.List.{length-set, length_push}
+use Rattle.std.proofs.lemmas.List.{length-set}
 use Rattle.std.specs.FinMap as map
 use Rattle.std.specs.FinSet as set
-use Rattle.slotmap_core.specs.Key.{Key}
-use Rattle.slotmap_core.specs.Content.{Content, IsContent, IsLive, IsDetached, places, used, most}
-use Rattle.slotmap_core.specs.Call.{MakesRoom, StaysValid}
-use Rattle.slotmap_core.specs.StackMap.{content_of_places, used_places}
+use Rattle.slotmap_core.specs.Words.{Key, Content, IsContent, IsLive, IsDetached, places, used, most, MakesRoom, StaysValid, content_of_places, used_places}
+use Rattle.slotmap_core.proofs.Lemmas.{length_push, key, keeps}
 use Rattle.slotmap_slots.specs.Slot.{Slot, full, version_at, payload_at, NoneLive, with_payload, places_of, IsSound, vacancies, IsSettled, map_of}
-use Rattle.slotmap_core.proofs.Places.PlacesLemmas.{key}
 use Rattle.slotmap_slots.proofs.SlotLemmas.{Present, present, count_positive, live_slot, get-live_slot, rewritten, reattached, with_payload-is, valid, slots_fit, used_places-slots, free_below}
-use Rattle.slotmap_core.proofs.Contents.StepLemmas.{keeps}
 use Rattle.slotmap_slots.proofs.SlotGrowth.{PresentDetached, present_detached, some_free}
 
 module _ {P : Type 0} {slots : List (Slot P)} {fits head aside count : ℕ} (settled : IsSettled slots fits head aside count) {now : Content P}

@@ -3,25 +3,15 @@
 use Rattle.std.proofs.Common.{⊎_elim, true, false, ◌==◌, ◌≡◌, ◌≢◌, ℕ, ◌+◌, ◌-◌, ◌^◌, ◌<◌, List, [], ◌∷◌, ◌++◌, length, set, slice_get, Some, None}
 use Rattle.std.proofs.Common.{option_map, option_and_then, refl, sym, ap, subst, ◌∙◌, inl, ◌↔◌, arith}
 use Rattle.std.proofs.Math.Nat.{eq-zero-or-pos}
-use Rattle.std.proofs.lemmas.List.{length-map, map_push}
-use Rattle.std.proofs.lemmas.Option.{slice_get_within, same_Some}
 use Rattle.std.specs.FinMap as map
 use Rattle.std.specs.FinSet as set
-use Rattle.slotmap_core.specs.Key.{Key}
-use Rattle.slotmap_core.specs.Content.{most}
-use Rattle.slotmap_core.specs.Transition.{Inserts}
-use Rattle.slotmap_core.specs.Places.{Live, Detached as DetachedPlace, Vacant, live, detached}
-use Rattle.slotmap_core.specs.StackMap.{content_of_places, offer, vacant_version, used_places, inserted, IsOn, IsVersion, IsStacked}
+use Rattle.slotmap_core.specs.Words.{Key, most, Inserts, Live, Detached as DetachedPlace, Vacant, live, detached, content_of_places, offer, vacant_version}
+use Rattle.slotmap_core.specs.Words.{used_places, inserted, IsOn, IsVersion, IsStacked}
+use Rattle.slotmap_core.proofs.Lemmas.{length-map, map_push, slice_get_within, same_Some, found_within, mapped, false_of, at_push, key, contains-detached}
+use Rattle.slotmap_core.proofs.Lemmas.{len-live-push, kept_at, IsStacked-filled, IsStacked-pushed, IsStacked-sentinel, live-sentinel, inserts}
 use Rattle.slotmap_slots.specs.Slot.{Slot, full, empty, version_at, usage_at, next_at, next_of, version_before, place_of, places_of, free_indices, IsFreeList, IsSlot, IsSound, map_of}
 use Rattle.slotmap_slots.specs.declared.layout.Use.{Use}
 use Rattle.slotmap_slots.specs.declared.layout.Use.TheVariants.{Free, Detached}
-use Rattle.slotmap_core.proofs.General.ListLemmas.{found_within, mapped}
-use Rattle.slotmap_core.proofs.General.Maps.{false_of}
-use Rattle.slotmap_core.proofs.General.GatherLemmas.{at_push}
-use Rattle.slotmap_core.proofs.Places.PlacesLemmas.{key, contains-detached, len-live-push}
-use Rattle.slotmap_core.proofs.Contents.ContentLemmas.{kept_at}
-use Rattle.slotmap_core.proofs.Places.StackLemmas.{IsStacked-filled, IsStacked-pushed, IsStacked-sentinel, live-sentinel}
-use Rattle.slotmap_core.proofs.Contents.StepLemmas.{inserts}
 use Rattle.slotmap_slots.proofs.SlotLemmas.{Written, slot_at, is_empty, IsSlot-full, place_at, IsFreeList-push, IsFreeList-set, free_indices-stack, stacked_free, written}
 
 module _ {P : Type 0} where

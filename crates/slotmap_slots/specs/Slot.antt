@@ -1,10 +1,7 @@
 -- The slots of a map: what code keeps at each index. No public clause of a map cites this module.
 use Rattle.std.specs.Prelude.{◌≡◌, ◌≢◌, ◌↔◌, ℕ, zero, suc, ◌+◌, ◌-◌, ◌%◌, ◌^◌, ◌<◌, ◌≤◌, List, [], ◌∷◌, length, map as list_map, Option, Some, None, IsSome, option_map, option_and_then, slice_get}
 use Rattle.std.specs.FinMap as map
-use Rattle.std.specs.List.{AllZip}
-use Rattle.slotmap_core.specs.Clones.{IsCloneOf}
-use Rattle.slotmap_core.specs.Places.{Place, Live, Detached as DetachedPlace, Vacant, Retired as RetiredPlace, live}
-use Rattle.slotmap_core.specs.StackMap.{StackMap, IsStacked}
+use Rattle.slotmap_core.specs.Words.{AllZip, IsCloneOf, Place, Live, Detached as DetachedPlace, Vacant, Retired as RetiredPlace, live, StackMap, IsStacked}
 use Rattle.slotmap_slots.specs.declared.layout.Use.{Use}
 use Rattle.slotmap_slots.specs.declared.layout.Use.TheVariants.{InUse, Free, Detached, Retired}
 

@@ -1,8 +1,6 @@
 -- What the slots of a map end as, once a `&mut` to a payload was returned.
-use Rattle.std.specs.Borrow.{Lends, Fml, RattleType, MutBor}
-use Rattle.slotmap_core.specs.Key.{Key}
-use Rattle.slotmap_core.specs.Content.{Content}
-use Rattle.slotmap_core.specs.Transition.{with_value}
+use Rattle.std.specs.Borrow.{MutBor}
+use Rattle.slotmap_core.specs.Words.{Lends, Fml, RattleType, Key, Content, with_value}
 use Rattle.slotmap_slots.specs.declared.layout.Layout.{Ghosts}
 use Rattle.slotmap_slots.specs.contracts.slots.Slots.{the_row}
 

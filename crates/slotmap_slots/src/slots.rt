@@ -6,10 +6,7 @@
 
 ghost use Rattle.std.specs.Prelude.{◌≡◌, [], Some, ◌+◌, ◌<◌, ◌≤◌, ◌^◌, IfOk, IfErr, IsOk, IsTrue, true};
 ghost use Rattle.std.specs.FinMap as map;
-ghost use Rattle.slotmap_core.specs.Content.{IsContent, used, most, places};
-ghost use Rattle.slotmap_core.specs.Transition.{IsNew};
-ghost use Rattle.slotmap_core.specs.Refusal.{RefusesCapacity};
-ghost use Rattle.slotmap_core.specs.Call.{MakesRoom};
+ghost use Rattle.slotmap_core.specs.Words.{IsContent, used, most, places, IsNew, RefusesCapacity, MakesRoom};
 
 use crate::layout::{Layout, Use};
 use slotmap_core::errors::ReserveError;
@@ -43,8 +40,7 @@ pub struct Slots<P, L: Layout<P>> {
 
 impl<P, L: Layout<P>> Model for Slots<P, L> {
     ghost use Rattle.std.specs.Prelude.{◌-◌};
-    ghost use Rattle.slotmap_core.specs.Content.{Content, content_code};
-    ghost use Rattle.slotmap_core.specs.StackMap.{content_of_places};
+    ghost use Rattle.slotmap_core.specs.Words.{Content, content_code, content_of_places};
     ghost use Rattle.slotmap_slots.specs.Slot.{map_of, vacancies, IsSettled};
 
     ghost Value = { Content P };

@@ -1,24 +1,17 @@
 -- The entries of a hash map as a finite map.
 use Rattle.std.proofs.Common.{◌≢◌, ne_eqb, eq-eqb}
 use Rattle.std.proofs.Common.{◌≡◌, ℕ, ◌+◌, true, false, cond, nat_eq, List, [], ◌∷◌, length, Option, Some, None, is_some, refl, sym, ap, subst, ◌∙◌, nat_cmp, arith, inl, inr, MutBor, Result, Ok, OnOk, ◌≤◌}
-use Rattle.std.specs.Option.{option_copied_mut}
-use Rattle.std.specs.Ordering.{eq_by_cmp}
-use Rattle.std.specs.Cmp.{nat_cmp_total, unsigned_tied, nat_eq_equiv}
-use Rattle.std.specs.List.{IsDistinct}
 use Rattle.std.specs.FinMap as map
 use Rattle.std.specs.FinMap.Entries.{find}
-use Rattle.std.specs.HashMap.{HashMap, hash_map_len, spare, WritesThrough}
-use Rattle.std.specs.Map.{lookup, keys_of}
-use Rattle.std.proofs.lemmas.Map.Lookups.{exact_unsigned}
-use Rattle.std.proofs.lemmas.Map.{lookup-none}
-use Rattle.std.proofs.lemmas.Map.Entries.{none_past_head}
-use Rattle.slotmap_core.proofs.General.Maps.{len_inserted, get_after_insert, insert_same}
-use Rattle.slotmap_core.specs.Key.{Key, IsKey}
-use Rattle.slotmap_core.specs.Secondary.{Pairs, IsSecondary, is_null, bind, put, get, contains_key, value_at}
+use Rattle.std.specs.HashMap.{HashMap, hash_map_len}
+use Rattle.slotmap_core.specs.Words.{option_copied_mut, eq_by_cmp, nat_cmp_total, unsigned_tied, nat_eq_equiv, IsDistinct, spare, WritesThrough, lookup}
+use Rattle.slotmap_core.specs.Words.{keys_of, Key, IsKey, Pairs, IsSecondary, is_null, bind, get, contains_key, value_at}
+use Rattle.slotmap_core.proofs.Lemmas.{exact_unsigned, lookup-none, none_past_head, len_inserted, get_after_insert, insert_same, get_here, IsSecondary-empty}
+use Rattle.slotmap_core.proofs.Lemmas.{IsSecondary-bind, IsSecondary-put, IsSecondary-remove, same_version, not_null_at, put_at}
+use Rattle.slotmap_core.specs.Secondary.{put}
 use Rattle.slotmap_sparse.specs.Content.{Content, IsContent, with_value, room}
 use Rattle.slotmap_sparse.specs.Found.{put_over}
 use Rattle.slotmap_sparse.specs.Entries.{pairs_of, content_of, IsSound}
-use Rattle.slotmap_core.proofs.SecondaryMaps.AtIndexLemmas.{get_here, IsSecondary-empty, IsSecondary-bind, IsSecondary-put, IsSecondary-remove, same_version, not_null_at, put_at}
 
 turned : (k q : ℕ) → nat_eq k q ≡ eq_by_cmp nat_cmp q k
 turned k q = nat_eq_equiv.symm k q ∙ sym (unsigned_tied q k)

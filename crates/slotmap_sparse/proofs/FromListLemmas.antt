@@ -1,21 +1,12 @@
 -- How many slots a map is written as, and what a map holds that reads a list slot by slot.
 use Rattle.std.proofs.Common.{◌≡◌, ℕ, ◌+◌, ◌-◌, ◌<◌, ◌≤◌, ◌^◌, ◌⊎◌, inl, inr, true, List, [], ◌∷◌, ◌++◌, length, slice_get}
 use Rattle.std.proofs.Common.{None, is_some, eq-eqb, refl, sym, ap, subst, ◌∙◌, nat_cmp, arith}
-use Rattle.std.specs.Cmp.{nat_cmp_total}
-use Rattle.std.proofs.lemmas.Map.Lookups.{exact_unsigned}
-use Rattle.std.proofs.lemmas.Option.{slice_get_past}
 use Rattle.std.specs.FinMap as map
 use Rattle.std.specs.FinSet as set
-use Rattle.slotmap_core.specs.Key.{Key, key_cmp}
-use Rattle.slotmap_core.specs.Listing.{IsKeyListing}
-use Rattle.slotmap_core.specs.Secondary.{Pairs, contains_key, keyed}
-use Rattle.slotmap_core.specs.SecondaryWritten.{slot_pair}
+use Rattle.slotmap_core.specs.Words.{nat_cmp_total, Key, key_cmp, IsKeyListing, Pairs, contains_key, keyed, slot_pair}
+use Rattle.slotmap_core.proofs.Lemmas.{exact_unsigned, slice_get_past, keys_total, exact_keys, tied, untied, contains-keyed, index_stands, get_here, some_is}
+use Rattle.slotmap_core.proofs.Lemmas.{item_after_insert, item_inserted, item_still, slice_get_push, slice_get_push_other}
 use Rattle.slotmap_core.specs.declared.serial.SlotRecord.{SlotRecord}
-use Rattle.slotmap_core.proofs.General.KeyLemmas.{keys_total, exact_keys, tied, untied}
-use Rattle.slotmap_core.proofs.SecondaryMaps.KeyedLemmas.{contains-keyed}
-use Rattle.slotmap_core.proofs.SecondaryMaps.AtIndexLemmas.{index_stands, get_here}
-use Rattle.slotmap_core.proofs.General.Maps.{some_is, item_after_insert, item_inserted, item_still}
-use Rattle.slotmap_core.proofs.General.GatherLemmas.{slice_get_push, slice_get_push_other}
 use Rattle.slotmap_sparse.specs.Written.{ReachesLargest, with_slot}
 
 module _ {V : Type 0} where

@@ -1,22 +1,12 @@
 -- The entries of a hash map as keys with their values.
 use Rattle.std.proofs.Common.{◌≡◌, ℕ, true, false, cond, nat_eq, eqb-true, List, [], ◌∷◌, length, Some, None, refl, sym, ap, ◌∙◌, nat_cmp, arith}
-use Rattle.std.specs.Iterator.{YieldsFirstBy}
 use Rattle.std.specs.FinSet as set
-use Rattle.std.specs.List.{IsDistinct, AllByRecursion}
-use Rattle.std.specs.Cmp.{nat_eq_equiv, unsigned_tied}
 use Rattle.std.specs.FinMap as map
 use Rattle.std.specs.FinMap.Entries.{find}
-use Rattle.std.specs.Map.{lookup, keys_of}
-use Rattle.std.proofs.lemmas.List.{length-map}
-use Rattle.std.proofs.lemmas.Option.{same_Some}
-use Rattle.std.proofs.lemmas.Map.{lookup-none}
-use Rattle.std.proofs.lemmas.Map.Entries.{none_past_head, lookup_head}
-use Rattle.slotmap_core.specs.Key.{Key, key_cmp}
-use Rattle.slotmap_core.specs.Listing.{IsListing, IsKeyListing}
-use Rattle.slotmap_core.specs.Secondary.{Pairs, IsSecondary, keyed_entry, keyed, contains_key, value_at}
-use Rattle.slotmap_core.proofs.General.KeyLemmas.{keys_total, exact_keys}
-use Rattle.slotmap_core.proofs.SecondaryMaps.KeyedLemmas.{tie_parts, get-keyed, contains-keyed, len-keyed}
-use Rattle.slotmap_core.proofs.General.Maps.{item_inserted}
+use Rattle.slotmap_core.specs.Words.{YieldsFirstBy, IsDistinct, AllByRecursion, nat_eq_equiv, unsigned_tied, lookup, keys_of, Key, key_cmp, IsListing}
+use Rattle.slotmap_core.specs.Words.{IsKeyListing, Pairs, IsSecondary, keyed_entry, keyed, contains_key, value_at}
+use Rattle.slotmap_core.proofs.Lemmas.{length-map, same_Some, lookup-none, none_past_head, lookup_head, keys_total, exact_keys, tie_parts, get-keyed}
+use Rattle.slotmap_core.proofs.Lemmas.{contains-keyed, len-keyed, item_inserted}
 use Rattle.slotmap_sparse.specs.Entries.{pairs_of, IsSound}
 use Rattle.slotmap_sparse.specs.Iter.{key_pairs, IsOfKey, AreOfKeys}
 use Rattle.slotmap_sparse.proofs.EntriesLemmas.{get-pairs, len-pairs}

@@ -1,20 +1,10 @@
 -- What calls of a closure on each entry of a hash map leave, as visits of keys.
 use Rattle.std.proofs.Common.{◌≡◌, ℕ, ◌+◌, Bool, cond, nat_eq, List, [], ◌∷◌, ◌++◌, length, Some, None, is_some, refl, sym, ap, subst, ◌∙◌, arith}
-use Rattle.std.specs.Cmp.{nat_eq_equiv}
-use Rattle.std.specs.Fn.{Mut}
 use Rattle.std.specs.Borrow.{MutBor}
-use Rattle.std.specs.List.{FoldsTo, IsDistinct}
 use Rattle.std.specs.FinMap as map
-use Rattle.std.specs.Map.{keys_of}
-use Rattle.std.specs.Map.Calls.{RetainsPairs, SomeCallAtPair}
-use Rattle.std.proofs.lemmas.Map.Entries.{lookup_head}
-use Rattle.slotmap_core.specs.Key.{Key, IsKey, key_cmp, key_from}
-use Rattle.slotmap_core.specs.Listing.{IsListing, IsListingBut, with_entries}
-use Rattle.slotmap_core.specs.Retain.{Visit, CallsAt, RetainsBy, MayCome, seen, kept}
-use Rattle.slotmap_core.specs.Secondary.{Pairs, keyed, keyed_entry, value_at}
-use Rattle.slotmap_core.proofs.General.KeyLemmas.{key_from-odd}
-use Rattle.slotmap_core.proofs.SecondaryMaps.KeyedLemmas.{get-keyed}
-use Rattle.slotmap_core.proofs.Several.VisitLemmas.{Visits-rest}
+use Rattle.slotmap_core.specs.Words.{nat_eq_equiv, Mut, FoldsTo, IsDistinct, keys_of, RetainsPairs, SomeCallAtPair, Key, IsKey, key_cmp, key_from, IsListing}
+use Rattle.slotmap_core.specs.Words.{IsListingBut, with_entries, Visit, CallsAt, RetainsBy, MayCome, seen, kept, Pairs, keyed, keyed_entry, value_at}
+use Rattle.slotmap_core.proofs.Lemmas.{lookup_head, key_from-odd, get-keyed, Visits-rest}
 use Rattle.slotmap_sparse.specs.Entries.{pairs_of, IsSound}
 use Rattle.slotmap_sparse.specs.Iter.{key_pairs, IsOfKey, AreOfKeys}
 use Rattle.slotmap_sparse.proofs.EntriesLemmas.{get-pairs}

@@ -1,9 +1,7 @@
 -- The content of a `SparseSecondaryMap`, what its calls leave, and what always holds of it.
 use Rattle.std.specs.Prelude.{◌≡◌, ℕ, ◌+◌, ◌-◌, ◌^◌, ◌<◌, ◌≤◌, Result, IsOk, OnOk, IfErr, refl}
 use Rattle.std.specs.FinMap as map
-use Rattle.std.specs.Coded.{Coded, code_by, coded×, coded_ℕ}
-use Rattle.slotmap_core.specs.Key.{Key}
-use Rattle.slotmap_core.specs.Secondary.{Pairs, pairs_code, IsSecondary, bind}
+use Rattle.slotmap_core.specs.Words.{Coded, code_by, coded×, coded_ℕ, Key, Pairs, pairs_code, IsSecondary, bind}
 use Rattle.slotmap_core.specs.declared.errors.ReserveError.{ReserveError}
 use Rattle.slotmap_core.specs.declared.errors.ReserveError.TheVariants as reserve
 

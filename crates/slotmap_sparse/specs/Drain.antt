@@ -1,10 +1,8 @@
 -- What a contract sees of a `Drain`.
 use Rattle.std.specs.Prelude.{◌≡◌, ◌≤◌, Option, Some, None}
 use Rattle.std.specs.Borrow.{MutBor}
-use Rattle.std.specs.Iterator.{Count, at_most}
 use Rattle.std.specs.FinMap as map
-use Rattle.slotmap_core.specs.Key.{Key}
-use Rattle.slotmap_core.specs.Secondary.{get, remove}
+use Rattle.slotmap_core.specs.Words.{Count, at_most, Key, get, remove}
 use Rattle.slotmap_sparse.specs.Content.{Content, room}
 use Rattle.slotmap_sparse.specs.declared.drain.Drain.{Drain}
 

@@ -1,13 +1,9 @@
 -- How a `SparseSecondaryMap` stores its pairs in a hash map. No public clause cites this module.
 use Rattle.std.specs.Prelude.{◌≡◌, ℕ, ◌+◌, Bool, List, nat_eq}
-use Rattle.std.specs.Fn.{Mut, Takes}
 use Rattle.std.specs.Borrow.{MutBor}
 use Rattle.std.specs.FinMap as map
-use Rattle.std.specs.HashMap.{HashMap, hash_map_len, spare}
-use Rattle.std.specs.List.{IsDistinct}
-use Rattle.std.specs.Map.{keys_of}
-use Rattle.slotmap_core.specs.Key.{Key, key_from}
-use Rattle.slotmap_core.specs.Secondary.{Pairs, IsSecondary}
+use Rattle.std.specs.HashMap.{HashMap, hash_map_len}
+use Rattle.slotmap_core.specs.Words.{Mut, Takes, spare, IsDistinct, keys_of, Key, key_from, Pairs, IsSecondary}
 use Rattle.slotmap_sparse.specs.Content.{Content}
 
 module _ {V : Type 0} where

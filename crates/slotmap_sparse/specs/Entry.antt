@@ -1,13 +1,13 @@
 -- What a contract sees of an entry.
 use Rattle.std.specs.Prelude.{◌≡◌, ◌≤◌, Option, Some, None, Result, Ok, Err, [], true, if◌then◌else◌}
-use Rattle.std.specs.Borrow.{MutBor, GName, Lends, LendsSoOk, RestsIfErr, Fml, RattleType}
+use Rattle.std.specs.Borrow.{MutBor}
 use Rattle.std.specs.declared.hash.Hasher as hasher
 use Rattle.std.specs.declared.hash.BuildHasher as builder
 use Rattle.std.specs.FinMap as map
+use Rattle.slotmap_core.specs.Words.{GName, Lends, LendsSoOk, RestsIfErr, Fml, RattleType}
 use mir.Syntax.{named}
-use Rattle.slotmap_core.specs.Key.{Key}
+use Rattle.slotmap_core.specs.Words.{Key, Pairs, get, contains_key, remove}
 use Rattle.slotmap_core.specs.Secondary as pair
-use Rattle.slotmap_core.specs.Secondary.{Pairs, get, contains_key, remove}
 use Rattle.slotmap_core.specs.declared.secondary.NoEntry.{NoEntry}
 use Rattle.slotmap_sparse.specs.declared.entry.Entry.{Entry}
 use Rattle.slotmap_sparse.specs.declared.entry.Entry.TheVariants.{Occupied, Vacant}

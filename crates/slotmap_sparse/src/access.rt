@@ -1,9 +1,7 @@
 //! Look-ups: which keys are in the map, and their values; and several values replaced at once.
 
 ghost use Rattle.std.specs.Prelude.{◌≡◌, ◌↔◌, IsTrue, IsOk, IfOk, OnOk, OnErr, IfErr, option_copied, Some, true, map as map_list};
-ghost use Rattle.std.specs.Borrow.{sem};
-ghost use Rattle.std.specs.Option.{option_copied_mut};
-ghost use Rattle.slotmap_core.specs.Secondary.{get, contains_key, bind};
+ghost use Rattle.slotmap_core.specs.Words.{sem, option_copied_mut, get, contains_key, bind};
 ghost use Rattle.slotmap_core.specs.Several.{CanReplace, AreValuesOf, with_values};
 ghost use Rattle.slotmap_sparse.specs.Content.{IsContent, with_value};
 

@@ -1,8 +1,7 @@
 //! Copies of a map.
 
 ghost use Rattle.std.specs.Prelude.{◌≡◌, IfOk, OnOk, OnErr};
-ghost use Rattle.slotmap_core.specs.Clones.{ClonesEqual};
-ghost use Rattle.slotmap_core.specs.SecondaryClones.{HasClones};
+ghost use Rattle.slotmap_core.specs.Words.{ClonesEqual, HasClones};
 ghost use Rattle.slotmap_sparse.specs.Content.{IsContent};
 
 use crate::SparseSecondaryMap;

@@ -1,8 +1,8 @@
 //! The iterator that removes the pairs of a map.
 
 ghost use Rattle.std.specs.Prelude.{◌≡◌, ◌≤◌, Some, IfSome};
-ghost use Rattle.std.specs.Iterator.{size, UpTo};
 ghost use Rattle.std.specs.FinMap as map;
+ghost use Rattle.slotmap_core.specs.Words.{size, UpTo};
 ghost use Rattle.slotmap_sparse.specs.Content.{IsContent};
 
 use crate::{DefaultHasher, SparseSecondaryMap};
@@ -71,8 +71,7 @@ impl<'a, K: Key, V: Drop, S: BuildHasher + Drop> fmt::Debug for Drain<'a, K, V, 
 }
 
 impl<K: Key, V: Drop, S: BuildHasher + Drop> SparseSecondaryMap<K, V, S> {
-    ghost use Rattle.slotmap_core.specs.Draining.{KeepsAlong, ListsAlong};
-    ghost use Rattle.slotmap_core.specs.Secondary.{keyed};
+    ghost use Rattle.slotmap_core.specs.Words.{KeepsAlong, ListsAlong, keyed};
     ghost use Rattle.slotmap_sparse.specs.Drain.{drain_loan, DrainKeeps, DrainSteps};
 
     /// Returns an iterator that removes the keys and yields them with their values, in any order.

@@ -2,9 +2,8 @@
 
 ghost use Rattle.std.specs.Prelude.{◌≡◌, ◌≤◌, ◌<◌, Some, None, IsOk, IfOk, IfErr, OnErr, unwrap_or};
 ghost use Rattle.std.specs.FinMap as map;
-ghost use Rattle.std.specs.Option.{UnwrapsOrElse};
-ghost use Rattle.std.specs.Borrow.{sem, MutBor};
-ghost use Rattle.std.specs.Map.Calls.{ModifiesValue};
+ghost use Rattle.std.specs.Borrow.{MutBor};
+ghost use Rattle.slotmap_core.specs.Words.{UnwrapsOrElse, sem, ModifiesValue};
 ghost use Rattle.slotmap_sparse.specs.Content.{IsContent, room};
 
 use crate::find::Found;
@@ -44,7 +43,7 @@ pub struct VacantEntry<'a, K, V, S: BuildHasher = DefaultHasher> {
 }
 
 impl<K: Key, V: Drop, S: BuildHasher + Drop> SparseSecondaryMap<K, V, S> {
-    ghost use Rattle.slotmap_core.specs.Secondary.{entry, no_entry};
+    ghost use Rattle.slotmap_core.specs.Words.{entry, no_entry};
     ghost use Rattle.slotmap_sparse.specs.Entry.{Enters, IsEntryOf, IfEntry, rests_if_err};
     ghost use Rattle.slotmap_core.specs.declared.secondary.NoEntry.TheVariants as no_entry;
 

@@ -2,8 +2,7 @@
 
 ghost use Rattle.std.specs.Prelude.{◌≡◌, option_copied};
 ghost use Rattle.std.specs.FinMap as map;
-ghost use Rattle.slotmap_core.specs.Key.{IsKey};
-ghost use Rattle.slotmap_core.specs.Secondary.{entry, is_null};
+ghost use Rattle.slotmap_core.specs.Words.{IsKey, entry, is_null};
 ghost use Rattle.slotmap_sparse.specs.Content.{IsContent};
 
 use crate::SparseSecondaryMap;

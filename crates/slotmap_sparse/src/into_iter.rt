@@ -1,9 +1,7 @@
 //! The iterator that consumes a map.
 
 ghost use Rattle.std.specs.Prelude.{◌≡◌, ◌≤◌, length, Some, IfSome};
-ghost use Rattle.std.specs.Iterator.{YieldsFirstBy, item_count, at_most, UpTo};
-ghost use Rattle.slotmap_core.specs.Secondary.{keyed};
-ghost use Rattle.slotmap_core.specs.Listing.{IsListing};
+ghost use Rattle.slotmap_core.specs.Words.{YieldsFirstBy, item_count, at_most, UpTo, keyed, IsListing};
 
 use crate::SparseSecondaryMap;
 use slotmap_core::keys::{Key, KeyData};
@@ -28,7 +26,7 @@ pub struct IntoIter<K, V> {
 
 impl<K, V> Model for IntoIter<K, V> {
     ghost use Rattle.std.specs.Prelude.{List};
-    ghost use Rattle.slotmap_core.specs.Key.{Key};
+    ghost use Rattle.slotmap_core.specs.Words.{Key};
     ghost use Rattle.slotmap_sparse.specs.Iter.{key_pairs, AreOfKeys};
 
     ghost Value = { List (Key × V) };

@@ -1,10 +1,8 @@
 //! Iterators over the keys and values of a map.
 
 ghost use Rattle.std.specs.Prelude.{◌≡◌, ◌≤◌, length, Some, IfSome, IfNone, true, ⊤};
-ghost use Rattle.std.specs.Iterator.{YieldsFirstBy, item_count, at_most, UpTo};
 ghost use Rattle.std.specs.FinMap as map;
-ghost use Rattle.slotmap_core.specs.Secondary.{keyed, contains_key};
-ghost use Rattle.slotmap_core.specs.Listing.{IsListing, IsKeyListing, IsValueListing};
+ghost use Rattle.slotmap_core.specs.Words.{YieldsFirstBy, item_count, at_most, UpTo, keyed, contains_key, IsListing, IsKeyListing, IsValueListing};
 ghost use Rattle.slotmap_sparse.specs.Content.{IsContent};
 
 use crate::SparseSecondaryMap;
@@ -29,7 +27,7 @@ pub struct Iter<'a, K, V> {
 
 impl<'a, K, V> Model for Iter<'a, K, V> {
     ghost use Rattle.std.specs.Prelude.{List};
-    ghost use Rattle.slotmap_core.specs.Key.{Key};
+    ghost use Rattle.slotmap_core.specs.Words.{Key};
     ghost use Rattle.slotmap_sparse.specs.Iter.{key_pairs, AreOfKeys};
 
     ghost Value = { List (Key × V) };
@@ -117,7 +115,7 @@ pub struct Keys<'a, K, V> {
 
 impl<'a, K, V> Model for Keys<'a, K, V> {
     ghost use Rattle.std.specs.Prelude.{List, map};
-    ghost use Rattle.slotmap_core.specs.Key.{Key};
+    ghost use Rattle.slotmap_core.specs.Words.{Key};
 
     ghost Value = { List Key };
 

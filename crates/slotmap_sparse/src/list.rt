@@ -2,11 +2,7 @@
 
 ghost use Rattle.std.specs.Prelude.{◌≡◌, ◌<◌, ◌≤◌, ◌^◌, ◌%◌, None, IfOk, OnOk, IsOk, IfErr, IsSome};
 ghost use Rattle.std.specs.FinMap as map;
-ghost use Rattle.slotmap_core.specs.Clones.{ClonesEqual, IsCloneOf};
-ghost use Rattle.slotmap_core.specs.Key.{Key, null_key};
-ghost use Rattle.slotmap_core.specs.Secondary.{get, keyed};
-ghost use Rattle.slotmap_core.specs.FromList.{start_live};
-ghost use Rattle.slotmap_core.specs.Accepted.{Accepts, RefusesStart};
+ghost use Rattle.slotmap_core.specs.Words.{ClonesEqual, IsCloneOf, Key, null_key, get, keyed, start_live, Accepts, RefusesStart};
 ghost use Rattle.slotmap_sparse.specs.Content.{IsContent};
 ghost use Rattle.slotmap_sparse.specs.Written.{ReachesLargest, Writes, WritesClones, IsCloneSlot, with_slot};
 

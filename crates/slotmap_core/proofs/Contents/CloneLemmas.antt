@@ -4,10 +4,7 @@ use Rattle.std.proofs.Common.{◌≡◌, ℕ, ◌+◌, ◌<◌, ◌≤◌, Bool,
 use Rattle.std.specs.Ordering.{nat_cmp}
 use Rattle.std.specs.FinMap as map
 use Rattle.std.specs.FinSet as set
-use Rattle.slotmap_core.specs.Clones.{ClonesEqual, AreClones, IsCloneOf}
-use Rattle.slotmap_core.specs.Content.{Content, IsContent, used, places, most}
-use Rattle.slotmap_core.specs.Copy.{IsCopy, IsCloneBy}
-use Rattle.slotmap_core.specs.Key.{Key, key_cmp}
+use Rattle.slotmap_core.specs.Words.{ClonesEqual, AreClones, IsCloneOf, Content, IsContent, used, places, most, IsCopy, IsCloneBy, Key, key_cmp}
 use Rattle.slotmap_core.proofs.General.KeyLemmas.{keys_total, exact_keys}
 use Rattle.slotmap_core.proofs.General.Maps.{same_len}
 use Rattle.slotmap_core.proofs.Places.PlaceClones.{clone_is_some}

@@ -2,16 +2,11 @@
 -- For the crates of maps.
 use Rattle.std.proofs.Common.{◌≡◌, ◌⊎◌, ◌↔◌, inl, inr, ℕ, ◌+◌, ◌<◌, ◌≤◌, Bool, true, cond, nat_eq, List, [], ◌∷◌, length, slice_get, Option, None}
 use Rattle.std.proofs.Common.{Some, is_some, refl, sym, ap, subst, ◌∙◌, arith, eq-eqb}
-use Rattle.std.specs.List.{list_any}
 use Rattle.std.proofs.lemmas.Option.{slice_get_within, same_Some}
 use Rattle.std.specs.FinMap as map
 use Rattle.std.specs.FinSet as set
-use Rattle.slotmap_core.specs.Key.{Key, last_version}
-use Rattle.slotmap_core.specs.Call.{MakesRoom}
-use Rattle.slotmap_core.specs.Content.{Content, IsContent, IsStack, IsLive, Uses, places}
-use Rattle.slotmap_core.specs.Transition.{with_value}
-use Rattle.slotmap_core.specs.Places.{Place, Live, Detached, Vacant, Retired, live, detached, next}
-use Rattle.slotmap_core.specs.StackMap.{StackMap, content_of_places, offer, IsOn, IsVersion, IsStacked}
+use Rattle.slotmap_core.specs.Words.{list_any, Key, last_version, MakesRoom, Content, IsContent, IsStack, IsLive, Uses, places, with_value, Place, Live}
+use Rattle.slotmap_core.specs.Words.{Detached, Vacant, Retired, live, detached, next, StackMap, content_of_places, offer, IsOn, IsVersion, IsStacked}
 use Rattle.slotmap_core.proofs.Places.PlacesLemmas.{key, get-live, contains-detached, retired_at, get-next_at, vacant_at, total}
 use Rattle.slotmap_core.proofs.General.Maps.{same_bool}
 pub use Rattle.slotmap_core.proofs.General.Maps.{some_is}

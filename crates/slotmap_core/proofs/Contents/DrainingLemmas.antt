@@ -3,8 +3,7 @@
 use Rattle.std.proofs.Common.{◌≡◌, List, [], ◌∷◌, Option, Some, refl, ap, subst, ◌∙◌}
 use Rattle.std.specs.Borrow.{MutBor}
 use Rattle.std.specs.FinMap as map
-use Rattle.slotmap_core.specs.Key.{Key, key_cmp}
-use Rattle.slotmap_core.specs.Draining.{KeepsLoan, Along, KeepsAlong, ListsAlong, InOrderAlong}
+use Rattle.slotmap_core.specs.Words.{Key, key_cmp, KeepsLoan, Along, KeepsAlong, ListsAlong, InOrderAlong}
 use Rattle.slotmap_core.proofs.General.ListingLemmas.{IsListingBut-start, IsListingBut-first}
 
 module _ {D A : Type 0} (Steps : D → Option A → D → Type 0) where

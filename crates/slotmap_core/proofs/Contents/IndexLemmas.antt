@@ -2,9 +2,7 @@
 -- For the crates of maps.
 use Rattle.std.proofs.Common.{◌≡◌, ◌≢◌, ℕ, ◌+◌, ◌<◌, ◌≤◌, Bool, true, false, cond, nat_le, None, sym, ap, ◌∙◌, inl, arith, le-leb}
 use Rattle.std.specs.FinMap as map
-use Rattle.slotmap_core.specs.Key.{Key, key_cmp}
-use Rattle.slotmap_core.specs.Listing.{NoneBelow}
-use Rattle.slotmap_core.specs.Content.{Content, IsContent, IsLive}
+use Rattle.slotmap_core.specs.Words.{Key, key_cmp, NoneBelow, Content, IsContent, IsLive}
 use Rattle.slotmap_core.proofs.General.KeyLemmas.{keys_total, exact_keys, tied, itself, nat_tests}
 use Rattle.slotmap_core.proofs.General.Maps.{false_of, none_of, in_after_remove}
 

@@ -1,12 +1,9 @@
 -- Keys are removed, one after the other.
 -- For the crates of maps.
 use Rattle.std.proofs.Common.{◌≡◌, ℕ, ◌≤◌, Bool, true, false, cond, not, ◌&&◌, inl, inr, Some, None, is_some, true≢false, refl, sym, ap, ◌∙◌, arith}
-use Rattle.std.specs.Ordering.{eq_by_cmp}
 use Rattle.std.specs.FinMap as map
 use Rattle.std.specs.FinSet as set
-use Rattle.slotmap_core.specs.Key.{Key, is_last, next_version, key_cmp}
-use Rattle.slotmap_core.specs.Content.{Content, IsContent, IsLive}
-use Rattle.slotmap_core.specs.Transition.{Removes, Leaves, Keeps, has_left, with_value}
+use Rattle.slotmap_core.specs.Words.{eq_by_cmp, Key, is_last, next_version, key_cmp, Content, IsContent, IsLive, Removes, Leaves, Keeps, has_left, with_value}
 use Rattle.slotmap_core.proofs.General.KeyLemmas.{keys_total, exact_keys, tied, itself, nat_cmp_total, exact_unsigned}
 use Rattle.slotmap_core.proofs.Places.PlaceCount.{removed_places}
 use Rattle.slotmap_core.proofs.Contents.Retired.{in_freed}

@@ -4,9 +4,7 @@ use Rattle.std.proofs.Common.{◌≡◌, ℕ, ◌+◌, Some, true, false, ◌&&�
 use Rattle.std.specs.Ordering.{nat_cmp}
 use Rattle.std.specs.FinMap as map
 use Rattle.std.specs.FinSet as set
-use Rattle.slotmap_core.specs.Key.{Key, is_last, next_version, key_cmp}
-use Rattle.slotmap_core.specs.Transition.{freed, retired_after}
-use Rattle.slotmap_core.specs.Machine.{State, IsIssued, StandsIn, is_retired, retired}
+use Rattle.slotmap_core.specs.Words.{Key, is_last, next_version, key_cmp, freed, retired_after, State, IsIssued, StandsIn, is_retired, retired}
 use Rattle.slotmap_core.proofs.General.KeyLemmas.{keys_total, exact_keys, nat_cmp_total, exact_unsigned}
 use Rattle.slotmap_core.proofs.General.Maps.{same_bool, len_item_inserted, len_inserted, get_after_insert}
 

@@ -3,9 +3,8 @@
 use Rattle.std.proofs.Common.{◌≡◌, ◌≢◌, ℕ, Some, false, ◌⊎◌, inl, inr, sym, ap, ◌∙◌, is_some, ⊎_elim, arith}
 use Rattle.std.specs.FinMap as map
 use Rattle.std.specs.FinSet as set
-use Rattle.slotmap_core.specs.Key.{Key, next_version, key_cmp}
-use Rattle.slotmap_core.specs.Content.{Content, Stands, IsLive}
-use Rattle.slotmap_core.specs.Transition.{IsNew, Inserts, Keeps, Removes, Replaces, Leaves, Detaches, Reattaches}
+use Rattle.slotmap_core.specs.Words.{Key, next_version, key_cmp, Content, Stands, IsLive, IsNew, Inserts, Keeps, Removes, Replaces, Leaves, Detaches}
+use Rattle.slotmap_core.specs.Words.{Reattaches}
 use Rattle.slotmap_core.proofs.General.KeyLemmas.{keys_total, exact_keys, nat_cmp_total, exact_unsigned}
 use Rattle.slotmap_core.proofs.General.Maps.{of_and, get_after_remove, in_after_insert, in_after_remove, item_after_insert, item_after_remove}
 use Rattle.slotmap_core.proofs.Contents.Retired.{in_freed}

@@ -2,11 +2,9 @@
 -- For the crates of maps.
 use Rattle.std.proofs.Common.{◌≡◌, ◌≢◌, inl, ℕ, ◌+◌, ◌<◌, ◌≤◌, cond, List, [], ◌∷◌, ◌++◌, length, set, drop, slice_get, Some, is_some, refl, sym, ap, ◌∙◌, arith, eqb-true, eq-eqb}
 use Rattle.std.proofs.lemmas.List.{length-set, length_push}
-use Rattle.slotmap_core.specs.Key.{Key, last_version}
-use Rattle.slotmap_core.specs.Content.{most}
-use Rattle.slotmap_core.specs.Transition.{Inserts, Removes, Detaches, Reattaches, Keeps, with_value}
-use Rattle.slotmap_core.specs.Places.{left_by, Place, Live, Detached, Vacant, live, is_detached_at}
-use Rattle.slotmap_core.specs.StackMap.{StackMap, content_of_places, offer, used_places, vacant_version, filled, removed, detached_at, put_at, IsStacked}
+use Rattle.slotmap_core.specs.Words.{Key, last_version, most, Inserts, Removes, Detaches, Reattaches, Keeps, with_value, left_by, Place, Live, Detached, Vacant}
+use Rattle.slotmap_core.specs.Words.{live, is_detached_at, StackMap, content_of_places, offer, used_places, vacant_version, filled, removed, detached_at}
+use Rattle.slotmap_core.specs.Words.{put_at, IsStacked}
 use Rattle.slotmap_core.proofs.Places.PlacesLemmas.{key, vacancy, live-set, live-push, detached-set, detached-push_live, retired-set, retired-push_live}
 use Rattle.slotmap_core.proofs.Places.PlacesLemmas.{next-set, next-push_live, next-remove_past, len-next-set, contains-detached, total}
 use Rattle.slotmap_core.proofs.General.ListingLemmas.{insert-remove}

@@ -2,13 +2,10 @@
 -- For the crates of maps.
 use Rattle.std.proofs.Common.{◌≡◌, ◌≢◌, ℕ, ◌+◌, ◌<◌, ◌≤◌, Bool, true, Some, is_some, ◌∷◌, refl, sym, ap, ◌∙◌, arith}
 use Rattle.std.specs.FinMap as map
-use Rattle.slotmap_core.specs.Key.{Key}
-use Rattle.slotmap_core.specs.Content.{Content, IsContent, IsLive}
-use Rattle.slotmap_core.specs.Transition.{Removes, Leaves, EmptiesByIndex, has_left, with_value, FreesByIndex}
+use Rattle.slotmap_core.specs.Words.{Key, Content, IsContent, IsLive, Removes, Leaves, EmptiesByIndex, has_left, with_value, FreesByIndex, NoneBelow}
 use Rattle.slotmap_core.proofs.General.KeyLemmas.{keys_total, exact_keys, tied}
 use Rattle.slotmap_core.proofs.General.Maps.{in_after_remove}
 use Rattle.slotmap_core.proofs.Contents.IndexLemmas.{from_index, get_from, in_from, from_index-jump, from_index-take, alone_at, NoneBelow-removed}
-use Rattle.slotmap_core.specs.Listing.{NoneBelow}
 use Rattle.slotmap_core.proofs.Contents.ContentLemmas.{IsContent-with_value}
 use Rattle.slotmap_core.proofs.Contents.LeaveLemmas.{get_left, same_live, Leaves-refl, Leaves-trans, Leaves-with_value, Leaves-removes, Leaves-removed}
 use Rattle.slotmap_core.proofs.Contents.OrderLemmas.{FreesByIndex-start, FreesByIndex-with_value, FreesByIndex-removed, FreesByIndex-first, entries_first}

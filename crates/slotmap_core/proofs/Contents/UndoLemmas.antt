@@ -3,9 +3,7 @@
 use Rattle.std.proofs.Common.{◌≡◌, ◌<◌, Bool, false, arith}
 use Rattle.std.specs.FinMap as map
 use Rattle.std.specs.FinSet as set
-use Rattle.slotmap_core.specs.Key.{Key, key_cmp}
-use Rattle.slotmap_core.specs.Content.{Content, IsContent, IsLive, Uses, used, most}
-use Rattle.slotmap_core.specs.Transition.{Inserts, Removes, Detaches, Reattaches}
+use Rattle.slotmap_core.specs.Words.{Key, key_cmp, Content, IsContent, IsLive, Uses, used, most, Inserts, Removes, Detaches, Reattaches}
 use Rattle.slotmap_core.proofs.General.KeyLemmas.{keys_total, exact_keys, tied}
 use Rattle.slotmap_core.proofs.General.ListingLemmas.{insert-remove, remove-insert}
 use Rattle.slotmap_core.proofs.General.MapLaws.{remove_absent}

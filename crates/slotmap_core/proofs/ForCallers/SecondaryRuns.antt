@@ -1,12 +1,8 @@
 -- Runs of secondary maps agree if no allocation fails: for callers, who run the same commands on two maps.
 -- For runs and callers.
 use Rattle.std.proofs.Common.{◌≡◌, List, [], ◌∷◌, refl, sym, ◌∙◌, subst, arith}
-use Rattle.std.specs.List.{AllByRecursion}
-use Rattle.slotmap_core.specs.Key.{Key}
-use Rattle.slotmap_core.specs.Secondary.{Pairs}
+use Rattle.slotmap_core.specs.Words.{AllByRecursion, Key, Pairs, Run, HadMemory, Shows, seen_by, EachAgrees}
 use Rattle.slotmap_core.specs.SecondaryStep.{Given, Step}
-use Rattle.slotmap_core.specs.Run.{Run}
-use Rattle.slotmap_core.specs.SecondaryLaw.{HadMemory, Shows, seen_by, EachAgrees}
 use Rattle.slotmap_core.specs.declared.secondary.SecondaryCommand.{SecondaryCommand}
 use Rattle.slotmap_core.specs.declared.secondary.SecondaryReply.{SecondaryReply}
 

@@ -4,14 +4,8 @@ use Rattle.std.proofs.Common.{⊎_elim, ◌≡◌, ◌≢◌, ℕ, Bool, false, 
 use Rattle.std.specs.FinMap as map
 use Rattle.std.specs.FinSet as set
 use Rattle.std.proofs.lemmas.List.Elements.{All-head, All-tail}
-use Rattle.slotmap_core.specs.Key.{Key, key_cmp, next_version}
-use Rattle.slotmap_core.specs.Content.{Content, IsContent, IsLive, IsDetached, Stands, places}
-use Rattle.slotmap_core.specs.Call.{StaysValid, MayGrow}
-use Rattle.slotmap_core.specs.Copy.{IsCopy, IsCloneBy}
-use Rattle.slotmap_core.specs.Disjoint.{CanReplace, with_values}
-use Rattle.slotmap_core.specs.Spent.{IsSpent, KeepsSpent}
-use Rattle.slotmap_core.specs.Transition.{Inserts, Removes, Detaches, Reattaches, Keeps, Leaves, with_value}
-use Rattle.slotmap_core.specs.Written.{Restores}
+use Rattle.slotmap_core.specs.Words.{Key, key_cmp, next_version, Content, IsContent, IsLive, IsDetached, Stands, places, StaysValid, MayGrow, IsCopy, IsCloneBy}
+use Rattle.slotmap_core.specs.Words.{CanReplace, with_values, IsSpent, KeepsSpent, Inserts, Removes, Detaches, Reattaches, Keeps, Leaves, with_value, Restores}
 use Rattle.slotmap_core.proofs.Contents.CloneLemmas.{clone_live, clone_places}
 use Rattle.slotmap_core.proofs.Contents.LeaveLemmas.{Leaves-refl, Leaves-keeps, Leaves-with_value, Leaves-trans, Leaves-removes, was_live, same_live, live_no_more}
 use Rattle.slotmap_core.proofs.General.Maps.{false_of, none_of}

@@ -3,8 +3,7 @@
 use Rattle.std.proofs.Common.{◌≡◌, List, [], ◌∷◌, Some, All, Contains, ◌⊎◌, inl, arith}
 use Rattle.std.specs.FinMap as map
 use Rattle.std.proofs.lemmas.List.Elements.{All-head, All-tail}
-use Rattle.slotmap_core.specs.Key.{Key, key_cmp}
-use Rattle.slotmap_core.specs.Listing.{IsListing}
+use Rattle.slotmap_core.specs.Words.{Key, key_cmp, IsListing}
 use Rattle.slotmap_core.proofs.General.KeyLemmas.{keys_total, exact_keys}
 use Rattle.slotmap_core.proofs.General.ListingLemmas.{all_live, listed}
 

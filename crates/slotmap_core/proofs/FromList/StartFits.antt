@@ -4,13 +4,8 @@ use Rattle.std.proofs.Common.{◌≡◌, ◌≢◌, inl, inr, ℕ, ◌+◌, ◌%
 use Rattle.std.proofs.lemmas.Bool.Decides.{nat_tests}
 use Rattle.std.proofs.lemmas.Option.{slice_get_within, same_Some}
 use Rattle.std.specs.FinSet as set
-use Rattle.slotmap_core.specs.Key.{Key, key_cmp}
-use Rattle.slotmap_core.specs.Content.{Content, IsContent, Stands}
-use Rattle.slotmap_core.specs.FromList.{start_stack, StartsFrom, start_state, start_places}
-use Rattle.slotmap_core.specs.Fit.{Fits}
-use Rattle.slotmap_core.specs.Machine.{IsIssued}
-use Rattle.slotmap_core.specs.Accepted.{Accepts}
-use Rattle.slotmap_core.specs.StackMap.{StackMap, content_of_places}
+use Rattle.slotmap_core.specs.Words.{Key, key_cmp, Content, IsContent, Stands, start_stack, StartsFrom, start_state, start_places, Fits, IsIssued, Accepts}
+use Rattle.slotmap_core.specs.Words.{StackMap, content_of_places}
 use Rattle.slotmap_core.specs.declared.serial.SlotRecord.{SlotRecord}
 use Rattle.slotmap_core.proofs.FromList.AtKeysLemmas.{LiveSlot, live_in, in_contents, next_in, in_start_next, retired_in, in_start_retired, issued_in, in_start_issued}
 use Rattle.slotmap_core.proofs.General.Maps.{some_is}

@@ -6,12 +6,10 @@ use Rattle.std.proofs.lemmas.List.{length-map, map-append}
 use Rattle.std.proofs.lemmas.Option.{slice_get-map, slice_get_within}
 use Rattle.std.specs.FinMap as map
 use Rattle.std.specs.FinSet as set
-use Rattle.slotmap_core.specs.Key.{key_cmp}
-use Rattle.slotmap_core.specs.FromList.{live_slot, vacant_slot, retired_slot, start_live, start_next, start_retired, place_of_record, start_places}
-use Rattle.slotmap_core.specs.Gather.{gather}
-use Rattle.slotmap_core.specs.Places.{Place, Vacant, live_entry, detached_entry, retired_entry, next_entry, live, detached, retired, next}
-use Rattle.slotmap_core.specs.Accepted.{IsConsistent, AllConsistentBelow, Accepts}
-use Rattle.slotmap_core.specs.StackMap.{HasVersion}
+use Rattle.slotmap_core.specs.Words.{key_cmp, live_slot, vacant_slot, retired_slot, start_live, start_next, start_retired, place_of_record, start_places}
+use Rattle.slotmap_core.specs.Words.{gather, Place, Vacant, live_entry, detached_entry, retired_entry, next_entry, live, detached, next, IsConsistent}
+use Rattle.slotmap_core.specs.Words.{AllConsistentBelow, Accepts, HasVersion}
+use Rattle.slotmap_core.specs.Places.{retired}
 use Rattle.slotmap_core.specs.declared.serial.SlotRecord.{SlotRecord}
 
 module _ {V : Type 0} (slot : SlotRecord V) (consistent : IsConsistent slot) where

@@ -3,12 +3,8 @@
 use Rattle.std.proofs.Common.{◌≡◌, ℕ, ◌+◌, ◌-◌, Bool, true, List, slice_get, Option, None, Some, is_some, inl, refl, sym, ap, ◌∙◌, arith}
 use Rattle.std.proofs.lemmas.Option.{same_Some}
 use Rattle.std.specs.FinMap as map
-use Rattle.slotmap_core.specs.Clones.{ClonesEqual, IsCloneOf}
-use Rattle.slotmap_core.specs.Content.{Content, IsContent}
-use Rattle.slotmap_core.specs.FromList.{start_live}
-use Rattle.slotmap_core.specs.Copy.{IsCopy, IsCloneBy}
-use Rattle.slotmap_core.specs.Key.{Key}
-use Rattle.slotmap_core.specs.Written.{Writes, WritesClones, IsRecordClone, AreRecordClones, filled_slot, empty_slot}
+use Rattle.slotmap_core.specs.Words.{ClonesEqual, IsCloneOf, Content, IsContent, start_live, IsCopy, IsCloneBy, Key, Writes, WritesClones, IsRecordClone}
+use Rattle.slotmap_core.specs.Words.{AreRecordClones, filled_slot, empty_slot}
 use Rattle.slotmap_core.specs.declared.serial.SlotRecord.{SlotRecord}
 use Rattle.slotmap_core.proofs.Contents.CloneLemmas.{clone_places, clone_copies, IsContent-clone_same}
 use Rattle.slotmap_core.proofs.FromList.AtKeysLemmas.{live_in, in_contents}

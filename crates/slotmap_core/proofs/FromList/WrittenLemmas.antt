@@ -5,13 +5,11 @@ use Rattle.std.proofs.lemmas.List.{length-map, same_lists}
 use Rattle.std.proofs.lemmas.Option.{slice_get-map, slice_get_within, slice_get-get_or}
 use Rattle.std.specs.FinMap as map
 use Rattle.std.specs.FinSet as set
-use Rattle.slotmap_core.specs.Key.{Key, IsKey, is_last, last_version, next_version}
-use Rattle.slotmap_core.specs.Content.{Content, IsContent, IsDetached, IsRetired, IsVacant, Uses, places}
-use Rattle.slotmap_core.specs.FromList.{start_live, StartsFrom}
-use Rattle.slotmap_core.specs.Places.{Place, Live, Detached, Vacant, Retired, live, detached, retired, next, retired_entry}
-use Rattle.slotmap_core.specs.Accepted.{Accepts}
-use Rattle.slotmap_core.specs.StackMap.{StackMap, content_of_places, IsStacked}
-use Rattle.slotmap_core.specs.Written.{following_version, filled_slot, empty_slot, Writes, Restores, record_of, records_of, read_slots}
+use Rattle.slotmap_core.specs.Words.{Key, IsKey, is_last, last_version, next_version, Content, IsContent, IsDetached, IsRetired, IsVacant, Uses, places}
+use Rattle.slotmap_core.specs.Words.{start_live, StartsFrom, Place, Live, Detached, Vacant, Retired, live, detached, next, retired_entry, Accepts, StackMap}
+use Rattle.slotmap_core.specs.Words.{content_of_places, IsStacked, following_version, filled_slot, empty_slot, Writes, Restores, record_of, records_of}
+use Rattle.slotmap_core.specs.Words.{read_slots}
+use Rattle.slotmap_core.specs.Places.{retired}
 use Rattle.slotmap_core.specs.declared.serial.SlotRecord.{SlotRecord}
 use Rattle.slotmap_core.proofs.Contents.ContentLemmas.{some_is}
 use Rattle.slotmap_core.proofs.FromList.AtKeysLemmas.{gathers, live_in, in_contents, next_in, in_start_next, retired_in, in_start_retired}

@@ -2,10 +2,9 @@
 -- For the crates of maps.
 use Rattle.std.proofs.Common.{◌≡◌, ◌≢◌, ◌⊎◌, ℕ, zero, suc, ◌+◌, ◌<◌, Bool, true, false, cond, List, [], ◌∷◌, ◌++◌, length, set, slice_get, Option, None, Some, is_some, refl, arith}
 use Rattle.std.proofs.lemmas.Grind.{common_steps}
-use Rattle.std.specs.List.{AllZip}
 use Rattle.std.proofs.lemmas.List.{length-set, get_or-set_same, get_or-set_other}
 use Rattle.std.proofs.lemmas.Option.{gets, slice_get_cases, slice_get-get_or, slice_get_within, slice_get_past}
-use Rattle.slotmap_core.specs.Gather.{add, gather}
+use Rattle.slotmap_core.specs.Words.{AllZip, add, gather}
 
 -- the laws of a finite map, by its look-ups
 pub record IsFinite {K X M : Type 0} (same_key : K → K → Bool) (empty : M) (get : M → K → Option X) (put : M → K × X → M) (remove : M → K → M) (len : M → ℕ) : Type 0 where

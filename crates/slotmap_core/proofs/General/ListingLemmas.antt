@@ -3,13 +3,11 @@
 use Rattle.std.proofs.Common.{◌≡◌, ℕ, zero, suc, ◌+◌, ◌<◌, ◌≤◌, true, false, List, [], ◌∷◌, ◌++◌, length, get_or, map as list_map, Some, None, All, Contains, inl, inr, refl, sym, ap, ◌∙◌, arith}
 use Rattle.std.proofs.lemmas.Bool.{cases_Bool}
 use Rattle.std.specs.Option.{option_or}
-use Rattle.std.specs.Ordering.{eq_by_cmp}
 use Rattle.std.specs.FinMap as map
-use Rattle.std.specs.FinMap.Entries.{find, is_some-find}
+use Rattle.std.specs.FinMap.Entries.{find}
 use Rattle.std.specs.FinSet as set
 use Rattle.std.proofs.lemmas.List.{length_push, length-map}
-use Rattle.slotmap_core.specs.Key.{Key, key_cmp}
-use Rattle.slotmap_core.specs.Listing.{IsListing, IsKeyListing, IsListingBut, with_entries}
+use Rattle.slotmap_core.specs.Words.{eq_by_cmp, is_some-find, Key, key_cmp, IsListing, IsKeyListing, IsListingBut, with_entries}
 use Rattle.slotmap_core.proofs.General.KeyLemmas.{keys_total, exact_keys, tied, itself}
 use Rattle.slotmap_core.proofs.General.Maps.{insert_same, len_removed}
 

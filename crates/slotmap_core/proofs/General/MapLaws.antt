@@ -1,10 +1,9 @@
 -- Finite maps and sets satisfy the laws that gathering relies on.
 -- For the crates of maps.
 use Rattle.std.proofs.Common.{◌≡◌, ℕ, Bool, cond, ◌==◌, Ordering, Option, None, Some, is_some, sym, ap, ◌∙◌, nat_cmp, arith}
-use Rattle.std.specs.Ordering.{eq_by_cmp}
 use Rattle.std.specs.FinMap as map
 use Rattle.std.specs.FinSet as set
-use Rattle.slotmap_core.specs.Key.{Key, key_cmp}
+use Rattle.slotmap_core.specs.Words.{eq_by_cmp, Key, key_cmp}
 use Rattle.slotmap_core.proofs.General.KeyLemmas.{exact_keys, keys_total, tied, itself, nat_tests, nat_cmp_total, CmpEqualImpliesEq, exact_unsigned, IsTotalOrder}
 use Rattle.slotmap_core.proofs.General.GatherLemmas.{IsFinite}
 

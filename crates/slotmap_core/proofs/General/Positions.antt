@@ -1,7 +1,7 @@
 -- Lists cut at positions: what stands before an element, between two of them and after.
 -- For runs.
 use Rattle.std.proofs.Common.{◌≡◌, ℕ, zero, suc, ◌+◌, ◌<◌, List, [], ◌∷◌, ◌++◌, length, take, drop, slice_get, Some, refl, sym, ap, ◌∙◌, arith}
-use Rattle.std.specs.List.{AllByRecursion, AllZip}
+use Rattle.slotmap_core.specs.Words.{AllByRecursion, AllZip}
 
 module _ {X : Type 0} where
   some_injective : (x y : X) → Some x ≡ Some y → x ≡ y

@@ -2,11 +2,7 @@
 -- For the crates of maps.
 use Rattle.std.proofs.Common.{◌≡◌, ℕ, ◌+◌, ◌<◌, T, List, [], ◌∷◌, refl, sym, ap, ◌∙◌, arith}
 use Rattle.std.specs.FinMap as map
-use Rattle.std.specs.FinMap.Entries.{below_all, is_sorted}
-use Rattle.slotmap_core.specs.Key.{Key, key_cmp}
-use Rattle.slotmap_core.specs.Gather.{gather}
-use Rattle.slotmap_core.specs.Listing.{IsListing}
-use Rattle.slotmap_core.specs.Places.{Place, live_entry, live}
+use Rattle.slotmap_core.specs.Words.{below_all, is_sorted, Key, key_cmp, gather, IsListing, Place, live_entry, live}
 use Rattle.slotmap_core.proofs.General.KeyLemmas.{keys_total, exact_keys, nat_tests}
 
 module _ {V : Type 0} where

@@ -3,12 +3,9 @@
 use Rattle.std.proofs.Common.{◌≡◌, ℕ, zero, suc, List, [], ◌∷◌, length, slice_get, Option, Some, is_some, inl, refl, sym, ap, ◌∙◌, arith}
 use Rattle.std.specs.FinMap as map
 use Rattle.std.specs.FinSet as set
-use Rattle.slotmap_core.specs.Clones.{IsCloneOf}
-use Rattle.slotmap_core.specs.Copy.{IsCloneBy}
-use Rattle.slotmap_core.specs.Key.{Key}
-use Rattle.slotmap_core.specs.PlaceClones.{IsPlaceClone, ArePlaceClones}
-use Rattle.slotmap_core.specs.Places.{Place, Vacant, detached_entry, retired_entry, next_entry, live, detached, retired, next, live_value}
-use Rattle.slotmap_core.specs.StackMap.{content_of_places, offer, vacant_version, HasVersion, IsStacked}
+use Rattle.slotmap_core.specs.Words.{IsCloneOf, IsCloneBy, Key, IsPlaceClone, ArePlaceClones, Place, Vacant, detached_entry, retired_entry, next_entry, live}
+use Rattle.slotmap_core.specs.Words.{detached, next, live_value, content_of_places, offer, vacant_version, HasVersion, IsStacked}
+use Rattle.slotmap_core.specs.Places.{retired}
 use Rattle.slotmap_core.proofs.General.GatherLemmas.{gather-agree}
 use Rattle.slotmap_core.proofs.General.ListLemmas.{zip_length, zip_left, zip_right}
 use Rattle.slotmap_core.proofs.Places.PlacesLemmas.{get-live}

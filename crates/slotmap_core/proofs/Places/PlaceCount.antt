@@ -4,9 +4,7 @@ use Rattle.std.proofs.Common.{◌≡◌, ◌≢◌, ◌+◌, ◌<◌, max, Some,
 use Rattle.std.specs.FinMap as map
 use Rattle.std.specs.FinSet as set
 use Rattle.std.proofs.lemmas.Grind.{common_steps}
-use Rattle.slotmap_core.specs.Key.{Key}
-use Rattle.slotmap_core.specs.Content.{Content, IsContent, Stands, IsLive, used, places, most}
-use Rattle.slotmap_core.specs.Transition.{Inserts, Keeps, Removes, Replaces, Detaches, Reattaches}
+use Rattle.slotmap_core.specs.Words.{Key, Content, IsContent, Stands, IsLive, used, places, most, Inserts, Keeps, Removes, Replaces, Detaches, Reattaches}
 use Rattle.slotmap_core.proofs.General.KeyLemmas.{keys_total, exact_keys, nat_cmp_total}
 use Rattle.slotmap_core.proofs.General.Maps.{false_of, len_inserted, len_removed, len_item_inserted, len_item_removed}
 use Rattle.slotmap_core.proofs.Contents.Retired.{len_retired_freed}

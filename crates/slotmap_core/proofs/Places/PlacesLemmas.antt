@@ -4,9 +4,9 @@ use Rattle.std.proofs.Common.{◌≡◌, ◌≢◌, ℕ, ◌+◌, ◌<◌, ◌�
 use Rattle.std.proofs.lemmas.Option.{slice_get_past}
 use Rattle.std.specs.FinMap as map
 use Rattle.std.specs.FinSet as set
-use Rattle.slotmap_core.specs.Key.{Key, key_cmp, last_version}
-use Rattle.slotmap_core.specs.Gather.{add, gather}
-use Rattle.slotmap_core.specs.Places.{Place, Live, Detached, Vacant, Retired, live_entry, detached_entry, retired_entry, next_entry, live, detached, retired, next, live_value, is_detached_at}
+use Rattle.slotmap_core.specs.Words.{Key, key_cmp, last_version, add, gather, Place, Live, Detached, Vacant, Retired, live_entry, detached_entry, retired_entry}
+use Rattle.slotmap_core.specs.Words.{next_entry, live, detached, next, live_value, is_detached_at}
+use Rattle.slotmap_core.specs.Places.{retired}
 use Rattle.slotmap_core.proofs.General.KeyLemmas.{itself, nat_cmp_total, exact_unsigned}
 use Rattle.slotmap_core.proofs.General.MapLaws.{live_laws, detached_laws, next_laws, remove_absent, key_tie}
 use Rattle.slotmap_core.proofs.General.GatherLemmas.{look, get-gather, len-add, gather-set, gather-push, len-set, len-push}

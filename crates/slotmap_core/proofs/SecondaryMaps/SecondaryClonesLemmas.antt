@@ -2,9 +2,7 @@
 -- For the crates of maps.
 use Rattle.std.proofs.Common.{◌≡◌, ℕ, Option, Some, None, ap, arith}
 use Rattle.std.specs.FinMap as map
-use Rattle.slotmap_core.specs.Secondary.{Pairs, value_at}
-use Rattle.slotmap_core.specs.Clones.{IsCloneOf}
-use Rattle.slotmap_core.specs.SecondaryClones.{HasClones}
+use Rattle.slotmap_core.specs.Words.{Pairs, value_at, IsCloneOf, HasClones}
 
 module _ {V : Type 0} (is_clone : V → V → Type 0) where
   -- nothing for nothing, and for a version and its value the same version with a clone of the value

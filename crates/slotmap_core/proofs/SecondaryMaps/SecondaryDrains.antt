@@ -2,9 +2,7 @@
 -- For the crates of maps.
 use Rattle.std.proofs.Common.{◌≡◌, Option, Some, is_some, true, cond, ap, ◌∙◌}
 use Rattle.std.specs.FinMap as map
-use Rattle.slotmap_core.specs.Key.{Key}
-use Rattle.slotmap_core.specs.Secondary.{Pairs, get, contains_key, remove, keyed}
-use Rattle.slotmap_core.specs.Draining.{ListsAlong}
+use Rattle.slotmap_core.specs.Words.{Key, Pairs, get, contains_key, remove, keyed, ListsAlong}
 use Rattle.slotmap_core.proofs.SecondaryMaps.KeyedLemmas.{get-keyed, keyed-remove}
 use Rattle.slotmap_core.proofs.Contents.DrainingLemmas.{lists_along}
 

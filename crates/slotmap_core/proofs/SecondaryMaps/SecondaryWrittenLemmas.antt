@@ -4,9 +4,7 @@ use Rattle.std.proofs.Common.{◌≡◌, ℕ, ◌%◌, ◌<◌, List, length, sl
 use Rattle.std.proofs.Common.{sym, ap, subst, ◌∙◌, arith}
 use Rattle.std.proofs.lemmas.Option.{slice_get_past}
 use Rattle.std.specs.FinMap as map
-use Rattle.slotmap_core.specs.Secondary.{Pairs, IsSecondary, value_at, keyed}
-use Rattle.slotmap_core.specs.SecondaryWritten.{record_of_pair, slot_pair}
-use Rattle.slotmap_core.specs.FromList.{start_live}
+use Rattle.slotmap_core.specs.Words.{Pairs, IsSecondary, value_at, keyed, record_of_pair, slot_pair, start_live}
 use Rattle.slotmap_core.specs.declared.serial.SlotRecord.{SlotRecord}
 use Rattle.slotmap_core.proofs.General.KeyLemmas.{keys_total, exact_keys}
 use Rattle.slotmap_core.proofs.General.Maps.{none_of, false_of, some_is}

@@ -1,10 +1,7 @@
 -- Several live keys get new values, one after another: what SeveralLemmas needs of a content.
 -- For the crates of maps.
 use Rattle.std.proofs.Common.{◌≡◌, ◌∷◌, List, refl, sym}
-use Rattle.slotmap_core.specs.Key.{Key}
-use Rattle.slotmap_core.specs.Content.{Content}
-use Rattle.slotmap_core.specs.Transition.{with_value}
-use Rattle.slotmap_core.specs.Disjoint.{value_of, with_values}
+use Rattle.slotmap_core.specs.Words.{Key, Content, with_value, value_of, with_values}
 use Rattle.slotmap_core.proofs.General.KeyLemmas.{keys_total, exact_keys}
 use Rattle.slotmap_core.proofs.General.Maps.{get_inserted, get_other}
 use Rattle.slotmap_core.proofs.Several.SeveralLemmas.{WriteLaws}

@@ -3,10 +3,8 @@
 use Rattle.std.proofs.Common.{◌≡◌, ◌↔◌, ℕ, ◌+◌, ◌<◌, Bool, true, false, List, length, get_or, set, take}
 use Rattle.std.proofs.Common.{Option, Some, is_some, map as map_list, sym, ap, subst, ◌∙◌, ◌⊎◌, inl, inr, IsTrue, arith}
 use Rattle.std.proofs.lemmas.List.{get_or-map, get_or_default, length-map}
-use Rattle.std.specs.List.{list_any}
-use Rattle.std.specs.Cmp.{nat_cmp_total}
 use Rattle.std.specs.FinMap as map
-use Rattle.slotmap_core.specs.Key.{Key, IsKey}
+use Rattle.slotmap_core.specs.Words.{list_any, nat_cmp_total, Key, IsKey}
 use Rattle.slotmap_core.specs.Several.{CanReplace}
 use Rattle.slotmap_core.specs.Secondary as pair
 use Rattle.slotmap_core.proofs.SecondaryMaps.KeyedLemmas.{pairs_written}

@@ -4,11 +4,10 @@ use Rattle.std.proofs.Common.{◌≡◌, ◌≢◌, ◌↔◌, ℕ, suc, ◌+◌
 use Rattle.std.proofs.Common.{is_some, map as map_list, refl, sym, ap, subst, ◌∙◌, arith, All}
 use Rattle.std.proofs.lemmas.List.{length-set, take_more, take_more_set, drop_more, drop-set-lt, map_push, length-take-le, get_or-take, get_or_default, get_or-map, length-map}
 use Rattle.std.proofs.lemmas.List.Elements.{All-push}
-use Rattle.std.specs.List.{list_any}
 use Rattle.std.proofs.lemmas.List.Folds.{Any-from_list_any, list_any_at}
 use Rattle.std.proofs.lemmas.List.Quantifiers.{all_pairs_push}
 use Rattle.std.proofs.lemmas.Grind.{drop_more_same}
-use Rattle.slotmap_core.specs.Key.{Key}
+use Rattle.slotmap_core.specs.Words.{list_any, Key}
 use Rattle.slotmap_core.specs.Several.{CanReplace, AreValuesOf, with_values}
 use Rattle.slotmap_core.proofs.General.KeyLemmas.{same_or_other}
 

@@ -3,7 +3,7 @@
 //! To make a key type, copy this file and replace `NodeKey` by its name.
 
 ghost use Rattle.std.specs.Prelude.{◌≡◌, refl};
-ghost use Rattle.slotmap_core.specs.Key.{null_key};
+ghost use Rattle.slotmap_core.specs.Words.{null_key};
 
 use crate::keys::{Key, KeyData};
 use std::marker::Model;
@@ -21,7 +21,7 @@ use std::marker::Model;
 pub struct NodeKey(KeyData);
 
 impl Model for NodeKey {
-    ghost use Rattle.slotmap_core.specs.Key.{Key};
+    ghost use Rattle.slotmap_core.specs.Words.{Key};
 
     ghost Value = { Key };
 
@@ -72,8 +72,8 @@ impl Key for NodeKey {
 
     ghost from_gives_key = { λ d k h. h };
 
-    ghost use Rattle.slotmap_core.specs.Key.{same_keys};
     ghost use Rattle.std.proofs.Common.{sym};
+    ghost use Rattle.slotmap_core.specs.Words.{same_keys};
 
     ghost clone_same = { λ a b h. sym h };
 

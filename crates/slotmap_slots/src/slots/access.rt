@@ -2,9 +2,7 @@
 
 ghost use Rattle.std.specs.Prelude.{◌≡◌, ◌+◌, ◌<◌, ◌≤◌, IfNone, IfSome, option_copied, Some, true, false};
 ghost use Rattle.std.specs.FinMap as map;
-ghost use Rattle.std.specs.Borrow.{sem};
-ghost use Rattle.slotmap_core.specs.Key.{Key};
-ghost use Rattle.slotmap_core.specs.Content.{IsContent, IsLive};
+ghost use Rattle.slotmap_core.specs.Words.{sem, Key, IsContent, IsLive};
 
 use super::Slots;
 use crate::layout::Layout;

@@ -1,9 +1,7 @@
 //! Copies.
 
 ghost use Rattle.std.specs.Prelude.{true, IfOk};
-ghost use Rattle.slotmap_core.specs.Clones.{ClonesEqual};
-ghost use Rattle.slotmap_core.specs.Content.{IsContent};
-ghost use Rattle.slotmap_core.specs.Copy.{IsCopy, IsCloneBy};
+ghost use Rattle.slotmap_core.specs.Words.{ClonesEqual, IsContent, IsCopy, IsCloneBy};
 
 use super::Slots;
 use crate::layout::CopyLayout;

@@ -3,9 +3,7 @@
 ghost use Rattle.std.specs.Prelude.{◌≡◌, OnSome, IfNone, Some, true};
 ghost use Rattle.std.specs.FinMap as map;
 ghost use Rattle.std.specs.FinSet as set;
-ghost use Rattle.slotmap_core.specs.Content.{IsContent, IsDetached, IsLive};
-ghost use Rattle.slotmap_core.specs.Transition.{Detaches, Reattaches};
-ghost use Rattle.slotmap_core.specs.Call.{StaysValid};
+ghost use Rattle.slotmap_core.specs.Words.{IsContent, IsDetached, IsLive, Detaches, Reattaches, StaysValid};
 
 use super::Slots;
 use crate::layout::{Layout, Use};

@@ -1,8 +1,7 @@
 //! New keys.
 
 ghost use Rattle.std.specs.Prelude.{◌≡◌, ◌<◌, true};
-ghost use Rattle.slotmap_core.specs.Transition.{Inserts};
-ghost use Rattle.slotmap_core.specs.Call.{StaysValid};
+ghost use Rattle.slotmap_core.specs.Words.{Inserts, StaysValid};
 
 use super::Slots;
 use crate::layout::Layout;

@@ -1,9 +1,8 @@
 //! Iterators over slots in three vectors, by ascending index.
 
 ghost use Rattle.std.specs.Prelude.{◌≡◌, ◌≤◌, length, Some, IfSome, IfOk, ⊤};
-ghost use Rattle.std.specs.Iterator.{YieldsFirstBy, item_count, at_most, UpTo};
 ghost use Rattle.std.specs.FinMap as map;
-ghost use Rattle.slotmap_core.specs.Clones.{ClonesEqual, AreClones};
+ghost use Rattle.slotmap_core.specs.Words.{YieldsFirstBy, item_count, at_most, UpTo, ClonesEqual, AreClones};
 
 use super::Slots;
 use crate::layout::{Columns, Odds, version_in};
@@ -26,7 +25,7 @@ pub struct SlotIter<'a, P> {
 
 impl<'a, P> Model for SlotIter<'a, P> {
     ghost use Rattle.std.specs.Prelude.{List};
-    ghost use Rattle.slotmap_core.specs.Key.{Key};
+    ghost use Rattle.slotmap_core.specs.Words.{Key};
     ghost use Rattle.slotmap_slots.specs.Odds.{IsAhead};
     ghost use Rattle.slotmap_slots.specs.Iter.{pairs_left, IsIter};
 
@@ -101,7 +100,7 @@ pub struct SlotIntoIter<P> {
 
 impl<P> Model for SlotIntoIter<P> {
     ghost use Rattle.std.specs.Prelude.{List};
-    ghost use Rattle.slotmap_core.specs.Key.{Key};
+    ghost use Rattle.slotmap_core.specs.Words.{Key};
     ghost use Rattle.slotmap_slots.specs.Odds.{IsAhead};
     ghost use Rattle.slotmap_slots.specs.Iter.{pairs_left, IsIter};
 

@@ -2,13 +2,8 @@
 
 ghost use Rattle.std.specs.Prelude.{◌≡◌, ◌<◌, ◌^◌, ◌↔◌, ◌%◌, ℕ, length, IfOk, IsOk, IfErr, IsSome, true, Some};
 ghost use Rattle.std.specs.FinMap as map;
-ghost use Rattle.slotmap_core.specs.Clones.{ClonesEqual, IsCloneOf};
-ghost use Rattle.slotmap_core.specs.Key.{Key as KeyOf};
-ghost use Rattle.slotmap_core.specs.FromList.{start_live, start_stack};
+ghost use Rattle.slotmap_core.specs.Words.{ClonesEqual, IsCloneOf, Key as KeyOf, start_live, start_stack, ReadsAs, Accepts, RefusesStart, Writes, WritesClones};
 ghost use Rattle.slotmap_slots.specs.Slot.{version_at, payload_at};
-ghost use Rattle.slotmap_core.specs.ListRead.{ReadsAs};
-ghost use Rattle.slotmap_core.specs.Accepted.{Accepts, RefusesStart};
-ghost use Rattle.slotmap_core.specs.Written.{Writes, WritesClones};
 
 use super::Slots;
 use crate::layout::{Layout, Use};

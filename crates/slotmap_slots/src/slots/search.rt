@@ -2,11 +2,7 @@
 
 ghost use Rattle.std.specs.Prelude.{◌≡◌, ◌+◌, ◌<◌, ◌≤◌, IfNone, IfSome, true};
 ghost use Rattle.std.specs.FinMap as map;
-ghost use Rattle.slotmap_core.specs.Key.{Key};
-ghost use Rattle.slotmap_core.specs.Content.{IsContent, IsLive};
-ghost use Rattle.slotmap_core.specs.Listing.{NoneBelow};
-ghost use Rattle.slotmap_core.specs.Transition.{Leaves, FreesByIndex};
-ghost use Rattle.slotmap_core.specs.Call.{StaysValid};
+ghost use Rattle.slotmap_core.specs.Words.{Key, IsContent, IsLive, NoneBelow, Leaves, FreesByIndex, StaysValid};
 ghost use Rattle.slotmap_slots.specs.Ahead.{AreOddsOf};
 
 use super::Slots;

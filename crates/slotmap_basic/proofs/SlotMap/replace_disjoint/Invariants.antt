@@ -1,9 +1,7 @@
 use Rattle.std.proofs.Common.{map as map_list}
 use Rattle.std.proofs.Common.{true}
-use Rattle.slotmap_core.specs.Content.{IsContent}
-use Rattle.slotmap_core.specs.Transition.{with_value}
-use Rattle.slotmap_core.specs.Disjoint.{value_of}
-use Rattle.slotmap_core.proofs.Several.SeveralLemmas.{Exchanged}
+use Rattle.slotmap_core.specs.Words.{IsContent, with_value, value_of}
+use Rattle.slotmap_core.proofs.Lemmas.{Exchanged}
 use Rattle.slotmap_basic.proofs.SlotMap.replace_disjoint.Given as goal
 
 abbrev pub invariant-loop-i : goal.invariant-loop-i

@@ -1,5 +1,5 @@
 use Rattle.std.proofs.Common.{sym, rules}
-use Rattle.std.proofs.lemmas.List.{length-map}
+use Rattle.slotmap_core.proofs.Lemmas.{length-map}
 use Rattle.slotmap_dense.proofs.SettledLemmas.{lent, well_formed}
 use Rattle.slotmap_dense.proofs.DenseSlotMap.iter_mut.Goals as goal
 

@@ -1,6 +1,5 @@
 use Rattle.std.proofs.Common.{map as list_map, ap, ◌∙◌}
-use Rattle.std.proofs.lemmas.Slice.Zip.{firsts-zip}
-use Rattle.slotmap_core.proofs.General.ListingLemmas.{IsKeyListing-listing}
+use Rattle.slotmap_core.proofs.Lemmas.{firsts-zip, IsKeyListing-listing}
 use Rattle.slotmap_dense.proofs.DenseSlotMap.keys.Goals as goal
 
 pub returns-clause-listing : goal.returns-clause-listing

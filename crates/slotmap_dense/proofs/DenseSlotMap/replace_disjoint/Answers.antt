@@ -1,5 +1,5 @@
 use Rattle.std.proofs.Common.{subst, arith}
-use Rattle.slotmap_core.proofs.Several.ReplaceLemmas.{key_there, key_exchanged}
+use Rattle.slotmap_core.proofs.Lemmas.{key_there, key_exchanged}
 use Rattle.slotmap_dense.specs.Dense.{IsDense}
 use Rattle.slotmap_dense.proofs.WellFormed.{dense_written}
 use Rattle.slotmap_dense.proofs.DenseSlotMap.replace_disjoint.Goals as goal

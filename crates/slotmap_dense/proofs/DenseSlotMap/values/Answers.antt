@@ -1,5 +1,5 @@
 use Rattle.std.proofs.Common.{map as list_map, ap, ◌∙◌}
-use Rattle.std.proofs.lemmas.Slice.Zip.{seconds-zip}
+use Rattle.slotmap_core.proofs.Lemmas.{seconds-zip}
 use Rattle.slotmap_dense.proofs.DenseSlotMap.values.Goals as goal
 
 pub returns-clause-in_order : goal.returns-clause-in_order

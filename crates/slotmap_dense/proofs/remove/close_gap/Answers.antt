@@ -1,6 +1,5 @@
 use Rattle.std.proofs.Common.{refl, arith}
-use Rattle.std.proofs.lemmas.Option.{slice_get_read}
-use Rattle.slotmap_core.proofs.Contents.ContentLemmas.{IsContent-with_value}
+use Rattle.slotmap_core.proofs.Lemmas.{slice_get_read, IsContent-with_value}
 use Rattle.slotmap_dense.proofs.GapLemmas.{keys_after, packed_cut, packed_moved, moved_live}
 use Rattle.slotmap_dense.proofs.remove.close_gap.Goals as goal
 

@@ -1,5 +1,5 @@
 use Rattle.std.proofs.Common.{◌≡◌, ◌+◌, ap, sym, ◌∙◌, arith}
-use Rattle.slotmap_core.proofs.Places.PlacesLemmas.{key}
+use Rattle.slotmap_core.proofs.Lemmas.{key}
 use Rattle.slotmap_hop.specs.Links.{fronts_of}
 use Rattle.slotmap_hop.specs.Slots.{all_links, next_place}
 use Rattle.slotmap_hop.proofs.SlotLemmas.{valid}

@@ -1,8 +1,6 @@
 use Rattle.std.proofs.Common.{◌≡◌, ◌∷◌, ◌++◌, [], length, true, refl, sym, ap, subst, ◌∙◌, arith}
-use Rattle.std.specs.Vec.Iter.{into_iter_items}
-use Rattle.std.proofs.lemmas.List.{with_items_is}
-use Rattle.slotmap_core.specs.Accepted.{Accepts, AllFitBelow}
-use Rattle.slotmap_core.proofs.FromList.ReadsAsLemmas.{reads_as, first_taken}
+use Rattle.slotmap_core.specs.Words.{into_iter_items, Accepts, AllFitBelow}
+use Rattle.slotmap_core.proofs.Lemmas.{with_items_is, reads_as, first_taken}
 use Rattle.slotmap_hop.proofs.SlotLemmas.{valid, same_length}
 use Rattle.slotmap_hop.proofs.FromListLemmas.{AreRead, AreRead-first, AreRead-vacant, AreRead-in_use, read_count, with_slot, can_open, IsSound-read, starts-read, reading_counted, reading_all, reading_on}
 use Rattle.slotmap_hop.proofs.HopSlotMap.from_slots.Goals.{In_ok-check_slots, In-None, After-push_reserved-in-loop-slot}

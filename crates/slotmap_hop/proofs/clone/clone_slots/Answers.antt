@@ -1,6 +1,5 @@
 use Rattle.std.proofs.Common.{◌<◌, length, refl, ap, arith}
-use Rattle.std.proofs.lemmas.Option.{slice_get_read}
-use Rattle.slotmap_core.proofs.General.ListLemmas.{zip_next}
+use Rattle.slotmap_core.proofs.Lemmas.{slice_get_read, zip_next}
 use Rattle.slotmap_hop.proofs.clone.clone_slots.Goals as goal
 
 pub loop-index-preserved : goal.loop-index-preserved

@@ -1,6 +1,5 @@
-use Rattle.std.proofs.lemmas.Result.{IfOk-weaker}
-use Rattle.slotmap_core.specs.Given.{given}
-use Rattle.slotmap_core.specs.Step.{DetachStep}
+use Rattle.slotmap_core.specs.Words.{given, DetachStep}
+use Rattle.slotmap_core.proofs.Lemmas.{IfOk-weaker}
 use Rattle.slotmap_run.proofs.RunLaws.{detach_lawful, all_anew, in_order}
 use Rattle.slotmap_run.proofs.primary.run_detaching_new.Goals as goal
 

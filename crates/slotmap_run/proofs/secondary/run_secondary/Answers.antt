@@ -1,7 +1,6 @@
-use Rattle.std.proofs.lemmas.Result.{IfOk-weaker}
-use Rattle.slotmap_core.specs.SecondaryStep.{given_secondary}
+use Rattle.slotmap_core.specs.Words.{given_secondary}
+use Rattle.slotmap_core.proofs.Lemmas.{IfOk-weaker, run_seen_by, each_agrees}
 use Rattle.slotmap_core.specs.SecondaryStep.{Step}
-use Rattle.slotmap_core.proofs.ForCallers.SecondaryRuns.{run_seen_by, each_agrees}
 use Rattle.slotmap_run.proofs.Runs.{run_seen}
 use Rattle.slotmap_run.proofs.secondary.run_secondary.Goals as goal
 

@@ -1,6 +1,5 @@
 use Rattle.std.proofs.Common.{subst}
-use Rattle.slotmap_core.specs.Secondary.{Pairs}
-use Rattle.slotmap_core.specs.SecondaryExtend.{AllPut}
+use Rattle.slotmap_core.specs.Words.{Pairs, AllPut}
 use Rattle.slotmap_secondary.proofs.SecondaryMap.from_iter.Goals as goal
 
 pub returns-in-Err-clause-err : goal.returns-in-Err-clause-err

@@ -1,5 +1,5 @@
 use Rattle.std.proofs.Common.{refl}
-use Rattle.slotmap_core.proofs.Places.InOrderLemmas.{listing-entries}
+use Rattle.slotmap_core.proofs.Lemmas.{listing-entries}
 use Rattle.slotmap_secondary.proofs.IterLemmas.{values-slots, counted-values}
 use Rattle.slotmap_secondary.proofs.WellFormed.{well_formed}
 use Rattle.slotmap_secondary.proofs.SecondaryMap.values.Goals as goal

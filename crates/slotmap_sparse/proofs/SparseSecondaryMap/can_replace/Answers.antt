@@ -1,7 +1,6 @@
 use Rattle.std.proofs.Common.{arith}
-use Rattle.slotmap_core.specs.Secondary.{get}
-use Rattle.slotmap_core.proofs.Several.SeveralLemmas.{CanReplace-next}
-use Rattle.slotmap_core.proofs.Several.ReplaceLemmas.{refuses_key}
+use Rattle.slotmap_core.specs.Words.{get}
+use Rattle.slotmap_core.proofs.Lemmas.{CanReplace-next, refuses_key}
 use Rattle.slotmap_sparse.proofs.SparseSecondaryMap.can_replace.Goals as goal
 
 pub returns-then-not-contains_key-clause-which : goal.returns-then-not-contains_key-clause-which

@@ -1,6 +1,5 @@
 use Rattle.std.proofs.Common.{refl, ◌∙◌, arith}
-use Rattle.slotmap_core.proofs.Contents.DrainingLemmas.{kept_along}
-use Rattle.slotmap_core.proofs.SecondaryMaps.SecondaryDrains.{lists_taken}
+use Rattle.slotmap_core.proofs.Lemmas.{kept_along, lists_taken}
 use Rattle.slotmap_sparse.specs.Drain.{drain_loan, DrainKeeps, DrainSteps}
 use Rattle.slotmap_sparse.proofs.SparseSecondaryMap.drain.Goals as goal
 

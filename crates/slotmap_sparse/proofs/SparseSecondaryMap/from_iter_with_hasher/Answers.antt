@@ -1,6 +1,5 @@
 use Rattle.std.proofs.Common.{refl, subst}
-use Rattle.slotmap_core.specs.Secondary.{Pairs}
-use Rattle.slotmap_core.specs.SecondaryExtend.{AllPut}
+use Rattle.slotmap_core.specs.Words.{Pairs, AllPut}
 use Rattle.slotmap_sparse.proofs.SparseSecondaryMap.from_iter_with_hasher.Goals as goal
 
 pub returns-in-Err-clause-err : goal.returns-in-Err-clause-err

@@ -1,9 +1,7 @@
 use Rattle.std.proofs.Common.{◌≡◌, ℕ, List, Some, refl, sym, ap, subst, ◌∙◌}
 use Rattle.std.specs.FinMap as map
-use Rattle.slotmap_core.specs.Key.{Key, key_from}
-use Rattle.slotmap_core.specs.Secondary.{keyed}
-use Rattle.slotmap_core.specs.Retain.{MayCome}
-use Rattle.slotmap_core.proofs.General.KeyLemmas.{key_from-odd}
+use Rattle.slotmap_core.specs.Words.{Key, key_from, keyed, MayCome}
+use Rattle.slotmap_core.proofs.Lemmas.{key_from-odd}
 use Rattle.slotmap_sparse.specs.Entries.{pairs_of, IsSound}
 use Rattle.slotmap_sparse.proofs.EntriesLemmas.{more_room, well_formed}
 use Rattle.slotmap_sparse.proofs.IterLemmas.{of_keys, valid_from}

@@ -1,10 +1,7 @@
 use Rattle.std.proofs.Common.{◌+◌, ◌∷◌, refl, sym, ap, ◌∙◌, arith}
 use Rattle.std.specs.FinMap as map
-use Rattle.slotmap_core.specs.Listing.{NoneBelow}
-use Rattle.slotmap_core.proofs.General.KeyLemmas.{keys_total, exact_keys}
-use Rattle.slotmap_core.proofs.General.Maps.{len_removed}
-use Rattle.slotmap_core.proofs.Contents.IndexLemmas.{none_live}
-use Rattle.slotmap_core.proofs.Contents.SweepLemmas.{Empties-first, first_entry, above_next}
+use Rattle.slotmap_core.specs.Words.{NoneBelow}
+use Rattle.slotmap_core.proofs.Lemmas.{keys_total, exact_keys, len_removed, none_live, Empties-first, first_entry, above_next}
 use Rattle.slotmap_slots.proofs.AheadLemmas.{odds_removed}
 use Rattle.slotmap_basic.specs.Drain.{DrainCanStep}
 use Rattle.slotmap_basic.proofs.drain.DrainIterator.next.Goals as goal

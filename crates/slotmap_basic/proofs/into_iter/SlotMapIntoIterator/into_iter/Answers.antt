@@ -1,5 +1,5 @@
 use Rattle.std.proofs.Common.{refl}
-use Rattle.slotmap_core.proofs.Places.InOrderLemmas.{listing-entries}
+use Rattle.slotmap_core.proofs.Lemmas.{listing-entries}
 use Rattle.slotmap_basic.proofs.into_iter.SlotMapIntoIterator.into_iter.Goals as goal
 
 pub returns : goal.returns

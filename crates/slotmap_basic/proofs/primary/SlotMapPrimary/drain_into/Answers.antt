@@ -1,7 +1,6 @@
 use Rattle.std.proofs.Common.{subst, sym}
-use Rattle.std.proofs.lemmas.Result.{on_ok_weaker}
-use Rattle.slotmap_core.specs.Listing.{IsListing}
-use Rattle.slotmap_core.proofs.Places.InOrderLemmas.{listing-entries}
+use Rattle.slotmap_core.specs.Words.{IsListing}
+use Rattle.slotmap_core.proofs.Lemmas.{on_ok_weaker, listing-entries}
 use Rattle.slotmap_basic.proofs.primary.SlotMapPrimary.drain_into.Goals as goal
 
 pub returns-clause-ok : goal.returns-clause-ok

@@ -1,6 +1,5 @@
 use Rattle.std.proofs.Common.{◌≡◌, rules, sym}
-use Rattle.std.proofs.lemmas.List.Elements.{same_from_all_zip}
-use Rattle.slotmap_core.proofs.Contents.CloneLemmas.{pairs_equal}
+use Rattle.slotmap_core.proofs.Lemmas.{same_from_all_zip, pairs_equal}
 use Rattle.slotmap_dense.proofs.CloneLemmas.{pairs-clones}
 use Rattle.slotmap_dense.proofs.into_iter.IntoIter.clone.Goals as goal
 

@@ -1,6 +1,5 @@
 use Rattle.std.proofs.Common.{arith}
-use Rattle.std.proofs.lemmas.Grind.{common_steps}
-use Rattle.std.proofs.lemmas.Slice.Zip.{length-zip}
+use Rattle.slotmap_core.proofs.Lemmas.{common_steps, length-zip}
 use Rattle.slotmap_dense.proofs.iter_mut.IterMut.len.Goals as goal
 
 pub returns : goal.returns

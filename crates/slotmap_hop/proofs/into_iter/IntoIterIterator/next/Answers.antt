@@ -1,8 +1,6 @@
 use Rattle.std.proofs.Common.{◌≡◌, ◌+◌, ◌-◌, ◌∷◌, sym, ap, refl, ◌∙◌, arith}
-use Rattle.std.specs.Vec.{with_items}
-use Rattle.std.proofs.lemmas.List.{with_items_is}
-use Rattle.std.proofs.lemmas.Option.{same_Some}
-use Rattle.slotmap_core.proofs.Places.PlacesLemmas.{key}
+use Rattle.slotmap_core.specs.Words.{with_items}
+use Rattle.slotmap_core.proofs.Lemmas.{with_items_is, same_Some, key}
 use Rattle.slotmap_hop.specs.Slots.{version_in}
 use Rattle.slotmap_hop.specs.Iter.{pairs_left, IsIter, FindsSlot}
 use Rattle.slotmap_hop.proofs.SlotLemmas.{same_length}

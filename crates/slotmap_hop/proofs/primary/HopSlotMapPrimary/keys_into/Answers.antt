@@ -1,8 +1,6 @@
 use Rattle.std.proofs.Common.{subst, sym}
-use Rattle.std.proofs.lemmas.Result.{on_ok_weaker}
-use Rattle.slotmap_core.specs.Listing.{IsKeyListing}
-use Rattle.slotmap_core.proofs.General.ListingLemmas.{IsKeyListing-listing}
-use Rattle.slotmap_core.proofs.Places.InOrderLemmas.{listing-entries}
+use Rattle.slotmap_core.specs.Words.{IsKeyListing}
+use Rattle.slotmap_core.proofs.Lemmas.{on_ok_weaker, IsKeyListing-listing, listing-entries}
 use Rattle.slotmap_hop.proofs.primary.HopSlotMapPrimary.keys_into.Goals as goal
 
 pub returns-clause-ok : goal.returns-clause-ok

@@ -1,5 +1,5 @@
 use Rattle.std.proofs.Common.{◌≡◌, ◌+◌, ◌%◌, get_or, ap, ◌∙◌, arith}
-use Rattle.std.proofs.lemmas.Simd.{get_or-chunk}
+use Rattle.slotmap_core.proofs.Lemmas.{get_or-chunk}
 use Rattle.slotmap_slots.proofs.layout.odds.bits_of_chunk.Goals as goal
 
 pub returns : goal.returns

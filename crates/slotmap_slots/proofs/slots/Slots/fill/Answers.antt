@@ -1,8 +1,6 @@
 use Rattle.std.proofs.Common.{◌+◌, ◌-◌, ◌<◌, length, is_some, ap, sym, ◌∙◌, arith}
-use Rattle.std.proofs.lemmas.List.{length_push}
-use Rattle.std.proofs.lemmas.Option.{slice_get_within, same_Some}
+use Rattle.slotmap_core.proofs.Lemmas.{length_push, slice_get_within, same_Some, key}
 use Rattle.slotmap_slots.specs.Slot.{full, vacancies}
-use Rattle.slotmap_core.proofs.Places.PlacesLemmas.{key}
 use Rattle.slotmap_slots.proofs.SlotLemmas.{used_places-slots}
 use Rattle.slotmap_slots.proofs.SlotGrowth.{IsSound-pushed, inserts-pushed, none_free, some_free, top, top_read, top_next, top_version, offer-new, offer-top, filled_top, inserts-filled}
 use Rattle.slotmap_slots.proofs.SettledLemmas.{settled_stays, settled_room, settled_fits, vacancies-push, vacancies-set, settled-set}

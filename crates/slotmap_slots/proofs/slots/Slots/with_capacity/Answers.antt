@@ -1,8 +1,7 @@
 use Rattle.std.proofs.Common.{arith}
-use Rattle.slotmap_core.proofs.Places.PlacesLemmas.{sentinel_alone}
+use Rattle.slotmap_core.proofs.Lemmas.{sentinel_alone, used_places-sentinel}
 use Rattle.slotmap_slots.proofs.SlotLemmas.{valid}
 use Rattle.slotmap_slots.proofs.SlotGrowth.{IsSound-sentinel}
-use Rattle.slotmap_core.proofs.Places.StackLemmas.{used_places-sentinel}
 use Rattle.slotmap_slots.proofs.slots.Slots.with_capacity.Goals as goal
 
 pub invariant_of-result : goal.invariant_of-result

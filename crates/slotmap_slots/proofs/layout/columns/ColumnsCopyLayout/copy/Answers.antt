@@ -1,9 +1,8 @@
 use Rattle.std.proofs.Common.{◌≡◌, length, ap, ◌∙◌, arith}
-use Rattle.std.specs.List.{AllZip}
-use Rattle.slotmap_core.specs.Clones.{IsCloneOf}
+use Rattle.slotmap_core.specs.Words.{AllZip, IsCloneOf}
+use Rattle.slotmap_core.proofs.Lemmas.{zip_length}
 use Rattle.slotmap_slots.specs.Numbers.{uses_of}
 use Rattle.slotmap_slots.proofs.ColumnLemmas.{zip-length}
-use Rattle.slotmap_core.proofs.General.ListLemmas.{zip_length}
 use Rattle.slotmap_slots.proofs.NumberLemmas.{uses-length}
 use Rattle.slotmap_slots.proofs.SlotClones.{option_clones, zip-clones}
 use Rattle.slotmap_slots.proofs.layout.columns.ColumnsCopyLayout.copy.Goals as goal

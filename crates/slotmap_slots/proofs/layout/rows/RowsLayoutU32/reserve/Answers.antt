@@ -1,5 +1,5 @@
 use Rattle.std.proofs.Common.{◌+◌, length, ap, arith}
-use Rattle.std.proofs.lemmas.List.{length-map}
+use Rattle.slotmap_core.proofs.Lemmas.{length-map}
 use Rattle.slotmap_slots.specs.Rows.{slot_of_row}
 use Rattle.slotmap_slots.proofs.layout.rows.RowsLayoutU32.reserve.Goals as goal
 

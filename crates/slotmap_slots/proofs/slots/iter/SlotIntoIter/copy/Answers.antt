@@ -1,10 +1,8 @@
 use Rattle.std.proofs.Common.{◌≡◌}
-use Rattle.std.proofs.lemmas.List.Elements.{same_from_all_zip}
-use Rattle.std.specs.List.{AllZip}
-use Rattle.slotmap_core.specs.Clones.{IsCloneOf}
+use Rattle.slotmap_core.specs.Words.{AllZip, IsCloneOf}
+use Rattle.slotmap_core.proofs.Lemmas.{same_from_all_zip, pairs_equal}
 use Rattle.slotmap_slots.proofs.SlotClones.{option_clones}
 use Rattle.slotmap_slots.proofs.IterClones.{pairs_left-clones, IsIter-clones}
-use Rattle.slotmap_core.proofs.Contents.CloneLemmas.{pairs_equal}
 use Rattle.slotmap_slots.proofs.slots.iter.SlotIntoIter.copy.Goals as goal
 
 pub invariant_of-result : goal.invariant_of-result

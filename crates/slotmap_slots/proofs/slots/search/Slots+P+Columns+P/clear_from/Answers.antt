@@ -1,10 +1,7 @@
 use Rattle.std.proofs.Common.{true, refl, sym, ap, ◌∙◌, inl, arith}
 use Rattle.std.specs.FinMap as map
-use Rattle.slotmap_core.proofs.General.KeyLemmas.{keys_total, exact_keys}
-use Rattle.slotmap_core.proofs.General.Maps.{in_after_remove}
-use Rattle.slotmap_core.proofs.Places.PlaceCount.{removed_places}
-use Rattle.slotmap_core.proofs.Contents.IndexLemmas.{alone_at, NoneBelow-removed, none_live, get-remove_other}
-use Rattle.slotmap_core.proofs.Contents.SweepLemmas.{Swept-start, Swept-to, Swept-removed}
+use Rattle.slotmap_core.proofs.Lemmas.{keys_total, exact_keys, in_after_remove, removed_places, alone_at, NoneBelow-removed, none_live, get-remove_other}
+use Rattle.slotmap_core.proofs.Lemmas.{Swept-start, Swept-to, Swept-removed}
 use Rattle.slotmap_slots.proofs.AheadLemmas.{odds_removed}
 use Rattle.slotmap_slots.proofs.slots.search.Slots+P+Columns+P.clear_from.Goals as goal
 

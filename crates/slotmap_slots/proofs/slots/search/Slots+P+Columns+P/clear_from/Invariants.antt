@@ -1,9 +1,7 @@
 use Rattle.std.proofs.Common.{◌≡◌, ◌<◌, ◌≤◌, ◌+◌, ◌-◌, true}
 use Rattle.std.specs.FinMap as map
-use Rattle.slotmap_core.specs.Key.{Key}
-use Rattle.slotmap_core.specs.Content.{IsLive, places}
-use Rattle.slotmap_core.specs.Listing.{NoneBelow}
-use Rattle.slotmap_core.proofs.Contents.SweepLemmas.{Swept}
+use Rattle.slotmap_core.specs.Words.{Key, IsLive, places, NoneBelow}
+use Rattle.slotmap_core.proofs.Lemmas.{Swept}
 use Rattle.slotmap_slots.specs.Ahead.{AreOddsOf}
 use Rattle.slotmap_slots.proofs.slots.search.Slots+P+Columns+P.clear_from.Given as goal
 
