@@ -1,8 +1,8 @@
 -- What the calls of a closure did so far to a map, by ascending index.
-use Rattle.std.proofs.Common.{◌≡◌, ℕ, ◌+◌, ◌<◌, ◌≤◌, Bool, true, false, cond, inl, List, [], ◌∷◌, ◌++◌, Some, is_some, refl, ap, subst, ◌∙◌, arith}
-use Rattle.std.specs.Borrow.{MutBor}
 use Rattle.std.specs.FinMap as map
-use Rattle.slotmap_core.specs.Words.{Mut, Takes, FoldsTo, Key, Content, IsContent, IsLive, Visit, CallsAt, CallableOnEach, RetainsBy, Removes, with_value}
+use Rattle.slotmap_core.specs.Words.{Mut, Takes, MutBor, FoldsTo, Key, Content, IsContent, IsLive, Visit, CallsAt, CallableOnEach, RetainsBy, Removes}
+use Rattle.slotmap_core.specs.Words.{with_value}
+use Rattle.slotmap_core.proofs.Lemmas.{◌≡◌, ℕ, ◌+◌, ◌<◌, ◌≤◌, Bool, true, false, cond, inl, List, [], ◌∷◌, ◌++◌, Some, is_some, refl, ap, subst, ◌∙◌, arith}
 use Rattle.slotmap_core.proofs.Lemmas.{FoldsTo-push, from_index, same_live, Swept, Swept-start, Swept-on, Swept-next, Swept-removed, IsNextLive, remove-insert}
 use Rattle.slotmap_core.proofs.Lemmas.{Keyed-from_start, Keyed-next, Keyed-same, Keyed-may_come, Keyed-done, Visits, Visits-listed, Visits-stay}
 
@@ -61,7 +61,7 @@ module _ {F K V : Type 0} (g : Mut F (K × (MutBor V × Unit {0})) (Bool × (Mut
       Going-kept stays = one_more (with_value now k x.after) (Swept-on old (with_value now k x.after) k.index written) (rw stays refl)
 
       -- it is live until it is removed
-      pub still_live : IsLive (with_value now k x.after) k
+      still_live : IsLive (with_value now k x.after) k
       still_live = same_live now k x.after is_live k ∙ is_live
 
       pub Going-dropped : x.stays ≡ false → (new : Content V) → Removes (with_value now k x.after) k new → new.capacity ≡ now.capacity → IsContent true new → Going new (k.index + 1) f'

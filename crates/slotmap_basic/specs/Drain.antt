@@ -1,9 +1,6 @@
 -- What a contract sees of a `Drain`.
-use Rattle.std.specs.Prelude.{Option}
-use Rattle.std.specs.Borrow.{MutBor}
 use Rattle.std.specs.FinMap as map
-use Rattle.slotmap_core.specs.Words.{Key, key_cmp, Content, KeepsLoan, NoneBelow, TakesPair, EmptiesByIndex}
-use Rattle.slotmap_core.specs.Transition.{TakesFirst}
+use Rattle.slotmap_core.specs.Words.{Option, MutBor, Key, key_cmp, Content, KeepsLoan, NoneBelow, TakesPair, TakesFirst, EmptiesByIndex}
 use Rattle.slotmap_slots.specs.Ahead.{AreOddsOf}
 use Rattle.slotmap_basic.specs.declared.drain.Drain.{Drain}
 

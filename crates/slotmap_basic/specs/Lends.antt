@@ -1,7 +1,5 @@
 -- What a slot map ends as, once a `&mut` to one of its values was returned.
-use Rattle.std.specs.Prelude.{Option}
-use Rattle.std.specs.Borrow.{MutBor}
-use Rattle.slotmap_core.specs.Words.{Lends, LendsIf, Fml, RattleType, Key, Content, with_value}
+use Rattle.slotmap_core.specs.Words.{Option, Lends, LendsIf, Fml, RattleType, MutBor, Key, Content, with_value}
 use Rattle.slotmap_basic.specs.contracts.SlotMap.{the_row}
 
 module _ (K V : RattleType) (m : MutBor (Content V.Denot)) (k : Key) where

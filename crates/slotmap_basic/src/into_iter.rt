@@ -1,7 +1,7 @@
 //! The iterator over a map by value.
 
-ghost use Rattle.std.specs.Prelude.{◌≡◌, ◌≤◌, length, Some, IfSome, IfOk};
-ghost use Rattle.slotmap_core.specs.Words.{YieldsFirstBy, item_count, at_most, UpTo, ClonesEqual, AreClones, ListsByIndex};
+ghost use Rattle.slotmap_core.specs.Words.{◌≡◌, ◌≤◌, length, Some, IfSome, IfOk, YieldsFirstBy, item_count, at_most, UpTo, ClonesEqual, AreClones};
+ghost use Rattle.slotmap_core.specs.Words.{ListsByIndex};
 
 use crate::SlotMap;
 use slotmap_core::keys::Key;
@@ -30,8 +30,7 @@ pub struct IntoIter<K, V> {
 }
 
 impl<K, V> Model for IntoIter<K, V> {
-    ghost use Rattle.std.specs.Prelude.{List};
-    ghost use Rattle.slotmap_core.specs.Words.{Key};
+    ghost use Rattle.slotmap_core.specs.Words.{List, Key};
 
     ghost Value = { List (Key × V) };
 

@@ -1,8 +1,8 @@
 //! Iterators over the keys and values of a map, by ascending index.
 
-ghost use Rattle.std.specs.Prelude.{◌≡◌, ◌≤◌, length, Some, IfSome, ⊤, true};
 ghost use Rattle.std.specs.FinMap as map;
-ghost use Rattle.slotmap_core.specs.Words.{YieldsFirstBy, item_count, at_most, UpTo, IsContent, IsListing, IsKeyListing, IsValueListing, ListsByIndex};
+ghost use Rattle.slotmap_core.specs.Words.{◌≡◌, ◌≤◌, length, Some, IfSome, ⊤, true, YieldsFirstBy, item_count, at_most, UpTo, IsContent, IsListing};
+ghost use Rattle.slotmap_core.specs.Words.{IsKeyListing, IsValueListing, ListsByIndex};
 
 use crate::SlotMap;
 use slotmap_core::keys::Key;
@@ -23,8 +23,7 @@ pub struct Iter<'a, K, V> {
 }
 
 impl<'a, K, V> Model for Iter<'a, K, V> {
-    ghost use Rattle.std.specs.Prelude.{List};
-    ghost use Rattle.slotmap_core.specs.Words.{Key};
+    ghost use Rattle.slotmap_core.specs.Words.{List, Key};
 
     ghost Value = { List (Key × V) };
 
@@ -111,8 +110,7 @@ pub struct Keys<'a, K, V> {
 }
 
 impl<'a, K, V> Model for Keys<'a, K, V> {
-    ghost use Rattle.std.specs.Prelude.{List, map};
-    ghost use Rattle.slotmap_core.specs.Words.{Key};
+    ghost use Rattle.slotmap_core.specs.Words.{List, map, Key};
 
     ghost Value = { List Key };
 
@@ -197,7 +195,7 @@ pub struct Values<'a, K, V> {
 }
 
 impl<'a, K, V> Model for Values<'a, K, V> {
-    ghost use Rattle.std.specs.Prelude.{List, map};
+    ghost use Rattle.slotmap_core.specs.Words.{List, map};
 
     ghost Value = { List V };
 

@@ -1,6 +1,6 @@
 //! `SlotMap` as a primary map: each call is the map's own.
 
-ghost use Rattle.std.specs.Prelude.{true, refl};
+ghost use Rattle.slotmap_core.specs.Words.{true, refl};
 
 use crate::SlotMap;
 use slotmap_core::errors::{

@@ -1,7 +1,6 @@
 //! The call that visits all live keys of a map, by ascending index, and keeps or removes each.
 
-ghost use Rattle.std.specs.Prelude.{true};
-ghost use Rattle.slotmap_core.specs.Words.{Leaves, FreesByIndex, RetainsBy, CallableOnEach, StaysValid};
+ghost use Rattle.slotmap_core.specs.Words.{true, Leaves, FreesByIndex, RetainsBy, CallableOnEach, StaysValid};
 
 use crate::SlotMap;
 use slotmap_core::keys::Key;

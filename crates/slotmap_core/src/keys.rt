@@ -4,8 +4,7 @@
 //! version is larger than that of each earlier key of the slot, so a stale key finds no later
 //! value.
 
-ghost use Rattle.std.specs.Prelude.{◌≡◌, ◌↔◌, ◌/◌, ◌%◌, ◌^◌, IsTrue, refl};
-ghost use Rattle.slotmap_core.specs.Words.{Key as KeyOf, IsKey, null_key, ffi, key_from, is_older};
+ghost use Rattle.slotmap_core.specs.Words.{◌≡◌, ◌↔◌, ◌/◌, ◌%◌, ◌^◌, IsTrue, refl, Key as KeyOf, IsKey, null_key, ffi, key_from, is_older};
 
 use std::fmt;
 use std::hash::{Hash, Hasher};
@@ -182,8 +181,7 @@ impl Default for KeyData {
 
 impl Hash for KeyData {
     ghost use Rattle.std.proofs.Common.{rules};
-    ghost use Rattle.std.specs.Cmp.Rules.{hashing};
-    ghost use Rattle.slotmap_core.specs.Words.{hashed};
+    ghost use Rattle.slotmap_core.specs.Words.{hashed, hashing};
 
     ghost hash_input = { hashed };
 

@@ -1,11 +1,11 @@
 -- A list of slots is read into a list of positions and two packed lists.
-use Rattle.std.proofs.Common.{◌≡◌, ℕ, zero, suc, ◌+◌, ◌<◌, ◌≤◌, ◌%◌, Bool, true, false, List, [], ◌∷◌, ◌++◌}
-use Rattle.std.proofs.Common.{length, slice_get, map as list_map, Option, None, Some, is_some, refl, sym, ap, ◌∙◌, arith}
 use Rattle.std.specs.FinMap as map
 use Rattle.slotmap_core.specs.Words.{Key, Content, IsContent, gather, ReadsAs, start_live, live_slot, vacant_slot, retired_slot, start_next, start_retired}
 use Rattle.slotmap_core.specs.Words.{start_stack, Accepts, RefusesStart}
-use Rattle.slotmap_core.proofs.Lemmas.{nat_tests, length_push, length-map, map_push, slice_get-map, slice_get_within, gather-push_put, gather-push_same}
-use Rattle.slotmap_core.proofs.Lemmas.{live_laws, some_is, live_in, found_within, none_from, entries_none, reads_as, key}
+use Rattle.slotmap_core.proofs.Lemmas.{◌≡◌, ℕ, zero, suc, ◌+◌, ◌<◌, ◌≤◌, ◌%◌, Bool, true, false, List, [], ◌∷◌, ◌++◌, length, slice_get, map as list_map}
+use Rattle.slotmap_core.proofs.Lemmas.{Option, None, Some, is_some, refl, sym, ap, ◌∙◌, arith, nat_tests, length_push, length-map, map_push, slice_get-map}
+use Rattle.slotmap_core.proofs.Lemmas.{slice_get_within, gather-push_put, gather-push_same, live_laws, some_is, live_in, found_within, none_from, entries_none}
+use Rattle.slotmap_core.proofs.Lemmas.{reads_as, key}
 use Rattle.slotmap_core.specs.declared.errors.SlotsError.{SlotsError}
 use Rattle.slotmap_core.specs.declared.errors.SlotsError.TheVariants.{TooMany, FirstNotEmpty, Inconsistent, Memory}
 use Rattle.slotmap_core.specs.declared.serial.SlotRecord.{SlotRecord}

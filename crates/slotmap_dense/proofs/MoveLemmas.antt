@@ -1,9 +1,8 @@
 -- What a dense map holds after each call that changes it.
-use Rattle.std.proofs.Common.{◌≡◌, ℕ, ◌<◌, ◌≤◌, Bool, true, List, [], ◌∷◌, ◌++◌, length, Some, None, inl, arith}
 use Rattle.std.specs.FinMap as map
-use Rattle.std.specs.List.{swap_remove}
-use Rattle.slotmap_core.specs.Words.{Key, IsKey, Content, IsContent, IsDetached, used, most, Inserts, Removes, Detaches, Reattaches}
-use Rattle.slotmap_core.proofs.Lemmas.{length_push, slice_get_within, common_steps, offer_unused, none_of, false_of}
+use Rattle.slotmap_core.specs.Words.{swap_remove, Key, IsKey, Content, IsContent, IsDetached, used, most, Inserts, Removes, Detaches, Reattaches}
+use Rattle.slotmap_core.proofs.Lemmas.{◌≡◌, ℕ, ◌<◌, ◌≤◌, Bool, true, List, [], ◌∷◌, ◌++◌, length, Some, None, inl, arith, length_push, slice_get_within}
+use Rattle.slotmap_core.proofs.Lemmas.{common_steps, offer_unused, none_of, false_of}
 use Rattle.slotmap_dense.specs.Packed.{IsPacked, IsSound, live_of, dense_of}
 use Rattle.slotmap_dense.proofs.SwapRemoveLemmas.{length-swap_remove}
 use Rattle.slotmap_dense.proofs.PackedLemmas.{live-push, rest-closed, IsPacked-push}

@@ -1,19 +1,15 @@
 -- What a pass over the pairs of a map is where they are held in another way, and what it leaves of the map.
-use Rattle.std.proofs.Common.{◌≡◌, ℕ, ◌+◌, ◌≤◌, Bool, true, false, cond, inl, inr, List, [], ◌∷◌, ◌++◌, append-nil}
-use Rattle.std.proofs.Common.{length, set, drop, map as list_map, get_or, ◌<◌, Some, is_some, slice_get, refl, sym, ap, subst, ◌∙◌, arith}
-use Rattle.std.proofs.lemmas.List.{length-set, take_at}
-use Rattle.std.specs.Borrow.{MutBor}
-use Rattle.std.specs.Option.{option_map}
 use Rattle.std.specs.FinMap as map
-use Rattle.slotmap_core.specs.Words.{Mut, Called, FoldsTo, Content, Key, Visit, CallsAt, CallableOnEach, Leaves, with_items}
-use Rattle.slotmap_core.proofs.Lemmas.{FoldsTo-push, slice_get_read, slice_get-map, slice_get-get_or, slice_get_within, remove-insert, Leaves-refl}
-use Rattle.slotmap_core.proofs.Lemmas.{Leaves-trans, Leaves-with_value, Leaves-removed, same_live, CallsAt-called, Visits, Visits-start, Visits-call}
-use Rattle.slotmap_core.proofs.Lemmas.{Visits-rest, Visits-listed, Visits-stay}
+use Rattle.slotmap_core.specs.Words.{Mut, Called, MutBor, FoldsTo, option_map, Content, Key, Visit, CallsAt, CallableOnEach, Leaves, Vec, with_items}
+use Rattle.slotmap_core.proofs.Lemmas.{◌≡◌, ℕ, ◌+◌, ◌≤◌, Bool, true, false, cond, inl, inr, List, [], ◌∷◌, ◌++◌, append-nil, length, set, drop, map as list_map}
+use Rattle.slotmap_core.proofs.Lemmas.{get_or, ◌<◌, Some, is_some, slice_get, refl, sym, ap, subst, ◌∙◌, arith, FoldsTo-push, length-set, take_at}
+use Rattle.slotmap_core.proofs.Lemmas.{slice_get_read, slice_get-map, slice_get-get_or, slice_get_within, remove-insert, Leaves-refl, Leaves-trans}
+use Rattle.slotmap_core.proofs.Lemmas.{Leaves-with_value, Leaves-removed, same_live, CallsAt-called, Visits, Visits-start, Visits-call, Visits-rest}
+use Rattle.slotmap_core.proofs.Lemmas.{Visits-listed, Visits-stay}
 use Rattle.slotmap_dense.specs.Pass.{Stage, stage, Holding, Calls, Stays, Rejects, Passes, MayPass}
 use Rattle.slotmap_dense.specs.Dense.{Dense, IsDense, with_value_of}
 use Rattle.slotmap_dense.specs.Packed.{IsSound, dense_of, at_position}
 use Rattle.slotmap_dense.specs.Pass.{beside, packed_order}
-use Rattle.std.specs.Global.{Vec}
 use Rattle.slotmap_dense.specs.Retain.{RetainsPacked}
 use Rattle.slotmap_dense.specs.Rest.{rest_of, LeavesFrom}
 use Rattle.slotmap_dense.proofs.PackedLemmas.{get-packed}

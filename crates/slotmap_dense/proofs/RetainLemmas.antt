@@ -1,7 +1,6 @@
 -- What the calls of a closure did so far to the packed order and to the stack.
-use Rattle.std.proofs.Common.{◌≡◌, ℕ, ◌+◌, true, false, cond, List, [], ◌∷◌, ◌++◌, append_assoc, append-nil, Some, option_map, slice_get, refl, arith}
-use Rattle.std.specs.List.{swap_remove}
-use Rattle.slotmap_core.specs.Words.{Key, Visit, pushed, pushed_all}
+use Rattle.slotmap_core.specs.Words.{swap_remove, Key, Visit, pushed, pushed_all}
+use Rattle.slotmap_core.proofs.Lemmas.{◌≡◌, ℕ, ◌+◌, true, false, cond, List, [], ◌∷◌, ◌++◌, append_assoc, append-nil, Some, option_map, slice_get, refl, arith}
 use Rattle.slotmap_dense.specs.Dense.{Dense}
 use Rattle.slotmap_dense.specs.Retain.{dropped, PacksBy}
 use Rattle.slotmap_dense.proofs.FromBackLemmas.{none_pushed, pushed_on}

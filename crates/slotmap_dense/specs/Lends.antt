@@ -1,8 +1,6 @@
 -- What a dense map holds at the end of a loan, if a call returned a `&mut` into it.
-use Rattle.std.specs.Prelude.{ℕ, Bool, List, Option, slice_set}
-use Rattle.std.specs.Borrow.{MutBor}
 use Rattle.std.specs.declared.cmp.Ordering.{Ordering}
-use Rattle.slotmap_core.specs.Words.{Lends, LendsIf, LendsBoth, Fml, RattleType, GName, Array, follows, Key}
+use Rattle.slotmap_core.specs.Words.{ℕ, Bool, List, Option, slice_set, Lends, LendsIf, LendsBoth, Fml, RattleType, MutBor, GName, Array, follows, Key}
 use Rattle.slotmap_dense.specs.Dense.{Dense, with_value_of, with_values_in}
 use Rattle.slotmap_dense.specs.contracts.DenseSlotMap.{the_row}
 

@@ -1,9 +1,7 @@
 -- How a dense slot map stores its pairs: a map from each live key to its position, and two vectors. No public clause cites
 -- this module.
-use Rattle.std.specs.Prelude.{◌≡◌, ◌≢◌, ℕ, ◌+◌, ◌-◌, ◌<◌, min, true, List, length, Option, None, Some, slice_get}
 use Rattle.std.specs.FinMap as map
-use Rattle.std.specs.List.{zip}
-use Rattle.slotmap_core.specs.Words.{Key, key_cmp, Content, IsContent}
+use Rattle.slotmap_core.specs.Words.{◌≡◌, ◌≢◌, ℕ, ◌+◌, ◌-◌, ◌<◌, min, true, List, length, Option, None, Some, slice_get, zip, Key, key_cmp, Content, IsContent}
 use Rattle.slotmap_core.specs.declared.serial.SlotRecord.{SlotRecord}
 use Rattle.slotmap_dense.specs.Dense.{Dense}
 

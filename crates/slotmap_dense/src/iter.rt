@@ -1,8 +1,7 @@
 //! Iterators over the keys and values of a map, in packed order.
 
-ghost use Rattle.std.specs.Prelude.{◌≡◌, ◌≤◌, length, Some, IfSome, ⊤};
-ghost use Rattle.std.specs.List.{zip};
-ghost use Rattle.slotmap_core.specs.Words.{YieldsFirstBy, item_count, at_most, UpTo, IsListing, IsKeyListing, IsValueListing};
+ghost use Rattle.slotmap_core.specs.Words.{◌≡◌, ◌≤◌, length, Some, IfSome, ⊤, YieldsFirstBy, item_count, at_most, UpTo, zip, IsListing, IsKeyListing};
+ghost use Rattle.slotmap_core.specs.Words.{IsValueListing};
 ghost use Rattle.slotmap_dense.specs.Dense.{IsDense, ListsPairs};
 
 use crate::DenseSlotMap;
@@ -25,9 +24,7 @@ pub struct Iter<'a, K: Key, V> {
 }
 
 impl<'a, K: Key, V> Model for Iter<'a, K, V> {
-    ghost use Rattle.std.specs.Prelude.{◌≡◌, ◌≤◌, List, drop, length as list_length, map as list_map};
-    ghost use Rattle.std.specs.List.{zip};
-    ghost use Rattle.slotmap_core.specs.Words.{Key};
+    ghost use Rattle.slotmap_core.specs.Words.{◌≡◌, ◌≤◌, List, drop, length as list_length, map as list_map, zip, Key};
 
     ghost Value = { List (Key × V) };
 
@@ -120,8 +117,7 @@ pub struct Keys<'a, K: Key, V> {
 }
 
 impl<'a, K: Key, V> Model for Keys<'a, K, V> {
-    ghost use Rattle.std.specs.Prelude.{List, map};
-    ghost use Rattle.slotmap_core.specs.Words.{Key};
+    ghost use Rattle.slotmap_core.specs.Words.{List, map, Key};
 
     ghost Value = { List Key };
 
@@ -205,7 +201,7 @@ pub struct Values<'a, K: Key, V> {
 }
 
 impl<'a, K: Key, V> Model for Values<'a, K, V> {
-    ghost use Rattle.std.specs.Prelude.{List, map};
+    ghost use Rattle.slotmap_core.specs.Words.{List, map};
 
     ghost Value = { List V };
 

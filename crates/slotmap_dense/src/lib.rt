@@ -14,9 +14,9 @@
 //! ```
 #![tactic(auto)]
 
-ghost use Rattle.std.specs.Prelude.{◌≡◌, [], Some, ◌+◌, ◌≤◌, ◌↔◌, IsTrue, IfOk, IfErr, IsOk, OnOk, true, vec_len, vec_capacity};
 ghost use Rattle.std.specs.FinMap as map;
-ghost use Rattle.slotmap_core.specs.Words.{used, IsNew, RefusesCapacity, MakesRoom as SlotsMakeRoom};
+ghost use Rattle.slotmap_core.specs.Words.{◌≡◌, [], Some, ◌+◌, ◌≤◌, ◌↔◌, IsTrue, IfOk, IfErr, IsOk, OnOk, true, vec_len, vec_capacity, used, IsNew};
+ghost use Rattle.slotmap_core.specs.Words.{RefusesCapacity, MakesRoom as SlotsMakeRoom};
 ghost use Rattle.slotmap_dense.specs.Dense.{IsDense, IsEmpty};
 ghost use Rattle.slotmap_dense.specs.Call.{MakesDenseRoom};
 
@@ -78,7 +78,7 @@ pub struct DenseSlotMap<K: Key, V> {
 }
 
 impl<K: Key, V> Model for DenseSlotMap<K, V> {
-    ghost use Rattle.std.specs.Prelude.{min, vec_capacity, map as list_map};
+    ghost use Rattle.slotmap_core.specs.Words.{min, vec_capacity, map as list_map};
     ghost use Rattle.slotmap_dense.specs.Dense.{Dense, dense_code};
     ghost use Rattle.slotmap_dense.specs.Packed.{dense_of, IsSound};
 

@@ -1,7 +1,6 @@
 -- A map with no key: slot 0 alone.
-use Rattle.std.proofs.Common.{⊎_elim, ◌≡◌, zero, suc, List, [], ◌∷◌, refl, arith}
 use Rattle.slotmap_core.specs.Words.{Detached, Vacant}
-use Rattle.slotmap_core.proofs.Lemmas.{at_push, IsStacked-sentinel, live-sentinel}
+use Rattle.slotmap_core.proofs.Lemmas.{⊎_elim, ◌≡◌, zero, suc, List, [], ◌∷◌, refl, arith, at_push, IsStacked-sentinel, live-sentinel}
 use Rattle.slotmap_hop.specs.declared.links.Slot.{Slot}
 use Rattle.slotmap_hop.specs.declared.links.Slot.TheVariants.{Free}
 use Rattle.slotmap_hop.specs.Links.{is_front, vacant_at, end_at, ListsOnce, NamesEnds}

@@ -1,11 +1,11 @@
 -- The slots while a list of slots is read into them.
-use Rattle.std.proofs.Common.{◌≡◌, ℕ, ◌+◌, ◌%◌, ◌^◌, ◌<◌, ◌≤◌, Bool, true, false, cond, List, [], ◌∷◌, ◌++◌, length, set, take, append-nil, append_assoc, add-one, slice_get, None, Some, refl}
-use Rattle.std.proofs.Common.{sym, ap, subst, ◌∙◌, arith, eqb, map as list_map}
-use Rattle.std.proofs.lemmas.List.{length-append, take_all}
+use Rattle.std.proofs.lemmas.List.{length-append}
 use Rattle.std.specs.FinMap as map
 use Rattle.slotmap_core.specs.Words.{is_vacant_version, vacant_slot, place_of_record, start_places, start_stack, StartsFrom, Detached, Vacant, live}
 use Rattle.slotmap_core.specs.Words.{IsConsistent, Accepts, AllFitBelow, IsStacked, Writes, record_of, records_of}
-use Rattle.slotmap_core.proofs.Lemmas.{set-append_seam, nat_tests, nil_from_length, length_push, length-map, map_push, slice_get-map, vacant_split, vacant_is}
+use Rattle.slotmap_core.proofs.Lemmas.{◌≡◌, ℕ, ◌+◌, ◌%◌, ◌^◌, ◌<◌, ◌≤◌, Bool, true, false, cond, List, [], ◌∷◌, ◌++◌, length, set, take, append-nil}
+use Rattle.slotmap_core.proofs.Lemmas.{append_assoc, add-one, slice_get, None, Some, refl, sym, ap, subst, ◌∙◌, arith, eqb, map as list_map, set-append_seam}
+use Rattle.slotmap_core.proofs.Lemmas.{nat_tests, nil_from_length, length_push, length-map, map_push, take_all, slice_get-map, vacant_split, vacant_is}
 use Rattle.slotmap_core.proofs.Lemmas.{slot_vacant, slice_get_push, len-live-push, odd_of, even_where, vacant_place, length-start_places, start_places-push}
 use Rattle.slotmap_core.proofs.Lemmas.{start_place_at, start_stack-push, IsStacked-start_places, writes-places, starts-stack, next_consistent}
 use Rattle.slotmap_core.specs.declared.serial.SlotRecord.{SlotRecord}

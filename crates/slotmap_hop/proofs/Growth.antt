@@ -1,9 +1,10 @@
 -- What an insert makes of sound slots, and what stays when one place changes.
-use Rattle.std.proofs.Common.{⊎_elim, ◌≡◌, ◌≢◌, ℕ, ◌+◌, ◌-◌, ◌^◌, ◌<◌, ◌≤◌, List, [], ◌∷◌, ◌++◌, length, set, slice_get, Some, None, sym, ap, subst, ◌∙◌, arith}
 use Rattle.std.specs.FinMap as map
 use Rattle.slotmap_core.specs.Words.{Key, most, Removes, Inserts, Place, Live, Detached, Vacant, live, left_by, content_of_places, used_places, filled}
 use Rattle.slotmap_core.specs.Words.{IsVersion, IsStacked}
-use Rattle.slotmap_core.proofs.Lemmas.{map-append, key, len-live-set, len-live-push, IsStacked-filled, IsStacked-pushed, removes, inserts, at_set, at_push}
+use Rattle.slotmap_core.proofs.Lemmas.{⊎_elim, ◌≡◌, ◌≢◌, ℕ, ◌+◌, ◌-◌, ◌^◌, ◌<◌, ◌≤◌, List, [], ◌∷◌, ◌++◌, length, set, slice_get, Some, None, sym, ap, subst}
+use Rattle.slotmap_core.proofs.Lemmas.{◌∙◌, arith, map-append, key, len-live-set, len-live-push, IsStacked-filled, IsStacked-pushed, removes, inserts, at_set}
+use Rattle.slotmap_core.proofs.Lemmas.{at_push}
 use Rattle.slotmap_hop.specs.declared.links.Slot.{Slot}
 use Rattle.slotmap_hop.specs.declared.links.Slot.TheVariants.{Occupied}
 use Rattle.slotmap_hop.specs.Blocks.{shorter}

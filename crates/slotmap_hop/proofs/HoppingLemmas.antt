@@ -1,12 +1,11 @@
 -- A search for the next live place skips a block of vacant places in one step.
-use Rattle.std.proofs.Common.{◌≡◌, ◌≢◌, ℕ, max, zero, suc, ◌+◌, ◌-◌, ◌*◌, ◌<◌, ◌≤◌, ◌^◌, true, false, List, [], ◌∷◌, ◌++◌, length, drop, slice_get, Some, None, is_some, refl, sym, ap, ◌∙◌, arith}
 use Rattle.std.proofs.lemmas.List.{append_assoc, length-append}
-use Rattle.std.specs.List.{All}
 use Rattle.std.specs.FinMap as map
-use Rattle.slotmap_core.specs.Words.{Key, last_version, Place, Live, Detached, Vacant, Retired as RetiredPlace, live, live_entry, retired_entry, gather}
+use Rattle.slotmap_core.specs.Words.{All, Key, last_version, Place, Live, Detached, Vacant, Retired as RetiredPlace, live, live_entry, retired_entry, gather}
 use Rattle.slotmap_core.specs.Words.{HasVersion}
-use Rattle.slotmap_core.proofs.Lemmas.{slice_get_within, get_or_from_slice_get, drop_more, drop_all, All-nil, All-cons, All-push, All-weaker, live_at, key}
-use Rattle.slotmap_core.proofs.Lemmas.{get-live_at}
+use Rattle.slotmap_core.proofs.Lemmas.{◌≡◌, ◌≢◌, ℕ, max, zero, suc, ◌+◌, ◌-◌, ◌*◌, ◌<◌, ◌≤◌, ◌^◌, true, false, List, [], ◌∷◌, ◌++◌, length, drop, slice_get}
+use Rattle.slotmap_core.proofs.Lemmas.{Some, None, is_some, refl, sym, ap, ◌∙◌, arith, slice_get_within, get_or_from_slice_get, drop_more, drop_all, All-nil}
+use Rattle.slotmap_core.proofs.Lemmas.{All-cons, All-push, All-weaker, live_at, key, get-live_at}
 use Rattle.slotmap_hop.specs.declared.links.Links.{Links}
 use Rattle.slotmap_hop.specs.declared.links.Slot.{Slot}
 use Rattle.slotmap_hop.specs.declared.links.Slot.TheVariants.{Occupied, Free, Retired}

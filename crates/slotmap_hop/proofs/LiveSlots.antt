@@ -1,10 +1,10 @@
 -- The slot of a live key: what a look-up, a removal or a write knows of it, and makes of it.
-use Rattle.std.proofs.Common.{option_and_then, ◌≡◌, ◌≢◌, ℕ, ◌+◌, ◌-◌, ◌^◌, ◌<◌, ◌≤◌, true, false, ◌==◌, List, ◌∷◌, length, set, slice_get, get_or, Some, None, is_some, sym, ap, subst, ◌∙◌, arith}
-use Rattle.std.proofs.lemmas.List.{length-set}
 use Rattle.std.specs.FinMap as map
 use Rattle.slotmap_core.specs.Words.{Key, IsKey, key_cmp, last_version, Live, Vacant, Retired, live, live_value}
-use Rattle.slotmap_core.proofs.Lemmas.{nat_tests, slice_get_past, get_or_from_slice_get, map-set_same, slice_get-set_other, key, get-live, get-live_at}
-use Rattle.slotmap_core.proofs.Lemmas.{len-live-set, total, live_at, not_first, IsStacked-kept, IsStacked-freed, content-written, same_read}
+use Rattle.slotmap_core.proofs.Lemmas.{option_and_then, ◌≡◌, ◌≢◌, ℕ, ◌+◌, ◌-◌, ◌^◌, ◌<◌, ◌≤◌, true, false, ◌==◌, List, ◌∷◌, length, set, slice_get, get_or}
+use Rattle.slotmap_core.proofs.Lemmas.{Some, None, is_some, sym, ap, subst, ◌∙◌, arith, nat_tests, slice_get_past, get_or_from_slice_get, map-set_same}
+use Rattle.slotmap_core.proofs.Lemmas.{length-set, slice_get-set_other, key, get-live, get-live_at, len-live-set, total, live_at, not_first, IsStacked-kept}
+use Rattle.slotmap_core.proofs.Lemmas.{IsStacked-freed, content-written, same_read}
 use Rattle.slotmap_hop.specs.declared.links.Slot.{Slot}
 use Rattle.slotmap_hop.specs.declared.links.Slot.TheVariants.{Occupied}
 use Rattle.slotmap_hop.specs.Links.{blocks_of, HasBlockList}

@@ -1,7 +1,6 @@
 -- Room for more keys.
-use Rattle.std.proofs.Common.{◌≡◌, ℕ, ◌+◌, ◌-◌, ◌<◌, ◌≤◌, ◌^◌, min, List, length, refl, ap, sym, subst, arith}
 use Rattle.slotmap_core.specs.Words.{used, most, Keeps, used_places}
-use Rattle.slotmap_core.proofs.Lemmas.{room_had}
+use Rattle.slotmap_core.proofs.Lemmas.{◌≡◌, ℕ, ◌+◌, ◌-◌, ◌<◌, ◌≤◌, ◌^◌, min, List, length, refl, ap, sym, subst, arith, room_had}
 use Rattle.slotmap_hop.specs.declared.links.Slot.{Slot}
 use Rattle.slotmap_hop.specs.HopContent.{HopContent, IsHopContent, MakesHopRoom}
 use Rattle.slotmap_hop.specs.Slots.{places_of, hop_content, IsSound}

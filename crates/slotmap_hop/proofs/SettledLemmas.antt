@@ -1,8 +1,8 @@
 -- What calls know of a map's slots, by what the map holds.
-use Rattle.std.proofs.Common.{◌≡◌, ◌≢◌, ℕ, ◌+◌, ◌-◌, ◌^◌, ◌<◌, List, length, set, get_or, Some, vec_capacity, refl, sym, ap, subst, ◌∙◌, arith, eq-eqb, ne_eqb}
 use Rattle.std.specs.FinMap as map
 use Rattle.slotmap_core.specs.Words.{with_items, Key, IsKey, last_version, IsLive, most, Inserts, Removes, Place, Live, Vacant, Retired, left_by, used_places}
-use Rattle.slotmap_core.proofs.Lemmas.{nat_tests, with_items_is, key, same_read}
+use Rattle.slotmap_core.proofs.Lemmas.{◌≡◌, ◌≢◌, ℕ, ◌+◌, ◌-◌, ◌^◌, ◌<◌, List, length, set, get_or, Some, vec_capacity, refl, sym, ap, subst, ◌∙◌, arith, eq-eqb}
+use Rattle.slotmap_core.proofs.Lemmas.{ne_eqb, nat_tests, with_items_is, key, same_read}
 use Rattle.slotmap_hop.specs.declared.HopSlotMap.TheInside.{Inside}
 use Rattle.slotmap_hop.specs.declared.links.Slot.{Slot}
 use Rattle.slotmap_hop.specs.Blocks.{vacated}

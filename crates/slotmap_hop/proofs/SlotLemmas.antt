@@ -1,14 +1,12 @@
 -- What sound slots hold: their blocks, their places, and the content of the map.
 use mathlib.Core.Path.{fun_ext}
-use Rattle.std.proofs.Common.{◌≡◌, ◌≢◌, inl, ℕ, zero, suc, ◌+◌, ◌^◌, ◌<◌, ◌≤◌, Bool, true, false, eqb, ◌==◌, ◌||◌, List, [], ◌∷◌, ◌++◌, length, set, slice_get, Option, Some, refl, sym, ap, subst}
-use Rattle.std.proofs.Common.{arith, cond}
-use Rattle.std.proofs.lemmas.List.{length-set}
 use Rattle.std.specs.FinMap as map
 use Rattle.std.specs.FinSet as set
 use Rattle.slotmap_core.specs.Words.{IsKey, key_cmp, IsContent, places, Place, Vacant, detached, next, StackMap, content_of_places, offer, used_places, filled}
 use Rattle.slotmap_core.specs.Words.{IsVersion, IsStacked}
-use Rattle.slotmap_core.proofs.Lemmas.{nat_tests, key, contains-detached, get-next_at, vacant_at as next_found, total, IsContent-stacked, keys_total}
-use Rattle.slotmap_core.proofs.Lemmas.{exact_keys}
+use Rattle.slotmap_core.proofs.Lemmas.{◌≡◌, ◌≢◌, inl, ℕ, zero, suc, ◌+◌, ◌^◌, ◌<◌, ◌≤◌, Bool, true, false, eqb, ◌==◌, ◌||◌, List, [], ◌∷◌, ◌++◌, length, set}
+use Rattle.slotmap_core.proofs.Lemmas.{slice_get, Option, Some, refl, sym, ap, subst, arith, cond, nat_tests, length-set, key, contains-detached, get-next_at}
+use Rattle.slotmap_core.proofs.Lemmas.{vacant_at as next_found, total, IsContent-stacked, keys_total, exact_keys}
 use Rattle.slotmap_hop.specs.declared.links.Links.{Links}
 use Rattle.slotmap_hop.specs.declared.links.Slot.{Slot}
 use Rattle.slotmap_hop.specs.Blocks.{HasMaximalBlocks}

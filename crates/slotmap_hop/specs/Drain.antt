@@ -1,9 +1,6 @@
 -- What contracts see of a `Drain`.
-use Rattle.std.specs.Prelude.{Option}
-use Rattle.std.specs.Borrow.{MutBor}
 use Rattle.std.specs.FinMap as map
-use Rattle.slotmap_core.specs.Words.{Key, key_cmp, Content, KeepsLoan, TakesPair, EmptiesByIndex}
-use Rattle.slotmap_core.specs.Transition.{TakesFirst}
+use Rattle.slotmap_core.specs.Words.{Option, MutBor, Key, key_cmp, Content, KeepsLoan, TakesPair, TakesFirst, EmptiesByIndex}
 use Rattle.slotmap_hop.specs.HopContent.{HopContent, IsHopContent, IsNextLive}
 use Rattle.slotmap_hop.specs.declared.drain.Drain.{Drain}
 

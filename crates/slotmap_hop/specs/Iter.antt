@@ -1,9 +1,8 @@
 -- What contracts see of an iterator that skips vacant places.
-use Rattle.std.specs.Prelude.{◌≡◌, ℕ, ◌+◌, ◌*◌, ◌<◌, ◌≤◌, List, [], ◌∷◌, ◌++◌, length, drop, true, Option, None, Some, slice_get}
-use Rattle.std.specs.List.{All}
 use Rattle.std.specs.FinMap as map
 use Rattle.std.specs.FinSet as set
-use Rattle.slotmap_core.specs.Words.{Key, gather, ListsByIndex, Live, live, live_entry, retired_entry}
+use Rattle.slotmap_core.specs.Words.{◌≡◌, ℕ, ◌+◌, ◌*◌, ◌<◌, ◌≤◌, List, [], ◌∷◌, ◌++◌, length, drop, true, Option, None, Some, slice_get, All, Key, gather}
+use Rattle.slotmap_core.specs.Words.{ListsByIndex, Live, live, live_entry, retired_entry}
 use Rattle.slotmap_hop.specs.declared.links.Slot.{Slot}
 use Rattle.slotmap_hop.specs.declared.links.Slot.TheVariants.{Occupied}
 use Rattle.slotmap_hop.specs.Blocks.{Begins}

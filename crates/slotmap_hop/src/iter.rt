@@ -1,8 +1,8 @@
 //! Iterators over the keys and values of a map, by ascending index.
 
-ghost use Rattle.std.specs.Prelude.{◌≡◌, ◌<◌, ◌≤◌, [], length, Some, IfSome, IfNone, ⊤};
 ghost use Rattle.std.specs.FinMap as map;
-ghost use Rattle.slotmap_core.specs.Words.{YieldsFirstBy, item_count, at_most, UpTo, IsListing, IsKeyListing, IsValueListing};
+ghost use Rattle.slotmap_core.specs.Words.{◌≡◌, ◌<◌, ◌≤◌, [], length, Some, IfSome, IfNone, ⊤, YieldsFirstBy, item_count, at_most, UpTo, IsListing};
+ghost use Rattle.slotmap_core.specs.Words.{IsKeyListing, IsValueListing};
 ghost use Rattle.slotmap_hop.specs.HopContent.{IsHopContent};
 ghost use Rattle.slotmap_hop.specs.Iter.{pairs_left, CanGoOn, FindsSlot, StepsOn, ReadsOnTheWay, CountsReads, CountsReadsSomewhere, ListsRetired, StartsIter};
 
@@ -200,8 +200,7 @@ pub struct Keys<'a, K, V> {
 }
 
 impl<'a, K, V> Model for Keys<'a, K, V> {
-    ghost use Rattle.std.specs.Prelude.{List, map};
-    ghost use Rattle.slotmap_core.specs.Words.{Key};
+    ghost use Rattle.slotmap_core.specs.Words.{List, map, Key};
     ghost use Rattle.slotmap_hop.specs.Iter.{HopIter};
 
     ghost Value = { HopIter Key };
@@ -300,8 +299,7 @@ pub struct Values<'a, K, V> {
 }
 
 impl<'a, K, V> Model for Values<'a, K, V> {
-    ghost use Rattle.std.specs.Prelude.{List, map};
-    ghost use Rattle.slotmap_core.specs.Words.{Key};
+    ghost use Rattle.slotmap_core.specs.Words.{List, map, Key};
     ghost use Rattle.slotmap_hop.specs.Iter.{HopIter};
 
     ghost Value = { HopIter V };

@@ -1,8 +1,8 @@
 -- Lists that agree with one another for one more element, and what one element of an array is read as.
-use Rattle.std.proofs.Common.{◌≡◌, ℕ, suc, ◌+◌, ◌<◌, drop-cons, add-one, List, [], ◌∷◌, ◌++◌, length, get_or, take, drop, map, Result, Ok, Err, IsOk, IfOk, Option, Some, inr, sym, ap, ◌∙◌, arith}
-use Rattle.std.proofs.lemmas.List.{take-append-drop}
 use Rattle.slotmap_core.specs.Words.{AllZip}
-use Rattle.slotmap_core.proofs.Lemmas.{take_more, map_more, map_push, map-append, all_zipped_more}
+use Rattle.slotmap_core.proofs.Lemmas.{◌≡◌, ℕ, suc, ◌+◌, ◌<◌, drop-cons, add-one, List, [], ◌∷◌, ◌++◌, length, get_or, take, drop, map, Result, Ok, Err, IsOk}
+use Rattle.slotmap_core.proofs.Lemmas.{IfOk, Option, Some, inr, sym, ap, ◌∙◌, arith, take_more, map_more, map_push, map-append, take-append-drop}
+use Rattle.slotmap_core.proofs.Lemmas.{all_zipped_more}
 use Rattle.serde_json.specs.Data.{Data, array, Items}
 use Rattle.serde_json.specs.Find.{as_array}
 use Rattle.serde_json.specs.View.{view, items_of, items_view}

@@ -1,7 +1,6 @@
 -- The JSON of keys and of lists of slots.
-use Rattle.std.specs.Prelude.{◌≡◌, ℕ, ◌^◌, ◌⊎◌, List, ◌∷◌, ◌++◌, codes, Option, Some, None, Result, Ok, Err, MatchOption, option_map, option_and_then, nat_lt, if◌then◌else◌}
-use Rattle.std.specs.Borrow.{Bor}
-use Rattle.slotmap_core.specs.Words.{Shared, FnReturnsAt, AllZip, Key, key_from}
+use Rattle.slotmap_core.specs.Words.{◌≡◌, ℕ, ◌^◌, ◌⊎◌, List, ◌∷◌, ◌++◌, codes, Option, Some, None, Result, Ok, Err, MatchOption, option_map, option_and_then}
+use Rattle.slotmap_core.specs.Words.{nat_lt, if◌then◌else◌, Shared, FnReturnsAt, AllZip, Bor, Key, key_from}
 use Rattle.serde_json.specs.Data.{Data, null, number, unsigned, array, object, member, no_members}
 use Rattle.serde_json.specs.Find.{get, as_number, as_u64, as_array}
 use Rattle.serde_json.specs.View.{view, items_of}

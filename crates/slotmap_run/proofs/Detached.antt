@@ -1,9 +1,8 @@
 -- No later insert returns a detached key, and it can be reattached.
-use Rattle.std.proofs.Common.{Ok, ◌≡◌, List, Some, true, false, ◌⊎◌, inl, ap, is_some, arith}
 use Rattle.std.specs.FinMap as map
 use Rattle.std.specs.FinSet as set
 use Rattle.slotmap_core.specs.Words.{State, IsIssued, Given, DetachStep, keys_told, DetachedNotReissued, DetachedReattaches, ReattachBinds, Spares}
-use Rattle.slotmap_core.proofs.Lemmas.{keys_total, exact_keys, itself}
+use Rattle.slotmap_core.proofs.Lemmas.{Ok, ◌≡◌, List, Some, true, false, ◌⊎◌, inl, ap, is_some, arith, keys_total, exact_keys, itself}
 use Rattle.slotmap_core.specs.declared.commands.Command.TheVariants as command
 use Rattle.slotmap_core.specs.declared.commands.DetachCommand.{DetachCommand}
 use Rattle.slotmap_core.specs.declared.commands.DetachCommand.TheVariants as detaching

@@ -1,12 +1,9 @@
 -- Calls of two joined maps, one after another, are a run of the joined machine.
-use Rattle.std.proofs.Common.{◌≡◌, ℕ, ◌+◌, ◌^◌, List, [], ◌∷◌, length, refl, ap, ◌∙◌, subst, arith}
-use Rattle.std.specs.Ordering.{nat_cmp}
-use Rattle.std.specs.Prelude.{Result, IfOk, OnErr}
 use Rattle.std.specs.FinMap as map
 use Rattle.std.specs.FinSet as set
-use Rattle.slotmap_core.specs.Words.{Key, key_cmp, Content, places, IsNew, State, empty_state, Fits, Lasts, Pairs, Joined, RunsBeside, Dictionary}
-use Rattle.slotmap_core.specs.Words.{WithDictionary, RunsByDictionary, unused, Run}
-use Rattle.slotmap_core.proofs.Lemmas.{IfOk-weaker, on_err_weaker, new_stands}
+use Rattle.slotmap_core.specs.Words.{nat_cmp, Result, IfOk, OnErr, Key, key_cmp, Content, places, IsNew, State, empty_state, Fits, Lasts, Pairs, Joined}
+use Rattle.slotmap_core.specs.Words.{RunsBeside, Dictionary, WithDictionary, RunsByDictionary, unused, Run}
+use Rattle.slotmap_core.proofs.Lemmas.{◌≡◌, ℕ, ◌+◌, ◌^◌, List, [], ◌∷◌, length, refl, ap, ◌∙◌, subst, arith, IfOk-weaker, on_err_weaker, new_stands}
 use Rattle.slotmap_run.proofs.Fits.{new_fits, new_lasts}
 use Rattle.slotmap_run.proofs.Runs.{run_keeps}
 use Rattle.slotmap_run.specs.Ties.{joined, told_by, Known, JoinFollows, JoinServed}

@@ -1,15 +1,11 @@
 -- What a call of one of two joined maps does is a step of the joined machine.
-use Rattle.std.proofs.Common.{◌≡◌, ℕ, zero, suc, ◌+◌, ◌^◌, List, [], ◌∷◌, ◌++◌, Option, Some, None}
-use Rattle.std.proofs.Common.{inl, inr, refl, sym, ap, ◌∙◌}
-use Rattle.std.specs.List.{slice_get}
-use Rattle.std.specs.Prelude.{Result, Ok, Err, OnSome, IfNone, OnOk, IfErr, IsErr}
 use Rattle.std.specs.FinMap as map
-use Rattle.slotmap_core.specs.Words.{Key, Content, IsContent, Inserts, Keeps, Removes, Detaches, Reattaches, Given as First, State, IsIssued, StandsIn, Fits}
-use Rattle.slotmap_core.specs.Words.{Lasts, Follows as FollowsFirst, reply_keys, Pairs, get, remove, RefusesPut, LooksAt, Joined, named, Dictionary}
-use Rattle.slotmap_core.specs.Words.{WithDictionary, noted, RepliesByDictionary, DictionaryStep, DetachDictionaryStep, MayGrow, Refuses, RefusesReattach}
-use Rattle.slotmap_core.proofs.Lemmas.{same_Some}
+use Rattle.slotmap_core.specs.Words.{slice_get, Result, Ok, Err, OnSome, IfNone, OnOk, IfErr, IsErr, Key, Content, IsContent, Inserts, Keeps, Removes, Detaches}
+use Rattle.slotmap_core.specs.Words.{Reattaches, Given as First, State, IsIssued, StandsIn, Fits, Lasts, Follows as FollowsFirst, reply_keys, Pairs, get, put}
+use Rattle.slotmap_core.specs.Words.{remove, RefusesPut, LooksAt, Joined, named, Dictionary, WithDictionary, noted, RepliesByDictionary, DictionaryStep}
+use Rattle.slotmap_core.specs.Words.{DetachDictionaryStep, MayGrow, Refuses, RefusesReattach}
+use Rattle.slotmap_core.proofs.Lemmas.{◌≡◌, ℕ, zero, suc, ◌+◌, ◌^◌, List, [], ◌∷◌, ◌++◌, Option, Some, None, inl, inr, refl, sym, ap, ◌∙◌, same_Some}
 use Rattle.slotmap_core.specs.Step as first_step
-use Rattle.slotmap_core.specs.Secondary.{put}
 use Rattle.slotmap_core.specs.Joined.{Given, Step, DetachStep}
 use Rattle.slotmap_core.specs.declared.errors.ReattachError.{ReattachError}
 use Rattle.slotmap_core.specs.declared.errors.ReattachError.TheVariants as again

@@ -1,15 +1,12 @@
 -- What is known of two joined maps stays known when a call changes one of them.
-use Rattle.std.proofs.Common.{◌≡◌, ◌≢◌, ℕ, zero, suc, ◌^◌, ◌<◌, ◌≤◌, List, [], ◌∷◌, ◌++◌, Some, Bool, false, ◌⊎◌, inl, inr, refl, sym, ◌∙◌, arith, rules}
-use Rattle.std.specs.List.{slice_get}
 use Rattle.std.specs.FinMap as map
-use Rattle.slotmap_core.specs.Words.{Key, Content, IsContent, Stands, State, Fresh, IsIssued, after_insert, Fits, Lasts, Pairs, is_null, get, remove}
-use Rattle.slotmap_core.specs.Words.{Dictionary}
-use Rattle.slotmap_core.proofs.Lemmas.{common_steps, keys_total, exact_keys, same_or_other, itself, get_inserted, get_other, get_removed, get_left, in_inserted}
-use Rattle.slotmap_core.proofs.Lemmas.{stands_after_put, newest_put, newer_stays, stands_after_remove}
-use Rattle.slotmap_core.specs.Secondary.{put}
+use Rattle.slotmap_core.specs.Words.{slice_get, Key, Content, IsContent, Stands, State, Fresh, IsIssued, after_insert, Fits, Lasts, Pairs, is_null, get, put}
+use Rattle.slotmap_core.specs.Words.{remove, Dictionary}
+use Rattle.slotmap_core.proofs.Lemmas.{◌≡◌, ◌≢◌, ℕ, zero, suc, ◌^◌, ◌<◌, ◌≤◌, List, [], ◌∷◌, ◌++◌, Some, Bool, false, ◌⊎◌, inl, inr, refl, sym, ◌∙◌, arith}
+use Rattle.slotmap_core.proofs.Lemmas.{rules, common_steps, keys_total, exact_keys, same_or_other, itself, get_inserted, get_other, get_removed, get_left}
+use Rattle.slotmap_core.proofs.Lemmas.{in_inserted, stands_after_put, newest_put, newer_stays, stands_after_remove, removed_gone, others_stay}
 use Rattle.slotmap_core.specs.declared.commands.Reply.{Reply}
 use Rattle.slotmap_run.proofs.MapChanges.{changes}
-use Rattle.slotmap_core.proofs.SecondaryMaps.OtherKeyLemmas.{removed_gone, others_stay}
 use Rattle.slotmap_run.proofs.Fits.{stands_of, held_of}
 use Rattle.slotmap_run.proofs.Laws.{Shrinks}
 use Rattle.slotmap_run.proofs.UsedCounts.{bound_held}

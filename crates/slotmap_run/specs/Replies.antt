@@ -1,5 +1,5 @@
 -- The replies to the calls of a map in a run.
-use Rattle.std.specs.Prelude.{Result, Ok, Err, Some, None}
+use Rattle.slotmap_core.specs.Words.{Result, Ok, Err, Some, None}
 use Rattle.slotmap_core.specs.declared.errors.InsertError.{InsertError}
 use Rattle.slotmap_core.specs.declared.errors.InsertError.TheVariants as insert
 use Rattle.slotmap_core.specs.declared.errors.TryInsertError.{TryInsertError}

@@ -1,10 +1,9 @@
 -- What a map holds that is read from a list of slots.
-use Rattle.std.proofs.Common.{◌≡◌, ℕ, ◌+◌, ◌<◌, ◌%◌, ◌^◌, List, [], ◌∷◌, ◌++◌, length, map as list_map, slice_get, Option, None, Some, option_map, is_some, true, refl, sym, ap, subst, ◌∙◌, arith}
-use Rattle.std.specs.Ordering.{nat_cmp}
 use Rattle.std.specs.FinMap as map
-use Rattle.slotmap_core.specs.Words.{keyed, start_live, slot_pair, Accepts, AllFitBelow}
-use Rattle.slotmap_core.proofs.Lemmas.{slice_get_within, slice_get_past, slice_get-map, length-map, map_push, nat_cmp_total, exact_unsigned, len_inserted}
-use Rattle.slotmap_core.proofs.Lemmas.{mapped, gather-push_put, contents_by_place}
+use Rattle.slotmap_core.specs.Words.{nat_cmp, keyed, start_live, slot_pair, Accepts, AllFitBelow}
+use Rattle.slotmap_core.proofs.Lemmas.{◌≡◌, ℕ, ◌+◌, ◌<◌, ◌%◌, ◌^◌, List, [], ◌∷◌, ◌++◌, length, map as list_map, slice_get, Option, None, Some, option_map}
+use Rattle.slotmap_core.proofs.Lemmas.{is_some, true, refl, sym, ap, subst, ◌∙◌, arith, slice_get_within, slice_get_past, slice_get-map, length-map, map_push}
+use Rattle.slotmap_core.proofs.Lemmas.{nat_cmp_total, exact_unsigned, len_inserted, mapped, gather-push_put, contents_by_place}
 use Rattle.slotmap_core.specs.declared.serial.SlotRecord.{SlotRecord}
 use Rattle.slotmap_secondary.specs.declared.slot.Slot.{Slot}
 use Rattle.slotmap_secondary.specs.declared.slot.Slot.TheVariants.{Vacant, Occupied}

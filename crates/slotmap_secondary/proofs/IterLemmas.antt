@@ -1,9 +1,8 @@
 -- What an iterator over the slots of a map visits.
-use Rattle.std.proofs.Common.{◌≡◌, ℕ, suc, ◌+◌, ◌<◌, T, List, [], ◌∷◌, length, slice_get, map as list_map, Some, refl, sym, ap, ◌∙◌, arith}
-use Rattle.std.specs.Ordering.{nat_cmp}
 use Rattle.std.specs.FinMap as map
-use Rattle.slotmap_core.specs.Words.{below_all, is_sorted, keyed, keyed_entry, gather}
-use Rattle.slotmap_core.proofs.Lemmas.{nat_tests, nat_cmp_total, length-map, exact_unsigned, entries-keyed, len-keyed}
+use Rattle.slotmap_core.specs.Words.{nat_cmp, below_all, is_sorted, keyed, keyed_entry, gather}
+use Rattle.slotmap_core.proofs.Lemmas.{◌≡◌, ℕ, suc, ◌+◌, ◌<◌, T, List, [], ◌∷◌, length, slice_get, map as list_map, Some, refl, sym, ap, ◌∙◌, arith, nat_tests}
+use Rattle.slotmap_core.proofs.Lemmas.{nat_cmp_total, length-map, exact_unsigned, entries-keyed, len-keyed}
 use Rattle.slotmap_secondary.specs.declared.slot.Slot.{Slot}
 use Rattle.slotmap_secondary.specs.Slots.{entry_in, pairs_of, IsSlotAt, IsSound}
 use Rattle.slotmap_secondary.specs.Iter.{pairs_from, values_in, AreKeys, IsIter}

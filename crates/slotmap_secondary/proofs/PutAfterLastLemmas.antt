@@ -1,8 +1,8 @@
 -- What a put after the last slot makes of the map.
-use Rattle.std.proofs.Common.{◌≡◌, ◌≢◌, ℕ, ◌+◌, ◌<◌, ◌≤◌, ◌^◌, cond, List, ◌∷◌, [], ◌++◌, length, None, ne_eqb, eq-eqb, refl, sym, ap, subst, ◌∙◌, arith}
 use Rattle.std.specs.FinMap as map
 use Rattle.slotmap_core.specs.Words.{Key, IsKey, null_key, no_entry, vacant, entry_at, entry, bind}
-use Rattle.slotmap_core.proofs.Lemmas.{length_push, none_from}
+use Rattle.slotmap_core.proofs.Lemmas.{◌≡◌, ◌≢◌, ℕ, ◌+◌, ◌<◌, ◌≤◌, ◌^◌, cond, List, ◌∷◌, [], ◌++◌, length, None, ne_eqb, eq-eqb, refl, sym, ap, subst, ◌∙◌}
+use Rattle.slotmap_core.proofs.Lemmas.{arith, length_push, none_from}
 use Rattle.slotmap_secondary.specs.declared.slot.Slot.{Slot}
 use Rattle.slotmap_secondary.specs.declared.slot.Slot.TheVariants.{Occupied}
 use Rattle.slotmap_secondary.specs.Content.{Content, IsContent}

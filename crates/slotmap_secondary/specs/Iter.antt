@@ -1,6 +1,5 @@
 -- What an iterator over the slots of a `SecondaryMap` has still to visit. No public clause cites this module.
-use Rattle.std.specs.Prelude.{◌≡◌, ℕ, ◌+◌, ◌<◌, ◌^◌, List, [], ◌∷◌, length}
-use Rattle.slotmap_core.specs.Words.{Key, IsKey}
+use Rattle.slotmap_core.specs.Words.{◌≡◌, ℕ, ◌+◌, ◌<◌, ◌^◌, List, [], ◌∷◌, length, Key, IsKey}
 use Rattle.slotmap_secondary.specs.declared.slot.Slot.{Slot}
 use Rattle.slotmap_secondary.specs.declared.slot.Slot.TheVariants.{Vacant, Occupied}
 

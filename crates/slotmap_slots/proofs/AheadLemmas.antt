@@ -1,7 +1,7 @@
 -- What a loop over the live keys of a map knows of those ahead of it.
 -- For the crates of maps.
-use Rattle.std.proofs.Common.{◌≡◌, ℕ, ◌-◌, ◌%◌, ◌<◌, ◌≤◌, ◌↔◌, true, List, length, get_or, Some, is_some, slice_get, option_map, refl, sym, ap, ◌∙◌, inl, arith}
-use Rattle.slotmap_core.proofs.Lemmas.{length-map, slice_get-map, get_or_from_slice_get, slice_get-get_or}
+use Rattle.slotmap_core.proofs.Lemmas.{◌≡◌, ℕ, ◌-◌, ◌%◌, ◌<◌, ◌≤◌, ◌↔◌, true, List, length, get_or, Some, is_some, slice_get, option_map, refl, sym, ap, ◌∙◌}
+use Rattle.slotmap_core.proofs.Lemmas.{inl, arith, length-map, slice_get-map, get_or_from_slice_get, slice_get-get_or}
 use native.Mathlib.Decide.{dec_lt}
 use Rattle.std.specs.FinMap as map
 use Rattle.slotmap_core.specs.Words.{Key, Content, IsContent, IsLive, places, content_of_places, Removes, with_value}

@@ -1,7 +1,7 @@
 -- Three vectors as one list of slots.
 -- For this crate alone.
-use Rattle.std.proofs.Common.{◌≡◌, ℕ, zero, suc, ◌<◌, ◌≤◌, ◌%◌, List, [], ◌∷◌, ◌++◌, length, set, slice_get, get_or, Option, None, Some, IsSome, option_and_then, refl, sym, ap, subst, ◌∙◌, arith}
-use Rattle.slotmap_core.proofs.Lemmas.{get_or_default_zero, slice_get_read, slice_get_past}
+use Rattle.slotmap_core.proofs.Lemmas.{◌≡◌, ℕ, zero, suc, ◌<◌, ◌≤◌, ◌%◌, List, [], ◌∷◌, ◌++◌, length, set, slice_get, get_or, Option, None, Some, IsSome}
+use Rattle.slotmap_core.proofs.Lemmas.{option_and_then, refl, sym, ap, subst, ◌∙◌, arith, get_or_default_zero, slice_get_read, slice_get_past}
 use Rattle.slotmap_slots.specs.Slot.{SlotList, versions_of, version_at, usage_at, next_at, next_of, payload_at, with_payload}
 use Rattle.slotmap_slots.specs.Columns.{zip_slots, IsColumns}
 use Rattle.slotmap_slots.specs.Numbers.{use_of, uses_of}
@@ -21,14 +21,14 @@ module _ {P : Type 0} where
   zip-at (w ∷ vs) (m ∷ ls) (y ∷ xs) (suc i) v l x at_v at_l at_x = zip-at vs ls xs i v l x at_v at_l at_x
   zip-at vs ls xs i v l x at_v at_l at_x = absurd (cc)
 
-  pub zip-reads : (vs : List ℕ) (ls : List Use) (xs : List (Option P)) (i : ℕ) → length ls ≡ length vs → length xs ≡ length vs
+  zip-reads : (vs : List ℕ) (ls : List Use) (xs : List (Option P)) (i : ℕ) → length ls ≡ length vs → length xs ≡ length vs
       → (version_at (zip_slots vs ls xs) i ≡ slice_get vs i) × (usage_at (zip_slots vs ls xs) i ≡ slice_get ls i) × (payload_at (zip_slots vs ls xs) i ≡ option_and_then (λ x. x) (slice_get xs i))
   zip-reads [] [] [] i same_l same_x = (refl, refl, refl)
   zip-reads (v ∷ vs) (l ∷ ls) (x ∷ xs) zero same_l same_x = (refl, refl, refl)
   zip-reads (v ∷ vs) (l ∷ ls) (x ∷ xs) (suc i) same_l same_x = zip-reads vs ls xs i (omega arith) (omega arith)
   zip-reads vs ls xs i same_l same_x = absurd (omega arith)
 
-  pub zip-versions : (vs : List ℕ) (ls : List Use) (xs : List (Option P)) → length ls ≡ length vs → length xs ≡ length vs → versions_of (zip_slots vs ls xs) ≡ vs
+  zip-versions : (vs : List ℕ) (ls : List Use) (xs : List (Option P)) → length ls ≡ length vs → length xs ≡ length vs → versions_of (zip_slots vs ls xs) ≡ vs
   zip-versions [] ls xs same_l same_x = refl
   zip-versions (v ∷ vs) (l ∷ ls) (x ∷ xs) same_l same_x = ap (λ ws. v ∷ ws) (zip-versions vs ls xs (omega arith) (omega arith))
   zip-versions (v ∷ vs) ls xs same_l same_x = absurd (omega arith)
@@ -72,7 +72,7 @@ module _ {P : Type 0} where
     zip-within_free vs ls xs,
   )
 
-  pub zip-set : (vs : List ℕ) (ls : List Use) (xs : List (Option P)) (i v : ℕ) (l : Use) (x : Option P)
+  zip-set : (vs : List ℕ) (ls : List Use) (xs : List (Option P)) (i v : ℕ) (l : Use) (x : Option P)
       → zip_slots (set vs i v) (set ls i l) (set xs i x) ≡ set (zip_slots vs ls xs) i (record { version = v; usage = l; payload = x })
   zip-set (w ∷ vs) [] xs zero v l x = refl
   zip-set (w ∷ vs) (m ∷ ls) [] zero v l x = refl

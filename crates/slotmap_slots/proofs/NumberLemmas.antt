@@ -1,7 +1,6 @@
 -- The number that a slot has beside its version.
 -- For this crate alone.
-use Rattle.std.proofs.Common.{◌≡◌, ℕ, zero, suc, ◌%◌, ◌==◌, cond, List, [], ◌∷◌, ◌++◌, length, set, slice_get}
-use Rattle.std.proofs.Common.{Some, IsSome, refl, ap, arith}
+use Rattle.slotmap_core.proofs.Lemmas.{◌≡◌, ℕ, zero, suc, ◌%◌, ◌==◌, cond, List, [], ◌∷◌, ◌++◌, length, set, slice_get, Some, IsSome, refl, ap, arith}
 use Rattle.slotmap_slots.specs.Numbers.{empty_use, use_of, uses_of, number_of}
 use Rattle.slotmap_slots.specs.Slot.{FitsEmpty, next_of}
 use Rattle.slotmap_slots.specs.declared.layout.Use.{Use}

@@ -1,7 +1,8 @@
 -- Chunks of versions, whose odd ones are bits.
 -- For this crate alone.
-use Rattle.std.proofs.Common.{◌≡◌, ◌≢◌, ℕ, zero, suc, ◌+◌, ◌-◌, ◌*◌, ◌/◌, ◌%◌, ◌^◌, ◌<◌, ◌≤◌, List, cond, eqb, length, get_or, slice_get, Some, refl, sym, ap, ◌∙◌, arith, w64, bit_and, bit_or, min, max, subst}
 use Rattle.slotmap_core.specs.Words.{bit_at}
+use Rattle.slotmap_core.proofs.Lemmas.{◌≡◌, ◌≢◌, ℕ, zero, suc, ◌+◌, ◌-◌, ◌*◌, ◌/◌, ◌%◌, ◌^◌, ◌<◌, ◌≤◌, List, cond, eqb, length, get_or, slice_get, Some, refl}
+use Rattle.slotmap_core.proofs.Lemmas.{sym, ap, ◌∙◌, arith, w64, bit_and, bit_or, min, max, subst}
 use native.Mathlib.Decide.{dec_lt}
 use lib.Bits.{and_mask}
 use lib.ListN.{get_or-eq_default}
@@ -24,9 +25,6 @@ pub record Below (versions : List ℕ) (at lane bits : ℕ) : Type 0 where
   pub set : (k : ℕ) → k < lane → bit_at bits k ≡ get_or versions (at + k) 0 % 2
   pub clear : (k : ℕ) → lane ≤ k → bit_at bits k ≡ 0
 
-below_start : (versions : List ℕ) (at : ℕ) → Below versions at 0 0
-below_start versions at = record { set = λ k l. absurd (omega arith); clear = λ k l. bit_at-zero k }
-
 module _ (versions : List ℕ) (at lane bits : ℕ) (below : Below versions at lane bits) where
   pub below_odd : lane < 64 → get_or versions (at + lane) 0 % 2 ≡ 1 → Below versions at (lane + 1) (bit_or bits (1 * 2 ^ lane % 2 ^ 64))
   below_odd within odd = record {
@@ -47,13 +45,6 @@ module _ (versions : List ℕ) (at lane bits : ℕ) (below : Below versions at l
     ];
     clear = λ k l. below.clear k (omega arith);
   }
-
-  -- all versions were tested
-  below_whole : length versions ≤ at + lane → AreOdd versions (at + 64) 0 bits
-  below_whole all i k l e on = elim (dec_lt k lane) [
-    | yes p ↦ below.set k p ∙ ap (λ j. get_or versions j 0 % 2) (let same : at + k ≡ i = omega arith in same)
-    | no p ↦ below.clear k (omega arith) ∙ ap (λ x. x % 2) (sym (get_or-eq_default versions 0 (let past : length versions ≤ i = omega arith in past)))
-  ]
 
 -- ---- the lowest bit
 half_same : (n : ℕ) → n % 2 ≡ 1 → (n - 1) / 2 ≡ n / 2
@@ -250,7 +241,7 @@ module _ (versions : List ℕ) (run end index bits : ℕ) (ahead : IsAhead versi
   pub behind_run : run ≤ index → HasOdds versions end index bits
   behind_run past = subst (λ m. HasOdds versions end m bits) (let same : max index run ≡ index = omega (arith, past) in same) ahead.behind
 
-  pub run_next : index < run → IsNextOdd versions index index
+  run_next : index < run → IsNextOdd versions index index
   run_next before = record {
     on = omega arith;
     within = omega (arith, odd_within versions index (ahead.odd index (omega arith) before));
@@ -258,7 +249,7 @@ module _ (versions : List ℕ) (run end index bits : ℕ) (ahead : IsAhead versi
     odd = λ v at. ap (λ x. x % 2) (sym (get_or_from_slice_get versions index v 0 at)) ∙ ahead.odd index (omega arith) before;
   }
 
-  pub run_step : index < run → IsAhead versions run end (index + 1) bits
+  run_step : index < run → IsAhead versions run end (index + 1) bits
   run_step before = record {
     odd = λ i from to. ahead.odd i (omega arith) to;
     behind = subst (λ m. HasOdds versions end m bits) (let same : max index run ≡ max (index + 1) run = omega (arith, before) in same) ahead.behind;

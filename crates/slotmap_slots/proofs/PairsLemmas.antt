@@ -1,8 +1,8 @@
 -- What an iterator over the vectors of slots yields.
 -- For this crate alone.
-use Rattle.std.proofs.Common.{◌≡◌, ℕ, zero, suc, ◌+◌, ◌-◌, ◌<◌, ◌≤◌, ◌%◌, ◌^◌, List, [], ◌∷◌, length, set, drop, slice_get, get_or, Option, Some, None, IsSome, ◌↔◌, refl, sym, ap, subst, ◌∙◌, arith}
-use Rattle.std.proofs.lemmas.List.{length-set, drop-set-lt}
-use Rattle.slotmap_core.proofs.Lemmas.{same_Some, slice_get_within, get_or_from_slice_get, drop_more, drop_all}
+use Rattle.slotmap_core.proofs.Lemmas.{◌≡◌, ℕ, zero, suc, ◌+◌, ◌-◌, ◌<◌, ◌≤◌, ◌%◌, ◌^◌, List, [], ◌∷◌, length, set, drop, slice_get, get_or, Option, Some, None}
+use Rattle.slotmap_core.proofs.Lemmas.{IsSome, ◌↔◌, refl, sym, ap, subst, ◌∙◌, arith, same_Some, slice_get_within, get_or_from_slice_get, length-set, drop_more}
+use Rattle.slotmap_core.proofs.Lemmas.{drop_all, drop-set-lt}
 use native.Mathlib.Decide.{dec_lt}
 use Rattle.std.specs.FinMap as map
 use Rattle.slotmap_slots.specs.Columns.{zip_slots, AllEven, IsNextOdd}

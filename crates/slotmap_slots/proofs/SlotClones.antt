@@ -1,8 +1,8 @@
 -- Slots with clones of the payloads of others: they are as sound, and hold clones of what those hold.
 -- For this crate alone.
-use Rattle.std.proofs.Common.{◌≡◌, ℕ, ◌+◌, ◌-◌, ◌≤◌, List, [], ◌∷◌, length, slice_get, Option, None, Some, option_map, refl, sym, ap, ◌∙◌, arith}
 use Rattle.std.specs.FinMap as map
 use Rattle.slotmap_core.specs.Words.{AllZip, IsCloneOf, Content, IsCloneBy, IsPlaceClone, ArePlaceClones, live, content_of_places}
+use Rattle.slotmap_core.proofs.Lemmas.{◌≡◌, ℕ, ◌+◌, ◌-◌, ◌≤◌, List, [], ◌∷◌, length, slice_get, Option, None, Some, option_map, refl, sym, ap, ◌∙◌, arith}
 use Rattle.slotmap_core.proofs.Lemmas.{keys_total, exact_keys, mapped, zip_length, zip_left, zip_right, zip_self, same_len, clone_is_some, live-clones}
 use Rattle.slotmap_core.proofs.Lemmas.{IsStacked-clones, content-clones}
 use Rattle.slotmap_slots.specs.Columns.{zip_slots}

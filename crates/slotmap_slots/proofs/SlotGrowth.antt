@@ -1,14 +1,13 @@
 -- How an insert fills a slot or adds one, and what a look-up of a detached key reads.
 -- For this crate alone.
-use Rattle.std.proofs.Common.{⊎_elim, true, false, ◌==◌, ◌≡◌, ◌≢◌, ℕ, ◌+◌, ◌-◌, ◌^◌, ◌<◌, List, [], ◌∷◌, ◌++◌, length, set, slice_get, Some, None}
-use Rattle.std.proofs.Common.{option_map, option_and_then, refl, sym, ap, subst, ◌∙◌, inl, ◌↔◌, arith}
-use Rattle.std.proofs.Math.Nat.{eq-zero-or-pos}
 use Rattle.std.specs.FinMap as map
 use Rattle.std.specs.FinSet as set
 use Rattle.slotmap_core.specs.Words.{Key, most, Inserts, Live, Detached as DetachedPlace, Vacant, live, detached, content_of_places, offer, vacant_version}
 use Rattle.slotmap_core.specs.Words.{used_places, inserted, IsOn, IsVersion, IsStacked}
-use Rattle.slotmap_core.proofs.Lemmas.{length-map, map_push, slice_get_within, same_Some, found_within, mapped, false_of, at_push, key, contains-detached}
-use Rattle.slotmap_core.proofs.Lemmas.{len-live-push, kept_at, IsStacked-filled, IsStacked-pushed, IsStacked-sentinel, live-sentinel, inserts}
+use Rattle.slotmap_core.proofs.Lemmas.{⊎_elim, true, false, ◌==◌, ◌≡◌, ◌≢◌, ℕ, ◌+◌, ◌-◌, ◌^◌, ◌<◌, List, [], ◌∷◌, ◌++◌, length, set, slice_get, Some, None}
+use Rattle.slotmap_core.proofs.Lemmas.{option_map, option_and_then, refl, sym, ap, subst, ◌∙◌, inl, ◌↔◌, arith, eq-zero-or-pos, length-map, map_push}
+use Rattle.slotmap_core.proofs.Lemmas.{slice_get_within, same_Some, found_within, mapped, false_of, at_push, key, contains-detached, len-live-push, kept_at}
+use Rattle.slotmap_core.proofs.Lemmas.{IsStacked-filled, IsStacked-pushed, IsStacked-sentinel, live-sentinel, inserts}
 use Rattle.slotmap_slots.specs.Slot.{Slot, full, empty, version_at, usage_at, next_at, next_of, version_before, place_of, places_of, free_indices, IsFreeList, IsSlot, IsSound, map_of}
 use Rattle.slotmap_slots.specs.declared.layout.Use.{Use}
 use Rattle.slotmap_slots.specs.declared.layout.Use.TheVariants.{Free, Detached}

@@ -1,5 +1,5 @@
 -- Slots in three vectors. No public clause cites this module.
-use Rattle.std.specs.Prelude.{◌≡◌, ℕ, ◌^◌, ◌<◌, ◌≤◌, List, [], ◌∷◌, length, Option, Some, slice_get, ◌%◌}
+use Rattle.slotmap_core.specs.Words.{◌≡◌, ℕ, ◌^◌, ◌<◌, ◌≤◌, List, [], ◌∷◌, length, Option, Some, slice_get, ◌%◌}
 use Rattle.slotmap_slots.specs.Slot.{Slot}
 use Rattle.slotmap_slots.specs.declared.layout.Use.{Use}
 

@@ -1,7 +1,5 @@
 -- What a layout ends as, once a `&mut` to one of its payloads was returned.
-use Rattle.std.specs.Prelude.{ℕ}
-use Rattle.std.specs.Borrow.{MutBor}
-use Rattle.slotmap_core.specs.Words.{Lends, Fml, RattleType}
+use Rattle.slotmap_core.specs.Words.{ℕ, Lends, Fml, RattleType, MutBor}
 
 -- once the borrow r ends, the payload at index i is the last value written through r
 abbrev pub lends_payload : (L P : RattleType) → (L.Denot → ℕ → P.Denot → L.Denot) → MutBor L.Denot → ℕ → MutBor P.Denot → Fml

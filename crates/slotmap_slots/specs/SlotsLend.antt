@@ -1,6 +1,5 @@
 -- What the slots of a map end as, once a `&mut` to a payload was returned.
-use Rattle.std.specs.Borrow.{MutBor}
-use Rattle.slotmap_core.specs.Words.{Lends, Fml, RattleType, Key, Content, with_value}
+use Rattle.slotmap_core.specs.Words.{Lends, Fml, RattleType, MutBor, Key, Content, with_value}
 use Rattle.slotmap_slots.specs.declared.layout.Layout.{Ghosts}
 use Rattle.slotmap_slots.specs.contracts.slots.Slots.{the_row}
 

@@ -1,8 +1,7 @@
 -- What the steps of a drain leave.
-use Rattle.std.proofs.Common.{Option, Some, None, is_some, ap, arith}
 use Rattle.std.specs.FinMap as map
 use Rattle.slotmap_core.specs.Words.{MakesProgress, Key}
-use Rattle.slotmap_core.proofs.Lemmas.{len_taken}
+use Rattle.slotmap_core.proofs.Lemmas.{Option, Some, None, is_some, ap, arith, len_taken}
 use Rattle.slotmap_sparse.specs.declared.drain.Drain.{Drain}
 use Rattle.slotmap_sparse.specs.Drain.{TakesPair, drain_count}
 

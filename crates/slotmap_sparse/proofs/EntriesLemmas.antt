@@ -1,14 +1,11 @@
 -- The entries of a hash map as a finite map.
-use Rattle.std.proofs.Common.{◌≢◌, ne_eqb, eq-eqb}
-use Rattle.std.proofs.Common.{◌≡◌, ℕ, ◌+◌, true, false, cond, nat_eq, List, [], ◌∷◌, length, Option, Some, None, is_some, refl, sym, ap, subst, ◌∙◌, nat_cmp, arith, inl, inr, MutBor, Result, Ok, OnOk, ◌≤◌}
 use Rattle.std.specs.FinMap as map
-use Rattle.std.specs.FinMap.Entries.{find}
-use Rattle.std.specs.HashMap.{HashMap, hash_map_len}
-use Rattle.slotmap_core.specs.Words.{option_copied_mut, eq_by_cmp, nat_cmp_total, unsigned_tied, nat_eq_equiv, IsDistinct, spare, WritesThrough, lookup}
-use Rattle.slotmap_core.specs.Words.{keys_of, Key, IsKey, Pairs, IsSecondary, is_null, bind, get, contains_key, value_at}
-use Rattle.slotmap_core.proofs.Lemmas.{exact_unsigned, lookup-none, none_past_head, len_inserted, get_after_insert, insert_same, get_here, IsSecondary-empty}
-use Rattle.slotmap_core.proofs.Lemmas.{IsSecondary-bind, IsSecondary-put, IsSecondary-remove, same_version, not_null_at, put_at}
-use Rattle.slotmap_core.specs.Secondary.{put}
+use Rattle.slotmap_core.specs.Words.{option_copied_mut, eq_by_cmp, nat_cmp_total, unsigned_tied, nat_eq_equiv, IsDistinct, find, HashMap, hash_map_len, spare}
+use Rattle.slotmap_core.specs.Words.{WritesThrough, lookup, keys_of, Key, IsKey, Pairs, IsSecondary, is_null, bind, put, get, contains_key, value_at}
+use Rattle.slotmap_core.proofs.Lemmas.{◌≢◌, ne_eqb, eq-eqb, ◌≡◌, ℕ, ◌+◌, true, false, cond, nat_eq, List, [], ◌∷◌, length, Option, Some, None, is_some, refl}
+use Rattle.slotmap_core.proofs.Lemmas.{sym, ap, subst, ◌∙◌, nat_cmp, arith, inl, inr, MutBor, Result, Ok, OnOk, ◌≤◌, exact_unsigned, lookup-none}
+use Rattle.slotmap_core.proofs.Lemmas.{none_past_head, len_inserted, get_after_insert, insert_same, get_here, IsSecondary-empty, IsSecondary-bind}
+use Rattle.slotmap_core.proofs.Lemmas.{IsSecondary-put, IsSecondary-remove, same_version, not_null_at, put_at}
 use Rattle.slotmap_sparse.specs.Content.{Content, IsContent, with_value, room}
 use Rattle.slotmap_sparse.specs.Found.{put_over}
 use Rattle.slotmap_sparse.specs.Entries.{pairs_of, content_of, IsSound}

@@ -1,10 +1,9 @@
 -- What a contract sees of an entry.
-use Rattle.std.specs.Prelude.{◌≡◌, ◌≤◌, Option, Some, None, Result, Ok, Err, [], true, if◌then◌else◌}
-use Rattle.std.specs.Borrow.{MutBor}
 use Rattle.std.specs.declared.hash.Hasher as hasher
 use Rattle.std.specs.declared.hash.BuildHasher as builder
 use Rattle.std.specs.FinMap as map
-use Rattle.slotmap_core.specs.Words.{GName, Lends, LendsSoOk, RestsIfErr, Fml, RattleType}
+use Rattle.slotmap_core.specs.Words.{◌≡◌, ◌≤◌, Option, Some, None, Result, Ok, Err, [], true, if◌then◌else◌, MutBor, GName, Lends, LendsSoOk, RestsIfErr, Fml}
+use Rattle.slotmap_core.specs.Words.{RattleType}
 use mir.Syntax.{named}
 use Rattle.slotmap_core.specs.Words.{Key, Pairs, get, contains_key, remove}
 use Rattle.slotmap_core.specs.Secondary as pair

@@ -1,9 +1,7 @@
 -- What a `SparseSecondaryMap` is once a returned `&mut` to one of its values ends.
-use Rattle.std.specs.Prelude.{Option}
-use Rattle.std.specs.Borrow.{MutBor}
 use Rattle.std.specs.declared.hash.Hasher as hasher
 use Rattle.std.specs.declared.hash.BuildHasher as builder
-use Rattle.slotmap_core.specs.Words.{Lends, LendsIf, Fml, RattleType, Key}
+use Rattle.slotmap_core.specs.Words.{Option, Lends, LendsIf, Fml, RattleType, MutBor, Key}
 use Rattle.slotmap_sparse.specs.Content.{Content, with_value}
 use Rattle.slotmap_sparse.specs.contracts.SparseSecondaryMap.{the_row}
 

@@ -1,8 +1,7 @@
 //! The iterator that removes the pairs of a map.
 
-ghost use Rattle.std.specs.Prelude.{◌≡◌, ◌≤◌, Some, IfSome};
 ghost use Rattle.std.specs.FinMap as map;
-ghost use Rattle.slotmap_core.specs.Words.{size, UpTo};
+ghost use Rattle.slotmap_core.specs.Words.{◌≡◌, ◌≤◌, Some, IfSome, size, UpTo};
 ghost use Rattle.slotmap_sparse.specs.Content.{IsContent};
 
 use crate::{DefaultHasher, SparseSecondaryMap};

@@ -1,9 +1,7 @@
 //! A key's entry in a map.
 
-ghost use Rattle.std.specs.Prelude.{◌≡◌, ◌≤◌, ◌<◌, Some, None, IsOk, IfOk, IfErr, OnErr, unwrap_or};
 ghost use Rattle.std.specs.FinMap as map;
-ghost use Rattle.std.specs.Borrow.{MutBor};
-ghost use Rattle.slotmap_core.specs.Words.{UnwrapsOrElse, sem, ModifiesValue};
+ghost use Rattle.slotmap_core.specs.Words.{◌≡◌, ◌≤◌, ◌<◌, Some, None, IsOk, IfOk, IfErr, OnErr, unwrap_or, UnwrapsOrElse, sem, MutBor, ModifiesValue};
 ghost use Rattle.slotmap_sparse.specs.Content.{IsContent, room};
 
 use crate::find::Found;

@@ -1,7 +1,6 @@
 //! The iterator that consumes a map.
 
-ghost use Rattle.std.specs.Prelude.{◌≡◌, ◌≤◌, length, Some, IfSome};
-ghost use Rattle.slotmap_core.specs.Words.{YieldsFirstBy, item_count, at_most, UpTo, keyed, IsListing};
+ghost use Rattle.slotmap_core.specs.Words.{◌≡◌, ◌≤◌, length, Some, IfSome, YieldsFirstBy, item_count, at_most, UpTo, keyed, IsListing};
 
 use crate::SparseSecondaryMap;
 use slotmap_core::keys::{Key, KeyData};
@@ -25,8 +24,7 @@ pub struct IntoIter<K, V> {
 }
 
 impl<K, V> Model for IntoIter<K, V> {
-    ghost use Rattle.std.specs.Prelude.{List};
-    ghost use Rattle.slotmap_core.specs.Words.{Key};
+    ghost use Rattle.slotmap_core.specs.Words.{List, Key};
     ghost use Rattle.slotmap_sparse.specs.Iter.{key_pairs, AreOfKeys};
 
     ghost Value = { List (Key × V) };

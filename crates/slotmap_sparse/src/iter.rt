@@ -1,8 +1,8 @@
 //! Iterators over the keys and values of a map.
 
-ghost use Rattle.std.specs.Prelude.{◌≡◌, ◌≤◌, length, Some, IfSome, IfNone, true, ⊤};
 ghost use Rattle.std.specs.FinMap as map;
-ghost use Rattle.slotmap_core.specs.Words.{YieldsFirstBy, item_count, at_most, UpTo, keyed, contains_key, IsListing, IsKeyListing, IsValueListing};
+ghost use Rattle.slotmap_core.specs.Words.{◌≡◌, ◌≤◌, length, Some, IfSome, IfNone, true, ⊤, YieldsFirstBy, item_count, at_most, UpTo, keyed, contains_key};
+ghost use Rattle.slotmap_core.specs.Words.{IsListing, IsKeyListing, IsValueListing};
 ghost use Rattle.slotmap_sparse.specs.Content.{IsContent};
 
 use crate::SparseSecondaryMap;
@@ -26,8 +26,7 @@ pub struct Iter<'a, K, V> {
 }
 
 impl<'a, K, V> Model for Iter<'a, K, V> {
-    ghost use Rattle.std.specs.Prelude.{List};
-    ghost use Rattle.slotmap_core.specs.Words.{Key};
+    ghost use Rattle.slotmap_core.specs.Words.{List, Key};
     ghost use Rattle.slotmap_sparse.specs.Iter.{key_pairs, AreOfKeys};
 
     ghost Value = { List (Key × V) };
@@ -114,8 +113,7 @@ pub struct Keys<'a, K, V> {
 }
 
 impl<'a, K, V> Model for Keys<'a, K, V> {
-    ghost use Rattle.std.specs.Prelude.{List, map};
-    ghost use Rattle.slotmap_core.specs.Words.{Key};
+    ghost use Rattle.slotmap_core.specs.Words.{List, map, Key};
 
     ghost Value = { List Key };
 
@@ -198,7 +196,7 @@ pub struct Values<'a, K, V> {
 }
 
 impl<'a, K, V> Model for Values<'a, K, V> {
-    ghost use Rattle.std.specs.Prelude.{List, map};
+    ghost use Rattle.slotmap_core.specs.Words.{List, map};
 
     ghost Value = { List V };
 

@@ -1,10 +1,9 @@
 -- What a primary map with clones of another's values has in common with it.
 -- For the crates of maps and callers.
 use Rattle.std.proofs.Common.{◌≡◌, ℕ, ◌+◌, ◌<◌, ◌≤◌, Bool, true, List, [], ◌∷◌, length, Option, Some, refl, sym, ap, subst, arith}
-use Rattle.std.specs.Ordering.{nat_cmp}
 use Rattle.std.specs.FinMap as map
 use Rattle.std.specs.FinSet as set
-use Rattle.slotmap_core.specs.Words.{ClonesEqual, AreClones, IsCloneOf, Content, IsContent, used, places, most, IsCopy, IsCloneBy, Key, key_cmp}
+use Rattle.slotmap_core.specs.Words.{nat_cmp, ClonesEqual, AreClones, IsCloneOf, Content, IsContent, used, places, most, IsCopy, IsCloneBy, Key, key_cmp}
 use Rattle.slotmap_core.proofs.General.KeyLemmas.{keys_total, exact_keys}
 use Rattle.slotmap_core.proofs.General.Maps.{same_len}
 use Rattle.slotmap_core.proofs.Places.PlaceClones.{clone_is_some}

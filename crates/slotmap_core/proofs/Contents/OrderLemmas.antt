@@ -3,9 +3,10 @@
 use Rattle.std.proofs.Common.{arith, ◌≡◌, ℕ, ◌<◌, Bool, true, cond, not, List, [], ◌∷◌, ◌++◌, map as list_map, Some, None, refl, sym, ap, ◌∙◌, option_map, nat_cmp}
 use Rattle.std.specs.declared.cmp.Ordering.TheVariants.{Less, Greater}
 use Rattle.std.specs.FinMap as map
+use Rattle.std.specs.FinMap.Entries.{put}
 use Rattle.std.proofs.lemmas.List.{map-append, nil_from_length}
 use Rattle.std.proofs.lemmas.Iterator.Adapters.{option_map_id}
-use Rattle.slotmap_core.specs.Words.{eq_by_cmp, ordering_then, nat_cmp_is, list_any, put, Key, key_cmp, Content, IsLive, Removes, has_left, with_value, pushed}
+use Rattle.slotmap_core.specs.Words.{eq_by_cmp, ordering_then, nat_cmp_is, list_any, Key, key_cmp, Content, IsLive, Removes, has_left, with_value, pushed}
 use Rattle.slotmap_core.specs.Words.{pushed_all, keys_left, FreesByIndex}
 use Rattle.slotmap_core.proofs.General.KeyLemmas.{keys_total, exact_keys, tied, itself}
 use Rattle.slotmap_core.proofs.General.Maps.{insert_same, or_right}

@@ -1,10 +1,9 @@
 -- Which keys are retired, in a state of the machine and in a map.
 -- For runs.
 use Rattle.std.proofs.Common.{◌≡◌, ℕ, ◌+◌, Some, true, false, ◌&&◌, ◌⊎◌, sym, ap, arith}
-use Rattle.std.specs.Ordering.{nat_cmp}
 use Rattle.std.specs.FinMap as map
 use Rattle.std.specs.FinSet as set
-use Rattle.slotmap_core.specs.Words.{Key, is_last, next_version, key_cmp, freed, retired_after, State, IsIssued, StandsIn, is_retired, retired}
+use Rattle.slotmap_core.specs.Words.{nat_cmp, Key, is_last, next_version, key_cmp, freed, retired_after, State, IsIssued, StandsIn, is_retired, retired}
 use Rattle.slotmap_core.proofs.General.KeyLemmas.{keys_total, exact_keys, nat_cmp_total, exact_unsigned}
 use Rattle.slotmap_core.proofs.General.Maps.{same_bool, len_item_inserted, len_inserted, get_after_insert}
 

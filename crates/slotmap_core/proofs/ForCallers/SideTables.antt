@@ -2,8 +2,7 @@
 -- For callers.
 use Rattle.std.proofs.Common.{◌≡◌, ◌≢◌, ℕ, Bool, true, false, inl, inr, Some, None, Result, IfOk, IsErr, OnOk, OnErr, refl, ap, arith}
 use Rattle.std.specs.FinMap as map
-use Rattle.slotmap_core.specs.Words.{Key, IsBeside, Content, IsContent, IsLive, Pairs, get, contains_key, entry, has_entry, remove, Inserts, Keeps}
-use Rattle.slotmap_core.specs.Secondary.{put}
+use Rattle.slotmap_core.specs.Words.{Key, IsBeside, Content, IsContent, IsLive, Pairs, get, contains_key, entry, has_entry, put, remove, Inserts, Keeps}
 use Rattle.slotmap_core.proofs.ForCallers.Callers.{live-insert_still, live-remove_other}
 use Rattle.slotmap_core.proofs.General.KeyLemmas.{same_or_other, alike_or_apart, nat_cmp_total, exact_unsigned, nat_tests}
 use Rattle.slotmap_core.proofs.General.Maps.{none_of, false_of}

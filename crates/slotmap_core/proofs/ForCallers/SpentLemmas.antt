@@ -1,11 +1,12 @@
 -- Which keys are spent after a call: those that were, and each live key that was removed.
 -- For callers.
-use Rattle.std.proofs.Common.{⊎_elim, ◌≡◌, ◌≢◌, ℕ, Bool, false, ◌⊎◌, inl, inr, Option, None, Some, OnSome, IfNone, Result, Ok, Err, IfOk, IsErr, List, [], ◌∷◌, All, is_some, refl, ap, sym, ◌∙◌, arith}
+use Rattle.std.proofs.Common.{⊎_elim, ◌≡◌, ◌≢◌, ℕ, Bool, false, ◌⊎◌, inl, inr, Option, None, Some, OnSome, IfNone, Result, Ok, Err, IfOk, IsErr, List, [], ◌∷◌, is_some, refl, ap, sym, ◌∙◌, arith}
 use Rattle.std.specs.FinMap as map
 use Rattle.std.specs.FinSet as set
 use Rattle.std.proofs.lemmas.List.Elements.{All-head, All-tail}
-use Rattle.slotmap_core.specs.Words.{Key, key_cmp, next_version, Content, IsContent, IsLive, IsDetached, Stands, places, StaysValid, MayGrow, IsCopy, IsCloneBy}
-use Rattle.slotmap_core.specs.Words.{CanReplace, with_values, IsSpent, KeepsSpent, Inserts, Removes, Detaches, Reattaches, Keeps, Leaves, with_value, Restores}
+use Rattle.slotmap_core.specs.Words.{All, Key, key_cmp, next_version, Content, IsContent, IsLive, IsDetached, Stands, places, StaysValid, MayGrow, IsCopy}
+use Rattle.slotmap_core.specs.Words.{IsCloneBy, CanReplace, with_values, IsSpent, KeepsSpent, Inserts, Removes, Detaches, Reattaches, Keeps, Leaves, with_value}
+use Rattle.slotmap_core.specs.Words.{Restores}
 use Rattle.slotmap_core.proofs.Contents.CloneLemmas.{clone_live, clone_places}
 use Rattle.slotmap_core.proofs.Contents.LeaveLemmas.{Leaves-refl, Leaves-keeps, Leaves-with_value, Leaves-trans, Leaves-removes, was_live, same_live, live_no_more}
 use Rattle.slotmap_core.proofs.General.Maps.{false_of, none_of}

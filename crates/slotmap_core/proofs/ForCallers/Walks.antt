@@ -1,9 +1,9 @@
 -- A loop over a map: the pairs ahead of it, and those that it passed.
 -- For callers.
-use Rattle.std.proofs.Common.{◌≡◌, List, [], ◌∷◌, Some, All, Contains, ◌⊎◌, inl, arith}
+use Rattle.std.proofs.Common.{◌≡◌, List, [], ◌∷◌, Some, ◌⊎◌, inl, arith}
 use Rattle.std.specs.FinMap as map
 use Rattle.std.proofs.lemmas.List.Elements.{All-head, All-tail}
-use Rattle.slotmap_core.specs.Words.{Key, key_cmp, IsListing}
+use Rattle.slotmap_core.specs.Words.{All, Contains, Key, key_cmp, IsListing}
 use Rattle.slotmap_core.proofs.General.KeyLemmas.{keys_total, exact_keys}
 use Rattle.slotmap_core.proofs.General.ListingLemmas.{all_live, listed}
 

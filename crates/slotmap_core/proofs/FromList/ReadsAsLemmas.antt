@@ -3,8 +3,7 @@
 use Rattle.std.proofs.Common.{◌≡◌, ℕ, ◌+◌, Bool, List, ◌∷◌, ◌++◌, length, Option, sym, subst, ◌∙◌, arith}
 use Rattle.std.proofs.lemmas.Grind.{common_steps}
 use Rattle.std.proofs.lemmas.Option.{slice_get-get_or, slice_get_within}
-use Rattle.std.specs.Option.{MatchOption}
-use Rattle.slotmap_core.specs.Words.{Content, IsContent, start_places, StartsFrom, ReadsAs, IsConsistent, Accepts, Writes, records_of}
+use Rattle.slotmap_core.specs.Words.{MatchOption, Content, IsContent, start_places, StartsFrom, ReadsAs, IsConsistent, Accepts, Writes, records_of}
 use Rattle.slotmap_core.specs.declared.serial.SlotRecord.{SlotRecord}
 use Rattle.slotmap_core.proofs.FromList.StartFits.{starts-fit}
 use Rattle.slotmap_core.proofs.FromList.StartLemmas.{live-start_places, retired-start_places}

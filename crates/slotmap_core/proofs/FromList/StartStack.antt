@@ -4,10 +4,9 @@ use Rattle.std.proofs.Common.{◌≡◌, ◌⊎◌, ◌↔◌, ℕ, zero, suc, �
 use Rattle.std.proofs.lemmas.Bool.Decides.{nat_tests}
 use Rattle.std.proofs.lemmas.List.{length_push}
 use Rattle.std.proofs.lemmas.Option.{slice_get_within, same_Some}
-use Rattle.std.specs.Ordering.{nat_cmp}
 use Rattle.std.specs.FinMap as map
-use Rattle.slotmap_core.specs.Words.{nat_cmp_total, vacant_slot, start_next, start_stack, start_places, gather, Place, Vacant, next, Accepts, AllFitBelow, IsOn}
-use Rattle.slotmap_core.specs.Words.{IsOnce, HasVersion, IsStacked}
+use Rattle.slotmap_core.specs.Words.{nat_cmp_total, nat_cmp, vacant_slot, start_next, start_stack, start_places, gather, Place, Vacant, next, Accepts}
+use Rattle.slotmap_core.specs.Words.{AllFitBelow, IsOn, IsOnce, HasVersion, IsStacked}
 use Rattle.slotmap_core.specs.declared.serial.SlotRecord.{SlotRecord}
 use Rattle.slotmap_core.proofs.FromList.AtKeysLemmas.{vacant_fits, next_in}
 use Rattle.slotmap_core.proofs.General.GatherLemmas.{get_before, len-add}

@@ -2,11 +2,9 @@
 -- For the crates of maps, runs and callers.
 use Rattle.std.proofs.Common.{◌≡◌, ◌≢◌, ℕ, ◌-◌, ◌%◌, ◌^◌, ◌<◌, true, false, ◌⊎◌, ap, is_eq, arith}
 use Rattle.std.specs.declared.cmp.Ordering.{Ordering}
-use Rattle.std.specs.Ordering.{nat_cmp}
-use Rattle.std.specs.Cmp.{tied_itself, Equal-is}
 use Rattle.std.proofs.lemmas.Cmp.{on_total, then_total}
 use Rattle.std.proofs.lemmas.Map.Lookups.{exact_pairs}
-use Rattle.slotmap_core.specs.Words.{eq_by_cmp, Key, key_cmp, key_from}
+use Rattle.slotmap_core.specs.Words.{nat_cmp, eq_by_cmp, tied_itself, Equal-is, Key, key_cmp, key_from}
 -- the order of indices and versions, passed on to each proof about keys
 pub use Rattle.std.specs.Cmp.{IsTotalOrder, nat_cmp_total}
 pub use Rattle.std.proofs.lemmas.Bool.Decides.{nat_tests}

@@ -17,9 +17,6 @@ past_end xs i none = grind (arith, slice_get_cases xs i)
 pub mapped : {A B : Type 0} (f : A → B) (o : Option A) (b : B) → option_map f o ≡ Some b → (a : A) × (o ≡ Some a) × (f a ≡ b)
 mapped f o b is = grind arith
 
-pub mapped_none : {A B : Type 0} (f : A → B) (o : Option A) → option_map f o ≡ None → o ≡ None
-mapped_none f o is = grind arith
-
 -- the value that a read of a vector returned is the element that is known to be there
 pub same_read : {X : Type 0} (xs : List X) (i : ℕ) (read known : X) → read ≡ get_or xs i read → slice_get xs i ≡ Some known → read ≡ known
 same_read xs i read known at found = at ∙ get_or_from_slice_get xs i known read found

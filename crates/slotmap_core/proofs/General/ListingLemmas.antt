@@ -1,13 +1,11 @@
 -- Listings that grow by one entry at a time, and what a listing says of each key.
 -- For the crates of maps.
-use Rattle.std.proofs.Common.{◌≡◌, ℕ, zero, suc, ◌+◌, ◌<◌, ◌≤◌, true, false, List, [], ◌∷◌, ◌++◌, length, get_or, map as list_map, Some, None, All, Contains, inl, inr, refl, sym, ap, ◌∙◌, arith}
+use Rattle.std.proofs.Common.{◌≡◌, ℕ, zero, suc, ◌+◌, ◌<◌, ◌≤◌, true, false, List, [], ◌∷◌, ◌++◌, length, get_or, map as list_map, Some, None, inl, inr, refl, sym, ap, ◌∙◌, arith}
 use Rattle.std.proofs.lemmas.Bool.{cases_Bool}
-use Rattle.std.specs.Option.{option_or}
 use Rattle.std.specs.FinMap as map
-use Rattle.std.specs.FinMap.Entries.{find}
 use Rattle.std.specs.FinSet as set
 use Rattle.std.proofs.lemmas.List.{length_push, length-map}
-use Rattle.slotmap_core.specs.Words.{eq_by_cmp, is_some-find, Key, key_cmp, IsListing, IsKeyListing, IsListingBut, with_entries}
+use Rattle.slotmap_core.specs.Words.{All, Contains, option_or, eq_by_cmp, find, is_some-find, Key, key_cmp, IsListing, IsKeyListing, IsListingBut, with_entries}
 use Rattle.slotmap_core.proofs.General.KeyLemmas.{keys_total, exact_keys, tied, itself}
 use Rattle.slotmap_core.proofs.General.Maps.{insert_same, len_removed}
 

@@ -2,7 +2,7 @@
 -- For this crate alone.
 use Rattle.std.proofs.Common.{◌≡◌, ℕ, ◌+◌, ◌*◌, ◌/◌, ◌%◌, ◌^◌, ◌<◌, ap, ◌∙◌, arith, bit_or}
 use Rattle.std.proofs.lemmas.Nat.{or_block}
-use Rattle.std.specs.Int.Bits.{or_zero_r}
+use Rattle.slotmap_core.specs.Words.{or_zero_r}
 
 low : (r : ℕ) → r < 2 → bit_or r 1 ≡ 1
 low r h = grind arith

@@ -2,9 +2,8 @@
 -- For the crates of maps.
 use Rattle.std.proofs.Common.{◌≡◌, List, [], ◌∷◌, ◌++◌, length, slice_get, Some, sym, ap, ◌∙◌, append_assoc, append-nil, arith}
 use Rattle.std.specs.declared.vec.IntoIter.{IntoIter}
-use Rattle.std.specs.Vec.Iter.{into_iter_steps}
 use Rattle.std.proofs.lemmas.List.{nil_from_length}
-use Rattle.slotmap_core.specs.Words.{into_iter_items, into_iter_len}
+use Rattle.slotmap_core.specs.Words.{into_iter_items, into_iter_len, into_iter_steps}
 use Rattle.slotmap_core.proofs.General.Positions.{at_seam}
 
 module _ {X Z : Type 0} where

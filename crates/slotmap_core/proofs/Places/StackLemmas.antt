@@ -4,8 +4,7 @@ use Rattle.std.proofs.Common.{◌≡◌, ◌≢◌, ◌⊎◌, inl, inr, ℕ, �
 use Rattle.std.proofs.lemmas.Option.{slice_get_within, same_Some}
 use Rattle.std.proofs.lemmas.List.{length-set, length_push}
 use Rattle.std.specs.FinMap as map
-use Rattle.std.specs.Ordering.{nat_cmp}
-use Rattle.slotmap_core.specs.Words.{key_cmp, Place, Live, Vacant, live, used_places, IsOn, IsOnce, IsVersion, HasVersion, IsStacked}
+use Rattle.slotmap_core.specs.Words.{nat_cmp, key_cmp, Place, Live, Vacant, live, used_places, IsOn, IsOnce, IsVersion, HasVersion, IsStacked}
 use Rattle.slotmap_core.proofs.General.GatherLemmas.{slice_get-set_same, slice_get-set_other, slice_get_push_other, at_set, at_push}
 use Rattle.slotmap_core.proofs.Places.PlacesLemmas.{vacancy, no_vacancy, len-next-set, next-push_live, sentinel_alone, total}
 

@@ -6,8 +6,7 @@ use Rattle.std.proofs.lemmas.Map.Lookups.{exact_unsigned}
 use Rattle.std.proofs.lemmas.Option.{same_Some}
 use Rattle.std.specs.FinMap as map
 use Rattle.slotmap_core.specs.Words.{nat_cmp_total, Key, IsKey, null_key, is_older, Pairs, is_null, no_entry, occupied, vacant, entry_at, value_at, has_entry}
-use Rattle.slotmap_core.specs.Words.{entry, get, contains_key, bind, remove, IsSecondary}
-use Rattle.slotmap_core.specs.Secondary.{put}
+use Rattle.slotmap_core.specs.Words.{entry, get, contains_key, bind, put, remove, IsSecondary}
 use Rattle.slotmap_core.proofs.General.Maps.{false_of, none_of, some_is, get_other, get_left, get_removed, get_after_insert, get_after_remove, insert_same, insert_twice, remove_inserted, len_removed}
 use Rattle.slotmap_core.proofs.SecondaryMaps.SecondaryLemmas.{not_null, get_bound}
 

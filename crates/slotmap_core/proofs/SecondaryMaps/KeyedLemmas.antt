@@ -1,13 +1,11 @@
 -- A secondary map by its keys: its look-ups, and what each change makes of it.
 -- For the crates of maps and callers.
 use Rattle.std.proofs.Common.{◌≡◌, ◌≢◌, ℕ, Bool, true, false, cond, ◌&&◌, T, List, [], ◌∷◌, length, map as list_map, None, Some, is_some, nat_eq, refl, sym, ap, ◌∙◌, subst, is_eq, arith}
-use Rattle.std.specs.Ordering.{nat_cmp, is_lt}
 use Rattle.std.specs.declared.cmp.Ordering.{Ordering}
 use Rattle.std.proofs.lemmas.List.{length-map}
 use Rattle.std.specs.FinMap as map
-use Rattle.std.specs.FinMap.Entries.{find}
-use Rattle.slotmap_core.specs.Words.{ordering_then, eq_by_cmp, nat_cmp_total, nat_eq_equiv, unsigned_tied, below_all, is_sorted, Key, key_cmp, Pairs, value_at}
-use Rattle.slotmap_core.specs.Words.{get, contains_key, bind, remove, keyed_entry, keyed}
+use Rattle.slotmap_core.specs.Words.{nat_cmp, ordering_then, eq_by_cmp, is_lt, nat_cmp_total, nat_eq_equiv, unsigned_tied, find, below_all, is_sorted, Key}
+use Rattle.slotmap_core.specs.Words.{key_cmp, Pairs, value_at, get, contains_key, bind, remove, keyed_entry, keyed}
 use Rattle.slotmap_core.proofs.General.KeyLemmas.{keys_total, exact_keys, tied, exact_unsigned}
 use Rattle.slotmap_core.proofs.General.Maps.{get_inserted, get_removed, get_other, get_left, same_at}
 use Rattle.slotmap_core.proofs.SecondaryMaps.SecondaryLemmas.{get_bound}

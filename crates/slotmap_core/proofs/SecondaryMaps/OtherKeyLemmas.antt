@@ -3,8 +3,7 @@
 use Rattle.std.proofs.Common.{◌≡◌, ◌≢◌, ℕ, ◌^◌, ◌<◌, ◌≤◌, Option, Some, None, true, false, if◌then◌else◌, ◌⊎◌, inl, inr, ap, ◌∙◌, arith}
 use Rattle.std.proofs.lemmas.Grind.{common_steps}
 use Rattle.std.specs.FinMap as map
-use Rattle.slotmap_core.specs.Words.{Key, is_older, Pairs, is_null, entry_at, value_at, has_entry, get, remove}
-use Rattle.slotmap_core.specs.Secondary.{put}
+use Rattle.slotmap_core.specs.Words.{Key, is_older, Pairs, is_null, entry_at, value_at, has_entry, get, put, remove}
 use Rattle.slotmap_core.proofs.General.KeyLemmas.{alike_or_apart, nat_cmp_total, exact_unsigned}
 use Rattle.slotmap_core.proofs.General.Maps.{get_after_insert, get_after_remove, get_inserted, get_other}
 pub use Rattle.slotmap_core.proofs.SecondaryMaps.AtIndexLemmas.{removed_gone, others_stay}

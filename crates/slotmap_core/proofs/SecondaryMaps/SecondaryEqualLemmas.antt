@@ -3,10 +3,9 @@
 use Rattle.std.proofs.Common.{◌≡◌, ◌↔◌, Bool, true, false, cond, ◌&&◌, T, List, [], ◌∷◌, None, Some, refl, sym, ap, ◌∙◌, subst, arith}
 use Rattle.std.specs.declared.cmp.Ordering.{Ordering}
 use Rattle.std.specs.declared.cmp.Ordering.TheVariants.{Less, Equal, Greater}
-use Rattle.std.specs.Ordering.{is_lt, ordering_reverse}
 use Rattle.std.specs.FinMap as map
-use Rattle.std.specs.FinMap.Entries.{find}
-use Rattle.slotmap_core.specs.Words.{eq_by_cmp, below_all, is_sorted, Key, key_cmp, same_keys, Pairs, get, keyed, SameValue, AreEqual, same_entries, are_equal}
+use Rattle.slotmap_core.specs.Words.{eq_by_cmp, is_lt, ordering_reverse, find, below_all, is_sorted, Key, key_cmp, same_keys, Pairs, get, keyed, SameValue}
+use Rattle.slotmap_core.specs.Words.{AreEqual, same_entries, are_equal}
 use Rattle.slotmap_core.proofs.General.KeyLemmas.{keys_total, exact_keys, tied, itself}
 use Rattle.slotmap_core.proofs.SecondaryMaps.KeyedLemmas.{get-keyed, both, first, second, not_tied}
 use Rattle.slotmap_core.proofs.General.Maps.{of_and}

@@ -1,11 +1,9 @@
 -- One more pair is put.
 -- For the crates of maps.
 use Rattle.std.proofs.Common.{◌≡◌, List, [], ◌∷◌, ◌++◌}
-use Rattle.std.specs.Borrow.{Bor}
 use Rattle.std.proofs.lemmas.Fn.{FoldsTo-push}
 use Rattle.std.proofs.lemmas.List.{map_push}
-use Rattle.slotmap_core.specs.Words.{Key, Pairs, AllPut, values_of}
-use Rattle.slotmap_core.specs.Secondary.{put}
+use Rattle.slotmap_core.specs.Words.{Bor, Key, Pairs, put, AllPut, values_of}
 
 module _ {K V : Type 0} (data_of : K → Key) where
   pub AllPut-push : (old : Pairs V) (pairs : List (K × V)) (now : Pairs V) (k : K) (v : V) (new : Pairs V) → AllPut data_of old pairs now

@@ -4,8 +4,7 @@ use Rattle.std.proofs.Common.{◌≡◌, ℕ, Option, Some, None, true, false, c
 use Rattle.std.proofs.lemmas.Map.Lookups.{exact_unsigned}
 use Rattle.std.specs.FinMap as map
 use Rattle.slotmap_core.specs.Words.{nat_cmp_total, Key, null_key, Pairs, Entry, IsSecondary, is_null, no_entry, occupied, vacant, entry_at, value_at}
-use Rattle.slotmap_core.specs.Words.{has_entry, entry, get, bind}
-use Rattle.slotmap_core.specs.Secondary.{put}
+use Rattle.slotmap_core.specs.Words.{has_entry, entry, get, bind, put}
 use Rattle.slotmap_core.proofs.General.Maps.{get_inserted}
 
 module _ {V : Type 0} where

@@ -1,8 +1,7 @@
 -- An insertion of many pairs of references that stops for want of memory.
 -- For the crates of maps.
 use Rattle.std.proofs.Common.{List, Option, Some, Err, ap}
-use Rattle.std.specs.Borrow.{Bor}
-use Rattle.slotmap_core.specs.Words.{YieldsThen, Key, Pairs, RefusesPut, AllPut, values_of, ExtendsBy}
+use Rattle.slotmap_core.specs.Words.{Bor, YieldsThen, Key, Pairs, RefusesPut, AllPut, values_of, ExtendsBy}
 
 pub ExtendsBy-stopped : {It K V : Type 0} (data_of : K → Key) {gives : It → Option (K × Bor V) → It → Type 0} {it : It} {old now : Pairs V}
     (items : List (K × Bor V)) (key : K) (value : Bor V) (rest : It) {back : V}

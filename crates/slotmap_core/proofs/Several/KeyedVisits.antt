@@ -1,9 +1,8 @@
 -- What calls for each key of a map, by ascending index, leave of it, if no two of its keys have one index.
 -- For the crates of maps.
 use Rattle.std.proofs.Common.{◌≡◌, ℕ, ◌+◌, ◌<◌, ◌≤◌, Bool, true, false, cond, List, [], ◌∷◌, ◌++◌, Some, is_some, refl, sym, ap, subst, ◌∙◌, arith}
-use Rattle.std.specs.Borrow.{MutBor}
 use Rattle.std.specs.FinMap as map
-use Rattle.slotmap_core.specs.Words.{Mut, FoldsTo, Key, key_cmp, Visit, CallsAt, MayCome}
+use Rattle.slotmap_core.specs.Words.{Mut, MutBor, FoldsTo, Key, key_cmp, Visit, CallsAt, MayCome}
 use Rattle.slotmap_core.proofs.Contents.IndexLemmas.{from_index, get_from, from_index-start, from_index-skip, from_index-jump, from_index-take, from_index-end, none_live, in_from}
 use Rattle.slotmap_core.proofs.Several.VisitLemmas.{Visits, Visits-start, Visits-call, unvisited}
 

@@ -2,11 +2,8 @@
 -- For runs and callers.
 use Rattle.std.proofs.Common.{inl, inr, ◌≡◌, ◌≢◌, ℕ, suc, ◌+◌, Bool, true, false, cond, List, [], ◌∷◌, length, Option, Some, None, is_some, refl, sym, ap, subst, ◌∙◌, arith}
 use Rattle.std.proofs.lemmas.Option.{same_Some}
-use Rattle.std.specs.Borrow.{MutBor}
-use Rattle.std.specs.Option.{option_and_then}
 use Rattle.std.specs.FinMap as map
-use Rattle.std.specs.FinMap.Entries.{find}
-use Rattle.slotmap_core.specs.Words.{Mut, Called, FoldsTo, Key, key_cmp, with_entries, Visit, CallsAt, RetainsBy, seen, kept}
+use Rattle.slotmap_core.specs.Words.{Mut, Called, MutBor, FoldsTo, option_and_then, find, Key, key_cmp, with_entries, Visit, CallsAt, RetainsBy, seen, kept}
 use Rattle.slotmap_core.proofs.General.KeyLemmas.{keys_total, exact_keys, tied, itself, same_or_other}
 use Rattle.slotmap_core.proofs.General.Maps.{none_of, len_inserted}
 use Rattle.slotmap_core.proofs.General.ListingLemmas.{with_entries-empty, fresh_first, IsListingBut-listing}

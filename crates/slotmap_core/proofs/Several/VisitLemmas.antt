@@ -2,11 +2,9 @@
 -- For the crates of maps, runs and callers.
 use Rattle.std.proofs.Common.{◌≡◌, Bool, true, false, cond, List, [], ◌∷◌, ◌++◌, append-nil, Some, None, is_some, refl, sym, ap, subst, ◌∙◌, arith}
 use denote.Param.Always.{always_mut, mut_next}
-use Rattle.std.specs.Borrow.{MutBor}
 use Rattle.std.specs.FinMap as map
-use Rattle.std.specs.FinMap.Entries.{find}
-use Rattle.slotmap_core.specs.Words.{Mut, Called, Takes, FoldsTo, Key, key_cmp, IsListing, IsListingBut, with_entries, Visit, CallsAt, CallableOnEach, seen}
-use Rattle.slotmap_core.specs.Words.{kept}
+use Rattle.slotmap_core.specs.Words.{Mut, Called, Takes, FoldsTo, MutBor, find, Key, key_cmp, IsListing, IsListingBut, with_entries, Visit, CallsAt}
+use Rattle.slotmap_core.specs.Words.{CallableOnEach, seen, kept}
 use Rattle.slotmap_core.proofs.General.ListingLemmas.{get-with_entries, with_entries_push, with_entries-empty, insert-remove, insert-with_entries}
 use Rattle.slotmap_core.proofs.General.ListingLemmas.{remove-with_entries, unlisted, unlisted_where_same, IsListingBut-start, IsListingBut-take}
 use Rattle.slotmap_core.proofs.General.ListingLemmas.{IsListingBut-done}

@@ -1,5 +1,4 @@
-use Rattle.std.proofs.Common.{◌≡◌, ◌∙◌, Some, Err, ap, rules, arith}
-use Rattle.slotmap_core.proofs.Lemmas.{common_steps}
+use Rattle.slotmap_core.proofs.Lemmas.{◌≡◌, ◌∙◌, Some, Err, ap, rules, arith, common_steps}
 use Rattle.serde_json.specs.View.{view, items_view}
 use Rattle.slotmap_json.specs.Json.{ReadsJson}
 use Rattle.slotmap_core.specs.declared.errors.JsonError.TheVariants.{Memory}

@@ -1,6 +1,6 @@
 //! Slots in three vectors of one length.
 
-ghost use Rattle.std.specs.Prelude.{◌≡◌, ◌+◌, ◌<◌, ◌≤◌, ◌^◌, ℕ, List, length, slice_get, Some, IfSome, IfNone, refl, vec_capacity};
+ghost use Rattle.slotmap_core.specs.Words.{◌≡◌, ◌+◌, ◌<◌, ◌≤◌, ◌^◌, ℕ, List, length, slice_get, Some, IfSome, IfNone, refl, vec_capacity};
 ghost use Rattle.slotmap_slots.specs.Columns.{zip_slots};
 ghost use Rattle.slotmap_slots.specs.Numbers.{uses_of};
 ghost use Rattle.slotmap_slots.specs.declared.layout.Use.{Use as UseOf};
@@ -26,7 +26,7 @@ pub struct Columns<P> {
 }
 
 impl<P> Model for Columns<P> {
-    ghost use Rattle.std.specs.Prelude.{vec_capacity};
+    ghost use Rattle.slotmap_core.specs.Words.{vec_capacity};
     ghost use Rattle.slotmap_slots.specs.Slot.{SlotList};
     ghost use Rattle.slotmap_slots.specs.Columns.{zip_slots, IsColumns};
     ghost use Rattle.slotmap_slots.specs.Numbers.{uses_of};
@@ -137,7 +137,7 @@ impl<P> Columns<P> {
 
 #[tactic(auto, using(crate::proofs::ColumnLemmas::slot_list))]
 impl<P> Layout<P> for Columns<P> {
-    ghost use Rattle.std.specs.Prelude.{ℕ, List};
+    ghost use Rattle.slotmap_core.specs.Words.{ℕ, List};
     ghost use Rattle.slotmap_slots.specs.Slot.{Slot, SlotList, with_payload};
 
     ghost slots = { λ m. m.slots };

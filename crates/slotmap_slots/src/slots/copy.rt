@@ -1,7 +1,6 @@
 //! Copies.
 
-ghost use Rattle.std.specs.Prelude.{true, IfOk};
-ghost use Rattle.slotmap_core.specs.Words.{ClonesEqual, IsContent, IsCopy, IsCloneBy};
+ghost use Rattle.slotmap_core.specs.Words.{true, IfOk, ClonesEqual, IsContent, IsCopy, IsCloneBy};
 
 use super::Slots;
 use crate::layout::CopyLayout;

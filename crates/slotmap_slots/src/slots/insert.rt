@@ -1,7 +1,6 @@
 //! New keys.
 
-ghost use Rattle.std.specs.Prelude.{◌≡◌, ◌<◌, true};
-ghost use Rattle.slotmap_core.specs.Words.{Inserts, StaysValid};
+ghost use Rattle.slotmap_core.specs.Words.{◌≡◌, ◌<◌, true, Inserts, StaysValid};
 
 use super::Slots;
 use crate::layout::Layout;

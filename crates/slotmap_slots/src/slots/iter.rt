@@ -1,8 +1,7 @@
 //! Iterators over slots in three vectors, by ascending index.
 
-ghost use Rattle.std.specs.Prelude.{◌≡◌, ◌≤◌, length, Some, IfSome, IfOk, ⊤};
 ghost use Rattle.std.specs.FinMap as map;
-ghost use Rattle.slotmap_core.specs.Words.{YieldsFirstBy, item_count, at_most, UpTo, ClonesEqual, AreClones};
+ghost use Rattle.slotmap_core.specs.Words.{◌≡◌, ◌≤◌, length, Some, IfSome, IfOk, ⊤, YieldsFirstBy, item_count, at_most, UpTo, ClonesEqual, AreClones};
 
 use super::Slots;
 use crate::layout::{Columns, Odds, version_in};
@@ -24,8 +23,7 @@ pub struct SlotIter<'a, P> {
 }
 
 impl<'a, P> Model for SlotIter<'a, P> {
-    ghost use Rattle.std.specs.Prelude.{List};
-    ghost use Rattle.slotmap_core.specs.Words.{Key};
+    ghost use Rattle.slotmap_core.specs.Words.{List, Key};
     ghost use Rattle.slotmap_slots.specs.Odds.{IsAhead};
     ghost use Rattle.slotmap_slots.specs.Iter.{pairs_left, IsIter};
 
@@ -99,8 +97,7 @@ pub struct SlotIntoIter<P> {
 }
 
 impl<P> Model for SlotIntoIter<P> {
-    ghost use Rattle.std.specs.Prelude.{List};
-    ghost use Rattle.slotmap_core.specs.Words.{Key};
+    ghost use Rattle.slotmap_core.specs.Words.{List, Key};
     ghost use Rattle.slotmap_slots.specs.Odds.{IsAhead};
     ghost use Rattle.slotmap_slots.specs.Iter.{pairs_left, IsIter};
 

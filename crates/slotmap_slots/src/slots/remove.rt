@@ -1,8 +1,7 @@
 //! Removals.
 
-ghost use Rattle.std.specs.Prelude.{◌≡◌, ◌+◌, ◌<◌, ◌≤◌, OnSome, IfNone, Some, true};
 ghost use Rattle.std.specs.FinMap as map;
-ghost use Rattle.slotmap_core.specs.Words.{IsLive, Removes, StaysValid};
+ghost use Rattle.slotmap_core.specs.Words.{◌≡◌, ◌+◌, ◌<◌, ◌≤◌, OnSome, IfNone, Some, true, IsLive, Removes, StaysValid};
 
 use super::Slots;
 use crate::layout::{Layout, Use};

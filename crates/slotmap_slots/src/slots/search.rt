@@ -1,8 +1,7 @@
 //! The search for the next live key in three vectors, and a loop over all of them.
 
-ghost use Rattle.std.specs.Prelude.{◌≡◌, ◌+◌, ◌<◌, ◌≤◌, IfNone, IfSome, true};
 ghost use Rattle.std.specs.FinMap as map;
-ghost use Rattle.slotmap_core.specs.Words.{Key, IsContent, IsLive, NoneBelow, Leaves, FreesByIndex, StaysValid};
+ghost use Rattle.slotmap_core.specs.Words.{◌≡◌, ◌+◌, ◌<◌, ◌≤◌, IfNone, IfSome, true, Key, IsContent, IsLive, NoneBelow, Leaves, FreesByIndex, StaysValid};
 ghost use Rattle.slotmap_slots.specs.Ahead.{AreOddsOf};
 
 use super::Slots;

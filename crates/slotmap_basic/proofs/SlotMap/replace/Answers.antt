@@ -1,6 +1,5 @@
-use Rattle.std.proofs.Common.{true, is_some, refl, ap, sym, ◌∙◌}
 use Rattle.slotmap_core.specs.Words.{option_copied_mut}
-use Rattle.slotmap_core.proofs.Lemmas.{IsContent-with_value}
+use Rattle.slotmap_core.proofs.Lemmas.{true, is_some, refl, ap, sym, ◌∙◌, IsContent-with_value}
 use Rattle.slotmap_basic.proofs.SlotMap.replace.Goals as goal
 
 pub returns-in-Some-clause-valid : goal.returns-in-Some-clause-valid

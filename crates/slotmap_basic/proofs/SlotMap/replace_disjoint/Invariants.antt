@@ -1,7 +1,5 @@
-use Rattle.std.proofs.Common.{map as map_list}
-use Rattle.std.proofs.Common.{true}
 use Rattle.slotmap_core.specs.Words.{IsContent, with_value, value_of}
-use Rattle.slotmap_core.proofs.Lemmas.{Exchanged}
+use Rattle.slotmap_core.proofs.Lemmas.{map as map_list, true, Exchanged}
 use Rattle.slotmap_basic.proofs.SlotMap.replace_disjoint.Given as goal
 
 abbrev pub invariant-loop-i : goal.invariant-loop-i

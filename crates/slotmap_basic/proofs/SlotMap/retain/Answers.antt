@@ -1,6 +1,5 @@
-use Rattle.std.proofs.Common.{true, ◌∙◌, arith}
 use Rattle.slotmap_core.specs.Words.{IsContent, IsLive, with_value}
-use Rattle.slotmap_core.proofs.Lemmas.{same_live, CallsAt-called}
+use Rattle.slotmap_core.proofs.Lemmas.{true, ◌∙◌, arith, same_live, CallsAt-called}
 use Rattle.slotmap_slots.proofs.AheadLemmas.{odds_removed, odds_written}
 use Rattle.slotmap_basic.proofs.RetainLemmas.{Going-start, Going-may, Going-end, Going-kept, Going-dropped}
 use Rattle.slotmap_basic.proofs.SlotMap.retain.Goals.{After-odds_from-odds, After-f-stays}

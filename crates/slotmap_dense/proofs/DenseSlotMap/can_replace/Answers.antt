@@ -1,6 +1,5 @@
-use Rattle.std.proofs.Common.{arith}
+use Rattle.slotmap_core.proofs.Lemmas.{arith, CanReplace-next, refuses_key}
 use Rattle.slotmap_dense.specs.Dense.{value_of}
-use Rattle.slotmap_core.proofs.Lemmas.{CanReplace-next, refuses_key}
 use Rattle.slotmap_dense.proofs.DenseSlotMap.can_replace.Goals as goal
 
 pub returns-then-not-contains_key-clause-which : goal.returns-then-not-contains_key-clause-which

@@ -1,5 +1,4 @@
-use Rattle.std.proofs.Common.{Some, option_copied, sym, ap, ◌∙◌, arith}
-use Rattle.slotmap_core.proofs.Lemmas.{same_read}
+use Rattle.slotmap_core.proofs.Lemmas.{Some, option_copied, sym, ap, ◌∙◌, arith, same_read}
 use Rattle.slotmap_dense.proofs.SettledLemmas.{well_formed, absent, present}
 use Rattle.slotmap_dense.proofs.DenseSlotMap.get.Goals as goal
 

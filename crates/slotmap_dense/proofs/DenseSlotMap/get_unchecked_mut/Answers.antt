@@ -1,6 +1,4 @@
-use Rattle.std.proofs.Common.{Some, refl, sym, ap, ◌∙◌, arith}
-use Rattle.std.proofs.lemmas.List.{length-set}
-use Rattle.slotmap_core.proofs.Lemmas.{same_read}
+use Rattle.slotmap_core.proofs.Lemmas.{Some, refl, sym, ap, ◌∙◌, arith, length-set, same_read}
 use Rattle.slotmap_dense.proofs.SettledLemmas.{well_formed, contains, present}
 use Rattle.slotmap_dense.proofs.WellFormed.{IsSound-other, dense-written}
 use Rattle.slotmap_dense.proofs.DenseSlotMap.get_unchecked_mut.Goals as goal

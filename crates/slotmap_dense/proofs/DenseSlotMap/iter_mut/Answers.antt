@@ -1,5 +1,4 @@
-use Rattle.std.proofs.Common.{sym, rules}
-use Rattle.slotmap_core.proofs.Lemmas.{length-map}
+use Rattle.slotmap_core.proofs.Lemmas.{sym, rules, length-map}
 use Rattle.slotmap_dense.proofs.SettledLemmas.{lent, well_formed}
 use Rattle.slotmap_dense.proofs.DenseSlotMap.iter_mut.Goals as goal
 

@@ -1,5 +1,4 @@
-use Rattle.std.proofs.Common.{subst, arith}
-use Rattle.slotmap_core.proofs.Lemmas.{key_there, key_exchanged}
+use Rattle.slotmap_core.proofs.Lemmas.{subst, arith, key_there, key_exchanged}
 use Rattle.slotmap_dense.specs.Dense.{IsDense}
 use Rattle.slotmap_dense.proofs.WellFormed.{dense_written}
 use Rattle.slotmap_dense.proofs.DenseSlotMap.replace_disjoint.Goals as goal

@@ -1,6 +1,4 @@
-use Rattle.std.proofs.Common.{[], ◌∷◌, ◌++◌, inl, inr, ◌≡◌, length, map as list_map, refl, sym, ◌∙◌, arith}
-use Rattle.std.proofs.lemmas.List.{length-set}
-use Rattle.slotmap_core.proofs.Lemmas.{FoldsTo-push, length-map}
+use Rattle.slotmap_core.proofs.Lemmas.{[], ◌∷◌, ◌++◌, inl, inr, ◌≡◌, length, map as list_map, refl, sym, ◌∙◌, arith, FoldsTo-push, length-map, length-set}
 use Rattle.slotmap_dense.specs.Pass.{Stays, stage}
 use Rattle.slotmap_dense.specs.Pass.{beside}
 use Rattle.slotmap_dense.proofs.PassLemmas.{shows-read, calls-read}

@@ -1,5 +1,4 @@
-use Rattle.std.proofs.Common.{◌≡◌, ◌+◌, ap, sym, ◌∙◌, arith}
-use Rattle.slotmap_core.proofs.Lemmas.{key}
+use Rattle.slotmap_core.proofs.Lemmas.{◌≡◌, ◌+◌, ap, sym, ◌∙◌, arith, key}
 use Rattle.slotmap_hop.specs.Links.{fronts_of}
 use Rattle.slotmap_hop.specs.Slots.{all_links, next_place}
 use Rattle.slotmap_hop.proofs.SlotLemmas.{valid}

@@ -1,5 +1,5 @@
-use Rattle.std.proofs.Common.{subst}
 use Rattle.slotmap_core.specs.Words.{Pairs, AllPut}
+use Rattle.slotmap_core.proofs.Lemmas.{subst}
 use Rattle.slotmap_secondary.proofs.SecondaryMap.from_iter.Goals as goal
 
 pub returns-in-Err-clause-err : goal.returns-in-Err-clause-err

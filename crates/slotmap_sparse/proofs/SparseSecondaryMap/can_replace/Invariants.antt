@@ -1,5 +1,5 @@
-use Rattle.std.proofs.Common.{take, map as map_list}
 use Rattle.slotmap_core.specs.Words.{get}
+use Rattle.slotmap_core.proofs.Lemmas.{take, map as map_list}
 use Rattle.slotmap_core.specs.Several.{CanReplace}
 use Rattle.slotmap_sparse.proofs.SparseSecondaryMap.can_replace.Given as goal
 

@@ -1,5 +1,4 @@
-use Rattle.std.proofs.Common.{refl, ◌∙◌, arith}
-use Rattle.slotmap_core.proofs.Lemmas.{kept_along, lists_taken}
+use Rattle.slotmap_core.proofs.Lemmas.{refl, ◌∙◌, arith, kept_along, lists_taken}
 use Rattle.slotmap_sparse.specs.Drain.{drain_loan, DrainKeeps, DrainSteps}
 use Rattle.slotmap_sparse.proofs.SparseSecondaryMap.drain.Goals as goal
 

@@ -1,5 +1,4 @@
-use Rattle.std.proofs.Common.{rules}
-use Rattle.slotmap_core.proofs.Lemmas.{AllPut-push_shown, ExtendsBy-stopped}
+use Rattle.slotmap_core.proofs.Lemmas.{rules, AllPut-push_shown, ExtendsBy-stopped}
 use Rattle.slotmap_sparse.proofs.SparseSecondaryMap.extend_refs.Goals as goal
 
 pub loop-key-preserved : goal.loop-key-preserved

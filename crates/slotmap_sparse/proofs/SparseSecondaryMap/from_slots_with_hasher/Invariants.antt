@@ -1,5 +1,4 @@
-use Rattle.std.proofs.Common.{◌≡◌, length}
-use Rattle.slotmap_core.proofs.Lemmas.{OwnedIter}
+use Rattle.slotmap_core.proofs.Lemmas.{◌≡◌, length, OwnedIter}
 use Rattle.slotmap_sparse.specs.Content.{IsContent}
 use Rattle.slotmap_sparse.proofs.FromListLemmas.{Read}
 use Rattle.slotmap_sparse.proofs.SparseSecondaryMap.from_slots_with_hasher.Given as goal

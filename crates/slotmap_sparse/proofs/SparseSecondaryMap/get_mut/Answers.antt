@@ -1,4 +1,4 @@
-use Rattle.std.proofs.Common.{◌≡◌, None, is_some, sym, ap, ◌∙◌}
+use Rattle.slotmap_core.proofs.Lemmas.{◌≡◌, None, is_some, sym, ap, ◌∙◌}
 use mathlib.Core.Logic.{inl, inr}
 use Rattle.slotmap_core.specs.Words.{option_copied_mut, value_at}
 use Rattle.slotmap_sparse.specs.Entries.{content_of}

@@ -1,6 +1,6 @@
-use Rattle.std.proofs.Common.{nat_eq, refl, sym, ap, subst, ◌∙◌}
 use Rattle.std.specs.FinMap as map
 use Rattle.slotmap_core.specs.Words.{WritesThrough, option_copied_mut, IsKey, value_at}
+use Rattle.slotmap_core.proofs.Lemmas.{nat_eq, refl, sym, ap, subst, ◌∙◌}
 use Rattle.slotmap_sparse.specs.Content.{IsContent}
 use Rattle.slotmap_sparse.specs.Entries.{content_of}
 use Rattle.slotmap_sparse.specs.Found.{put_over}

@@ -1,5 +1,4 @@
-use Rattle.std.proofs.Common.{ap, ◌∙◌}
-use Rattle.slotmap_core.proofs.Lemmas.{CallsAt-called}
+use Rattle.slotmap_core.proofs.Lemmas.{ap, ◌∙◌, CallsAt-called}
 use Rattle.slotmap_sparse.proofs.retain.visit.Goals as goal
 
 pub returns-clause-called : goal.returns-clause-called

@@ -1,5 +1,4 @@
-use Rattle.std.proofs.Common.{refl}
-use Rattle.slotmap_core.proofs.Lemmas.{listing-entries}
+use Rattle.slotmap_core.proofs.Lemmas.{refl, listing-entries}
 use Rattle.slotmap_basic.proofs.into_iter.SlotMapIntoIterator.into_iter.Goals as goal
 
 pub returns : goal.returns

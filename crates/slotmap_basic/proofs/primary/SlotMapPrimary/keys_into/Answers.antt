@@ -1,6 +1,5 @@
-use Rattle.std.proofs.Common.{subst, sym}
 use Rattle.slotmap_core.specs.Words.{IsKeyListing}
-use Rattle.slotmap_core.proofs.Lemmas.{on_ok_weaker, IsKeyListing-listing, listing-entries}
+use Rattle.slotmap_core.proofs.Lemmas.{subst, sym, on_ok_weaker, IsKeyListing-listing, listing-entries}
 use Rattle.slotmap_basic.proofs.primary.SlotMapPrimary.keys_into.Goals as goal
 
 pub returns-clause-ok : goal.returns-clause-ok

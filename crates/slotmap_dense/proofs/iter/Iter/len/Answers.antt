@@ -1,5 +1,4 @@
-use Rattle.std.proofs.Common.{arith}
-use Rattle.slotmap_core.proofs.Lemmas.{common_steps, length-zip}
+use Rattle.slotmap_core.proofs.Lemmas.{arith, common_steps, length-zip}
 use Rattle.slotmap_dense.proofs.iter.Iter.len.Goals as goal
 
 pub returns : goal.returns

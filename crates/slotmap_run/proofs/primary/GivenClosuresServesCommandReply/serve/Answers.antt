@@ -1,4 +1,4 @@
-use Rattle.std.proofs.Common.{Bor, subst, ◌≡◌, refl, sym, ap, ◌∙◌}
+use Rattle.slotmap_core.proofs.Lemmas.{Bor, subst, ◌≡◌, refl, sym, ap, ◌∙◌}
 use denote.Param.Always.{mut_by, always_fn}
 use Rattle.slotmap_core.specs.Words.{KeepsAt}
 use Rattle.slotmap_core.proofs.Lemmas.{callable_on_each}

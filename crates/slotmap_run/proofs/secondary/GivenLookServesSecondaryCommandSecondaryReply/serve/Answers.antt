@@ -1,5 +1,5 @@
-use Rattle.std.proofs.Common.{Option, Some, refl, subst, rules}
 use Rattle.slotmap_core.specs.Words.{LooksAt, given_secondary}
+use Rattle.slotmap_core.proofs.Lemmas.{Option, Some, refl, subst, rules}
 use Rattle.slotmap_run.proofs.secondary.GivenLookServesSecondaryCommandSecondaryReply.serve.Goals as goal
 
 -- what `look` returned for the value that was found

@@ -1,5 +1,5 @@
-use Rattle.std.proofs.Common.{◌≡◌, ◌+◌, ◌≤◌, ◌∷◌, ◌++◌, length}
 use Rattle.slotmap_core.specs.Words.{into_iter_items, into_iter_len}
+use Rattle.slotmap_core.proofs.Lemmas.{◌≡◌, ◌+◌, ◌≤◌, ◌∷◌, ◌++◌, length}
 use Rattle.slotmap_slots.specs.Slot.{vacancies}
 use Rattle.slotmap_core.specs.declared.serial.SlotRecord.{SlotRecord}
 use Rattle.slotmap_slots.proofs.FromListLemmas.{AreRead}

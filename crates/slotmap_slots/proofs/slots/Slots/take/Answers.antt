@@ -1,5 +1,5 @@
-use Rattle.std.proofs.Common.{◌≡◌, ◌+◌, ◌-◌, true, false, nat_eq, is_some, ap, sym, ◌∙◌, arith, eq-eqb, ne_eqb}
 use Rattle.slotmap_core.specs.Words.{last_version}
+use Rattle.slotmap_core.proofs.Lemmas.{◌≡◌, ◌+◌, ◌-◌, true, false, nat_eq, is_some, ap, sym, ◌∙◌, arith, eq-eqb, ne_eqb}
 use Rattle.slotmap_slots.specs.Slot.{empty, vacancies}
 use Rattle.slotmap_slots.specs.declared.layout.Use.TheVariants.{Free, Retired}
 use Rattle.slotmap_slots.proofs.SlotLemmas.{FitsEmpty-free, head_fits, freed, removes-freed, retired, removes-retired}

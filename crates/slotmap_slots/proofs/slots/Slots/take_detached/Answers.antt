@@ -1,4 +1,4 @@
-use Rattle.std.proofs.Common.{◌+◌, ◌-◌, ◌%◌, ◌^◌, is_some, ap, arith}
+use Rattle.slotmap_core.proofs.Lemmas.{◌+◌, ◌-◌, ◌%◌, ◌^◌, is_some, ap, arith}
 use Rattle.slotmap_slots.specs.Slot.{empty, vacancies}
 use Rattle.slotmap_slots.specs.declared.layout.Use.TheVariants.{Detached}
 use Rattle.slotmap_slots.proofs.SlotLemmas.{detached, detaches-slots}

@@ -1,8 +1,7 @@
-use Rattle.std.proofs.Common.{true, arith}
+use Rattle.slotmap_core.proofs.Lemmas.{true, arith, writes_clones, clones_contents, equal_writes, equal_contents, writes-stack}
 use Rattle.slotmap_slots.proofs.SettledLemmas.{settled_valid}
 use Rattle.slotmap_slots.proofs.FromListLemmas.{records-next, records-all}
 use Rattle.slotmap_slots.proofs.SlotLemmas.{stacked_free}
-use Rattle.slotmap_core.proofs.Lemmas.{writes_clones, clones_contents, equal_writes, equal_contents, writes-stack}
 use Rattle.slotmap_slots.proofs.slots.Slots.to_slots.Goals as goal
 
 pub loop-index-preserved : goal.loop-index-preserved

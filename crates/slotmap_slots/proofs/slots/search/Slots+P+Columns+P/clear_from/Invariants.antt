@@ -1,7 +1,6 @@
-use Rattle.std.proofs.Common.{◌≡◌, ◌<◌, ◌≤◌, ◌+◌, ◌-◌, true}
 use Rattle.std.specs.FinMap as map
 use Rattle.slotmap_core.specs.Words.{Key, IsLive, places, NoneBelow}
-use Rattle.slotmap_core.proofs.Lemmas.{Swept}
+use Rattle.slotmap_core.proofs.Lemmas.{◌≡◌, ◌<◌, ◌≤◌, ◌+◌, ◌-◌, true, Swept}
 use Rattle.slotmap_slots.specs.Ahead.{AreOddsOf}
 use Rattle.slotmap_slots.proofs.slots.search.Slots+P+Columns+P.clear_from.Given as goal
 

@@ -1,4 +1,4 @@
-use Rattle.std.proofs.Common.{◌<◌, inl, arith}
+use Rattle.slotmap_core.proofs.Lemmas.{◌<◌, inl, arith}
 use native.Mathlib.Decide.{dec_lt}
 use Rattle.slotmap_core.specs.Words.{Key, IsLive}
 use Rattle.slotmap_core.proofs.Lemmas.{if_none}
