@@ -1,7 +1,7 @@
 -- What a contract sees of a `Drain`.
 use Rattle.std.specs.FinMap as map
 use Rattle.slotmap_core.specs.Words.{Option, MutBor, Key, key_cmp, Content, KeepsLoan, NoneBelow, TakesPair, TakesFirst, EmptiesByIndex}
-use Rattle.slotmap_slots.specs.Ahead.{AreOddsOf}
+use Rattle.slotmap_slots.specs.Ahead.{KnowsLiveKeys}
 use Rattle.slotmap_basic.specs.declared.drain.Drain.{Drain}
 
 module _ {K V : Type 0} where
@@ -13,10 +13,10 @@ module _ {K V : Type 0} where
   abbrev pub drain_live : Drain K V → map.FinMap key_cmp V
   drain_live d = d.map.now.live
 
-  -- no key at an index before that of the drain is live, and what it knows of the others is so
+  -- no key at an index before that of the drain is live, and it knows the live keys from there on
   pub record DrainCanStep (d : Drain K V) : Type 0 where
     pub above : NoneBelow (drain_live d) d.odds.index
-    pub odds : AreOddsOf d.map.now d.odds
+    pub odds : KnowsLiveKeys d.map.now d.odds
 
   -- `next` took old to new, and yielded the item
   abbrev pub DrainSteps : (K → Key) → Drain K V → Option (K × V) → Drain K V → Type 0

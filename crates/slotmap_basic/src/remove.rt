@@ -2,7 +2,7 @@
 
 ghost use Rattle.std.specs.FinMap as map;
 ghost use Rattle.slotmap_core.specs.Words.{◌≡◌, ◌+◌, ◌<◌, ◌≤◌, OnSome, IfNone, IfSome, Some, true, Key as KeyOf, IsContent, IsLive, Removes, StaysValid};
-ghost use Rattle.slotmap_slots.specs.Ahead.{AreOddsOf};
+ghost use Rattle.slotmap_slots.specs.Ahead.{KnowsLiveKeys};
 
 use crate::SlotMap;
 use slotmap_core::keys::Key;
@@ -40,27 +40,17 @@ impl<K: Key, V: Drop> SlotMap<K, V> {
         self.slots.take(key.data())
     }
 
-    // Removes a live key, and drops its value. Not inlined, so that the loop of `retain` is small.
-    #[inline(never)]
-    pub(crate) fn reject(&mut self, key: K)
-        requires { IsLive self.old (K.data_of key) }
-        ensures removes { Removes self.old (K.data_of key) self.new }
-        ensures valid { StaysValid true self.old self.new }
-    {
-        self.take_live(key);
-    }
-
     // Returns the next live key of a loop, by ascending index.
     #[inline(always)]
     pub(crate) fn next_live(&self, odds: &mut Odds) -> Option<K>
-        requires { AreOddsOf self.now odds.old }
+        requires { KnowsLiveKeys self.now odds.old }
         ensures live { IfSome result (λ key.
             IsLive self.now (K.data_of key) × (odds.old.index ≤ (K.data_of key).index)) }
         ensures first { IfSome result (λ key. (other : KeyOf) → IsLive self.now other →
             odds.old.index ≤ other.index → (K.data_of key).index ≤ other.index) }
         ensures on { IfSome result (λ key. odds.new.index ≡ (K.data_of key).index + 1) }
         ensures none { IfNone result ((other : KeyOf) → IsLive self.now other → other.index < odds.old.index) }
-        ensures odds { AreOddsOf self.now odds.new }
+        ensures odds { KnowsLiveKeys self.now odds.new }
         ensures valid { IsContent true self.now }
     {
         let data = self.slots.next_live(odds)?;

@@ -1,6 +1,6 @@
 //! The call that visits all live keys of a map, by ascending index, and keeps or removes each.
 
-ghost use Rattle.slotmap_core.specs.Words.{true, Leaves, FreesByIndex, RetainsBy, CallableOnEach, StaysValid};
+ghost use Rattle.slotmap_core.specs.Words.{true, IsLive, Removes, Leaves, FreesByIndex, RetainsBy, CallableOnEach, StaysValid};
 
 use crate::SlotMap;
 use slotmap_core::keys::Key;
@@ -34,5 +34,15 @@ impl<K: Key, V: Drop> SlotMap<K, V> {
                 self.reject(key);
             }
         }
+    }
+
+    // Removes a live key, and drops its value. Not inlined, so that the loop of `retain` is small.
+    #[inline(never)]
+    fn reject(&mut self, key: K)
+        requires { IsLive self.old (K.data_of key) }
+        ensures removes { Removes self.old (K.data_of key) self.new }
+        ensures valid { StaysValid true self.old self.new }
+    {
+        self.take_live(key);
     }
 }

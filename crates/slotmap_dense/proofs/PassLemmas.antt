@@ -6,10 +6,9 @@ use Rattle.slotmap_core.proofs.Lemmas.{get_or, ◌<◌, Some, is_some, slice_get
 use Rattle.slotmap_core.proofs.Lemmas.{slice_get_read, slice_get-map, slice_get-get_or, slice_get_within, remove-insert, Leaves-refl, Leaves-trans}
 use Rattle.slotmap_core.proofs.Lemmas.{Leaves-with_value, Leaves-removed, same_live, CallsAt-called, Visits, Visits-start, Visits-call, Visits-rest}
 use Rattle.slotmap_core.proofs.Lemmas.{Visits-listed, Visits-stay}
-use Rattle.slotmap_dense.specs.Pass.{Stage, stage, Holding, Calls, Stays, Rejects, Passes, MayPass}
+use Rattle.slotmap_dense.specs.Pass.{Stage, stage, Holding, Calls, Stays, Rejects, Passes, MayPass, beside, packed_order}
 use Rattle.slotmap_dense.specs.Dense.{Dense, IsDense, with_value_of}
 use Rattle.slotmap_dense.specs.Packed.{IsSound, dense_of, at_position}
-use Rattle.slotmap_dense.specs.Pass.{beside, packed_order}
 use Rattle.slotmap_dense.specs.Retain.{RetainsPacked}
 use Rattle.slotmap_dense.specs.Rest.{rest_of, LeavesFrom}
 use Rattle.slotmap_dense.proofs.PackedLemmas.{get-packed}

@@ -1,12 +1,12 @@
 -- What a loop over the live keys of a map knows of those ahead of it.
 -- For the crates of maps.
+use Rattle.slotmap_core.specs.Words.{Key, Content, IsContent, IsLive, places, content_of_places, Removes, with_value}
 use Rattle.slotmap_core.proofs.Lemmas.{◌≡◌, ℕ, ◌-◌, ◌%◌, ◌<◌, ◌≤◌, ◌↔◌, true, List, length, get_or, Some, is_some, slice_get, option_map, refl, sym, ap, ◌∙◌}
-use Rattle.slotmap_core.proofs.Lemmas.{inl, arith, length-map, slice_get-map, get_or_from_slice_get, slice_get-get_or}
+use Rattle.slotmap_core.proofs.Lemmas.{inl, arith, length-map, slice_get-map, get_or_from_slice_get, slice_get-get_or, keys_total, get-remove_other, same_live}
+use Rattle.slotmap_core.proofs.Lemmas.{removed_places}
 use native.Mathlib.Decide.{dec_lt}
 use Rattle.std.specs.FinMap as map
-use Rattle.slotmap_core.specs.Words.{Key, Content, IsContent, IsLive, places, content_of_places, Removes, with_value}
-use Rattle.slotmap_core.proofs.Lemmas.{keys_total, get-remove_other, same_live, removed_places}
-use Rattle.slotmap_slots.specs.Ahead.{AreOddsOf}
+use Rattle.slotmap_slots.specs.Ahead.{KnowsLiveKeys}
 use Rattle.slotmap_slots.specs.Columns.{AllEven, IsNextOdd}
 use Rattle.slotmap_slots.specs.Odds.{IsAhead}
 use Rattle.slotmap_slots.specs.Slot.{Slot, versions_of, version_at, NoneLive, IsSettled, map_of, vacancies}
@@ -14,9 +14,9 @@ use Rattle.slotmap_slots.specs.declared.layout.odds.Odds.{Odds}
 use Rattle.slotmap_slots.proofs.OddsLemmas.{odd_within, ahead_same, ahead_start, ahead_behind, odds_start}
 use Rattle.slotmap_slots.proofs.SettledLemmas.{settled_valid, settled_places, settled_present, settled_live}
 
-module _ {P : Type 0} (c new : Content P) (odds : Odds) (of : AreOddsOf c odds) where
+module _ {P : Type 0} (c new : Content P) (odds : Odds) (of : KnowsLiveKeys c odds) where
   -- the same keys are live from the loop's index on
-  odds_kept : places new ≡ places c → ((k : Key) → odds.index ≤ k.index → IsLive new k ↔ IsLive c k) → AreOddsOf new odds
+  odds_kept : places new ≡ places c → ((k : Key) → odds.index ≤ k.index → IsLive new k ↔ IsLive c k) → KnowsLiveKeys new odds
   odds_kept all same = record {
     versions = of.versions;
     all = omega (arith, of.all, all);
@@ -26,14 +26,14 @@ module _ {P : Type 0} (c new : Content P) (odds : Odds) (of : AreOddsOf c odds) 
   }
 
   -- a key that the loop has passed is removed
-  pub odds_removed : IsContent true c → (k : Key) → IsLive c k → k.index < odds.index → Removes c k new → AreOddsOf new odds
+  pub odds_removed : IsContent true c → (k : Key) → IsLive c k → k.index < odds.index → Removes c k new → KnowsLiveKeys new odds
   odds_removed well k is_live passed removes = odds_kept (removed_places true c new well k is_live removes) (λ q from.
       let other : map.contains_key new.live q ≡ map.contains_key c.live q =
       ap (λ m. map.contains_key m q) removes.live ∙ ap is_some (get-remove_other c.live k q (λ same. omega (arith, passed, from, ap (λ k. k.index) same))) in
       (λ there. sym other ∙ there, λ there. other ∙ there))
 
 -- a value is written
-pub odds_written : {P : Type 0} (c : Content P) (k : Key) (w : P) (odds : Odds) → IsLive c k → AreOddsOf c odds → AreOddsOf (with_value c k w) odds
+pub odds_written : {P : Type 0} (c : Content P) (k : Key) (w : P) (odds : Odds) → IsLive c k → KnowsLiveKeys c odds → KnowsLiveKeys (with_value c k w) odds
 odds_written c k w odds is_live of = odds_kept c (with_value c k w) odds of (grind (arith, map.len-insert, keys_total)) (λ q from.
     (λ there. sym (same_live c k w is_live q) ∙ there, λ there. same_live c k w is_live q ∙ there))
 
@@ -65,7 +65,7 @@ module _ {P : Type 0} {slots : List (Slot P)} {fits head aside count : ℕ} (set
       let read = slice_get-get_or (versions_of slots) i 0 (odd_within _ i odd) in
       (_, settled_live settled view i _ (sym (version-at slots i) ∙ read) odd, refl)
 
-  pub settled_odds : (odds : Odds) → IsAhead (versions_of slots) odds.run odds.end odds.index odds.bits → AreOddsOf now odds
+  pub settled_odds : (odds : Odds) → IsAhead (versions_of slots) odds.run odds.end odds.index odds.bits → KnowsLiveKeys now odds
   settled_odds odds ahead = record {
     versions = versions_of slots;
     all = omega (arith, versions-length slots, settled_places settled view);
@@ -80,7 +80,7 @@ module _ {P : Type 0} {slots : List (Slot P)} {fits head aside count : ℕ} (set
     | no p ↦ (elim (dec_lt 0 (y % 2)) [ yes q ↦ omega (arith, back (omega arith)) | no q ↦ omega arith ])
   ]
 
-  pub settled_ahead : (odds : Odds) → AreOddsOf now odds → IsAhead (versions_of slots) odds.run odds.end odds.index odds.bits
+  pub settled_ahead : (odds : Odds) → KnowsLiveKeys now odds → IsAhead (versions_of slots) odds.run odds.end odds.index odds.bits
   settled_ahead odds of = ahead_same of.versions (versions_of slots) odds.run odds.end odds.index odds.bits of.ahead (omega (arith, of.all, versions-length slots, settled_places settled view)) (λ i from.
       same_odd _ _
       (λ odd. let found = live_there i odd in ap (λ j. get_or of.versions j 0 % 2) (sym found.2) ∙ of.live found.0 found.1 (omega (arith, from, found.2)))

@@ -3,8 +3,8 @@ use Rattle.slotmap_core.specs.Words.{◌≡◌, ℕ, ◌+◌, ◌%◌, ◌≤◌
 use Rattle.slotmap_slots.specs.Odds.{IsAhead}
 use Rattle.slotmap_slots.specs.declared.layout.odds.Odds.{Odds}
 
--- From the index of a loop on, the live keys are at the odd ones of some versions, and this is ahead of the loop among them
-pub record AreOddsOf {P : Type 0} (c : Content P) (odds : Odds) : Type 0 where
+-- The odds know the live keys from their index on: these are at the odd ones of some versions, of which the odds say which are ahead
+pub record KnowsLiveKeys {P : Type 0} (c : Content P) (odds : Odds) : Type 0 where
   pub versions : List ℕ
   pub all : length versions ≡ places c + 1
   pub live : (k : Key) → IsLive c k → odds.index ≤ k.index → get_or versions k.index 0 % 2 ≡ 1

@@ -2,7 +2,7 @@
 
 ghost use Rattle.std.specs.FinMap as map;
 ghost use Rattle.slotmap_core.specs.Words.{◌≡◌, ◌+◌, ◌<◌, ◌≤◌, IfNone, IfSome, true, Key, IsContent, IsLive, NoneBelow, Leaves, FreesByIndex, StaysValid};
-ghost use Rattle.slotmap_slots.specs.Ahead.{AreOddsOf};
+ghost use Rattle.slotmap_slots.specs.Ahead.{KnowsLiveKeys};
 
 use super::Slots;
 use crate::layout::{Columns, Layout, Odds};
@@ -11,7 +11,7 @@ use slotmap_core::keys::KeyData;
 impl<P> Slots<P, Columns<P>> {
     /// Returns where a loop over the live keys from an index on begins.
     pub fn odds_from(&self, start: usize) -> Odds
-        ensures odds { AreOddsOf self.now result }
+        ensures odds { KnowsLiveKeys self.now result }
         ensures on { result.index ≤ start }
         ensures from { (k : Key) → IsLive self.now k → result.index ≤ k.index → start ≤ k.index }
         ensures valid { IsContent true self.now }
@@ -27,12 +27,12 @@ impl<P> Slots<P, Columns<P>> {
     /// changes nothing ahead of the loop.
     #[inline(always)]
     pub fn next_live(&self, odds: &mut Odds) -> Option<KeyData>
-        requires { AreOddsOf self.now odds.old }
+        requires { KnowsLiveKeys self.now odds.old }
         ensures live { IfSome result (λ key. IsLive self.now key × (odds.old.index ≤ key.index)) }
         ensures first { IfSome result (λ key. (other : Key) → IsLive self.now other → odds.old.index ≤ other.index → key.index ≤ other.index) }
         ensures on { IfSome result (λ key. odds.new.index ≡ key.index + 1) }
         ensures none { IfNone result ((other : Key) → IsLive self.now other → other.index < odds.old.index) }
-        ensures odds { AreOddsOf self.now odds.new }
+        ensures odds { KnowsLiveKeys self.now odds.new }
         ensures valid { IsContent true self.now }
     {
         let index = self.layout.next_odd(odds)?;

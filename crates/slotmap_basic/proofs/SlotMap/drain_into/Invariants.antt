@@ -1,12 +1,12 @@
 use Rattle.std.specs.FinMap as map
 use Rattle.slotmap_core.specs.Words.{places, NoneBelow}
 use Rattle.slotmap_core.proofs.Lemmas.{◌≡◌, ◌+◌, ◌-◌, ◌≤◌, ◌++◌, true, List, length, map as list_map, vec_len, vec_capacity, Swept}
-use Rattle.slotmap_slots.specs.Ahead.{AreOddsOf}
+use Rattle.slotmap_slots.specs.Ahead.{KnowsLiveKeys}
 use Rattle.slotmap_basic.proofs.SlotMap.drain_into.Given as goal
 
 abbrev pub invariant-loop-key : goal.invariant-loop-key
 invariant-loop-key g l = record {
-  odds : AreOddsOf l.self l.odds;
+  odds : KnowsLiveKeys l.self l.odds;
   swept : Swept true l.fn.self l.self l.odds.index;
   above : NoneBelow l.self.live l.odds.index;
   pairs : List (g.row.K.Denot × g.row.V.Denot);

@@ -1,12 +1,12 @@
 use Rattle.std.specs.FinMap as map
 use Rattle.slotmap_core.specs.Words.{places}
 use Rattle.slotmap_core.proofs.Lemmas.{◌≡◌, ◌+◌, ◌-◌, ◌≤◌, ◌++◌, List, length, map as list_map, vec_len, vec_capacity, from_index}
-use Rattle.slotmap_slots.specs.Ahead.{AreOddsOf}
+use Rattle.slotmap_slots.specs.Ahead.{KnowsLiveKeys}
 use Rattle.slotmap_basic.proofs.SlotMap.keys_into.Given as goal
 
 abbrev pub invariant-loop-key : goal.invariant-loop-key
 invariant-loop-key g l = record {
-  odds : AreOddsOf l.self l.odds;
+  odds : KnowsLiveKeys l.self l.odds;
   keys : List g.row.K.Denot;
   pushed : l.out.items ≡ l.fn.out.items ++ keys;
   listed : map.keys l.self.live ≡ list_map g.K.Key.data_of keys ++ map.keys (from_index l.odds.index l.self.live);

@@ -1,13 +1,13 @@
 use Rattle.slotmap_core.specs.Words.{places}
 use Rattle.slotmap_core.proofs.Lemmas.{◌+◌, ◌-◌}
-use Rattle.slotmap_slots.specs.Ahead.{AreOddsOf}
+use Rattle.slotmap_slots.specs.Ahead.{KnowsLiveKeys}
 use Rattle.slotmap_basic.proofs.RetainLemmas.{Going}
 use Rattle.slotmap_basic.proofs.SlotMap.retain.Given as goal
 
 abbrev pub invariant-loop-key : goal.invariant-loop-key
 invariant-loop-key g l = record {
   going : Going g.F.FnMut g.K.Key.data_of l.fn.self l.fn.f l.self l.odds.index l.f;
-  odds : AreOddsOf l.self l.odds;
+  odds : KnowsLiveKeys l.self l.odds;
 }
 
 abbrev pub decreases-loop-key : goal.decreases-loop-key

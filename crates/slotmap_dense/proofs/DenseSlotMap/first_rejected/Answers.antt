@@ -1,12 +1,10 @@
 use Rattle.slotmap_core.specs.Words.{with_items}
 use Rattle.slotmap_core.proofs.Lemmas.{◌≡◌, length, map as list_map, min, vec_capacity, refl, ap, ◌∙◌}
-use Rattle.slotmap_dense.specs.Pass.{Passes, stage}
-use Rattle.slotmap_dense.proofs.PassLemmas.{items-whole, passes-lift, may-lift}
+use Rattle.slotmap_dense.specs.Pass.{Passes, stage, beside, packed_order}
+use Rattle.slotmap_dense.proofs.PassLemmas.{items-whole, passes-lift, may-lift, Lifts-values}
 use Rattle.slotmap_dense.specs.Packed.{dense_of, IsSound}
-use Rattle.slotmap_dense.specs.Pass.{beside, packed_order}
 use Rattle.slotmap_dense.proofs.WellFormed.{IsSound-other}
 use Rattle.slotmap_dense.proofs.SettledLemmas.{stays-valid}
-use Rattle.slotmap_dense.proofs.PassLemmas.{Lifts-values}
 use Rattle.slotmap_dense.proofs.DenseSlotMap.first_rejected.Goals as goal
 
 pub find_rejected-requires-clause-callable : goal.find_rejected-requires-clause-callable

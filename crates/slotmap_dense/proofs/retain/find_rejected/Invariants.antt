@@ -1,7 +1,6 @@
 use Rattle.slotmap_core.specs.Words.{FoldsTo, Visit}
 use Rattle.slotmap_core.proofs.Lemmas.{◌≡◌, List, length, map as list_map}
-use Rattle.slotmap_dense.specs.Pass.{Stays, stage}
-use Rattle.slotmap_dense.specs.Pass.{beside}
+use Rattle.slotmap_dense.specs.Pass.{Stays, stage, beside}
 use Rattle.slotmap_dense.proofs.retain.find_rejected.Given as goal
 
 abbrev pub invariant-loop-position : goal.invariant-loop-position

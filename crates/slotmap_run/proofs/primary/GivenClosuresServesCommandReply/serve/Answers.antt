@@ -1,7 +1,6 @@
-use Rattle.slotmap_core.proofs.Lemmas.{Bor, subst, ◌≡◌, refl, sym, ap, ◌∙◌}
-use denote.Param.Always.{mut_by, always_fn}
 use Rattle.slotmap_core.specs.Words.{KeepsAt}
-use Rattle.slotmap_core.proofs.Lemmas.{callable_on_each}
+use Rattle.slotmap_core.proofs.Lemmas.{Bor, subst, ◌≡◌, refl, sym, ap, ◌∙◌, callable_on_each}
+use denote.Param.Always.{mut_by, always_fn}
 use Rattle.slotmap_run.proofs.Steps.{keeps_itself, inserted, inserted_with, looked, contains, replaced, removed, retains, clears, drained, listed, counts, reserved}
 use Rattle.slotmap_run.proofs.primary.GivenClosuresServesCommandReply.serve.Goals as goal
 

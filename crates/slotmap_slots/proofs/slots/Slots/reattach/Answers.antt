@@ -20,11 +20,10 @@ invariant_of-self g c =
 pub returns-clause-reattaches : goal.returns-clause-reattaches
 returns-clause-reattaches g c =
     let found = settled_aside c.self.invariant c.self.view_is c.args.key c.requires in
-    let positive = aside_positive c.self.invariant c.self.view_is c.args.key c.requires c.args.payload in
     let m = c.self.inside in
     let free = vacancies-set (g.L.Layout.slots m.layout) c.args.key.index (full c.args.key.version c.args.payload)
     (vacancies (g.L.Layout.slots m.layout) m.aside_count m.live_count) (m.aside_count - 1) (m.live_count + 1)
-    (omega (arith, positive, c.self.invariant.fewer)) in
+    (omega (arith, aside_positive c.self.invariant c.self.view_is c.args.key c.requires c.args.payload, c.self.invariant.fewer)) in
     rw (← c.self.view_is, c.put.ensures.put, c.put.ensures.same_room, c.idx.ensures.value, c.version.ensures.value, free)
     (reattaches-slots c.self.invariant.sound _ _ _ found.there found.before c.args.payload _)
 

@@ -28,11 +28,10 @@ pub returns-then-version-clause-removes : goal.returns-then-version-clause-remov
 returns-then-version-clause-removes g c =
     let found = settled_present c.self.invariant c.self.view_is c.args.key c.requires in
     let last : nat_eq c.args.key.version last_version ≡ true = eq-eqb _ _ (sym c.version-version.ensures.value ∙ c.if-version.true) in
-    let positive = settled_positive c.self.invariant c.self.view_is c.args.key c.requires in
     let m = c.self.inside in
     let free = vacancies-set (g.L.Layout.slots m.layout) c.args.key.index (empty 0 Retired)
     (vacancies (g.L.Layout.slots m.layout) m.aside_count m.live_count) (m.aside_count + 1) (m.live_count - 1)
-    (omega (arith, positive, c.self.invariant.fewer)) in
+    (omega (arith, settled_positive c.self.invariant c.self.view_is c.args.key c.requires, c.self.invariant.fewer)) in
     rw (← c.self.view_is, c.take.ensures.left, c.take.ensures.same_room, c.idx-index.ensures.value, free) (removes-retired c.self.invariant.sound _ _ _ found.there last _)
 
 pub returns-then-version-clause-valid : goal.returns-then-version-clause-valid
@@ -62,11 +61,10 @@ pub returns-clause-removes : goal.returns-clause-removes
 returns-clause-removes g c =
     let found = settled_present c.self.invariant c.self.view_is c.args.key c.requires in
     let other : nat_eq c.args.key.version last_version ≡ false = ne_eqb _ _ (λ e. c.if-version.false (c.version-version.ensures.value ∙ e)) in
-    let positive = settled_positive c.self.invariant c.self.view_is c.args.key c.requires in
     let m = c.self.inside in
     let free = vacancies-set (g.L.Layout.slots m.layout) c.args.key.index (empty (c.args.key.version + 1) (Free m.first_vacant))
     (vacancies (g.L.Layout.slots m.layout) m.aside_count m.live_count + 1) m.aside_count (m.live_count - 1)
-    (omega (arith, positive, c.self.invariant.fewer)) in
+    (omega (arith, settled_positive c.self.invariant c.self.view_is c.args.key c.requires, c.self.invariant.fewer)) in
     rw (← c.self.view_is, c.take-payload.ensures.left, c.take-payload.ensures.same_room, c.idx-index.ensures.value, c.version-version.ensures.value, c.idx-self-inside.ensures.value, free)
     (removes-freed c.self.invariant.sound _ _ _ found.there other _)
 

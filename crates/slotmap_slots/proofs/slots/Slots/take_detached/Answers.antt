@@ -24,11 +24,10 @@ returns-clause-value g c = settled_value c.self.invariant c.self.view_is c.args.
 pub returns-clause-detaches : goal.returns-clause-detaches
 returns-clause-detaches g c =
     let found = settled_present c.self.invariant c.self.view_is c.args.key c.requires in
-    let positive = settled_positive c.self.invariant c.self.view_is c.args.key c.requires in
     let m = c.self.inside in
     let free = vacancies-set (g.L.Layout.slots m.layout) c.args.key.index (empty ((c.args.key.version + 1) % 2 ^ 32) Detached)
     (vacancies (g.L.Layout.slots m.layout) m.aside_count m.live_count) (m.aside_count + 1) (m.live_count - 1)
-    (omega (arith, positive, c.self.invariant.fewer)) in
+    (omega (arith, settled_positive c.self.invariant c.self.view_is c.args.key c.requires, c.self.invariant.fewer)) in
     rw (← c.self.view_is, c.take.ensures.left, c.take.ensures.same_room, c.idx.ensures.value, c.version-after.ensures.value, free) (detaches-slots c.self.invariant.sound _ _ _ found.there _)
 
 pub returns-clause-valid : goal.returns-clause-valid

@@ -1,7 +1,6 @@
-use Rattle.slotmap_core.proofs.Lemmas.{◌<◌, inl, arith}
-use native.Mathlib.Decide.{dec_lt}
 use Rattle.slotmap_core.specs.Words.{Key, IsLive}
-use Rattle.slotmap_core.proofs.Lemmas.{if_none}
+use Rattle.slotmap_core.proofs.Lemmas.{◌<◌, inl, arith, if_none}
+use native.Mathlib.Decide.{dec_lt}
 use Rattle.slotmap_slots.proofs.AheadLemmas.{settled_odds, settled_ahead, none_odd, odd_at, versions-length}
 use Rattle.slotmap_slots.proofs.SettledLemmas.{settled_valid, settled_places, settled_live, settled_passed}
 use Rattle.slotmap_slots.proofs.slots.search.Slots+P+Columns+P.next_live.Goals.{After-version-version, In_err-index}
