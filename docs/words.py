@@ -3,6 +3,7 @@
 many clauses use it. Fails if docs/DEFINITIONS.md doesn't name one, or if README.md has other numbers of lines of the
 definitions. With --check only faults are printed."""
 
+import functools
 import glob
 import os
 import re
@@ -11,6 +12,28 @@ import sys
 sys.dont_write_bytecode = True
 
 from sources import CONTRACTS, TOP, facade, items_of
+
+
+@functools.cache
+def passed_on(spec):
+    """What a file of definitions passes on from other files: for each name the name there, and the file."""
+    found = {}
+    if not os.path.exists(os.path.join(TOP, spec)):
+        return found
+    with open(os.path.join(TOP, spec), encoding="utf-8") as file:
+        text = file.read()
+    for crate, module, names in re.findall(r"(?m)^(?:unfoldable )?pub use Rattle\.(\w+)\.specs\.([\w.]+)\.\{([^}]*)\}$", text):
+        for name in names.split(","):
+            name, _, other = name.strip().partition(" as ")
+            found[other or name] = (name, f"crates/{crate}/specs/{module.replace('.', '/')}.antt")
+    return found
+
+
+def declared_in(name, spec):
+    """The name and the file of the definition that a file declares or passes on."""
+    while name in passed_on(spec):
+        name, spec = passed_on(spec)[name]
+    return name, spec
 
 
 def imports_of(path):
@@ -28,7 +51,9 @@ def imports_of(path):
         for name in (names or "").split(","):
             name, _, other = name.strip().partition(" as ")
             if name:
-                words[other or name] = (name, spec)
+                first, file = declared_in(name, spec)
+                if os.path.exists(os.path.join(TOP, file)):
+                    words[other or name] = (first, file)
     return words, modules
 
 
@@ -107,8 +132,9 @@ def lines_of_definitions(found):
         if path in reached or path not in every:
             continue
         reached.add(path)
-        for crate, module in re.findall(r"Rattle\.(\w+)\.specs\.([\w.]+?)(?:\.\{| as |\.?\s)", texts[path]):
-            waiting.append(f"crates/{crate}/specs/{module.replace('.', '/')}.antt")
+        for crate, module, names in re.findall(r"Rattle\.(\w+)\.specs\.([\w.]+?)(?:\.\{([^}]*)\}| as |\.?\s)", texts[path]):
+            spec = f"crates/{crate}/specs/{module.replace('.', '/')}.antt"
+            waiting += [declared_in(name.strip().partition(" as ")[0], spec)[1] for name in names.split(",")] if names else [spec]
     return sum(it.count("\n") for it in texts.values()), sum(texts[it].count("\n") for it in reached)
 
 

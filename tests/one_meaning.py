@@ -49,6 +49,7 @@ SPECS = {
     'Pass': 'passes of a closure',
     'Retain': '`retain`',
     'Slots': 'the slots of a map in memory',
+    'Words': 'words of several files, passed on by one: of the core for the crates above, of all crates for callers',
     'Written': 'the list of slots that a map is written as',
 }
 
@@ -91,7 +92,7 @@ def repeated_words():
         if '/out/' not in path:
             for number, line in enumerate(open(path, encoding='utf-8'), 1):
                 word = declared.match(line)
-                if word:
+                if word and word.group(1) != 'use':
                     found[word.group(1)].append(f'{relative(path)}:{number}')
     return [f'{word}: {", ".join(places)}' for word, places in sorted(found.items()) if len(places) > 1 and word not in known(WORDS)]
 

@@ -15,6 +15,8 @@ pub use Rattle.slotmap_core.proofs.ForCallers.SpentLemmas.{spent_inserts, spent_
 pub use Rattle.slotmap_core.proofs.ForCallers.SpentLemmas.{spent_removes, spent_remove, removed_spent, live_remove_spent, remove_spent}
 pub use Rattle.slotmap_core.proofs.ForCallers.SpentLemmas.{spent_leaves, left_spent, spent_keeps, spent_with_value, spent_with_values}
 pub use Rattle.slotmap_core.proofs.ForCallers.SpentLemmas.{spent_detach, spent_detaches, spent_reattaches, spent_copy, spent_clone, spent_restores, forgotten_spent}
+-- which keys left a map (`Leaves`): none, one by a removal, more in turn, and none by a write
+pub use Rattle.slotmap_core.proofs.Contents.LeaveLemmas.{Leaves-refl as leaves_none, Leaves-removes as leaves_by_removal, Leaves-trans as leaves_in_turn, Leaves-with_value as leaves_by_write}
 pub use Rattle.slotmap_core.proofs.Contents.CloneLemmas.{same_clone, clone_live, clone_len, clone_copies}
 -- the same facts of a content by the records of a `DenseSlotMap` and of a `HopSlotMap`
 pub use Rattle.slotmap.proofs.MapContents.{if_none, on_err, of_some, some_copied, insert_undone}

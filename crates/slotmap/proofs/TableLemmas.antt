@@ -1,10 +1,7 @@
 -- What a call that changes one side table alone does to it: the value of one key, or its removal.
-use Rattle.std.proofs.Common.{◌≡◌, ◌≢◌, ℕ, Some, None, is_some, inl, inr, ◌⊎◌, sym, ap, ◌∙◌, arith}
-use Rattle.std.proofs.lemmas.Bool.Decides.{nat_tests}
+use Rattle.slotmap_core.proofs.Lemmas.{◌≡◌, ◌≢◌, ℕ, Some, None, is_some, inl, inr, ◌⊎◌, sym, ap, ◌∙◌, arith, nat_tests, same_or_other, secondary, removed_gone}
+use Rattle.slotmap_core.proofs.Lemmas.{others_stay as get-remove_other}
 use Rattle.slotmap.specs.Words.{Key, Content, IsBeside, Pairs, get, bind, remove}
-use Rattle.slotmap_core.proofs.General.KeyLemmas.{same_or_other}
-use Rattle.slotmap_core.proofs.ForCallers.SecondaryCallers.{secondary}
-use Rattle.slotmap_core.proofs.SecondaryMaps.AtIndexLemmas.{removed_gone, others_stay as get-remove_other}
 
 by_index : (i j : ℕ) → (i ≡ j) ⊎ (i ≢ j)
 by_index i j = elim (same_or_other (record { index = i; version = 0 }) (record { index = j; version = 0 })) [

@@ -1,9 +1,6 @@
 -- A content without its values: for a type whose model hides them, and says which keys are live, spent or detached.
-use Rattle.std.specs.Prelude.{refl, ℕ, map as list_map}
-use Rattle.std.specs.Coded.{Coded, code_by, coded_ℕ}
 use Rattle.std.specs.FinMap as map
-use Rattle.slotmap_core.specs.Key.{key_cmp}
-use Rattle.slotmap_core.specs.Content.{Content, content_code}
+use Rattle.slotmap_core.specs.Words.{refl, ℕ, map as list_map, Coded, code_by, coded_ℕ, key_cmp, Content, content_code}
 
 -- the same keys, with no values
 unfoldable pub keys_of : {V : Type 0} → map.FinMap key_cmp V → map.FinMap key_cmp (Unit {0})

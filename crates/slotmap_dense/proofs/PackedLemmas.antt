@@ -16,7 +16,7 @@ slice_get-drop : {X : Type 0} (n : ℕ) (xs : List X) (i : ℕ) → slice_get (d
 slice_get-drop n xs i = grind (arith, gets, length-drop n xs, get_or-drop n xs i, slice_get_cases xs (n + i), slice_get_cases (drop n xs) i)
 
 -- the value at the position that was looked up, if that isn't before p
-abbrev pub from_position : {V : Type 0} → ℕ → List V → Option ℕ → Option V
+abbrev from_position : {V : Type 0} → ℕ → List V → Option ℕ → Option V
 from_position p values None = None
 from_position p values (Some j) = cond (nat_le p j) (slice_get values j) None
 

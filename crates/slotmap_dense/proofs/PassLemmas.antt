@@ -171,7 +171,7 @@ module _ {F K V : Type 0} (g : Mut F (K × (MutBor V × Unit {0})) (Bool × (Mut
           (SoFar-dropped data_of old s.held going.visits s.position going.so_far x calls.shows.0.stands new stays gone.keys gone.removes.stack))
 
     -- calls that keep their pairs
-    pub Going-along : (xs : List (Visit K V)) (s t : Stage F (Dense V)) → Going s → FoldsTo (Stays (packed_order data_of) g) s xs t → Going t
+    Going-along : (xs : List (Visit K V)) (s t : Stage F (Dense V)) → Going s → FoldsTo (Stays (packed_order data_of) g) s xs t → Going t
     Going-along [] s t going run = subst Going run going
     Going-along (x ∷ xs) s t going run = Going-along xs run.0 t (Going-kept s run.0 x going run.1.calls run.1.stays) run.2
 

@@ -194,7 +194,7 @@ module _ {K V : Type 0} (data_of : K → Key) (m : Inside K V) {now : Dense V} (
     module _ (n : ℕ) (slots_ok : Type 0) (slots_room : SlotsMakeRoom true m.slots n slots_ok slots') (keys_same : keys'.items ≡ m.keys.items)
         (values_same : values'.items ≡ m.values.items) (keys_more : vec_capacity m.keys ≤ vec_capacity keys') (values_more : vec_capacity m.values ≤ vec_capacity values') where
       -- there was room for n more already
-      abbrev pub HadRoom : Type 0
+      abbrev HadRoom : Type 0
       HadRoom = (n ≤ m.slots.room) × (vec_len m.keys + n ≤ vec_capacity m.keys) × (vec_len m.values + n ≤ vec_capacity m.values)
 
       pub makes-room : (ok : Type 0) → (ok → slots_ok × (vec_len m.keys + n ≤ vec_capacity keys') × (vec_len m.values + n ≤ vec_capacity values'))
