@@ -2,7 +2,7 @@
 use Rattle.std.specs.FinMap as map
 use Rattle.std.specs.FinSet as set
 use Rattle.slotmap_core.specs.Words.{nat_cmp, Key, key_cmp, Content, IsContent, Stands, used, most, IsNew, Inserts, State, IsIssued, StandsIn, Fresh}
-use Rattle.slotmap_core.specs.Words.{after_insert, after_remove, after_replace, after_reserve, after_detach, after_reattach, retired, Fits, Lasts}
+use Rattle.slotmap_core.specs.Words.{after_insert, retired, Fits, Lasts}
 use Rattle.slotmap_core.proofs.Lemmas.{◌≡◌, ◌≢◌, ℕ, ◌+◌, ◌^◌, ◌<◌, Bool, inl, sym, ap, ◌∙◌, arith, keys_total, exact_keys, itself, in_inserted, offer_free}
 use Rattle.slotmap_core.proofs.Lemmas.{free, places_grow, new_stands, inserted_stands, inserted_vacant, in_retired}
 use Rattle.slotmap_core.specs.Machine as machine
