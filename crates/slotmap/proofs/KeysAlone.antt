@@ -1,9 +1,8 @@
 -- A content, and the same without its values: the same keys are live, and the same are spent.
 use Rattle.std.specs.FinMap as map
 use Rattle.std.specs.FinSet as set
-use Rattle.slotmap_core.specs.Words.{eq_by_cmp, is_lt, list_any, below_all, is_sorted, is_some-find}
-use Rattle.slotmap_core.proofs.Lemmas.{◌≡◌, ◌&&◌, ◌+◌, T, List, [], ◌∷◌, length, map as list_map, is_some, refl, sym, ap, ◌∙◌, subst, inl, inr, arith}
-use Rattle.slotmap_core.proofs.Lemmas.{length-map}
+use Rattle.std.proofs.Common.{◌≡◌, ◌&&◌, ◌+◌, ◌∷◌, is_lt, T, List, [], length, map as list_map, is_some, refl, sym, ap, ◌∙◌, subst, inl, inr, arith}
+use Rattle.slotmap_core.proofs.Common.{eq_by_cmp, list_any, below_all, is_sorted, is_some-find, length-map}
 use Rattle.slotmap.specs.KeysAlone.{keys_of, without_values}
 use Rattle.slotmap.specs.Words.{Key, key_cmp, Content, IsSpent, KeepsSpent, places}
 

@@ -2,8 +2,8 @@
 -- lemmas over contents take.
 use Rattle.std.specs.FinMap as map
 use Rattle.std.specs.FinSet as set
-use Rattle.slotmap_core.proofs.Lemmas.{◌≡◌, ◌+◌, ◌∙◌, arith, Bool, true, false, Option, Some, None, is_some, IsSome, OnSome, IfNone, Result, Ok, Err, IsErr}
-use Rattle.slotmap_core.proofs.Lemmas.{OnErr, Bor, option_copied, refl, ap, keys, inserted_fresh, inserted_len, not_detached-grows}
+use Rattle.std.proofs.Common.{◌≡◌, ◌+◌, ◌∙◌, arith, Bool, true, false, Option, Some, None, is_some, IsSome, OnSome, IfNone, Result, Ok, Err, IsErr, OnErr, Bor}
+use Rattle.slotmap_core.proofs.Common.{option_copied, refl, ap, keys, inserted_fresh, inserted_len, not_detached-grows}
 use Rattle.slotmap.specs.Words.{Key, key_cmp, Content, IsContent, IsLive, Inserts, Keeps, StaysValid, MayGrow, Dense, IsDense, StaysDense, GrowsDense, HopContent, IsHopContent, StaysHop, GrowsHop}
 
 -- an equation that holds of an absent result or of an error, seen through a function: of a map's content, or of its pairs

@@ -1,7 +1,7 @@
 -- Which keys of a `DenseSlotMap` or a `HopSlotMap` are spent after a call, by the clauses of the call.
 use Rattle.std.specs.FinMap as map
-use Rattle.slotmap_core.proofs.Lemmas.{◌≡◌, ◌≢◌, true, false, Option, OnSome, IfNone, Result, IfOk, IsErr, OnErr, spent_insert, insert_not_spent, spent_remove}
-use Rattle.slotmap_core.proofs.Lemmas.{live_remove_spent, remove_spent, spent_detach}
+use Rattle.std.proofs.Common.{◌≡◌, ◌≢◌, true, false, Option, OnSome, IfNone, Result, IfOk, IsErr, OnErr}
+use Rattle.slotmap_core.proofs.Common.{spent_insert, insert_not_spent, spent_remove, live_remove_spent, remove_spent, spent_detach}
 use Rattle.slotmap.specs.Words.{Key, IsLive, IsSpent, KeepsSpent, Inserts, Removes, Detaches, Keeps, Dense, StaysDense, GrowsDense, HopContent, StaysHop, GrowsHop}
 use Rattle.slotmap.proofs.MapContents.{if_none, dense_stays, dense_grows, hop_stays, hop_grows}
 

@@ -1,6 +1,6 @@
 -- What a call that changes one side table alone does to it: the value of one key, or its removal.
-use Rattle.slotmap_core.proofs.Lemmas.{◌≡◌, ◌≢◌, ℕ, Some, None, is_some, inl, inr, ◌⊎◌, sym, ap, ◌∙◌, arith, nat_tests, same_or_other, secondary, removed_gone}
-use Rattle.slotmap_core.proofs.Lemmas.{others_stay as get-remove_other}
+use Rattle.std.proofs.Common.{◌≡◌, ◌≢◌, ◌⊎◌, ℕ, Some, None, is_some, inl, inr, sym, ap, ◌∙◌, arith}
+use Rattle.slotmap_core.proofs.Common.{nat_tests, same_or_other, secondary, removed_gone, others_stay as get-remove_other}
 use Rattle.slotmap.specs.Words.{Key, Content, IsBeside, Pairs, get, bind, remove}
 
 by_index : (i j : ℕ) → (i ≡ j) ⊎ (i ≢ j)

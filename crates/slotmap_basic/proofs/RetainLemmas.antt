@@ -1,10 +1,10 @@
 -- What the calls of a closure did so far to a map, by ascending index.
 use Rattle.std.specs.FinMap as map
-use Rattle.slotmap_core.specs.Words.{Mut, Takes, MutBor, FoldsTo, Key, Content, IsContent, IsLive, Visit, CallsAt, CallableOnEach, RetainsBy, Removes}
-use Rattle.slotmap_core.specs.Words.{with_value}
-use Rattle.slotmap_core.proofs.Lemmas.{◌≡◌, ℕ, ◌+◌, ◌<◌, ◌≤◌, Bool, true, false, cond, inl, List, [], ◌∷◌, ◌++◌, Some, is_some, refl, ap, subst, ◌∙◌, arith}
-use Rattle.slotmap_core.proofs.Lemmas.{FoldsTo-push, from_index, same_live, Swept, Swept-start, Swept-on, Swept-next, Swept-removed, IsNextLive, remove-insert}
-use Rattle.slotmap_core.proofs.Lemmas.{Keyed-from_start, Keyed-next, Keyed-same, Keyed-may_come, Keyed-done, Visits, Visits-listed, Visits-stay}
+use Rattle.std.proofs.Common.{◌≡◌, ◌+◌, ◌<◌, ◌≤◌, ◌∷◌, ◌++◌, ℕ, Bool, true, false, cond, inl, List, [], Some, is_some, refl, ap, subst, ◌∙◌, arith}
+use Rattle.slotmap_core.specs.Words.{MutBor}
+use Rattle.slotmap_core.proofs.Common.{Mut, Takes, FoldsTo, Key, Content, IsContent, IsLive, Visit, CallsAt, CallableOnEach, RetainsBy, Removes, with_value}
+use Rattle.slotmap_core.proofs.Common.{FoldsTo-push, from_index, same_live, Swept, Swept-start, Swept-on, Swept-next, Swept-removed, IsNextLive, remove-insert}
+use Rattle.slotmap_core.proofs.Common.{Keyed-from_start, Keyed-next, Keyed-same, Keyed-may_come, Keyed-done, Visits, Visits-listed, Visits-stay}
 
 module _ {F K V : Type 0} (g : Mut F (K × (MutBor V × Unit {0})) (Bool × (MutBor V × Unit {0}))) (data_of : K → Key) (old : Content V) (first : F) where
   -- the calls for the keys below this index took the map to `now`, and the closure to f

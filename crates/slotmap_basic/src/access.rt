@@ -1,8 +1,8 @@
 //! Look-ups: which keys are live, and their values.
 
 ghost use Rattle.std.specs.FinMap as map;
-ghost use Rattle.slotmap_core.specs.Words.{◌≡◌, ◌↔◌, IsTrue, IsOk, IfOk, OnOk, OnErr, IfErr, option_copied, Some, true, map as map_list, sem};
-ghost use Rattle.slotmap_core.specs.Words.{option_copied_mut, IsContent, IsLive, with_value, CanReplace, AreValuesOf, with_values, StaysValid};
+ghost use Rattle.std.specs.Prelude.{◌≡◌, ◌↔◌, IsTrue, IsOk, IfOk, OnOk, OnErr, IfErr, option_copied, Some, true, map as map_list};
+ghost use Rattle.slotmap_core.specs.Words.{sem, option_copied_mut, IsContent, IsLive, with_value, CanReplace, AreValuesOf, with_values, StaysValid};
 
 use crate::SlotMap;
 use slotmap_core::keys::Key;

@@ -1,7 +1,8 @@
 //! The calls that empty a map, and those that append what it holds to a vector.
 
 ghost use Rattle.std.specs.FinMap as map;
-ghost use Rattle.slotmap_core.specs.Words.{◌≡◌, ◌++◌, OnOk, OnErr, true, List, map as list_map, IsContent, Leaves, FreesByIndex, StaysValid};
+ghost use Rattle.std.specs.Prelude.{◌≡◌, ◌++◌, OnOk, OnErr, true, List, map as list_map};
+ghost use Rattle.slotmap_core.specs.Words.{IsContent, Leaves, FreesByIndex, StaysValid};
 
 use crate::SlotMap;
 use slotmap_core::errors::OutOfMemory;

@@ -1,6 +1,7 @@
 //! Copies of a map.
 
-ghost use Rattle.slotmap_core.specs.Words.{◌≡◌, true, IfOk, OnOk, OnErr, ClonesEqual, IsContent, IsCopy, IsCloneBy};
+ghost use Rattle.std.specs.Prelude.{◌≡◌, true, IfOk, OnOk, OnErr};
+ghost use Rattle.slotmap_core.specs.Words.{ClonesEqual, IsContent, IsCopy, IsCloneBy};
 
 use crate::SlotMap;
 use slotmap_core::keys::Key;

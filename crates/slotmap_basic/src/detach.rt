@@ -1,7 +1,8 @@
 //! Detached keys: the value is taken out, and the slot is kept.
 
 ghost use Rattle.std.specs.FinMap as map;
-ghost use Rattle.slotmap_core.specs.Words.{◌≡◌, OnSome, IfNone, OnOk, OnErr, IfErr, true, IsDetached, Detaches, Reattaches, StaysValid};
+ghost use Rattle.std.specs.Prelude.{◌≡◌, OnSome, IfNone, OnOk, OnErr, IfErr, true};
+ghost use Rattle.slotmap_core.specs.Words.{IsDetached, Detaches, Reattaches, StaysValid};
 
 use crate::SlotMap;
 use slotmap_core::errors::ReattachError;

@@ -1,6 +1,7 @@
 //! The iterator that takes the pairs out of a map.
 
-ghost use Rattle.slotmap_core.specs.Words.{◌≡◌, ◌≤◌, true, Some, IfSome, size, UpTo, IsContent, EmptiesByIndex};
+ghost use Rattle.std.specs.Prelude.{◌≡◌, ◌≤◌, true, Some, IfSome};
+ghost use Rattle.slotmap_core.specs.Words.{size, UpTo, IsContent, EmptiesByIndex};
 
 use crate::SlotMap;
 use slotmap_core::keys::Key;

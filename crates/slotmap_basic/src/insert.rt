@@ -1,8 +1,8 @@
 //! Inserts: new keys.
 
 ghost use Rattle.std.specs.FinMap as map;
-ghost use Rattle.slotmap_core.specs.Words.{◌≡◌, ◌<◌, IfOk, IfErr, IsOk, IsErr, Ok, Err, true, used, most, Inserts, Refuses, RefusesInsert, RefusesWith};
-ghost use Rattle.slotmap_core.specs.Words.{MayGrow, MakesRoom};
+ghost use Rattle.std.specs.Prelude.{◌≡◌, ◌<◌, IfOk, IfErr, IsOk, IsErr, Ok, Err, true};
+ghost use Rattle.slotmap_core.specs.Words.{used, most, Inserts, Refuses, RefusesInsert, RefusesWith, MayGrow, MakesRoom};
 
 use crate::SlotMap;
 use slotmap_core::errors::{InsertError, InsertWithError, ReserveError, TryInsertError};

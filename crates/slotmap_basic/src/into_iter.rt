@@ -1,7 +1,7 @@
 //! The iterator over a map by value.
 
-ghost use Rattle.slotmap_core.specs.Words.{◌≡◌, ◌≤◌, length, Some, IfSome, IfOk, YieldsFirstBy, item_count, at_most, UpTo, ClonesEqual, AreClones};
-ghost use Rattle.slotmap_core.specs.Words.{ListsByIndex};
+ghost use Rattle.std.specs.Prelude.{◌≡◌, ◌≤◌, length, Some, IfSome, IfOk};
+ghost use Rattle.slotmap_core.specs.Words.{YieldsFirstBy, item_count, at_most, UpTo, ClonesEqual, AreClones, ListsByIndex};
 
 use crate::SlotMap;
 use slotmap_core::keys::Key;

@@ -1,8 +1,8 @@
 //! Iterators over the keys and values of a map, by ascending index.
 
 ghost use Rattle.std.specs.FinMap as map;
-ghost use Rattle.slotmap_core.specs.Words.{◌≡◌, ◌≤◌, length, Some, IfSome, ⊤, true, YieldsFirstBy, item_count, at_most, UpTo, IsContent, IsListing};
-ghost use Rattle.slotmap_core.specs.Words.{IsKeyListing, IsValueListing, ListsByIndex};
+ghost use Rattle.std.specs.Prelude.{◌≡◌, ◌≤◌, length, Some, IfSome, ⊤, true};
+ghost use Rattle.slotmap_core.specs.Words.{YieldsFirstBy, item_count, at_most, UpTo, IsContent, IsListing, IsKeyListing, IsValueListing, ListsByIndex};
 
 use crate::SlotMap;
 use slotmap_core::keys::Key;

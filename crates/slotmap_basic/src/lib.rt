@@ -19,7 +19,8 @@
 #![tactic(auto)]
 
 ghost use Rattle.std.specs.FinMap as map;
-ghost use Rattle.slotmap_core.specs.Words.{◌≡◌, [], Some, ◌+◌, ◌≤◌, ◌↔◌, IsTrue, IfOk, IfErr, IsOk, true, IsContent, used, IsNew, RefusesCapacity, MakesRoom};
+ghost use Rattle.std.specs.Prelude.{◌≡◌, ◌+◌, ◌≤◌, ◌↔◌, [], Some, IsTrue, IfOk, IfErr, IsOk, true};
+ghost use Rattle.slotmap_core.specs.Words.{IsContent, used, IsNew, RefusesCapacity, MakesRoom};
 
 mod access;
 mod clear;

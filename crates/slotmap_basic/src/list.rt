@@ -1,8 +1,9 @@
 //! Lists of slots: a map written out, and a map read back.
 
 ghost use Rattle.std.specs.FinMap as map;
-ghost use Rattle.slotmap_core.specs.Words.{◌≡◌, IfOk, IsOk, IfErr, true, Some, ClonesEqual, IsCloneOf, IsContent, start_live, start_stack, Key as KeyOf};
-ghost use Rattle.slotmap_core.specs.Words.{ReadsAs, Accepts, RefusesStart, Writes, WritesClones};
+ghost use Rattle.std.specs.Prelude.{◌≡◌, IfOk, IsOk, IfErr, true, Some};
+ghost use Rattle.slotmap_core.specs.Words.{ClonesEqual, IsCloneOf, IsContent, start_live, start_stack, Key as KeyOf, ReadsAs, Accepts, RefusesStart, Writes};
+ghost use Rattle.slotmap_core.specs.Words.{WritesClones};
 
 use crate::SlotMap;
 use slotmap_core::errors::{OutOfMemory, SlotsError};

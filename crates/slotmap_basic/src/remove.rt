@@ -1,7 +1,8 @@
 //! Removals, and one step of an iteration over the slots.
 
 ghost use Rattle.std.specs.FinMap as map;
-ghost use Rattle.slotmap_core.specs.Words.{◌≡◌, ◌+◌, ◌<◌, ◌≤◌, OnSome, IfNone, IfSome, Some, true, Key as KeyOf, IsContent, IsLive, Removes, StaysValid};
+ghost use Rattle.std.specs.Prelude.{◌≡◌, ◌+◌, ◌<◌, ◌≤◌, OnSome, IfNone, IfSome, Some, true};
+ghost use Rattle.slotmap_core.specs.Words.{Key as KeyOf, IsContent, IsLive, Removes, StaysValid};
 ghost use Rattle.slotmap_slots.specs.Ahead.{KnowsLiveKeys};
 
 use crate::SlotMap;

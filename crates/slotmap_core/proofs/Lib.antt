@@ -5,4 +5,4 @@ pub mod Several
 pub mod FromList
 pub mod SecondaryMaps
 pub mod ForCallers
-pub mod Lemmas
+pub mod Common

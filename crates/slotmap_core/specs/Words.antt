@@ -1,9 +1,8 @@
 -- The words of clauses, from one place: those of std, and those of this crate. Declares nothing.
-pub use Rattle.std.specs.Prelude.{◌≡◌, Some, ◌≤◌, List, ◌<◌, true, IfOk, length, ◌+◌, ℕ, IfErr, map, IfSome, OnErr, OnOk, None, Option, IsOk, ◌^◌, [], IfNone}
-pub use Rattle.std.specs.Prelude.{slice_get, ◌↔◌, IsTrue, ◌∷◌, false, zip, ◌-◌, ◌%◌, if◌then◌else◌, IsSome, refl, ◌++◌, option_copied, vec_capacity, OnSome, Ok}
-pub use Rattle.std.specs.Prelude.{swap_remove, Bool, Result, Err, ◌≢◌, ⊤, ◌==◌, drop, IsErr, option_map, ◌⊎◌, slice_set, get_or, ◌&&◌, not, zero, suc}
-pub use Rattle.std.specs.Prelude.{option_and_then, max, min, reverse, slice_index_or, vec_len, is_some, All, filter, ◌||◌, unwrap_or, MatchOption, take}
-pub use Rattle.std.specs.Prelude.{MatchResult, count_by, Contains, ◌*◌, cond, nat_eq, IsSomeAnd, codes, nat_lt, ◌/◌}
+pub use Rattle.std.specs.Prelude.{Some, List, true, IfOk, length, ℕ, IfErr, map, IfSome, OnErr, OnOk, None, Option, IsOk, [], IfNone, slice_get, IsTrue, false}
+pub use Rattle.std.specs.Prelude.{zip, IsSome, refl, option_copied, vec_capacity, OnSome, Ok, swap_remove, Bool, Result, Err, ⊤, drop, IsErr, option_map}
+pub use Rattle.std.specs.Prelude.{slice_set, get_or, not, zero, suc, option_and_then, max, min, reverse, slice_index_or, vec_len, is_some, All, filter}
+pub use Rattle.std.specs.Prelude.{unwrap_or, MatchOption, take, MatchResult, count_by, Contains, cond, nat_eq, IsSomeAnd, codes, nat_lt}
 pub use Rattle.std.specs.Borrow.{MutBor, sem, Lends, Fml, RattleType, LendsIf, GName, Bor, RestsIfErr, LendsBoth, Array, follows, LendsSoOk}
 pub use Rattle.std.specs.Cmp.{nat_cmp_total, nat_eq_equiv, unsigned_tied, nat_cmp_is, on_per, on_equiv, tied_itself, Equal-is}
 pub use Rattle.std.specs.Cmp.Rules.{hashing}
@@ -17,7 +16,8 @@ pub use Rattle.std.specs.Int.{bit_at, bit_not}
 pub use Rattle.std.specs.Int.Bits.{or_zero_r}
 pub use Rattle.std.specs.Iterator.{UpTo, at_most, YieldsFirstBy, item_count, size, YieldsThen, IsFinite, Drains, Count, MakesProgress}
 pub use Rattle.std.specs.Iterator.Runs.{YieldsMutRefsInOrder}
-pub use Rattle.std.specs.List.{AllZip, FoldsTo, AllByRecursion, list_any, IsDistinct}
+pub use Rattle.std.specs.List.{AllZip, FoldsTo, AllByRecursion, list_any}
+unfoldable pub use Rattle.std.specs.List.{IsDistinct}
 pub use Rattle.std.specs.Map.{keys_of, lookup}
 pub use Rattle.std.specs.Map.Calls.{ModifiesValue, RetainsPairs, SomeCallAtPair}
 pub use Rattle.std.specs.Option.{option_copied_mut, UnwrapsOrElse, option_eq, option_or}
@@ -78,3 +78,4 @@ pub use Rattle.slotmap_core.specs.SecondaryExtend.{AllPut, values_of, ExtendsBy,
 pub use Rattle.slotmap_core.specs.SecondaryWritten.{record_of_pair, slot_pair}
 pub use Rattle.slotmap_core.specs.SecondaryClones.{HasClones}
 pub use Rattle.slotmap_core.specs.ListRead.{ReadsAs}
+pub use Rattle.slotmap_core.specs.declared.serial.SlotRecord.{SlotRecord}

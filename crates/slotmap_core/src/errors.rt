@@ -5,7 +5,8 @@
 //! returned in the error; a closure or a list is dropped. Each type is an `Error` with a short
 //! message, so `?` passes it on, to `anyhow` too.
 
-ghost use Rattle.slotmap_core.specs.Words.{◌≡◌, uninserted, unattached, with_uninserted, with_unattached};
+ghost use Rattle.std.specs.Prelude.{◌≡◌};
+ghost use Rattle.slotmap_core.specs.Words.{uninserted, unattached, with_uninserted, with_unattached};
 ghost use Rattle.slotmap_core.specs.declared.errors.JsonError.TheVariants.{Memory as JsonMemory};
 ghost use Rattle.slotmap_core.specs.declared.errors.SlotsError.TheVariants.{Memory as SlotsMemory};
 

@@ -4,7 +4,8 @@
 //! version is larger than that of each earlier key of the slot, so a stale key finds no later
 //! value.
 
-ghost use Rattle.slotmap_core.specs.Words.{◌≡◌, ◌↔◌, ◌/◌, ◌%◌, ◌^◌, IsTrue, refl, Key as KeyOf, IsKey, null_key, ffi, key_from, is_older};
+ghost use Rattle.std.specs.Prelude.{◌≡◌, ◌↔◌, ◌/◌, ◌%◌, ◌^◌, IsTrue, refl};
+ghost use Rattle.slotmap_core.specs.Words.{Key as KeyOf, IsKey, null_key, ffi, key_from, is_older};
 
 use std::fmt;
 use std::hash::{Hash, Hasher};

@@ -8,8 +8,8 @@
 //! - for how many more keys there is room
 
 ghost use Rattle.std.specs.FinMap as map;
-ghost use Rattle.slotmap_core.specs.Words.{◌≡◌, ◌↔◌, ◌+◌, ◌<◌, ◌≤◌, IsTrue, IfOk, IfErr, IfNone, OnErr, OnOk, OnSome, IsOk, IsErr, IsSome, option_copied, Bool};
-ghost use Rattle.slotmap_core.specs.Words.{true, false, Ok, Err, Some, List, ◌++◌, map as list_map, Content, IsContent, used, most, IsNew, Inserts, Removes};
+ghost use Rattle.std.specs.Prelude.{◌≡◌, ◌↔◌, ◌+◌, ◌<◌, ◌≤◌, ◌++◌, IsTrue, IfOk, IfErr, IfNone, OnErr, OnOk, OnSome, IsOk, IsErr, IsSome, option_copied, Bool};
+ghost use Rattle.slotmap_core.specs.Words.{true, false, Ok, Err, Some, List, map as list_map, Content, IsContent, used, most, IsNew, Inserts, Removes};
 ghost use Rattle.slotmap_core.specs.Words.{Detaches, Reattaches, Leaves, with_value, StaysValid, MayGrow, MakesRoom, IsListing, IsKeyListing, RetainsBy};
 ghost use Rattle.slotmap_core.specs.Words.{CallableOnEach, Refuses, RefusesInsert, RefusesWith, RefusesCapacity, RefusesReattach};
 

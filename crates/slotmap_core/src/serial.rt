@@ -2,7 +2,8 @@
 //!
 //! A list has one `SlotRecord` for each slot of a map, from slot 0 on.
 
-ghost use Rattle.slotmap_core.specs.Words.{◌≡◌, ◌↔◌, ◌^◌, ◌<◌, length, IsTrue, IsOk, IfErr, OnOk, IsConsistent, Accepts, AllFitBelow, RefusesList};
+ghost use Rattle.std.specs.Prelude.{◌≡◌, ◌↔◌, ◌^◌, ◌<◌, length, IsTrue, IsOk, IfErr, OnOk};
+ghost use Rattle.slotmap_core.specs.Words.{IsConsistent, Accepts, AllFitBelow, RefusesList};
 
 use crate::errors::SlotsError;
 

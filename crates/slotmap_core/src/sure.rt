@@ -3,7 +3,8 @@
 //! For the crates of the maps: their code takes out what is known to be there.
 
 ghost use Rattle.std.specs.contracts.option.Option.{the_row};
-ghost use Rattle.slotmap_core.specs.Words.{◌≡◌, IsSome, Some, false, sem, Lends};
+ghost use Rattle.std.specs.Prelude.{◌≡◌, IsSome, Some, false};
+ghost use Rattle.slotmap_core.specs.Words.{sem, Lends};
 
 /// Rules out a case that is proved impossible: call it before `unreachable!`.
 ///

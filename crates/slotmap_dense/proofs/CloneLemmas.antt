@@ -1,7 +1,7 @@
 -- A dense map with clones of another's values.
 use Rattle.std.specs.FinMap as map
-use Rattle.slotmap_core.specs.Words.{AllZip, zip, ClonesEqual, IsCloneOf, AreClones, Content, IsCopy, IsCloneBy, Key}
-use Rattle.slotmap_core.proofs.Lemmas.{ℕ, zero, suc, List, [], ◌∷◌, slice_get, Option, None, Some, refl, same_from_all_zip}
+use Rattle.std.proofs.Common.{◌∷◌, zip, ℕ, zero, suc, List, [], slice_get, Option, None, Some, refl}
+use Rattle.slotmap_core.proofs.Common.{AllZip, ClonesEqual, IsCloneOf, AreClones, Content, IsCopy, IsCloneBy, Key, same_from_all_zip}
 use Rattle.slotmap_dense.specs.Dense.{Dense, SameOrder, ClonesInOrder}
 use Rattle.slotmap_dense.specs.Packed.{IsPacked, dense_of, at_position}
 use Rattle.slotmap_dense.proofs.PackedLemmas.{get-packed}

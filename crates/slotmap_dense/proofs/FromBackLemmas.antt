@@ -1,8 +1,7 @@
 -- What stays true while pairs are taken out from the back.
 use Rattle.std.specs.FinMap as map
-use Rattle.slotmap_core.specs.Words.{option_map, zip, Key, Leaves, pushed, pushed_all}
-use Rattle.slotmap_core.proofs.Lemmas.{◌≡◌, ℕ, false, List, [], ◌∷◌, ◌++◌, length, reverse, append_assoc, Option, Some, is_some, refl, sym, ap, ◌∙◌, arith}
-use Rattle.slotmap_core.proofs.Lemmas.{nil_from_length, reverse-append, length-zip, Leaves-refl, Leaves-removed}
+use Rattle.std.proofs.Common.{◌≡◌, ◌∷◌, ◌++◌, option_map, zip, ℕ, false, List, [], length, reverse, append_assoc, Option, Some, is_some, refl, sym, ap, ◌∙◌}
+use Rattle.slotmap_core.proofs.Common.{Key, Leaves, pushed, pushed_all, arith, nil_from_length, reverse-append, length-zip, Leaves-refl, Leaves-removed}
 use Rattle.slotmap_dense.specs.Dense.{Dense, IsDense, IsEmpty, TakesLast}
 use Rattle.slotmap_dense.proofs.SwapRemoveLemmas.{zip-push}
 

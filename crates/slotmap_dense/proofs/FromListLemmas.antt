@@ -1,14 +1,12 @@
 -- A list of slots is read into a list of positions and two packed lists.
 use Rattle.std.specs.FinMap as map
-use Rattle.slotmap_core.specs.Words.{Key, Content, IsContent, gather, ReadsAs, start_live, live_slot, vacant_slot, retired_slot, start_next, start_retired}
-use Rattle.slotmap_core.specs.Words.{start_stack, Accepts, RefusesStart}
-use Rattle.slotmap_core.proofs.Lemmas.{◌≡◌, ℕ, zero, suc, ◌+◌, ◌<◌, ◌≤◌, ◌%◌, Bool, true, false, List, [], ◌∷◌, ◌++◌, length, slice_get, map as list_map}
-use Rattle.slotmap_core.proofs.Lemmas.{Option, None, Some, is_some, refl, sym, ap, ◌∙◌, arith, nat_tests, length_push, length-map, map_push, slice_get-map}
-use Rattle.slotmap_core.proofs.Lemmas.{slice_get_within, gather-push_put, gather-push_same, live_laws, some_is, live_in, found_within, none_from, entries_none}
-use Rattle.slotmap_core.proofs.Lemmas.{reads_as, key}
+use Rattle.std.proofs.Common.{◌≡◌, ◌+◌, ◌<◌, ◌≤◌, ◌%◌, ◌∷◌, ◌++◌, ℕ, zero, suc, Bool, true, false, List, [], length, slice_get, map as list_map, Option, None}
+use Rattle.slotmap_core.proofs.Common.{Key, Content, IsContent, gather, ReadsAs, start_live, live_slot, vacant_slot, retired_slot, start_next, start_retired}
+use Rattle.slotmap_core.proofs.Common.{start_stack, Accepts, RefusesStart, Some, is_some, refl, sym, ap, ◌∙◌, arith, nat_tests, length_push, length-map}
+use Rattle.slotmap_core.proofs.Common.{map_push, slice_get-map, slice_get_within, gather-push_put, gather-push_same, live_laws, some_is, live_in, found_within}
+use Rattle.slotmap_core.proofs.Common.{none_from, entries_none, reads_as, key, SlotRecord}
 use Rattle.slotmap_core.specs.declared.errors.SlotsError.{SlotsError}
 use Rattle.slotmap_core.specs.declared.errors.SlotsError.TheVariants.{TooMany, FirstNotEmpty, Inconsistent, Memory}
-use Rattle.slotmap_core.specs.declared.serial.SlotRecord.{SlotRecord}
 use Rattle.slotmap_dense.specs.Packed.{IsPacked, IsSound, live_of, dense_of}
 use Rattle.slotmap_dense.proofs.PackedLemmas.{IsPacked-none, IsPacked-push, live-push}
 use Rattle.slotmap_dense.proofs.WellFormed.{same_keys}

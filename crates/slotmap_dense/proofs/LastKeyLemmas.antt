@@ -2,9 +2,8 @@
 use Rattle.std.specs.declared.cmp.Ordering.TheVariants.{Greater}
 use Rattle.std.specs.FinMap as map
 use Rattle.std.specs.FinMap.Entries.{put}
-use Rattle.slotmap_core.specs.Words.{eq_by_cmp, ordering_then, nat_cmp_is, list_any, Key, key_cmp}
-use Rattle.slotmap_core.proofs.Lemmas.{arith, ◌≡◌, ◌<◌, true, List, [], ◌∷◌, ◌++◌, map as list_map, refl, sym, ap, ◌∙◌, nat_cmp, map-append, keys_total}
-use Rattle.slotmap_core.proofs.Lemmas.{exact_keys, itself, or_right}
+use Rattle.std.proofs.Common.{◌≡◌, ◌<◌, ◌∷◌, ◌++◌, arith, true, List, [], map as list_map, refl, sym, ap, ◌∙◌, nat_cmp}
+use Rattle.slotmap_core.proofs.Common.{eq_by_cmp, ordering_then, nat_cmp_is, list_any, Key, key_cmp, map-append, keys_total, exact_keys, itself, or_right}
 
 greater : (k q : Key) → q.index < k.index → key_cmp k q ≡ Greater
 greater k q less = ap (λ o. ordering_then o (nat_cmp k.version q.version)) (sym (nat_cmp_is k.index q.index Greater less))

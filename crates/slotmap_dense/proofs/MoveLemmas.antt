@@ -1,8 +1,8 @@
 -- What a dense map holds after each call that changes it.
 use Rattle.std.specs.FinMap as map
-use Rattle.slotmap_core.specs.Words.{swap_remove, Key, IsKey, Content, IsContent, IsDetached, used, most, Inserts, Removes, Detaches, Reattaches}
-use Rattle.slotmap_core.proofs.Lemmas.{◌≡◌, ℕ, ◌<◌, ◌≤◌, Bool, true, List, [], ◌∷◌, ◌++◌, length, Some, None, inl, arith, length_push, slice_get_within}
-use Rattle.slotmap_core.proofs.Lemmas.{common_steps, offer_unused, none_of, false_of}
+use Rattle.std.proofs.Common.{◌≡◌, ◌<◌, ◌≤◌, ◌∷◌, ◌++◌, swap_remove, ℕ, Bool, true, List, [], length, Some, None, inl, arith}
+use Rattle.slotmap_core.proofs.Common.{Key, IsKey, Content, IsContent, IsDetached, used, most, Inserts, Removes, Detaches, Reattaches, length_push}
+use Rattle.slotmap_core.proofs.Common.{slice_get_within, common_steps, offer_unused, none_of, false_of}
 use Rattle.slotmap_dense.specs.Packed.{IsPacked, IsSound, live_of, dense_of}
 use Rattle.slotmap_dense.proofs.SwapRemoveLemmas.{length-swap_remove}
 use Rattle.slotmap_dense.proofs.PackedLemmas.{live-push, rest-closed, IsPacked-push}

@@ -1,7 +1,7 @@
 -- The content with the same keys and other values is well formed too.
 use Rattle.std.specs.FinMap as map
-use Rattle.slotmap_core.specs.Words.{Key, key_cmp, Content, IsContent}
-use Rattle.slotmap_core.proofs.Lemmas.{◌≡◌, ℕ, ◌+◌, ◌≤◌, true, false, arith, IsContent-with_live}
+use Rattle.std.proofs.Common.{◌≡◌, ◌+◌, ◌≤◌, ℕ, true, false, arith}
+use Rattle.slotmap_core.proofs.Common.{Key, key_cmp, Content, IsContent, IsContent-with_live}
 use Rattle.slotmap_dense.specs.Packed.{over}
 
 -- both maps have the same keys

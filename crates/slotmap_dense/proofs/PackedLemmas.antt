@@ -1,12 +1,11 @@
 -- Appending a pair, closing a gap and writing a value keep the pairs in step with the positions; and what they do to the
 -- live keys.
 use Rattle.std.specs.FinMap as map
-use Rattle.slotmap_core.specs.Words.{swap_remove, zip, find, Key, key_cmp, IsListing}
-use Rattle.slotmap_core.proofs.Lemmas.{◌≡◌, ℕ, ◌+◌, ◌-◌, ◌<◌, ◌≤◌, nat_le, cond, ◌⊎◌, inl, inr, List, [], ◌∷◌, ◌++◌, length, set, drop, slice_get, Option, Some}
-use Rattle.slotmap_core.proofs.Lemmas.{None, is_some, refl, sym, ap, ◌∙◌, arith, cases_lt, nat_tests, gets, slice_get_cases, slice_get_within, same_Some}
-use Rattle.slotmap_core.proofs.Lemmas.{length_push, length-drop, get_or-drop, length-zip, keys_total, exact_keys, tied, itself, get_after_insert}
-use Rattle.slotmap_core.proofs.Lemmas.{get_after_remove, get_left, get_removed, len_inserted, len_removed, same_at, get_inserted, get_other, slice_get-set_same}
-use Rattle.slotmap_core.proofs.Lemmas.{slice_get-set_other, slice_get_push, slice_get_push_other, at_push}
+use Rattle.std.proofs.Common.{◌≡◌, ◌+◌, ◌-◌, ◌<◌, ◌≤◌, ◌⊎◌, ◌∷◌, ◌++◌, swap_remove, zip, ℕ, nat_le, cond, inl, inr, List, [], length, set, drop, slice_get, sym}
+use Rattle.slotmap_core.proofs.Common.{find, Key, key_cmp, IsListing, Option, Some, None, is_some, refl, ap, ◌∙◌, arith, cases_lt, nat_tests, gets}
+use Rattle.slotmap_core.proofs.Common.{slice_get_cases, slice_get_within, same_Some, length_push, length-drop, get_or-drop, length-zip, keys_total, exact_keys}
+use Rattle.slotmap_core.proofs.Common.{tied, itself, get_after_insert, get_after_remove, get_left, get_removed, len_inserted, len_removed, same_at}
+use Rattle.slotmap_core.proofs.Common.{get_inserted, get_other, slice_get-set_same, slice_get-set_other, slice_get_push, slice_get_push_other, at_push}
 use Rattle.slotmap_dense.specs.Dense.{put_beside}
 use Rattle.slotmap_dense.specs.Packed.{IsPacked, IsGapped, live_of, at_position}
 use Rattle.slotmap_dense.specs.Rest.{rest_of}

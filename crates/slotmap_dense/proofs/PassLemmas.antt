@@ -1,11 +1,11 @@
 -- What a pass over the pairs of a map is where they are held in another way, and what it leaves of the map.
 use Rattle.std.specs.FinMap as map
-use Rattle.slotmap_core.specs.Words.{Mut, Called, MutBor, FoldsTo, option_map, Content, Key, Visit, CallsAt, CallableOnEach, Leaves, Vec, with_items}
-use Rattle.slotmap_core.proofs.Lemmas.{◌≡◌, ℕ, ◌+◌, ◌≤◌, Bool, true, false, cond, inl, inr, List, [], ◌∷◌, ◌++◌, append-nil, length, set, drop, map as list_map}
-use Rattle.slotmap_core.proofs.Lemmas.{get_or, ◌<◌, Some, is_some, slice_get, refl, sym, ap, subst, ◌∙◌, arith, FoldsTo-push, length-set, take_at}
-use Rattle.slotmap_core.proofs.Lemmas.{slice_get_read, slice_get-map, slice_get-get_or, slice_get_within, remove-insert, Leaves-refl, Leaves-trans}
-use Rattle.slotmap_core.proofs.Lemmas.{Leaves-with_value, Leaves-removed, same_live, CallsAt-called, Visits, Visits-start, Visits-call, Visits-rest}
-use Rattle.slotmap_core.proofs.Lemmas.{Visits-listed, Visits-stay}
+use Rattle.std.proofs.Common.{◌≡◌, ◌+◌, ◌≤◌, ◌∷◌, ◌++◌, ◌<◌, option_map, ℕ, Bool, true, false, cond, inl, inr, List, [], append-nil, length, set, drop, get_or}
+use Rattle.slotmap_core.specs.Words.{MutBor, Vec}
+use Rattle.slotmap_core.proofs.Common.{Mut, Called, FoldsTo, Content, Key, Visit, CallsAt, CallableOnEach, Leaves, with_items, map as list_map, Some, is_some}
+use Rattle.slotmap_core.proofs.Common.{slice_get, refl, sym, ap, subst, ◌∙◌, arith, FoldsTo-push, length-set, take_at, slice_get_read, slice_get-map}
+use Rattle.slotmap_core.proofs.Common.{slice_get-get_or, slice_get_within, remove-insert, Leaves-refl, Leaves-trans, Leaves-with_value, Leaves-removed}
+use Rattle.slotmap_core.proofs.Common.{same_live, CallsAt-called, Visits, Visits-start, Visits-call, Visits-rest, Visits-listed, Visits-stay}
 use Rattle.slotmap_dense.specs.Pass.{Stage, stage, Holding, Calls, Stays, Rejects, Passes, MayPass, beside, packed_order}
 use Rattle.slotmap_dense.specs.Dense.{Dense, IsDense, with_value_of}
 use Rattle.slotmap_dense.specs.Packed.{IsSound, dense_of, at_position}

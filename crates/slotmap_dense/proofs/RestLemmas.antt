@@ -1,8 +1,7 @@
 -- The pairs from a position on, which a loop has yet to visit.
 use Rattle.std.specs.FinMap as map
-use Rattle.slotmap_core.specs.Words.{Content, Key}
-use Rattle.slotmap_core.proofs.Lemmas.{◌≡◌, ℕ, ◌+◌, ◌≤◌, List, length, set, drop, slice_get, Some, is_some, sym, ap, ◌∙◌, arith, nat_tests, drop_all}
-use Rattle.slotmap_core.proofs.Lemmas.{slice_get-set_other, keys_total, exact_keys, get_left, get_removed, same_at}
+use Rattle.std.proofs.Common.{◌≡◌, ◌+◌, ◌≤◌, ℕ, List, length, set, drop, slice_get, Some, is_some, sym, ap, ◌∙◌, arith}
+use Rattle.slotmap_core.proofs.Common.{Content, Key, nat_tests, drop_all, slice_get-set_other, keys_total, exact_keys, get_left, get_removed, same_at}
 use Rattle.slotmap_dense.specs.Dense.{Dense, IsDense}
 use Rattle.slotmap_dense.specs.Packed.{IsSound, live_of, dense_of}
 use Rattle.slotmap_dense.specs.Rest.{rest_of, Comes}

@@ -1,10 +1,10 @@
 -- What the calls know of the slots and the vectors by what the map holds.
 use Rattle.std.specs.FinMap as map
-use Rattle.slotmap_core.specs.Words.{Vec, with_items, swap_remove, Key, Content, IsContent, used, MakesRoom as SlotsMakeRoom, Keeps, Inserts, Removes, Detaches}
-use Rattle.slotmap_core.specs.Words.{Reattaches}
-use Rattle.slotmap_core.proofs.Lemmas.{◌≡◌, ℕ, ◌+◌, ◌<◌, ◌≤◌, ◌∷◌, [], ◌++◌, min, true, List, Some, None, length, take, drop, slice_get, get_or, option_map}
-use Rattle.slotmap_core.proofs.Lemmas.{map as list_map, vec_capacity, vec_len, refl, sym, ap, subst, ◌∙◌, arith, length-map, length_push, map-append}
-use Rattle.slotmap_core.proofs.Lemmas.{slice_get_within, slice_get_read, slice_get-map, slice_get_push, keys_total, exact_keys, remove_absent}
+use Rattle.std.proofs.Common.{◌≡◌, ◌+◌, ◌<◌, ◌≤◌, ◌∷◌, ◌++◌, swap_remove, ℕ, [], min, true, List, Some, None, length, take, drop, slice_get, get_or, option_map}
+use Rattle.slotmap_core.specs.Words.{Vec}
+use Rattle.slotmap_core.proofs.Common.{with_items, Key, Content, IsContent, used, MakesRoom as SlotsMakeRoom, Keeps, Inserts, Removes, Detaches, Reattaches}
+use Rattle.slotmap_core.proofs.Common.{map as list_map, vec_capacity, vec_len, refl, sym, ap, subst, ◌∙◌, arith, length-map, length_push, map-append}
+use Rattle.slotmap_core.proofs.Common.{slice_get_within, slice_get_read, slice_get-map, slice_get_push, keys_total, exact_keys, remove_absent}
 use Rattle.slotmap_dense.specs.declared.DenseSlotMap.TheInside.{Inside}
 use Rattle.slotmap_dense.specs.Dense.{Dense, IsDense, ClosesGap, refilled, with_values_in}
 use Rattle.slotmap_dense.specs.Call.{StaysDense, GrowsDense, MakesDenseRoom}

@@ -1,8 +1,8 @@
 -- A dense map is well formed between calls.
 use Rattle.std.specs.FinMap as map
-use Rattle.slotmap_core.specs.Words.{Key, Content, IsContent, IsLive, zip}
-use Rattle.slotmap_core.proofs.Lemmas.{◌≡◌, ℕ, ◌-◌, ◌≤◌, min, true, false, [], Some, List, length, set, refl, sym, ◌∙◌, arith, keys_total, exact_keys, tied}
-use Rattle.slotmap_core.proofs.Lemmas.{IsContent-with_value, get_inserted, get_other, WriteLaws, length-zip}
+use Rattle.std.proofs.Common.{◌≡◌, ◌-◌, ◌≤◌, zip, ℕ, min, true, false, [], Some, List, length, set, refl, sym, ◌∙◌, arith}
+use Rattle.slotmap_core.proofs.Common.{Key, Content, IsContent, IsLive, keys_total, exact_keys, tied, IsContent-with_value, get_inserted, get_other, WriteLaws}
+use Rattle.slotmap_core.proofs.Common.{length-zip}
 use Rattle.slotmap_dense.proofs.SwapRemoveLemmas.{find-beside, length-put_beside}
 use Rattle.slotmap_dense.specs.Dense.{Dense, IsDense, value_of, with_value_of, put_beside}
 use Rattle.slotmap_dense.specs.Packed.{IsSound, dense_of, live_of, over}

@@ -1,6 +1,7 @@
 -- What the calls of a dense map guarantee, whatever they return.
 use Rattle.std.specs.FinMap as map
-use Rattle.slotmap_core.specs.Words.{◌≡◌, ℕ, ◌+◌, ◌≤◌, used, most, Keeps}
+use Rattle.std.specs.Prelude.{◌≡◌, ◌+◌, ◌≤◌, ℕ}
+use Rattle.slotmap_core.specs.Words.{used, most, Keeps}
 use Rattle.slotmap_dense.specs.Dense.{Dense, IsDense, SameOrder}
 
 module _ {V : Type 0} where

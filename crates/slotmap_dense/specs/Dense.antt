@@ -1,8 +1,8 @@
 -- The model of a dense slot map: a content, and the live keys and their values in packed order.
 use Rattle.std.specs.FinMap as map
-use Rattle.slotmap_core.specs.Words.{◌≡◌, ℕ, refl, false, List, [], ◌∷◌, ◌++◌, length, Option, None, Some, reverse, slice_get, take, drop, if◌then◌else◌}
-use Rattle.slotmap_core.specs.Words.{option_map, AllZip, zip, swap_remove, eq_by_cmp, Coded, code_by, coded×, coded_list, Key, key_cmp, coded_key, Content}
-use Rattle.slotmap_core.specs.Words.{content_code, IsContent, IsListing, Removes, Leaves, with_value, pushed_all}
+use Rattle.std.specs.Prelude.{◌≡◌, ◌∷◌, ◌++◌, if◌then◌else◌, ℕ, refl, false, List, [], length, Option, None, Some, reverse, slice_get, take, drop, option_map}
+use Rattle.slotmap_core.specs.Words.{AllZip, zip, swap_remove, eq_by_cmp, Coded, code_by, coded×, coded_list, Key, key_cmp, coded_key, Content, content_code}
+use Rattle.slotmap_core.specs.Words.{IsContent, IsListing, Removes, Leaves, with_value, pushed_all}
 
 pub record Dense (V : Type 0) : Type 0 where
   pub content : Content V

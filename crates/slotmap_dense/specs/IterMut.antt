@@ -1,7 +1,8 @@
 -- What contracts see of the iterators that yield mutable references.
 use Rattle.std.specs.Slice.Iter as slice
 use Rattle.std.specs.Map.Iter.{TakesFirst}
-use Rattle.slotmap_core.specs.Words.{◌≡◌, List, Option, length, map as list_map, GName, MutBor, zip, Key}
+use Rattle.std.specs.Prelude.{◌≡◌, List, Option, length, map as list_map, zip}
+use Rattle.slotmap_core.specs.Words.{GName, MutBor, Key}
 use Rattle.slotmap_dense.specs.Dense.{Dense}
 use Rattle.slotmap_dense.specs.declared.iter_mut.IterMut.{IterMut}
 use Rattle.slotmap_dense.specs.declared.iter_mut.ValuesMut.{ValuesMut}

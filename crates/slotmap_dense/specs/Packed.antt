@@ -1,8 +1,8 @@
 -- How a dense slot map stores its pairs: a map from each live key to its position, and two vectors. No public clause cites
 -- this module.
 use Rattle.std.specs.FinMap as map
-use Rattle.slotmap_core.specs.Words.{◌≡◌, ◌≢◌, ℕ, ◌+◌, ◌-◌, ◌<◌, min, true, List, length, Option, None, Some, slice_get, zip, Key, key_cmp, Content, IsContent}
-use Rattle.slotmap_core.specs.declared.serial.SlotRecord.{SlotRecord}
+use Rattle.std.specs.Prelude.{◌≡◌, ◌≢◌, ◌+◌, ◌-◌, ◌<◌, ℕ, min, true, List, length, Option, None, Some, slice_get, zip}
+use Rattle.slotmap_core.specs.Words.{Key, key_cmp, Content, IsContent, SlotRecord}
 use Rattle.slotmap_dense.specs.Dense.{Dense}
 
 -- each live key is in the list at its position, and the list has no other keys

@@ -1,7 +1,7 @@
 -- A pass of a closure over the pairs of a dense map, up to the first one that it rejects. No public clause cites this module.
 use Rattle.std.specs.FinMap as map
-use Rattle.slotmap_core.specs.Words.{◌≡◌, ◌≤◌, ◌⊎◌, ◌+◌, ℕ, Bool, true, false, List, length, Some, slice_get, slice_set, if◌then◌else◌, Mut, Takes, MutBor}
-use Rattle.slotmap_core.specs.Words.{FoldsTo, Key, Visit, CallsAt}
+use Rattle.std.specs.Prelude.{◌≡◌, ◌≤◌, ◌⊎◌, ◌+◌, if◌then◌else◌, ℕ, Bool, true, false, List, length, Some, slice_get, slice_set}
+use Rattle.slotmap_core.specs.Words.{Mut, Takes, MutBor, FoldsTo, Key, Visit, CallsAt}
 use Rattle.slotmap_dense.specs.Dense.{Dense, with_value_of}
 use Rattle.slotmap_dense.specs.Rest.{Comes}
 

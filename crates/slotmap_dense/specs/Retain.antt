@@ -1,6 +1,6 @@
 -- What `retain` does to the entries of a dense map, to its packed order and to its stack of vacant indices.
-use Rattle.slotmap_core.specs.Words.{◌≡◌, ℕ, ◌+◌, ◌≤◌, Bool, List, [], ◌∷◌, length, Some, slice_get, if◌then◌else◌, Mut, MutBor, swap_remove, option_map, Key}
-use Rattle.slotmap_core.specs.Words.{Visit, RetainsBy, pushed_all}
+use Rattle.std.specs.Prelude.{◌≡◌, ◌+◌, ◌≤◌, ◌∷◌, if◌then◌else◌, ℕ, Bool, List, [], length, Some, slice_get, swap_remove, option_map}
+use Rattle.slotmap_core.specs.Words.{Mut, MutBor, Key, Visit, RetainsBy, pushed_all}
 use Rattle.slotmap_dense.specs.Dense.{Dense}
 
 module _ {K V : Type 0} (data_of : K → Key) where

@@ -1,8 +1,8 @@
 //! Look-ups: which keys are live, and their values.
 
 ghost use Rattle.std.specs.FinMap as map;
-ghost use Rattle.slotmap_core.specs.Words.{◌≡◌, ◌≢◌, ◌<◌, length, slice_get, ◌↔◌, IsTrue, IsOk, IfOk, OnOk, OnErr, IfErr, IsSome, IfSome, option_copied, Some};
-ghost use Rattle.slotmap_core.specs.Words.{[], ◌∷◌, map as map_list, sem, option_copied_mut, IsLive};
+ghost use Rattle.std.specs.Prelude.{◌≡◌, ◌≢◌, ◌<◌, ◌↔◌, ◌∷◌, length, slice_get, IsTrue, IsOk, IfOk, OnOk, OnErr, IfErr, IsSome, IfSome, option_copied, Some};
+ghost use Rattle.slotmap_core.specs.Words.{[], map as map_list, sem, option_copied_mut, IsLive};
 ghost use Rattle.slotmap_core.specs.Several.{CanReplace, AreValuesOf, with_values};
 ghost use Rattle.slotmap_dense.specs.Dense.{IsDense, value_of, with_value_of};
 ghost use Rattle.slotmap_dense.specs.Lends.{lends_two};

@@ -1,7 +1,8 @@
 //! The calls that empty a map, and those that append what it holds to a vector.
 
 ghost use Rattle.std.specs.FinMap as map;
-ghost use Rattle.slotmap_core.specs.Words.{◌≡◌, ◌<◌, ◌+◌, ◌++◌, OnOk, OnErr, Some, List, map as list_map, reverse, zip, Leaves, IsListing, IsKeyListing};
+ghost use Rattle.std.specs.Prelude.{◌≡◌, ◌<◌, ◌+◌, ◌++◌, OnOk, OnErr, Some, List, map as list_map, reverse, zip};
+ghost use Rattle.slotmap_core.specs.Words.{Leaves, IsListing, IsKeyListing};
 ghost use Rattle.slotmap_dense.specs.Dense.{IsDense, IsEmpty, FreesFromBack};
 ghost use Rattle.slotmap_dense.specs.Call.{StaysDense};
 

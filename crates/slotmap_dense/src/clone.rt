@@ -1,6 +1,7 @@
 //! Copies of a map.
 
-ghost use Rattle.slotmap_core.specs.Words.{◌≡◌, IfOk, OnOk, OnErr, ClonesEqual, IsCopy, IsCloneBy};
+ghost use Rattle.std.specs.Prelude.{◌≡◌, IfOk, OnOk, OnErr};
+ghost use Rattle.slotmap_core.specs.Words.{ClonesEqual, IsCopy, IsCloneBy};
 ghost use Rattle.slotmap_dense.specs.Dense.{IsDense, SameOrder, ClonesInOrder};
 
 use crate::DenseSlotMap;

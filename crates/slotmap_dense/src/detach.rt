@@ -1,7 +1,8 @@
 //! Detached keys: the value is taken out, and the slot is kept.
 
 ghost use Rattle.std.specs.FinMap as map;
-ghost use Rattle.slotmap_core.specs.Words.{◌≡◌, OnSome, IfSome, IfNone, OnOk, IfErr, IsErr, false, Detaches, Reattaches, RefusesReattach};
+ghost use Rattle.std.specs.Prelude.{◌≡◌, OnSome, IfSome, IfNone, OnOk, IfErr, IsErr, false};
+ghost use Rattle.slotmap_core.specs.Words.{Detaches, Reattaches, RefusesReattach};
 ghost use Rattle.slotmap_dense.specs.Dense.{Appends, ClosesGap};
 ghost use Rattle.slotmap_dense.specs.Call.{StaysDense, GrowsDense};
 

@@ -1,6 +1,7 @@
 //! The iterator that takes the pairs out of a map.
 
-ghost use Rattle.slotmap_core.specs.Words.{◌≡◌, ◌≤◌, Some, IfSome, size, UpTo};
+ghost use Rattle.std.specs.Prelude.{◌≡◌, ◌≤◌, Some, IfSome};
+ghost use Rattle.slotmap_core.specs.Words.{size, UpTo};
 ghost use Rattle.slotmap_dense.specs.Dense.{IsDense, Empties};
 
 use crate::DenseSlotMap;

@@ -1,6 +1,7 @@
 //! Inserts: new keys.
 
-ghost use Rattle.slotmap_core.specs.Words.{◌≡◌, ◌<◌, IfOk, IfErr, IsOk, IsErr, Ok, used, most, Inserts, Refuses, RefusesInsert, RefusesWith};
+ghost use Rattle.std.specs.Prelude.{◌≡◌, ◌<◌, IfOk, IfErr, IsOk, IsErr, Ok};
+ghost use Rattle.slotmap_core.specs.Words.{used, most, Inserts, Refuses, RefusesInsert, RefusesWith};
 ghost use Rattle.slotmap_dense.specs.Dense.{Appends};
 ghost use Rattle.slotmap_dense.specs.Call.{StaysDense, GrowsDense, MakesDenseRoom};
 

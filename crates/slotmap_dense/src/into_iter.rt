@@ -1,6 +1,7 @@
 //! The iterator over a map by value.
 
-ghost use Rattle.slotmap_core.specs.Words.{◌≡◌, ◌≤◌, length, Some, IfSome, IfOk, YieldsFirstBy, item_count, at_most, UpTo, ClonesEqual, AreClones};
+ghost use Rattle.std.specs.Prelude.{◌≡◌, ◌≤◌, length, Some, IfSome, IfOk};
+ghost use Rattle.slotmap_core.specs.Words.{YieldsFirstBy, item_count, at_most, UpTo, ClonesEqual, AreClones};
 ghost use Rattle.slotmap_dense.specs.Dense.{ListsPairs};
 
 use crate::DenseSlotMap;
@@ -33,7 +34,8 @@ pub struct IntoIter<K: Key, V> {
 }
 
 impl<K: Key, V> Model for IntoIter<K, V> {
-    ghost use Rattle.slotmap_core.specs.Words.{◌≡◌, ◌+◌, List, drop, length as list_length, map as list_map, zip, Key};
+    ghost use Rattle.std.specs.Prelude.{◌≡◌, ◌+◌, List, drop, length as list_length, map as list_map, zip};
+    ghost use Rattle.slotmap_core.specs.Words.{Key};
 
     ghost Value = { List (Key × V) };
 

@@ -1,7 +1,7 @@
 //! Iterators over the keys and values of a map, in packed order.
 
-ghost use Rattle.slotmap_core.specs.Words.{◌≡◌, ◌≤◌, length, Some, IfSome, ⊤, YieldsFirstBy, item_count, at_most, UpTo, zip, IsListing, IsKeyListing};
-ghost use Rattle.slotmap_core.specs.Words.{IsValueListing};
+ghost use Rattle.std.specs.Prelude.{◌≡◌, ◌≤◌, length, Some, IfSome, ⊤, zip};
+ghost use Rattle.slotmap_core.specs.Words.{YieldsFirstBy, item_count, at_most, UpTo, IsListing, IsKeyListing, IsValueListing};
 ghost use Rattle.slotmap_dense.specs.Dense.{IsDense, ListsPairs};
 
 use crate::DenseSlotMap;
@@ -24,7 +24,8 @@ pub struct Iter<'a, K: Key, V> {
 }
 
 impl<'a, K: Key, V> Model for Iter<'a, K, V> {
-    ghost use Rattle.slotmap_core.specs.Words.{◌≡◌, ◌≤◌, List, drop, length as list_length, map as list_map, zip, Key};
+    ghost use Rattle.std.specs.Prelude.{◌≡◌, ◌≤◌, List, drop, length as list_length, map as list_map, zip};
+    ghost use Rattle.slotmap_core.specs.Words.{Key};
 
     ghost Value = { List (Key × V) };
 

@@ -1,7 +1,8 @@
 //! Iterators that yield mutable references to the values, in packed order. They have no model, so
 //! that a contract can follow the loan.
 
-ghost use Rattle.slotmap_core.specs.Words.{◌≡◌, ◌≤◌, length, IfSome, Some, sem, at_most, UpTo, YieldsMutRefsInOrder, zip};
+ghost use Rattle.std.specs.Prelude.{◌≡◌, ◌≤◌, length, IfSome, Some, zip};
+ghost use Rattle.slotmap_core.specs.Words.{sem, at_most, UpTo, YieldsMutRefsInOrder};
 ghost use Rattle.slotmap_dense.specs.Dense.{IsDense};
 ghost use Rattle.slotmap_dense.specs.IterMut.{iter_mut_rest, iter_mut_name, iter_mut_steps, IterMutCanStep, StartsIterMut, values_mut_rest, values_mut_name, values_mut_steps};
 ghost use Rattle.slotmap_dense.specs.Lends.{lends_iter};

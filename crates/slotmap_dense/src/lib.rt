@@ -15,8 +15,8 @@
 #![tactic(auto)]
 
 ghost use Rattle.std.specs.FinMap as map;
-ghost use Rattle.slotmap_core.specs.Words.{◌≡◌, [], Some, ◌+◌, ◌≤◌, ◌↔◌, IsTrue, IfOk, IfErr, IsOk, OnOk, true, vec_len, vec_capacity, used, IsNew};
-ghost use Rattle.slotmap_core.specs.Words.{RefusesCapacity, MakesRoom as SlotsMakeRoom};
+ghost use Rattle.std.specs.Prelude.{◌≡◌, ◌+◌, ◌≤◌, ◌↔◌, [], Some, IsTrue, IfOk, IfErr, IsOk, OnOk, true, vec_len, vec_capacity};
+ghost use Rattle.slotmap_core.specs.Words.{used, IsNew, RefusesCapacity, MakesRoom as SlotsMakeRoom};
 ghost use Rattle.slotmap_dense.specs.Dense.{IsDense, IsEmpty};
 ghost use Rattle.slotmap_dense.specs.Call.{MakesDenseRoom};
 

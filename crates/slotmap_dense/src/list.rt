@@ -1,8 +1,9 @@
 //! Lists of slots: a map written out, and a map read back.
 
 ghost use Rattle.std.specs.FinMap as map;
-ghost use Rattle.slotmap_core.specs.Words.{◌≡◌, ◌<◌, ◌^◌, IfOk, IsOk, IfErr, IfSome, Some, false, length, ClonesEqual, IsCloneOf, start_live, start_stack};
-ghost use Rattle.slotmap_core.specs.Words.{Key as KeyOf, ReadsAs, Accepts, RefusesStart, Writes, WritesClones, IsRecordClone};
+ghost use Rattle.std.specs.Prelude.{◌≡◌, ◌<◌, ◌^◌, IfOk, IsOk, IfErr, IfSome, Some, false, length};
+ghost use Rattle.slotmap_core.specs.Words.{ClonesEqual, IsCloneOf, start_live, start_stack, Key as KeyOf, ReadsAs, Accepts, RefusesStart, Writes, WritesClones};
+ghost use Rattle.slotmap_core.specs.Words.{IsRecordClone};
 ghost use Rattle.slotmap_dense.specs.Dense.{IsDense};
 ghost use Rattle.slotmap_dense.specs.Packed.{with_packed_value};
 

@@ -1,7 +1,7 @@
 //! Removals.
 
 ghost use Rattle.std.specs.FinMap as map;
-ghost use Rattle.slotmap_core.specs.Words.{◌≡◌, ◌+◌, ◌<◌, OnSome, IfSome, IfNone, Some, true, slice_get, length, vec_capacity, map as list_map, swap_remove};
+ghost use Rattle.std.specs.Prelude.{◌≡◌, ◌+◌, ◌<◌, OnSome, IfSome, IfNone, Some, true, slice_get, length, vec_capacity, map as list_map, swap_remove};
 ghost use Rattle.slotmap_core.specs.Words.{Key as KeyOf, IsContent, Removes};
 ghost use Rattle.slotmap_dense.specs.Dense.{ClosesGap};
 ghost use Rattle.slotmap_dense.specs.Call.{StaysDense};

@@ -1,6 +1,7 @@
 //! The calls that visit all live keys of a map.
 
-ghost use Rattle.slotmap_core.specs.Words.{◌≡◌, ◌<◌, ◌≤◌, ◌+◌, Some, map as list_map, length, slice_get, Leaves, RetainsBy, CallableOnEach, Key as KeyOf};
+ghost use Rattle.std.specs.Prelude.{◌≡◌, ◌<◌, ◌≤◌, ◌+◌, Some, map as list_map, length, slice_get};
+ghost use Rattle.slotmap_core.specs.Words.{Leaves, RetainsBy, CallableOnEach, Key as KeyOf};
 ghost use Rattle.slotmap_dense.specs.Pass.{MayPass, Passes, stage, beside, packed_order};
 ghost use Rattle.slotmap_dense.specs.Rest.{LeavesFrom};
 ghost use Rattle.slotmap_dense.specs.Dense.{TakesLast};

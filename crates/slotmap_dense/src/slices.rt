@@ -1,6 +1,7 @@
 //! The keys and the values as slices, in packed order.
 
-ghost use Rattle.slotmap_core.specs.Words.{◌≡◌, map as list_map, sem};
+ghost use Rattle.std.specs.Prelude.{◌≡◌, map as list_map};
+ghost use Rattle.slotmap_core.specs.Words.{sem};
 ghost use Rattle.slotmap_dense.specs.Dense.{IsDense};
 
 use crate::DenseSlotMap;

@@ -1,12 +1,10 @@
 -- Slots with clones of the values of others: the same places and blocks, and clones of the values.
 use Rattle.std.specs.FinMap as map
-use Rattle.slotmap_core.specs.Words.{ClonesEqual, AreClones, IsCloneBy, IsPlaceClone, ArePlaceClones, Place, Live, Detached, Vacant, Retired as RetiredPlace}
-use Rattle.slotmap_core.specs.Words.{live}
-use Rattle.slotmap_core.proofs.Lemmas.{◌≡◌, ℕ, zero, suc, ◌+◌, true, List, [], ◌∷◌, drop, slice_get, Some, refl, sym, ap, subst, ◌∙◌, arith, same_from_all_zip}
-use Rattle.slotmap_core.proofs.Lemmas.{keys_total, exact_keys, zip_length, zip_drop, same_len, clone_is_some, detached-clones, retired-clones, next-clones}
-use Rattle.slotmap_core.proofs.Lemmas.{live-clones, length-clones, cloned_at, vacant_there, IsStacked-clones}
-use Rattle.slotmap_hop.specs.declared.links.Slot.{Slot}
-use Rattle.slotmap_hop.specs.declared.links.Slot.TheVariants.{Occupied, Free, Retired}
+use Rattle.std.proofs.Common.{◌≡◌, ◌+◌, ◌∷◌, ℕ, zero, suc, true, List, [], drop, slice_get, Some, refl, sym, ap, subst, ◌∙◌, arith}
+use Rattle.slotmap_core.proofs.Common.{ClonesEqual, AreClones, IsCloneBy, IsPlaceClone, ArePlaceClones, Place, Live, Detached, Vacant, Retired as RetiredPlace}
+use Rattle.slotmap_core.proofs.Common.{live, same_from_all_zip, keys_total, exact_keys, zip_length, zip_drop, same_len, clone_is_some, detached-clones}
+use Rattle.slotmap_core.proofs.Common.{retired-clones, next-clones, live-clones, length-clones, cloned_at, vacant_there, IsStacked-clones}
+use Rattle.slotmap_hop.specs.Slots.{Slot, Occupied, Free, Retired}
 use Rattle.slotmap_hop.specs.Blocks.{Begins}
 use Rattle.slotmap_hop.specs.Links.{vacant_at, HasBlockList}
 use Rattle.slotmap_hop.specs.Iter.{pairs_left, IsIter}

@@ -1,11 +1,9 @@
 -- A map with no key: slot 0 alone.
-use Rattle.slotmap_core.specs.Words.{Detached, Vacant}
-use Rattle.slotmap_core.proofs.Lemmas.{⊎_elim, ◌≡◌, zero, suc, List, [], ◌∷◌, refl, arith, at_push, IsStacked-sentinel, live-sentinel}
-use Rattle.slotmap_hop.specs.declared.links.Slot.{Slot}
-use Rattle.slotmap_hop.specs.declared.links.Slot.TheVariants.{Free}
+use Rattle.std.proofs.Common.{◌≡◌, ◌∷◌, ⊎_elim, zero, suc, List, [], refl, arith}
+use Rattle.slotmap_core.proofs.Common.{Detached, Vacant, at_push, IsStacked-sentinel, live-sentinel}
+use Rattle.slotmap_hop.specs.Slots.{Slot, Free, all_links, IsSound}
 use Rattle.slotmap_hop.specs.Links.{is_front, vacant_at, end_at, ListsOnce, NamesEnds}
 use Rattle.slotmap_hop.proofs.Circle.{shut}
-use Rattle.slotmap_hop.specs.Slots.{all_links, IsSound}
 
 abbrev pub sentinel_alone : (V : Type 0) → List (Slot V)
 sentinel_alone V = Free 0 (record { next = 0; prev = 0; other_end = 0 }) ∷ []

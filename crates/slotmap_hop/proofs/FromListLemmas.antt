@@ -1,18 +1,16 @@
 -- The slots while a list of slots is read into them.
 use Rattle.std.proofs.lemmas.List.{length-append}
 use Rattle.std.specs.FinMap as map
-use Rattle.slotmap_core.specs.Words.{is_vacant_version, vacant_slot, place_of_record, start_places, start_stack, StartsFrom, Detached, Vacant, live}
-use Rattle.slotmap_core.specs.Words.{IsConsistent, Accepts, AllFitBelow, IsStacked, Writes, record_of, records_of}
-use Rattle.slotmap_core.proofs.Lemmas.{◌≡◌, ℕ, ◌+◌, ◌%◌, ◌^◌, ◌<◌, ◌≤◌, Bool, true, false, cond, List, [], ◌∷◌, ◌++◌, length, set, take, append-nil}
-use Rattle.slotmap_core.proofs.Lemmas.{append_assoc, add-one, slice_get, None, Some, refl, sym, ap, subst, ◌∙◌, arith, eqb, map as list_map, set-append_seam}
-use Rattle.slotmap_core.proofs.Lemmas.{nat_tests, nil_from_length, length_push, length-map, map_push, take_all, slice_get-map, vacant_split, vacant_is}
-use Rattle.slotmap_core.proofs.Lemmas.{slot_vacant, slice_get_push, len-live-push, odd_of, even_where, vacant_place, length-start_places, start_places-push}
-use Rattle.slotmap_core.proofs.Lemmas.{start_place_at, start_stack-push, IsStacked-start_places, writes-places, starts-stack, next_consistent}
-use Rattle.slotmap_core.specs.declared.serial.SlotRecord.{SlotRecord}
-use Rattle.slotmap_hop.specs.declared.links.Slot.{Slot}
+use Rattle.std.proofs.Common.{◌≡◌, ◌+◌, ◌%◌, ◌^◌, ◌<◌, ◌≤◌, ◌∷◌, ◌++◌, ℕ, Bool, true, false, cond, List, [], length, set, take, append-nil, append_assoc, None}
+use Rattle.slotmap_core.proofs.Common.{is_vacant_version, vacant_slot, place_of_record, start_places, start_stack, StartsFrom, Detached, Vacant, live}
+use Rattle.slotmap_core.proofs.Common.{IsConsistent, Accepts, AllFitBelow, IsStacked, Writes, record_of, records_of, add-one, slice_get, Some, refl, sym, ap}
+use Rattle.slotmap_core.proofs.Common.{subst, ◌∙◌, arith, eqb, map as list_map, set-append_seam, nat_tests, nil_from_length, length_push, length-map, map_push}
+use Rattle.slotmap_core.proofs.Common.{take_all, slice_get-map, vacant_split, vacant_is, slot_vacant, slice_get_push, len-live-push, odd_of, even_where}
+use Rattle.slotmap_core.proofs.Common.{vacant_place, length-start_places, start_places-push, start_place_at, start_stack-push, IsStacked-start_places}
+use Rattle.slotmap_core.proofs.Common.{writes-places, starts-stack, next_consistent, SlotRecord}
+use Rattle.slotmap_hop.specs.Slots.{Slot, version_in, links_in, value_in, read_slot, place_in, all_links, places_of, hop_content, IsSound}
 use Rattle.slotmap_hop.specs.Blocks.{Blocks, Ascend, vacated}
 use Rattle.slotmap_hop.specs.Links.{vacant_at, blocks_of, HasBlockList, CanVacate}
-use Rattle.slotmap_hop.specs.Slots.{version_in, links_in, value_in, read_slot, place_in, all_links, places_of, hop_content, IsSound}
 use Rattle.slotmap_hop.proofs.Taking.{HasBlockList-pushed, blocks_pushed}
 use Rattle.slotmap_hop.proofs.SlotReads.{length-all_links, length-places, slot_cases, place_at}
 use Rattle.slotmap_hop.proofs.Empty.{sentinel_alone, IsSound-new}

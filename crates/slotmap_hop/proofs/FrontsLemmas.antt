@@ -1,5 +1,5 @@
 -- The list of fronts after one place becomes vacant or is put to use.
-use Rattle.slotmap_core.proofs.Lemmas.{◌≡◌, ◌≢◌, ℕ, zero, suc, ◌+◌, ◌-◌, ◌<◌, ◌≤◌, Bool, true, false, List, [], ◌∷◌, ◌++◌, length, refl, ap, ◌∙◌, arith, cond}
+use Rattle.std.proofs.Common.{◌≡◌, ◌≢◌, ◌+◌, ◌-◌, ◌<◌, ◌≤◌, ◌∷◌, ◌++◌, ℕ, zero, suc, Bool, true, false, List, [], length, refl, ap, ◌∙◌, arith, cond}
 use Rattle.slotmap_hop.specs.Links.{is_front, Turns, occurs, IsChain, follow, list_without, replaced, ListsOnce, IsBlockList}
 use Rattle.slotmap_hop.proofs.Chain.{removed_gone, removed_fewer, removed_shorter, occurs-append, occurs-head, occurs-other, differs_by_count, StandOnce, occurs-removed, occurs-replaced}
 

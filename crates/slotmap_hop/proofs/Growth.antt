@@ -1,15 +1,12 @@
 -- What an insert makes of sound slots, and what stays when one place changes.
 use Rattle.std.specs.FinMap as map
-use Rattle.slotmap_core.specs.Words.{Key, most, Removes, Inserts, Place, Live, Detached, Vacant, live, left_by, content_of_places, used_places, filled}
-use Rattle.slotmap_core.specs.Words.{IsVersion, IsStacked}
-use Rattle.slotmap_core.proofs.Lemmas.{⊎_elim, ◌≡◌, ◌≢◌, ℕ, ◌+◌, ◌-◌, ◌^◌, ◌<◌, ◌≤◌, List, [], ◌∷◌, ◌++◌, length, set, slice_get, Some, None, sym, ap, subst}
-use Rattle.slotmap_core.proofs.Lemmas.{◌∙◌, arith, map-append, key, len-live-set, len-live-push, IsStacked-filled, IsStacked-pushed, removes, inserts, at_set}
-use Rattle.slotmap_core.proofs.Lemmas.{at_push}
-use Rattle.slotmap_hop.specs.declared.links.Slot.{Slot}
-use Rattle.slotmap_hop.specs.declared.links.Slot.TheVariants.{Occupied}
+use Rattle.std.proofs.Common.{◌≡◌, ◌≢◌, ◌+◌, ◌-◌, ◌^◌, ◌<◌, ◌≤◌, ◌∷◌, ◌++◌, ⊎_elim, ℕ, List, [], length, set, slice_get, Some, None, sym, ap, subst, ◌∙◌, arith}
+use Rattle.slotmap_core.proofs.Common.{Key, most, Removes, Inserts, Place, Live, Detached, Vacant, live, left_by, content_of_places, used_places, filled}
+use Rattle.slotmap_core.proofs.Common.{IsVersion, IsStacked, map-append, key, len-live-set, len-live-push, IsStacked-filled, IsStacked-pushed, removes, inserts}
+use Rattle.slotmap_core.proofs.Common.{at_set, at_push}
+use Rattle.slotmap_hop.specs.Slots.{Slot, Occupied, version_in, links_in, place_in, all_links, places_of, next_place, offer_at, holding, hop_content, IsSound}
 use Rattle.slotmap_hop.specs.Blocks.{shorter}
 use Rattle.slotmap_hop.specs.Links.{list_without, blocks_of, HasBlockList}
-use Rattle.slotmap_hop.specs.Slots.{version_in, links_in, place_in, all_links, places_of, next_place, offer_at, holding, hop_content, IsSound}
 use Rattle.slotmap_hop.proofs.SlotReads.{length-all_links, length-places}
 use Rattle.slotmap_hop.proofs.Taking.{HasBlockList-pushed, blocks_pushed, shorter_none}
 use Rattle.slotmap_hop.proofs.StackOrder.{IsStacked-first, length_removed, untold, Inserts-untold, Removes-untold}

@@ -1,17 +1,13 @@
 -- A search for the next live place skips a block of vacant places in one step.
 use Rattle.std.proofs.lemmas.List.{append_assoc, length-append}
 use Rattle.std.specs.FinMap as map
-use Rattle.slotmap_core.specs.Words.{All, Key, last_version, Place, Live, Detached, Vacant, Retired as RetiredPlace, live, live_entry, retired_entry, gather}
-use Rattle.slotmap_core.specs.Words.{HasVersion}
-use Rattle.slotmap_core.proofs.Lemmas.{◌≡◌, ◌≢◌, ℕ, max, zero, suc, ◌+◌, ◌-◌, ◌*◌, ◌<◌, ◌≤◌, ◌^◌, true, false, List, [], ◌∷◌, ◌++◌, length, drop, slice_get}
-use Rattle.slotmap_core.proofs.Lemmas.{Some, None, is_some, refl, sym, ap, ◌∙◌, arith, slice_get_within, get_or_from_slice_get, drop_more, drop_all, All-nil}
-use Rattle.slotmap_core.proofs.Lemmas.{All-cons, All-push, All-weaker, live_at, key, get-live_at}
-use Rattle.slotmap_hop.specs.declared.links.Links.{Links}
-use Rattle.slotmap_hop.specs.declared.links.Slot.{Slot}
-use Rattle.slotmap_hop.specs.declared.links.Slot.TheVariants.{Occupied, Free, Retired}
+use Rattle.std.proofs.Common.{◌≡◌, ◌≢◌, ◌+◌, ◌-◌, ◌*◌, ◌<◌, ◌≤◌, ◌^◌, ◌∷◌, ◌++◌, All, ℕ, max, zero, suc, true, false, List, [], length, drop, slice_get, Some}
+use Rattle.slotmap_core.proofs.Common.{Key, last_version, Place, Live, Detached, Vacant, Retired as RetiredPlace, live, live_entry, retired_entry, gather}
+use Rattle.slotmap_core.proofs.Common.{HasVersion, None, is_some, refl, sym, ap, ◌∙◌, arith, slice_get_within, get_or_from_slice_get, drop_more, drop_all}
+use Rattle.slotmap_core.proofs.Common.{All-nil, All-cons, All-push, All-weaker, live_at, key, get-live_at}
+use Rattle.slotmap_hop.specs.Slots.{Links, Slot, Occupied, Free, Retired, value_in, end_in, place_in, all_links, places_of}
 use Rattle.slotmap_hop.specs.Blocks.{Begins, IsBlock}
 use Rattle.slotmap_hop.specs.Links.{vacant_at, links_at, end_at}
-use Rattle.slotmap_hop.specs.Slots.{value_in, end_in, place_in, all_links, places_of}
 use Rattle.slotmap_hop.specs.Iter.{pairs_left, retired_left, StandsAt, CanGoOn, FindsNone, FindsSlot, ReadsOnTheWay, Counted}
 use Rattle.slotmap_hop.proofs.BlockLemmas.{clash, begins_after, front_here}
 use Rattle.slotmap_hop.proofs.Circle.{shown}

@@ -1,14 +1,13 @@
 -- What an iterator that skips blocks has yet to yield, at its start and after each step.
 use Rattle.std.specs.FinMap as map
 use Rattle.std.specs.FinSet as set
-use Rattle.slotmap_core.specs.Words.{Key, key_cmp, Place, Live, Retired, live, retired_entry, gather}
-use Rattle.slotmap_core.proofs.Lemmas.{◌≡◌, ℕ, ◌+◌, ◌-◌, ◌<◌, ◌≤◌, true, List, [], ◌∷◌, length, drop, set, ◌∙◌, refl, sym, ap, subst, arith, slice_get_within}
-use Rattle.slotmap_core.proofs.Lemmas.{nil_from_length, drop-set-lt, live_at, retired_fits, detached_laws, len-add, entries-live}
+use Rattle.std.proofs.Common.{◌≡◌, ◌+◌, ◌-◌, ◌<◌, ◌≤◌, ◌∷◌, ℕ, true, List, [], length, drop, set, ◌∙◌, refl, sym, ap, subst, arith}
+use Rattle.slotmap_core.proofs.Common.{Key, key_cmp, Place, Live, Retired, live, retired_entry, gather, slice_get_within, nil_from_length, drop-set-lt, live_at}
+use Rattle.slotmap_core.proofs.Common.{retired_fits, detached_laws, len-add, entries-live}
 use Rattle.slotmap_core.specs.Places.{retired}
-use Rattle.slotmap_hop.specs.declared.links.Slot.{Slot}
+use Rattle.slotmap_hop.specs.Slots.{Slot, all_links, places_of, hop_content, IsSound}
 use Rattle.slotmap_hop.specs.Blocks.{Begins, IsBlock}
 use Rattle.slotmap_hop.specs.Links.{vacant_at, end_at, fronts_of}
-use Rattle.slotmap_hop.specs.Slots.{all_links, places_of, hop_content, IsSound}
 use Rattle.slotmap_hop.specs.Iter.{pairs_left, retired_left, IsIter, CanGoOn, FindsLive, ReadsOnTheWay, ListsRetired}
 use Rattle.slotmap_hop.proofs.BlockLemmas.{clash, begins_after}
 use Rattle.slotmap_hop.proofs.Circle.{block_at}

@@ -1,6 +1,6 @@
 -- A slot joins the blocks by one write, after the links of the others were made ready for it.
-use Rattle.slotmap_core.proofs.Lemmas.{Option, Some, ◌≡◌, ℕ, ◌+◌, ◌-◌, ◌<◌, ◌≤◌, true, false, List, ◌∷◌, length, map, set, sym, ap, ◌∙◌, arith, map-set}
-use Rattle.slotmap_core.proofs.Lemmas.{length-map}
+use Rattle.std.proofs.Common.{◌≡◌, ◌+◌, ◌-◌, ◌<◌, ◌≤◌, ◌∷◌, Option, Some, ℕ, true, false, List, length, map, set, sym, ap, ◌∙◌, arith}
+use Rattle.slotmap_core.proofs.Common.{map-set, length-map}
 use Rattle.slotmap_hop.specs.declared.links.Links.{Links}
 use Rattle.slotmap_hop.specs.Blocks.{vacated_alone, vacated_before, vacated_after, vacated_between}
 use Rattle.slotmap_hop.specs.Links.{is_vacant, vacant_at, links_at, next_at, prev_at, occurs, fronts_of, blocks_of, LeadsTo, Joins, Puts, SetsEnd, JoinsEnds, KeepsEnds, HasBlocks, CanVacate, Vacated}

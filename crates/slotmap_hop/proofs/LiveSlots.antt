@@ -1,12 +1,10 @@
 -- The slot of a live key: what a look-up, a removal or a write knows of it, and makes of it.
 use Rattle.std.specs.FinMap as map
-use Rattle.slotmap_core.specs.Words.{Key, IsKey, key_cmp, last_version, Live, Vacant, Retired, live, live_value}
-use Rattle.slotmap_core.proofs.Lemmas.{option_and_then, ◌≡◌, ◌≢◌, ℕ, ◌+◌, ◌-◌, ◌^◌, ◌<◌, ◌≤◌, true, false, ◌==◌, List, ◌∷◌, length, set, slice_get, get_or}
-use Rattle.slotmap_core.proofs.Lemmas.{Some, None, is_some, sym, ap, subst, ◌∙◌, arith, nat_tests, slice_get_past, get_or_from_slice_get, map-set_same}
-use Rattle.slotmap_core.proofs.Lemmas.{length-set, slice_get-set_other, key, get-live, get-live_at, len-live-set, total, live_at, not_first, IsStacked-kept}
-use Rattle.slotmap_core.proofs.Lemmas.{IsStacked-freed, content-written, same_read}
-use Rattle.slotmap_hop.specs.declared.links.Slot.{Slot}
-use Rattle.slotmap_hop.specs.declared.links.Slot.TheVariants.{Occupied}
+use Rattle.std.proofs.Common.{◌≡◌, ◌≢◌, ◌+◌, ◌-◌, ◌^◌, ◌<◌, ◌≤◌, ◌==◌, ◌∷◌, option_and_then, ℕ, true, false, List, length, set, slice_get, get_or, Some, None}
+use Rattle.slotmap_core.proofs.Common.{Key, IsKey, key_cmp, last_version, Live, Vacant, Retired, live, live_value, is_some, sym, ap, subst, ◌∙◌, arith}
+use Rattle.slotmap_core.proofs.Common.{nat_tests, slice_get_past, get_or_from_slice_get, map-set_same, length-set, slice_get-set_other, key, get-live}
+use Rattle.slotmap_core.proofs.Common.{get-live_at, len-live-set, total, live_at, not_first, IsStacked-kept, IsStacked-freed, content-written, same_read}
+use Rattle.slotmap_hop.specs.Slots.{Slot, Occupied}
 use Rattle.slotmap_hop.specs.Links.{blocks_of, HasBlockList}
 use Rattle.slotmap_hop.specs.HopContent.{hop_with_value}
 use Rattle.slotmap_hop.specs.Slots.{version_in, links_in, place_in, all_links, places_of, value_in, value_at, CanFree, next_place, offer_at, hop_content, IsSound}

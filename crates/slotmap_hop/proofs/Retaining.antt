@@ -1,10 +1,10 @@
 -- A loop that calls a closure for each live key, by ascending index, and removes the keys that it rejects.
 use Rattle.std.specs.FinMap as map
-use Rattle.slotmap_core.specs.Words.{Mut, MutBor, FoldsTo, Key, key_cmp, IsLive, Removes, Visit, CallsAt, MayCome, seen}
-use Rattle.slotmap_core.proofs.Lemmas.{◌≡◌, ℕ, ◌+◌, Bool, cond, true, false, List, [], ◌∷◌, ◌++◌, append-nil, Option, Some, None, is_some, refl, sym, ap, ◌∙◌}
-use Rattle.slotmap_core.proofs.Lemmas.{inl, arith, FoldsTo-push, from_index, from_index-start, none_live, in_from, get-remove_other, keys_total, exact_keys}
-use Rattle.slotmap_core.proofs.Lemmas.{in_after_remove, entries_none, remove-insert, Swept-start, Visits, Visits-listed, Visits-stay, Keyed-from_start}
-use Rattle.slotmap_core.proofs.Lemmas.{Keyed-next, Keyed-same, Keyed-may_come}
+use Rattle.std.proofs.Common.{◌≡◌, ◌+◌, ◌∷◌, ◌++◌, ℕ, Bool, cond, true, false, List, [], append-nil, Option, Some, None, is_some, refl, sym, ap, ◌∙◌, inl}
+use Rattle.slotmap_core.specs.Words.{MutBor}
+use Rattle.slotmap_core.proofs.Common.{Mut, FoldsTo, Key, key_cmp, IsLive, Removes, Visit, CallsAt, MayCome, seen, arith, FoldsTo-push, from_index}
+use Rattle.slotmap_core.proofs.Common.{from_index-start, none_live, in_from, get-remove_other, keys_total, exact_keys, in_after_remove, entries_none}
+use Rattle.slotmap_core.proofs.Common.{remove-insert, Swept-start, Visits, Visits-listed, Visits-stay, Keyed-from_start, Keyed-next, Keyed-same, Keyed-may_come}
 use Rattle.slotmap_hop.specs.HopContent.{HopContent, IsHopContent, IsNextLive, IsNextPlace, HasKeyAt, StaysHop, hop_with_value, blocks_without, blocks_without_all}
 use Rattle.slotmap_hop.specs.Retain.{RetainsByIndex, dropped}
 use Rattle.slotmap_hop.proofs.BlocksLeft.{InOrder, InOrder-kept, InOrder-dropped}

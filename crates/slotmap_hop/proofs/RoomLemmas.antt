@@ -1,9 +1,8 @@
 -- Room for more keys.
-use Rattle.slotmap_core.specs.Words.{used, most, Keeps, used_places}
-use Rattle.slotmap_core.proofs.Lemmas.{◌≡◌, ℕ, ◌+◌, ◌-◌, ◌<◌, ◌≤◌, ◌^◌, min, List, length, refl, ap, sym, subst, arith, room_had}
-use Rattle.slotmap_hop.specs.declared.links.Slot.{Slot}
+use Rattle.std.proofs.Common.{◌≡◌, ◌+◌, ◌-◌, ◌<◌, ◌≤◌, ◌^◌, ℕ, min, List, length, refl, ap, sym, subst, arith}
+use Rattle.slotmap_core.proofs.Common.{used, most, Keeps, used_places, room_had}
+use Rattle.slotmap_hop.specs.Slots.{Slot, places_of, hop_content, IsSound}
 use Rattle.slotmap_hop.specs.HopContent.{HopContent, IsHopContent, MakesHopRoom}
-use Rattle.slotmap_hop.specs.Slots.{places_of, hop_content, IsSound}
 use Rattle.slotmap_hop.proofs.SlotLemmas.{valid, taken_slots, slots_fit}
 
 module _ {V : Type 0} (m : HopContent V) (n : ℕ) (ok : Type 0) (well : IsHopContent m) where

@@ -1,12 +1,11 @@
 -- A loop over the live keys of a map, which skips vacant places.
 use Rattle.std.specs.FinMap as map
-use Rattle.slotmap_core.specs.Words.{Key, Content, IsLive, NoneBelow, Removes, with_value}
-use Rattle.slotmap_core.proofs.Lemmas.{◌∷◌, ◌≡◌, ◌↔◌, ℕ, ◌+◌, ◌-◌, ◌<◌, ◌≤◌, true, Option, Some, None, List, ◌^◌, refl, sym, ap, ◌∙◌, arith, NoneBelow-end}
-use Rattle.slotmap_core.proofs.Lemmas.{get-remove_other, in_after_remove, len_removed, some_entry, keys_total, exact_keys, first_entry, above_next, Swept}
-use Rattle.slotmap_core.proofs.Lemmas.{Swept-start, Swept-to, Swept-on, Swept-next, Swept-removed, same_live, remove-insert}
-use Rattle.slotmap_hop.specs.declared.links.Slot.{Slot}
+use Rattle.std.proofs.Common.{◌∷◌, ◌≡◌, ◌↔◌, ◌+◌, ◌-◌, ◌<◌, ◌≤◌, ◌^◌, ℕ, true, Option, Some, None, List, refl, sym, ap, ◌∙◌, arith}
+use Rattle.slotmap_core.proofs.Common.{Key, Content, IsLive, NoneBelow, Removes, with_value, NoneBelow-end, get-remove_other, in_after_remove, len_removed}
+use Rattle.slotmap_core.proofs.Common.{some_entry, keys_total, exact_keys, first_entry, above_next, Swept, Swept-start, Swept-to, Swept-on, Swept-next}
+use Rattle.slotmap_core.proofs.Common.{Swept-removed, same_live, remove-insert}
+use Rattle.slotmap_hop.specs.Slots.{Slot, hop_content, IsSound}
 use Rattle.slotmap_hop.specs.HopContent.{HopContent, IsHopContent, IsNextLive, MayStand, StaysHop, hop_with_value, blocks_without, blocks_without_all}
-use Rattle.slotmap_hop.specs.Slots.{hop_content, IsSound}
 use Rattle.slotmap_hop.specs.Iter.{CanGoOn}
 use Rattle.slotmap_hop.proofs.SlotLemmas.{same_counts}
 use Rattle.slotmap_hop.proofs.BlocksLeft.{blocks_taken, keys_first, keys_none}

@@ -1,7 +1,7 @@
 -- A map stays well formed when values are written.
 use Rattle.std.specs.FinMap as map
-use Rattle.slotmap_core.specs.Words.{Key, IsLive}
-use Rattle.slotmap_core.proofs.Lemmas.{◌≡◌, true, arith, keys_total, IsContent-with_value}
+use Rattle.std.proofs.Common.{◌≡◌, true, arith}
+use Rattle.slotmap_core.proofs.Common.{Key, IsLive, keys_total, IsContent-with_value}
 use Rattle.slotmap_hop.specs.HopContent.{HopContent, IsHopContent, StaysHop, hop_with_value}
 
 -- another value under a live key keeps it well formed

@@ -1,6 +1,7 @@
 -- What `retain` does to the entries and to the blocks of a `HopSlotMap`.
 use Rattle.std.specs.FinMap as map
-use Rattle.slotmap_core.specs.Words.{◌≡◌, Bool, List, [], ◌∷◌, if◌then◌else◌, Mut, MutBor, Key, Visit, RetainsBy, seen}
+use Rattle.std.specs.Prelude.{◌≡◌, ◌∷◌, if◌then◌else◌, Bool, List, []}
+use Rattle.slotmap_core.specs.Words.{Mut, MutBor, Key, Visit, RetainsBy, seen}
 use Rattle.slotmap_hop.specs.HopContent.{HopContent, blocks_without_all}
 
 -- the keys for which the calls returned `false`, in the order of the calls

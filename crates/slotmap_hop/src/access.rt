@@ -1,8 +1,8 @@
 //! Look-ups: which keys are live, and their values, of one key and of several at once.
 
 ghost use Rattle.std.specs.FinMap as map;
-ghost use Rattle.slotmap_core.specs.Words.{◌≡◌, ◌↔◌, IsTrue, IsOk, IfOk, OnOk, OnErr, IfErr, IfNone, IfSome, option_copied, Some, false, map as map_list, sem};
-ghost use Rattle.slotmap_core.specs.Words.{option_copied_mut, IsLive, CanReplace, AreValuesOf};
+ghost use Rattle.std.specs.Prelude.{◌≡◌, ◌↔◌, IsTrue, IsOk, IfOk, OnOk, OnErr, IfErr, IfNone, IfSome, option_copied, Some, false, map as map_list};
+ghost use Rattle.slotmap_core.specs.Words.{sem, option_copied_mut, IsLive, CanReplace, AreValuesOf};
 ghost use Rattle.slotmap_hop.specs.HopContent.{IsHopContent, StaysHop, hop_with_value, hop_with_values};
 
 use crate::HopSlotMap;

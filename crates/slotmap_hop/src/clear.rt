@@ -1,7 +1,8 @@
 //! The calls that empty a map, and those that append what it holds to a vector.
 
 ghost use Rattle.std.specs.FinMap as map;
-ghost use Rattle.slotmap_core.specs.Words.{◌≡◌, ◌+◌, ◌<◌, ◌++◌, Some, OnOk, OnErr, List, map as list_map, Leaves, FreesByIndex};
+ghost use Rattle.std.specs.Prelude.{◌≡◌, ◌+◌, ◌<◌, ◌++◌, Some, OnOk, OnErr, List, map as list_map};
+ghost use Rattle.slotmap_core.specs.Words.{Leaves, FreesByIndex};
 ghost use Rattle.slotmap_hop.specs.HopContent.{IsHopContent, StaysHop, blocks_without_all};
 
 use crate::HopSlotMap;

@@ -1,6 +1,7 @@
 //! Copies of a map.
 
-ghost use Rattle.slotmap_core.specs.Words.{◌≡◌, IfOk, OnOk, OnErr, ClonesEqual, IsCopy, IsCloneBy};
+ghost use Rattle.std.specs.Prelude.{◌≡◌, IfOk, OnOk, OnErr};
+ghost use Rattle.slotmap_core.specs.Words.{ClonesEqual, IsCopy, IsCloneBy};
 ghost use Rattle.slotmap_hop.specs.HopContent.{IsHopContent};
 ghost use Rattle.slotmap_hop.specs.Slots.{IsSlotClone, AreSlotClones};
 

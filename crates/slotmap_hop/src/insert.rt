@@ -1,8 +1,8 @@
 //! Inserts: new keys.
 
 ghost use Rattle.std.specs.FinMap as map;
-ghost use Rattle.slotmap_core.specs.Words.{◌≡◌, ◌+◌, ◌<◌, ◌≤◌, IfOk, OnErr, IfErr, IsOk, IsTrue, MatchResult, Ok, Err, used, most, Keeps, Inserts, Refuses};
-ghost use Rattle.slotmap_core.specs.Words.{RefusesCapacity, RefusesInsert, RefusesWith};
+ghost use Rattle.std.specs.Prelude.{◌≡◌, ◌+◌, ◌<◌, ◌≤◌, IfOk, OnErr, IfErr, IsOk, IsTrue, MatchResult, Ok, Err};
+ghost use Rattle.slotmap_core.specs.Words.{used, most, Keeps, Inserts, Refuses, RefusesCapacity, RefusesInsert, RefusesWith};
 ghost use Rattle.slotmap_hop.specs.Blocks.{shorter};
 ghost use Rattle.slotmap_hop.specs.HopContent.{GrowsHop, IsHopContent, MakesHopRoom, StaysHop};
 

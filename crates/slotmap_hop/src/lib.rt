@@ -22,7 +22,8 @@
 #![tactic(auto)]
 
 ghost use Rattle.std.specs.FinMap as map;
-ghost use Rattle.slotmap_core.specs.Words.{◌≡◌, [], ◌+◌, ◌≤◌, ◌↔◌, IsTrue, IfOk, IfErr, IsOk, used, most, IsNew, RefusesCapacity};
+ghost use Rattle.std.specs.Prelude.{◌≡◌, ◌+◌, ◌≤◌, ◌↔◌, [], IsTrue, IfOk, IfErr, IsOk};
+ghost use Rattle.slotmap_core.specs.Words.{used, most, IsNew, RefusesCapacity};
 ghost use Rattle.slotmap_hop.specs.HopContent.{IsHopContent, MakesHopRoom, NoBlocks};
 
 mod access;
@@ -77,7 +78,7 @@ pub struct HopSlotMap<K, V> {
 }
 
 impl<K, V> Model for HopSlotMap<K, V> {
-    ghost use Rattle.slotmap_core.specs.Words.{◌-◌, vec_capacity};
+    ghost use Rattle.std.specs.Prelude.{◌-◌, vec_capacity};
     ghost use Rattle.slotmap_hop.specs.HopContent.{HopContent, hop_code};
     ghost use Rattle.slotmap_hop.specs.Slots.{hop_content, IsSound};
 

@@ -1,7 +1,8 @@
 //! Lists of slots: a map written out, and a map read back.
 
-ghost use Rattle.slotmap_core.specs.Words.{◌≡◌, ◌<◌, ◌^◌, IfOk, IsOk, IfErr, true, Some, List, length, start_live, is_vacant_version, ClonesEqual, IsCloneOf};
-ghost use Rattle.slotmap_core.specs.Words.{Key, ReadsAs, Accepts, RefusesStart, Writes, WritesClones, IsRecordClone};
+ghost use Rattle.std.specs.Prelude.{◌≡◌, ◌<◌, ◌^◌, IfOk, IsOk, IfErr, true, Some, List, length};
+ghost use Rattle.slotmap_core.specs.Words.{start_live, is_vacant_version, ClonesEqual, IsCloneOf, Key, ReadsAs, Accepts, RefusesStart, Writes, WritesClones};
+ghost use Rattle.slotmap_core.specs.Words.{IsRecordClone};
 ghost use Rattle.slotmap_hop.specs.Blocks.{Ascend};
 ghost use Rattle.slotmap_hop.specs.HopContent.{IsHopContent};
 ghost use Rattle.slotmap_hop.specs.Slots.{version_in, value_in, read_slot};

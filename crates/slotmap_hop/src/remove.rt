@@ -1,7 +1,8 @@
 //! Removals.
 
 ghost use Rattle.std.specs.FinMap as map;
-ghost use Rattle.slotmap_core.specs.Words.{◌≡◌, OnSome, IfNone, Some, IsLive, Removes};
+ghost use Rattle.std.specs.Prelude.{◌≡◌, OnSome, IfNone, Some};
+ghost use Rattle.slotmap_core.specs.Words.{IsLive, Removes};
 ghost use Rattle.slotmap_hop.specs.HopContent.{StaysHop, blocks_without};
 
 use crate::HopSlotMap;

@@ -1,7 +1,8 @@
 //! The calls that visit all live keys of a map, by ascending index, and skip vacant slots.
 
 ghost use Rattle.std.specs.FinMap as map;
-ghost use Rattle.slotmap_core.specs.Words.{◌≡◌, ◌+◌, ◌<◌, Some, IfSome, IfNone, IsLive, Leaves, RetainsBy, CallableOnEach};
+ghost use Rattle.std.specs.Prelude.{◌≡◌, ◌+◌, ◌<◌, Some, IfSome, IfNone};
+ghost use Rattle.slotmap_core.specs.Words.{IsLive, Leaves, RetainsBy, CallableOnEach};
 ghost use Rattle.slotmap_hop.specs.HopContent.{IsHopContent, IsNextLive, IsNextPlace, HasKeyAt, MayStand, StaysHop};
 ghost use Rattle.slotmap_hop.specs.Retain.{RetainsByIndex};
 ghost use Rattle.slotmap_hop.specs.Iter.{CanGoOn, FindsSlot, FindsNone, ReadsOnTheWay, ReadsToTheEnd};

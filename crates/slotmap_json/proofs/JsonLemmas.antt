@@ -1,8 +1,7 @@
 -- Lists that agree with one another for one more element, and what one element of an array is read as.
-use Rattle.slotmap_core.specs.Words.{AllZip}
-use Rattle.slotmap_core.proofs.Lemmas.{◌≡◌, ℕ, suc, ◌+◌, ◌<◌, drop-cons, add-one, List, [], ◌∷◌, ◌++◌, length, get_or, take, drop, map, Result, Ok, Err, IsOk}
-use Rattle.slotmap_core.proofs.Lemmas.{IfOk, Option, Some, inr, sym, ap, ◌∙◌, arith, take_more, map_more, map_push, map-append, take-append-drop}
-use Rattle.slotmap_core.proofs.Lemmas.{all_zipped_more}
+use Rattle.std.proofs.Common.{◌≡◌, ◌+◌, ◌<◌, ◌∷◌, ◌++◌, ℕ, suc, drop-cons, add-one, List, [], length, get_or, take, drop, map, Result, Ok, Err, IsOk, IfOk, inr}
+use Rattle.slotmap_core.proofs.Common.{AllZip, Option, Some, sym, ap, ◌∙◌, arith, take_more, map_more, map_push, map-append, take-append-drop, all_zipped_more}
+use Rattle.slotmap_core.proofs.Common.{SlotRecord}
 use Rattle.serde_json.specs.Data.{Data, array, Items}
 use Rattle.serde_json.specs.Find.{as_array}
 use Rattle.serde_json.specs.View.{view, items_of, items_view}
@@ -11,7 +10,6 @@ use Rattle.slotmap_json.specs.Json.{version_member, value_member, ok_map, slot_j
 use Rattle.slotmap_core.specs.declared.errors.JsonError.{JsonError}
 use Rattle.slotmap_core.specs.declared.errors.JsonError.TheVariants.{Shape, Memory}
 use Rattle.slotmap_core.specs.declared.errors.OutOfMemory.{OutOfMemory}
-use Rattle.slotmap_core.specs.declared.serial.SlotRecord.{SlotRecord}
 
 -- one more element of xs agrees with one more value
 pub goes_further : {A : Type 0} (R : A → Data → Type 0) (xs : List A) (before after : List Value) (i : ℕ) (x : A) (y : Value) → i < length xs

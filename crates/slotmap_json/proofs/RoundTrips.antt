@@ -1,13 +1,12 @@
 -- What was written as JSON is read back: for callers, who write keys and lists of slots, and read them again.
-use Rattle.slotmap_core.specs.Words.{result_ok, AllZip, AllByRecursion, Key, IsKey, key_from, Content, IsContent, ReadsAs, Writes, Restores}
-use Rattle.slotmap_core.proofs.Lemmas.{◌≡◌, ℕ, ◌<◌, ◌^◌, List, [], ◌∷◌, ◌++◌, Result, Ok, Err, Option, Some, None, option_map, Bool, ◌⊎◌, inl, inr, refl, sym}
-use Rattle.slotmap_core.proofs.Lemmas.{ap, ◌∙◌, subst, arith, nat_tests}
+use Rattle.std.proofs.Common.{◌≡◌, ◌<◌, ◌^◌, ◌∷◌, ◌++◌, ◌⊎◌, ℕ, List, [], Result, Ok, Err, Option, Some, None, option_map, Bool, inl, inr, refl, sym, ap, ◌∙◌}
+use Rattle.slotmap_core.proofs.Common.{result_ok, AllZip, AllByRecursion, Key, IsKey, key_from, Content, IsContent, ReadsAs, Writes, Restores, subst, arith}
+use Rattle.slotmap_core.proofs.Common.{nat_tests, SlotRecord}
 use Rattle.serde_json.specs.Data.{Data, null, array}
 use Rattle.serde_json.specs.Find.{as_array}
 use Rattle.serde_json.specs.View.{items_of}
 use Rattle.slotmap_core.specs.declared.errors.JsonError.{JsonError}
 use Rattle.slotmap_core.specs.declared.errors.JsonError.TheVariants.{Shape, Memory}
-use Rattle.slotmap_core.specs.declared.serial.SlotRecord.{SlotRecord}
 use Rattle.slotmap_json.specs.Json.{key_json, read_key, as_u32, ok_map, slot_json, IsSlotJson, IsSlotsJson, ReadsSlot, ReadsAll, IsReadAs, IsRefused, ReadsBack}
 
 fits_or_not : (n : ℕ) → (as_u32 n ≡ Some n) ⊎ (as_u32 n ≡ None)

@@ -1,6 +1,6 @@
 -- The JSON of keys and of lists of slots.
-use Rattle.slotmap_core.specs.Words.{◌≡◌, ℕ, ◌^◌, ◌⊎◌, List, ◌∷◌, ◌++◌, codes, Option, Some, None, Result, Ok, Err, MatchOption, option_map, option_and_then}
-use Rattle.slotmap_core.specs.Words.{nat_lt, if◌then◌else◌, Shared, FnReturnsAt, AllZip, Bor, Key, key_from}
+use Rattle.std.specs.Prelude.{◌≡◌, ◌^◌, ◌⊎◌, ◌∷◌, ◌++◌, if◌then◌else◌, ℕ, List, codes, Option, Some, None, Result, Ok, Err, MatchOption, option_map, nat_lt}
+use Rattle.slotmap_core.specs.Words.{option_and_then, Shared, FnReturnsAt, AllZip, Bor, Key, key_from, SlotRecord}
 use Rattle.serde_json.specs.Data.{Data, null, number, unsigned, array, object, member, no_members}
 use Rattle.serde_json.specs.Find.{get, as_number, as_u64, as_array}
 use Rattle.serde_json.specs.View.{view, items_of}
@@ -8,7 +8,6 @@ use Rattle.serde_json.specs.declared.value.Value.{Value}
 use Rattle.slotmap_core.specs.declared.errors.JsonError.{JsonError}
 use Rattle.slotmap_core.specs.declared.errors.JsonError.TheVariants.{Shape, Memory}
 use Rattle.slotmap_core.specs.declared.errors.OutOfMemory.{OutOfMemory}
-use Rattle.slotmap_core.specs.declared.serial.SlotRecord.{SlotRecord}
 
 -- the JSON of a key, {"idx":I,"version":N}
 abbrev pub key_json : Key → Data

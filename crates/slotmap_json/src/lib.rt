@@ -5,7 +5,8 @@
 //! Each example comes after the line `let alloc = rt.alloc();`.
 #![tactic(auto)]
 
-ghost use Rattle.slotmap_core.specs.Words.{◌≡◌, ◌≢◌, [], IfOk, IfErr, OnErr, option_map, result_ok, IsKey};
+ghost use Rattle.std.specs.Prelude.{◌≡◌, ◌≢◌, [], IfOk, IfErr, OnErr, option_map};
+ghost use Rattle.slotmap_core.specs.Words.{result_ok, IsKey};
 ghost use Rattle.serde_json.specs.View.{view};
 ghost use Rattle.slotmap_json.specs.Json.{key_json, read_key, u32_at, GivesJson, IsSlotJson, IsSlotsJson, slot_json, value_member, ReadsJson, ReadsSlot, IsReadAs, IsRefused};
 ghost use Rattle.slotmap_core.specs.declared.errors.JsonError.TheVariants.{Shape};

@@ -1,6 +1,5 @@
 -- A step with some closures is a step with closures that may do anything.
-use Rattle.slotmap_core.specs.Words.{State, Given, any_closures, Step, DetachStep}
-use Rattle.slotmap_core.proofs.Lemmas.{arith}
+use Rattle.slotmap_core.proofs.Common.{State, Given, any_closures, Step, DetachStep, arith}
 use Rattle.slotmap_core.specs.declared.commands.Command.{Command}
 use Rattle.slotmap_core.specs.declared.commands.DetachCommand.{DetachCommand}
 use Rattle.slotmap_core.specs.declared.commands.Reply.{Reply}

@@ -1,8 +1,9 @@
 -- No later insert returns a detached key, and it can be reattached.
 use Rattle.std.specs.FinMap as map
 use Rattle.std.specs.FinSet as set
-use Rattle.slotmap_core.specs.Words.{State, IsIssued, Given, DetachStep, keys_told, DetachedNotReissued, DetachedReattaches, ReattachBinds, Spares}
-use Rattle.slotmap_core.proofs.Lemmas.{Ok, ◌≡◌, List, Some, true, false, ◌⊎◌, inl, ap, is_some, arith, keys_total, exact_keys, itself}
+use Rattle.std.proofs.Common.{◌≡◌, ◌⊎◌, Ok, List, Some, true, false, inl, ap, is_some, arith}
+use Rattle.slotmap_core.proofs.Common.{State, IsIssued, Given, DetachStep, keys_told, DetachedNotReissued, DetachedReattaches, ReattachBinds, Spares}
+use Rattle.slotmap_core.proofs.Common.{keys_total, exact_keys, itself}
 use Rattle.slotmap_core.specs.declared.commands.Command.TheVariants as command
 use Rattle.slotmap_core.specs.declared.commands.DetachCommand.{DetachCommand}
 use Rattle.slotmap_core.specs.declared.commands.DetachCommand.TheVariants as detaching

@@ -1,10 +1,10 @@
 -- After an insert into a content that a state fits, the machine's next state fits the new content.
 use Rattle.std.specs.FinMap as map
 use Rattle.std.specs.FinSet as set
-use Rattle.slotmap_core.specs.Words.{nat_cmp, Key, key_cmp, Content, IsContent, Stands, used, most, IsNew, Inserts, State, IsIssued, StandsIn, Fresh}
-use Rattle.slotmap_core.specs.Words.{after_insert, retired, Fits, Lasts}
-use Rattle.slotmap_core.proofs.Lemmas.{◌≡◌, ◌≢◌, ℕ, ◌+◌, ◌^◌, ◌<◌, Bool, inl, sym, ap, ◌∙◌, arith, keys_total, exact_keys, itself, in_inserted, offer_free}
-use Rattle.slotmap_core.proofs.Lemmas.{free, places_grow, new_stands, inserted_stands, inserted_vacant, in_retired}
+use Rattle.std.proofs.Common.{◌≡◌, ◌≢◌, ◌+◌, ◌^◌, ◌<◌, nat_cmp, ℕ, Bool, inl, sym, ap, ◌∙◌, arith}
+use Rattle.slotmap_core.proofs.Common.{Key, key_cmp, Content, IsContent, Stands, used, most, IsNew, Inserts, State, IsIssued, StandsIn, Fresh, after_insert}
+use Rattle.slotmap_core.proofs.Common.{retired, Fits, Lasts, keys_total, exact_keys, itself, in_inserted, offer_free, free, places_grow, new_stands}
+use Rattle.slotmap_core.proofs.Common.{inserted_stands, inserted_vacant, in_retired}
 use Rattle.slotmap_core.specs.Machine as machine
 use Rattle.slotmap_run.proofs.MapChanges.{changes}
 use Rattle.slotmap_run.proofs.OtherSteps.{Moves}

@@ -1,9 +1,9 @@
 -- Calls of two joined maps, one after another, are a run of the joined machine.
 use Rattle.std.specs.FinMap as map
 use Rattle.std.specs.FinSet as set
-use Rattle.slotmap_core.specs.Words.{nat_cmp, Result, IfOk, OnErr, Key, key_cmp, Content, places, IsNew, State, empty_state, Fits, Lasts, Pairs, Joined}
-use Rattle.slotmap_core.specs.Words.{RunsBeside, Dictionary, WithDictionary, RunsByDictionary, unused, Run}
-use Rattle.slotmap_core.proofs.Lemmas.{◌≡◌, ℕ, ◌+◌, ◌^◌, List, [], ◌∷◌, length, refl, ap, ◌∙◌, subst, arith, IfOk-weaker, on_err_weaker, new_stands}
+use Rattle.std.proofs.Common.{◌≡◌, ◌+◌, ◌^◌, ◌∷◌, nat_cmp, Result, IfOk, OnErr, ℕ, List, [], length, refl, ap, ◌∙◌, subst, arith}
+use Rattle.slotmap_core.proofs.Common.{Key, key_cmp, Content, places, IsNew, State, empty_state, Fits, Lasts, Pairs, Joined, RunsBeside, Dictionary}
+use Rattle.slotmap_core.proofs.Common.{WithDictionary, RunsByDictionary, unused, Run, IfOk-weaker, on_err_weaker, new_stands}
 use Rattle.slotmap_run.proofs.Fits.{new_fits, new_lasts}
 use Rattle.slotmap_run.proofs.Runs.{run_keeps}
 use Rattle.slotmap_run.specs.Ties.{joined, told_by, Known, JoinFollows, JoinServed}

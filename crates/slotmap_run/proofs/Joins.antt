@@ -1,10 +1,10 @@
 -- What a call of one of two joined maps does is a step of the joined machine.
 use Rattle.std.specs.FinMap as map
-use Rattle.slotmap_core.specs.Words.{slice_get, Result, Ok, Err, OnSome, IfNone, OnOk, IfErr, IsErr, Key, Content, IsContent, Inserts, Keeps, Removes, Detaches}
-use Rattle.slotmap_core.specs.Words.{Reattaches, Given as First, State, IsIssued, StandsIn, Fits, Lasts, Follows as FollowsFirst, reply_keys, Pairs, get, put}
-use Rattle.slotmap_core.specs.Words.{remove, RefusesPut, LooksAt, Joined, named, Dictionary, WithDictionary, noted, RepliesByDictionary, DictionaryStep}
-use Rattle.slotmap_core.specs.Words.{DetachDictionaryStep, MayGrow, Refuses, RefusesReattach}
-use Rattle.slotmap_core.proofs.Lemmas.{◌≡◌, ℕ, zero, suc, ◌+◌, ◌^◌, List, [], ◌∷◌, ◌++◌, Option, Some, None, inl, inr, refl, sym, ap, ◌∙◌, same_Some}
+use Rattle.std.proofs.Common.{◌≡◌, ◌+◌, ◌^◌, ◌∷◌, ◌++◌, slice_get, Result, Ok, Err, OnSome, IfNone, OnOk, IfErr, IsErr, ℕ, zero, suc, List, [], Option, Some}
+use Rattle.slotmap_core.proofs.Common.{Key, Content, IsContent, Inserts, Keeps, Removes, Detaches, Reattaches, Given as First, State, IsIssued, StandsIn, Fits}
+use Rattle.slotmap_core.proofs.Common.{Lasts, Follows as FollowsFirst, reply_keys, Pairs, get, put, remove, RefusesPut, LooksAt, Joined, named, Dictionary}
+use Rattle.slotmap_core.proofs.Common.{WithDictionary, noted, RepliesByDictionary, DictionaryStep, DetachDictionaryStep, MayGrow, Refuses, RefusesReattach}
+use Rattle.slotmap_core.proofs.Common.{None, inl, inr, refl, sym, ap, ◌∙◌, same_Some}
 use Rattle.slotmap_core.specs.Step as first_step
 use Rattle.slotmap_core.specs.Joined.{Given, Step, DetachStep}
 use Rattle.slotmap_core.specs.declared.errors.ReattachError.{ReattachError}

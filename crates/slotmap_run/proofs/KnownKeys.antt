@@ -1,10 +1,9 @@
 -- What is known of two joined maps stays known when a call changes one of them.
 use Rattle.std.specs.FinMap as map
-use Rattle.slotmap_core.specs.Words.{slice_get, Key, Content, IsContent, Stands, State, Fresh, IsIssued, after_insert, Fits, Lasts, Pairs, is_null, get, put}
-use Rattle.slotmap_core.specs.Words.{remove, Dictionary}
-use Rattle.slotmap_core.proofs.Lemmas.{◌≡◌, ◌≢◌, ℕ, zero, suc, ◌^◌, ◌<◌, ◌≤◌, List, [], ◌∷◌, ◌++◌, Some, Bool, false, ◌⊎◌, inl, inr, refl, sym, ◌∙◌, arith}
-use Rattle.slotmap_core.proofs.Lemmas.{rules, common_steps, keys_total, exact_keys, same_or_other, itself, get_inserted, get_other, get_removed, get_left}
-use Rattle.slotmap_core.proofs.Lemmas.{in_inserted, stands_after_put, newest_put, newer_stays, stands_after_remove, removed_gone, others_stay}
+use Rattle.std.proofs.Common.{◌≡◌, ◌≢◌, ◌^◌, ◌<◌, ◌≤◌, ◌∷◌, ◌++◌, ◌⊎◌, slice_get, ℕ, zero, suc, List, [], Some, Bool, false, inl, inr, refl, sym, ◌∙◌, arith}
+use Rattle.slotmap_core.proofs.Common.{Key, Content, IsContent, Stands, State, Fresh, IsIssued, after_insert, Fits, Lasts, Pairs, is_null, get, put, remove}
+use Rattle.slotmap_core.proofs.Common.{Dictionary, rules, common_steps, keys_total, exact_keys, same_or_other, itself, get_inserted, get_other, get_removed}
+use Rattle.slotmap_core.proofs.Common.{get_left, in_inserted, stands_after_put, newest_put, newer_stays, stands_after_remove, removed_gone, others_stay}
 use Rattle.slotmap_core.specs.declared.commands.Reply.{Reply}
 use Rattle.slotmap_run.proofs.MapChanges.{changes}
 use Rattle.slotmap_run.proofs.Fits.{stands_of, held_of}

@@ -1,10 +1,9 @@
 -- What follows from a run of a machine alone.
 use Rattle.std.specs.FinMap as map
 use Rattle.std.specs.FinSet as set
-use Rattle.slotmap_core.specs.Words.{IsDistinct, AllByRecursion, eq_by_cmp, Key, key_cmp, most, State, IsIssued, StandsIn, Fresh, after_insert, empty_state}
-use Rattle.slotmap_core.specs.Words.{retired, Run, Unretiring, Given, reply_keys, keys_told, NoKeyTwice}
-use Rattle.slotmap_core.proofs.Lemmas.{◌≡◌, ◌≢◌, ◌+◌, ◌≤◌, List, [], ◌∷◌, length, true, false, ◌⊎◌, inl, inr, refl, ap, arith, keys_total, exact_keys, itself}
-use Rattle.slotmap_core.proofs.Lemmas.{in_retired}
+use Rattle.std.proofs.Common.{◌≡◌, ◌≢◌, ◌+◌, ◌≤◌, ◌∷◌, ◌⊎◌, List, [], length, true, false, inl, inr, refl, ap, arith}
+use Rattle.slotmap_core.proofs.Common.{IsDistinct, AllByRecursion, eq_by_cmp, Key, key_cmp, most, State, IsIssued, StandsIn, Fresh, after_insert, empty_state}
+use Rattle.slotmap_core.proofs.Common.{retired, Run, Unretiring, Given, reply_keys, keys_told, NoKeyTwice, keys_total, exact_keys, itself, in_retired}
 use Rattle.slotmap_core.specs.Machine.{used}
 use Rattle.slotmap_core.specs.Step as plain
 use Rattle.slotmap_core.specs.declared.commands.Command.{Command}

@@ -1,8 +1,8 @@
 -- What a map or a set of keys has at a key after a change, for the tactic.
 use Rattle.std.specs.FinMap as map
 use Rattle.std.specs.FinSet as set
-use Rattle.slotmap_core.specs.Words.{eq_by_cmp, Key, key_cmp}
-use Rattle.slotmap_core.proofs.Lemmas.{◌≡◌, Some, None, true, cond, not, ◌&&◌, ◌||◌, keys_total, exact_keys, tied}
+use Rattle.std.proofs.Common.{◌≡◌, ◌&&◌, ◌||◌, Some, None, true, cond, not}
+use Rattle.slotmap_core.proofs.Common.{eq_by_cmp, Key, key_cmp, keys_total, exact_keys, tied}
 
 pub same_key : (q k : Key) → eq_by_cmp key_cmp q k ≡ true → q ≡ k
 same_key = tied keys_total exact_keys

@@ -1,8 +1,8 @@
 -- Calls that are each a step of the machine are a run of it, from a state of which its laws hold.
 use Rattle.std.specs.FinSet as set
-use Rattle.slotmap_core.specs.Words.{Result, IfOk, Content, IsContent, IsNew, State, empty_state, retired, Run, Unretiring, Follows, Starts, RunFollows}
-use Rattle.slotmap_core.specs.Words.{RunsAnew, Continues}
-use Rattle.slotmap_core.proofs.Lemmas.{◌≡◌, ◌+◌, ◌<◌, ◌^◌, Bool, List, ◌++◌, length, ◌∙◌, arith, IfOk-weaker}
+use Rattle.std.proofs.Common.{◌≡◌, ◌+◌, ◌<◌, ◌^◌, ◌++◌, Result, IfOk, Bool, List, length, ◌∙◌, arith}
+use Rattle.slotmap_core.proofs.Common.{Content, IsContent, IsNew, State, empty_state, retired, Run, Unretiring, Follows, Starts, RunFollows, RunsAnew}
+use Rattle.slotmap_core.proofs.Common.{Continues, IfOk-weaker}
 use Rattle.slotmap_run.proofs.StateOf.{first_state, first_fits, first_good}
 use Rattle.slotmap_run.proofs.Fits.{new_fits, new_lasts}
 use Rattle.slotmap_run.proofs.Runs.{run_seen, runs_follow, goes_on, goes_on_anew}

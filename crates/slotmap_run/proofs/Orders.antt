@@ -1,11 +1,11 @@
 -- The calls of a map with a stack are the steps of the machine that reuses the slot freed last.
 use Rattle.std.specs.FinMap as map
 use Rattle.std.specs.FinSet as set
-use Rattle.slotmap_core.specs.Words.{AllByRecursion, nat_cmp, nat_cmp_total, Key, key_cmp, Content, IsContent, IsLive, used, places, most, IsNew, Inserts}
-use Rattle.slotmap_core.specs.Words.{Keeps, Removes, Detaches, Reattaches, Lifo, offer_of, top_key, places_after, keys_told, IsRefusal, Run}
-use Rattle.slotmap_core.proofs.Lemmas.{◌≡◌, ℕ, ◌+◌, ◌<◌, max, List, [], ◌∷◌, ◌++◌, Some, Bool, true, if◌then◌else◌, refl, ap, ◌∙◌, arith, is_some}
-use Rattle.slotmap_core.proofs.Lemmas.{exact_unsigned, nil_from_length, keys_total, some_is, some_entry, places_grow, kept_places, removed_places}
-use Rattle.slotmap_core.proofs.Lemmas.{detached_places, reattached_places}
+use Rattle.std.proofs.Common.{◌≡◌, ◌+◌, ◌<◌, ◌∷◌, ◌++◌, if◌then◌else◌, nat_cmp, ℕ, max, List, [], Some, Bool, true, refl, ap, ◌∙◌, arith, is_some}
+use Rattle.slotmap_core.proofs.Common.{AllByRecursion, nat_cmp_total, Key, key_cmp, Content, IsContent, IsLive, used, places, most, IsNew, Inserts, Keeps}
+use Rattle.slotmap_core.proofs.Common.{Removes, Detaches, Reattaches, Lifo, offer_of, top_key, places_after, keys_told, IsRefusal, Run, exact_unsigned}
+use Rattle.slotmap_core.proofs.Common.{nil_from_length, keys_total, some_is, some_entry, places_grow, kept_places, removed_places, detached_places}
+use Rattle.slotmap_core.proofs.Common.{reattached_places}
 use Rattle.slotmap_core.specs.Lifo as lifo
 use Rattle.slotmap_core.specs.Lifo.{after_insert}
 use Rattle.slotmap_core.specs.declared.commands.DetachCommand.{DetachCommand}

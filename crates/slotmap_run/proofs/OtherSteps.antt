@@ -1,10 +1,11 @@
 -- After any other call than an insert on a content that a state fits, the machine's next state fits the new content.
 use Rattle.std.specs.FinSet as set
-use Rattle.slotmap_core.specs.Words.{Key, Content, IsContent, Stands, IsLive, places, Keeps, Removes, Replaces, Leaves, Detaches, Reattaches, State}
-use Rattle.slotmap_core.specs.Words.{after_remove, after_replace, after_reserve, after_detach, after_reattach, retired, Fits, Lasts}
-use Rattle.slotmap_core.proofs.Lemmas.{◌≡◌, ℕ, ◌+◌, ◌≤◌, Bool, inl, arith, common_steps, keys_total, exact_keys, Vacates, same_vacant, kept_stands}
-use Rattle.slotmap_core.proofs.Lemmas.{replaced_stands, detached_stands, reattached_stands, removed_stands, removed_vacant, left_stands, left_vacant}
-use Rattle.slotmap_core.proofs.Lemmas.{in_retired, kept_places, replaced_places, detached_places, reattached_places, removed_places}
+use Rattle.std.proofs.Common.{◌≡◌, ◌+◌, ◌≤◌, ℕ, Bool, inl, arith}
+use Rattle.slotmap_core.proofs.Common.{Key, Content, IsContent, Stands, IsLive, places, Keeps, Removes, Replaces, Leaves, Detaches, Reattaches, State}
+use Rattle.slotmap_core.proofs.Common.{after_remove, after_replace, after_reserve, after_detach, after_reattach, retired, Fits, Lasts, common_steps, keys_total}
+use Rattle.slotmap_core.proofs.Common.{exact_keys, Vacates, same_vacant, kept_stands, replaced_stands, detached_stands, reattached_stands, removed_stands}
+use Rattle.slotmap_core.proofs.Common.{removed_vacant, left_stands, left_vacant, in_retired, kept_places, replaced_places, detached_places, reattached_places}
+use Rattle.slotmap_core.proofs.Common.{removed_places}
 use Rattle.slotmap_run.proofs.MapChanges.{changes}
 
 -- the state after one that fits old fits new; and if no slot is retired in n + 1 calls from old, none is in n calls from new

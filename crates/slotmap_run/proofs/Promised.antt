@@ -1,6 +1,6 @@
 -- What a reserve promised is kept.
-use Rattle.slotmap_core.specs.Words.{State, most, Given, Step, DetachStep, NeedsRoom, DetachNeedsRoom, IsRefusal, ReserveHolds}
-use Rattle.slotmap_core.proofs.Lemmas.{◌≡◌, ◌+◌, ◌≤◌, max, List, ap, arith}
+use Rattle.std.proofs.Common.{◌≡◌, ◌+◌, ◌≤◌, max, List, ap, arith}
+use Rattle.slotmap_core.proofs.Common.{State, most, Given, Step, DetachStep, NeedsRoom, DetachNeedsRoom, IsRefusal, ReserveHolds}
 use Rattle.slotmap_core.specs.Machine.{used}
 use Rattle.slotmap_core.specs.declared.commands.Command.{Command}
 use Rattle.slotmap_core.specs.declared.commands.Command.TheVariants as command

@@ -1,7 +1,7 @@
 -- A key that was removed is gone.
 use Rattle.std.specs.FinMap as map
-use Rattle.slotmap_core.specs.Words.{Key, State, after_remove, Given, RemovedForGood}
-use Rattle.slotmap_core.proofs.Lemmas.{◌≡◌, List, Some, None, true, inl, refl, ap, is_some, arith, keys_total, exact_keys, itself}
+use Rattle.std.proofs.Common.{◌≡◌, List, Some, None, true, inl, refl, ap, is_some, arith}
+use Rattle.slotmap_core.proofs.Common.{Key, State, after_remove, Given, RemovedForGood, keys_total, exact_keys, itself}
 use Rattle.slotmap_core.specs.declared.commands.Command.{Command}
 use Rattle.slotmap_core.specs.declared.commands.Command.TheVariants as command
 use Rattle.slotmap_core.specs.declared.commands.Reply.{Reply}

@@ -1,7 +1,7 @@
 -- The laws of the two machines, and calls on maps as a run on the contents of the maps.
-use Rattle.slotmap_core.specs.Words.{Result, IfOk, Content, IsContent, IsNew, State, Given, any_closures, Step, DetachStep, Run, Follows, Laws, DetachLaws}
-use Rattle.slotmap_core.specs.Words.{LastFreedFirst, NeedsRoom, DetachNeedsRoom, no_places}
-use Rattle.slotmap_core.proofs.Lemmas.{◌≡◌, List, Bool, true, is_some, IfOk-weaker}
+use Rattle.std.proofs.Common.{◌≡◌, Result, IfOk, List, Bool, true, is_some}
+use Rattle.slotmap_core.proofs.Common.{Content, IsContent, IsNew, State, Given, any_closures, Step, DetachStep, Run, Follows, Laws, DetachLaws, LastFreedFirst}
+use Rattle.slotmap_core.proofs.Common.{NeedsRoom, DetachNeedsRoom, no_places, IfOk-weaker}
 use Rattle.slotmap_core.specs.declared.commands.Command.{Command}
 use Rattle.slotmap_core.specs.declared.commands.DetachCommand.{DetachCommand}
 use Rattle.slotmap_core.specs.declared.commands.Reply.{Reply}

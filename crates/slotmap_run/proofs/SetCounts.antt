@@ -1,9 +1,8 @@
 -- How many keys a finite map and two sets have together.
 use Rattle.std.specs.FinMap as map
 use Rattle.std.specs.FinSet as set
-use Rattle.slotmap_core.specs.Words.{list_any, eq_by_cmp, Key, key_cmp}
-use Rattle.slotmap_core.proofs.Lemmas.{◌≡◌, ℕ, zero, suc, ◌+◌, ◌≤◌, List, [], ◌∷◌, true, ◌||◌, refl, sym, ap, ◌∙◌, arith, exact_keys, keys_total, itself}
-use Rattle.slotmap_core.proofs.Lemmas.{or_left, len_removed, len_item_removed}
+use Rattle.std.proofs.Common.{◌≡◌, ◌+◌, ◌≤◌, ◌∷◌, ◌||◌, ℕ, zero, suc, List, [], true, refl, sym, ap, ◌∙◌, arith}
+use Rattle.slotmap_core.proofs.Common.{list_any, eq_by_cmp, Key, key_cmp, exact_keys, keys_total, itself, or_left, len_removed, len_item_removed}
 use Rattle.slotmap_run.proofs.MapChanges.{changes}
 
 -- a set of some length has an item

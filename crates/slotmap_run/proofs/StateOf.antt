@@ -1,8 +1,8 @@
 -- Each content has a state that fits it.
 use Rattle.std.specs.FinMap as map
 use Rattle.std.specs.FinSet as set
-use Rattle.slotmap_core.specs.Words.{Key, Content, IsContent, places, State, retired, Fits}
-use Rattle.slotmap_core.proofs.Lemmas.{◌≡◌, Bool, ◌||◌, arith, keys_total, exact_keys, in_retired}
+use Rattle.std.proofs.Common.{◌≡◌, ◌||◌, Bool, arith}
+use Rattle.slotmap_core.proofs.Common.{Key, Content, IsContent, places, State, retired, Fits, keys_total, exact_keys, in_retired}
 use Rattle.slotmap_run.proofs.SetCounts.{all_keys, contains-all_keys}
 use Rattle.slotmap_run.proofs.Fits.{used_same}
 use Rattle.slotmap_run.proofs.Laws.{IsGood}

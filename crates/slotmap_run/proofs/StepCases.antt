@@ -1,8 +1,8 @@
 -- A step binds a fresh key, or binds none.
 use Rattle.std.specs.FinMap as map
 use Rattle.std.specs.FinSet as set
-use Rattle.slotmap_core.specs.Words.{Key, key_cmp, State, Given, Step, DetachStep, reply_keys, Spares}
-use Rattle.slotmap_core.proofs.Lemmas.{◌≡◌, arith, [], true, ◌⊎◌, inl, inr, refl}
+use Rattle.std.proofs.Common.{◌≡◌, ◌⊎◌, arith, [], true, inl, inr, refl}
+use Rattle.slotmap_core.proofs.Common.{Key, key_cmp, State, Given, Step, DetachStep, reply_keys, Spares}
 use Rattle.slotmap_core.specs.declared.commands.Command.TheVariants as command
 use Rattle.slotmap_core.specs.declared.commands.DetachCommand.{DetachCommand}
 use Rattle.slotmap_core.specs.declared.commands.DetachCommand.TheVariants as detaching

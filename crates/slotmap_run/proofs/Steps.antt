@@ -1,13 +1,14 @@
 -- What the calls of a map ensure is a step of the machine.
 use Rattle.std.specs.FinMap as map
 use Rattle.std.specs.FinSet as set
-use Rattle.slotmap_core.specs.Words.{map as list_map, MatchOption, IsSomeAnd, OnSome, IfNone, option_copied, Mut, Bor, MutBor, Key, key_cmp, Content, IsContent}
-use Rattle.slotmap_core.specs.Words.{IsLive, used, most, IsListing, IsKeyListing, Inserts, Keeps, Removes, Replaces, Leaves, Detaches, Reattaches, with_value}
-use Rattle.slotmap_core.specs.Words.{MayGrow, MakesRoom, LacksRoom, Refuses, RefusesWith, RefusesCapacity, RefusesReattach, Visit, CallsAt, RetainsBy, Given}
-use Rattle.slotmap_core.specs.Words.{State, Fresh, after_insert, MayLackMemory, MayLackRoom, Step, DetachStep, Fits, Follows, Lifo, IsBasic, answer}
-use Rattle.slotmap_core.specs.Words.{after_command, IsRefusal, reply_keys}
-use Rattle.slotmap_core.proofs.Lemmas.{◌≡◌, ◌≢◌, ℕ, ◌+◌, ◌≤◌, List, [], ◌∷◌, ◌++◌, Vec, Global, Result, Ok, Err, IfOk, OnOk, IfErr, OnErr, IsErr, IsOk, Option}
-use Rattle.slotmap_core.proofs.Lemmas.{Some, None, Bool, false, refl, sym, ap, ◌∙◌, subst, arith, is_some, none_of, false_of, retained_none, retained_at}
+use Rattle.std.proofs.Common.{◌≡◌, ◌≢◌, ◌+◌, ◌≤◌, ◌∷◌, ◌++◌, map as list_map, MatchOption, IsSomeAnd, OnSome, IfNone, option_copied, ℕ, List, [], Vec, Global}
+use Rattle.slotmap_core.specs.Words.{Bor, MutBor}
+use Rattle.slotmap_core.proofs.Common.{Mut, Key, key_cmp, Content, IsContent, IsLive, used, most, IsListing, IsKeyListing, Inserts, Keeps, Removes, Replaces}
+use Rattle.slotmap_core.proofs.Common.{Leaves, Detaches, Reattaches, with_value, MayGrow, MakesRoom, LacksRoom, Refuses, RefusesWith, RefusesCapacity}
+use Rattle.slotmap_core.proofs.Common.{RefusesReattach, Visit, CallsAt, RetainsBy, Given, State, Fresh, after_insert, MayLackMemory, MayLackRoom, Step}
+use Rattle.slotmap_core.proofs.Common.{DetachStep, Fits, Follows, Lifo, IsBasic, answer, after_command, IsRefusal, reply_keys, Result, Ok, Err, IfOk, OnOk}
+use Rattle.slotmap_core.proofs.Common.{IfErr, OnErr, IsErr, IsOk, Option, Some, None, Bool, false, refl, sym, ap, ◌∙◌, subst, arith, is_some, none_of, false_of}
+use Rattle.slotmap_core.proofs.Common.{retained_none, retained_at}
 use Rattle.slotmap_core.specs.Machine as machine
 use Rattle.slotmap_core.specs.declared.commands.Command.{Command}
 use Rattle.slotmap_core.specs.declared.commands.Command.TheVariants as command

@@ -1,8 +1,8 @@
 -- How the number of live, detached and retired keys changes.
 use Rattle.std.specs.FinMap as map
 use Rattle.std.specs.FinSet as set
-use Rattle.slotmap_core.specs.Words.{Key, key_cmp, is_last, State, StandsIn, Fresh, after_insert, retired}
-use Rattle.slotmap_core.proofs.Lemmas.{◌≡◌, ◌+◌, ◌≤◌, true, ◌&&◌, ◌||◌, ◌⊎◌, arith, keys_total, in_retired}
+use Rattle.std.proofs.Common.{◌≡◌, ◌+◌, ◌≤◌, ◌&&◌, ◌||◌, ◌⊎◌, true, arith}
+use Rattle.slotmap_core.proofs.Common.{Key, key_cmp, is_last, State, StandsIn, Fresh, after_insert, retired, keys_total, in_retired}
 use Rattle.slotmap_core.specs.Machine.{used}
 use Rattle.slotmap_run.proofs.MapChanges.{changes}
 use Rattle.slotmap_run.proofs.SetCounts.{all_keys, contains-all_keys, len-all_keys, len-subset}

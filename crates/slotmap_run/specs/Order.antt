@@ -1,8 +1,8 @@
 -- What the private `serve` ensures of one command, and `run_all_new` of the map that it makes.
 use Rattle.std.specs.FinMap as map
 use Rattle.std.specs.FinSet as set
-use Rattle.slotmap_core.specs.Words.{◌≡◌, Bool, true, Some, IsSome, Key, Content, IsContent, places, IsNew, State, Given, Follows, Lifo, IsBasic, after_command}
-use Rattle.slotmap_core.specs.Words.{answer, reply_keys, IsRefusal}
+use Rattle.std.specs.Prelude.{◌≡◌, Bool, true, Some, IsSome}
+use Rattle.slotmap_core.specs.Words.{Key, Content, IsContent, places, IsNew, State, Given, Follows, Lifo, IsBasic, after_command, answer, reply_keys, IsRefusal}
 use Rattle.slotmap_core.specs.declared.commands.DetachCommand.{DetachCommand}
 use Rattle.slotmap_core.specs.declared.commands.Reply.{Reply}
 

@@ -1,7 +1,7 @@
 -- How the two maps of a joined run belong together.
 use Rattle.std.specs.FinMap as map
-use Rattle.slotmap_core.specs.Words.{◌≡◌, ℕ, ◌+◌, ◌^◌, ◌<◌, Some, List, slice_get, Key, Content, Stands, State, IsIssued, Fits, Lasts, Pairs, get, Joined}
-use Rattle.slotmap_core.specs.Words.{Dictionary, WithDictionary}
+use Rattle.std.specs.Prelude.{◌≡◌, ◌+◌, ◌^◌, ◌<◌, ℕ, Some, List, slice_get}
+use Rattle.slotmap_core.specs.Words.{Key, Content, Stands, State, IsIssued, Fits, Lasts, Pairs, get, Joined, Dictionary, WithDictionary}
 use Rattle.slotmap_run.specs.declared.joined.Beside.{Beside}
 
 module _ {K V W : Type 0} where

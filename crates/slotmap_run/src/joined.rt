@@ -1,7 +1,7 @@
 //! Runs of commands on a primary map and a secondary map beside it.
 
-ghost use Rattle.slotmap_core.specs.Words.{◌≡◌, ◌+◌, ◌<◌, ◌≤◌, vec_len, vec_capacity, IfOk, IfErr, OnErr, IsContent, Starts, given_joined, named, RunsBeside};
-ghost use Rattle.slotmap_core.specs.Words.{DictionaryStep, DetachDictionaryStep, RunsByDictionary};
+ghost use Rattle.std.specs.Prelude.{◌≡◌, ◌+◌, ◌<◌, ◌≤◌, vec_len, vec_capacity, IfOk, IfErr, OnErr};
+ghost use Rattle.slotmap_core.specs.Words.{IsContent, Starts, given_joined, named, RunsBeside, DictionaryStep, DetachDictionaryStep, RunsByDictionary};
 ghost use Rattle.slotmap_core.specs.Joined.{Step, DetachStep};
 ghost use Rattle.slotmap_run.specs.Replies.{joined_reattach_reply_of};
 ghost use Rattle.slotmap_run.specs.Ties.{JoinServed};

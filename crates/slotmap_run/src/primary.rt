@@ -1,8 +1,8 @@
 //! Runs of commands on primary maps, which hand out keys.
 
-ghost use Rattle.slotmap_core.specs.Words.{◌≡◌, ◌^◌, ◌<◌, length, Ok, IfOk, IfErr, OnErr, IsErr, FnReturns, IsContent, Inserts, MayGrow, RefusesWith, given};
-ghost use Rattle.slotmap_core.specs.Words.{any_closures, Step, DetachStep, Unretiring, Starts, RunFollows, RunsAnew, Continues, Laws, DetachLaws};
-ghost use Rattle.slotmap_core.specs.Words.{LastFreedFirst};
+ghost use Rattle.std.specs.Prelude.{◌≡◌, ◌^◌, ◌<◌, length, Ok, IfOk, IfErr, OnErr, IsErr};
+ghost use Rattle.slotmap_core.specs.Words.{FnReturns, IsContent, Inserts, MayGrow, RefusesWith, given, any_closures, Step, DetachStep, Unretiring, Starts};
+ghost use Rattle.slotmap_core.specs.Words.{RunFollows, RunsAnew, Continues, Laws, DetachLaws, LastFreedFirst};
 ghost use Rattle.slotmap_core.specs.declared.commands.DetachCommand.TheVariants as detaching;
 ghost use Rattle.slotmap_run.specs.Order.{Served};
 

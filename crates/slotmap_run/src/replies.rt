@@ -1,6 +1,6 @@
 //! The replies to the calls of a map in a run.
 
-ghost use Rattle.slotmap_core.specs.Words.{◌≡◌, OnOk, OnErr, None};
+ghost use Rattle.std.specs.Prelude.{◌≡◌, OnOk, OnErr, None};
 ghost use Rattle.slotmap_core.specs.declared.commands.Reply.TheVariants as reply;
 ghost use Rattle.slotmap_run.specs.Replies.{insert_reply_of, insert_with_reply_of, reserve_reply_of, reattach_reply_of};
 

@@ -1,6 +1,7 @@
 //! Runs of commands on secondary maps: the maps that hold values under the keys of another map.
 
-ghost use Rattle.slotmap_core.specs.Words.{◌≡◌, IfOk, IfErr, OnErr, AllByRecursion, Run, given_secondary, HadMemory, Shows, seen_by, EachAgrees};
+ghost use Rattle.std.specs.Prelude.{◌≡◌, IfOk, IfErr, OnErr};
+ghost use Rattle.slotmap_core.specs.Words.{AllByRecursion, Run, given_secondary, HadMemory, Shows, seen_by, EachAgrees};
 ghost use Rattle.slotmap_core.specs.SecondaryStep.{Step};
 
 use crate::given::GivenLook;

@@ -1,6 +1,7 @@
 //! The one loop of all runs.
 
-ghost use Rattle.slotmap_core.specs.Words.{◌≡◌, ℕ, ◌+◌, ◌≤◌, [], vec_capacity, length, IfOk, IfErr, OnErr, IsContent, Run, Starts};
+ghost use Rattle.std.specs.Prelude.{◌≡◌, ◌+◌, ◌≤◌, ℕ, [], vec_capacity, length, IfOk, IfErr, OnErr};
+ghost use Rattle.slotmap_core.specs.Words.{IsContent, Run, Starts};
 ghost use Rattle.slotmap_run.specs.Order.{StartsNew};
 
 use slotmap_core::keys::Key;

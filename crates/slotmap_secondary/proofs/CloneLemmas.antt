@@ -1,11 +1,8 @@
 -- What the clones of slots hold.
 use Rattle.std.specs.FinMap as map
-use Rattle.slotmap_core.specs.Words.{AllZip, ClonesEqual, AreClones, HasClones}
-use Rattle.slotmap_core.proofs.Lemmas.{◌≡◌, ℕ, zero, suc, ◌+◌, List, [], ◌∷◌, length, slice_get, refl, sym, ap, ◌∙◌, arith, same_from_all_zip, zip_length}
-use Rattle.slotmap_core.proofs.Lemmas.{zip_left, IsPairClone, HasClones-by_index}
-use Rattle.slotmap_secondary.specs.declared.slot.Slot.{Slot}
-use Rattle.slotmap_secondary.specs.declared.slot.Slot.TheVariants.{Vacant, Occupied}
-use Rattle.slotmap_secondary.specs.Slots.{pair_in, pair_at, pairs_of, IsSlotAt, IsSound, IsSlotClone}
+use Rattle.std.proofs.Common.{◌≡◌, ◌+◌, ◌∷◌, ℕ, zero, suc, List, [], length, slice_get, refl, sym, ap, ◌∙◌, arith}
+use Rattle.slotmap_core.proofs.Common.{AllZip, ClonesEqual, AreClones, HasClones, same_from_all_zip, zip_length, zip_left, IsPairClone, HasClones-by_index}
+use Rattle.slotmap_secondary.specs.Slots.{Slot, Vacant, Occupied, pair_in, pair_at, pairs_of, IsSlotAt, IsSound, IsSlotClone}
 use Rattle.slotmap_secondary.specs.Iter.{pairs_from}
 use Rattle.slotmap_secondary.proofs.SlotLemmas.{get-pairs, same_slots}
 use Rattle.slotmap_secondary.proofs.IterLemmas.{len-pairs}

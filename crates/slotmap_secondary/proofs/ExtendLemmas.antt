@@ -1,6 +1,6 @@
 -- What one more inserted pair leaves of the slots and the capacity.
-use Rattle.slotmap_core.specs.Words.{Key, put}
-use Rattle.slotmap_core.proofs.Lemmas.{◌≡◌, ◌-◌, arith, nat_cmp_total, exact_unsigned, in_inserted, still_in}
+use Rattle.std.proofs.Common.{◌≡◌, ◌-◌, arith}
+use Rattle.slotmap_core.proofs.Common.{Key, put, nat_cmp_total, exact_unsigned, in_inserted, still_in}
 use Rattle.slotmap_secondary.specs.Content.{Content, Reaches}
 use Rattle.slotmap_secondary.specs.Extend.{Grows}
 

@@ -1,10 +1,9 @@
 -- What an iterator over the slots of a map visits.
 use Rattle.std.specs.FinMap as map
-use Rattle.slotmap_core.specs.Words.{nat_cmp, below_all, is_sorted, keyed, keyed_entry, gather}
-use Rattle.slotmap_core.proofs.Lemmas.{◌≡◌, ℕ, suc, ◌+◌, ◌<◌, T, List, [], ◌∷◌, length, slice_get, map as list_map, Some, refl, sym, ap, ◌∙◌, arith, nat_tests}
-use Rattle.slotmap_core.proofs.Lemmas.{nat_cmp_total, length-map, exact_unsigned, entries-keyed, len-keyed}
-use Rattle.slotmap_secondary.specs.declared.slot.Slot.{Slot}
-use Rattle.slotmap_secondary.specs.Slots.{entry_in, pairs_of, IsSlotAt, IsSound}
+use Rattle.std.proofs.Common.{◌≡◌, ◌+◌, ◌<◌, ◌∷◌, nat_cmp, ℕ, suc, T, List, [], length, slice_get, map as list_map, Some, refl, sym, ap, ◌∙◌, arith}
+use Rattle.slotmap_core.proofs.Common.{below_all, is_sorted, keyed, keyed_entry, gather, nat_tests, nat_cmp_total, length-map, exact_unsigned, entries-keyed}
+use Rattle.slotmap_core.proofs.Common.{len-keyed}
+use Rattle.slotmap_secondary.specs.Slots.{Slot, entry_in, pairs_of, IsSlotAt, IsSound}
 use Rattle.slotmap_secondary.specs.Iter.{pairs_from, values_in, AreKeys, IsIter}
 
 module _ {V : Type 0} where

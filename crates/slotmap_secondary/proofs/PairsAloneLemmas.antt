@@ -1,8 +1,8 @@
 -- What a change of the pairs alone keeps.
 use Rattle.std.specs.FinMap as map
-use Rattle.slotmap_core.specs.Words.{nat_cmp_total, Key, Pairs, contains_key, value_at}
-use Rattle.slotmap_core.proofs.Lemmas.{◌≡◌, ℕ, ◌<◌, None, true, false, is_some, refl, ap, ◌∙◌, arith, exact_unsigned, get_after_insert, IsSecondary-again}
-use Rattle.slotmap_core.proofs.Lemmas.{len_again, get_bound, bind_twice, in_own, pair_of}
+use Rattle.std.proofs.Common.{◌≡◌, ◌<◌, ℕ, None, true, false, is_some, refl, ap, ◌∙◌, arith}
+use Rattle.slotmap_core.proofs.Common.{nat_cmp_total, Key, Pairs, contains_key, value_at, exact_unsigned, get_after_insert, IsSecondary-again, len_again}
+use Rattle.slotmap_core.proofs.Common.{get_bound, bind_twice, in_own, pair_of}
 use Rattle.slotmap_secondary.specs.declared.entry.Entry.TheVariants.{Occupied}
 use Rattle.slotmap_secondary.specs.declared.entry.OccupiedEntry.{OccupiedEntry}
 use Rattle.slotmap_secondary.specs.Entry.{IsWritten, occupied_with}

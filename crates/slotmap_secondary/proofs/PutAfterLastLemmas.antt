@@ -1,12 +1,9 @@
 -- What a put after the last slot makes of the map.
 use Rattle.std.specs.FinMap as map
-use Rattle.slotmap_core.specs.Words.{Key, IsKey, null_key, no_entry, vacant, entry_at, entry, bind}
-use Rattle.slotmap_core.proofs.Lemmas.{◌≡◌, ◌≢◌, ℕ, ◌+◌, ◌<◌, ◌≤◌, ◌^◌, cond, List, ◌∷◌, [], ◌++◌, length, None, ne_eqb, eq-eqb, refl, sym, ap, subst, ◌∙◌}
-use Rattle.slotmap_core.proofs.Lemmas.{arith, length_push, none_from}
-use Rattle.slotmap_secondary.specs.declared.slot.Slot.{Slot}
-use Rattle.slotmap_secondary.specs.declared.slot.Slot.TheVariants.{Occupied}
+use Rattle.std.proofs.Common.{◌≡◌, ◌≢◌, ◌+◌, ◌<◌, ◌≤◌, ◌^◌, ◌∷◌, ◌++◌, ℕ, cond, List, [], length, None, ne_eqb, eq-eqb, refl, sym, ap, subst, ◌∙◌, arith}
+use Rattle.slotmap_core.proofs.Common.{Key, IsKey, null_key, no_entry, vacant, entry_at, entry, bind, length_push, none_from}
+use Rattle.slotmap_secondary.specs.Slots.{Slot, Occupied, pairs_of, content_of, IsSound}
 use Rattle.slotmap_secondary.specs.Content.{Content, IsContent}
-use Rattle.slotmap_secondary.specs.Slots.{pairs_of, content_of, IsSound}
 use Rattle.slotmap_secondary.proofs.SlotLemmas.{each-push}
 use Rattle.slotmap_secondary.proofs.FromListLemmas.{pairs-push_key, count_key}
 

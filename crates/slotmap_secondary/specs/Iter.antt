@@ -1,5 +1,6 @@
 -- What an iterator over the slots of a `SecondaryMap` has still to visit. No public clause cites this module.
-use Rattle.slotmap_core.specs.Words.{◌≡◌, ℕ, ◌+◌, ◌<◌, ◌^◌, List, [], ◌∷◌, length, Key, IsKey}
+use Rattle.std.specs.Prelude.{◌≡◌, ◌+◌, ◌<◌, ◌^◌, ◌∷◌, ℕ, List, [], length}
+use Rattle.slotmap_core.specs.Words.{Key, IsKey}
 use Rattle.slotmap_secondary.specs.declared.slot.Slot.{Slot}
 use Rattle.slotmap_secondary.specs.declared.slot.Slot.TheVariants.{Vacant, Occupied}
 

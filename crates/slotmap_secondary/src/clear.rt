@@ -1,7 +1,7 @@
 //! The calls that remove all keys.
 
 ghost use Rattle.std.specs.FinMap as map;
-ghost use Rattle.slotmap_core.specs.Words.{◌≡◌, ◌≤◌, ℕ, true};
+ghost use Rattle.std.specs.Prelude.{◌≡◌, ◌≤◌, ℕ, true};
 ghost use Rattle.slotmap_secondary.specs.Content.{IsContent};
 
 use crate::{SecondaryMap, slot};

@@ -1,6 +1,7 @@
 //! Comparison of maps.
 
-ghost use Rattle.slotmap_core.specs.Words.{◌≡◌, ◌↔◌, IsTrue, AreEqual, are_equal};
+ghost use Rattle.std.specs.Prelude.{◌≡◌, ◌↔◌, IsTrue};
+ghost use Rattle.slotmap_core.specs.Words.{AreEqual, are_equal};
 
 use crate::SecondaryMap;
 use slotmap_core::keys::Key;

@@ -1,7 +1,8 @@
 //! What the map holds at an index, and what a key finds there.
 
 ghost use Rattle.std.specs.FinMap as map;
-ghost use Rattle.slotmap_core.specs.Words.{◌≡◌, ◌<◌, None, IfSome, IfNone, true, contains_key, entry};
+ghost use Rattle.std.specs.Prelude.{◌≡◌, ◌<◌, None, IfSome, IfNone, true};
+ghost use Rattle.slotmap_core.specs.Words.{contains_key, entry};
 ghost use Rattle.slotmap_secondary.specs.Content.{IsContent};
 
 use crate::SecondaryMap;

@@ -20,7 +20,8 @@
 #![tactic(auto)]
 
 ghost use Rattle.std.specs.FinMap as map;
-ghost use Rattle.slotmap_core.specs.Words.{◌≡◌, ◌≤◌, ◌+◌, ◌↔◌, IsTrue, IfOk, OnOk, IfErr, most, RefusesCapacity};
+ghost use Rattle.std.specs.Prelude.{◌≡◌, ◌≤◌, ◌+◌, ◌↔◌, IsTrue, IfOk, OnOk, IfErr};
+ghost use Rattle.slotmap_core.specs.Words.{most, RefusesCapacity};
 ghost use Rattle.slotmap_secondary.specs.Content.{IsContent, SetsCapacity};
 
 mod access;
@@ -81,7 +82,7 @@ pub struct SecondaryMap<K, V> {
 }
 
 impl<K, V> Model for SecondaryMap<K, V> {
-    ghost use Rattle.slotmap_core.specs.Words.{◌-◌, vec_capacity};
+    ghost use Rattle.std.specs.Prelude.{◌-◌, vec_capacity};
     ghost use Rattle.slotmap_secondary.specs.Content.{Content, content_code};
     ghost use Rattle.slotmap_secondary.specs.Slots.{content_of, IsSound};
 

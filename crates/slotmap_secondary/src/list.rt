@@ -1,7 +1,8 @@
 //! Lists of slots: a map written out, and a map read back.
 
 ghost use Rattle.std.specs.FinMap as map;
-ghost use Rattle.slotmap_core.specs.Words.{◌≡◌, length, IfOk, IsOk, IfErr, ClonesEqual, IsCloneOf, Key, get, keyed, start_live, Accepts, RefusesStart};
+ghost use Rattle.std.specs.Prelude.{◌≡◌, length, IfOk, IsOk, IfErr};
+ghost use Rattle.slotmap_core.specs.Words.{ClonesEqual, IsCloneOf, Key, get, keyed, start_live, Accepts, RefusesStart};
 ghost use Rattle.slotmap_secondary.specs.Content.{IsContent};
 ghost use Rattle.slotmap_secondary.specs.Written.{Writes, WritesClones};
 

@@ -1,6 +1,7 @@
 //! The calls that remove one value.
 
-ghost use Rattle.slotmap_core.specs.Words.{◌≡◌, ◌<◌, Some, true, get, contains_key, remove};
+ghost use Rattle.std.specs.Prelude.{◌≡◌, ◌<◌, Some, true};
+ghost use Rattle.slotmap_core.specs.Words.{get, contains_key, remove};
 ghost use Rattle.slotmap_secondary.specs.Content.{IsContent};
 
 use crate::SecondaryMap;

@@ -1,9 +1,8 @@
 -- What a loop over the live keys of a map knows of those ahead of it.
 -- For the crates of maps.
-use Rattle.slotmap_core.specs.Words.{Key, Content, IsContent, IsLive, places, content_of_places, Removes, with_value}
-use Rattle.slotmap_core.proofs.Lemmas.{◌≡◌, ℕ, ◌-◌, ◌%◌, ◌<◌, ◌≤◌, ◌↔◌, true, List, length, get_or, Some, is_some, slice_get, option_map, refl, sym, ap, ◌∙◌}
-use Rattle.slotmap_core.proofs.Lemmas.{inl, arith, length-map, slice_get-map, get_or_from_slice_get, slice_get-get_or, keys_total, get-remove_other, same_live}
-use Rattle.slotmap_core.proofs.Lemmas.{removed_places}
+use Rattle.std.proofs.Common.{◌≡◌, ◌-◌, ◌%◌, ◌<◌, ◌≤◌, ◌↔◌, ℕ, true, List, length, get_or, Some, is_some, slice_get, option_map, refl, sym, ap, ◌∙◌, inl, arith}
+use Rattle.slotmap_core.proofs.Common.{Key, Content, IsContent, IsLive, places, content_of_places, Removes, with_value, length-map, slice_get-map}
+use Rattle.slotmap_core.proofs.Common.{get_or_from_slice_get, slice_get-get_or, keys_total, get-remove_other, same_live, removed_places}
 use native.Mathlib.Decide.{dec_lt}
 use Rattle.std.specs.FinMap as map
 use Rattle.slotmap_slots.specs.Ahead.{KnowsLiveKeys}

@@ -1,12 +1,10 @@
 -- Three vectors as one list of slots.
 -- For this crate alone.
-use Rattle.slotmap_core.proofs.Lemmas.{◌≡◌, ℕ, zero, suc, ◌<◌, ◌≤◌, ◌%◌, List, [], ◌∷◌, ◌++◌, length, set, slice_get, get_or, Option, None, Some, IsSome}
-use Rattle.slotmap_core.proofs.Lemmas.{option_and_then, refl, sym, ap, subst, ◌∙◌, arith, get_or_default_zero, slice_get_read, slice_get_past}
-use Rattle.slotmap_slots.specs.Slot.{SlotList, versions_of, version_at, usage_at, next_at, next_of, payload_at, with_payload}
+use Rattle.std.proofs.Common.{◌≡◌, ◌<◌, ◌≤◌, ◌%◌, ◌∷◌, ◌++◌, ℕ, zero, suc, List, [], length, set, slice_get, get_or, Option, None, Some, IsSome, refl, sym, ap}
+use Rattle.slotmap_core.proofs.Common.{option_and_then, subst, ◌∙◌, arith, get_or_default_zero, slice_get_read, slice_get_past}
+use Rattle.slotmap_slots.specs.Slot.{SlotList, versions_of, version_at, usage_at, next_at, next_of, payload_at, with_payload, Use, InUse}
 use Rattle.slotmap_slots.specs.Columns.{zip_slots, IsColumns}
 use Rattle.slotmap_slots.specs.Numbers.{use_of, uses_of}
-use Rattle.slotmap_slots.specs.declared.layout.Use.{Use}
-use Rattle.slotmap_slots.specs.declared.layout.Use.TheVariants.{InUse}
 use Rattle.slotmap_slots.proofs.NumberLemmas.{free_is, uses-length, uses-at, uses-set, uses-put, uses-push}
 
 module _ {P : Type 0} where

@@ -1,7 +1,7 @@
 -- An iterator over slots by value, and one over clones of the values.
 -- For this crate alone.
-use Rattle.slotmap_core.specs.Words.{AllZip, IsCloneOf, AreClones}
-use Rattle.slotmap_core.proofs.Lemmas.{ℕ, ◌+◌, List, [], ◌∷◌, drop, Option, None, Some, refl, sym, ◌∙◌, arith, zip_length, zip_left, zip_drop, clone_is_some}
+use Rattle.std.proofs.Common.{◌+◌, ◌∷◌, ℕ, List, [], drop, Option, None, Some, refl, sym, ◌∙◌, arith}
+use Rattle.slotmap_core.proofs.Common.{AllZip, IsCloneOf, AreClones, zip_length, zip_left, zip_drop, clone_is_some}
 use Rattle.slotmap_slots.specs.Iter.{pairs_from, pairs_left, IsIter}
 
 module _ {V : Type 0} (is_clone : V → V → Type 0) where

@@ -1,10 +1,8 @@
 -- The number that a slot has beside its version.
 -- For this crate alone.
-use Rattle.slotmap_core.proofs.Lemmas.{◌≡◌, ℕ, zero, suc, ◌%◌, ◌==◌, cond, List, [], ◌∷◌, ◌++◌, length, set, slice_get, Some, IsSome, refl, ap, arith}
+use Rattle.std.proofs.Common.{◌≡◌, ◌%◌, ◌==◌, ◌∷◌, ◌++◌, ℕ, zero, suc, cond, List, [], length, set, slice_get, Some, IsSome, refl, ap, arith}
 use Rattle.slotmap_slots.specs.Numbers.{empty_use, use_of, uses_of, number_of}
-use Rattle.slotmap_slots.specs.Slot.{FitsEmpty, next_of}
-use Rattle.slotmap_slots.specs.declared.layout.Use.{Use}
-use Rattle.slotmap_slots.specs.declared.layout.Use.TheVariants.{InUse, Free, Detached, Retired}
+use Rattle.slotmap_slots.specs.Slot.{FitsEmpty, next_of, Use, InUse, Free, Detached, Retired}
 
 pub free_is : (v n : ℕ) → IsSome (next_of (use_of v n)) → next_of (use_of v n) ≡ Some n
 free_is v n some = grind arith

@@ -1,9 +1,8 @@
 -- Chunks of versions, whose odd ones are bits.
 -- For this crate alone.
-use Rattle.slotmap_core.specs.Words.{bit_at}
-use Rattle.slotmap_core.proofs.Lemmas.{◌≡◌, ◌≢◌, ℕ, zero, suc, ◌+◌, ◌-◌, ◌*◌, ◌/◌, ◌%◌, ◌^◌, ◌<◌, ◌≤◌, List, cond, eqb, length, get_or, slice_get, Some, refl}
-use Rattle.slotmap_core.proofs.Lemmas.{sym, ap, ◌∙◌, arith, w64, bit_and, bit_or, min, max, subst, bit_at-zero, bit_at-suc, bit_at_lowest, bit_at_and}
-use Rattle.slotmap_core.proofs.Lemmas.{bit_at_set_same, bit_at_set_other, bit_at_ones, get_or_from_slice_get, slice_get_within, found_within}
+use Rattle.std.proofs.Common.{◌≡◌, ◌≢◌, ◌+◌, ◌-◌, ◌*◌, ◌/◌, ◌%◌, ◌^◌, ◌<◌, ◌≤◌, ℕ, zero, suc, List, cond, eqb, length, get_or, slice_get, Some, refl, sym, ap}
+use Rattle.slotmap_core.proofs.Common.{bit_at, ◌∙◌, arith, w64, bit_and, bit_or, min, max, subst, bit_at-zero, bit_at-suc, bit_at_lowest, bit_at_and}
+use Rattle.slotmap_core.proofs.Common.{bit_at_set_same, bit_at_set_other, bit_at_ones, get_or_from_slice_get, slice_get_within, found_within}
 use native.Mathlib.Decide.{dec_lt}
 use lib.Bits.{and_mask}
 use lib.ListN.{get_or-eq_default}

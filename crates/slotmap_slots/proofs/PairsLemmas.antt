@@ -1,17 +1,14 @@
 -- What an iterator over the vectors of slots yields.
 -- For this crate alone.
-use Rattle.slotmap_core.specs.Words.{IsKey, Vacant, live}
-use Rattle.slotmap_core.proofs.Lemmas.{◌≡◌, ℕ, zero, suc, ◌+◌, ◌-◌, ◌<◌, ◌≤◌, ◌%◌, ◌^◌, List, [], ◌∷◌, length, set, drop, slice_get, get_or, Option, Some, None}
-use Rattle.slotmap_core.proofs.Lemmas.{IsSome, ◌↔◌, refl, sym, ap, subst, ◌∙◌, arith, same_Some, slice_get_within, get_or_from_slice_get, length-set, drop_more}
-use Rattle.slotmap_core.proofs.Lemmas.{drop_all, drop-set-lt, slice_get-set_other, found_within, key, entries_from, entries-live}
+use Rattle.std.proofs.Common.{◌≡◌, ◌+◌, ◌-◌, ◌<◌, ◌≤◌, ◌%◌, ◌^◌, ◌∷◌, ◌↔◌, ℕ, zero, suc, List, [], length, set, drop, slice_get, get_or, Option, Some, None, ap}
+use Rattle.slotmap_core.proofs.Common.{IsKey, Vacant, live, IsSome, refl, sym, subst, ◌∙◌, arith, same_Some, slice_get_within, get_or_from_slice_get}
+use Rattle.slotmap_core.proofs.Common.{length-set, drop_more, drop_all, drop-set-lt, slice_get-set_other, found_within, key, entries_from, entries-live}
 use native.Mathlib.Decide.{dec_lt}
 use Rattle.std.specs.FinMap as map
 use Rattle.slotmap_slots.specs.Columns.{zip_slots, AllEven, IsNextOdd}
 use Rattle.slotmap_slots.specs.Odds.{IsAhead}
-use Rattle.slotmap_slots.specs.Slot.{Slot, IsSlot, IsSound, place_by, places_of}
+use Rattle.slotmap_slots.specs.Slot.{Slot, IsSlot, IsSound, place_by, places_of, Use, InUse, Free, Detached, Retired}
 use Rattle.slotmap_slots.specs.Iter.{pairs_from, pairs_left, IsIter}
-use Rattle.slotmap_slots.specs.declared.layout.Use.{Use}
-use Rattle.slotmap_slots.specs.declared.layout.Use.TheVariants.{InUse, Free, Detached, Retired}
 use Rattle.slotmap_slots.proofs.ColumnLemmas.{zip-length, zip-at}
 use Rattle.slotmap_slots.proofs.OddsLemmas.{ahead_start}
 use Rattle.slotmap_slots.proofs.SlotLemmas.{slots_fit}

@@ -1,7 +1,7 @@
 -- One vector of rows as a list of slots.
 -- For this crate alone.
-use Rattle.slotmap_core.proofs.Lemmas.{◌≡◌, ℕ, zero, suc, ◌%◌, ◌==◌, cond, Bool, true, false, List, [], ◌∷◌, set, get_or, Some, None, IsSome, refl, sym, ap}
-use Rattle.slotmap_core.proofs.Lemmas.{◌∙◌, map-set}
+use Rattle.std.proofs.Common.{◌≡◌, ◌%◌, ◌==◌, ◌∷◌, ℕ, zero, suc, cond, Bool, true, false, List, [], set, get_or, Some, None, IsSome, refl, sym, ap, ◌∙◌}
+use Rattle.slotmap_core.proofs.Common.{map-set}
 use Rattle.slotmap_slots.specs.Slot.{payload_at, with_payload}
 use Rattle.slotmap_slots.specs.Rows.{slot_of_row, slots_of_rows, payload_of}
 use Rattle.slotmap_slots.specs.declared.layout.rows.Row.{Row}

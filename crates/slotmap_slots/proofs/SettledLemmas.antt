@@ -2,9 +2,9 @@
 -- For this crate alone.
 use Rattle.std.specs.FinMap as map
 use Rattle.std.specs.FinSet as set
-use Rattle.slotmap_core.specs.Words.{Key, Content, IsContent, IsLive, IsDetached, places, used, most, MakesRoom, StaysValid, content_of_places, used_places}
-use Rattle.slotmap_core.proofs.Lemmas.{◌≡◌, ◌≢◌, ℕ, zero, suc, ◌+◌, ◌-◌, ◌<◌, ◌≤◌, ◌^◌, ◌%◌, true, List, [], ◌∷◌, ◌++◌, length, set, slice_get, Some, is_some}
-use Rattle.slotmap_core.proofs.Lemmas.{refl, sym, ap, subst, ◌∙◌, arith, length-set, length_push, key, keeps}
+use Rattle.std.proofs.Common.{◌≡◌, ◌≢◌, ◌+◌, ◌-◌, ◌<◌, ◌≤◌, ◌^◌, ◌%◌, ◌∷◌, ◌++◌, ℕ, zero, suc, true, List, [], length, set, slice_get, Some, is_some, refl, sym}
+use Rattle.slotmap_core.proofs.Common.{Key, Content, IsContent, IsLive, IsDetached, places, used, most, MakesRoom, StaysValid, content_of_places, used_places}
+use Rattle.slotmap_core.proofs.Common.{ap, subst, ◌∙◌, arith, length-set, length_push, key, keeps}
 use Rattle.slotmap_slots.specs.Slot.{Slot, full, version_at, payload_at, NoneLive, with_payload, places_of, IsSound, vacancies, IsSettled, map_of}
 use Rattle.slotmap_slots.proofs.SlotLemmas.{Present, present, count_positive, live_slot, get-live_slot, rewritten, reattached, with_payload-is, valid, slots_fit, used_places-slots, free_below}
 use Rattle.slotmap_slots.proofs.SlotGrowth.{PresentDetached, present_detached, some_free}

@@ -1,13 +1,13 @@
 -- Slots with clones of the payloads of others: they are as sound, and hold clones of what those hold.
 -- For this crate alone.
 use Rattle.std.specs.FinMap as map
-use Rattle.slotmap_core.specs.Words.{AllZip, IsCloneOf, Content, IsCloneBy, IsPlaceClone, ArePlaceClones, live, content_of_places}
-use Rattle.slotmap_core.proofs.Lemmas.{◌≡◌, ℕ, ◌+◌, ◌-◌, ◌≤◌, List, [], ◌∷◌, length, slice_get, Option, None, Some, option_map, refl, sym, ap, ◌∙◌, arith}
-use Rattle.slotmap_core.proofs.Lemmas.{keys_total, exact_keys, mapped, zip_length, zip_left, zip_right, zip_self, same_len, clone_is_some, live-clones}
-use Rattle.slotmap_core.proofs.Lemmas.{IsStacked-clones, content-clones}
+use Rattle.std.proofs.Common.{◌≡◌, ◌+◌, ◌-◌, ◌≤◌, ◌∷◌, ℕ, List, [], length, slice_get, Option, None, Some, option_map, refl, sym, ap, ◌∙◌, arith}
+use Rattle.slotmap_core.proofs.Common.{AllZip, IsCloneOf, Content, IsCloneBy, IsPlaceClone, ArePlaceClones, live, content_of_places, keys_total, exact_keys}
+use Rattle.slotmap_core.proofs.Common.{mapped, zip_length, zip_left, zip_right, zip_self, same_len, clone_is_some, live-clones, IsStacked-clones}
+use Rattle.slotmap_core.proofs.Common.{content-clones}
 use Rattle.slotmap_slots.specs.Columns.{zip_slots}
 use Rattle.slotmap_slots.specs.Slot.{Slot, usage_at, place_of, places_of, free_indices, IsFreeList, IsSlot, IsSound, IsSlotClone, AreSlotClones, IsSettled, vacancies, map_of}
-use Rattle.slotmap_slots.specs.declared.layout.Use.{Use}
+use Rattle.slotmap_slots.specs.Slot.{Use}
 use Rattle.slotmap_slots.proofs.SlotLemmas.{free_indices-stack, stacked_free}
 
 -- clones of optional values, as the impl of `Clone` for them says it

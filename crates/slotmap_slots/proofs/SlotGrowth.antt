@@ -2,15 +2,13 @@
 -- For this crate alone.
 use Rattle.std.specs.FinMap as map
 use Rattle.std.specs.FinSet as set
-use Rattle.slotmap_core.specs.Words.{Key, most, Inserts, Live, Detached as DetachedPlace, Vacant, live, detached, content_of_places, offer, vacant_version}
-use Rattle.slotmap_core.specs.Words.{used_places, inserted, IsOn, IsVersion, IsStacked}
-use Rattle.slotmap_core.proofs.Lemmas.{⊎_elim, true, false, ◌==◌, ◌≡◌, ◌≢◌, ℕ, ◌+◌, ◌-◌, ◌^◌, ◌<◌, List, [], ◌∷◌, ◌++◌, length, set, slice_get, Some, None}
-use Rattle.slotmap_core.proofs.Lemmas.{option_map, option_and_then, refl, sym, ap, subst, ◌∙◌, inl, ◌↔◌, arith, eq-zero-or-pos, length-map, map_push}
-use Rattle.slotmap_core.proofs.Lemmas.{slice_get_within, same_Some, found_within, mapped, false_of, at_push, key, contains-detached, len-live-push, kept_at}
-use Rattle.slotmap_core.proofs.Lemmas.{IsStacked-filled, IsStacked-pushed, IsStacked-sentinel, live-sentinel, inserts}
+use Rattle.std.proofs.Common.{◌==◌, ◌≡◌, ◌≢◌, ◌+◌, ◌-◌, ◌^◌, ◌<◌, ◌∷◌, ◌++◌, ◌↔◌, ⊎_elim, true, false, ℕ, List, [], length, set, slice_get, Some, None, refl}
+use Rattle.slotmap_core.proofs.Common.{Key, most, Inserts, Live, Detached as DetachedPlace, Vacant, live, detached, content_of_places, offer, vacant_version}
+use Rattle.slotmap_core.proofs.Common.{used_places, inserted, IsOn, IsVersion, IsStacked, option_map, option_and_then, sym, ap, subst, ◌∙◌, inl, arith, inserts}
+use Rattle.slotmap_core.proofs.Common.{eq-zero-or-pos, length-map, map_push, slice_get_within, same_Some, found_within, mapped, false_of, at_push, key}
+use Rattle.slotmap_core.proofs.Common.{contains-detached, len-live-push, kept_at, IsStacked-filled, IsStacked-pushed, IsStacked-sentinel, live-sentinel}
 use Rattle.slotmap_slots.specs.Slot.{Slot, full, empty, version_at, usage_at, next_at, next_of, version_before, place_of, places_of, free_indices, IsFreeList, IsSlot, IsSound, map_of}
-use Rattle.slotmap_slots.specs.declared.layout.Use.{Use}
-use Rattle.slotmap_slots.specs.declared.layout.Use.TheVariants.{Free, Detached}
+use Rattle.slotmap_slots.specs.Slot.{Use, Free, Detached}
 use Rattle.slotmap_slots.proofs.SlotLemmas.{Written, slot_at, is_empty, IsSlot-full, place_at, IsFreeList-push, IsFreeList-set, free_indices-stack, stacked_free, written}
 
 module _ {P : Type 0} where

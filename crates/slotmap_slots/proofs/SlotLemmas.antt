@@ -1,17 +1,16 @@
 -- How each change of one slot keeps the slots sound, and what the places become.
 -- For this crate alone.
 use Rattle.std.specs.FinMap as map
-use Rattle.slotmap_core.specs.Words.{Key, IsKey, last_version, IsContent, with_value, Removes, Detaches, Reattaches, Live, Detached as DetachedPlace, Vacant}
-use Rattle.slotmap_core.specs.Words.{Retired as RetiredPlace, live, live_entry, removed, content_of_places, used_places, IsOn, IsVersion, HasVersion, IsStacked}
-use Rattle.slotmap_core.proofs.Lemmas.{⊎_elim, true, false, cond, is_some, ◌==◌, eqb-true, eq-eqb, ◌≡◌, ◌≢◌, ℕ, zero, suc, ◌+◌, ◌-◌, ◌^◌, ◌<◌, ◌≤◌, ◌%◌, List}
-use Rattle.slotmap_core.proofs.Lemmas.{[], ◌∷◌, ◌++◌, length, set, slice_get, Option, Some, None, option_map, refl, sym, ap, subst, ◌∙◌, inr, arith, nat_eq}
-use Rattle.slotmap_core.proofs.Lemmas.{slice_get_within, slice_get-map, same_Some, length-map, map-set, found_within, mapped, none_from, same_bool, false_of}
-use Rattle.slotmap_core.proofs.Lemmas.{at_set, slice_get-set_same, slice_get-set_other, slice_get_push_other, key, get-live_at, len-live-set, total, some_is}
-use Rattle.slotmap_core.proofs.Lemmas.{live_at, IsContent-stacked, not_on, IsStacked-kept, IsStacked-freed, content-written, removes, detaches, reattaches}
-use Rattle.slotmap_slots.specs.Slot.{Slot, FitsEmpty, full, empty, version_at, usage_at, payload_at, with_payload, version_before, place_of, places_of}
-use Rattle.slotmap_slots.specs.Slot.{next_named, free_indices, IsFreeList, IsSlot, IsSound, map_of}
-use Rattle.slotmap_slots.specs.declared.layout.Use.{Use}
-use Rattle.slotmap_slots.specs.declared.layout.Use.TheVariants.{InUse, Free, Detached, Retired}
+use Rattle.std.proofs.Common.{◌==◌, ◌≡◌, ◌≢◌, ◌+◌, ◌-◌, ◌^◌, ◌<◌, ◌≤◌, ◌%◌, ◌∷◌, ◌++◌, ⊎_elim, true, false, cond, is_some, eqb-true, eq-eqb, ℕ, zero, suc, List}
+use Rattle.slotmap_core.specs.Words.{removed}
+use Rattle.slotmap_core.proofs.Common.{Key, IsKey, last_version, IsContent, with_value, Removes, Detaches, Reattaches, Live, Detached as DetachedPlace, Vacant}
+use Rattle.slotmap_core.proofs.Common.{Retired as RetiredPlace, live, live_entry, content_of_places, used_places, IsOn, IsVersion, HasVersion, IsStacked, []}
+use Rattle.slotmap_core.proofs.Common.{length, set, slice_get, Option, Some, None, option_map, refl, sym, ap, subst, ◌∙◌, inr, arith, nat_eq, slice_get_within}
+use Rattle.slotmap_core.proofs.Common.{slice_get-map, same_Some, length-map, map-set, found_within, mapped, none_from, same_bool, false_of, at_set}
+use Rattle.slotmap_core.proofs.Common.{slice_get-set_same, slice_get-set_other, slice_get_push_other, key, get-live_at, len-live-set, total, some_is, live_at}
+use Rattle.slotmap_core.proofs.Common.{IsContent-stacked, not_on, IsStacked-kept, IsStacked-freed, content-written, removes, detaches, reattaches}
+use Rattle.slotmap_slots.specs.Slot.{Slot, FitsEmpty, full, empty, version_at, usage_at, payload_at, with_payload, version_before, place_of, places_of, Use}
+use Rattle.slotmap_slots.specs.Slot.{next_named, free_indices, IsFreeList, IsSlot, IsSound, map_of, InUse, Free, Detached, Retired}
 
 -- what an empty slot can have
 pub FitsEmpty-free : (v next : ℕ) → v % 2 ≡ 0 → next < 2 ^ 32 - 1 → (v ≡ 0 → next ≡ 0) → FitsEmpty v (Free next)

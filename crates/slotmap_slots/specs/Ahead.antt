@@ -1,5 +1,6 @@
 -- What a loop over the live keys of a map knows of those ahead of it.
-use Rattle.slotmap_core.specs.Words.{◌≡◌, ℕ, ◌+◌, ◌%◌, ◌≤◌, List, length, get_or, Key, Content, IsLive, places}
+use Rattle.std.specs.Prelude.{◌≡◌, ◌+◌, ◌%◌, ◌≤◌, ℕ, List, length, get_or}
+use Rattle.slotmap_core.specs.Words.{Key, Content, IsLive, places}
 use Rattle.slotmap_slots.specs.Odds.{IsAhead}
 use Rattle.slotmap_slots.specs.declared.layout.odds.Odds.{Odds}
 

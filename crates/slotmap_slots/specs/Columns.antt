@@ -1,7 +1,6 @@
 -- Slots in three vectors. No public clause cites this module.
-use Rattle.slotmap_core.specs.Words.{◌≡◌, ℕ, ◌^◌, ◌<◌, ◌≤◌, List, [], ◌∷◌, length, Option, Some, slice_get, ◌%◌}
-use Rattle.slotmap_slots.specs.Slot.{Slot}
-use Rattle.slotmap_slots.specs.declared.layout.Use.{Use}
+use Rattle.std.specs.Prelude.{◌≡◌, ◌^◌, ◌<◌, ◌≤◌, ◌∷◌, ◌%◌, ℕ, List, [], length, Option, Some, slice_get}
+use Rattle.slotmap_slots.specs.Slot.{Slot, Use}
 
 -- each version from the one index to the other is even
 abbrev pub AllEven : List ℕ → ℕ → ℕ → Type 0

@@ -1,5 +1,6 @@
 -- What an iterator will still yield, in the vectors of slots. No public clause cites this module.
-use Rattle.slotmap_core.specs.Words.{◌≡◌, ◌↔◌, ℕ, ◌+◌, ◌%◌, ◌^◌, ◌<◌, ◌≤◌, List, [], ◌∷◌, length, drop, Option, None, Some, IsSome, slice_get, Key}
+use Rattle.std.specs.Prelude.{◌≡◌, ◌↔◌, ◌+◌, ◌%◌, ◌^◌, ◌<◌, ◌≤◌, ◌∷◌, ℕ, List, [], length, drop, Option, None, Some, IsSome, slice_get}
+use Rattle.slotmap_core.specs.Words.{Key}
 
 module _ {V : Type 0} where
   -- the keys and values of these slots, the first of which has index i

@@ -1,5 +1,5 @@
 -- The number that a slot has beside its version. No public clause cites this module.
-use Rattle.slotmap_core.specs.Words.{ℕ, ◌-◌, ◌^◌, ◌%◌, ◌==◌, ◌&&◌, not, if◌then◌else◌, List, [], ◌∷◌}
+use Rattle.std.specs.Prelude.{◌-◌, ◌^◌, ◌%◌, ◌==◌, ◌&&◌, if◌then◌else◌, ◌∷◌, ℕ, not, List, []}
 use Rattle.slotmap_slots.specs.declared.layout.Use.{Use}
 use Rattle.slotmap_slots.specs.declared.layout.Use.TheVariants.{InUse, Free, Detached, Retired}
 

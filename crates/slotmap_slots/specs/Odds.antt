@@ -1,5 +1,6 @@
 -- Which versions of a chunk are odd, as bits of a number.
-use Rattle.slotmap_core.specs.Words.{◌≡◌, ◌≢◌, ℕ, ◌+◌, ◌-◌, ◌^◌, ◌%◌, ◌<◌, ◌≤◌, max, List, length, Some, slice_get, get_or, bit_at}
+use Rattle.std.specs.Prelude.{◌≡◌, ◌≢◌, ◌+◌, ◌-◌, ◌^◌, ◌%◌, ◌<◌, ◌≤◌, ℕ, max, List, length, Some, slice_get, get_or}
+use Rattle.slotmap_core.specs.Words.{bit_at}
 use Rattle.slotmap_slots.specs.Columns.{AllEven}
 
 -- A chunk has 64 versions, and `end` is the index after its last one. Bit k is set where the k-th is odd, if its index is

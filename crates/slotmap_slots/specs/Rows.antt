@@ -1,5 +1,5 @@
 -- A vector of rows as slots. No public clause cites this module.
-use Rattle.slotmap_core.specs.Words.{ℕ, ◌%◌, ◌==◌, if◌then◌else◌, List, map as list_map, Option, Some, None}
+use Rattle.std.specs.Prelude.{◌%◌, ◌==◌, if◌then◌else◌, ℕ, List, map as list_map, Option, Some, None}
 use Rattle.slotmap_slots.specs.Slot.{Slot}
 use Rattle.slotmap_slots.specs.Numbers.{use_of}
 use Rattle.slotmap_slots.specs.declared.layout.rows.Row.{Row}

@@ -1,10 +1,10 @@
 -- The slots of a map: what code keeps at each index. No public clause of a map cites this module.
 use Rattle.std.specs.FinMap as map
-use Rattle.slotmap_core.specs.Words.{◌≡◌, ◌≢◌, ◌↔◌, ℕ, zero, suc, ◌+◌, ◌-◌, ◌%◌, ◌^◌, ◌<◌, ◌≤◌, List, [], ◌∷◌, length, map as list_map, Option, Some, None}
-use Rattle.slotmap_core.specs.Words.{IsSome, option_map, option_and_then, slice_get, AllZip, IsCloneOf, Place, Live, Detached as DetachedPlace, Vacant}
+use Rattle.std.specs.Prelude.{◌≡◌, ◌≢◌, ◌↔◌, ◌+◌, ◌-◌, ◌%◌, ◌^◌, ◌<◌, ◌≤◌, ◌∷◌, ℕ, zero, suc, List, [], length, map as list_map, Option, Some, None, IsSome}
+use Rattle.slotmap_core.specs.Words.{option_map, option_and_then, slice_get, AllZip, IsCloneOf, Place, Live, Detached as DetachedPlace, Vacant}
 use Rattle.slotmap_core.specs.Words.{Retired as RetiredPlace, live, StackMap, IsStacked}
-use Rattle.slotmap_slots.specs.declared.layout.Use.{Use}
-use Rattle.slotmap_slots.specs.declared.layout.Use.TheVariants.{InUse, Free, Detached, Retired}
+pub use Rattle.slotmap_slots.specs.declared.layout.Use.{Use}
+pub use Rattle.slotmap_slots.specs.declared.layout.Use.TheVariants.{InUse, Free, Detached, Retired}
 
 -- a version, what the slot is used for, and a payload if it is in use
 pub record Slot (P : Type 0) : Type 0 where

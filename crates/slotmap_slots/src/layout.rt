@@ -1,7 +1,7 @@
 //! How the slots of a map lie in memory.
 
-ghost use Rattle.slotmap_core.specs.Words.{◌≡◌, ◌+◌, ◌<◌, ◌≤◌, ◌%◌, ◌^◌, ◌++◌, ◌∷◌, [], ℕ, List, length, Some, None, Option, IsSome, IfOk, OnOk, IfSome};
-ghost use Rattle.slotmap_core.specs.Words.{IfNone, slice_get, slice_set, sem};
+ghost use Rattle.std.specs.Prelude.{◌≡◌, ◌+◌, ◌<◌, ◌≤◌, ◌%◌, ◌^◌, ◌++◌, ◌∷◌, [], ℕ, List, length, Some, None, Option, IsSome, IfOk, OnOk, IfSome, IfNone};
+ghost use Rattle.slotmap_core.specs.Words.{slice_get, slice_set, sem};
 ghost use Rattle.slotmap_slots.specs.Slot.{Slot, FitsEmpty, full, empty, version_at, usage_at, next_at, payload_at, with_payload, AreSlotClones};
 ghost use Rattle.slotmap_slots.specs.LayoutLends.{lends_payload};
 

@@ -5,8 +5,8 @@
 //! positions. The layout says how the slots lie in memory.
 
 ghost use Rattle.std.specs.FinMap as map;
-ghost use Rattle.slotmap_core.specs.Words.{◌≡◌, [], Some, ◌+◌, ◌<◌, ◌≤◌, ◌^◌, IfOk, IfErr, IsOk, IsTrue, true, IsContent, used, most, places, IsNew};
-ghost use Rattle.slotmap_core.specs.Words.{RefusesCapacity, MakesRoom};
+ghost use Rattle.std.specs.Prelude.{◌≡◌, ◌+◌, ◌<◌, ◌≤◌, ◌^◌, [], Some, IfOk, IfErr, IsOk, IsTrue, true};
+ghost use Rattle.slotmap_core.specs.Words.{IsContent, used, most, places, IsNew, RefusesCapacity, MakesRoom};
 
 use crate::layout::{Layout, Use};
 use slotmap_core::errors::ReserveError;
@@ -39,7 +39,8 @@ pub struct Slots<P, L: Layout<P>> {
 }
 
 impl<P, L: Layout<P>> Model for Slots<P, L> {
-    ghost use Rattle.slotmap_core.specs.Words.{◌-◌, Content, content_code, content_of_places};
+    ghost use Rattle.std.specs.Prelude.{◌-◌};
+    ghost use Rattle.slotmap_core.specs.Words.{Content, content_code, content_of_places};
     ghost use Rattle.slotmap_slots.specs.Slot.{map_of, vacancies, IsSettled};
 
     ghost Value = { Content P };

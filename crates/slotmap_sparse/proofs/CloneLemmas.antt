@@ -1,8 +1,8 @@
 -- What the clones of the entries of a hash map hold.
 use Rattle.std.specs.FinMap as map
-use Rattle.slotmap_core.specs.Words.{nat_cmp_total, AllZip, IsDistinct, lookup, keys_of, ClonesEqual, Pairs, IsSecondary, HasClones}
-use Rattle.slotmap_core.proofs.Lemmas.{◌≡◌, ℕ, cond, true, false, nat_eq, List, [], ◌∷◌, Option, None, Some, refl, sym, subst, ◌∙◌, exact_unsigned, IsPairClone}
-use Rattle.slotmap_core.proofs.Lemmas.{HasClones-by_index}
+use Rattle.std.proofs.Common.{◌≡◌, ◌∷◌, ℕ, cond, true, false, nat_eq, List, [], Option, None, Some, refl, sym, subst, ◌∙◌}
+use Rattle.slotmap_core.proofs.Common.{nat_cmp_total, AllZip, IsDistinct, lookup, keys_of, ClonesEqual, Pairs, IsSecondary, HasClones, exact_unsigned}
+use Rattle.slotmap_core.proofs.Common.{IsPairClone, HasClones-by_index}
 use Rattle.slotmap_sparse.specs.Entries.{pairs_of, IsSound}
 use Rattle.slotmap_sparse.proofs.EntriesLemmas.{get-pairs}
 

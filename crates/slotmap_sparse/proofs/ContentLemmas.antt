@@ -1,6 +1,6 @@
 -- What a write under a key of the map leaves of its content.
-use Rattle.slotmap_core.specs.Words.{Key, contains_key}
-use Rattle.slotmap_core.proofs.Lemmas.{◌≡◌, true, arith, IsSecondary-again, len_again}
+use Rattle.std.proofs.Common.{◌≡◌, true, arith}
+use Rattle.slotmap_core.proofs.Common.{Key, contains_key, IsSecondary-again, len_again}
 use Rattle.slotmap_sparse.specs.Content.{Content, IsContent, with_value}
 
 -- another value for a key of the map

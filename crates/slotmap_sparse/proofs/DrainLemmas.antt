@@ -1,7 +1,6 @@
 -- What the steps of a drain leave.
 use Rattle.std.specs.FinMap as map
-use Rattle.slotmap_core.specs.Words.{MakesProgress, Key}
-use Rattle.slotmap_core.proofs.Lemmas.{Option, Some, None, is_some, ap, arith, len_taken}
+use Rattle.slotmap_core.proofs.Common.{MakesProgress, Key, Option, Some, None, is_some, ap, arith, len_taken}
 use Rattle.slotmap_sparse.specs.declared.drain.Drain.{Drain}
 use Rattle.slotmap_sparse.specs.Drain.{TakesPair, drain_count}
 

@@ -1,11 +1,11 @@
 -- The entries of a hash map as a finite map.
 use Rattle.std.specs.FinMap as map
-use Rattle.slotmap_core.specs.Words.{option_copied_mut, eq_by_cmp, nat_cmp_total, unsigned_tied, nat_eq_equiv, IsDistinct, find, HashMap, hash_map_len, spare}
-use Rattle.slotmap_core.specs.Words.{WritesThrough, lookup, keys_of, Key, IsKey, Pairs, IsSecondary, is_null, bind, put, get, contains_key, value_at}
-use Rattle.slotmap_core.proofs.Lemmas.{◌≢◌, ne_eqb, eq-eqb, ◌≡◌, ℕ, ◌+◌, true, false, cond, nat_eq, List, [], ◌∷◌, length, Option, Some, None, is_some, refl}
-use Rattle.slotmap_core.proofs.Lemmas.{sym, ap, subst, ◌∙◌, nat_cmp, arith, inl, inr, MutBor, Result, Ok, OnOk, ◌≤◌, exact_unsigned, lookup-none}
-use Rattle.slotmap_core.proofs.Lemmas.{none_past_head, len_inserted, get_after_insert, insert_same, get_here, IsSecondary-empty, IsSecondary-bind}
-use Rattle.slotmap_core.proofs.Lemmas.{IsSecondary-put, IsSecondary-remove, same_version, not_null_at, put_at}
+use Rattle.std.proofs.Common.{◌≢◌, ◌≡◌, ◌+◌, ◌∷◌, ◌≤◌, HashMap, hash_map_len, ne_eqb, eq-eqb, ℕ, true, false, cond, nat_eq, List, [], length, Option, Some, sym}
+use Rattle.slotmap_core.proofs.Common.{option_copied_mut, eq_by_cmp, nat_cmp_total, unsigned_tied, nat_eq_equiv, IsDistinct, find, spare, WritesThrough, lookup}
+use Rattle.slotmap_core.proofs.Common.{keys_of, Key, IsKey, Pairs, IsSecondary, is_null, bind, put, get, contains_key, value_at, None, is_some, refl, ap, subst}
+use Rattle.slotmap_core.proofs.Common.{◌∙◌, nat_cmp, arith, inl, inr, MutBor, Result, Ok, OnOk, exact_unsigned, lookup-none, none_past_head, len_inserted}
+use Rattle.slotmap_core.proofs.Common.{get_after_insert, insert_same, get_here, IsSecondary-empty, IsSecondary-bind, IsSecondary-put, IsSecondary-remove}
+use Rattle.slotmap_core.proofs.Common.{same_version, not_null_at, put_at}
 use Rattle.slotmap_sparse.specs.Content.{Content, IsContent, with_value, room}
 use Rattle.slotmap_sparse.specs.Found.{put_over}
 use Rattle.slotmap_sparse.specs.Entries.{pairs_of, content_of, IsSound}

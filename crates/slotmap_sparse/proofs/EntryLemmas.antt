@@ -1,8 +1,8 @@
 -- What an entry leaves in the map.
 use Rattle.std.specs.FinMap as map
-use Rattle.slotmap_core.specs.Words.{nat_cmp_total, Key, Pairs, vacant, entry, get, IsSecondary}
-use Rattle.slotmap_core.proofs.Lemmas.{◌≡◌, None, is_some, refl, sym, ap, ◌∙◌, if◌then◌else◌, exact_unsigned, remove_absent, get_bound, value_of}
-use Rattle.slotmap_core.proofs.Lemmas.{value_of_entry, entry_absent, in_own, removed, vacant_not_null}
+use Rattle.std.proofs.Common.{◌≡◌, if◌then◌else◌, None, is_some, refl, sym, ap, ◌∙◌}
+use Rattle.slotmap_core.proofs.Common.{nat_cmp_total, Key, Pairs, vacant, entry, get, IsSecondary, exact_unsigned, remove_absent, get_bound, value_of}
+use Rattle.slotmap_core.proofs.Common.{value_of_entry, entry_absent, in_own, removed, vacant_not_null}
 use Rattle.slotmap_sparse.specs.declared.entry.Entry.TheVariants.{Occupied}
 use Rattle.slotmap_sparse.specs.declared.entry.OccupiedEntry.{OccupiedEntry}
 use Rattle.slotmap_sparse.specs.Entry.{IsWritten, entry_leaves, occupied_with}

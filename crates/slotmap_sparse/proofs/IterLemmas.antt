@@ -1,11 +1,10 @@
 -- The entries of a hash map as keys with their values.
 use Rattle.std.specs.FinSet as set
 use Rattle.std.specs.FinMap as map
-use Rattle.slotmap_core.specs.Words.{YieldsFirstBy, IsDistinct, AllByRecursion, nat_eq_equiv, unsigned_tied, find, lookup, keys_of, Key, key_cmp, IsListing}
-use Rattle.slotmap_core.specs.Words.{IsKeyListing, Pairs, IsSecondary, keyed_entry, keyed, contains_key, value_at}
-use Rattle.slotmap_core.proofs.Lemmas.{◌≡◌, ℕ, true, false, cond, nat_eq, eqb-true, List, [], ◌∷◌, length, Some, None, refl, sym, ap, ◌∙◌, nat_cmp, arith}
-use Rattle.slotmap_core.proofs.Lemmas.{length-map, same_Some, lookup-none, none_past_head, lookup_head, keys_total, exact_keys, tie_parts, get-keyed}
-use Rattle.slotmap_core.proofs.Lemmas.{contains-keyed, len-keyed, item_inserted}
+use Rattle.std.proofs.Common.{◌≡◌, ◌∷◌, ℕ, true, false, cond, nat_eq, eqb-true, List, [], length, Some, None, refl, sym, ap, ◌∙◌, nat_cmp, arith}
+use Rattle.slotmap_core.proofs.Common.{YieldsFirstBy, IsDistinct, AllByRecursion, nat_eq_equiv, unsigned_tied, find, lookup, keys_of, Key, key_cmp, IsListing}
+use Rattle.slotmap_core.proofs.Common.{IsKeyListing, Pairs, IsSecondary, keyed_entry, keyed, contains_key, value_at, length-map, same_Some, lookup-none}
+use Rattle.slotmap_core.proofs.Common.{none_past_head, lookup_head, keys_total, exact_keys, tie_parts, get-keyed, contains-keyed, len-keyed, item_inserted}
 use Rattle.slotmap_sparse.specs.Entries.{pairs_of, IsSound}
 use Rattle.slotmap_sparse.specs.Iter.{key_pairs, IsOfKey, AreOfKeys}
 use Rattle.slotmap_sparse.proofs.EntriesLemmas.{get-pairs, len-pairs}

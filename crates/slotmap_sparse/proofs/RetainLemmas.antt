@@ -1,9 +1,10 @@
 -- What calls of a closure on each entry of a hash map leave, as visits of keys.
 use Rattle.std.specs.FinMap as map
-use Rattle.slotmap_core.specs.Words.{nat_eq_equiv, Mut, MutBor, FoldsTo, IsDistinct, keys_of, RetainsPairs, SomeCallAtPair, Key, IsKey, key_cmp, key_from}
-use Rattle.slotmap_core.specs.Words.{IsListing, IsListingBut, with_entries, Visit, CallsAt, RetainsBy, MayCome, seen, kept, Pairs, keyed, keyed_entry, value_at}
-use Rattle.slotmap_core.proofs.Lemmas.{◌≡◌, ℕ, ◌+◌, Bool, cond, nat_eq, List, [], ◌∷◌, ◌++◌, length, Some, None, is_some, refl, sym, ap, subst, ◌∙◌, arith}
-use Rattle.slotmap_core.proofs.Lemmas.{lookup_head, key_from-odd, get-keyed, Visits-rest}
+use Rattle.std.proofs.Common.{◌≡◌, ◌+◌, ◌∷◌, ◌++◌, ℕ, Bool, cond, nat_eq, List, [], length, Some, None, is_some, refl, sym, ap, subst, ◌∙◌, arith}
+use Rattle.slotmap_core.specs.Words.{MutBor}
+use Rattle.slotmap_core.proofs.Common.{nat_eq_equiv, Mut, FoldsTo, IsDistinct, keys_of, RetainsPairs, SomeCallAtPair, Key, IsKey, key_cmp, key_from, IsListing}
+use Rattle.slotmap_core.proofs.Common.{IsListingBut, with_entries, Visit, CallsAt, RetainsBy, MayCome, seen, kept, Pairs, keyed, keyed_entry, value_at}
+use Rattle.slotmap_core.proofs.Common.{lookup_head, key_from-odd, get-keyed, Visits-rest}
 use Rattle.slotmap_sparse.specs.Entries.{pairs_of, IsSound}
 use Rattle.slotmap_sparse.specs.Iter.{key_pairs, IsOfKey, AreOfKeys}
 use Rattle.slotmap_sparse.proofs.EntriesLemmas.{get-pairs}

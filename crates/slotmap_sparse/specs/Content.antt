@@ -1,7 +1,7 @@
 -- The content of a `SparseSecondaryMap`, what its calls leave, and what always holds of it.
 use Rattle.std.specs.FinMap as map
-use Rattle.slotmap_core.specs.Words.{◌≡◌, ℕ, ◌+◌, ◌-◌, ◌^◌, ◌<◌, ◌≤◌, Result, IsOk, OnOk, IfErr, refl, Coded, code_by, coded×, coded_ℕ, Key, Pairs, pairs_code}
-use Rattle.slotmap_core.specs.Words.{IsSecondary, bind}
+use Rattle.std.specs.Prelude.{◌≡◌, ◌+◌, ◌-◌, ◌^◌, ◌<◌, ◌≤◌, ℕ, Result, IsOk, OnOk, IfErr, refl}
+use Rattle.slotmap_core.specs.Words.{Coded, code_by, coded×, coded_ℕ, Key, Pairs, pairs_code, IsSecondary, bind}
 use Rattle.slotmap_core.specs.declared.errors.ReserveError.{ReserveError}
 use Rattle.slotmap_core.specs.declared.errors.ReserveError.TheVariants as reserve
 

@@ -1,6 +1,7 @@
 -- What a contract sees of a `Drain`.
 use Rattle.std.specs.FinMap as map
-use Rattle.slotmap_core.specs.Words.{◌≡◌, ◌≤◌, Option, Some, None, MutBor, Count, at_most, Key, get, remove}
+use Rattle.std.specs.Prelude.{◌≡◌, ◌≤◌, Option, Some, None}
+use Rattle.slotmap_core.specs.Words.{MutBor, Count, at_most, Key, get, remove}
 use Rattle.slotmap_sparse.specs.Content.{Content, room}
 use Rattle.slotmap_sparse.specs.declared.drain.Drain.{Drain}
 

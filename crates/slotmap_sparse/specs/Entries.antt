@@ -1,7 +1,7 @@
 -- How a `SparseSecondaryMap` stores its pairs in a hash map. No public clause cites this module.
 use Rattle.std.specs.FinMap as map
-use Rattle.slotmap_core.specs.Words.{◌≡◌, ℕ, ◌+◌, Bool, List, nat_eq, Mut, Takes, MutBor, HashMap, hash_map_len, spare, IsDistinct, keys_of, Key, key_from}
-use Rattle.slotmap_core.specs.Words.{Pairs, IsSecondary}
+use Rattle.std.specs.Prelude.{◌≡◌, ◌+◌, ℕ, Bool, List, nat_eq}
+use Rattle.slotmap_core.specs.Words.{Mut, Takes, MutBor, HashMap, hash_map_len, spare, IsDistinct, keys_of, Key, key_from, Pairs, IsSecondary}
 use Rattle.slotmap_sparse.specs.Content.{Content}
 
 module _ {V : Type 0} where

@@ -2,8 +2,8 @@
 use Rattle.std.specs.declared.hash.Hasher as hasher
 use Rattle.std.specs.declared.hash.BuildHasher as builder
 use Rattle.std.specs.FinMap as map
-use Rattle.slotmap_core.specs.Words.{◌≡◌, ◌≤◌, Option, Some, None, Result, Ok, Err, [], true, if◌then◌else◌, MutBor, GName, Lends, LendsSoOk, RestsIfErr, Fml}
-use Rattle.slotmap_core.specs.Words.{RattleType, Key, Pairs, get, contains_key, remove}
+use Rattle.std.specs.Prelude.{◌≡◌, ◌≤◌, if◌then◌else◌, Option, Some, None, Result, Ok, Err, [], true}
+use Rattle.slotmap_core.specs.Words.{MutBor, GName, Lends, LendsSoOk, RestsIfErr, Fml, RattleType, Key, Pairs, get, contains_key, remove}
 use mir.Syntax.{named}
 use Rattle.slotmap_core.specs.Secondary as pair
 use Rattle.slotmap_core.specs.declared.secondary.NoEntry.{NoEntry}

@@ -1,6 +1,7 @@
 -- When a map can't be made of pairs.
 use Rattle.std.specs.FinMap as map
-use Rattle.slotmap_core.specs.Words.{◌≡◌, List, None, Key, Pairs, entry, vacant, AllPut}
+use Rattle.std.specs.Prelude.{◌≡◌, List, None}
+use Rattle.slotmap_core.specs.Words.{Key, Pairs, entry, vacant, AllPut}
 
 -- once the pairs were inserted into an empty map, the key of the pair that is returned could be inserted, and nothing was at its index
 pub record LacksRoomForPair {K V : Type 0} (data_of : K → Key) (pairs : List (K × V)) (back : K × V) : Type 0 where

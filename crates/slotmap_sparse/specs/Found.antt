@@ -1,5 +1,6 @@
 -- What a look-up says of a key's entry, and what a put does to the pair at an index. No public clause cites this module.
-use Rattle.slotmap_core.specs.Words.{◌≡◌, ℕ, Option, None, Some, if◌then◌else◌, Entry, no_entry, occupied, vacant, entry_at, has_entry}
+use Rattle.std.specs.Prelude.{◌≡◌, if◌then◌else◌, ℕ, Option, None, Some}
+use Rattle.slotmap_core.specs.Words.{Entry, no_entry, occupied, vacant, entry_at, has_entry}
 use Rattle.slotmap_sparse.specs.declared.find.Found.{Found}
 use Rattle.slotmap_sparse.specs.declared.find.Found.TheVariants as found
 

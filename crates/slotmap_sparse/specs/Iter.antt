@@ -1,5 +1,6 @@
 -- What an iterator over the entries of a hash map has still to visit. No public clause cites this module.
-use Rattle.slotmap_core.specs.Words.{ℕ, ◌<◌, List, map as list_map, AllByRecursion, Key, IsKey, null_key, keyed_entry}
+use Rattle.std.specs.Prelude.{◌<◌, ℕ, List, map as list_map}
+use Rattle.slotmap_core.specs.Words.{AllByRecursion, Key, IsKey, null_key, keyed_entry}
 
 module _ {V : Type 0} where
   -- the keys and values of these entries

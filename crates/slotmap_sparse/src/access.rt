@@ -1,7 +1,7 @@
 //! Look-ups: which keys are in the map, and their values; and several values replaced at once.
 
-ghost use Rattle.slotmap_core.specs.Words.{◌≡◌, ◌↔◌, IsTrue, IsOk, IfOk, OnOk, OnErr, IfErr, option_copied, Some, true, map as map_list, sem};
-ghost use Rattle.slotmap_core.specs.Words.{option_copied_mut, get, contains_key, bind};
+ghost use Rattle.std.specs.Prelude.{◌≡◌, ◌↔◌, IsTrue, IsOk, IfOk, OnOk, OnErr, IfErr, option_copied, Some, true, map as map_list};
+ghost use Rattle.slotmap_core.specs.Words.{sem, option_copied_mut, get, contains_key, bind};
 ghost use Rattle.slotmap_core.specs.Several.{CanReplace, AreValuesOf, with_values};
 ghost use Rattle.slotmap_sparse.specs.Content.{IsContent, with_value};
 

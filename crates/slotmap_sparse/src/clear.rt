@@ -1,7 +1,7 @@
 //! The call that removes all keys.
 
 ghost use Rattle.std.specs.FinMap as map;
-ghost use Rattle.slotmap_core.specs.Words.{◌≡◌, ◌≤◌};
+ghost use Rattle.std.specs.Prelude.{◌≡◌, ◌≤◌};
 ghost use Rattle.slotmap_sparse.specs.Content.{IsContent};
 
 use crate::SparseSecondaryMap;

@@ -1,6 +1,7 @@
 //! Copies of a map.
 
-ghost use Rattle.slotmap_core.specs.Words.{◌≡◌, IfOk, OnOk, OnErr, ClonesEqual, HasClones};
+ghost use Rattle.std.specs.Prelude.{◌≡◌, IfOk, OnOk, OnErr};
+ghost use Rattle.slotmap_core.specs.Words.{ClonesEqual, HasClones};
 ghost use Rattle.slotmap_sparse.specs.Content.{IsContent};
 
 use crate::SparseSecondaryMap;

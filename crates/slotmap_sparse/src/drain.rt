@@ -1,7 +1,8 @@
 //! The iterator that removes the pairs of a map.
 
 ghost use Rattle.std.specs.FinMap as map;
-ghost use Rattle.slotmap_core.specs.Words.{◌≡◌, ◌≤◌, Some, IfSome, size, UpTo};
+ghost use Rattle.std.specs.Prelude.{◌≡◌, ◌≤◌, Some, IfSome};
+ghost use Rattle.slotmap_core.specs.Words.{size, UpTo};
 ghost use Rattle.slotmap_sparse.specs.Content.{IsContent};
 
 use crate::{DefaultHasher, SparseSecondaryMap};

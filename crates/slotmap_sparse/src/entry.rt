@@ -1,7 +1,8 @@
 //! A key's entry in a map.
 
 ghost use Rattle.std.specs.FinMap as map;
-ghost use Rattle.slotmap_core.specs.Words.{◌≡◌, ◌≤◌, ◌<◌, Some, None, IsOk, IfOk, IfErr, OnErr, unwrap_or, UnwrapsOrElse, sem, MutBor, ModifiesValue};
+ghost use Rattle.std.specs.Prelude.{◌≡◌, ◌≤◌, ◌<◌, Some, None, IsOk, IfOk, IfErr, OnErr, unwrap_or};
+ghost use Rattle.slotmap_core.specs.Words.{UnwrapsOrElse, sem, MutBor, ModifiesValue};
 ghost use Rattle.slotmap_sparse.specs.Content.{IsContent, room};
 
 use crate::find::Found;

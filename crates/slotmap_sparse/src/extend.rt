@@ -1,7 +1,8 @@
 //! Many pairs at once.
 
 ghost use Rattle.std.specs.FinMap as map;
-ghost use Rattle.slotmap_core.specs.Words.{◌≡◌, ◌≤◌, List, IfOk, IfErr, OnErr, Some, None, IsFinite, Drains, YieldsThen, AllPut, Extends, ExtendsBy};
+ghost use Rattle.std.specs.Prelude.{◌≡◌, ◌≤◌, List, IfOk, IfErr, OnErr, Some, None};
+ghost use Rattle.slotmap_core.specs.Words.{IsFinite, Drains, YieldsThen, AllPut, Extends, ExtendsBy};
 ghost use Rattle.slotmap_sparse.specs.Content.{IsContent};
 ghost use Rattle.slotmap_sparse.specs.Extend.{LacksRoomForPair};
 

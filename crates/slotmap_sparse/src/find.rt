@@ -1,7 +1,8 @@
 //! What the map holds at an index, and what a key finds there.
 
 ghost use Rattle.std.specs.FinMap as map;
-ghost use Rattle.slotmap_core.specs.Words.{◌≡◌, option_copied, IsKey, entry, is_null};
+ghost use Rattle.std.specs.Prelude.{◌≡◌, option_copied};
+ghost use Rattle.slotmap_core.specs.Words.{IsKey, entry, is_null};
 ghost use Rattle.slotmap_sparse.specs.Content.{IsContent};
 
 use crate::SparseSecondaryMap;

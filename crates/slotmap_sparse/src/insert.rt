@@ -1,8 +1,8 @@
 //! The calls that put one value under a key.
 
 ghost use Rattle.std.specs.FinMap as map;
-ghost use Rattle.slotmap_core.specs.Words.{◌≡◌, ◌<◌, ◌≤◌, ◌+◌, Some, None, IfOk, OnOk, OnErr, IfErr, IsOk, true, false, get, put, bind, is_null, value_at};
-ghost use Rattle.slotmap_core.specs.Words.{RefusesPut, OrPuts};
+ghost use Rattle.std.specs.Prelude.{◌≡◌, ◌<◌, ◌≤◌, ◌+◌, Some, None, IfOk, OnOk, OnErr, IfErr, IsOk, true, false};
+ghost use Rattle.slotmap_core.specs.Words.{get, put, bind, is_null, value_at, RefusesPut, OrPuts};
 ghost use Rattle.slotmap_core.specs.declared.secondary.OrPut.TheVariants as or_put;
 ghost use Rattle.slotmap_sparse.specs.Content.{IsContent};
 ghost use Rattle.slotmap_sparse.specs.Found.{put_over};

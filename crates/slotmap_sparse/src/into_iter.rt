@@ -1,6 +1,7 @@
 //! The iterator that consumes a map.
 
-ghost use Rattle.slotmap_core.specs.Words.{◌≡◌, ◌≤◌, length, Some, IfSome, YieldsFirstBy, item_count, at_most, UpTo, keyed, IsListing};
+ghost use Rattle.std.specs.Prelude.{◌≡◌, ◌≤◌, length, Some, IfSome};
+ghost use Rattle.slotmap_core.specs.Words.{YieldsFirstBy, item_count, at_most, UpTo, keyed, IsListing};
 
 use crate::SparseSecondaryMap;
 use slotmap_core::keys::{Key, KeyData};

@@ -1,8 +1,8 @@
 //! Iterators over the keys and values of a map.
 
 ghost use Rattle.std.specs.FinMap as map;
-ghost use Rattle.slotmap_core.specs.Words.{◌≡◌, ◌≤◌, length, Some, IfSome, IfNone, true, ⊤, YieldsFirstBy, item_count, at_most, UpTo, keyed, contains_key};
-ghost use Rattle.slotmap_core.specs.Words.{IsListing, IsKeyListing, IsValueListing};
+ghost use Rattle.std.specs.Prelude.{◌≡◌, ◌≤◌, length, Some, IfSome, IfNone, true, ⊤};
+ghost use Rattle.slotmap_core.specs.Words.{YieldsFirstBy, item_count, at_most, UpTo, keyed, contains_key, IsListing, IsKeyListing, IsValueListing};
 ghost use Rattle.slotmap_sparse.specs.Content.{IsContent};
 
 use crate::SparseSecondaryMap;

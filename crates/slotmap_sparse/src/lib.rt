@@ -20,7 +20,7 @@
 #![tactic(auto)]
 
 ghost use Rattle.std.specs.FinMap as map;
-ghost use Rattle.slotmap_core.specs.Words.{◌≡◌, ◌≤◌, ◌↔◌, IsTrue, IfOk, OnOk, IfErr, IsOk};
+ghost use Rattle.std.specs.Prelude.{◌≡◌, ◌≤◌, ◌↔◌, IsTrue, IfOk, OnOk, IfErr, IsOk};
 ghost use Rattle.slotmap_sparse.specs.Content.{IsContent, MakesRoom, RefusesRoom, most_keys};
 
 mod access;

@@ -1,8 +1,8 @@
 //! Lists of slots: a map written out, and a map read back.
 
 ghost use Rattle.std.specs.FinMap as map;
-ghost use Rattle.slotmap_core.specs.Words.{◌≡◌, ◌<◌, ◌≤◌, ◌^◌, ◌%◌, None, IfOk, OnOk, IsOk, IfErr, IsSome, ClonesEqual, IsCloneOf, Key, null_key, get, keyed};
-ghost use Rattle.slotmap_core.specs.Words.{start_live, Accepts, RefusesStart};
+ghost use Rattle.std.specs.Prelude.{◌≡◌, ◌<◌, ◌≤◌, ◌^◌, ◌%◌, None, IfOk, OnOk, IsOk, IfErr, IsSome};
+ghost use Rattle.slotmap_core.specs.Words.{ClonesEqual, IsCloneOf, Key, null_key, get, keyed, start_live, Accepts, RefusesStart};
 ghost use Rattle.slotmap_sparse.specs.Content.{IsContent};
 ghost use Rattle.slotmap_sparse.specs.Written.{ReachesLargest, Writes, WritesClones, IsCloneSlot, with_slot};
 

@@ -1,7 +1,8 @@
 //! The calls that remove one value.
 
 ghost use Rattle.std.specs.FinMap as map;
-ghost use Rattle.slotmap_core.specs.Words.{◌≡◌, ◌≤◌, Some, IfNone, true, get, contains_key, remove};
+ghost use Rattle.std.specs.Prelude.{◌≡◌, ◌≤◌, Some, IfNone, true};
+ghost use Rattle.slotmap_core.specs.Words.{get, contains_key, remove};
 ghost use Rattle.slotmap_sparse.specs.Content.{IsContent, room};
 ghost use Rattle.slotmap_sparse.specs.Drain.{TakesPair};
 

@@ -1,6 +1,7 @@
 //! The call that visits all keys, and removes those that its closure rejects.
 
-ghost use Rattle.slotmap_core.specs.Words.{◌≡◌, ◌≤◌, key_from, keyed, CallsAt, RetainsBy, CallableOnEach};
+ghost use Rattle.std.specs.Prelude.{◌≡◌, ◌≤◌};
+ghost use Rattle.slotmap_core.specs.Words.{key_from, keyed, CallsAt, RetainsBy, CallableOnEach};
 ghost use Rattle.slotmap_sparse.specs.Content.{IsContent, room};
 ghost use Rattle.slotmap_sparse.specs.Entries.{CallableOnPair};
 

@@ -1,6 +1,7 @@
 //! Runs one after the other on one map, each with closures of its own.
 
-ghost use Rattle.slotmap_core.specs.Words.{◌++◌, IfSome, DetachLaws, Laws, NoKeyTwice};
+ghost use Rattle.std.specs.Prelude.{◌++◌, IfSome};
+ghost use Rattle.slotmap_core.specs.Words.{DetachLaws, Laws, NoKeyTwice};
 
 use super::text::key;
 use crate::{

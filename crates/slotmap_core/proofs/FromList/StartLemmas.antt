@@ -1,16 +1,15 @@
 -- The content of a map whose places come from the slots of an accepted list.
 -- For the crates of maps.
-use Rattle.std.proofs.Common.{◌≡◌, ◌≢◌, ℕ, suc, ◌+◌, ◌%◌, ◌^◌, ◌<◌, List, [], ◌∷◌, ◌++◌, length, map as list_map, slice_get, Option, None, Some, is_some, refl, ap, arith}
 use Rattle.std.proofs.lemmas.Bool.Decides.{nat_tests}
 use Rattle.std.proofs.lemmas.List.{length-map, map-append}
 use Rattle.std.proofs.lemmas.Option.{slice_get-map, slice_get_within}
 use Rattle.std.specs.FinMap as map
 use Rattle.std.specs.FinSet as set
-use Rattle.slotmap_core.specs.Words.{key_cmp, live_slot, vacant_slot, retired_slot, start_live, start_next, start_retired, place_of_record, start_places}
-use Rattle.slotmap_core.specs.Words.{gather, Place, Vacant, live_entry, detached_entry, retired_entry, next_entry, live, detached, next, IsConsistent}
-use Rattle.slotmap_core.specs.Words.{AllConsistentBelow, Accepts, HasVersion}
+use Rattle.std.proofs.Common.{◌≡◌, ◌≢◌, ◌+◌, ◌%◌, ◌^◌, ◌<◌, ◌∷◌, ◌++◌, refl, ap, arith, ℕ, suc, List, [], length, map as list_map, slice_get, Option, None}
+use Rattle.slotmap_core.specs.Words.{Some, is_some, key_cmp, live_slot, vacant_slot, retired_slot, start_live, start_next, start_retired, place_of_record}
+use Rattle.slotmap_core.specs.Words.{start_places, gather, Place, Vacant, live_entry, detached_entry, retired_entry, next_entry, live, detached, next}
+use Rattle.slotmap_core.specs.Words.{IsConsistent, AllConsistentBelow, Accepts, HasVersion, SlotRecord}
 use Rattle.slotmap_core.specs.Places.{retired}
-use Rattle.slotmap_core.specs.declared.serial.SlotRecord.{SlotRecord}
 
 module _ {V : Type 0} (slot : SlotRecord V) (consistent : IsConsistent slot) where
   pub odd_of : (v : V) → slot.value ≡ Some v → slot.version % 2 ≡ 1

@@ -1,13 +1,12 @@
 -- The stack of a map that is read from a list. It has each vacant index once, and it and the places are well formed.
 -- For the crates of maps.
-use Rattle.std.proofs.Common.{◌≡◌, ◌⊎◌, ◌↔◌, ℕ, zero, suc, ◌+◌, ◌^◌, ◌<◌, ◌≤◌, true, List, [], ◌∷◌, ◌++◌, length, slice_get, Option, None, Some, is_some, refl, sym, ap, subst, ◌∙◌, arith}
 use Rattle.std.proofs.lemmas.Bool.Decides.{nat_tests}
 use Rattle.std.proofs.lemmas.List.{length_push}
 use Rattle.std.proofs.lemmas.Option.{slice_get_within, same_Some}
 use Rattle.std.specs.FinMap as map
-use Rattle.slotmap_core.specs.Words.{nat_cmp_total, nat_cmp, vacant_slot, start_next, start_stack, start_places, gather, Place, Vacant, next, Accepts}
-use Rattle.slotmap_core.specs.Words.{AllFitBelow, IsOn, IsOnce, HasVersion, IsStacked}
-use Rattle.slotmap_core.specs.declared.serial.SlotRecord.{SlotRecord}
+use Rattle.std.proofs.Common.{◌≡◌, ◌⊎◌, ◌↔◌, ◌+◌, ◌^◌, ◌<◌, ◌≤◌, ◌∷◌, ◌++◌, refl, sym, ap, subst, ◌∙◌, arith, ℕ, zero, suc, true, List, [], length, slice_get}
+use Rattle.slotmap_core.specs.Words.{Option, None, Some, is_some, nat_cmp_total, nat_cmp, vacant_slot, start_next, start_stack, start_places, gather, Place}
+use Rattle.slotmap_core.specs.Words.{Vacant, next, Accepts, AllFitBelow, IsOn, IsOnce, HasVersion, IsStacked, SlotRecord}
 use Rattle.slotmap_core.proofs.FromList.AtKeysLemmas.{vacant_fits, next_in}
 use Rattle.slotmap_core.proofs.General.GatherLemmas.{get_before, len-add}
 use Rattle.slotmap_core.proofs.General.MapLaws.{next_laws}

@@ -1,16 +1,15 @@
 -- The list that a map is written as: from its places, that it is accepted, and what is read from it.
 -- For the crates of maps.
-use Rattle.std.proofs.Common.{◌≡◌, ◌≢◌, ◌⊎◌, inl, inr, ℕ, ◌+◌, ◌-◌, ◌%◌, ◌<◌, ◌≤◌, Bool, true, false, List, length, slice_get, Some, is_some, refl, sym, ap, get_or, ◌∙◌, arith, eq-eqb}
 use Rattle.std.proofs.lemmas.List.{length-map, same_lists}
 use Rattle.std.proofs.lemmas.Option.{slice_get-map, slice_get_within, slice_get-get_or}
 use Rattle.std.specs.FinMap as map
 use Rattle.std.specs.FinSet as set
-use Rattle.slotmap_core.specs.Words.{Key, IsKey, is_last, last_version, next_version, Content, IsContent, IsDetached, IsRetired, IsVacant, Uses, places}
-use Rattle.slotmap_core.specs.Words.{start_live, StartsFrom, Place, Live, Detached, Vacant, Retired, live, detached, next, retired_entry, Accepts, StackMap}
-use Rattle.slotmap_core.specs.Words.{content_of_places, IsStacked, following_version, filled_slot, empty_slot, Writes, Restores, record_of, records_of}
-use Rattle.slotmap_core.specs.Words.{read_slots}
+use Rattle.std.proofs.Common.{◌≡◌, ◌≢◌, ◌⊎◌, inl, inr, ◌+◌, ◌-◌, ◌%◌, ◌<◌, ◌≤◌, refl, sym, ap, ◌∙◌, arith, eq-eqb, ℕ, Bool, true, false, List, length, Some}
+use Rattle.slotmap_core.specs.Words.{slice_get, is_some, get_or, Key, IsKey, is_last, last_version, next_version, Content, IsContent, IsDetached, IsRetired}
+use Rattle.slotmap_core.specs.Words.{IsVacant, Uses, places, start_live, StartsFrom, Place, Live, Detached, Vacant, Retired, live, detached, next}
+use Rattle.slotmap_core.specs.Words.{retired_entry, Accepts, StackMap, content_of_places, IsStacked, following_version, filled_slot, empty_slot, Writes}
+use Rattle.slotmap_core.specs.Words.{Restores, record_of, records_of, read_slots, SlotRecord}
 use Rattle.slotmap_core.specs.Places.{retired}
-use Rattle.slotmap_core.specs.declared.serial.SlotRecord.{SlotRecord}
 use Rattle.slotmap_core.proofs.Contents.ContentLemmas.{some_is}
 use Rattle.slotmap_core.proofs.FromList.AtKeysLemmas.{gathers, live_in, in_contents, next_in, in_start_next, retired_in, in_start_retired}
 use Rattle.slotmap_core.proofs.General.KeyLemmas.{exact_keys, keys_total, nat_tests}

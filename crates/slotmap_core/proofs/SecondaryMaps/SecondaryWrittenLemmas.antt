@@ -1,11 +1,9 @@
 -- A secondary map holds what a list of slots says, if at each index it holds what the slot there has.
 -- For the crates of maps.
-use Rattle.std.proofs.Common.{◌≡◌, ℕ, ◌%◌, ◌<◌, List, length, slice_get, Option, None, Some, true, cond, eq-eqb, is_some, option_map}
-use Rattle.std.proofs.Common.{sym, ap, subst, ◌∙◌, arith}
 use Rattle.std.proofs.lemmas.Option.{slice_get_past}
 use Rattle.std.specs.FinMap as map
-use Rattle.slotmap_core.specs.Words.{Pairs, IsSecondary, value_at, keyed, record_of_pair, slot_pair, start_live}
-use Rattle.slotmap_core.specs.declared.serial.SlotRecord.{SlotRecord}
+use Rattle.std.proofs.Common.{◌≡◌, ◌%◌, ◌<◌, eq-eqb, sym, ap, subst, ◌∙◌, arith, ℕ, List, length, slice_get, Option, None, Some, true, cond, is_some}
+use Rattle.slotmap_core.specs.Words.{option_map, Pairs, IsSecondary, value_at, keyed, record_of_pair, slot_pair, start_live, SlotRecord}
 use Rattle.slotmap_core.proofs.General.KeyLemmas.{keys_total, exact_keys}
 use Rattle.slotmap_core.proofs.General.Maps.{none_of, false_of, some_is}
 use Rattle.slotmap_core.proofs.SecondaryMaps.KeyedLemmas.{get-keyed}

@@ -1,10 +1,9 @@
 -- What the calls `can_replace` and `replace_disjoint` of a map of any kind do with the key at position i of those that were given.
 -- For the crates of maps.
-use Rattle.std.proofs.Common.{◌≡◌, ◌↔◌, ℕ, ◌+◌, ◌<◌, Bool, true, false, List, length, get_or, set, take}
-use Rattle.std.proofs.Common.{Option, Some, is_some, map as map_list, sym, ap, subst, ◌∙◌, ◌⊎◌, inl, inr, arith}
 use Rattle.std.proofs.lemmas.List.{get_or-map, get_or_default, length-map}
 use Rattle.std.specs.FinMap as map
-use Rattle.slotmap_core.specs.Words.{IsTrue, list_any, nat_cmp_total, Key, IsKey}
+use Rattle.std.proofs.Common.{◌≡◌, ◌↔◌, ◌+◌, ◌<◌, set, sym, ap, subst, ◌∙◌, ◌⊎◌, inl, inr, arith, ℕ, Bool, true, false, List, length, get_or, take, Option}
+use Rattle.slotmap_core.specs.Words.{Some, is_some, map as map_list, IsTrue, list_any, nat_cmp_total, Key, IsKey}
 use Rattle.slotmap_core.specs.Several.{CanReplace}
 use Rattle.slotmap_core.specs.Secondary as pair
 use Rattle.slotmap_core.proofs.SecondaryMaps.KeyedLemmas.{pairs_written}

@@ -1,13 +1,12 @@
 -- Several keys of a map get new values, one after another, in a map of any kind.
 -- For the crates of maps.
-use Rattle.std.proofs.Common.{◌≡◌, ◌≢◌, ◌↔◌, ℕ, suc, ◌+◌, ◌<◌, Bool, true, false, List, [], ◌∷◌, ◌++◌, length, get_or, set, take, drop, Option, Some}
-use Rattle.std.proofs.Common.{is_some, map as map_list, refl, sym, ap, subst, ◌∙◌, arith}
 use Rattle.std.proofs.lemmas.List.{length-set, take_more, take_more_set, drop_more, drop-set-lt, map_push, length-take-le, get_or-take, get_or_default, get_or-map, length-map}
 use Rattle.std.proofs.lemmas.List.Elements.{All-push}
 use Rattle.std.proofs.lemmas.List.Folds.{Any-from_list_any, list_any_at}
 use Rattle.std.proofs.lemmas.List.Quantifiers.{all_pairs_push}
 use Rattle.std.proofs.lemmas.Grind.{drop_more_same}
-use Rattle.slotmap_core.specs.Words.{All, list_any, Key}
+use Rattle.std.proofs.Common.{◌≡◌, ◌≢◌, ◌↔◌, ◌+◌, ◌<◌, ◌∷◌, ◌++◌, set, refl, sym, ap, subst, ◌∙◌, arith, ℕ, suc, Bool, true, false, List, [], length, get_or}
+use Rattle.slotmap_core.specs.Words.{take, drop, Option, Some, is_some, map as map_list, All, list_any, Key}
 use Rattle.slotmap_core.specs.Several.{CanReplace, AreValuesOf, with_values}
 use Rattle.slotmap_core.proofs.General.KeyLemmas.{same_or_other}
 

@@ -2,7 +2,8 @@
 //!
 //! To make a key type, copy this file and replace `NodeKey` by its name.
 
-ghost use Rattle.slotmap_core.specs.Words.{◌≡◌, refl, null_key};
+ghost use Rattle.std.specs.Prelude.{◌≡◌, refl};
+ghost use Rattle.slotmap_core.specs.Words.{null_key};
 
 use crate::keys::{Key, KeyData};
 use std::marker::Model;

@@ -1,4 +1,5 @@
-use Rattle.slotmap_core.proofs.Lemmas.{◌≡◌, Ok, Err, Some, refl, sym, rules, says_at}
+use Rattle.std.proofs.Common.{◌≡◌, Ok, Err, Some, refl, sym, rules}
+use Rattle.slotmap_core.proofs.Common.{says_at}
 use Rattle.serde_json.specs.View.{view}
 use Rattle.slotmap_json.specs.Json.{ReadsJson, ok_map}
 use Rattle.slotmap_json.proofs.JsonLemmas.{reads_value}

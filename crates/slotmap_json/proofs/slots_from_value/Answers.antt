@@ -1,4 +1,5 @@
-use Rattle.slotmap_core.proofs.Lemmas.{◌≡◌, ◌∙◌, Some, Err, ap, rules, arith, common_steps}
+use Rattle.std.proofs.Common.{◌≡◌, ◌∙◌, Some, Err, ap, rules, arith}
+use Rattle.slotmap_core.proofs.Common.{common_steps}
 use Rattle.serde_json.specs.View.{view, items_view}
 use Rattle.slotmap_json.specs.Json.{ReadsJson}
 use Rattle.slotmap_core.specs.declared.errors.JsonError.TheVariants.{Memory}

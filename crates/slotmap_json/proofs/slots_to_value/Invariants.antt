@@ -1,5 +1,4 @@
-use Rattle.slotmap_core.specs.Words.{AllZip}
-use Rattle.slotmap_core.proofs.Lemmas.{take, map}
+use Rattle.slotmap_core.proofs.Common.{AllZip, take, map}
 use Rattle.serde_json.specs.View.{view}
 use Rattle.slotmap_json.specs.Json.{GivesJson, IsSlotJson}
 use Rattle.slotmap_json.proofs.slots_to_value.Given as goal

@@ -1,6 +1,6 @@
 //! Slots in three vectors of one length.
 
-ghost use Rattle.slotmap_core.specs.Words.{◌≡◌, ◌+◌, ◌<◌, ◌≤◌, ◌^◌, ℕ, List, length, slice_get, Some, IfSome, IfNone, refl, vec_capacity};
+ghost use Rattle.std.specs.Prelude.{◌≡◌, ◌+◌, ◌<◌, ◌≤◌, ◌^◌, ℕ, List, length, slice_get, Some, IfSome, IfNone, refl, vec_capacity};
 ghost use Rattle.slotmap_slots.specs.Columns.{zip_slots};
 ghost use Rattle.slotmap_slots.specs.Numbers.{uses_of};
 ghost use Rattle.slotmap_slots.specs.declared.layout.Use.{Use as UseOf};

@@ -1,7 +1,7 @@
 //! What a slot is used for, as a number beside its version: the next slot of the free list, or a
 //! number set aside.
 
-ghost use Rattle.slotmap_core.specs.Words.{◌≡◌, ◌≢◌};
+ghost use Rattle.std.specs.Prelude.{◌≡◌, ◌≢◌};
 ghost use Rattle.slotmap_slots.specs.Numbers.{use_of, number_of};
 ghost use Rattle.slotmap_slots.specs.declared.layout.Use.TheVariants.{InUse};
 

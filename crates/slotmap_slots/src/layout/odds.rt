@@ -1,6 +1,7 @@
 //! The odd versions of a vector of versions, found 64 at a time.
 
-ghost use Rattle.slotmap_core.specs.Words.{◌≡◌, ◌≢◌, ℕ, ◌+◌, ◌%◌, ◌<◌, ◌≤◌, length, get_or, IfSome, IfNone, bit_at};
+ghost use Rattle.std.specs.Prelude.{◌≡◌, ◌≢◌, ◌+◌, ◌%◌, ◌<◌, ◌≤◌, ℕ, length, get_or, IfSome, IfNone};
+ghost use Rattle.slotmap_core.specs.Words.{bit_at};
 ghost use Rattle.slotmap_slots.specs.Columns.{AllEven, IsNextOdd};
 ghost use Rattle.slotmap_slots.specs.Odds.{AreOdd, AllOdd, IsFound, HasOdds, IsSeen, IsAhead};
 

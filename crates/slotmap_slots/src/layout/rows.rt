@@ -1,6 +1,6 @@
 //! Slots in one vector.
 
-ghost use Rattle.slotmap_core.specs.Words.{◌≡◌, ℕ, ◌<◌, ◌≤◌, ◌^◌, refl, vec_capacity};
+ghost use Rattle.std.specs.Prelude.{◌≡◌, ◌<◌, ◌≤◌, ◌^◌, ℕ, refl, vec_capacity};
 ghost use Rattle.slotmap_slots.specs.Slot.{FitsEmpty, empty};
 ghost use Rattle.slotmap_slots.specs.Rows.{slot_of_row};
 
@@ -28,7 +28,7 @@ pub struct Rows {
 }
 
 impl Model for Rows {
-    ghost use Rattle.slotmap_core.specs.Words.{◌<◌, ◌≤◌, ◌^◌, ℕ, vec_capacity};
+    ghost use Rattle.std.specs.Prelude.{◌<◌, ◌≤◌, ◌^◌, ℕ, vec_capacity};
     ghost use Rattle.slotmap_slots.specs.Slot.{SlotList};
     ghost use Rattle.slotmap_slots.specs.Rows.{slots_of_rows};
 

@@ -1,7 +1,8 @@
 //! Look-ups.
 
 ghost use Rattle.std.specs.FinMap as map;
-ghost use Rattle.slotmap_core.specs.Words.{◌≡◌, ◌+◌, ◌<◌, ◌≤◌, IfNone, IfSome, option_copied, Some, true, false, sem, Key, IsContent, IsLive};
+ghost use Rattle.std.specs.Prelude.{◌≡◌, ◌+◌, ◌<◌, ◌≤◌, IfNone, IfSome, option_copied, Some, true, false};
+ghost use Rattle.slotmap_core.specs.Words.{sem, Key, IsContent, IsLive};
 
 use super::Slots;
 use crate::layout::Layout;

@@ -2,7 +2,8 @@
 
 ghost use Rattle.std.specs.FinMap as map;
 ghost use Rattle.std.specs.FinSet as set;
-ghost use Rattle.slotmap_core.specs.Words.{◌≡◌, OnSome, IfNone, Some, true, IsContent, IsDetached, IsLive, Detaches, Reattaches, StaysValid};
+ghost use Rattle.std.specs.Prelude.{◌≡◌, OnSome, IfNone, Some, true};
+ghost use Rattle.slotmap_core.specs.Words.{IsContent, IsDetached, IsLive, Detaches, Reattaches, StaysValid};
 
 use super::Slots;
 use crate::layout::{Layout, Use};

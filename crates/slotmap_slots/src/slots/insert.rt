@@ -1,6 +1,7 @@
 //! New keys.
 
-ghost use Rattle.slotmap_core.specs.Words.{◌≡◌, ◌<◌, true, Inserts, StaysValid};
+ghost use Rattle.std.specs.Prelude.{◌≡◌, ◌<◌, true};
+ghost use Rattle.slotmap_core.specs.Words.{Inserts, StaysValid};
 
 use super::Slots;
 use crate::layout::Layout;

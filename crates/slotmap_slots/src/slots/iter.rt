@@ -1,7 +1,8 @@
 //! Iterators over slots in three vectors, by ascending index.
 
 ghost use Rattle.std.specs.FinMap as map;
-ghost use Rattle.slotmap_core.specs.Words.{◌≡◌, ◌≤◌, length, Some, IfSome, IfOk, ⊤, YieldsFirstBy, item_count, at_most, UpTo, ClonesEqual, AreClones};
+ghost use Rattle.std.specs.Prelude.{◌≡◌, ◌≤◌, length, Some, IfSome, IfOk, ⊤};
+ghost use Rattle.slotmap_core.specs.Words.{YieldsFirstBy, item_count, at_most, UpTo, ClonesEqual, AreClones};
 
 use super::Slots;
 use crate::layout::{Columns, Odds, version_in};

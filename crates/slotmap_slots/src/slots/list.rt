@@ -1,8 +1,8 @@
 //! Lists of slots: slots are written out, and read back.
 
 ghost use Rattle.std.specs.FinMap as map;
-ghost use Rattle.slotmap_core.specs.Words.{◌≡◌, ◌<◌, ◌^◌, ◌↔◌, ◌%◌, ℕ, length, IfOk, IsOk, IfErr, IsSome, true, Some, ClonesEqual, IsCloneOf, Key as KeyOf};
-ghost use Rattle.slotmap_core.specs.Words.{start_live, start_stack, ReadsAs, Accepts, RefusesStart, Writes, WritesClones};
+ghost use Rattle.std.specs.Prelude.{◌≡◌, ◌<◌, ◌^◌, ◌↔◌, ◌%◌, ℕ, length, IfOk, IsOk, IfErr, IsSome, true, Some};
+ghost use Rattle.slotmap_core.specs.Words.{ClonesEqual, IsCloneOf, Key as KeyOf, start_live, start_stack, ReadsAs, Accepts, RefusesStart, Writes, WritesClones};
 ghost use Rattle.slotmap_slots.specs.Slot.{version_at, payload_at};
 
 use super::Slots;

@@ -1,7 +1,8 @@
 //! Removals.
 
 ghost use Rattle.std.specs.FinMap as map;
-ghost use Rattle.slotmap_core.specs.Words.{◌≡◌, ◌+◌, ◌<◌, ◌≤◌, OnSome, IfNone, Some, true, IsLive, Removes, StaysValid};
+ghost use Rattle.std.specs.Prelude.{◌≡◌, ◌+◌, ◌<◌, ◌≤◌, OnSome, IfNone, Some, true};
+ghost use Rattle.slotmap_core.specs.Words.{IsLive, Removes, StaysValid};
 
 use super::Slots;
 use crate::layout::{Layout, Use};

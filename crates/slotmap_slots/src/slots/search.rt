@@ -1,7 +1,8 @@
 //! The search for the next live key in three vectors, and a loop over all of them.
 
 ghost use Rattle.std.specs.FinMap as map;
-ghost use Rattle.slotmap_core.specs.Words.{◌≡◌, ◌+◌, ◌<◌, ◌≤◌, IfNone, IfSome, true, Key, IsContent, IsLive, NoneBelow, Leaves, FreesByIndex, StaysValid};
+ghost use Rattle.std.specs.Prelude.{◌≡◌, ◌+◌, ◌<◌, ◌≤◌, IfNone, IfSome, true};
+ghost use Rattle.slotmap_core.specs.Words.{Key, IsContent, IsLive, NoneBelow, Leaves, FreesByIndex, StaysValid};
 ghost use Rattle.slotmap_slots.specs.Ahead.{KnowsLiveKeys};
 
 use super::Slots;

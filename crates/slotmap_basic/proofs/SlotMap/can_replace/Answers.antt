@@ -1,5 +1,5 @@
 use Rattle.slotmap_core.specs.Words.{value_of}
-use Rattle.slotmap_core.proofs.Lemmas.{arith, CanReplace-next, refuses_key}
+use Rattle.slotmap_core.proofs.Common.{arith, CanReplace-next, refuses_key}
 use Rattle.slotmap_basic.proofs.SlotMap.can_replace.Goals as goal
 
 pub returns-then-not-contains_key-clause-which : goal.returns-then-not-contains_key-clause-which

@@ -1,5 +1,4 @@
-use Rattle.slotmap_core.specs.Words.{CanReplace}
-use Rattle.slotmap_core.proofs.Lemmas.{take, map as map_list}
+use Rattle.slotmap_core.proofs.Common.{CanReplace, take, map as map_list}
 use Rattle.slotmap_basic.proofs.SlotMap.can_replace.Given as goal
 
 -- so far each key is live, and no two are equal

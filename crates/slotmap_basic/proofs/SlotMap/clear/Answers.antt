@@ -1,4 +1,4 @@
-use Rattle.slotmap_core.proofs.Lemmas.{rules}
+use Rattle.slotmap_core.proofs.Common.{rules}
 use Rattle.slotmap_basic.proofs.SlotMap.clear.Goals as goal
 
 pub returns-clause-empty : goal.returns-clause-empty

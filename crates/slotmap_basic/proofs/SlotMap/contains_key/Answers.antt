@@ -1,4 +1,4 @@
-use Rattle.slotmap_core.proofs.Lemmas.{rules}
+use Rattle.slotmap_core.proofs.Common.{rules}
 use Rattle.slotmap_basic.proofs.SlotMap.contains_key.Goals as goal
 
 pub returns-clause-value : goal.returns-clause-value

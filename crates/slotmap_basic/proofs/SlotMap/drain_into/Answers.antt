@@ -1,6 +1,6 @@
 use Rattle.std.specs.FinMap as map
-use Rattle.slotmap_core.proofs.Lemmas.{◌∷◌, [], ◌++◌, length, map as list_map, refl, sym, ap, ◌∙◌, append_assoc, append-nil, arith, map-append, none_live}
-use Rattle.slotmap_core.proofs.Lemmas.{entries_none, Swept-start, Swept-to, Swept-removed, first_entry, above_next}
+use Rattle.std.proofs.Common.{◌∷◌, ◌++◌, [], length, map as list_map, refl, sym, ap, ◌∙◌, append_assoc, append-nil, arith}
+use Rattle.slotmap_core.proofs.Common.{map-append, none_live, entries_none, Swept-start, Swept-to, Swept-removed, first_entry, above_next}
 use Rattle.slotmap_slots.proofs.AheadLemmas.{odds_removed}
 use Rattle.slotmap_basic.proofs.SlotMap.drain_into.Goals as goal
 

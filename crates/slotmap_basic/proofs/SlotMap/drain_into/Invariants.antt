@@ -1,6 +1,6 @@
 use Rattle.std.specs.FinMap as map
-use Rattle.slotmap_core.specs.Words.{places, NoneBelow}
-use Rattle.slotmap_core.proofs.Lemmas.{◌≡◌, ◌+◌, ◌-◌, ◌≤◌, ◌++◌, true, List, length, map as list_map, vec_len, vec_capacity, Swept}
+use Rattle.std.proofs.Common.{◌≡◌, ◌+◌, ◌-◌, ◌≤◌, ◌++◌, true, List, length, map as list_map, vec_len, vec_capacity}
+use Rattle.slotmap_core.proofs.Common.{places, NoneBelow, Swept}
 use Rattle.slotmap_slots.specs.Ahead.{KnowsLiveKeys}
 use Rattle.slotmap_basic.proofs.SlotMap.drain_into.Given as goal
 

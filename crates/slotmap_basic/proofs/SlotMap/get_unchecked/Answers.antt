@@ -1,4 +1,4 @@
-use Rattle.slotmap_core.proofs.Lemmas.{rules}
+use Rattle.slotmap_core.proofs.Common.{rules}
 use Rattle.slotmap_basic.proofs.SlotMap.get_unchecked.Goals as goal
 
 pub get_unchecked-requires : goal.get_unchecked-requires

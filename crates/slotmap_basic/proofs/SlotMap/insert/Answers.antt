@@ -1,4 +1,4 @@
-use Rattle.slotmap_core.proofs.Lemmas.{rules}
+use Rattle.slotmap_core.proofs.Common.{rules}
 use Rattle.slotmap_basic.proofs.SlotMap.insert.Goals as goal
 
 pub returns-in-Err-Memory-clause-err : goal.returns-in-Err-Memory-clause-err

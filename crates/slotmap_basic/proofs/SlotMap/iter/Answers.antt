@@ -1,4 +1,4 @@
-use Rattle.slotmap_core.proofs.Lemmas.{listing-entries}
+use Rattle.slotmap_core.proofs.Common.{listing-entries}
 use Rattle.slotmap_basic.proofs.SlotMap.iter.Goals as goal
 
 pub returns-clause-listing : goal.returns-clause-listing

@@ -1,4 +1,4 @@
-use Rattle.slotmap_core.proofs.Lemmas.{IsKeyListing-listing}
+use Rattle.slotmap_core.proofs.Common.{IsKeyListing-listing}
 use Rattle.slotmap_basic.proofs.SlotMap.keys.Goals as goal
 
 pub returns-clause-listing : goal.returns-clause-listing

@@ -1,6 +1,6 @@
 use Rattle.std.specs.FinMap as map
-use Rattle.slotmap_core.proofs.Lemmas.{◌≡◌, ◌∷◌, [], ◌++◌, length, map as list_map, sym, ap, ◌∙◌, append_assoc, append-nil, arith, map-append, some_is}
-use Rattle.slotmap_core.proofs.Lemmas.{from_index, from_index-start, from_index-end, entries_none, next_entry}
+use Rattle.std.proofs.Common.{◌≡◌, ◌∷◌, ◌++◌, [], length, map as list_map, sym, ap, ◌∙◌, append_assoc, append-nil, arith}
+use Rattle.slotmap_core.proofs.Common.{map-append, some_is, from_index, from_index-start, from_index-end, entries_none, next_entry}
 use Rattle.slotmap_basic.proofs.SlotMap.keys_into.Goals as goal
 
 pub loop-key-init : goal.loop-key-init

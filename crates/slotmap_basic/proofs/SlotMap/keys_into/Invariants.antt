@@ -1,6 +1,6 @@
 use Rattle.std.specs.FinMap as map
-use Rattle.slotmap_core.specs.Words.{places}
-use Rattle.slotmap_core.proofs.Lemmas.{◌≡◌, ◌+◌, ◌-◌, ◌≤◌, ◌++◌, List, length, map as list_map, vec_len, vec_capacity, from_index}
+use Rattle.std.proofs.Common.{◌≡◌, ◌+◌, ◌-◌, ◌≤◌, ◌++◌, List, length, map as list_map, vec_len, vec_capacity}
+use Rattle.slotmap_core.proofs.Common.{places, from_index}
 use Rattle.slotmap_slots.specs.Ahead.{KnowsLiveKeys}
 use Rattle.slotmap_basic.proofs.SlotMap.keys_into.Given as goal
 

@@ -1,4 +1,4 @@
-use Rattle.slotmap_core.proofs.Lemmas.{◌≡◌, arith}
+use Rattle.std.proofs.Common.{◌≡◌, arith}
 use Rattle.slotmap_basic.proofs.SlotMap.next_live.Goals.{After-from}
 use Rattle.slotmap_basic.proofs.SlotMap.next_live.Goals as goal
 

@@ -1,5 +1,4 @@
-use Rattle.slotmap_core.specs.Words.{option_copied_mut}
-use Rattle.slotmap_core.proofs.Lemmas.{true, is_some, refl, ap, sym, ◌∙◌, IsContent-with_value}
+use Rattle.slotmap_core.proofs.Common.{option_copied_mut, true, is_some, refl, ap, sym, ◌∙◌, IsContent-with_value}
 use Rattle.slotmap_basic.proofs.SlotMap.replace.Goals as goal
 
 pub returns-in-Some-clause-valid : goal.returns-in-Some-clause-valid

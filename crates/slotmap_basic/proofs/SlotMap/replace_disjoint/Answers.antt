@@ -1,5 +1,5 @@
-use Rattle.slotmap_core.proofs.Lemmas.{take, map as map_list, is_some, true, ap, ◌∙◌, arith, IsContent-with_value, content_written, capacity-with_values}
-use Rattle.slotmap_core.proofs.Lemmas.{key_there, key_exchanged}
+use Rattle.slotmap_core.proofs.Common.{take, map as map_list, is_some, true, ap, ◌∙◌, arith, IsContent-with_value, content_written, capacity-with_values}
+use Rattle.slotmap_core.proofs.Common.{key_there, key_exchanged}
 use Rattle.slotmap_basic.proofs.SlotMap.replace_disjoint.Goals as goal
 
 pub swap_value-requires : goal.swap_value-requires

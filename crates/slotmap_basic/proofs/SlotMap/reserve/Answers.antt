@@ -1,4 +1,4 @@
-use Rattle.slotmap_core.proofs.Lemmas.{rules}
+use Rattle.slotmap_core.proofs.Common.{rules}
 use Rattle.slotmap_basic.proofs.SlotMap.reserve.Goals as goal
 
 pub returns-clause-makes_room : goal.returns-clause-makes_room

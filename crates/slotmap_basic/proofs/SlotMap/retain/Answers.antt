@@ -1,5 +1,4 @@
-use Rattle.slotmap_core.specs.Words.{IsContent, IsLive, with_value}
-use Rattle.slotmap_core.proofs.Lemmas.{true, ◌∙◌, arith, same_live, CallsAt-called}
+use Rattle.slotmap_core.proofs.Common.{IsContent, IsLive, with_value, true, ◌∙◌, arith, same_live, CallsAt-called}
 use Rattle.slotmap_slots.proofs.AheadLemmas.{odds_removed, odds_written}
 use Rattle.slotmap_basic.proofs.RetainLemmas.{Going-start, Going-may, Going-end, Going-kept, Going-dropped}
 use Rattle.slotmap_basic.proofs.SlotMap.retain.Goals.{After-odds_from-odds, After-f-stays}

@@ -1,5 +1,5 @@
-use Rattle.slotmap_core.specs.Words.{places}
-use Rattle.slotmap_core.proofs.Lemmas.{◌+◌, ◌-◌}
+use Rattle.std.proofs.Common.{◌+◌, ◌-◌}
+use Rattle.slotmap_core.proofs.Common.{places}
 use Rattle.slotmap_slots.specs.Ahead.{KnowsLiveKeys}
 use Rattle.slotmap_basic.proofs.RetainLemmas.{Going}
 use Rattle.slotmap_basic.proofs.SlotMap.retain.Given as goal

@@ -1,4 +1,4 @@
-use Rattle.slotmap_core.proofs.Lemmas.{rules}
+use Rattle.slotmap_core.proofs.Common.{rules}
 use Rattle.slotmap_basic.proofs.SlotMap.with_capacity_and_key.Goals as goal
 
 pub returns-in_err-with_capacity-clause-err : goal.returns-in_err-with_capacity-clause-err

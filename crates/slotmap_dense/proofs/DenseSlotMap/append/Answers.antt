@@ -1,5 +1,5 @@
-use Rattle.slotmap_core.specs.Words.{Inserts}
-use Rattle.slotmap_core.proofs.Lemmas.{◌≡◌, ap, ◌∙◌, arith}
+use Rattle.std.proofs.Common.{◌≡◌, ap, ◌∙◌, arith}
+use Rattle.slotmap_core.proofs.Common.{Inserts}
 use Rattle.slotmap_dense.proofs.MoveLemmas.{offer_key, new_not_live}
 use Rattle.slotmap_dense.proofs.SettledLemmas.{stays-valid, Appended, appended}
 use Rattle.slotmap_dense.proofs.DenseSlotMap.append.Goals.{After-push_reserved-2}

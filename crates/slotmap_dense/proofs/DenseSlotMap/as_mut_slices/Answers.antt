@@ -1,4 +1,4 @@
-use Rattle.slotmap_core.proofs.Lemmas.{refl, rules}
+use Rattle.slotmap_core.proofs.Common.{refl, rules}
 use Rattle.slotmap_dense.proofs.SettledLemmas.{lent, well_formed}
 use Rattle.slotmap_dense.proofs.DenseSlotMap.as_mut_slices.Goals as goal
 

@@ -1,4 +1,4 @@
-use Rattle.slotmap_core.proofs.Lemmas.{rules}
+use Rattle.slotmap_core.proofs.Common.{rules}
 use Rattle.slotmap_dense.proofs.SettledLemmas.{well_formed}
 use Rattle.slotmap_dense.proofs.DenseSlotMap.capacity.Goals as goal
 

@@ -1,5 +1,5 @@
-use Rattle.slotmap_core.specs.Words.{IsCopy}
-use Rattle.slotmap_core.proofs.Lemmas.{◌≡◌, ◌∙◌, map as list_map, ap, clone_copies, zip_length}
+use Rattle.std.proofs.Common.{◌≡◌, ◌∙◌, map as list_map, ap}
+use Rattle.slotmap_core.proofs.Common.{IsCopy, clone_copies, zip_length}
 use Rattle.slotmap_dense.proofs.CloneLemmas.{dense-clones, same_order}
 use Rattle.slotmap_dense.proofs.WellFormed.{IsSound-other}
 use Rattle.slotmap_dense.proofs.SettledLemmas.{dense_valid}

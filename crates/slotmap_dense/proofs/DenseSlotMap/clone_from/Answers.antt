@@ -1,4 +1,4 @@
-use Rattle.slotmap_core.proofs.Lemmas.{rules}
+use Rattle.slotmap_core.proofs.Common.{rules}
 use Rattle.slotmap_dense.proofs.DenseSlotMap.clone_from.Goals as goal
 
 pub returns-clause-clones : goal.returns-clause-clones

@@ -1,4 +1,4 @@
-use Rattle.slotmap_core.proofs.Lemmas.{sym, ◌∙◌}
+use Rattle.slotmap_core.proofs.Common.{sym, ◌∙◌}
 use Rattle.slotmap_dense.proofs.SettledLemmas.{well_formed, contains}
 use Rattle.slotmap_dense.proofs.DenseSlotMap.contains_key.Goals as goal
 

@@ -1,4 +1,4 @@
-use Rattle.slotmap_core.proofs.Lemmas.{loan_along, lists_along}
+use Rattle.slotmap_core.proofs.Common.{loan_along, lists_along}
 use Rattle.slotmap_dense.specs.Dense.{Empties}
 use Rattle.slotmap_dense.specs.Drain.{drain_loan, drain_live, DrainSteps}
 use Rattle.slotmap_dense.proofs.DrainLemmas.{drained_from_back}

@@ -1,6 +1,5 @@
-use Rattle.slotmap_core.specs.Words.{zip, Key, IsListingBut}
-use Rattle.slotmap_core.proofs.Lemmas.{◌++◌, ◌∷◌, [], length, map as list_map, append-nil, append_assoc, reverse, refl, sym, ap, subst, ◌∙◌, arith, map-append}
-use Rattle.slotmap_core.proofs.Lemmas.{length_push, IsListingBut-start, IsListingBut-take, IsListingBut-done}
+use Rattle.std.proofs.Common.{◌++◌, ◌∷◌, zip, [], length, map as list_map, append-nil, append_assoc, reverse, refl, sym, ap, subst, ◌∙◌, arith}
+use Rattle.slotmap_core.proofs.Common.{Key, IsListingBut, map-append, length_push, IsListingBut-start, IsListingBut-take, IsListingBut-done}
 use Rattle.slotmap_dense.proofs.FromBackLemmas.{Taken-start, Taken-next, last_first, none_left, len_keys}
 use Rattle.slotmap_dense.proofs.DenseSlotMap.drain_into.Goals as goal
 

@@ -1,5 +1,5 @@
-use Rattle.slotmap_core.specs.Words.{with_items}
-use Rattle.slotmap_core.proofs.Lemmas.{◌≡◌, length, map as list_map, min, vec_capacity, refl, ap, ◌∙◌}
+use Rattle.std.proofs.Common.{◌≡◌, length, map as list_map, min, vec_capacity, refl, ap, ◌∙◌}
+use Rattle.slotmap_core.proofs.Common.{with_items}
 use Rattle.slotmap_dense.specs.Pass.{Passes, stage, beside, packed_order}
 use Rattle.slotmap_dense.proofs.PassLemmas.{items-whole, passes-lift, may-lift, Lifts-values}
 use Rattle.slotmap_dense.specs.Packed.{dense_of, IsSound}

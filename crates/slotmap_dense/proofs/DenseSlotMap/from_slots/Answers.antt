@@ -1,8 +1,7 @@
 use Rattle.std.specs.FinMap as map
-use Rattle.slotmap_core.specs.Words.{into_iter_items, Accepts}
-use Rattle.slotmap_core.proofs.Lemmas.{◌≡◌, ◌+◌, ◌-◌, ◌^◌, ◌<◌, ◌∷◌, [], ◌++◌, length, map as list_map, Some, min, vec_capacity, refl, sym, ap, ◌∙◌}
-use Rattle.slotmap_core.proofs.Lemmas.{append_assoc, append-nil, arith, rules, add-one, length_push, length-map, nil_from_length, map-append, odd_of}
-use Rattle.slotmap_core.proofs.Lemmas.{key_from-odd, key, next_consistent}
+use Rattle.std.proofs.Common.{◌≡◌, ◌+◌, ◌-◌, ◌^◌, ◌<◌, ◌∷◌, ◌++◌, [], length, map as list_map, Some, min, vec_capacity, refl, sym, ap, ◌∙◌, append_assoc, arith}
+use Rattle.slotmap_core.proofs.Common.{into_iter_items, Accepts, append-nil, rules, add-one, length_push, length-map, nil_from_length, map-append, odd_of}
+use Rattle.slotmap_core.proofs.Common.{key_from-odd, key, next_consistent}
 use Rattle.slotmap_dense.proofs.FromListLemmas.{AreSplit, AreSplit-start, AreSplit-live, AreSplit-none, same_places, fewer_read, refuses-positions, IsSound-split, reads-split, stack_alike}
 use Rattle.slotmap_dense.proofs.SettledLemmas.{dense_valid}
 use Rattle.slotmap_dense.proofs.DenseSlotMap.from_slots.Goals.{In_ok-check_slots, In-None}

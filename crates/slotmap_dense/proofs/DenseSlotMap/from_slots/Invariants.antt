@@ -1,5 +1,5 @@
-use Rattle.slotmap_core.specs.Words.{into_iter_items, into_iter_len}
-use Rattle.slotmap_core.proofs.Lemmas.{◌≡◌, ◌+◌, ◌≤◌, ◌++◌, length, map as list_map, vec_len, vec_capacity}
+use Rattle.std.proofs.Common.{◌≡◌, ◌+◌, ◌≤◌, ◌++◌, length, map as list_map, vec_len, vec_capacity}
+use Rattle.slotmap_core.proofs.Common.{into_iter_items, into_iter_len}
 use Rattle.slotmap_dense.proofs.FromListLemmas.{AreSplit}
 use Rattle.slotmap_dense.proofs.DenseSlotMap.from_slots.Given as goal
 

@@ -1,4 +1,4 @@
-use Rattle.slotmap_core.proofs.Lemmas.{rules}
+use Rattle.slotmap_core.proofs.Common.{rules}
 use Rattle.slotmap_dense.proofs.DenseSlotMap.insert_with_key.Goals as goal
 
 pub f-value-requires : goal.f-value-requires

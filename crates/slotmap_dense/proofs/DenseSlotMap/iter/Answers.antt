@@ -1,4 +1,4 @@
-use Rattle.slotmap_core.proofs.Lemmas.{map as list_map}
+use Rattle.slotmap_core.proofs.Common.{map as list_map}
 use Rattle.slotmap_dense.proofs.PackedLemmas.{listed}
 use Rattle.slotmap_dense.proofs.SettledLemmas.{well_formed}
 use Rattle.slotmap_dense.proofs.DenseSlotMap.iter.Goals as goal

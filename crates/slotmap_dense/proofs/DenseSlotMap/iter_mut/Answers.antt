@@ -1,4 +1,4 @@
-use Rattle.slotmap_core.proofs.Lemmas.{sym, rules, length-map}
+use Rattle.slotmap_core.proofs.Common.{sym, rules, length-map}
 use Rattle.slotmap_dense.proofs.SettledLemmas.{lent, well_formed}
 use Rattle.slotmap_dense.proofs.DenseSlotMap.iter_mut.Goals as goal
 

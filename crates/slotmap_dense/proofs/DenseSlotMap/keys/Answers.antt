@@ -1,4 +1,4 @@
-use Rattle.slotmap_core.proofs.Lemmas.{map as list_map, ap, ◌∙◌, firsts-zip, IsKeyListing-listing}
+use Rattle.slotmap_core.proofs.Common.{map as list_map, ap, ◌∙◌, firsts-zip, IsKeyListing-listing}
 use Rattle.slotmap_dense.proofs.DenseSlotMap.keys.Goals as goal
 
 pub returns-clause-listing : goal.returns-clause-listing

@@ -1,4 +1,4 @@
-use Rattle.slotmap_core.proofs.Lemmas.{length, slice_get, map as list_map, sym, ap, ◌∙◌, arith, same_Some}
+use Rattle.slotmap_core.proofs.Common.{length, slice_get, map as list_map, sym, ap, ◌∙◌, arith, same_Some}
 use Rattle.slotmap_dense.proofs.SettledLemmas.{well_formed, contains, present}
 use Rattle.slotmap_dense.proofs.DenseSlotMap.lend_two.Goals as goal
 

@@ -1,4 +1,4 @@
-use Rattle.slotmap_core.proofs.Lemmas.{length, refl, ap, arith, rules}
+use Rattle.slotmap_core.proofs.Common.{length, refl, ap, arith, rules}
 use Rattle.slotmap_dense.proofs.MoveLemmas.{kept_not_live}
 use Rattle.slotmap_dense.proofs.SettledLemmas.{well_formed, refused-grow, may-grow, Appended, appended}
 use Rattle.slotmap_dense.proofs.DenseSlotMap.reattach.Goals.{After-push_reserved-2}

@@ -1,4 +1,4 @@
-use Rattle.slotmap_core.proofs.Lemmas.{subst, arith, key_there, key_exchanged}
+use Rattle.slotmap_core.proofs.Common.{subst, arith, key_there, key_exchanged}
 use Rattle.slotmap_dense.specs.Dense.{IsDense}
 use Rattle.slotmap_dense.proofs.WellFormed.{dense_written}
 use Rattle.slotmap_dense.proofs.DenseSlotMap.replace_disjoint.Goals as goal

@@ -1,4 +1,4 @@
-use Rattle.slotmap_core.proofs.Lemmas.{refl, arith, rules}
+use Rattle.slotmap_core.proofs.Common.{refl, arith, rules}
 use Rattle.slotmap_dense.proofs.SettledLemmas.{used_is, makes-room}
 use Rattle.slotmap_dense.proofs.DenseSlotMap.reserve.Goals as goal
 

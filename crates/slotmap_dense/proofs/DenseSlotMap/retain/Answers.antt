@@ -1,4 +1,4 @@
-use Rattle.slotmap_core.proofs.Lemmas.{◌≡◌, ◌<◌, ◌≤◌, length, ap, arith}
+use Rattle.std.proofs.Common.{◌≡◌, ◌<◌, ◌≤◌, length, ap, arith}
 use Rattle.slotmap_dense.specs.Pass.{stage}
 use Rattle.slotmap_dense.proofs.PassLemmas.{Going-start, Going-may, Going-rejected, Rejected-stands, Going-dropped, Ended, Going-end}
 use Rattle.slotmap_dense.proofs.FromBackLemmas.{len_keys}

@@ -1,4 +1,4 @@
-use Rattle.slotmap_core.proofs.Lemmas.{◌≤◌, length}
+use Rattle.std.proofs.Common.{◌≤◌, length}
 use Rattle.slotmap_dense.specs.Pass.{stage}
 use Rattle.slotmap_dense.proofs.PassLemmas.{Going}
 use Rattle.slotmap_dense.proofs.DenseSlotMap.retain.Given as goal

@@ -1,4 +1,4 @@
-use Rattle.slotmap_core.proofs.Lemmas.{slice_get, is_some, sym, ap, ◌∙◌, same_Some}
+use Rattle.slotmap_core.proofs.Common.{slice_get, is_some, sym, ap, ◌∙◌, same_Some}
 use Rattle.slotmap_dense.proofs.SwapRemoveLemmas.{length-swap_remove}
 use Rattle.slotmap_dense.proofs.PackedLemmas.{IsGapped-removed}
 use Rattle.slotmap_dense.proofs.SettledLemmas.{read_at, Closed, closed}

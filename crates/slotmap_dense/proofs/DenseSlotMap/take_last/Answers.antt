@@ -1,4 +1,4 @@
-use Rattle.slotmap_core.proofs.Lemmas.{append-nil, map as list_map, length, is_some, refl, ap, subst, ◌∙◌}
+use Rattle.slotmap_core.proofs.Common.{append-nil, map as list_map, length, is_some, refl, ap, subst, ◌∙◌}
 use Rattle.slotmap_dense.specs.Packed.{IsSound}
 use Rattle.slotmap_dense.proofs.SettledLemmas.{stays-valid, last_key, Closed, popped}
 use Rattle.slotmap_dense.proofs.DenseSlotMap.take_last.Goals.{After-take_last}

@@ -1,7 +1,6 @@
-use Rattle.slotmap_core.specs.Words.{Writes, IsRecordClone}
-use Rattle.slotmap_core.proofs.Lemmas.{◌≡◌, ◌<◌, false, length, take, map as list_map, slice_get, Some, option_map, min, vec_capacity, refl, ap, ◌∙◌, arith}
-use Rattle.slotmap_core.proofs.Lemmas.{take_all, length-map, slice_get_read, slice_get-map, zip_next, writes_clones, clones_contents, equal_writes}
-use Rattle.slotmap_core.proofs.Lemmas.{equal_contents}
+use Rattle.std.proofs.Common.{◌≡◌, ◌<◌, false, length, take, map as list_map, slice_get, Some, option_map, min, vec_capacity, refl, ap, ◌∙◌, arith}
+use Rattle.slotmap_core.proofs.Common.{Writes, IsRecordClone, take_all, length-map, slice_get_read, slice_get-map, zip_next, writes_clones, clones_contents}
+use Rattle.slotmap_core.proofs.Common.{equal_writes, equal_contents}
 use Rattle.slotmap_dense.specs.Packed.{with_packed_value}
 use Rattle.slotmap_dense.proofs.PositionLists.{position_within, writes-filled}
 use Rattle.slotmap_dense.proofs.SettledLemmas.{well_formed}

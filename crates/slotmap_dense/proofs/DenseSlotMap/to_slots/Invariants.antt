@@ -1,5 +1,5 @@
-use Rattle.slotmap_core.specs.Words.{AreRecordClones}
-use Rattle.slotmap_core.proofs.Lemmas.{◌+◌, ◌≤◌, take, map as list_map, vec_len, vec_capacity}
+use Rattle.std.proofs.Common.{◌+◌, ◌≤◌, take, map as list_map, vec_len, vec_capacity}
+use Rattle.slotmap_core.proofs.Common.{AreRecordClones}
 use Rattle.slotmap_dense.specs.Packed.{with_packed_value}
 use Rattle.slotmap_dense.proofs.DenseSlotMap.to_slots.Given as goal
 

@@ -1,4 +1,4 @@
-use Rattle.slotmap_core.proofs.Lemmas.{map as list_map, ap, ◌∙◌, seconds-zip}
+use Rattle.slotmap_core.proofs.Common.{map as list_map, ap, ◌∙◌, seconds-zip}
 use Rattle.slotmap_dense.proofs.DenseSlotMap.values.Goals as goal
 
 pub returns-clause-in_order : goal.returns-clause-in_order

@@ -1,4 +1,4 @@
-use Rattle.slotmap_core.proofs.Lemmas.{sym, ◌∙◌, from_front}
+use Rattle.slotmap_core.proofs.Common.{sym, ◌∙◌, from_front}
 use Rattle.slotmap_dense.specs.IterMut.{values_mut_rest, values_mut_steps}
 use Rattle.slotmap_dense.proofs.SettledLemmas.{lent, well_formed}
 use Rattle.slotmap_dense.proofs.DenseSlotMap.values_mut.Goals as goal

@@ -1,4 +1,5 @@
-use Rattle.slotmap_core.proofs.Lemmas.{◌<◌, refl, ap, slice_get, ◌∙◌, arith, slice_get_read}
+use Rattle.std.proofs.Common.{◌<◌, refl, ap, slice_get, ◌∙◌, arith}
+use Rattle.slotmap_core.proofs.Common.{slice_get_read}
 use Rattle.slotmap_dense.proofs.SwapRemoveLemmas.{slice_get-left, slice_get-right, set-cut, set-cut_back}
 use Rattle.slotmap_dense.proofs.access.two_of.Goals as goal
 

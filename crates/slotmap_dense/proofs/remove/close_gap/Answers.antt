@@ -1,4 +1,4 @@
-use Rattle.slotmap_core.proofs.Lemmas.{refl, arith, slice_get_read, IsContent-with_value}
+use Rattle.slotmap_core.proofs.Common.{refl, arith, slice_get_read, IsContent-with_value}
 use Rattle.slotmap_dense.proofs.GapLemmas.{keys_after, packed_cut, packed_moved, moved_live}
 use Rattle.slotmap_dense.proofs.remove.close_gap.Goals as goal
 

@@ -1,4 +1,5 @@
-use Rattle.slotmap_core.proofs.Lemmas.{[], ◌∷◌, ◌++◌, inl, inr, ◌≡◌, length, map as list_map, refl, sym, ◌∙◌, arith, FoldsTo-push, length-map, length-set}
+use Rattle.std.proofs.Common.{◌∷◌, ◌++◌, ◌≡◌, [], inl, inr, length, map as list_map, refl, sym, ◌∙◌, arith}
+use Rattle.slotmap_core.proofs.Common.{FoldsTo-push, length-map, length-set}
 use Rattle.slotmap_dense.specs.Pass.{Stays, stage, beside}
 use Rattle.slotmap_dense.proofs.PassLemmas.{shows-read, calls-read}
 use Rattle.slotmap_dense.proofs.retain.find_rejected.Goals as goal

@@ -1,5 +1,5 @@
-use Rattle.slotmap_core.specs.Words.{FoldsTo, Visit}
-use Rattle.slotmap_core.proofs.Lemmas.{◌≡◌, List, length, map as list_map}
+use Rattle.std.proofs.Common.{◌≡◌, List, length, map as list_map}
+use Rattle.slotmap_core.proofs.Common.{FoldsTo, Visit}
 use Rattle.slotmap_dense.specs.Pass.{Stays, stage, beside}
 use Rattle.slotmap_dense.proofs.retain.find_rejected.Given as goal
 

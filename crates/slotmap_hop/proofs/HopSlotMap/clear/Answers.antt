@@ -1,4 +1,4 @@
-use Rattle.slotmap_core.proofs.Lemmas.{None, arith}
+use Rattle.slotmap_core.proofs.Common.{None, arith}
 use Rattle.slotmap_hop.proofs.Sweeping.{Clearing, clearing_starts, clearing_removed, none_after, clearing_ends, clearing_blocks}
 use Rattle.slotmap_hop.proofs.HopSlotMap.clear.Goals.{In_default, After-take_live-2}
 use Rattle.slotmap_hop.proofs.HopSlotMap.clear.Goals as goal

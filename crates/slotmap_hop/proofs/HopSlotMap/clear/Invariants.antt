@@ -1,4 +1,4 @@
-use Rattle.slotmap_core.proofs.Lemmas.{Some}
+use Rattle.slotmap_core.proofs.Common.{Some}
 use Rattle.slotmap_hop.proofs.Sweeping.{Clearing, indices_left}
 use Rattle.slotmap_hop.proofs.HopSlotMap.clear.Given as goal
 

@@ -1,4 +1,4 @@
-use Rattle.slotmap_core.proofs.Lemmas.{ap, arith, clone_copies}
+use Rattle.slotmap_core.proofs.Common.{ap, arith, clone_copies}
 use Rattle.slotmap_hop.specs.Links.{blocks_of}
 use Rattle.slotmap_hop.proofs.CloneLemmas.{all_links-cloned, IsSound-cloned, has_clones}
 use Rattle.slotmap_hop.proofs.SlotLemmas.{valid}

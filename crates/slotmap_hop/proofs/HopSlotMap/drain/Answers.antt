@@ -1,4 +1,4 @@
-use Rattle.slotmap_core.proofs.Lemmas.{loan_along, lists_along, in_order_along}
+use Rattle.slotmap_core.proofs.Common.{loan_along, lists_along, in_order_along}
 use Rattle.slotmap_hop.specs.Drain.{drain_loan, drain_live, EmptiesMap, DrainSteps}
 use Rattle.slotmap_hop.proofs.HopSlotMap.drain.Goals as goal
 

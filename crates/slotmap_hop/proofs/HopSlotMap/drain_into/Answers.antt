@@ -1,6 +1,6 @@
 use Rattle.std.specs.FinMap as map
-use Rattle.slotmap_core.proofs.Lemmas.{[], ◌∷◌, ◌++◌, map as list_map, refl, sym, ap, ◌∙◌, append_assoc, append-nil, arith, map-append, keys_total, exact_keys}
-use Rattle.slotmap_core.proofs.Lemmas.{some_entry, len_removed, entries_none}
+use Rattle.std.proofs.Common.{◌∷◌, ◌++◌, [], map as list_map, refl, sym, ap, ◌∙◌, append_assoc, append-nil, arith}
+use Rattle.slotmap_core.proofs.Common.{map-append, keys_total, exact_keys, some_entry, len_removed, entries_none}
 use Rattle.slotmap_hop.proofs.Sweeping.{clearing_starts, clearing_removed, clearing_ends, clearing_blocks}
 use Rattle.slotmap_hop.proofs.HopSlotMap.drain_into.Goals as goal
 

@@ -1,5 +1,5 @@
 use Rattle.std.specs.FinMap as map
-use Rattle.slotmap_core.proofs.Lemmas.{◌≡◌, ◌+◌, ◌≤◌, ◌++◌, List, map as list_map, vec_len, vec_capacity}
+use Rattle.std.proofs.Common.{◌≡◌, ◌+◌, ◌≤◌, ◌++◌, List, map as list_map, vec_len, vec_capacity}
 use Rattle.slotmap_hop.proofs.Sweeping.{Clearing, indices_left}
 use Rattle.slotmap_hop.proofs.HopSlotMap.drain_into.Given as goal
 

@@ -1,4 +1,5 @@
-use Rattle.slotmap_core.proofs.Lemmas.{◌≡◌, ◌+◌, ap, sym, ◌∙◌, arith, key}
+use Rattle.std.proofs.Common.{◌≡◌, ◌+◌, ap, sym, ◌∙◌, arith}
+use Rattle.slotmap_core.proofs.Common.{key}
 use Rattle.slotmap_hop.specs.Links.{fronts_of}
 use Rattle.slotmap_hop.specs.Slots.{all_links, next_place}
 use Rattle.slotmap_hop.proofs.SlotLemmas.{valid}

@@ -1,4 +1,5 @@
-use Rattle.slotmap_core.proofs.Lemmas.{◌-◌, vec_capacity, refl, is_some, sym, ap, subst, arith, key, get-live_at}
+use Rattle.std.proofs.Common.{◌-◌, vec_capacity, refl, is_some, sym, ap, subst, arith}
+use Rattle.slotmap_core.proofs.Common.{key, get-live_at}
 use Rattle.slotmap_hop.specs.HopContent.{MayStand}
 use Rattle.slotmap_hop.proofs.Sweeping.{look_begins}
 use Rattle.slotmap_hop.proofs.HopSlotMap.first_place.Goals as goal

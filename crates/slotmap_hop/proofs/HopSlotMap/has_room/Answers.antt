@@ -1,4 +1,4 @@
-use Rattle.slotmap_core.proofs.Lemmas.{arith, ltb-true}
+use Rattle.slotmap_core.proofs.Common.{arith, ltb-true}
 use Rattle.slotmap_hop.proofs.RoomLemmas.{vacant_room, spare_room}
 use Rattle.slotmap_hop.proofs.HopSlotMap.has_room.Goals as goal
 

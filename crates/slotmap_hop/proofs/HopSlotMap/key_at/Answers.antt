@@ -1,5 +1,5 @@
-use Rattle.slotmap_core.specs.Words.{IsKey, IsLive}
-use Rattle.slotmap_core.proofs.Lemmas.{◌≡◌, refl, sym, ap, subst, ◌∙◌, inl, arith, key}
+use Rattle.std.proofs.Common.{◌≡◌, refl, sym, ap, subst, ◌∙◌, inl, arith}
+use Rattle.slotmap_core.proofs.Common.{IsKey, IsLive, key}
 use Rattle.slotmap_hop.specs.Slots.{version_in}
 use Rattle.slotmap_hop.proofs.SettledLemmas.{held, well_formed}
 use Rattle.slotmap_hop.proofs.LiveSlots.{Present, slot_read}

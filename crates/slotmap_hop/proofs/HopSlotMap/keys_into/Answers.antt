@@ -1,5 +1,6 @@
 use Rattle.std.specs.FinMap as map
-use Rattle.slotmap_core.proofs.Lemmas.{[], ◌∷◌, ◌++◌, length, map as list_map, sym, ap, ◌∙◌, append_assoc, append-nil, arith, map-append, length-map}
+use Rattle.std.proofs.Common.{◌∷◌, ◌++◌, [], length, map as list_map, sym, ap, ◌∙◌, append_assoc, append-nil, arith}
+use Rattle.slotmap_core.proofs.Common.{map-append, length-map}
 use Rattle.slotmap_hop.proofs.HopSlotMap.keys_into.Goals as goal
 
 pub loop-key-init : goal.loop-key-init

@@ -1,5 +1,5 @@
-use Rattle.slotmap_core.specs.Words.{Live}
-use Rattle.slotmap_core.proofs.Lemmas.{◌+◌, ◌-◌, Some, vec_capacity, refl, is_some, sym, ap, subst, ◌∙◌, arith, key, get-live_at}
+use Rattle.std.proofs.Common.{◌+◌, ◌-◌, Some, vec_capacity, refl, is_some, sym, ap, subst, ◌∙◌, arith}
+use Rattle.slotmap_core.proofs.Common.{Live, key, get-live_at}
 use Rattle.slotmap_hop.specs.HopContent.{MayStand}
 use Rattle.slotmap_hop.specs.Slots.{version_in}
 use Rattle.slotmap_hop.specs.Iter.{FindsSlot}

@@ -1,4 +1,4 @@
-use Rattle.slotmap_core.proofs.Lemmas.{refl}
+use Rattle.slotmap_core.proofs.Common.{refl}
 use Rattle.slotmap_hop.proofs.RoomLemmas.{hop_room_had}
 use Rattle.slotmap_hop.proofs.HopSlotMap.make_room.Goals as goal
 

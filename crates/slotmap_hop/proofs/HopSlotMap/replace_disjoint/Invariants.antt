@@ -1,5 +1,6 @@
-use Rattle.slotmap_core.specs.Words.{with_value, value_of}
-use Rattle.slotmap_core.proofs.Lemmas.{◌≡◌, map as map_list, Exchanged}
+use Rattle.std.proofs.Common.{◌≡◌, map as map_list}
+use Rattle.slotmap_core.specs.Words.{value_of}
+use Rattle.slotmap_core.proofs.Common.{with_value, Exchanged}
 use Rattle.slotmap_hop.specs.HopContent.{StaysHop}
 use Rattle.slotmap_hop.proofs.HopSlotMap.replace_disjoint.Given as goal
 

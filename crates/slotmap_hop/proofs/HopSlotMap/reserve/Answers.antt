@@ -1,5 +1,5 @@
-use Rattle.slotmap_core.specs.Words.{used, used_places}
-use Rattle.slotmap_core.proofs.Lemmas.{◌≡◌, ◌<◌, ◌≤◌, length, vec_capacity, refl, ap, sym, arith}
+use Rattle.std.proofs.Common.{◌≡◌, ◌<◌, ◌≤◌, length, vec_capacity, refl, ap, sym, arith}
+use Rattle.slotmap_core.proofs.Common.{used, used_places}
 use Rattle.slotmap_hop.specs.Slots.{places_of}
 use Rattle.slotmap_hop.proofs.RoomLemmas.{room_is, hop_room_had, grown_granted}
 use Rattle.slotmap_hop.proofs.SlotLemmas.{taken_slots}

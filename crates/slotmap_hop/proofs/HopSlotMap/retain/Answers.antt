@@ -1,4 +1,4 @@
-use Rattle.slotmap_core.proofs.Lemmas.{Some, ◌∙◌, same_live, CallsAt-called}
+use Rattle.slotmap_core.proofs.Common.{Some, ◌∙◌, same_live, CallsAt-called}
 use Rattle.slotmap_hop.proofs.Retaining.{Retaining, RetainingAt, retaining_starts_at, retaining_may_come, retaining_kept_at, retaining_dropped_at, retaining_ends}
 use Rattle.slotmap_hop.proofs.HopSlotMap.retain.Goals.{In-Some, After-key_at-key}
 use Rattle.slotmap_hop.proofs.HopSlotMap.retain.Goals as goal

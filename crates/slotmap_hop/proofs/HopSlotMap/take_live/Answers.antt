@@ -1,4 +1,4 @@
-use Rattle.slotmap_core.proofs.Lemmas.{◌+◌, ap, ◌∙◌, arith}
+use Rattle.std.proofs.Common.{◌+◌, ap, ◌∙◌, arith}
 use Rattle.slotmap_hop.proofs.SettledLemmas.{Took, held, took_last, took_other}
 use Rattle.slotmap_hop.proofs.LiveSlots.{Present, elems_positive, vacant_below, can_free}
 use Rattle.slotmap_hop.proofs.HopSlotMap.take_live.Goals.{After-self, After-retire, After-free_slot}

@@ -1,4 +1,4 @@
-use Rattle.slotmap_core.proofs.Lemmas.{arith}
+use Rattle.slotmap_core.proofs.Common.{arith}
 use Rattle.slotmap_hop.proofs.SlotLemmas.{taken_slots}
 use Rattle.slotmap_hop.proofs.HopSlotMap.used.Goals as goal
 

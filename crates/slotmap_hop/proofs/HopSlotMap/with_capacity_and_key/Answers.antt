@@ -1,4 +1,4 @@
-use Rattle.slotmap_core.proofs.Lemmas.{arith, refl, sentinel_alone, used_places-sentinel}
+use Rattle.slotmap_core.proofs.Common.{arith, refl, sentinel_alone, used_places-sentinel}
 use Rattle.slotmap_hop.proofs.Empty.{IsSound-new}
 use Rattle.slotmap_hop.proofs.SlotLemmas.{valid}
 use Rattle.slotmap_hop.proofs.HopSlotMap.with_capacity_and_key.Goals as goal

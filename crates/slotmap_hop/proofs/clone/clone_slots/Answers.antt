@@ -1,4 +1,5 @@
-use Rattle.slotmap_core.proofs.Lemmas.{◌<◌, length, refl, ap, arith, slice_get_read, zip_next}
+use Rattle.std.proofs.Common.{◌<◌, length, refl, ap, arith}
+use Rattle.slotmap_core.proofs.Common.{slice_get_read, zip_next}
 use Rattle.slotmap_hop.proofs.clone.clone_slots.Goals as goal
 
 pub loop-index-preserved : goal.loop-index-preserved

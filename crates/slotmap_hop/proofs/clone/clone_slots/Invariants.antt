@@ -1,4 +1,4 @@
-use Rattle.slotmap_core.proofs.Lemmas.{◌+◌, ◌≤◌, take, vec_len, vec_capacity}
+use Rattle.std.proofs.Common.{◌+◌, ◌≤◌, take, vec_len, vec_capacity}
 use Rattle.slotmap_hop.specs.Slots.{AreSlotClones}
 use Rattle.slotmap_hop.proofs.clone.clone_slots.Given as goal
 

@@ -1,4 +1,4 @@
-use Rattle.slotmap_core.proofs.Lemmas.{length, refl, sym, ap, ◌∙◌, arith}
+use Rattle.slotmap_core.proofs.Common.{length, refl, sym, ap, ◌∙◌, arith}
 use Rattle.slotmap_hop.proofs.HoppingLemmas.{Reads, way_begins, way_room, way_inside, way_on, way_finds, none_here}
 use Rattle.slotmap_hop.proofs.iter.next_live.Goals.{After-read-slot}
 use Rattle.slotmap_hop.proofs.iter.next_live.Goals as goal

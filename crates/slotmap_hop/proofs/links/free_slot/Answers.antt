@@ -1,6 +1,5 @@
-use Rattle.slotmap_core.proofs.Lemmas.{◌<◌, IsSome, length, arith, ap, sym, ◌∙◌}
-use Rattle.slotmap_hop.specs.declared.links.Slot.TheVariants.{Free}
-use Rattle.slotmap_hop.specs.Slots.{value_at}
+use Rattle.std.proofs.Common.{◌<◌, IsSome, length, arith, ap, sym, ◌∙◌}
+use Rattle.slotmap_hop.specs.Slots.{Free, value_at}
 use Rattle.slotmap_hop.proofs.SlotReads.{length-places, values_same, occupied_read, value_read, all_links_written, places_written}
 use Rattle.slotmap_hop.proofs.links.free_slot.Goals.{After-join-links}
 use Rattle.slotmap_hop.proofs.links.free_slot.Goals as goal

@@ -1,4 +1,4 @@
-use Rattle.slotmap_core.proofs.Lemmas.{◌+◌, ◌-◌}
+use Rattle.std.proofs.Common.{◌+◌, ◌-◌}
 use Rattle.slotmap_hop.specs.Links.{vacant_at, blocks_of}
 use Rattle.slotmap_hop.specs.Slots.{all_links}
 use Rattle.slotmap_hop.proofs.SlotReads.{none_read, some_read}

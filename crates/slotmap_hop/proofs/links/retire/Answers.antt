@@ -1,4 +1,4 @@
-use Rattle.slotmap_core.proofs.Lemmas.{arith, sym, ◌∙◌}
+use Rattle.slotmap_core.proofs.Common.{arith, sym, ◌∙◌}
 use Rattle.slotmap_hop.proofs.SlotReads.{occupied_read, value_read, all_links_retired, places_written}
 use Rattle.slotmap_hop.proofs.links.retire.Goals as goal
 

@@ -1,4 +1,4 @@
-use Rattle.slotmap_core.proofs.Lemmas.{arith, refl}
+use Rattle.slotmap_core.proofs.Common.{arith, refl}
 use Rattle.slotmap_hop.proofs.SlotReads.{free_read, link_written, places_kept}
 use Rattle.slotmap_hop.proofs.links.set_link.Goals as goal
 

@@ -1,4 +1,4 @@
-use Rattle.slotmap_core.proofs.Lemmas.{◌-◌, length}
+use Rattle.std.proofs.Common.{◌-◌, length}
 use Rattle.slotmap_hop.proofs.HoppingLemmas.{OnTheWay}
 use Rattle.slotmap_hop.proofs.retain.find_live.Given as goal
 

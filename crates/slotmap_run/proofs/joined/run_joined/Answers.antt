@@ -1,4 +1,4 @@
-use Rattle.slotmap_core.proofs.Lemmas.{rules}
+use Rattle.slotmap_core.proofs.Common.{rules}
 use Rattle.slotmap_run.proofs.JoinRuns.{joined_if_ok}
 use Rattle.slotmap_run.proofs.joined.run_joined.Goals as goal
 

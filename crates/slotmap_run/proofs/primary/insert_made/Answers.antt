@@ -1,4 +1,4 @@
-use Rattle.slotmap_core.proofs.Lemmas.{rules}
+use Rattle.slotmap_core.proofs.Common.{rules}
 use Rattle.slotmap_run.proofs.primary.insert_made.Goals as goal
 
 pub returns-clause-ok : goal.returns-clause-ok

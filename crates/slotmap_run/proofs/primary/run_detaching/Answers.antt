@@ -1,5 +1,4 @@
-use Rattle.slotmap_core.specs.Words.{given, DetachStep}
-use Rattle.slotmap_core.proofs.Lemmas.{ap, on_err_weaker}
+use Rattle.slotmap_core.proofs.Common.{given, DetachStep, ap, on_err_weaker}
 use Rattle.slotmap_run.proofs.RunLaws.{detach_lawful, all_ran}
 use Rattle.slotmap_run.proofs.primary.run_detaching.Goals as goal
 

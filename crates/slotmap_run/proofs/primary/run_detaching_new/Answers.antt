@@ -1,5 +1,4 @@
-use Rattle.slotmap_core.specs.Words.{given, DetachStep}
-use Rattle.slotmap_core.proofs.Lemmas.{IfOk-weaker}
+use Rattle.slotmap_core.proofs.Common.{given, DetachStep, IfOk-weaker}
 use Rattle.slotmap_run.proofs.RunLaws.{detach_lawful, all_anew, in_order}
 use Rattle.slotmap_run.proofs.primary.run_detaching_new.Goals as goal
 

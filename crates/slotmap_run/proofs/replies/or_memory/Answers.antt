@@ -1,4 +1,4 @@
-use Rattle.slotmap_core.proofs.Lemmas.{rules}
+use Rattle.slotmap_core.proofs.Common.{rules}
 use Rattle.slotmap_run.proofs.replies.or_memory.Goals as goal
 
 pub returns-in-Err-clause-err : goal.returns-in-Err-clause-err

@@ -1,4 +1,4 @@
-use Rattle.slotmap_core.proofs.Lemmas.{rules}
+use Rattle.slotmap_core.proofs.Common.{rules}
 use Rattle.slotmap_run.proofs.replies.reattach_reply.Goals as goal
 
 pub returns-in-Err-NotDetached : goal.returns-in-Err-NotDetached

@@ -1,5 +1,4 @@
-use Rattle.slotmap_core.specs.Words.{given_secondary}
-use Rattle.slotmap_core.proofs.Lemmas.{IfOk-weaker, run_seen_by, each_agrees}
+use Rattle.slotmap_core.proofs.Common.{given_secondary, IfOk-weaker, run_seen_by, each_agrees}
 use Rattle.slotmap_core.specs.SecondaryStep.{Step}
 use Rattle.slotmap_run.proofs.Runs.{run_seen}
 use Rattle.slotmap_run.proofs.secondary.run_secondary.Goals as goal

@@ -1,4 +1,4 @@
-use Rattle.slotmap_core.proofs.Lemmas.{rules}
+use Rattle.slotmap_core.proofs.Common.{rules}
 use Rattle.slotmap_run.proofs.serves.run_all_new.Goals as goal
 
 pub returns-in_default-with_key-clause-err : goal.returns-in_default-with_key-clause-err

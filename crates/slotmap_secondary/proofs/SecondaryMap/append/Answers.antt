@@ -1,4 +1,4 @@
-use Rattle.slotmap_core.proofs.Lemmas.{◌≡◌, length, sym, ap, ◌∙◌, arith}
+use Rattle.std.proofs.Common.{◌≡◌, length, sym, ap, ◌∙◌, arith}
 use Rattle.slotmap_secondary.proofs.SlotLemmas.{count, valid}
 use Rattle.slotmap_secondary.proofs.PutAfterLastLemmas.{IsSound-append, content-append}
 use Rattle.slotmap_secondary.proofs.SecondaryMap.append.Goals as goal

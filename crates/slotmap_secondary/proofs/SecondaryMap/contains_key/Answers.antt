@@ -1,6 +1,5 @@
 use Rattle.std.specs.FinMap as map
-use Rattle.slotmap_core.specs.Words.{value_at}
-use Rattle.slotmap_core.proofs.Lemmas.{is_some, sym, ap, ◌∙◌}
+use Rattle.slotmap_core.proofs.Common.{value_at, is_some, sym, ap, ◌∙◌}
 use Rattle.slotmap_secondary.proofs.ReadLemmas.{at-read, at-past, marked-read}
 use Rattle.slotmap_secondary.proofs.WellFormed.{well_formed}
 use Rattle.slotmap_secondary.proofs.SecondaryMap.contains_key.Goals as goal

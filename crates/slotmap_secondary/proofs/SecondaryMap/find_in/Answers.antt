@@ -1,4 +1,4 @@
-use Rattle.slotmap_core.proofs.Lemmas.{◌<◌, length, refl, sym, ap, subst, arith}
+use Rattle.std.proofs.Common.{◌<◌, length, refl, sym, ap, subst, arith}
 use Rattle.slotmap_secondary.specs.Found.{is_found}
 use Rattle.slotmap_secondary.proofs.ReadLemmas.{marked-read, at-read, entry-at}
 use Rattle.slotmap_secondary.proofs.WellFormed.{well_formed}

@@ -1,5 +1,4 @@
-use Rattle.slotmap_core.specs.Words.{Pairs, AllPut}
-use Rattle.slotmap_core.proofs.Lemmas.{subst}
+use Rattle.slotmap_core.proofs.Common.{Pairs, AllPut, subst}
 use Rattle.slotmap_secondary.proofs.SecondaryMap.from_iter.Goals as goal
 
 pub returns-in-Err-clause-err : goal.returns-in-Err-clause-err

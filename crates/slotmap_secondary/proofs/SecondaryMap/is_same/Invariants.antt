@@ -1,5 +1,5 @@
-use Rattle.slotmap_core.specs.Words.{same_entries, are_equal}
-use Rattle.slotmap_core.proofs.Lemmas.{◌≡◌, length}
+use Rattle.std.proofs.Common.{◌≡◌, length}
+use Rattle.slotmap_core.proofs.Common.{same_entries, are_equal}
 use Rattle.slotmap_secondary.proofs.SecondaryMap.is_same.Given as goal
 
 abbrev pub invariant-loop-key : goal.invariant-loop-key

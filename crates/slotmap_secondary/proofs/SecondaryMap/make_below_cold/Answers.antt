@@ -1,4 +1,4 @@
-use Rattle.slotmap_core.proofs.Lemmas.{◌∙◌, arith}
+use Rattle.slotmap_core.proofs.Common.{◌∙◌, arith}
 use Rattle.slotmap_secondary.proofs.SlotLemmas.{IsSound-push, pairs-push}
 use Rattle.slotmap_secondary.proofs.SecondaryMap.make_below_cold.Goals as goal
 

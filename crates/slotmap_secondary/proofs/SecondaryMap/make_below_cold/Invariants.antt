@@ -1,4 +1,4 @@
-use Rattle.slotmap_core.proofs.Lemmas.{◌≡◌, ◌-◌, ◌<◌, ◌≤◌, vec_capacity, vec_len}
+use Rattle.std.proofs.Common.{◌≡◌, ◌-◌, ◌<◌, ◌≤◌, vec_capacity, vec_len}
 use Rattle.slotmap_secondary.specs.Slots.{pairs_of, IsSound}
 use Rattle.slotmap_secondary.proofs.SecondaryMap.make_below_cold.Given as goal
 

@@ -1,4 +1,4 @@
-use Rattle.slotmap_core.proofs.Lemmas.{ap, ◌∙◌, arith}
+use Rattle.slotmap_core.proofs.Common.{ap, ◌∙◌, arith}
 use Rattle.slotmap_secondary.proofs.SlotLemmas.{IsSound-push, pairs-push}
 use Rattle.slotmap_secondary.proofs.SecondaryMap.make_through.Goals as goal
 

@@ -1,4 +1,4 @@
-use Rattle.slotmap_core.proofs.Lemmas.{arith}
+use Rattle.slotmap_core.proofs.Common.{arith}
 use Rattle.slotmap_secondary.specs.Slots.{IsSound}
 use Rattle.slotmap_secondary.proofs.SlotLemmas.{valid}
 use Rattle.slotmap_secondary.proofs.SecondaryMap.reserve_to.Goals as goal

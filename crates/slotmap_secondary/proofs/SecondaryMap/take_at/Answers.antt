@@ -1,5 +1,5 @@
-use Rattle.slotmap_core.specs.Words.{Key, get}
-use Rattle.slotmap_core.proofs.Lemmas.{◌≡◌, ◌<◌, length, set, slice_get, Some, refl, sym, ap, subst, ◌∙◌, arith, set-get_or, length-set}
+use Rattle.std.proofs.Common.{◌≡◌, ◌<◌, length, set, slice_get, Some, refl, sym, ap, subst, ◌∙◌, arith}
+use Rattle.slotmap_core.proofs.Common.{Key, get, set-get_or, length-set}
 use Rattle.slotmap_secondary.specs.declared.slot.Slot.TheVariants.{Vacant, Occupied}
 use Rattle.slotmap_secondary.proofs.SlotLemmas.{IsSound-clear, content-clear, some_left, valid}
 use Rattle.slotmap_secondary.proofs.ReadLemmas.{there_read, stands, key-here}

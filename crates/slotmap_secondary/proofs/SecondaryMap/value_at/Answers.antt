@@ -1,5 +1,4 @@
-use Rattle.slotmap_core.specs.Words.{value_at}
-use Rattle.slotmap_core.proofs.Lemmas.{refl, sym, ap, ◌∙◌, arith, eq-eqb, is_some, cond, Some, None, slice_get_within}
+use Rattle.slotmap_core.proofs.Common.{value_at, refl, sym, ap, ◌∙◌, arith, eq-eqb, is_some, cond, Some, None, slice_get_within}
 use Rattle.slotmap_secondary.specs.Slots.{pair_in}
 use Rattle.slotmap_secondary.proofs.SlotLemmas.{IsSound-again, content-write}
 use Rattle.slotmap_secondary.proofs.ReadLemmas.{here, same_read, same_value}

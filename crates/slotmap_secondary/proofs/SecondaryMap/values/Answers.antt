@@ -1,4 +1,4 @@
-use Rattle.slotmap_core.proofs.Lemmas.{refl, listing-entries}
+use Rattle.slotmap_core.proofs.Common.{refl, listing-entries}
 use Rattle.slotmap_secondary.proofs.IterLemmas.{values-slots, counted-values}
 use Rattle.slotmap_secondary.proofs.WellFormed.{well_formed}
 use Rattle.slotmap_secondary.proofs.SecondaryMap.values.Goals as goal

@@ -1,6 +1,6 @@
 use Rattle.std.specs.FinMap as map
-use Rattle.slotmap_core.specs.Words.{IsKey}
-use Rattle.slotmap_core.proofs.Lemmas.{◌≡◌, None, refl, ap, subst, ◌∙◌, arith}
+use Rattle.std.proofs.Common.{◌≡◌, None, refl, ap, subst, ◌∙◌, arith}
+use Rattle.slotmap_core.proofs.Common.{IsKey}
 use Rattle.slotmap_sparse.proofs.EntriesLemmas.{found_pair, IsSound-added, pairs_put, same_len, well_formed}
 use Rattle.slotmap_sparse.proofs.SparseSecondaryMap.add.Goals as goal
 

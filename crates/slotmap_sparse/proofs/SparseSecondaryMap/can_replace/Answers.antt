@@ -1,5 +1,4 @@
-use Rattle.slotmap_core.specs.Words.{get}
-use Rattle.slotmap_core.proofs.Lemmas.{arith, CanReplace-next, refuses_key}
+use Rattle.slotmap_core.proofs.Common.{get, arith, CanReplace-next, refuses_key}
 use Rattle.slotmap_sparse.proofs.SparseSecondaryMap.can_replace.Goals as goal
 
 pub returns-then-not-contains_key-clause-which : goal.returns-then-not-contains_key-clause-which

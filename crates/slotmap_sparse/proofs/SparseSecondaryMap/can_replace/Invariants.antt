@@ -1,5 +1,4 @@
-use Rattle.slotmap_core.specs.Words.{get}
-use Rattle.slotmap_core.proofs.Lemmas.{take, map as map_list}
+use Rattle.slotmap_core.proofs.Common.{get, take, map as map_list}
 use Rattle.slotmap_core.specs.Several.{CanReplace}
 use Rattle.slotmap_sparse.proofs.SparseSecondaryMap.can_replace.Given as goal
 

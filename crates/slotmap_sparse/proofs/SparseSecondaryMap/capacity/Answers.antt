@@ -1,4 +1,4 @@
-use Rattle.slotmap_core.proofs.Lemmas.{ap, arith}
+use Rattle.slotmap_core.proofs.Common.{ap, arith}
 use Rattle.slotmap_sparse.proofs.EntriesLemmas.{well_formed}
 use Rattle.slotmap_sparse.proofs.SparseSecondaryMap.capacity.Goals as goal
 

@@ -1,4 +1,4 @@
-use Rattle.slotmap_core.proofs.Lemmas.{refl, ap, arith}
+use Rattle.slotmap_core.proofs.Common.{refl, ap, arith}
 use Rattle.slotmap_sparse.specs.Entries.{pairs_of}
 use Rattle.slotmap_sparse.proofs.EntriesLemmas.{IsSound-empty, well_formed}
 use Rattle.slotmap_sparse.proofs.SparseSecondaryMap.clear.Goals as goal

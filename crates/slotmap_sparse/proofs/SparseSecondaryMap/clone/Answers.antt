@@ -1,4 +1,4 @@
-use Rattle.slotmap_core.proofs.Lemmas.{refl, ap}
+use Rattle.slotmap_core.proofs.Common.{refl, ap}
 use Rattle.slotmap_sparse.proofs.EntriesLemmas.{well_formed}
 use Rattle.slotmap_sparse.proofs.CloneLemmas.{has_clones, IsSound-cloned, same_if_equal}
 use Rattle.slotmap_sparse.proofs.SparseSecondaryMap.clone.Goals as goal

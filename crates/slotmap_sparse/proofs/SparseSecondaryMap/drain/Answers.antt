@@ -1,4 +1,4 @@
-use Rattle.slotmap_core.proofs.Lemmas.{refl, ◌∙◌, arith, kept_along, lists_taken}
+use Rattle.slotmap_core.proofs.Common.{refl, ◌∙◌, arith, kept_along, lists_taken}
 use Rattle.slotmap_sparse.specs.Drain.{drain_loan, DrainKeeps, DrainSteps}
 use Rattle.slotmap_sparse.proofs.SparseSecondaryMap.drain.Goals as goal
 

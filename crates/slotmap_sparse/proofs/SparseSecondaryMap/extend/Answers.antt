@@ -1,4 +1,4 @@
-use Rattle.slotmap_core.proofs.Lemmas.{rules, AllPut-push}
+use Rattle.slotmap_core.proofs.Common.{rules, AllPut-push}
 use Rattle.slotmap_sparse.proofs.SparseSecondaryMap.extend.Goals as goal
 
 pub loop-key-preserved-in_default : goal.loop-key-preserved-in_default

@@ -1,5 +1,5 @@
-use Rattle.slotmap_core.specs.Words.{AllPut}
-use Rattle.slotmap_core.proofs.Lemmas.{◌≤◌}
+use Rattle.std.proofs.Common.{◌≤◌}
+use Rattle.slotmap_core.proofs.Common.{AllPut}
 use Rattle.slotmap_sparse.specs.Content.{IsContent}
 use Rattle.slotmap_sparse.proofs.SparseSecondaryMap.extend.Given as goal
 

@@ -1,4 +1,4 @@
-use Rattle.slotmap_core.proofs.Lemmas.{rules, AllPut-push_shown, ExtendsBy-stopped}
+use Rattle.slotmap_core.proofs.Common.{rules, AllPut-push_shown, ExtendsBy-stopped}
 use Rattle.slotmap_sparse.proofs.SparseSecondaryMap.extend_refs.Goals as goal
 
 pub loop-key-preserved : goal.loop-key-preserved

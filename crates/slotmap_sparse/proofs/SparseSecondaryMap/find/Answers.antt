@@ -1,5 +1,4 @@
-use Rattle.slotmap_core.specs.Words.{is_older, no_entry, vacant}
-use Rattle.slotmap_core.proofs.Lemmas.{cond, eq-eqb, ne_eqb, sym, ap, ◌∙◌, entry_here, entry_other}
+use Rattle.slotmap_core.proofs.Common.{is_older, no_entry, vacant, cond, eq-eqb, ne_eqb, sym, ap, ◌∙◌, entry_here, entry_other}
 use Rattle.slotmap_sparse.proofs.SparseSecondaryMap.find.Goals as goal
 
 pub returns-then-stored-version-clause-found : goal.returns-then-stored-version-clause-found

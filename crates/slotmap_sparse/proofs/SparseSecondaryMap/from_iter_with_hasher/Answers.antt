@@ -1,5 +1,4 @@
-use Rattle.slotmap_core.specs.Words.{Pairs, AllPut}
-use Rattle.slotmap_core.proofs.Lemmas.{refl, subst}
+use Rattle.slotmap_core.proofs.Common.{Pairs, AllPut, refl, subst}
 use Rattle.slotmap_sparse.proofs.SparseSecondaryMap.from_iter_with_hasher.Goals as goal
 
 pub returns-in-Err-clause-err : goal.returns-in-Err-clause-err

@@ -1,7 +1,6 @@
 use Rattle.std.specs.FinMap as map
-use Rattle.slotmap_core.specs.Words.{Accepts}
-use Rattle.slotmap_core.proofs.Lemmas.{length, nat_cmp, refl, ap, subst, ◌∙◌, arith, length_push, slice_get_within, contents_by_place, Taking-next, Taking-here}
-use Rattle.slotmap_core.proofs.Lemmas.{Taking-end}
+use Rattle.slotmap_core.proofs.Common.{Accepts, length, nat_cmp, refl, ap, subst, ◌∙◌, arith, length_push, slice_get_within, contents_by_place, Taking-next}
+use Rattle.slotmap_core.proofs.Common.{Taking-here, Taking-end}
 use Rattle.slotmap_sparse.specs.Written.{with_slot}
 use Rattle.slotmap_sparse.proofs.FromListLemmas.{Read, Read-absent, Read-slot}
 use Rattle.slotmap_sparse.proofs.SparseSecondaryMap.from_slots_with_hasher.Goals as goal

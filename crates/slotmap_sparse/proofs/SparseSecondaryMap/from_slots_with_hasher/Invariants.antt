@@ -1,4 +1,5 @@
-use Rattle.slotmap_core.proofs.Lemmas.{◌≡◌, length, OwnedIter}
+use Rattle.std.proofs.Common.{◌≡◌, length}
+use Rattle.slotmap_core.proofs.Common.{OwnedIter}
 use Rattle.slotmap_sparse.specs.Content.{IsContent}
 use Rattle.slotmap_sparse.proofs.FromListLemmas.{Read}
 use Rattle.slotmap_sparse.proofs.SparseSecondaryMap.from_slots_with_hasher.Given as goal

@@ -1,5 +1,5 @@
-use Rattle.slotmap_core.specs.Words.{option_copied_mut, value_at}
-use Rattle.slotmap_core.proofs.Lemmas.{◌≡◌, None, is_some, sym, ap, ◌∙◌}
+use Rattle.std.proofs.Common.{◌≡◌, None, is_some, sym, ap, ◌∙◌}
+use Rattle.slotmap_core.proofs.Common.{option_copied_mut, value_at}
 use mathlib.Core.Logic.{inl, inr}
 use Rattle.slotmap_sparse.specs.Entries.{content_of}
 use Rattle.slotmap_sparse.proofs.EntriesLemmas.{stands_at, found_own, found_none, well_formed, IsSound-through, content-through, IsSound-kept, content_kept}

@@ -1,6 +1,5 @@
 use Rattle.std.specs.FinMap as map
-use Rattle.slotmap_core.specs.Words.{option_copied_mut}
-use Rattle.slotmap_core.proofs.Lemmas.{refl, sym, ap, ◌∙◌, index_stands, get_stands}
+use Rattle.slotmap_core.proofs.Common.{option_copied_mut, refl, sym, ap, ◌∙◌, index_stands, get_stands}
 use Rattle.slotmap_sparse.proofs.EntriesLemmas.{some_lent, well_formed, found_pair, IsSound-through, content-through}
 use Rattle.slotmap_sparse.proofs.SparseSecondaryMap.get_unchecked_mut.Goals as goal
 

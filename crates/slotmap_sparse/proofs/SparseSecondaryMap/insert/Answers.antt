@@ -1,4 +1,4 @@
-use Rattle.slotmap_core.proofs.Lemmas.{rules, sym, ◌∙◌, null_finds_nothing}
+use Rattle.slotmap_core.proofs.Common.{rules, sym, ◌∙◌, null_finds_nothing}
 use Rattle.slotmap_sparse.proofs.SparseSecondaryMap.insert.Goals as goal
 
 pub returns-then-is_null-clause-value : goal.returns-then-is_null-clause-value

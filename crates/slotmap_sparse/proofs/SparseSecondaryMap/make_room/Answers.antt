@@ -1,4 +1,4 @@
-use Rattle.slotmap_core.proofs.Lemmas.{refl, ap, ◌∙◌, arith}
+use Rattle.slotmap_core.proofs.Common.{refl, ap, ◌∙◌, arith}
 use Rattle.slotmap_sparse.proofs.EntriesLemmas.{on_ok, IsSound-same, same_pairs, same_len, well_formed}
 use Rattle.slotmap_sparse.proofs.SparseSecondaryMap.make_room.Goals as goal
 

@@ -1,5 +1,5 @@
-use Rattle.slotmap_core.specs.Words.{Key}
-use Rattle.slotmap_core.proofs.Lemmas.{◌+◌, ap, subst, ◌∙◌, arith}
+use Rattle.std.proofs.Common.{◌+◌, ap, subst, ◌∙◌, arith}
+use Rattle.slotmap_core.proofs.Common.{Key}
 use Rattle.slotmap_sparse.proofs.FromListLemmas.{Counts, Counts-start, Counts-less, Counts-more, Counts-end}
 use Rattle.slotmap_sparse.proofs.SparseSecondaryMap.place_count.Goals as goal
 

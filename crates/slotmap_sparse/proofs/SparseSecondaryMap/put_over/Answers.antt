@@ -1,6 +1,5 @@
 use Rattle.std.specs.FinMap as map
-use Rattle.slotmap_core.specs.Words.{WritesThrough, option_copied_mut, IsKey, value_at}
-use Rattle.slotmap_core.proofs.Lemmas.{nat_eq, refl, sym, ap, subst, ◌∙◌}
+use Rattle.slotmap_core.proofs.Common.{WritesThrough, option_copied_mut, IsKey, value_at, nat_eq, refl, sym, ap, subst, ◌∙◌}
 use Rattle.slotmap_sparse.specs.Content.{IsContent}
 use Rattle.slotmap_sparse.specs.Entries.{content_of}
 use Rattle.slotmap_sparse.specs.Found.{put_over}

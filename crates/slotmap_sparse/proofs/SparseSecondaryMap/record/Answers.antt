@@ -1,4 +1,4 @@
-use Rattle.slotmap_core.proofs.Lemmas.{refl, ap, ◌∙◌}
+use Rattle.slotmap_core.proofs.Common.{refl, ap, ◌∙◌}
 use Rattle.slotmap_sparse.proofs.EntriesLemmas.{found_pair}
 use Rattle.slotmap_sparse.proofs.SparseSecondaryMap.record.Goals as goal
 

@@ -1,4 +1,4 @@
-use Rattle.slotmap_core.proofs.Lemmas.{refl, arith, pair_there, Exchanging-step}
+use Rattle.slotmap_core.proofs.Common.{refl, arith, pair_there, Exchanging-step}
 use Rattle.slotmap_sparse.proofs.SparseSecondaryMap.replace_disjoint.Goals as goal
 
 pub swap_value-requires : goal.swap_value-requires

@@ -1,4 +1,4 @@
-use Rattle.slotmap_core.proofs.Lemmas.{map as map_list, Exchanging}
+use Rattle.slotmap_core.proofs.Common.{map as map_list, Exchanging}
 use Rattle.slotmap_sparse.specs.Content.{IsContent}
 use Rattle.slotmap_sparse.proofs.SparseSecondaryMap.replace_disjoint.Given as goal
 

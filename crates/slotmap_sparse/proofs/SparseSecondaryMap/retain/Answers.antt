@@ -1,6 +1,6 @@
 use Rattle.std.specs.FinMap as map
-use Rattle.slotmap_core.specs.Words.{Key, key_from, keyed, MayCome}
-use Rattle.slotmap_core.proofs.Lemmas.{◌≡◌, ℕ, List, Some, refl, sym, ap, subst, ◌∙◌, key_from-odd}
+use Rattle.std.proofs.Common.{◌≡◌, ℕ, List, Some, refl, sym, ap, subst, ◌∙◌}
+use Rattle.slotmap_core.proofs.Common.{Key, key_from, keyed, MayCome, key_from-odd}
 use Rattle.slotmap_sparse.specs.Entries.{pairs_of, IsSound}
 use Rattle.slotmap_sparse.proofs.EntriesLemmas.{more_room, well_formed}
 use Rattle.slotmap_sparse.proofs.IterLemmas.{of_keys, valid_from}

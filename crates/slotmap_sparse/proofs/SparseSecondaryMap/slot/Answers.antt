@@ -1,5 +1,5 @@
 use Rattle.std.specs.FinMap as map
-use Rattle.slotmap_core.proofs.Lemmas.{ap, ◌∙◌}
+use Rattle.slotmap_core.proofs.Common.{ap, ◌∙◌}
 use Rattle.slotmap_sparse.proofs.EntriesLemmas.{found_pair, well_formed}
 use Rattle.slotmap_sparse.proofs.SparseSecondaryMap.slot.Goals as goal
 

@@ -1,4 +1,4 @@
-use Rattle.slotmap_core.proofs.Lemmas.{refl}
+use Rattle.slotmap_core.proofs.Common.{refl}
 use Rattle.slotmap_sparse.proofs.IterLemmas.{listed_key, listed_none}
 use Rattle.slotmap_sparse.proofs.SparseSecondaryMap.take_first.Goals as goal
 

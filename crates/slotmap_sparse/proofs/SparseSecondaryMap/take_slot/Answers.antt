@@ -1,5 +1,5 @@
 use Rattle.std.specs.FinMap as map
-use Rattle.slotmap_core.proofs.Lemmas.{refl, ap, ◌∙◌}
+use Rattle.slotmap_core.proofs.Common.{refl, ap, ◌∙◌}
 use Rattle.slotmap_sparse.proofs.EntriesLemmas.{IsSound-taken, pairs_taken, found_pair, more_room, well_formed}
 use Rattle.slotmap_sparse.proofs.SparseSecondaryMap.take_slot.Goals as goal
 

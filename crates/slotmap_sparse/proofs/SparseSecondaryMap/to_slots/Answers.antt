@@ -1,5 +1,6 @@
 use Rattle.std.specs.FinMap as map
-use Rattle.slotmap_core.proofs.Lemmas.{◌+◌, length, sym, ap, subst, ◌∙◌, arith, length_push}
+use Rattle.std.proofs.Common.{◌+◌, length, sym, ap, subst, ◌∙◌, arith}
+use Rattle.slotmap_core.proofs.Common.{length_push}
 use Rattle.slotmap_sparse.specs.Written.{ReachesLargest, IsCloneSlot}
 use Rattle.slotmap_sparse.proofs.WrittenLemmas.{Copies-start, Copies-push, writes_clones, contents_clones, writes_equal, contents_equal}
 use Rattle.slotmap_sparse.proofs.SparseSecondaryMap.to_slots.Goals.{After-loop-index}

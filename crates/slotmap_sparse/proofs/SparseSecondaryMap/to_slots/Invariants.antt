@@ -1,4 +1,4 @@
-use Rattle.slotmap_core.proofs.Lemmas.{◌≡◌, ◌≤◌, ◌+◌, length, vec_len, vec_capacity}
+use Rattle.std.proofs.Common.{◌≡◌, ◌≤◌, ◌+◌, length, vec_len, vec_capacity}
 use Rattle.slotmap_sparse.proofs.WrittenLemmas.{Copies}
 use Rattle.slotmap_sparse.proofs.SparseSecondaryMap.to_slots.Given as goal
 

@@ -1,5 +1,5 @@
-use Rattle.slotmap_core.specs.Words.{get}
-use Rattle.slotmap_core.proofs.Lemmas.{◌≡◌, ℕ, Bool, true, false, Option, None, Some, is_some, refl, sym, ap, ◌∙◌, arith}
+use Rattle.std.proofs.Common.{◌≡◌, ℕ, Bool, true, false, Option, None, Some, is_some, refl, sym, ap, ◌∙◌, arith}
+use Rattle.slotmap_core.proofs.Common.{get}
 use Rattle.slotmap_sparse.proofs.EntryLemmas.{vacant_nothing, leaves_outdated, in_place_outdated, leaves_empty}
 use Rattle.slotmap_sparse.proofs.SparseSecondaryMap.try_entry.Goals as goal
 

@@ -1,4 +1,4 @@
-use Rattle.slotmap_core.proofs.Lemmas.{ap, ◌∙◌, CallsAt-called}
+use Rattle.slotmap_core.proofs.Common.{ap, ◌∙◌, CallsAt-called}
 use Rattle.slotmap_sparse.proofs.retain.visit.Goals as goal
 
 pub returns-clause-called : goal.returns-clause-called

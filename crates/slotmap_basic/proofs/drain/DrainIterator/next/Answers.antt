@@ -1,7 +1,6 @@
 use Rattle.std.specs.FinMap as map
-use Rattle.slotmap_core.specs.Words.{NoneBelow}
-use Rattle.slotmap_core.proofs.Lemmas.{◌+◌, ◌∷◌, refl, sym, ap, ◌∙◌, arith, keys_total, exact_keys, len_removed, none_live, Empties-first, first_entry}
-use Rattle.slotmap_core.proofs.Lemmas.{above_next}
+use Rattle.std.proofs.Common.{◌+◌, ◌∷◌, refl, sym, ap, ◌∙◌, arith}
+use Rattle.slotmap_core.proofs.Common.{NoneBelow, keys_total, exact_keys, len_removed, none_live, Empties-first, first_entry, above_next}
 use Rattle.slotmap_slots.proofs.AheadLemmas.{odds_removed}
 use Rattle.slotmap_basic.specs.Drain.{DrainCanStep}
 use Rattle.slotmap_basic.proofs.drain.DrainIterator.next.Goals as goal

@@ -1,4 +1,4 @@
-use Rattle.slotmap_core.proofs.Lemmas.{refl, listing-entries}
+use Rattle.slotmap_core.proofs.Common.{refl, listing-entries}
 use Rattle.slotmap_basic.proofs.into_iter.SlotMapIntoIterator.into_iter.Goals as goal
 
 pub returns : goal.returns

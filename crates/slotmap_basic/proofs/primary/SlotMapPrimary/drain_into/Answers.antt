@@ -1,5 +1,4 @@
-use Rattle.slotmap_core.specs.Words.{IsListing}
-use Rattle.slotmap_core.proofs.Lemmas.{subst, sym, on_ok_weaker, listing-entries}
+use Rattle.slotmap_core.proofs.Common.{IsListing, subst, sym, on_ok_weaker, listing-entries}
 use Rattle.slotmap_basic.proofs.primary.SlotMapPrimary.drain_into.Goals as goal
 
 pub returns-clause-ok : goal.returns-clause-ok

@@ -1,4 +1,4 @@
-use Rattle.slotmap_core.proofs.Lemmas.{rules}
+use Rattle.slotmap_core.proofs.Common.{rules}
 use Rattle.slotmap_basic.proofs.primary.SlotMapPrimary.retain.Goals as goal
 
 pub returns-clause-retained : goal.returns-clause-retained

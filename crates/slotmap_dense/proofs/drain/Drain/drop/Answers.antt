@@ -1,4 +1,4 @@
-use Rattle.slotmap_core.proofs.Lemmas.{rules}
+use Rattle.slotmap_core.proofs.Common.{rules}
 use Rattle.slotmap_dense.proofs.drain.Drain.drop.Goals as goal
 
 pub returns-clause-ends : goal.returns-clause-ends

@@ -1,4 +1,4 @@
-use Rattle.slotmap_core.proofs.Lemmas.{refl, is_some, ap, arith, keys_total, exact_keys, len_removed}
+use Rattle.slotmap_core.proofs.Common.{refl, is_some, ap, arith, keys_total, exact_keys, len_removed}
 use Rattle.slotmap_dense.proofs.DrainLemmas.{Empties-first}
 use Rattle.slotmap_dense.proofs.drain.DrainIterator.next.Goals as goal
 

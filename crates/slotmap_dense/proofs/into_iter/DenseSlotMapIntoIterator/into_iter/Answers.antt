@@ -1,4 +1,4 @@
-use Rattle.slotmap_core.proofs.Lemmas.{map as list_map, refl}
+use Rattle.slotmap_core.proofs.Common.{map as list_map, refl}
 use Rattle.slotmap_dense.proofs.PackedLemmas.{listed}
 use Rattle.slotmap_dense.proofs.into_iter.DenseSlotMapIntoIterator.into_iter.Goals as goal
 

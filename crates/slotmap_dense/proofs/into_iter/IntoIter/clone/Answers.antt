@@ -1,4 +1,5 @@
-use Rattle.slotmap_core.proofs.Lemmas.{◌≡◌, rules, sym, same_from_all_zip, pairs_equal}
+use Rattle.std.proofs.Common.{◌≡◌, rules, sym}
+use Rattle.slotmap_core.proofs.Common.{same_from_all_zip, pairs_equal}
 use Rattle.slotmap_dense.proofs.CloneLemmas.{pairs-clones}
 use Rattle.slotmap_dense.proofs.into_iter.IntoIter.clone.Goals as goal
 

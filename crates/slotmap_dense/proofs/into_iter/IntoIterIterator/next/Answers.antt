@@ -1,4 +1,4 @@
-use Rattle.slotmap_core.proofs.Lemmas.{arith, common_steps}
+use Rattle.slotmap_core.proofs.Common.{arith, common_steps}
 use Rattle.slotmap_dense.proofs.into_iter.IntoIterIterator.next.Goals as goal
 
 pub returns-in-Some-clause-steps : goal.returns-in-Some-clause-steps

@@ -1,4 +1,4 @@
-use Rattle.slotmap_core.proofs.Lemmas.{arith, common_steps, length-zip}
+use Rattle.slotmap_core.proofs.Common.{arith, common_steps, length-zip}
 use Rattle.slotmap_dense.proofs.iter.Iter.len.Goals as goal
 
 pub returns : goal.returns

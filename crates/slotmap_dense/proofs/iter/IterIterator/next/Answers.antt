@@ -1,4 +1,4 @@
-use Rattle.slotmap_core.proofs.Lemmas.{arith, common_steps}
+use Rattle.slotmap_core.proofs.Common.{arith, common_steps}
 use Rattle.slotmap_dense.proofs.iter.IterIterator.next.Goals as goal
 
 pub returns-clause-steps : goal.returns-clause-steps

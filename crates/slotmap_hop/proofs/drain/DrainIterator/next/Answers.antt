@@ -1,5 +1,5 @@
 use Rattle.std.specs.FinMap as map
-use Rattle.slotmap_core.proofs.Lemmas.{refl, ap, arith, keys_total, exact_keys, len_removed, Empties-first}
+use Rattle.slotmap_core.proofs.Common.{refl, ap, arith, keys_total, exact_keys, len_removed, Empties-first}
 use Rattle.slotmap_hop.specs.HopContent.{IsHopContent, IsNextLive}
 use Rattle.slotmap_hop.proofs.Sweeping.{clearing_starts, clearing_removed, after_above, next_is_least, clearing_ends}
 use Rattle.slotmap_hop.proofs.drain.DrainIterator.next.Goals as goal

@@ -1,4 +1,4 @@
-use Rattle.slotmap_core.proofs.Lemmas.{refl, listing-entries}
+use Rattle.slotmap_core.proofs.Common.{refl, listing-entries}
 use Rattle.slotmap_hop.proofs.Iterators.{iter_starts, pairs-start}
 use Rattle.slotmap_hop.proofs.into_iter.HopSlotMapIntoIterator.into_iter.Goals as goal
 

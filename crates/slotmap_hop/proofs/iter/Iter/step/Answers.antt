@@ -1,4 +1,4 @@
-use Rattle.slotmap_core.proofs.Lemmas.{refl, sym, ap, ◌∙◌, arith}
+use Rattle.slotmap_core.proofs.Common.{refl, sym, ap, ◌∙◌, arith}
 use Rattle.slotmap_hop.specs.Slots.{version_in}
 use Rattle.slotmap_hop.proofs.LiveSlots.{live_key}
 use Rattle.slotmap_hop.proofs.Iterators.{can_go_on, iter_on, left_none}

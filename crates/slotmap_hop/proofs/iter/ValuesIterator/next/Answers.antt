@@ -1,4 +1,4 @@
-use Rattle.slotmap_core.proofs.Lemmas.{sym, ap, ◌∙◌, map as list_map}
+use Rattle.slotmap_core.proofs.Common.{sym, ap, ◌∙◌, map as list_map}
 use Rattle.slotmap_hop.proofs.iter.ValuesIterator.next.Goals as goal
 
 pub returns-clause-steps : goal.returns-clause-steps

@@ -1,4 +1,4 @@
-use Rattle.slotmap_core.proofs.Lemmas.{Some, None, refl, ap, ◌∙◌, ◌≡◌, true, not, is_ok}
+use Rattle.std.proofs.Common.{◌≡◌, Some, None, refl, ap, ◌∙◌, true, not, is_ok}
 use Rattle.slotmap_run.proofs.Joins.{inserts, full, no_memory, removed, puts_step, takes_step, no_room, looks, removes_no_key, puts_no_key, looks_no_key, takes_no_key}
 use Rattle.slotmap_run.proofs.JoinRuns.{served}
 use Rattle.slotmap_run.proofs.joined.GivenLookServesBesideJoinedCommandJoinedReply.serve.Goals as goal

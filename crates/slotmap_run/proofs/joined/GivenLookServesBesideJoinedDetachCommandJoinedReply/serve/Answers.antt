@@ -1,4 +1,4 @@
-use Rattle.slotmap_core.proofs.Lemmas.{refl}
+use Rattle.slotmap_core.proofs.Common.{refl}
 use Rattle.slotmap_run.proofs.Joins.{detached, reattach_served, detaches_no_key, reattaches_no_key}
 use Rattle.slotmap_run.proofs.JoinRuns.{served}
 use Rattle.slotmap_run.proofs.joined.GivenLookServesBesideJoinedDetachCommandJoinedReply.serve.Goals as goal

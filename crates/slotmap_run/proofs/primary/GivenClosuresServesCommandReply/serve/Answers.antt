@@ -1,5 +1,5 @@
-use Rattle.slotmap_core.specs.Words.{KeepsAt}
-use Rattle.slotmap_core.proofs.Lemmas.{Bor, subst, ◌≡◌, refl, sym, ap, ◌∙◌, callable_on_each}
+use Rattle.std.proofs.Common.{◌≡◌, Bor, subst, refl, sym, ap, ◌∙◌}
+use Rattle.slotmap_core.proofs.Common.{KeepsAt, callable_on_each}
 use denote.Param.Always.{mut_by, always_fn}
 use Rattle.slotmap_run.proofs.Steps.{keeps_itself, inserted, inserted_with, looked, contains, replaced, removed, retains, clears, drained, listed, counts, reserved}
 use Rattle.slotmap_run.proofs.primary.GivenClosuresServesCommandReply.serve.Goals as goal

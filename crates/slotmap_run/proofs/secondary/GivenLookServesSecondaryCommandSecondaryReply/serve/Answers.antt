@@ -1,5 +1,4 @@
-use Rattle.slotmap_core.specs.Words.{LooksAt, given_secondary}
-use Rattle.slotmap_core.proofs.Lemmas.{Option, Some, refl, subst, rules}
+use Rattle.slotmap_core.proofs.Common.{LooksAt, given_secondary, Option, Some, refl, subst, rules}
 use Rattle.slotmap_run.proofs.secondary.GivenLookServesSecondaryCommandSecondaryReply.serve.Goals as goal
 
 -- what `look` returned for the value that was found

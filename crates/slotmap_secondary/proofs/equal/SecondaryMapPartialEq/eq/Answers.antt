@@ -1,5 +1,5 @@
-use Rattle.slotmap_core.specs.Words.{AreEqual}
-use Rattle.slotmap_core.proofs.Lemmas.{◌≡◌, true, ◌↔◌, sym, subst, equal_where}
+use Rattle.std.proofs.Common.{◌≡◌, ◌↔◌, true, sym, subst}
+use Rattle.slotmap_core.proofs.Common.{AreEqual, equal_where}
 use Rattle.slotmap_secondary.proofs.equal.SecondaryMapPartialEq.eq.Goals as goal
 
 pub returns-clause-which : goal.returns-clause-which

@@ -1,4 +1,4 @@
-use Rattle.slotmap_core.proofs.Lemmas.{◌≡◌, ◌+◌, length}
+use Rattle.std.proofs.Common.{◌≡◌, ◌+◌, length}
 use Rattle.slotmap_secondary.specs.Iter.{values_in}
 use Rattle.slotmap_secondary.proofs.iter.ValuesIterator.next.Given as goal
 

@@ -1,4 +1,4 @@
-use Rattle.slotmap_core.proofs.Lemmas.{refl}
+use Rattle.slotmap_core.proofs.Common.{refl}
 use Rattle.slotmap_secondary.specs.declared.slot.Slot.TheVariants.{Vacant, Occupied}
 use Rattle.slotmap_secondary.proofs.slot.Slot.record.Goals as goal
 

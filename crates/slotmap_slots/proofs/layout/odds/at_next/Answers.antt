@@ -1,4 +1,4 @@
-use Rattle.slotmap_core.proofs.Lemmas.{◌≢◌, ◌-◌, ◌^◌, subst, arith}
+use Rattle.std.proofs.Common.{◌≢◌, ◌-◌, ◌^◌, subst, arith}
 use Rattle.slotmap_slots.specs.Columns.{AllEven}
 use Rattle.slotmap_slots.specs.Odds.{HasOdds}
 use Rattle.slotmap_slots.proofs.OddsLemmas.{behind_run, none_left, passed_to, next_from, run_first, run_ahead, odds_refill}

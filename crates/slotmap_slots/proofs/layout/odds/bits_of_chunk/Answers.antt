@@ -1,4 +1,5 @@
-use Rattle.slotmap_core.proofs.Lemmas.{◌≡◌, ◌+◌, ◌%◌, get_or, ap, ◌∙◌, arith, get_or-chunk}
+use Rattle.std.proofs.Common.{◌≡◌, ◌+◌, ◌%◌, get_or, ap, ◌∙◌, arith}
+use Rattle.slotmap_core.proofs.Common.{get_or-chunk}
 use Rattle.slotmap_slots.proofs.layout.odds.bits_of_chunk.Goals as goal
 
 pub returns : goal.returns

@@ -1,4 +1,4 @@
-use Rattle.slotmap_core.proofs.Lemmas.{◌+◌, sym, subst, arith}
+use Rattle.std.proofs.Common.{◌+◌, sym, subst, arith}
 use Rattle.slotmap_slots.proofs.OddsLemmas.{Below, below_odd, below_even}
 use Rattle.slotmap_slots.proofs.layout.odds.bits_of_tail.Goals.{then-versions-at-eq1, else-versions-at-eq1}
 use Rattle.slotmap_slots.proofs.layout.odds.bits_of_tail.Goals as goal

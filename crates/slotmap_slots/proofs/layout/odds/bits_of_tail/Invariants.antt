@@ -1,4 +1,4 @@
-use Rattle.slotmap_core.proofs.Lemmas.{◌+◌, ◌-◌, ◌≤◌, length}
+use Rattle.std.proofs.Common.{◌+◌, ◌-◌, ◌≤◌, length}
 use Rattle.slotmap_slots.proofs.OddsLemmas.{Below}
 use Rattle.slotmap_slots.proofs.layout.odds.bits_of_tail.Given as goal
 

@@ -1,4 +1,4 @@
-use Rattle.slotmap_core.proofs.Lemmas.{◌≡◌, ◌+◌, ◌-◌, max, refl, subst, arith}
+use Rattle.std.proofs.Common.{◌≡◌, ◌+◌, ◌-◌, max, refl, subst, arith}
 use Rattle.slotmap_slots.specs.Odds.{HasOdds, IsRun}
 use Rattle.slotmap_slots.proofs.OddsLemmas.{odds_start, odds_refill, odds_last, full_run}
 use Rattle.slotmap_slots.proofs.layout.odds.look_ahead.Goals as goal

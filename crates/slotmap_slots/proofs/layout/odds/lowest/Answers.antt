@@ -1,4 +1,4 @@
-use Rattle.slotmap_core.proofs.Lemmas.{arith, w64, bit_at-trailing_zeros}
+use Rattle.slotmap_core.proofs.Common.{arith, w64, bit_at-trailing_zeros}
 use Rattle.slotmap_slots.proofs.layout.odds.lowest.Goals as goal
 
 pub returns : goal.returns

@@ -1,4 +1,4 @@
-use Rattle.slotmap_core.proofs.Lemmas.{arith}
+use Rattle.slotmap_core.proofs.Common.{arith}
 use Rattle.slotmap_slots.proofs.OddsLemmas.{AllOdd-on}
 use Rattle.slotmap_slots.proofs.layout.odds.near_run.Goals as goal
 

@@ -1,4 +1,4 @@
-use Rattle.slotmap_core.proofs.Lemmas.{◌≤◌, ◌+◌, ◌-◌, ◌*◌, ◌/◌, length}
+use Rattle.std.proofs.Common.{◌≤◌, ◌+◌, ◌-◌, ◌*◌, ◌/◌, length}
 use Rattle.slotmap_slots.specs.Odds.{AllOdd}
 use Rattle.slotmap_slots.proofs.layout.odds.near_run.Given as goal
 

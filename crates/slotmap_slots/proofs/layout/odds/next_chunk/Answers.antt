@@ -1,4 +1,4 @@
-use Rattle.slotmap_core.proofs.Lemmas.{◌+◌, arith}
+use Rattle.std.proofs.Common.{◌+◌, arith}
 use native.Mathlib.Decide.{dec_lt}
 use Rattle.slotmap_slots.proofs.OddsLemmas.{even_chunk}
 use Rattle.slotmap_slots.proofs.layout.odds.next_chunk.Goals as goal

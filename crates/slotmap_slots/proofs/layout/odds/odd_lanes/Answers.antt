@@ -1,6 +1,6 @@
-use Rattle.slotmap_core.specs.Words.{bit_at, bit_not, zip2, mask_l}
-use Rattle.slotmap_core.proofs.Lemmas.{ℕ, ◌<◌, ◌^◌, ◌-◌, ◌%◌, eqb, cond, map, replicate, get_or, length, ◌≡◌, subst, ap, ◌∙◌, arith, w32, w64, bit_and}
-use Rattle.slotmap_core.proofs.Lemmas.{get_or_default_zero, length-map, bit_at_not, bitmask_splat, bit_mask_l, mask_l-lt, zip2_splat, get_or-map}
+use Rattle.std.proofs.Common.{◌<◌, ◌^◌, ◌-◌, ◌%◌, ◌≡◌, ℕ, eqb, cond, map, replicate, get_or, length, subst, ap, ◌∙◌, arith, w32, w64, bit_and}
+use Rattle.slotmap_core.proofs.Common.{bit_at, bit_not, zip2, mask_l, get_or_default_zero, length-map, bit_at_not, bitmask_splat, bit_mask_l, mask_l-lt}
+use Rattle.slotmap_core.proofs.Common.{zip2_splat, get_or-map}
 use Rattle.slotmap_slots.proofs.OddsLemmas.{odd_lane}
 use Rattle.slotmap_slots.proofs.layout.odds.odd_lanes.Goals as goal
 

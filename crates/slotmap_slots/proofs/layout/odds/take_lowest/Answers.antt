@@ -1,4 +1,4 @@
-use Rattle.slotmap_core.proofs.Lemmas.{◌≡◌, ◌+◌, ◌-◌, refl, arith}
+use Rattle.std.proofs.Common.{◌≡◌, ◌+◌, ◌-◌, refl, arith}
 use Rattle.slotmap_slots.proofs.OddsLemmas.{odds_on, odds_next, odds_step}
 use Rattle.slotmap_slots.proofs.layout.odds.take_lowest.Goals as goal
 

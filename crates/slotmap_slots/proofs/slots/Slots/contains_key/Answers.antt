@@ -1,4 +1,4 @@
-use Rattle.slotmap_core.proofs.Lemmas.{option_map, ap, sym, ◌∙◌, arith, slice_get_past}
+use Rattle.slotmap_core.proofs.Common.{option_map, ap, sym, ◌∙◌, arith, slice_get_past}
 use Rattle.slotmap_slots.specs.Slot.{version_at}
 use Rattle.slotmap_slots.proofs.SlotLemmas.{contains-version, contains-past}
 use Rattle.slotmap_slots.proofs.SettledLemmas.{settled_valid}

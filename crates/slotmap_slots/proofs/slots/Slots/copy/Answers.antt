@@ -1,4 +1,4 @@
-use Rattle.slotmap_core.proofs.Lemmas.{clone_copies}
+use Rattle.slotmap_core.proofs.Common.{clone_copies}
 use Rattle.slotmap_slots.proofs.SlotClones.{IsSettled-clones, settled-clones}
 use Rattle.slotmap_slots.proofs.SlotLemmas.{valid}
 use Rattle.slotmap_slots.proofs.slots.Slots.copy.Goals as goal

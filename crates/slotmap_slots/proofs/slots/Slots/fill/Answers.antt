@@ -1,4 +1,5 @@
-use Rattle.slotmap_core.proofs.Lemmas.{◌+◌, ◌-◌, ◌<◌, length, is_some, ap, sym, ◌∙◌, arith, length_push, slice_get_within, same_Some, key}
+use Rattle.std.proofs.Common.{◌+◌, ◌-◌, ◌<◌, length, is_some, ap, sym, ◌∙◌, arith}
+use Rattle.slotmap_core.proofs.Common.{length_push, slice_get_within, same_Some, key}
 use Rattle.slotmap_slots.specs.Slot.{full, vacancies}
 use Rattle.slotmap_slots.proofs.SlotLemmas.{used_places-slots}
 use Rattle.slotmap_slots.proofs.SlotGrowth.{IsSound-pushed, inserts-pushed, none_free, some_free, top, top_read, top_next, top_version, offer-new, offer-top, filled_top, inserts-filled}

@@ -1,8 +1,7 @@
-use Rattle.slotmap_core.specs.Words.{into_iter_items, IsConsistent, Accepts, AllFitBelow}
-use Rattle.slotmap_core.proofs.Lemmas.{◌≡◌, ◌+◌, [], ◌∷◌, ◌++◌, Some, length, true, refl, sym, ap, subst, ◌∙◌, append_assoc, append-nil, length-append, arith}
-use Rattle.slotmap_core.proofs.Lemmas.{length_push, nil_from_length, starts-stack, odd_of, even_where, next_consistent, first_taken, reads_as}
-use Rattle.slotmap_slots.specs.Slot.{full, empty, vacancies}
-use Rattle.slotmap_slots.specs.declared.layout.Use.TheVariants.{Free, Retired}
+use Rattle.std.proofs.Common.{◌≡◌, ◌+◌, ◌∷◌, ◌++◌, [], Some, length, true, refl, sym, ap, subst, ◌∙◌, append_assoc, append-nil, length-append, arith}
+use Rattle.slotmap_core.proofs.Common.{into_iter_items, IsConsistent, Accepts, AllFitBelow, length_push, nil_from_length, starts-stack, odd_of, even_where}
+use Rattle.slotmap_core.proofs.Common.{next_consistent, first_taken, reads_as}
+use Rattle.slotmap_slots.specs.Slot.{full, empty, vacancies, Free, Retired}
 use Rattle.slotmap_slots.proofs.SlotLemmas.{valid, FitsEmpty-free, head_within}
 use Rattle.slotmap_slots.proofs.SettledLemmas.{vacancies-push}
 use Rattle.slotmap_slots.proofs.FromListLemmas.{AreRead, AreRead-first, AreRead-live, AreRead-retired, AreRead-vacant, IsSound-read, free_indices-read}

@@ -1,4 +1,4 @@
-use Rattle.slotmap_core.proofs.Lemmas.{is_some, ap}
+use Rattle.slotmap_core.proofs.Common.{is_some, ap}
 use Rattle.slotmap_slots.proofs.SettledLemmas.{settled_valid, settled_present, settled_value}
 use Rattle.slotmap_slots.proofs.slots.Slots.get_unchecked.Goals as goal
 

@@ -1,4 +1,4 @@
-use Rattle.slotmap_core.proofs.Lemmas.{arith, ltb-true}
+use Rattle.slotmap_core.proofs.Common.{arith, ltb-true}
 use Rattle.slotmap_slots.proofs.SettledLemmas.{settled_valid, settled_reuses, settled_spare}
 use Rattle.slotmap_slots.proofs.slots.Slots.has_room.Goals as goal
 

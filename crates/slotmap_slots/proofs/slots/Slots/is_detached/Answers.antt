@@ -1,4 +1,5 @@
-use Rattle.slotmap_core.proofs.Lemmas.{◌==◌, Some, ap, sym, ◌∙◌, slice_get_within, none_from}
+use Rattle.std.proofs.Common.{◌==◌, Some, ap, sym, ◌∙◌}
+use Rattle.slotmap_core.proofs.Common.{slice_get_within, none_from}
 use Rattle.slotmap_slots.specs.Slot.{version_at, usage_at, version_before}
 use Rattle.slotmap_slots.proofs.SlotLemmas.{slot_at}
 use Rattle.slotmap_slots.proofs.SlotGrowth.{detached-past, detached-read, detached-other}

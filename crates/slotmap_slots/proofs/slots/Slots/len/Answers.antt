@@ -1,4 +1,4 @@
-use Rattle.slotmap_core.proofs.Lemmas.{rules}
+use Rattle.slotmap_core.proofs.Common.{rules}
 use Rattle.slotmap_slots.proofs.SettledLemmas.{settled_valid}
 use Rattle.slotmap_slots.proofs.slots.Slots.len.Goals as goal
 

@@ -1,4 +1,5 @@
-use Rattle.slotmap_core.proofs.Lemmas.{◌+◌, ◌<◌, length, ap, sym, ◌∙◌, arith, slice_get_within, key}
+use Rattle.std.proofs.Common.{◌+◌, ◌<◌, length, ap, sym, ◌∙◌, arith}
+use Rattle.slotmap_core.proofs.Common.{slice_get_within, key}
 use Rattle.slotmap_slots.proofs.SlotGrowth.{top, top_version, top_read, offer-new, offer-top}
 use Rattle.slotmap_slots.proofs.SettledLemmas.{settled_fits}
 use Rattle.slotmap_slots.proofs.slots.Slots.next_key.Goals as goal

@@ -1,4 +1,5 @@
-use Rattle.slotmap_core.proofs.Lemmas.{◌+◌, ◌-◌, arith, slice_get_within}
+use Rattle.std.proofs.Common.{◌+◌, ◌-◌, arith}
+use Rattle.slotmap_core.proofs.Common.{slice_get_within}
 use Rattle.slotmap_slots.specs.Slot.{full, vacancies}
 use Rattle.slotmap_slots.proofs.SlotLemmas.{reattached, reattaches-slots}
 use Rattle.slotmap_slots.proofs.SettledLemmas.{settled_stays, settled_aside, vacancies-set, settled-set, aside_positive}

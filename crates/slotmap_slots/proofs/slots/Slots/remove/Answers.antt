@@ -1,4 +1,4 @@
-use Rattle.slotmap_core.proofs.Lemmas.{rules}
+use Rattle.slotmap_core.proofs.Common.{rules}
 use Rattle.slotmap_slots.proofs.slots.Slots.remove.Goals as goal
 
 pub returns-then-contains_key-clause-value : goal.returns-then-contains_key-clause-value

@@ -1,4 +1,5 @@
-use Rattle.slotmap_core.proofs.Lemmas.{◌<◌, arith, err_not_ok}
+use Rattle.std.proofs.Common.{◌<◌, arith}
+use Rattle.slotmap_core.proofs.Common.{err_not_ok}
 use Rattle.slotmap_slots.proofs.SettledLemmas.{settled_fits, settled_used, settled_places, grown}
 use Rattle.slotmap_slots.proofs.slots.Slots.reserve.Goals as goal
 

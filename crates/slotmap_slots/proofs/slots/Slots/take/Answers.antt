@@ -1,7 +1,6 @@
-use Rattle.slotmap_core.specs.Words.{last_version}
-use Rattle.slotmap_core.proofs.Lemmas.{◌≡◌, ◌+◌, ◌-◌, true, false, nat_eq, is_some, ap, sym, ◌∙◌, arith, eq-eqb, ne_eqb}
-use Rattle.slotmap_slots.specs.Slot.{empty, vacancies}
-use Rattle.slotmap_slots.specs.declared.layout.Use.TheVariants.{Free, Retired}
+use Rattle.std.proofs.Common.{◌≡◌, ◌+◌, ◌-◌, true, false, nat_eq, is_some, ap, sym, ◌∙◌, arith, eq-eqb, ne_eqb}
+use Rattle.slotmap_core.proofs.Common.{last_version}
+use Rattle.slotmap_slots.specs.Slot.{empty, vacancies, Free, Retired}
 use Rattle.slotmap_slots.proofs.SlotLemmas.{FitsEmpty-free, head_fits, freed, removes-freed, retired, removes-retired}
 use Rattle.slotmap_slots.proofs.SettledLemmas.{settled_stays, settled_present, settled_positive, vacancies-set, settled-set, settled_value}
 use Rattle.slotmap_slots.proofs.slots.Slots.take.Goals as goal

@@ -1,6 +1,5 @@
-use Rattle.slotmap_core.proofs.Lemmas.{◌+◌, ◌-◌, ◌%◌, ◌^◌, is_some, ap, arith}
-use Rattle.slotmap_slots.specs.Slot.{empty, vacancies}
-use Rattle.slotmap_slots.specs.declared.layout.Use.TheVariants.{Detached}
+use Rattle.std.proofs.Common.{◌+◌, ◌-◌, ◌%◌, ◌^◌, is_some, ap, arith}
+use Rattle.slotmap_slots.specs.Slot.{empty, vacancies, Detached}
 use Rattle.slotmap_slots.proofs.SlotLemmas.{detached, detaches-slots}
 use Rattle.slotmap_slots.proofs.SettledLemmas.{settled_stays, settled_present, settled_positive, vacancies-set, settled-set, settled_value}
 use Rattle.slotmap_slots.proofs.slots.Slots.take_detached.Goals as goal

@@ -1,4 +1,4 @@
-use Rattle.slotmap_core.proofs.Lemmas.{true, arith, writes_clones, clones_contents, equal_writes, equal_contents, writes-stack}
+use Rattle.slotmap_core.proofs.Common.{true, arith, writes_clones, clones_contents, equal_writes, equal_contents, writes-stack}
 use Rattle.slotmap_slots.proofs.SettledLemmas.{settled_valid}
 use Rattle.slotmap_slots.proofs.FromListLemmas.{records-next, records-all}
 use Rattle.slotmap_slots.proofs.SlotLemmas.{stacked_free}

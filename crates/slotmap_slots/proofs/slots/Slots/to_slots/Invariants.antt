@@ -1,5 +1,5 @@
-use Rattle.slotmap_core.specs.Words.{AreRecordClones, records_of}
-use Rattle.slotmap_core.proofs.Lemmas.{◌+◌, ◌≤◌, take, vec_len, vec_capacity}
+use Rattle.std.proofs.Common.{◌+◌, ◌≤◌, take, vec_len, vec_capacity}
+use Rattle.slotmap_core.proofs.Common.{AreRecordClones, records_of}
 use Rattle.slotmap_slots.specs.Slot.{places_of}
 use Rattle.slotmap_slots.proofs.slots.Slots.to_slots.Given as goal
 

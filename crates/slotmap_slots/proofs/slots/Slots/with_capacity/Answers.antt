@@ -1,4 +1,4 @@
-use Rattle.slotmap_core.proofs.Lemmas.{arith, sentinel_alone, used_places-sentinel}
+use Rattle.slotmap_core.proofs.Common.{arith, sentinel_alone, used_places-sentinel}
 use Rattle.slotmap_slots.proofs.SlotLemmas.{valid}
 use Rattle.slotmap_slots.proofs.SlotGrowth.{IsSound-sentinel}
 use Rattle.slotmap_slots.proofs.slots.Slots.with_capacity.Goals as goal

@@ -1,4 +1,4 @@
-use Rattle.slotmap_core.proofs.Lemmas.{refl, ap, arith, get_bound, in_own, bind_twice, without_own}
+use Rattle.slotmap_core.proofs.Common.{refl, ap, arith, get_bound, in_own, bind_twice, without_own}
 use Rattle.slotmap_sparse.proofs.entry.Entry.and_modify.Goals as goal
 
 pub returns-in-Occupied-clause-in_place : goal.returns-in-Occupied-clause-in_place

@@ -1,5 +1,4 @@
-use Rattle.slotmap_core.specs.Words.{bind, contains_key}
-use Rattle.slotmap_core.proofs.Lemmas.{refl, ap, ◌∙◌, in_own, bind_twice, lent_is}
+use Rattle.slotmap_core.proofs.Common.{bind, contains_key, refl, ap, ◌∙◌, in_own, bind_twice, lent_is}
 use Rattle.slotmap_sparse.proofs.entry.VacantEntry.insert.Goals as goal
 
 pub get_unchecked_mut-requires : goal.get_unchecked_mut-requires

@@ -1,5 +1,5 @@
-use Rattle.slotmap_core.specs.Words.{AreEqual}
-use Rattle.slotmap_core.proofs.Lemmas.{◌≡◌, ◌↔◌, true, ap, sym, subst, ◌∙◌}
+use Rattle.std.proofs.Common.{◌≡◌, ◌↔◌, true, ap, sym, subst, ◌∙◌}
+use Rattle.slotmap_core.proofs.Common.{AreEqual}
 use Rattle.slotmap_sparse.proofs.EqualLemmas.{equal_as, equal_maps}
 use Rattle.slotmap_sparse.proofs.equal.SparseSecondaryMapPartialEq.eq.Goals as goal
 

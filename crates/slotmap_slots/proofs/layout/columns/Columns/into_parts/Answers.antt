@@ -1,4 +1,4 @@
-use Rattle.slotmap_core.proofs.Lemmas.{ap}
+use Rattle.slotmap_core.proofs.Common.{ap}
 use Rattle.slotmap_slots.specs.Numbers.{uses_of}
 use Rattle.slotmap_slots.proofs.NumberLemmas.{uses-length}
 use Rattle.slotmap_slots.proofs.layout.columns.Columns.into_parts.Goals as goal

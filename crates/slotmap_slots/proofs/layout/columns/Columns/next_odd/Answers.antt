@@ -1,4 +1,4 @@
-use Rattle.slotmap_core.proofs.Lemmas.{◌≡◌, ◌∙◌, sym}
+use Rattle.std.proofs.Common.{◌≡◌, ◌∙◌, sym}
 use Rattle.slotmap_slots.specs.Slot.{versions_of}
 use Rattle.slotmap_slots.proofs.ColumnLemmas.{slot_list-versions}
 use Rattle.slotmap_slots.proofs.layout.columns.Columns.next_odd.Goals.{After-deref}

@@ -1,5 +1,5 @@
-use Rattle.slotmap_core.specs.Words.{AllZip, IsCloneOf}
-use Rattle.slotmap_core.proofs.Lemmas.{◌≡◌, length, ap, ◌∙◌, arith, zip_length}
+use Rattle.std.proofs.Common.{◌≡◌, length, ap, ◌∙◌, arith}
+use Rattle.slotmap_core.proofs.Common.{AllZip, IsCloneOf, zip_length}
 use Rattle.slotmap_slots.specs.Numbers.{uses_of}
 use Rattle.slotmap_slots.proofs.ColumnLemmas.{zip-length}
 use Rattle.slotmap_slots.proofs.NumberLemmas.{uses-length}

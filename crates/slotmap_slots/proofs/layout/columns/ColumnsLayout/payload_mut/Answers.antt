@@ -1,4 +1,4 @@
-use Rattle.slotmap_core.proofs.Lemmas.{refl, arith}
+use Rattle.slotmap_core.proofs.Common.{refl, arith}
 use Rattle.slotmap_slots.proofs.ColumnLemmas.{slot_list-known, zip-with_payload}
 use Rattle.slotmap_slots.proofs.layout.columns.ColumnsLayout.payload_mut.Goals as goal
 

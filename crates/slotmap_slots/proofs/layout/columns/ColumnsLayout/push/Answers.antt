@@ -1,4 +1,4 @@
-use Rattle.slotmap_core.proofs.Lemmas.{Some}
+use Rattle.slotmap_core.proofs.Common.{Some}
 use Rattle.slotmap_slots.specs.declared.layout.Use.TheVariants.{InUse}
 use Rattle.slotmap_slots.proofs.ColumnLemmas.{slot_list-push}
 use Rattle.slotmap_slots.proofs.NumberLemmas.{usage-in_use}

@@ -1,4 +1,4 @@
-use Rattle.slotmap_core.proofs.Lemmas.{None, ap, ◌∙◌}
+use Rattle.slotmap_core.proofs.Common.{None, ap, ◌∙◌}
 use Rattle.slotmap_slots.specs.Numbers.{use_of}
 use Rattle.slotmap_slots.proofs.ColumnLemmas.{slot_list-push}
 use Rattle.slotmap_slots.proofs.NumberLemmas.{usage-empty}

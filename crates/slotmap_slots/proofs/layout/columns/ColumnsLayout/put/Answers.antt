@@ -1,4 +1,4 @@
-use Rattle.slotmap_core.proofs.Lemmas.{Some}
+use Rattle.slotmap_core.proofs.Common.{Some}
 use Rattle.slotmap_slots.proofs.ColumnLemmas.{slot_list-put}
 use Rattle.slotmap_slots.proofs.layout.columns.ColumnsLayout.put.Goals as goal
 

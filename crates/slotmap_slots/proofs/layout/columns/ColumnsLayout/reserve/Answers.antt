@@ -1,4 +1,4 @@
-use Rattle.slotmap_core.proofs.Lemmas.{◌+◌, length, arith}
+use Rattle.std.proofs.Common.{◌+◌, length, arith}
 use Rattle.slotmap_slots.proofs.ColumnLemmas.{slot_list-length}
 use Rattle.slotmap_slots.proofs.layout.columns.ColumnsLayout.reserve.Goals as goal
 

@@ -1,4 +1,4 @@
-use Rattle.slotmap_core.proofs.Lemmas.{length, refl, ap, ◌∙◌, arith, length-map}
+use Rattle.slotmap_core.proofs.Common.{length, refl, ap, ◌∙◌, arith, length-map}
 use Rattle.slotmap_slots.specs.Rows.{slot_of_row, slots_of_rows}
 use Rattle.slotmap_slots.proofs.SlotClones.{clones-self}
 use Rattle.slotmap_slots.proofs.layout.rows.RowsCopyLayoutU32.copy.Goals as goal

@@ -1,4 +1,4 @@
-use Rattle.slotmap_core.proofs.Lemmas.{ℕ, IsSome, refl, sym, subst}
+use Rattle.slotmap_core.proofs.Common.{ℕ, IsSome, refl, sym, subst}
 use Rattle.slotmap_slots.specs.Slot.{SlotList, payload_at}
 use Rattle.slotmap_slots.proofs.RowLemmas.{row-payload, row-with_payload}
 use Rattle.slotmap_slots.proofs.layout.rows.RowsLayoutU32.payload_mut.Goals as goal

@@ -1,4 +1,5 @@
-use Rattle.slotmap_core.proofs.Lemmas.{◌+◌, length, ap, arith, length-map}
+use Rattle.std.proofs.Common.{◌+◌, length, ap, arith}
+use Rattle.slotmap_core.proofs.Common.{length-map}
 use Rattle.slotmap_slots.specs.Rows.{slot_of_row}
 use Rattle.slotmap_slots.proofs.layout.rows.RowsLayoutU32.reserve.Goals as goal
 

@@ -1,5 +1,5 @@
-use Rattle.slotmap_core.specs.Words.{AllZip, IsCloneOf}
-use Rattle.slotmap_core.proofs.Lemmas.{◌≡◌, same_from_all_zip, pairs_equal}
+use Rattle.std.proofs.Common.{◌≡◌}
+use Rattle.slotmap_core.proofs.Common.{AllZip, IsCloneOf, same_from_all_zip, pairs_equal}
 use Rattle.slotmap_slots.proofs.SlotClones.{option_clones}
 use Rattle.slotmap_slots.proofs.IterClones.{pairs_left-clones, IsIter-clones}
 use Rattle.slotmap_slots.proofs.slots.iter.SlotIntoIter.copy.Goals as goal

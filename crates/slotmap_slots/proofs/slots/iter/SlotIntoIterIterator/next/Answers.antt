@@ -1,4 +1,5 @@
-use Rattle.slotmap_core.proofs.Lemmas.{◌≡◌, [], length, ap, arith, same_Some, slice_get_within, same_read}
+use Rattle.std.proofs.Common.{◌≡◌, [], length, ap, arith}
+use Rattle.slotmap_core.proofs.Common.{same_Some, slice_get_within, same_read}
 use Rattle.slotmap_slots.specs.Iter.{IsIter, pairs_left}
 use Rattle.slotmap_slots.proofs.PairsLemmas.{Next, next_on, some_left, ends_at, IsIter-taken, left-taken}
 use Rattle.slotmap_slots.proofs.slots.iter.SlotIntoIterIterator.next.Goals.{In_ok-index, In_err-index}

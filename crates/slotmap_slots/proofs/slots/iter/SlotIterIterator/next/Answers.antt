@@ -1,4 +1,5 @@
-use Rattle.slotmap_core.proofs.Lemmas.{◌≡◌, [], refl, sym, ◌∙◌, arith, same_Some, slice_get_within, same_read}
+use Rattle.std.proofs.Common.{◌≡◌, [], refl, sym, ◌∙◌, arith}
+use Rattle.slotmap_core.proofs.Common.{same_Some, slice_get_within, same_read}
 use Rattle.slotmap_slots.specs.Iter.{IsIter, pairs_left}
 use Rattle.slotmap_slots.proofs.PairsLemmas.{Next, next_on, some_left, ends_at}
 use Rattle.slotmap_slots.proofs.slots.iter.SlotIterIterator.next.Goals.{In_ok-index, In_err-index}

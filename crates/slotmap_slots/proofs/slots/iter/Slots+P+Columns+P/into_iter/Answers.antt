@@ -1,5 +1,5 @@
 use Rattle.std.specs.FinMap as map
-use Rattle.slotmap_core.proofs.Lemmas.{ap, ◌∙◌}
+use Rattle.slotmap_core.proofs.Common.{ap, ◌∙◌}
 use Rattle.slotmap_slots.proofs.PairsLemmas.{iter_from}
 use Rattle.slotmap_slots.proofs.slots.iter.Slots+P+Columns+P.into_iter.Goals as goal
 

@@ -1,6 +1,6 @@
 use Rattle.std.specs.FinMap as map
-use Rattle.slotmap_core.proofs.Lemmas.{true, refl, sym, ap, ◌∙◌, inl, arith, keys_total, exact_keys, in_after_remove, removed_places, alone_at}
-use Rattle.slotmap_core.proofs.Lemmas.{NoneBelow-removed, none_live, get-remove_other, Swept-start, Swept-to, Swept-removed}
+use Rattle.slotmap_core.proofs.Common.{true, refl, sym, ap, ◌∙◌, inl, arith, keys_total, exact_keys, in_after_remove, removed_places, alone_at}
+use Rattle.slotmap_core.proofs.Common.{NoneBelow-removed, none_live, get-remove_other, Swept-start, Swept-to, Swept-removed}
 use Rattle.slotmap_slots.proofs.AheadLemmas.{odds_removed}
 use Rattle.slotmap_slots.proofs.slots.search.Slots+P+Columns+P.clear_from.Goals as goal
 

@@ -1,6 +1,6 @@
 use Rattle.std.specs.FinMap as map
-use Rattle.slotmap_core.specs.Words.{Key, IsLive, places, NoneBelow}
-use Rattle.slotmap_core.proofs.Lemmas.{◌≡◌, ◌<◌, ◌≤◌, ◌+◌, ◌-◌, true, Swept}
+use Rattle.std.proofs.Common.{◌≡◌, ◌<◌, ◌≤◌, ◌+◌, ◌-◌, true}
+use Rattle.slotmap_core.proofs.Common.{Key, IsLive, places, NoneBelow, Swept}
 use Rattle.slotmap_slots.specs.Ahead.{KnowsLiveKeys}
 use Rattle.slotmap_slots.proofs.slots.search.Slots+P+Columns+P.clear_from.Given as goal
 

@@ -1,5 +1,5 @@
-use Rattle.slotmap_core.specs.Words.{Key, IsLive}
-use Rattle.slotmap_core.proofs.Lemmas.{◌<◌, inl, arith, if_none}
+use Rattle.std.proofs.Common.{◌<◌, inl, arith}
+use Rattle.slotmap_core.proofs.Common.{Key, IsLive, if_none}
 use native.Mathlib.Decide.{dec_lt}
 use Rattle.slotmap_slots.proofs.AheadLemmas.{settled_odds, settled_ahead, none_odd, odd_at, versions-length}
 use Rattle.slotmap_slots.proofs.SettledLemmas.{settled_valid, settled_places, settled_live, settled_passed}

@@ -1,4 +1,4 @@
-use Rattle.slotmap_core.proofs.Lemmas.{inl, arith}
+use Rattle.slotmap_core.proofs.Common.{inl, arith}
 use Rattle.slotmap_slots.proofs.AheadLemmas.{settled_odds, settled_start, settled_from}
 use Rattle.slotmap_slots.proofs.SettledLemmas.{settled_valid, settled_places}
 use Rattle.slotmap_slots.proofs.slots.search.Slots+P+Columns+P.odds_from.Goals as goal

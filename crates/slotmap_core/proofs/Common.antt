@@ -1,10 +1,9 @@
--- What the proofs of the crates above cite, from one place: of std and of this crate. Declares nothing.
-pub use Rattle.std.proofs.Common.{arith, ap, ◌∙◌, ◌≡◌, refl, sym, length, ◌+◌, Some, List, ℕ, ◌≤◌, ◌∷◌, [], true, ◌<◌, subst, ◌++◌, map, is_some, rules, ◌-◌}
-pub use Rattle.std.proofs.Common.{None, slice_get, false, Option, inl, cond, ◌≢◌, ◌^◌, set, Bool, vec_capacity, suc, zero, inr, take, get_or, vec_len}
-pub use Rattle.std.proofs.Common.{option_map, ◌%◌, append-nil, eq-eqb, append_assoc, ◌⊎◌, drop, nat_eq, ne_eqb, ◌==◌, IsSome, eqb, min, ◌↔◌, Ok, nat_cmp}
-pub use Rattle.std.proofs.Common.{Result, Err, max, ◌&&◌, not, ◌||◌, option_and_then, ⊎_elim, reverse, add-one, ◌*◌, w64, eqb-true, option_copied, IfOk, OnErr}
-pub use Rattle.std.proofs.Common.{IsErr, ◌/◌, bit_and, ltb-true, length-append, T, if◌then◌else◌, OnOk, IsOk, is_ok, Bor, OnSome, IfNone, bit_or, replicate}
-pub use Rattle.std.proofs.Common.{w32, nat_le, IfSome, count_by, MutBor, Vec, Global, IfErr, drop-cons}
+-- What the proofs of the crates above cite, from one place: definitions and lemmas of std and of this crate. Declares nothing.
+pub use Rattle.std.proofs.Common.{arith, ap, ◌∙◌, refl, sym, length, Some, List, ℕ, [], true, subst, map, is_some, rules, None, slice_get, false, Option, inl}
+pub use Rattle.std.proofs.Common.{cond, set, Bool, vec_capacity, suc, zero, inr, take, get_or, vec_len, option_map, append-nil, eq-eqb, append_assoc, drop}
+pub use Rattle.std.proofs.Common.{nat_eq, ne_eqb, IsSome, eqb, min, Ok, nat_cmp, Result, Err, max, not, option_and_then, ⊎_elim, reverse, add-one, w64}
+pub use Rattle.std.proofs.Common.{eqb-true, option_copied, IfOk, OnErr, IsErr, bit_and, ltb-true, length-append, T, OnOk, IsOk, is_ok, Bor, OnSome, IfNone}
+pub use Rattle.std.proofs.Common.{bit_or, replicate, w32, nat_le, IfSome, count_by, MutBor, Vec, Global, IfErr, drop-cons}
 pub use Rattle.std.proofs.Math.ListN.{get_or-map}
 pub use Rattle.std.proofs.Math.Nat.{eq-zero-or-pos}
 pub use Rattle.std.proofs.Math.Seq.{map-set_same, set-append_seam}
@@ -98,3 +97,28 @@ pub use Rattle.slotmap_core.proofs.Several.RetainLemmas.{retained_none, retained
 pub use Rattle.slotmap_core.proofs.Several.SeveralLemmas.{CanReplace-next, Exchanged, WriteLaws}
 pub use Rattle.slotmap_core.proofs.Several.VisitLemmas.{Visits, CallsAt-called, Visits-listed, Visits-stay, Visits-rest, Visits-start, Visits-call}
 pub use Rattle.slotmap_core.proofs.Several.VisitLemmas.{callable_on_each}
+pub use Rattle.slotmap_core.specs.Words.{zip, swap_remove, All, filter, MatchOption, IsSomeAnd, nat_eq_equiv, unsigned_tied, nat_cmp_is, find, below_all}
+pub use Rattle.slotmap_core.specs.Words.{is_sorted, is_some-find, Mut, Takes, Called, HashMap, hash_map_len, spare, WritesThrough, hash_map_eq}
+pub use Rattle.slotmap_core.specs.Words.{hash_map_eq_from_get, get_from_hash_map_eq, bit_at, bit_not, YieldsFirstBy, MakesProgress, AllZip, FoldsTo}
+pub use Rattle.slotmap_core.specs.Words.{AllByRecursion, list_any, keys_of, lookup, RetainsPairs, SomeCallAtPair, option_copied_mut, option_eq, eq_by_cmp}
+pub use Rattle.slotmap_core.specs.Words.{ordering_then, is_lt, result_ok, zip2, mask_l, with_items, into_iter_items, into_iter_len, Key, key_cmp, IsKey}
+pub use Rattle.slotmap_core.specs.Words.{last_version, null_key, key_from, is_last, is_older, IsContent, Content, IsLive, most, used, places, Stands}
+pub use Rattle.slotmap_core.specs.Words.{IsDetached, IsListing, IsKeyListing, NoneBelow, IsListingBut, with_entries, Along, Removes, Inserts, with_value}
+pub use Rattle.slotmap_core.specs.Words.{Leaves, Detaches, Reattaches, Keeps, IsNew, pushed_all, EmptiesByIndex, pushed, Replaces, StaysValid, MakesRoom}
+pub use Rattle.slotmap_core.specs.Words.{MayGrow, ClonesEqual, IsCloneOf, AreClones, IsCloneBy, IsCopy, CanReplace, RefusesCapacity, Refuses, RefusesWith}
+pub use Rattle.slotmap_core.specs.Words.{RefusesReattach, LacksRoom, Visit, RetainsBy, CallsAt, CallableOnEach, seen, MayCome, kept, Given, given, any_closures}
+pub use Rattle.slotmap_core.specs.Words.{KeepsAt, State, IsIssued, retired, StandsIn, Fresh, after_insert, empty_state, after_remove, after_replace}
+pub use Rattle.slotmap_core.specs.Words.{after_reserve, after_detach, after_reattach, DetachStep, Step, MayLackMemory, MayLackRoom, Run, Unretiring, Fits}
+pub use Rattle.slotmap_core.specs.Words.{Follows, Lasts, Starts, RunFollows, RunsAnew, Continues, Lifo, IsBasic, answer, after_command, offer_of, top_key}
+pub use Rattle.slotmap_core.specs.Words.{places_after, no_places, reply_keys, IsRefusal, keys_told, Laws, DetachLaws, Spares, NoKeyTwice, LastFreedFirst}
+pub use Rattle.slotmap_core.specs.Words.{RemovedForGood, DetachedNotReissued, DetachedReattaches, ReattachBinds, NeedsRoom, DetachNeedsRoom, ReserveHolds}
+pub use Rattle.slotmap_core.specs.Words.{gather, Vacant, Live, Place, Detached, Retired, live_entry, retired_entry, left_by, live_value, IsPlaceClone}
+pub use Rattle.slotmap_core.specs.Words.{ArePlaceClones, IsStacked, content_of_places, used_places, IsOn, IsVersion, HasVersion, StackMap, offer}
+pub use Rattle.slotmap_core.specs.Words.{vacant_version, IsOnce, filled, inserted, Accepts, AllFitBelow, RefusesStart, IsConsistent, vacant_slot, start_places}
+pub use Rattle.slotmap_core.specs.Words.{StartsFrom, place_of_record, live_slot, retired_slot, is_vacant_version, Writes, AreRecordClones, records_of}
+pub use Rattle.slotmap_core.specs.Words.{IsRecordClone, record_of, empty_slot, Restores, Pairs, get, contains_key, value_at, bind, remove, entry, IsSecondary}
+pub use Rattle.slotmap_core.specs.Words.{put, vacant, no_entry, entry_at, is_null, occupied, RefusesPut, keyed_entry, Entry, given_secondary, LooksAt, Joined}
+pub use Rattle.slotmap_core.specs.Words.{named, RunsBeside, Dictionary, WithDictionary, DictionaryStep, DetachDictionaryStep, RunsByDictionary, unused, noted}
+pub use Rattle.slotmap_core.specs.Words.{RepliesByDictionary, AreEqual, are_equal, same_entries, SameValue, AllPut, values_of, record_of_pair, slot_pair}
+pub use Rattle.slotmap_core.specs.Words.{HasClones, ReadsAs, SlotRecord}
+unfoldable pub use Rattle.slotmap_core.specs.Words.{IsDistinct, live, detached, next, start_live, start_stack, start_next, start_retired, keyed}
