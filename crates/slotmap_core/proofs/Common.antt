@@ -120,5 +120,5 @@ pub use Rattle.slotmap_core.specs.Words.{IsRecordClone, record_of, empty_slot, R
 pub use Rattle.slotmap_core.specs.Words.{put, vacant, no_entry, entry_at, is_null, occupied, RefusesPut, keyed_entry, Entry, given_secondary, LooksAt, Joined}
 pub use Rattle.slotmap_core.specs.Words.{named, RunsBeside, Dictionary, WithDictionary, DictionaryStep, DetachDictionaryStep, RunsByDictionary, unused, noted}
 pub use Rattle.slotmap_core.specs.Words.{RepliesByDictionary, AreEqual, are_equal, same_entries, SameValue, AllPut, values_of, record_of_pair, slot_pair}
-pub use Rattle.slotmap_core.specs.Words.{HasClones, ReadsAs, SlotRecord}
+pub use Rattle.slotmap_core.specs.Words.{HasClones, ReadsAs}
 unfoldable pub use Rattle.slotmap_core.specs.Words.{IsDistinct, live, detached, next, start_live, start_stack, start_next, start_retired, keyed}

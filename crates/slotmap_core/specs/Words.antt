@@ -78,4 +78,3 @@ pub use Rattle.slotmap_core.specs.SecondaryExtend.{AllPut, values_of, ExtendsBy,
 pub use Rattle.slotmap_core.specs.SecondaryWritten.{record_of_pair, slot_pair}
 pub use Rattle.slotmap_core.specs.SecondaryClones.{HasClones}
 pub use Rattle.slotmap_core.specs.ListRead.{ReadsAs}
-pub use Rattle.slotmap_core.specs.declared.serial.SlotRecord.{SlotRecord}

@@ -4,7 +4,8 @@ use Rattle.std.proofs.Common.{◌≡◌, ◌+◌, ◌<◌, ◌≤◌, ◌%◌, �
 use Rattle.slotmap_core.proofs.Common.{Key, Content, IsContent, gather, ReadsAs, start_live, live_slot, vacant_slot, retired_slot, start_next, start_retired}
 use Rattle.slotmap_core.proofs.Common.{start_stack, Accepts, RefusesStart, Some, is_some, refl, sym, ap, ◌∙◌, arith, nat_tests, length_push, length-map}
 use Rattle.slotmap_core.proofs.Common.{map_push, slice_get-map, slice_get_within, gather-push_put, gather-push_same, live_laws, some_is, live_in, found_within}
-use Rattle.slotmap_core.proofs.Common.{none_from, entries_none, reads_as, key, SlotRecord}
+use Rattle.slotmap_core.proofs.Common.{none_from, entries_none, reads_as, key}
+use Rattle.slotmap_core.specs.declared.serial.SlotRecord.{SlotRecord}
 use Rattle.slotmap_core.specs.declared.errors.SlotsError.{SlotsError}
 use Rattle.slotmap_core.specs.declared.errors.SlotsError.TheVariants.{TooMany, FirstNotEmpty, Inconsistent, Memory}
 use Rattle.slotmap_dense.specs.Packed.{IsPacked, IsSound, live_of, dense_of}

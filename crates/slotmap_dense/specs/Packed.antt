@@ -2,7 +2,8 @@
 -- this module.
 use Rattle.std.specs.FinMap as map
 use Rattle.std.specs.Prelude.{◌≡◌, ◌≢◌, ◌+◌, ◌-◌, ◌<◌, ℕ, min, true, List, length, Option, None, Some, slice_get, zip}
-use Rattle.slotmap_core.specs.Words.{Key, key_cmp, Content, IsContent, SlotRecord}
+use Rattle.slotmap_core.specs.Words.{Key, key_cmp, Content, IsContent}
+use Rattle.slotmap_core.specs.declared.serial.SlotRecord.{SlotRecord}
 use Rattle.slotmap_dense.specs.Dense.{Dense}
 
 -- each live key is in the list at its position, and the list has no other keys

@@ -7,7 +7,8 @@ use Rattle.slotmap_core.proofs.Common.{IsConsistent, Accepts, AllFitBelow, IsSta
 use Rattle.slotmap_core.proofs.Common.{subst, ◌∙◌, arith, eqb, map as list_map, set-append_seam, nat_tests, nil_from_length, length_push, length-map, map_push}
 use Rattle.slotmap_core.proofs.Common.{take_all, slice_get-map, vacant_split, vacant_is, slot_vacant, slice_get_push, len-live-push, odd_of, even_where}
 use Rattle.slotmap_core.proofs.Common.{vacant_place, length-start_places, start_places-push, start_place_at, start_stack-push, IsStacked-start_places}
-use Rattle.slotmap_core.proofs.Common.{writes-places, starts-stack, next_consistent, SlotRecord}
+use Rattle.slotmap_core.proofs.Common.{writes-places, starts-stack, next_consistent}
+use Rattle.slotmap_core.specs.declared.serial.SlotRecord.{SlotRecord}
 use Rattle.slotmap_hop.specs.Slots.{Slot, version_in, links_in, value_in, read_slot, place_in, all_links, places_of, hop_content, IsSound}
 use Rattle.slotmap_hop.specs.Blocks.{Blocks, Ascend, vacated}
 use Rattle.slotmap_hop.specs.Links.{vacant_at, blocks_of, HasBlockList, CanVacate}

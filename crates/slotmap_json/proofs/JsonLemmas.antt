@@ -1,7 +1,7 @@
 -- Lists that agree with one another for one more element, and what one element of an array is read as.
 use Rattle.std.proofs.Common.{◌≡◌, ◌+◌, ◌<◌, ◌∷◌, ◌++◌, ℕ, suc, drop-cons, add-one, List, [], length, get_or, take, drop, map, Result, Ok, Err, IsOk, IfOk, inr}
 use Rattle.slotmap_core.proofs.Common.{AllZip, Option, Some, sym, ap, ◌∙◌, arith, take_more, map_more, map_push, map-append, take-append-drop, all_zipped_more}
-use Rattle.slotmap_core.proofs.Common.{SlotRecord}
+use Rattle.slotmap_core.specs.declared.serial.SlotRecord.{SlotRecord}
 use Rattle.serde_json.specs.Data.{Data, array, Items}
 use Rattle.serde_json.specs.Find.{as_array}
 use Rattle.serde_json.specs.View.{view, items_of, items_view}

@@ -1,7 +1,8 @@
 -- What was written as JSON is read back: for callers, who write keys and lists of slots, and read them again.
 use Rattle.std.proofs.Common.{◌≡◌, ◌<◌, ◌^◌, ◌∷◌, ◌++◌, ◌⊎◌, ℕ, List, [], Result, Ok, Err, Option, Some, None, option_map, Bool, inl, inr, refl, sym, ap, ◌∙◌}
 use Rattle.slotmap_core.proofs.Common.{result_ok, AllZip, AllByRecursion, Key, IsKey, key_from, Content, IsContent, ReadsAs, Writes, Restores, subst, arith}
-use Rattle.slotmap_core.proofs.Common.{nat_tests, SlotRecord}
+use Rattle.slotmap_core.proofs.Common.{nat_tests}
+use Rattle.slotmap_core.specs.declared.serial.SlotRecord.{SlotRecord}
 use Rattle.serde_json.specs.Data.{Data, null, array}
 use Rattle.serde_json.specs.Find.{as_array}
 use Rattle.serde_json.specs.View.{items_of}

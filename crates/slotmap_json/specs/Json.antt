@@ -1,6 +1,7 @@
 -- The JSON of keys and of lists of slots.
 use Rattle.std.specs.Prelude.{◌≡◌, ◌^◌, ◌⊎◌, ◌∷◌, ◌++◌, if◌then◌else◌, ℕ, List, codes, Option, Some, None, Result, Ok, Err, MatchOption, option_map, nat_lt}
-use Rattle.slotmap_core.specs.Words.{option_and_then, Shared, FnReturnsAt, AllZip, Bor, Key, key_from, SlotRecord}
+use Rattle.slotmap_core.specs.Words.{option_and_then, Shared, FnReturnsAt, AllZip, Bor, Key, key_from}
+use Rattle.slotmap_core.specs.declared.serial.SlotRecord.{SlotRecord}
 use Rattle.serde_json.specs.Data.{Data, null, number, unsigned, array, object, member, no_members}
 use Rattle.serde_json.specs.Find.{get, as_number, as_u64, as_array}
 use Rattle.serde_json.specs.View.{view, items_of}

@@ -3,7 +3,8 @@ use Rattle.std.specs.FinMap as map
 use Rattle.std.proofs.Common.{◌≡◌, ◌+◌, ◌<◌, ◌%◌, ◌^◌, ◌∷◌, ◌++◌, nat_cmp, ℕ, List, [], length, map as list_map, slice_get, Option, None, Some, option_map, sym}
 use Rattle.slotmap_core.proofs.Common.{keyed, start_live, slot_pair, Accepts, AllFitBelow, is_some, true, refl, ap, subst, ◌∙◌, arith, slice_get_within}
 use Rattle.slotmap_core.proofs.Common.{slice_get_past, slice_get-map, length-map, map_push, nat_cmp_total, exact_unsigned, len_inserted, mapped}
-use Rattle.slotmap_core.proofs.Common.{gather-push_put, contents_by_place, SlotRecord}
+use Rattle.slotmap_core.proofs.Common.{gather-push_put, contents_by_place}
+use Rattle.slotmap_core.specs.declared.serial.SlotRecord.{SlotRecord}
 use Rattle.slotmap_secondary.specs.Slots.{Slot, Vacant, Occupied, pair_at, entry_in, pairs_of, IsSlotAt, IsSound}
 use Rattle.slotmap_secondary.proofs.SlotLemmas.{laws, entry_fits, get-pairs, pairs-push}
 

@@ -5,7 +5,8 @@ use Rattle.std.proofs.Common.{◌≡◌, ◌≢◌, ◌+◌, ◌^◌, ◌<◌, �
 use Rattle.slotmap_core.proofs.Common.{IsCloneOf, vacant_slot, place_of_record, start_places, start_stack, live, live_entry, IsConsistent, Accepts, AllFitBelow}
 use Rattle.slotmap_core.proofs.Common.{IsStacked, IsRecordClone, AreRecordClones, record_of, records_of, ap, subst, ◌∙◌, arith, nat_tests, common_steps}
 use Rattle.slotmap_core.proofs.Common.{length_push, length-map, map_push, take_all, slice_get-map, slot_vacant, slice_get_push, zip_next, len-live-push, odd_of}
-use Rattle.slotmap_core.proofs.Common.{even_where, vacant_place, start_places-push, start_stack-push, IsStacked-start_places, SlotRecord}
+use Rattle.slotmap_core.proofs.Common.{even_where, vacant_place, start_places-push, start_stack-push, IsStacked-start_places}
+use Rattle.slotmap_core.specs.declared.serial.SlotRecord.{SlotRecord}
 use Rattle.slotmap_slots.specs.Slot.{Slot, full, empty, version_at, payload_at, place_of, places_of, free_indices, IsFreeList, IsSlot, IsSound, Free, Retired}
 use Rattle.slotmap_slots.proofs.SlotLemmas.{slot_at, IsSlot-full, IsSlot-empty, IsFreeList-push, free_indices-stack}
 use Rattle.slotmap_slots.proofs.SlotGrowth.{sentinel, IsSound-sentinel, each-push}

@@ -4,7 +4,8 @@ use Rattle.std.specs.FinSet as set
 use Rattle.std.proofs.Common.{◌≡◌, ◌+◌, ◌-◌, ◌<◌, ◌≤◌, ◌^◌, ◌⊎◌, ◌∷◌, ◌++◌, ℕ, inl, inr, true, List, [], length, slice_get, None, is_some, eq-eqb, refl, sym}
 use Rattle.slotmap_core.proofs.Common.{nat_cmp_total, Key, key_cmp, IsKeyListing, Pairs, contains_key, keyed, slot_pair, ap, subst, ◌∙◌, arith, exact_unsigned}
 use Rattle.slotmap_core.proofs.Common.{slice_get_past, keys_total, exact_keys, tied, untied, contains-keyed, index_stands, get_here, some_is, item_after_insert}
-use Rattle.slotmap_core.proofs.Common.{item_inserted, item_still, slice_get_push, slice_get_push_other, SlotRecord}
+use Rattle.slotmap_core.proofs.Common.{item_inserted, item_still, slice_get_push, slice_get_push_other}
+use Rattle.slotmap_core.specs.declared.serial.SlotRecord.{SlotRecord}
 use Rattle.slotmap_sparse.specs.Written.{ReachesLargest, with_slot}
 
 module _ {V : Type 0} where

@@ -1,7 +1,8 @@
 -- The list of slots that a `SparseSecondaryMap` is written as.
 use Rattle.std.specs.FinMap as map
 use Rattle.std.specs.Prelude.{◌≡◌, ◌-◌, ◌<◌, ◌⊎◌, ℕ, List, length, slice_get, Option, None, Some, true}
-use Rattle.slotmap_core.specs.Words.{Pairs, IsSecondary, HasClones, record_of_pair, SlotRecord}
+use Rattle.slotmap_core.specs.Words.{Pairs, IsSecondary, HasClones, record_of_pair}
+use Rattle.slotmap_core.specs.declared.serial.SlotRecord.{SlotRecord}
 
 module _ {V : Type 0} where
   -- this many slots reach up to the largest index; there is at least one

@@ -5,7 +5,8 @@ use Rattle.std.specs.FinMap as map
 use Rattle.std.specs.FinSet as set
 use Rattle.std.proofs.Common.{◌≡◌, ◌≢◌, ◌+◌, ◌%◌, ◌<◌, sym, ap, ◌∙◌, arith, ℕ, Bool, true, List, slice_get, Option, Some, is_some}
 use Rattle.slotmap_core.specs.Words.{Key, last_version, gather, is_vacant_version, last_issued, live_slot, vacant_slot, retired_slot, issued_slot, start_live}
-use Rattle.slotmap_core.specs.Words.{start_next, start_retired, start_issued, SlotRecord}
+use Rattle.slotmap_core.specs.Words.{start_next, start_retired, start_issued}
+use Rattle.slotmap_core.specs.declared.serial.SlotRecord.{SlotRecord}
 use Rattle.slotmap_core.proofs.General.GatherLemmas.{IsFinite, get-gather}
 use Rattle.slotmap_core.proofs.General.MapLaws.{live_laws, detached_laws, next_laws, is_marked}
 use Rattle.slotmap_core.proofs.Places.PlacesLemmas.{key}

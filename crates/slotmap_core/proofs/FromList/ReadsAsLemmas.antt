@@ -3,7 +3,8 @@
 use Rattle.std.proofs.lemmas.Grind.{common_steps}
 use Rattle.std.proofs.lemmas.Option.{slice_get-get_or, slice_get_within}
 use Rattle.std.proofs.Common.{◌≡◌, ◌+◌, ◌∷◌, ◌++◌, sym, subst, ◌∙◌, arith, ℕ, Bool, List, length, Option, MatchOption}
-use Rattle.slotmap_core.specs.Words.{Content, IsContent, start_places, StartsFrom, ReadsAs, IsConsistent, Accepts, Writes, records_of, SlotRecord}
+use Rattle.slotmap_core.specs.Words.{Content, IsContent, start_places, StartsFrom, ReadsAs, IsConsistent, Accepts, Writes, records_of}
+use Rattle.slotmap_core.specs.declared.serial.SlotRecord.{SlotRecord}
 use Rattle.slotmap_core.proofs.FromList.StartFits.{starts-fit}
 use Rattle.slotmap_core.proofs.FromList.StartLemmas.{live-start_places, retired-start_places, next-start_places, detached-start_places, sentinel-start_places}
 use Rattle.slotmap_core.proofs.FromList.WrittenLemmas.{writes-places, written-restores, written-again}

@@ -5,7 +5,8 @@ use Rattle.std.proofs.lemmas.Option.{slice_get_within, same_Some}
 use Rattle.std.specs.FinSet as set
 use Rattle.std.proofs.Common.{◌≡◌, ◌≢◌, inl, inr, ◌+◌, ◌%◌, sym, ap, ◌∙◌, arith, ℕ, Bool, true, List, slice_get, Some}
 use Rattle.slotmap_core.specs.Words.{Key, key_cmp, Content, IsContent, Stands, start_stack, StartsFrom, start_state, start_places, Fits, IsIssued, Accepts}
-use Rattle.slotmap_core.specs.Words.{StackMap, content_of_places, SlotRecord}
+use Rattle.slotmap_core.specs.Words.{StackMap, content_of_places}
+use Rattle.slotmap_core.specs.declared.serial.SlotRecord.{SlotRecord}
 use Rattle.slotmap_core.proofs.FromList.AtKeysLemmas.{LiveSlot, live_in, in_contents, next_in, in_start_next, retired_in, in_start_retired, issued_in, in_start_issued}
 use Rattle.slotmap_core.proofs.General.Maps.{some_is}
 use Rattle.slotmap_core.proofs.Places.PlacesLemmas.{total}

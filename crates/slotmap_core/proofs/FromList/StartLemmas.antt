@@ -8,7 +8,8 @@ use Rattle.std.specs.FinSet as set
 use Rattle.std.proofs.Common.{◌≡◌, ◌≢◌, ◌+◌, ◌%◌, ◌^◌, ◌<◌, ◌∷◌, ◌++◌, refl, ap, arith, ℕ, suc, List, [], length, map as list_map, slice_get, Option, None}
 use Rattle.slotmap_core.specs.Words.{Some, is_some, key_cmp, live_slot, vacant_slot, retired_slot, start_live, start_next, start_retired, place_of_record}
 use Rattle.slotmap_core.specs.Words.{start_places, gather, Place, Vacant, live_entry, detached_entry, retired_entry, next_entry, live, detached, next}
-use Rattle.slotmap_core.specs.Words.{IsConsistent, AllConsistentBelow, Accepts, HasVersion, SlotRecord}
+use Rattle.slotmap_core.specs.Words.{IsConsistent, AllConsistentBelow, Accepts, HasVersion}
+use Rattle.slotmap_core.specs.declared.serial.SlotRecord.{SlotRecord}
 use Rattle.slotmap_core.specs.Places.{retired}
 
 module _ {V : Type 0} (slot : SlotRecord V) (consistent : IsConsistent slot) where

@@ -6,7 +6,8 @@ use Rattle.std.proofs.lemmas.Option.{slice_get_within, same_Some}
 use Rattle.std.specs.FinMap as map
 use Rattle.std.proofs.Common.{◌≡◌, ◌⊎◌, ◌↔◌, ◌+◌, ◌^◌, ◌<◌, ◌≤◌, ◌∷◌, ◌++◌, refl, sym, ap, subst, ◌∙◌, arith, ℕ, zero, suc, true, List, [], length, slice_get}
 use Rattle.slotmap_core.specs.Words.{Option, None, Some, is_some, nat_cmp_total, nat_cmp, vacant_slot, start_next, start_stack, start_places, gather, Place}
-use Rattle.slotmap_core.specs.Words.{Vacant, next, Accepts, AllFitBelow, IsOn, IsOnce, HasVersion, IsStacked, SlotRecord}
+use Rattle.slotmap_core.specs.Words.{Vacant, next, Accepts, AllFitBelow, IsOn, IsOnce, HasVersion, IsStacked}
+use Rattle.slotmap_core.specs.declared.serial.SlotRecord.{SlotRecord}
 use Rattle.slotmap_core.proofs.FromList.AtKeysLemmas.{vacant_fits, next_in}
 use Rattle.slotmap_core.proofs.General.GatherLemmas.{get_before, len-add}
 use Rattle.slotmap_core.proofs.General.MapLaws.{next_laws}

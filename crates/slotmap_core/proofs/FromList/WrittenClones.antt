@@ -4,7 +4,8 @@ use Rattle.std.proofs.lemmas.Option.{same_Some}
 use Rattle.std.specs.FinMap as map
 use Rattle.std.proofs.Common.{◌≡◌, ◌+◌, ◌-◌, inl, refl, sym, ap, ◌∙◌, arith, ℕ, Bool, true, List, slice_get, Option, None, Some, is_some}
 use Rattle.slotmap_core.specs.Words.{ClonesEqual, IsCloneOf, Content, IsContent, start_live, IsCopy, IsCloneBy, Key, Writes, WritesClones, IsRecordClone}
-use Rattle.slotmap_core.specs.Words.{AreRecordClones, filled_slot, empty_slot, SlotRecord}
+use Rattle.slotmap_core.specs.Words.{AreRecordClones, filled_slot, empty_slot}
+use Rattle.slotmap_core.specs.declared.serial.SlotRecord.{SlotRecord}
 use Rattle.slotmap_core.proofs.Contents.CloneLemmas.{clone_places, clone_copies, IsContent-clone_same}
 use Rattle.slotmap_core.proofs.FromList.AtKeysLemmas.{live_in, in_contents}
 use Rattle.slotmap_core.proofs.General.ListLemmas.{zip_length, zip_left, zip_right}

@@ -8,7 +8,8 @@ use Rattle.std.proofs.Common.{◌≡◌, ◌≢◌, ◌⊎◌, inl, inr, ◌+◌
 use Rattle.slotmap_core.specs.Words.{slice_get, is_some, get_or, Key, IsKey, is_last, last_version, next_version, Content, IsContent, IsDetached, IsRetired}
 use Rattle.slotmap_core.specs.Words.{IsVacant, Uses, places, start_live, StartsFrom, Place, Live, Detached, Vacant, Retired, live, detached, next}
 use Rattle.slotmap_core.specs.Words.{retired_entry, Accepts, StackMap, content_of_places, IsStacked, following_version, filled_slot, empty_slot, Writes}
-use Rattle.slotmap_core.specs.Words.{Restores, record_of, records_of, read_slots, SlotRecord}
+use Rattle.slotmap_core.specs.Words.{Restores, record_of, records_of, read_slots}
+use Rattle.slotmap_core.specs.declared.serial.SlotRecord.{SlotRecord}
 use Rattle.slotmap_core.specs.Places.{retired}
 use Rattle.slotmap_core.proofs.Contents.ContentLemmas.{some_is}
 use Rattle.slotmap_core.proofs.FromList.AtKeysLemmas.{gathers, live_in, in_contents, next_in, in_start_next, retired_in, in_start_retired}

@@ -3,7 +3,8 @@
 use Rattle.std.proofs.lemmas.Option.{slice_get_past}
 use Rattle.std.specs.FinMap as map
 use Rattle.std.proofs.Common.{◌≡◌, ◌%◌, ◌<◌, eq-eqb, sym, ap, subst, ◌∙◌, arith, ℕ, List, length, slice_get, Option, None, Some, true, cond, is_some}
-use Rattle.slotmap_core.specs.Words.{option_map, Pairs, IsSecondary, value_at, keyed, record_of_pair, slot_pair, start_live, SlotRecord}
+use Rattle.slotmap_core.specs.Words.{option_map, Pairs, IsSecondary, value_at, keyed, record_of_pair, slot_pair, start_live}
+use Rattle.slotmap_core.specs.declared.serial.SlotRecord.{SlotRecord}
 use Rattle.slotmap_core.proofs.General.KeyLemmas.{keys_total, exact_keys}
 use Rattle.slotmap_core.proofs.General.Maps.{none_of, false_of, some_is}
 use Rattle.slotmap_core.proofs.SecondaryMaps.KeyedLemmas.{get-keyed}

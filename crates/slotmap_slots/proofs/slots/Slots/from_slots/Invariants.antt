@@ -1,5 +1,6 @@
 use Rattle.std.proofs.Common.{◌≡◌, ◌+◌, ◌≤◌, ◌∷◌, ◌++◌, length}
-use Rattle.slotmap_core.proofs.Common.{into_iter_items, into_iter_len, SlotRecord}
+use Rattle.slotmap_core.proofs.Common.{into_iter_items, into_iter_len}
+use Rattle.slotmap_core.specs.declared.serial.SlotRecord.{SlotRecord}
 use Rattle.slotmap_slots.specs.Slot.{vacancies}
 use Rattle.slotmap_slots.proofs.FromListLemmas.{AreRead}
 use Rattle.slotmap_slots.proofs.slots.Slots.from_slots.Given as goal
