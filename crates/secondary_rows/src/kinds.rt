@@ -1,8 +1,9 @@
 //! The kinds of maps and runs that rows are for.
 
+use crate::maps::Maps;
 use crate::plain::{Plain, PlainMap};
 use crate::runs::{Alone, Bench, Runs};
-use secondary_maps::{Constant, hold_secondary, hold_sparse};
+use secondary_maps::{Constant, NoHasher, Seed, Sparse};
 use slotmap::sparse_secondary::DefaultHasher;
 use slotmap::{DefaultKey, SecondaryMap, SparseSecondaryMap};
 use slotmap_rows::{File, Kinds, Number, Stop};
@@ -11,7 +12,7 @@ use std::io::Write;
 
 type Vector<'a> = SecondaryMap<DefaultKey, Number<'a>>;
 
-type Hashed<'a> = SparseSecondaryMap<DefaultKey, Number<'a>, DefaultHasher>;
+type Hashed<'a> = Sparse<'a, DefaultHasher>;
 
 /// All kinds.
 #[derive(Drop)]
@@ -21,7 +22,7 @@ pub struct All {
 
 impl Kinds for All {
     fn hold_all(&self, file: File<'_, '_>, output: &mut impl Write) -> Result<bool, Stop> {
-        let of_vector = hold_secondary(file, output)?;
+        let of_vector = hold_vector(file, output)?;
         let of_sparse = hold_sparse(file, "sparse", DefaultHasher::new(), output)?;
         let of_random = hold_sparse(file, "random", self.random, output)?;
         let of_constant = hold_sparse(file, "constant", Constant, output)?;
@@ -30,6 +31,21 @@ impl Kinds for All {
         let of_runs = hold_alone(file, output)?;
         Ok(of_vector && of_sparse && of_random && of_constant && of_plain && of_runs)
     }
+}
+
+fn hold_vector(file: File<'_, '_>, output: &mut impl Write) -> Result<bool, Stop> {
+    let mut maps: Maps<'_, Vector<'_>, NoHasher> = Maps::new(file.supply, NoHasher)?;
+    file.hold("secondary", &mut maps, output)
+}
+
+fn hold_sparse<S: Seed>(
+    file: File<'_, '_>,
+    kind: &str,
+    hasher: S,
+    output: &mut impl Write,
+) -> Result<bool, Stop> {
+    let mut maps: Maps<'_, Sparse<'_, S>, S> = Maps::new(file.supply, hasher)?;
+    file.hold(kind, &mut maps, output)
 }
 
 fn hold_plain<M: Plain>(

@@ -1,7 +1,7 @@
 //! Calls that ask more of the values: `or_default` and `extend_refs`, on maps of plain numbers.
 
+use crate::call::read_pair;
 use crate::fresh::Fresh;
-use secondary_maps::read_pair;
 use slotmap::{DefaultKey, OutOfMemory, Secondary, SecondaryMap, SparseSecondaryMap};
 use slotmap_rows::{Call, Outcome, Stop, Subject, Word, Words};
 use std::alloc::Global;

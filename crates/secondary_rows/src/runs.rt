@@ -1,7 +1,7 @@
 //! Runs of commands on a map.
 
 use crate::fresh::Fresh;
-use secondary_maps::write_or_put;
+use crate::keyed::write_or_put;
 use slotmap::{
     DefaultKey, KeyData, ReserveError, Secondary, SecondaryCommand, SecondaryReply, run_secondary,
 };
