@@ -40,8 +40,12 @@ PITCH, LEFT, TOPS = 152, 22, [698, 598, 460, 316, 186, 66]
 HEIGHT = 56
 
 
+# The library of each row program stands for the program too.
+LIBRARIES = {"primary_maps": "primary_rows", "secondary_maps": "secondary_rows"}
+
+
 def shown(name):
-    return STRUCTURES if name in MEMBERS else name
+    return STRUCTURES if name in MEMBERS else LIBRARIES.get(name, name)
 
 
 def read():
@@ -49,7 +53,9 @@ def read():
     with open(os.path.join(FOLDER, "../../crates.txt"), encoding="utf-8") as file:
         lines = [line.split(":") for line in file if ":" in line and not line.startswith("#")]
     lines = [(shown(name.split()[0]), {shown(it) for it in others.split()}) for name, others in lines]
-    uses = {name: others & {it for it, _ in lines} for name, others in lines}
+    uses = {}
+    for name, others in lines:
+        uses[name] = uses.get(name, set()) | (others & {it for it, _ in lines}) - {name}
     below = {}
 
     def all_below(name):

@@ -1,4 +1,4 @@
-//! Holds the maps that hand out their keys to rows of calls with their results.
+//! Holds the maps that hand out their keys, and runs on them, to rows of calls with their results.
 //!
 //! The arguments are the names of files of rows, whose form `slotmap_rows` says. Each file is held to each kind of map that its
 //! rows are for: `basic`, `dense` and `hop` are `SlotMap`, `DenseSlotMap` and `HopSlotMap`, on which each call is made. In
@@ -7,46 +7,7 @@
 //! those of maps whose keys can be detached. The status is 1 where a result differs, and 3 where a file can't be read, the
 //! output can't be written or memory runs out twice.
 //!
-//! A key `K` is written `2v3` or `null`, a value `V` and a number `N` in digits, a slot `5@3` or `-@2`. These are the calls of
-//! the maps, with their results:
-//!
-//! | Call | Result |
-//! |---|---|
-//! | `new`, `with_key`, `with_capacity N`, `with_capacity_and_key N`, `drop` | a new map instead of the row's, or `too great` |
-//! | `len`, `is_empty`, `contains_key K` | the number, or `true` or `false` |
-//! | `has_capacity N`, `capacity_is_within N` | whether `capacity()` is at least, or at most, that number |
-//! | `reserve N`, `try_reserve N` | `done` or `too great` |
-//! | `insert V` | the new key |
-//! | `insert_with_key V`, `try_insert_with_key V` | the new key; the closure returns V and the key's index |
-//! | `try_insert_with_key fails N` | `failed` and N with the key's index, which is the closure's error |
-//! | `insert_made` | the new key, whose number is the value; at index 2 `failed 9` |
-//! | `insert_refused` | `failed` and the number of the key that the closure saw |
-//! | `get K`, `index K`, `get_unchecked K`, `remove K`, `detach K` | the value or `none` |
-//! | `replace K V`, `get_mut K V`, `index_mut K V`, `get_unchecked_mut K V` | V is stored: the value before, or `V back` |
-//! | `reattach K V` | `done`, or `V back` |
-//! | `replace_disjoint K V ..` of two keys or three | the values before, or `V V back`; with no key `true` |
-//! | `clear` | `done` |
-//! | `retain even` | even values are kept, and each is made ten times as great |
-//! | `retain every_other` | what the first, third, fifth call sees is kept, and each value doubled: the values that it saw |
-//! | `iter N`, `keys N`, `values N` | the items of N steps, how many are left then, and these; a clone has to yield them too |
-//! | `for` | the pairs of `for` over `&map` |
-//! | `drain N` | the pairs of N steps, and how many are left as it is dropped |
-//! | `into_iter N`, `into_iter rest N` | the same of a clone of the map, or as at `iter` |
-//! | `drain_into`, `keys_into` | the pairs, or the keys |
-//! | `to_slots`, `from_slots SLOT ..`, `through_slots` | the list; the map of the list, or why the list fails; both |
-//! | `check_slots LIMIT SLOT ..` | `done`, or why the list fails |
-//! | `through_json` | the map that is read from its JSON, in which each value is written as the key of this number |
-//! | `clone`, `drop_clone`, `exchange`, `clone_from` | a clone is set beside the map, dropped, exchanged with it, or cloned |
-//!
-//! Of more than a thousand items a result has only how many they are: `keys (100000)`.
-//!
-//! Calls of `DenseSlotMap` alone: `iter_mut N`, `values_mut N` and `for_mut` show the items of N steps, or all, and append the
-//! digit 1, 2 or 3 to each value. `keys_as_slice`, `values_as_slice` and `as_slices` show the slices.
-//! `values_as_mut_slice N V` and `as_mut_slices N V` store V at a position: the value before, or `none`.
-//! `get_disjoint_mut K K` and `get_disjoint_unchecked_mut K K` exchange two values: what they were, or `none`.
-//!
-//! Calls of `HopSlotMap` alone: `reads WALK N LEAST MOST`, with `iter`, `keys` or `values`, is whether N steps read a number of slots
-//! within bounds; a clone has to count as many.
+//! `primary_maps` says which calls the maps have, and how keys, values and slots are written.
 //!
 //! Calls in runs: `insert V`, `insert_made`, `insert_many N` of the values from 1 on, `get K`, `contains_key K`, `replace K V`,
 //! `remove K`, `retain even`, `clear`, `drain_into`, `keys_into`, `len` and `reserve N`; where keys can be detached also `detach K`
@@ -56,26 +17,13 @@
 //! sum of its replies. A run that is refused is made once more with the commands that it hands back.
 #![tactic(auto)]
 
-mod basic;
-mod dense;
-mod detached;
-mod held;
-mod hop;
-mod inserts;
-mod keyed;
-mod lists;
-mod many;
-mod maps;
-mod packed;
 mod runs;
 mod script;
-mod sized;
 mod steps;
 
-use crate::held::Held;
-use crate::maps::Maps;
 use crate::runs::{Detachable, Plain, Runner, Runs};
-use slotmap::{DefaultKey, DenseSlotMap, HopSlotMap, Primary, SlotMap};
+use primary_maps::{hold_basic, hold_dense, hold_hop};
+use slotmap::{DefaultKey, DenseSlotMap, HopSlotMap, SlotMap};
 use slotmap_rows::{File, Kinds, Number, Stop, run_program};
 use std::io::Write;
 use std::process::ExitCode;
@@ -86,17 +34,7 @@ type Dense<'a> = DenseSlotMap<DefaultKey, Number<'a>>;
 
 type Hop<'a> = HopSlotMap<DefaultKey, Number<'a>>;
 
-// Holds a map, on which each call is made, to the rows of a file: whether no result differs.
-fn hold_map<'a, M: Held<'a> + Primary<DefaultKey, Number<'a>>>(
-    file: File<'a, '_>,
-    kind: &str,
-    output: &mut impl Write,
-) -> Result<bool, Stop> {
-    let mut maps: Maps<'a, M> = Maps::new(file.supply)?;
-    file.hold(kind, &mut maps, output)
-}
-
-// The same of runs.
+// Holds runs to the rows of a file: whether no result differs.
 fn hold_runs<'a, M: Drop, C: Runner<'a, M>>(
     file: File<'a, '_>,
     kind: &str,
@@ -109,9 +47,9 @@ fn hold_runs<'a, M: Drop, C: Runner<'a, M>>(
 // Holds a kind of map or of runs to the rows of a file.
 fn hold_kind(file: File<'_, '_>, kind: &str, output: &mut impl Write) -> Result<bool, Stop> {
     match kind {
-        "basic" => hold_map::<Basic<'_>>(file, kind, output),
-        "dense" => hold_map::<Dense<'_>>(file, kind, output),
-        "hop" => hold_map::<Hop<'_>>(file, kind, output),
+        "basic" => hold_basic(file, output),
+        "dense" => hold_dense(file, output),
+        "hop" => hold_hop(file, output),
         "run-basic" => hold_runs::<Basic<'_>, Plain<'_>>(file, kind, output),
         "run-dense" => hold_runs::<Dense<'_>, Plain<'_>>(file, kind, output),
         "run-hop" => hold_runs::<Hop<'_>, Plain<'_>>(file, kind, output),

@@ -1,8 +1,8 @@
 //! Runs of commands held to rows.
 
-use crate::inserts::{Made, make};
 use crate::script::Script;
 use crate::steps::{Answer, Step, plain_command, read_step, write_answer};
+use primary_maps::{Made, make};
 use slotmap::{
     Command, DefaultKey, DetachCommand, Detaching, Primary, Reply, run, run_detaching,
     run_detaching_new, run_new,

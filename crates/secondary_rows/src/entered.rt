@@ -1,7 +1,7 @@
 //! Calls on the entry of a key.
 
-use crate::held::{Change, Given, Held, Pair, Put, Told};
 use crate::maps::Maps;
+use secondary_maps::{Change, Given, Held, Pair, Put, Told};
 use slotmap::{DefaultKey, Key, Secondary};
 use slotmap_rows::{Number, Stop, write_key, write_option, write_pair};
 

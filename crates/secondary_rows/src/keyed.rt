@@ -1,7 +1,7 @@
 //! Calls on one key.
 
-use crate::held::{Held, Pair};
 use crate::maps::Maps;
+use secondary_maps::{Held, Pair};
 use slotmap::{DefaultKey, OrPut, PutError, Secondary};
 use slotmap_rows::{Number, Outcome, Stop, Way, taken, write_option, write_put};
 

@@ -1,9 +1,9 @@
 //! The kinds of maps and runs that rows are for.
 
-use crate::hashers::{Constant, NoHasher, Seed, Sparse};
 use crate::maps::Maps;
 use crate::plain::{Plain, PlainMap};
 use crate::runs::{Alone, Bench, Runs};
+use secondary_maps::{Constant, NoHasher, Seed, Sparse};
 use slotmap::sparse_secondary::DefaultHasher;
 use slotmap::{DefaultKey, SecondaryMap, SparseSecondaryMap};
 use slotmap_rows::{File, Kinds, Number, Stop};

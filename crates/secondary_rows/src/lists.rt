@@ -1,9 +1,8 @@
 //! Calls on lists, of pairs and of slots.
 
 use crate::call::{is_name, read_pair};
-use crate::hashers::Pairs;
-use crate::held::{Held, Keep};
 use crate::maps::Maps;
+use secondary_maps::{Held, Keep, Pairs};
 use slotmap::{DefaultKey, Secondary, SlotsError};
 use slotmap_rows::{
     Number, Outcome, Slots, Stop, Supply, Word, read_slots, write_put_three, write_put_two,

@@ -1,8 +1,7 @@
 //! Iterators, and calls on the whole map.
 
-use crate::held::Held;
 use crate::maps::Maps;
-use crate::walks::{Walked, write_walked};
+use secondary_maps::{Held, Walked, write_walked};
 use slotmap::{DefaultKey, Secondary};
 use slotmap_rows::{Number, Outcome, Stop};
 

@@ -1,6 +1,6 @@
 //! The map of a row and the map set beside it.
 
-use crate::held::Held;
+use secondary_maps::Held;
 use slotmap::{DefaultKey, Secondary};
 use slotmap_rows::{Call, Number, Outcome, Stop, Subject, Supply, Word, Words};
 use std::mem;

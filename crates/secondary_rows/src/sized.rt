@@ -1,7 +1,7 @@
 //! Calls on the size of a map, and calls that make one.
 
-use crate::held::Held;
 use crate::maps::Maps;
+use secondary_maps::Held;
 use slotmap::{DefaultKey, Secondary};
 use slotmap_rows::{Number, Outcome, Stop, write_reserved};
 

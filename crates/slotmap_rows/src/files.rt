@@ -16,7 +16,20 @@ pub trait Kinds {
     fn hold_all(&self, file: File<'_, '_>, output: &mut impl Write) -> Result<bool, Stop>;
 }
 
-// Checks all kinds against the rows of the files that the arguments name.
+// Checks all kinds against the rows of one file.
+fn hold_file<R: AllocGlobal + Files>(
+    rt: &R,
+    supply: Supply<'_>,
+    name: &str,
+    kinds: &impl Kinds,
+    output: &mut impl Write,
+) -> Result<bool, Stop> {
+    let text = fs::read_to_string(rt, name).map_err(|_| Stop::Input)?;
+    let text = text.as_str();
+    kinds.hold_all(File { supply, name, text }, output)
+}
+
+// The same of the files that the arguments name.
 fn hold_files<R: AllocGlobal + Env + Files>(
     rt: &R,
     kinds: &impl Kinds,
@@ -29,9 +42,7 @@ fn hold_files<R: AllocGlobal + Env + Files>(
     };
     let mut is_well = true;
     for name in env::args(rt)?.skip(1) {
-        let text = fs::read_to_string(rt, name.as_str()).map_err(|_| Stop::Input)?;
-        let (name, text) = (name.as_str(), text.as_str());
-        is_well = kinds.hold_all(File { supply, name, text }, output)? && is_well;
+        is_well = hold_file(rt, supply, name.as_str(), kinds, output)? && is_well;
     }
     output.flush()?;
     Ok(is_well)

@@ -148,6 +148,23 @@ where
     write_rest(walk, copy, reply)
 }
 
+// Writes an item that both yield, and returns true; else writes that they differ.
+fn write_same<T: Shown>(
+    item: Option<T>,
+    other: Option<T>,
+    reply: &mut String,
+) -> Result<bool, Stop> {
+    if let (Some(item), Some(other)) = (item, other) {
+        let item = item.shown();
+        if item == other.shown() {
+            write_item(reply, item)?;
+            return Ok(true);
+        }
+    }
+    write!(reply, " and another item")?;
+    Ok(false)
+}
+
 // Writes the rest of an iterator, and where its length, or the copy, has another one.
 fn write_rest<I: ExactSizeIterator>(
     mut walk: I,
@@ -160,14 +177,9 @@ where
     requires ends { (state : I) → IsFinite (I.remaining state) }
 {
     for _ in 0..walk.len() {
-        let (Some(item), Some(other)) = (walk.next(), copy.next()) else {
-            return Ok(write!(reply, " and another item")?);
-        };
-        let item = item.shown();
-        if item != other.shown() {
-            return Ok(write!(reply, " and another item")?);
+        if !write_same(walk.next(), copy.next(), reply)? {
+            return Ok(());
         }
-        write_item(reply, item)?;
     }
     if walk.next().is_some() {
         write!(reply, " and too many items")?;
