@@ -7,7 +7,6 @@ mod debug;
 mod errors;
 mod json;
 mod keys;
-mod lists;
 mod names;
 mod not_cloned;
 mod text;
