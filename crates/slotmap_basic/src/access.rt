@@ -3,6 +3,7 @@
 ghost use Rattle.std.specs.FinMap as map;
 ghost use Rattle.std.specs.Prelude.{◌≡◌, ◌↔◌, IsTrue, IsOk, IfOk, OnOk, OnErr, IfErr, option_copied, Some, true, map as map_list};
 ghost use Rattle.slotmap_core.specs.Words.{sem, option_copied_mut, IsContent, IsLive, with_value, CanReplace, AreValuesOf, with_values, StaysValid};
+ghost use Rattle.slotmap_basic.specs.Lends.{lends_get, lends_value};
 
 use crate::SlotMap;
 use slotmap_core::keys::Key;
@@ -10,8 +11,6 @@ use std::mem;
 use std::ops::{Index, IndexMut};
 
 impl<K: Key, V: Drop> SlotMap<K, V> {
-    ghost use Rattle.slotmap_basic.specs.Lends.{lends_get, lends_value};
-
     /// Returns whether this key is live.
     ///
     /// A removed or detached key isn't live, nor is the null key. A key of another map is live here
@@ -205,8 +204,6 @@ impl<K: Key, V: Drop> Index<K> for SlotMap<K, V> {
 }
 
 impl<K: Key, V: Drop> IndexMut<K> for SlotMap<K, V> {
-    ghost use Rattle.slotmap_basic.specs.Lends.{lends_value};
-
     /// Returns a mutable reference to the value of a live key, without checking its version.
     ///
     /// The contract requires that the key is live; in Rust any other key panics. Constant time.

@@ -1,7 +1,8 @@
 //! The iterator that takes the pairs out of a map.
 
 ghost use Rattle.std.specs.Prelude.{◌≡◌, ◌≤◌, true, Some, IfSome};
-ghost use Rattle.slotmap_core.specs.Words.{size, UpTo, IsContent, EmptiesByIndex};
+ghost use Rattle.slotmap_core.specs.Words.{size, UpTo, IsContent, EmptiesByIndex, drain_count, KeepsLoan, KeepsAlong, ListsAlong, InOrderAlong};
+ghost use Rattle.slotmap_basic.specs.Drain.{drain_loan, DrainCanStep, drain_live, DrainSteps};
 
 use crate::SlotMap;
 use slotmap_core::keys::Key;
@@ -20,8 +21,6 @@ pub struct Drain<'a, K: Key, V> {
 }
 
 impl<'a, K: Key, V: Drop> Drop for Drain<'a, K, V> {
-    ghost use Rattle.slotmap_basic.specs.Drain.{drain_loan, DrainCanStep};
-
     fn drop(self)
         ensures ends { DrainCanStep self.entry → EmptiesByIndex (drain_loan self.entry).now self.exit.0.now }
         ensures valid { IsContent true self.exit.0.now }
@@ -32,9 +31,6 @@ impl<'a, K: Key, V: Drop> Drop for Drain<'a, K, V> {
 }
 
 impl<'a, K: Key, V: Drop> Iterator for Drain<'a, K, V> {
-    ghost use Rattle.slotmap_core.specs.Words.{drain_count};
-    ghost use Rattle.slotmap_basic.specs.Drain.{drain_live, DrainSteps, DrainCanStep};
-
     type Item = (K, V);
 
     ghost can_next = { DrainCanStep };
@@ -77,9 +73,6 @@ impl<'a, K: Key, V: Drop> fmt::Debug for Drain<'a, K, V> {
 }
 
 impl<K: Key, V: Drop> SlotMap<K, V> {
-    ghost use Rattle.slotmap_core.specs.Words.{KeepsLoan, KeepsAlong, ListsAlong, InOrderAlong};
-    ghost use Rattle.slotmap_basic.specs.Drain.{drain_loan, drain_live, DrainCanStep, DrainSteps};
-
     /// Returns an iterator that removes the live keys and yields them with their values, by
     /// ascending index.
     ///

@@ -5,7 +5,7 @@ ghost use Rattle.std.specs.Prelude.{◌≡◌, ◌≢◌, ◌<◌, ◌↔◌, �
 ghost use Rattle.slotmap_core.specs.Words.{[], map as map_list, sem, option_copied_mut, IsLive};
 ghost use Rattle.slotmap_core.specs.Several.{CanReplace, AreValuesOf, with_values};
 ghost use Rattle.slotmap_dense.specs.Dense.{IsDense, value_of, with_value_of};
-ghost use Rattle.slotmap_dense.specs.Lends.{lends_two};
+ghost use Rattle.slotmap_dense.specs.Lends.{lends_two, lends_get, lends_value};
 ghost use Rattle.slotmap_dense.specs.Call.{StaysDense};
 
 use crate::DenseSlotMap;
@@ -32,8 +32,6 @@ fn two_of<V>(values: &mut [V], first: usize, second: usize) -> (&mut V, &mut V)
 }
 
 impl<K: Key, V: Drop> DenseSlotMap<K, V> {
-    ghost use Rattle.slotmap_dense.specs.Lends.{lends_get, lends_value};
-
     /// Returns whether this key is live.
     ///
     /// A removed or detached key isn't live, nor is the null key. A key of another map is live here
@@ -301,8 +299,6 @@ impl<K: Key, V: Drop> Index<K> for DenseSlotMap<K, V> {
 }
 
 impl<K: Key, V: Drop> IndexMut<K> for DenseSlotMap<K, V> {
-    ghost use Rattle.slotmap_dense.specs.Lends.{lends_value};
-
     /// Returns a mutable reference to the value of a live key, without checking its version.
     ///
     /// The contract requires that the key is live; in Rust any other key panics. Constant time.

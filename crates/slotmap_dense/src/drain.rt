@@ -1,8 +1,9 @@
 //! The iterator that takes the pairs out of a map.
 
 ghost use Rattle.std.specs.Prelude.{◌≡◌, ◌≤◌, Some, IfSome};
-ghost use Rattle.slotmap_core.specs.Words.{size, UpTo};
+ghost use Rattle.slotmap_core.specs.Words.{size, UpTo, drain_count, KeepsLoan, Along, KeepsAlong, ListsAlong};
 ghost use Rattle.slotmap_dense.specs.Dense.{IsDense, Empties};
+ghost use Rattle.slotmap_dense.specs.Drain.{drain_loan, drain_live, DrainSteps, DrainsFromBack};
 
 use crate::DenseSlotMap;
 use slotmap_core::keys::Key;
@@ -18,8 +19,6 @@ pub struct Drain<'a, K: Key, V> {
 }
 
 impl<'a, K: Key, V: Drop> Drop for Drain<'a, K, V> {
-    ghost use Rattle.slotmap_dense.specs.Drain.{drain_loan};
-
     fn drop(self)
         ensures ends { Empties (drain_loan self.entry).now self.exit.0.now }
         ensures valid { IsDense self.exit.0.now }
@@ -30,9 +29,6 @@ impl<'a, K: Key, V: Drop> Drop for Drain<'a, K, V> {
 }
 
 impl<'a, K: Key, V: Drop> Iterator for Drain<'a, K, V> {
-    ghost use Rattle.slotmap_core.specs.Words.{drain_count};
-    ghost use Rattle.slotmap_dense.specs.Drain.{drain_live, DrainSteps};
-
     type Item = (K, V);
 
     ghost next_gives = { DrainSteps K.data_of };
@@ -73,9 +69,6 @@ impl<'a, K: Key, V: Drop> fmt::Debug for Drain<'a, K, V> {
 }
 
 impl<K: Key, V: Drop> DenseSlotMap<K, V> {
-    ghost use Rattle.slotmap_core.specs.Words.{KeepsLoan, Along, KeepsAlong, ListsAlong};
-    ghost use Rattle.slotmap_dense.specs.Drain.{drain_loan, drain_live, DrainSteps, DrainsFromBack};
-
     /// Returns an iterator that removes the live keys and yields them with their values, from the
     /// back of the packed order.
     ///

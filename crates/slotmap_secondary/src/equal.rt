@@ -1,14 +1,12 @@
 //! Comparison of maps.
 
 ghost use Rattle.std.specs.Prelude.{◌≡◌, ◌↔◌, IsTrue};
-ghost use Rattle.slotmap_core.specs.Words.{AreEqual, are_equal};
+ghost use Rattle.slotmap_core.specs.Words.{AreEqual, are_equal, are_equal_laws, on_per, are_equal_equiv, on_equiv};
 
 use crate::SecondaryMap;
 use slotmap_core::keys::Key;
 
 impl<K: Key, V: PartialEq> PartialEq for SecondaryMap<K, V> {
-    ghost use Rattle.slotmap_core.specs.Words.{are_equal_laws, on_per};
-
     ghost eq = { λ a b. are_equal V.eq a.pairs b.pairs };
 
     ghost laws = { on_per (λ m. m.pairs) (are_equal_laws V.laws) };
@@ -54,7 +52,5 @@ impl<K: Key, V: PartialEq> SecondaryMap<K, V> {
 }
 
 impl<K: Key, V: Eq> Eq for SecondaryMap<K, V> {
-    ghost use Rattle.slotmap_core.specs.Words.{are_equal_equiv, on_equiv};
-
     ghost laws = { on_equiv (λ m. m.pairs) (are_equal_equiv V.Eq.laws) };
 }

@@ -4,6 +4,7 @@ ghost use Rattle.std.specs.Prelude.{◌≡◌, ◌↔◌, IsTrue, IsOk, IfOk, On
 ghost use Rattle.slotmap_core.specs.Words.{sem, option_copied_mut, get, contains_key, bind};
 ghost use Rattle.slotmap_core.specs.Several.{CanReplace, AreValuesOf, with_values};
 ghost use Rattle.slotmap_sparse.specs.Content.{IsContent, with_value};
+ghost use Rattle.slotmap_sparse.specs.Lends.{lends_get, lends_value};
 
 use crate::SparseSecondaryMap;
 use slotmap_core::keys::Key;
@@ -12,8 +13,6 @@ use std::mem;
 use std::ops::{Index, IndexMut};
 
 impl<K: Key, V: Drop, S: BuildHasher + Drop> SparseSecondaryMap<K, V, S> {
-    ghost use Rattle.slotmap_sparse.specs.Lends.{lends_get, lends_value};
-
     /// Returns whether the key is in the map, in constant time.
     ///
     /// The null key never is, nor is a key at whose index the map holds another version.
@@ -203,8 +202,6 @@ impl<K: Key, V: Drop, S: BuildHasher + Drop> Index<K> for SparseSecondaryMap<K, 
 }
 
 impl<K: Key, V: Drop, S: BuildHasher + Drop> IndexMut<K> for SparseSecondaryMap<K, V, S> {
-    ghost use Rattle.slotmap_sparse.specs.Lends.{lends_value};
-
     /// Returns a mutable reference to the value of a key that is in the map.
     ///
     /// The caller has to prove that the key is in the map; Rust panics if it isn't. Takes constant

@@ -2,8 +2,9 @@
 
 ghost use Rattle.std.specs.FinMap as map;
 ghost use Rattle.std.specs.Prelude.{◌≡◌, ◌≤◌, Some, IfSome};
-ghost use Rattle.slotmap_core.specs.Words.{size, UpTo};
+ghost use Rattle.slotmap_core.specs.Words.{size, UpTo, KeepsAlong, ListsAlong, keyed};
 ghost use Rattle.slotmap_sparse.specs.Content.{IsContent};
+ghost use Rattle.slotmap_sparse.specs.Drain.{drain_loan, drain_count, DrainSteps, DrainKeeps};
 
 use crate::{DefaultHasher, SparseSecondaryMap};
 use slotmap_core::keys::Key;
@@ -19,8 +20,6 @@ pub struct Drain<'a, K: Key, V, S: BuildHasher = DefaultHasher> {
 }
 
 impl<'a, K: Key, V: Drop, S: BuildHasher + Drop> Drop for Drain<'a, K, V, S> {
-    ghost use Rattle.slotmap_sparse.specs.Drain.{drain_loan};
-
     fn drop(self)
         ensures ends { self.exit.0.now.pairs ≡ map.empty }
         ensures capacity { (drain_loan self.entry).now.capacity ≤ self.exit.0.now.capacity }
@@ -32,8 +31,6 @@ impl<'a, K: Key, V: Drop, S: BuildHasher + Drop> Drop for Drain<'a, K, V, S> {
 }
 
 impl<'a, K: Key, V: Drop, S: BuildHasher + Drop> Iterator for Drain<'a, K, V, S> {
-    ghost use Rattle.slotmap_sparse.specs.Drain.{drain_count, DrainSteps};
-
     type Item = (K, V);
 
     ghost next_gives = { DrainSteps K.data_of };
@@ -71,9 +68,6 @@ impl<'a, K: Key, V: Drop, S: BuildHasher + Drop> fmt::Debug for Drain<'a, K, V, 
 }
 
 impl<K: Key, V: Drop, S: BuildHasher + Drop> SparseSecondaryMap<K, V, S> {
-    ghost use Rattle.slotmap_core.specs.Words.{KeepsAlong, ListsAlong, keyed};
-    ghost use Rattle.slotmap_sparse.specs.Drain.{drain_loan, DrainKeeps, DrainSteps};
-
     /// Returns an iterator that removes the keys and yields them with their values, in any order.
     ///
     /// The iterator may be dropped at any step. Then the keys that are left are removed too, so the

@@ -2,8 +2,12 @@
 
 ghost use Rattle.std.specs.FinMap as map;
 ghost use Rattle.std.specs.Prelude.{◌≡◌, ◌≤◌, ◌<◌, Some, None, IsOk, IfOk, IfErr, OnErr, unwrap_or};
-ghost use Rattle.slotmap_core.specs.Words.{UnwrapsOrElse, sem, MutBor, ModifiesValue};
+ghost use Rattle.slotmap_core.specs.Words.{UnwrapsOrElse, sem, MutBor, ModifiesValue, entry, no_entry};
 ghost use Rattle.slotmap_sparse.specs.Content.{IsContent, room};
+ghost use Rattle.slotmap_sparse.specs.Entry.{Enters, IsEntryOf, IfEntry, rests_if_err, entry_key, entry_map, IsInPlace, entry_lends_ok, entry_lender};
+ghost use Rattle.slotmap_sparse.specs.Entry.{entry_value, entry_with, entry_without, IsWritten, entry_lends, occupied_lends, occupied_with};
+ghost use Rattle.slotmap_core.specs.declared.secondary.NoEntry.TheVariants as no_entry;
+ghost use Rattle.slotmap_sparse.specs.declared.entry.Entry.TheVariants.{Vacant, Occupied};
 
 use crate::find::Found;
 use crate::{DefaultHasher, SparseSecondaryMap};
@@ -42,10 +46,6 @@ pub struct VacantEntry<'a, K, V, S: BuildHasher = DefaultHasher> {
 }
 
 impl<K: Key, V: Drop, S: BuildHasher + Drop> SparseSecondaryMap<K, V, S> {
-    ghost use Rattle.slotmap_core.specs.Words.{entry, no_entry};
-    ghost use Rattle.slotmap_sparse.specs.Entry.{Enters, IsEntryOf, IfEntry, rests_if_err};
-    ghost use Rattle.slotmap_core.specs.declared.secondary.NoEntry.TheVariants as no_entry;
-
     /// Returns the entry of a key, or `None` if the key is null or older than the key at its index.
     ///
     /// An older key at the index is removed at once, and its value is dropped; nothing else
@@ -105,8 +105,6 @@ impl<K: Key, V: Drop, S: BuildHasher + Drop> SparseSecondaryMap<K, V, S> {
 }
 
 impl<'a, K: Key, V: Drop, S: BuildHasher + Drop> Entry<'a, K, V, S> {
-    ghost use Rattle.slotmap_sparse.specs.Entry.{entry_lender, entry_map, entry_key, entry_value, IsInPlace, entry_with, entry_without, entry_lends_ok};
-
     /// Returns the key, in constant time.
     ///
     /// ```
@@ -229,9 +227,6 @@ impl<'a, K: Key, V: Drop, S: BuildHasher + Drop> Entry<'a, K, V, S> {
 }
 
 impl<'a, K: Key, V: Drop, S: BuildHasher + Drop> VacantEntry<'a, K, V, S> {
-    ghost use Rattle.slotmap_sparse.specs.declared.entry.Entry.TheVariants.{Vacant};
-    ghost use Rattle.slotmap_sparse.specs.Entry.{entry_key, entry_map, IsInPlace, entry_lends_ok};
-
     /// Returns the key, in constant time.
     ///
     /// ```
@@ -288,9 +283,6 @@ impl<'a, K: Key, V: Drop, S: BuildHasher + Drop> VacantEntry<'a, K, V, S> {
 }
 
 impl<'a, K: Key, V: Drop, S: BuildHasher + Drop> OccupiedEntry<'a, K, V, S> {
-    ghost use Rattle.slotmap_sparse.specs.declared.entry.Entry.TheVariants.{Occupied};
-    ghost use Rattle.slotmap_sparse.specs.Entry.{entry_key, entry_map, entry_value, entry_without, IsInPlace, IsWritten, entry_lends, occupied_lends, occupied_with};
-
     /// Returns the key, in constant time.
     ///
     /// ```

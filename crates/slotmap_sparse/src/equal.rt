@@ -1,15 +1,13 @@
 //! Comparison of maps.
 
 ghost use Rattle.std.specs.Prelude.{◌≡◌, ◌↔◌, IsTrue};
-ghost use Rattle.slotmap_core.specs.Words.{AreEqual, are_equal};
+ghost use Rattle.slotmap_core.specs.Words.{AreEqual, are_equal, are_equal_laws, on_per, are_equal_equiv, on_equiv};
 
 use crate::SparseSecondaryMap;
 use slotmap_core::keys::Key;
 use std::hash::BuildHasher;
 
 impl<K: Key, V: PartialEq, S: BuildHasher> PartialEq for SparseSecondaryMap<K, V, S> {
-    ghost use Rattle.slotmap_core.specs.Words.{are_equal_laws, on_per};
-
     ghost eq = { λ a b. are_equal V.eq a.pairs b.pairs };
 
     ghost laws = { on_per (λ m. m.pairs) (are_equal_laws V.laws) };
@@ -34,7 +32,5 @@ impl<K: Key, V: PartialEq, S: BuildHasher> PartialEq for SparseSecondaryMap<K, V
 }
 
 impl<K: Key, V: Eq, S: BuildHasher> Eq for SparseSecondaryMap<K, V, S> {
-    ghost use Rattle.slotmap_core.specs.Words.{are_equal_equiv, on_equiv};
-
     ghost laws = { on_equiv (λ m. m.pairs) (are_equal_equiv V.Eq.laws) };
 }
