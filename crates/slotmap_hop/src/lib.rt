@@ -29,6 +29,7 @@ ghost use Rattle.slotmap_core.specs.Refusal.{RefusesCapacity};
 ghost use Rattle.slotmap_hop.specs.HopContent.{IsHopContent, MakesHopRoom, NoBlocks};
 
 mod access;
+mod blocks;
 mod clear;
 mod clone;
 mod counted;

@@ -13,7 +13,8 @@ ghost use Rattle.slotmap_core.specs.Written.{Writes, WritesClones, IsRecordClone
 ghost use Rattle.std.specs.FinMap as map;
 
 use crate::HopSlotMap;
-use crate::links::{Slot, open_slot, sentinel, used_up_slot};
+use crate::blocks::open_slot;
+use crate::links::{Slot, sentinel};
 use slotmap_core::errors::{OutOfMemory, SlotsError};
 use slotmap_core::keys::Key;
 use slotmap_core::limits::LIST_LIMIT;
@@ -47,7 +48,7 @@ fn slot_from<V>(version: u32, value: Option<V>) -> Slot<V>
 {
     match value {
         Some(value) => Slot::Occupied(version, value),
-        None => used_up_slot(version),
+        None => Slot::Retired(version),
     }
 }
 
