@@ -8,11 +8,11 @@ use Rattle.slotmap_hop.specs.Blocks.{IsBlock, vacated_alone, vacated_before, vac
 use Rattle.slotmap_hop.specs.Links.{is_vacant, has_next, has_prev, next_in, prev_in, end_in, without_links, NamesApart, vacant_at, links_at, next_at, held_at, prev_at, end_at, occurs, list_without, replaced, fronts_of, blocks_of}
 use Rattle.slotmap_hop.specs.Links.{LeadsTo, Joins, Puts, Unlinks, TakesOver, KeepsEnds, HasBlocks, CanVacate, IsHead}
 use Rattle.slotmap_hop.proofs.Chain.{in_removed, next_occurs, prev_occurs, IsChain-removed, IsChain-replaced, IsChain-appended}
-use Rattle.slotmap_hop.proofs.BlockLemmas.{begins_at, joined}
+use Rattle.slotmap_hop.proofs.BlockLemmas.{IsBlock-front, begins_at, joined}
 use Rattle.slotmap_hop.proofs.Writes.{links_here, links_other, vacancy_kept, flags_kept, ends_kept, apart_kept, apart_set, leads_kept, tails_kept, within, same_test, other_test}
 use Rattle.slotmap_hop.proofs.FrontsLemmas.{stands_once, zero_apart, on_circle, listed_alone, listed_right, listed_left, listed_both}
 use Rattle.slotmap_hop.proofs.Views.{blocks_replaced, blocks_removed, blocks_appended, back_at-listed, blocks_grown}
-use Rattle.slotmap_hop.proofs.Circle.{shown, head_on, held_on, tails_at}
+use Rattle.slotmap_hop.proofs.Circle.{shown, head_on, held_on, leads_at, tails_at}
 use Rattle.slotmap_hop.proofs.Vacating.{zero_in_circle, in_circle_differs, absent, right_block, not_back, right_front, left_block, new_vacates, puts_between, grown, ends_stay}
 
 module _ {old : List (Option Links)} {i : ℕ} (live : CanVacate old i) where
@@ -103,3 +103,148 @@ module _ {old : List (Option Links)} {i : ℕ} (live : CanVacate old i) where
       (rw (front_names, back_names, ap prev_in here) (same_test front _ _ ∙ sym prev_same))
       front_names back_names
       (apart_set named i own inside low (apart_set old front longer (within old front vacant) low live.sound.linked.apart))
+
+  -- what may be read and written at the block to the left
+  module _ (left : vacant_at old (i - 1) ≡ true) where
+    pub left_tails : has_prev (links_at old (i - 1)) ≡ true
+    left_tails = tails_at live.sound.linked (i - 1) left (left_block live left).0.ordered
+
+    pub front_leads : {front : ℕ} → front ≡ end_at old (i - 1) → has_next (links_at old front) ≡ true
+    front_leads is = rw is (leads_at live.sound.linked (end_at old (i - 1)) (IsBlock-front (vacant_at old) (end_at old (i - 1)) (i - 1) (left_block live left).0))
+
+    pub front_ready : {front : ℕ} → front ≡ end_at old (i - 1) → vacant_at old front ≡ true
+    front_ready is = let block = (left_block live left).0 in rw is (block.inside _ (omega arith) block.ordered)
+
+  -- the block to the right, and its neighbours in the list
+  module _ (right : vacant_at old (i + 1) ≡ true) where
+    right_on : 1 ≤ occurs (0 ∷ fronts_of old) (i + 1)
+    right_on = omega (arith, right_front live right)
+
+    pub right_head : IsHead old (i + 1)
+    right_head = head_on live.sound.linked (i + 1) right_on
+
+    pub prev_is : {back prev : ℕ} → back ≡ end_at old (i + 1) → prev ≡ held_at old back → prev ≡ prev_at old (i + 1)
+    prev_is back_is is = is ∙ ap (held_at old) back_is ∙ sym (held_on live.sound.linked (i + 1) right_on)
+
+    pub back_tails : {back : ℕ} → back ≡ end_at old (i + 1) → has_prev (links_at old back) ≡ true
+    back_tails is = rw is right_head.ends
+
+    pub back_ready : {back : ℕ} → back ≡ end_at old (i + 1) → vacant_at old back ≡ true
+    back_ready is = let block = right_block live right in rw is (block.inside _ block.ordered (omega arith))
+
+    before_on : 1 ≤ occurs (0 ∷ fronts_of old) (prev_at old (i + 1))
+    before_on = prev_occurs (next_at old) (prev_at old) 0 (fronts_of old) (i + 1) (shown live.sound.linked).chain right_on
+
+    after_on : 1 ≤ occurs (0 ∷ fronts_of old) (next_at old (i + 1))
+    after_on = next_occurs (next_at old) (prev_at old) 0 (fronts_of old) (i + 1) (shown live.sound.linked).chain right_on
+
+    pub before_leads : has_next (links_at old (prev_at old (i + 1))) ≡ true
+    before_leads = (head_on live.sound.linked _ before_on).leads
+
+    pub after_head : IsHead old (next_at old (i + 1))
+    after_head = head_on live.sound.linked _ after_on
+
+    -- only the right neighbour is vacant
+    pub joins_before : (led : List (Option Links)) {next back prev : ℕ} → vacant_at old (i - 1) ≡ false
+        → next ≡ next_at old (i + 1) → back ≡ end_at old (i + 1) → prev ≡ prev_at old (i + 1)
+        → LeadsTo (next_at old) (prev_at old) (next_at led) (prev_at led) prev next i → KeepsEnds old led
+        → HasBlocks (set (set led back (Some (Back i prev))) i (Some (Front next back))) (vacated_before (blocks_of old) i)
+    joins_before led {next} {back} {prev} left next_is back_is prev_is leads keeps =
+        let linked = shown live.sound.linked in
+        let fs = fronts_of old in
+        let whole : IsBlock (vacant_at old) (i + 1) back = rw back_is (right_block live right) in
+        let high : i < back = omega (arith, whole.ordered) in
+        let vacant : vacant_at led back ≡ true = rw (flags_kept keeps) (whole.inside back whole.ordered (omega arith)) in
+        let last : Option Links = Some (Back i prev) in
+        let own : Option Links = Some (Front next back) in
+        let named = set led back last in
+        let new = set named i own in
+        let flags_named = vacancy_kept led back (Back i prev) vacant ∙ flags_kept keeps in
+        let inside = slot_inside named flags_named in
+        let here : links_at new i ≡ own = links_here named i own inside in
+        let there : links_at new back ≡ last = links_other named i own back (λ e. omega arith) ∙ links_here led back last (within led back vacant) in
+        let flags : map is_vacant new ≡ set (map is_vacant old) i true = map-set is_vacant named i own ∙ ap (λ vacant. set vacant i true) flags_named in
+        let change = new_vacates live new flags in
+        let grows = joined i back change (omega arith) (omega arith) (begins_at (vacant_at old) i left)
+        (λ x low high. absurd (omega arith)) (λ x low high. whole.inside x (omega arith) high) whole.ends in
+        let same : (x : ℕ) → x ≢ i → x ≢ back → x ≢ i → links_at new x ≡ links_at led x = λ x a b c. links_other named i own x a ∙ links_other led back last x b in
+        let kept = ends_stay new live keeps grows same in
+        let front_names : end_at new i ≡ back = ap (end_in i) here in
+        let back_names : end_at new back ≡ i = ap (end_in back) there in
+        let apart = in_circle_differs live in
+        let nexts = λ (x : ℕ). cond (eqb x i) next (next_at led x) in
+        let prevs = λ (x : ℕ). cond (eqb x i) prev (prev_at led x) in
+        let between = puts_between leads (rw prev_is (apart (prev_at old (i + 1)) before_on)) (rw next_is (apart (next_at old (i + 1)) after_on)) in
+        let replaces : TakesOver (next_at old) (prev_at old) nexts prevs (i + 1) i = rw (← prev_is, ← next_is) between in
+        grown new live keeps grows same (replaced fs (i + 1) i) (vacated_before (blocks_of old) i) nexts prevs flags
+        (λ j. record {
+          sentinel_end = kept 0 (apart 0 (zero_in_circle fs)) (λ e. omega arith) (apart 0 (zero_in_circle fs)) j;
+          others = blocks_replaced (end_at old) (end_at new) fs (i + 1) i (omega (arith, right_front live right)) (front_names ∙ back_is)
+              (λ f listed differs.
+              let other = apart f (omega arith) in
+              kept f other (λ e. not_back live right f (omega arith) differs (e ∙ back_is)) other) j;
+        })
+        (listed_right fs change live.positive left right linked.listed)
+        (IsChain-replaced 0 fs (i + 1) i (stands_once linked) (zero_apart linked) (omega (arith, right_front live right)) (absent live) live.positive replaces linked.chain)
+        (λ x differs. (other_test x i _ _ differs, other_test x i _ _ differs))
+        (ap next_in here ∙ sym (same_test i _ _))
+        (rw (front_names, back_names, ap prev_in there) (same_test i _ _ ∙ sym (same_test i _ _)))
+        front_names back_names
+        (apart_set named i own inside high (apart_set led back last (within led back vacant) high (apart_kept keeps live.sound.linked.apart)))
+
+    -- both neighbours are vacant
+    pub joins_between : (led : List (Option Links)) {after back before front prev next : ℕ} → vacant_at old (i - 1) ≡ true
+        → after ≡ next_at old (i + 1) → back ≡ end_at old (i + 1) → before ≡ prev_at old (i + 1)
+        → Joins (next_at old) (prev_at old) (next_at led) (prev_at led) before after → KeepsEnds old led
+        → front ≡ end_at led (i - 1) → prev ≡ held_at led (i - 1) → next ≡ next_at led front
+        → HasBlocks (set (set (set led front (Some (Front next back))) back (Some (Back front prev))) i (Some (Single 0 0))) (vacated_between (blocks_of old) i)
+    joins_between led {after} {back} {before} {front} {prev} {next} left after_is back_is before_is joins keeps front_read prev_read next_read =
+        let linked = shown live.sound.linked in
+        let fs = fronts_of old in
+        let front_is : front ≡ end_at old (i - 1) = front_read ∙ ends_kept keeps (i - 1) in
+        let right_is : IsBlock (vacant_at old) (i + 1) back = rw back_is (right_block live right) in
+        let left_is : IsBlock (vacant_at old) front (i - 1) × (end_at old front ≡ i - 1) = rw front_is (left_block live left) in
+        let low : front < i = omega (arith, left_is.0.ordered, live.positive) in
+        let high : i < back = omega (arith, right_is.ordered) in
+        let first : Option Links = Some (Front next back) in
+        let last : Option Links = Some (Back front prev) in
+        let own : Option Links = Some (Single 0 0) in
+        let longer = set led front first in
+        let named = set longer back last in
+        let new = set named i own in
+        let front_vacant : vacant_at led front ≡ true = rw (flags_kept keeps) (left_is.0.inside front (omega arith) left_is.0.ordered) in
+        let flags_longer = vacancy_kept led front (Front next back) front_vacant ∙ flags_kept keeps in
+        let back_vacant : vacant_at longer back ≡ true = rw flags_longer (right_is.inside back right_is.ordered (omega arith)) in
+        let flags_named = vacancy_kept longer back (Back front prev) back_vacant ∙ flags_longer in
+        let inside = slot_inside named flags_named in
+        let at_front : links_at new front ≡ first =
+        links_other named i own front (λ e. omega arith) ∙ links_other longer back last front (λ e. omega arith) ∙ links_here led front first (within led front front_vacant) in
+        let at_back : links_at new back ≡ last = links_other named i own back (λ e. omega arith) ∙ links_here longer back last (within longer back back_vacant) in
+        let flags : map is_vacant new ≡ set (map is_vacant old) i true = map-set is_vacant named i own ∙ ap (λ vacant. set vacant i true) flags_named in
+        let change = new_vacates live new flags in
+        let grows = joined front back change (omega arith) (omega arith) left_is.0.begins
+        (λ x low high. left_is.0.inside x low (omega arith)) (λ x low high. right_is.inside x (omega arith) high) right_is.ends in
+        let same : (x : ℕ) → x ≢ front → x ≢ back → x ≢ i → links_at new x ≡ links_at led x =
+        λ x a b c. links_other named i own x c ∙ links_other longer back last x b ∙ links_other led front first x a in
+        let kept = ends_stay new live keeps grows same in
+        let front_names : end_at new front ≡ back = ap (end_in front) at_front in
+        let back_names : end_at new back ≡ front = ap (end_in back) at_back in
+        let apart = in_circle_differs live in
+        let once = right_front live right in
+        let prev_same : prev_at led front ≡ prev = rw (ends_kept keeps front, left_is.1, ← front_read) (same_test front _ _ ∙ sym prev_read) in
+        let unlinks : Unlinks (next_at old) (prev_at old) (next_at led) (prev_at led) (i + 1) = rw (← before_is, ← after_is) joins in
+        rw (back_at-listed (end_at old) fs (i + 1) (omega arith), blocks_removed (end_at old) fs (i + 1) (omega arith), ← back_is)
+        (grown new live keeps grows same (list_without fs (i + 1)) _ (next_at led) (prev_at led) flags
+        (blocks_grown (end_at old) (end_at new) (list_without fs (i + 1)) i front back live.positive (sym front_is) left_is.1 front_names
+        (λ f there.
+        let is = in_removed fs (i + 1) f (omega arith) once there in
+        ((linked.ends f (on_circle linked f is.0)).1, λ differs. kept f differs (λ e. not_back live right f is.0 is.1 (e ∙ back_is)) (apart f is.0))))
+        (listed_both fs change live.positive left right linked.listed)
+        (IsChain-removed 0 fs (i + 1) (stands_once linked) (zero_apart linked) (omega arith) unlinks linked.chain)
+        (λ x differs. (refl, refl))
+        (ap next_in at_front ∙ next_read)
+        (rw (front_names, back_names, ap prev_in at_back) (same_test front _ _ ∙ sym prev_same))
+        front_names back_names
+        (apart_set named i own inside tt
+        (apart_set longer back last (within longer back back_vacant) (omega arith)
+        (apart_set led front first (within led front front_vacant) (omega arith) (apart_kept keeps live.sound.linked.apart)))))
