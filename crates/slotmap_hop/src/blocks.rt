@@ -5,11 +5,11 @@ ghost use Rattle.slotmap_core.specs.Places.{Live as LivePlace, Vacant as VacantP
 ghost use Rattle.slotmap_hop.specs.Blocks.{vacated, vacated_alone, vacated_before, vacated_after, vacated_between, shorter};
 ghost use Rattle.slotmap_hop.specs.Links.{vacant_at, has_next, has_prev, links_at, next_at, held_at, end_at, prev_at, CanVacate, HasBlockList, HasBlocks, IsHead, blocks_of};
 ghost use Rattle.slotmap_hop.specs.Links.{SetsNext, SetsPrev, Joins, LeadsTo, KeepsEnds};
-ghost use Rattle.slotmap_hop.specs.Slots.{version_in, value_in, hop_in, vacant_slot, all_links, places_of, value_at, CanFree};
+ghost use Rattle.slotmap_hop.specs.Slots.{version_in, value_in, hop_in, linked_slot, all_links, places_of, value_at, CanFree};
 
 use crate::links::{
-    Links, Slot, back_of, front_of, is_vacant, is_vacant_after, next_of, prev_of, set_links,
-    set_next, set_prev, vacant,
+    Links, Slot, back_of, front_of, is_vacant, is_vacant_after, linked_slot, next_of, prev_of,
+    set_links, set_next, set_prev,
 };
 use slotmap_core::sure::rule_out;
 use std::mem;
@@ -152,7 +152,7 @@ pub(crate) fn free_slot<V: Drop>(slots: &mut [Slot<V>], place: u32, version: u32
     ensures places { places_of slots.new ≡ slice_set (places_of slots.old) place (VacantPlace (version + 1)) }
 {
     let links = join(slots, place);
-    match mem::replace(&mut slots[place as usize], vacant(version, links)) {
+    match mem::replace(&mut slots[place as usize], linked_slot(version, links)) {
         Slot::Occupied(_, value) => value,
         _ => {
             rule_out(true);
@@ -169,7 +169,7 @@ pub(crate) fn open_slot<V: Drop>(slots: &mut [Slot<V>], place: u32, version: u32
     ensures places { places_of slots.new ≡ slice_set (places_of slots.old) place (VacantPlace (version + 1)) }
 {
     let links = join(slots, place);
-    slots[place as usize] = vacant(version, links);
+    slots[place as usize] = linked_slot(version, links);
 }
 
 // Takes the value out of a live slot and retires the slot. It joins no block.
