@@ -28,7 +28,7 @@ module _ {V : Type 0} (is_clone : V → V → Type 0) where
   place_cloned (Single version next prev) copy is = ap place_in is
   place_cloned (Front version next back) copy is = ap place_in is
   place_cloned (Back version front prev) copy is = ap place_in is
-  place_cloned (Retired version) copy is = rw is (retired_same version)
+  place_cloned (Retired version unused nowhere) copy is = rw is (retired_same version)
     where
       retired_same : (version : ℕ) → IsPlaceClone is_clone (retired_place version) (retired_place version)
       retired_same zero = refl
@@ -39,7 +39,7 @@ module _ {V : Type 0} (is_clone : V → V → Type 0) where
   same_slot equal (Single version next prev) copy is = is
   same_slot equal (Front version next back) copy is = is
   same_slot equal (Back version front prev) copy is = is
-  same_slot equal (Retired version) copy is = is
+  same_slot equal (Retired version unused nowhere) copy is = is
 
   pub all_links-cloned : (slots copies : List (Slot V)) → AreSlotClones is_clone slots copies → all_links copies ≡ all_links slots
   all_links-cloned [] [] zip = refl

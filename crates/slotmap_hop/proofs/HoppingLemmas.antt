@@ -88,7 +88,7 @@ hop_to_back place (Occupied version value) vacant apart ordered = absurd (cc)
 hop_to_back place (Single version next prev) vacant apart ordered = refl
 hop_to_back place (Front version next back) vacant apart ordered = refl
 hop_to_back place (Back version front prev) vacant apart ordered = absurd (omega arith)
-hop_to_back place (Retired version) vacant apart ordered = absurd (cc)
+hop_to_back place (Retired version unused nowhere) vacant apart ordered = absurd (cc)
 
 pub none_here : {V : Type 0} (s : Slot V) → is_some (value_in s) ≡ false → value_in s ≡ None
 none_here s is = grind arith
@@ -190,8 +190,8 @@ module _ {V : Type 0} (slots : List (Slot V)) (reads0 start : ℕ) where
     here = let is = place_at slots place s at.found in (is, at.way.stands.sound.stacked.versions place _ is, λ v e. at.way.stands.sound.none_detached place v (is ∙ ap Some e))
 
     -- a retired slot is passed
-    way_passes : (version : ℕ) → s ≡ Retired version → Hops now new place place
-    way_passes version is =
+    way_passes : (version unused nowhere : ℕ) → s ≡ Retired version unused nowhere → Hops now new place place
+    way_passes version unused nowhere is =
         let spent : slice_get (places_of slots) place ≡ Some RetiredPlace = grind (arith, here, is) in
         let more = length-append at.way.gone (key place last_version ∷ []) in
         record {
@@ -224,7 +224,7 @@ module _ {V : Type 0} (slots : List (Slot V)) (reads0 start : ℕ) where
         by (Single version next prev) is none = way_hops (ap (λ t. is_vacant (links_in t)) is)
         by (Front version next back) is none = way_hops (ap (λ t. is_vacant (links_in t)) is)
         by (Back version front prev) is none = way_hops (ap (λ t. is_vacant (links_in t)) is)
-        by (Retired version) is none = rw is (way_passes version is)
+        by (Retired version unused nowhere) is none = rw is (way_passes version unused nowhere is)
 
     -- a slot with a value is what the search looks for
     pub way_finds : is_some (value_in s) ≡ true → FindsSlot slots start place s × ReadsOnTheWay slots reads0 start new.reads place

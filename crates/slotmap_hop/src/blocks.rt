@@ -9,7 +9,7 @@ ghost use Rattle.slotmap_hop.specs.Slots.{version_in, value_in, hop_in, linked_s
 
 use crate::links::{
     Links, Slot, back_of, front_of, is_vacant, is_vacant_after, linked_slot, next_of, prev_of,
-    set_links, set_next, set_prev,
+    retired_slot, set_links, set_next, set_prev,
 };
 use slotmap_core::sure::rule_out;
 use std::mem;
@@ -180,7 +180,7 @@ pub(crate) fn retire<V>(slots: &mut [Slot<V>], place: u32) -> V
     ensures value { value_at slots.old place ≡ Some result }
     ensures places { places_of slots.new ≡ slice_set (places_of slots.old) place RetiredPlace }
 {
-    match mem::replace(&mut slots[place as usize], Slot::Retired(0)) {
+    match mem::replace(&mut slots[place as usize], retired_slot(0)) {
         Slot::Occupied(_, value) => value,
         _ => {
             rule_out(true);

@@ -45,7 +45,15 @@ fn clone_slot<V: Clone>(slot: &Slot<V>) -> Result<Slot<V>, AllocError>
             front: *front,
             prev: *prev,
         }),
-        Slot::Retired(version) => Ok(Slot::Retired(*version)),
+        Slot::Retired {
+            version,
+            unused,
+            nowhere,
+        } => Ok(Slot::Retired {
+            version: *version,
+            unused: *unused,
+            nowhere: *nowhere,
+        }),
     }
 }
 

@@ -14,7 +14,7 @@ ghost use Rattle.std.specs.FinMap as map;
 
 use crate::HopSlotMap;
 use crate::blocks::open_slot;
-use crate::links::{Slot, sentinel};
+use crate::links::{Slot, retired_slot, sentinel};
 use slotmap_core::errors::{OutOfMemory, SlotsError};
 use slotmap_core::keys::Key;
 use slotmap_core::limits::LIST_LIMIT;
@@ -48,7 +48,7 @@ fn slot_from<V>(version: u32, value: Option<V>) -> Slot<V>
 {
     match value {
         Some(value) => Slot::Occupied(version, value),
-        None => Slot::Retired(version),
+        None => retired_slot(version),
     }
 }
 
