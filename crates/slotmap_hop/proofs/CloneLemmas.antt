@@ -1,10 +1,11 @@
 -- Slots with clones of the values of others: the same places and blocks, and clones of the values.
 use Rattle.std.specs.FinMap as map
 use Rattle.std.proofs.Common.{◌≡◌, ◌+◌, ◌∷◌, ℕ, zero, suc, true, List, [], drop, slice_get, Some, refl, sym, ap, subst, ◌∙◌, arith}
-use Rattle.slotmap_core.proofs.Common.{ClonesEqual, AreClones, IsCloneBy, IsPlaceClone, ArePlaceClones, Place, Live, Detached, Vacant, Retired as RetiredPlace}
-use Rattle.slotmap_core.proofs.Common.{live, same_from_all_zip, keys_total, exact_keys, zip_length, zip_drop, same_len, clone_is_some, detached-clones}
+use Rattle.slotmap_core.proofs.Common.{same_from_all_zip, ClonesEqual, AreClones, IsCloneBy, IsPlaceClone, ArePlaceClones, Place, Live, Detached, Vacant}
+use Rattle.slotmap_core.proofs.Common.{Retired as RetiredPlace, live, keys_total, exact_keys, zip_length, zip_drop, same_len, clone_is_some, detached-clones}
 use Rattle.slotmap_core.proofs.Common.{retired-clones, next-clones, live-clones, length-clones, cloned_at, vacant_there, IsStacked-clones}
-use Rattle.slotmap_hop.specs.Slots.{Slot, Occupied, Free, Retired}
+use Rattle.slotmap_hop.specs.Slots.{Slot}
+use Rattle.slotmap_hop.specs.declared.links.Slot.TheVariants.{Occupied, Single, Front, Back, Retired}
 use Rattle.slotmap_hop.specs.Blocks.{Begins}
 use Rattle.slotmap_hop.specs.Links.{vacant_at, HasBlockList}
 use Rattle.slotmap_hop.specs.Iter.{pairs_left, IsIter}
@@ -18,18 +19,21 @@ module _ {V : Type 0} (is_clone : V → V → Type 0) where
 
   place_cloned : (s copy : Slot V) → IsSlotClone is_clone s copy → IsPlaceClone is_clone (place_in s) (place_in copy)
   place_cloned (Occupied version value) copy is = (is.0, ap place_in is.1, is.2)
-  place_cloned (Free version links) copy is = ap place_in is
-  place_cloned (Retired version links) copy is = rw is (used_up_same version links.other_end)
+  place_cloned (Single version next prev) copy is = ap place_in is
+  place_cloned (Front version next back) copy is = ap place_in is
+  place_cloned (Back version front prev) copy is = ap place_in is
+  place_cloned (Retired version unused nowhere) copy is = rw is (retired_same version)
     where
-      used_up_same : (version other_end : ℕ) → IsPlaceClone is_clone (retired_place version other_end) (retired_place version other_end)
-      used_up_same zero zero = refl
-      used_up_same zero (suc other_end) = refl
-      used_up_same (suc version) other_end = refl
+      retired_same : (version : ℕ) → IsPlaceClone is_clone (retired_place version) (retired_place version)
+      retired_same zero = refl
+      retired_same (suc version) = refl
 
   same_slot : ClonesEqual is_clone → (s copy : Slot V) → IsSlotClone is_clone s copy → copy ≡ s
   same_slot equal (Occupied version value) copy is = is.1 ∙ ap (Occupied version) (equal value is.0 is.2)
-  same_slot equal (Free version links) copy is = is
-  same_slot equal (Retired version links) copy is = is
+  same_slot equal (Single version next prev) copy is = is
+  same_slot equal (Front version next back) copy is = is
+  same_slot equal (Back version front prev) copy is = is
+  same_slot equal (Retired version unused nowhere) copy is = is
 
   pub all_links-cloned : (slots copies : List (Slot V)) → AreSlotClones is_clone slots copies → all_links copies ≡ all_links slots
   all_links-cloned [] [] zip = refl

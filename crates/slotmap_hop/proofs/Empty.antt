@@ -1,12 +1,13 @@
 -- A map with no key: slot 0 alone.
-use Rattle.std.proofs.Common.{◌≡◌, ◌∷◌, ⊎_elim, zero, suc, List, [], refl, arith}
+use Rattle.std.proofs.Common.{◌≡◌, ◌∷◌, ⊎_elim, ℕ, zero, suc, List, [], refl, arith}
 use Rattle.slotmap_core.proofs.Common.{Detached, Vacant, at_push, IsStacked-sentinel, live-sentinel}
-use Rattle.slotmap_hop.specs.Slots.{Slot, Free, all_links, IsSound}
-use Rattle.slotmap_hop.specs.Links.{is_front, vacant_at, end_at, ListsOnce, NamesEnds}
+use Rattle.slotmap_hop.specs.Slots.{Slot, all_links, IsSound}
+use Rattle.slotmap_hop.specs.declared.links.Slot.TheVariants.{Single}
+use Rattle.slotmap_hop.specs.Links.{is_front, NamesApart, links_at, vacant_at, end_at, ListsOnce, NamesEnds}
 use Rattle.slotmap_hop.proofs.Circle.{shut}
 
 abbrev pub sentinel_alone : (V : Type 0) → List (Slot V)
-sentinel_alone V = Free 0 (record { next = 0; prev = 0; other_end = 0 }) ∷ []
+sentinel_alone V = Single 0 0 0 ∷ []
 
 module _ (V : Type 0) where
   listed-new : ListsOnce (is_front (vacant_at (all_links (sentinel_alone V)))) []
@@ -17,10 +18,14 @@ module _ (V : Type 0) where
   ends-new zero is = (record { begins = λ left e. absurd (omega arith); ordered = omega arith; inside = λ x low high. let same : x ≡ 0 = omega arith in rw same; ends = refl }, refl)
   ends-new (suc x) is = absurd (cc)
 
+  apart-new : (x : ℕ) → NamesApart x (links_at (all_links (sentinel_alone V)) x)
+  apart-new zero = tt
+  apart-new (suc x) = tt
+
   pub IsSound-new : IsSound (sentinel_alone V) 0 0
   IsSound-new =
       record {
-        linked = record { sentinel = refl; linked = shut (record { listed = listed-new; chain = (refl, refl); ends = ends-new }); fits = omega arith };
+        linked = record { sentinel = refl; linked = shut (record { listed = listed-new; chain = (refl, refl); ends = ends-new }) apart-new; fits = omega arith };
         none_detached = λ i v found. ⊎_elim (λ same. absurd (let wrong = same.1 in cc)) (λ other. absurd (let none = other.1 in cc)) (at_push [] (Vacant 1) i (Detached v) found);
         elems_live = live-sentinel V;
         stack = [];

@@ -2,12 +2,12 @@
 use Rattle.std.proofs.lemmas.List.{length-append}
 use Rattle.std.specs.FinMap as map
 use Rattle.std.proofs.Common.{◌≡◌, ◌+◌, ◌%◌, ◌^◌, ◌<◌, ◌≤◌, ◌∷◌, ◌++◌, ℕ, Bool, true, false, cond, List, [], length, set, take, append-nil, append_assoc, None}
-use Rattle.slotmap_core.proofs.Common.{is_vacant_version, vacant_slot, place_of_record, start_places, start_stack, StartsFrom, Detached, Vacant, live}
-use Rattle.slotmap_core.proofs.Common.{IsConsistent, Accepts, AllFitBelow, IsStacked, Writes, record_of, records_of, add-one, slice_get, Some, refl, sym, ap}
-use Rattle.slotmap_core.proofs.Common.{subst, ◌∙◌, arith, eqb, map as list_map, set-append_seam, nat_tests, nil_from_length, length_push, length-map, map_push}
-use Rattle.slotmap_core.proofs.Common.{take_all, slice_get-map, vacant_split, vacant_is, slot_vacant, slice_get_push, len-live-push, odd_of, even_where}
-use Rattle.slotmap_core.proofs.Common.{vacant_place, length-start_places, start_places-push, start_place_at, start_stack-push, IsStacked-start_places}
-use Rattle.slotmap_core.proofs.Common.{writes-places, starts-stack, next_consistent}
+use Rattle.slotmap_core.proofs.Common.{add-one, slice_get, Some, refl, sym, ap, subst, ◌∙◌, arith, eqb, map as list_map, set-append_seam, nat_tests}
+use Rattle.slotmap_core.proofs.Common.{nil_from_length, length_push, length-map, map_push, take_all, slice_get-map, is_vacant_version, vacant_slot}
+use Rattle.slotmap_core.proofs.Common.{place_of_record, start_places, start_stack, StartsFrom, Detached, Vacant, live, IsConsistent, Accepts, AllFitBelow}
+use Rattle.slotmap_core.proofs.Common.{IsStacked, Writes, record_of, records_of, vacant_split, vacant_is, slot_vacant, slice_get_push, len-live-push, odd_of}
+use Rattle.slotmap_core.proofs.Common.{even_where, vacant_place, length-start_places, start_places-push, start_place_at, start_stack-push}
+use Rattle.slotmap_core.proofs.Common.{IsStacked-start_places, writes-places, starts-stack, next_consistent}
 use Rattle.slotmap_core.specs.declared.serial.SlotRecord.{SlotRecord}
 use Rattle.slotmap_hop.specs.Slots.{Slot, version_in, links_in, value_in, read_slot, place_in, all_links, places_of, hop_content, IsSound}
 use Rattle.slotmap_hop.specs.Blocks.{Blocks, Ascend, vacated}

@@ -1,8 +1,8 @@
 -- What an insert makes of sound slots, and what stays when one place changes.
 use Rattle.std.specs.FinMap as map
 use Rattle.std.proofs.Common.{◌≡◌, ◌≢◌, ◌+◌, ◌-◌, ◌^◌, ◌<◌, ◌≤◌, ◌∷◌, ◌++◌, ⊎_elim, ℕ, List, [], length, set, slice_get, Some, None, sym, ap, subst, ◌∙◌, arith}
-use Rattle.slotmap_core.proofs.Common.{Key, most, Removes, Inserts, Place, Live, Detached, Vacant, live, left_by, content_of_places, used_places, filled}
-use Rattle.slotmap_core.proofs.Common.{IsVersion, IsStacked, map-append, key, len-live-set, len-live-push, IsStacked-filled, IsStacked-pushed, removes, inserts}
+use Rattle.slotmap_core.proofs.Common.{map-append, Key, most, Removes, Inserts, Place, Live, Detached, Vacant, live, left_by, content_of_places, used_places}
+use Rattle.slotmap_core.proofs.Common.{filled, IsVersion, IsStacked, key, len-live-set, len-live-push, IsStacked-filled, IsStacked-pushed, removes, inserts}
 use Rattle.slotmap_core.proofs.Common.{at_set, at_push}
 use Rattle.slotmap_hop.specs.Slots.{Slot, Occupied, version_in, links_in, place_in, all_links, places_of, next_place, offer_at, holding, hop_content, IsSound}
 use Rattle.slotmap_hop.specs.Blocks.{shorter}

@@ -1,13 +1,14 @@
 -- A search for the next live place skips a block of vacant places in one step.
 use Rattle.std.proofs.lemmas.List.{append_assoc, length-append}
 use Rattle.std.specs.FinMap as map
-use Rattle.std.proofs.Common.{◌≡◌, ◌≢◌, ◌+◌, ◌-◌, ◌*◌, ◌<◌, ◌≤◌, ◌^◌, ◌∷◌, ◌++◌, All, ℕ, max, zero, suc, true, false, List, [], length, drop, slice_get, Some}
-use Rattle.slotmap_core.proofs.Common.{Key, last_version, Place, Live, Detached, Vacant, Retired as RetiredPlace, live, live_entry, retired_entry, gather}
-use Rattle.slotmap_core.proofs.Common.{HasVersion, None, is_some, refl, sym, ap, ◌∙◌, arith, slice_get_within, get_or_from_slice_get, drop_more, drop_all}
-use Rattle.slotmap_core.proofs.Common.{All-nil, All-cons, All-push, All-weaker, live_at, key, get-live_at}
-use Rattle.slotmap_hop.specs.Slots.{Links, Slot, Occupied, Free, Retired, value_in, end_in, place_in, all_links, places_of}
+use Rattle.std.proofs.Common.{◌≡◌, ◌≢◌, ◌+◌, ◌-◌, ◌*◌, ◌<◌, ◌≤◌, ◌^◌, ◌∷◌, ◌++◌, ℕ, max, zero, suc, true, false, List, [], length, drop, slice_get, Some, None}
+use Rattle.slotmap_core.proofs.Common.{is_some, refl, sym, ap, ◌∙◌, arith, slice_get_within, get_or_from_slice_get, drop_more, drop_all, All-nil, All-cons}
+use Rattle.slotmap_core.proofs.Common.{All-push, All-weaker, All, Key, last_version, Place, Live, Detached, Vacant, Retired as RetiredPlace, live, live_entry}
+use Rattle.slotmap_core.proofs.Common.{retired_entry, gather, HasVersion, live_at, key, get-live_at}
+use Rattle.slotmap_hop.specs.Slots.{Links, Slot, value_in, links_in, hop_in, place_in, all_links, places_of}
+use Rattle.slotmap_hop.specs.declared.links.Slot.TheVariants.{Occupied, Single, Front, Back, Retired}
 use Rattle.slotmap_hop.specs.Blocks.{Begins, IsBlock}
-use Rattle.slotmap_hop.specs.Links.{vacant_at, links_at, end_at}
+use Rattle.slotmap_hop.specs.Links.{is_vacant, end_in, NamesApart, vacant_at, links_at, end_at}
 use Rattle.slotmap_hop.specs.Iter.{pairs_left, retired_left, StandsAt, CanGoOn, FindsNone, FindsSlot, ReadsOnTheWay, Counted}
 use Rattle.slotmap_hop.proofs.BlockLemmas.{clash, begins_after, front_here}
 use Rattle.slotmap_hop.proofs.Circle.{shown}
@@ -72,6 +73,14 @@ module _ {V : Type 0} (slots : List (Slot V)) where
 
   pub stands_on : (i j : ℕ) → StandsAt slots i → (vacant_at (all_links slots) j ≡ true → Begins (vacant_at (all_links slots)) j) → StandsAt slots j
   stands_on i j stands front = record { vacant = stands.vacant; elems = stands.elems; sound = stands.sound; at_front = front }
+
+-- a vacant slot that names no earlier place is left at the end of its block
+hop_to_back : {V : Type 0} (place : ℕ) (s : Slot V) → is_vacant (links_in s) ≡ true → NamesApart place (links_in s) → place ≤ end_in place (links_in s) → hop_in place s ≡ end_in place (links_in s)
+hop_to_back place (Occupied version value) vacant apart ordered = absurd (cc)
+hop_to_back place (Single version next prev) vacant apart ordered = refl
+hop_to_back place (Front version next back) vacant apart ordered = refl
+hop_to_back place (Back version front prev) vacant apart ordered = absurd (omega arith)
+hop_to_back place (Retired version unused nowhere) vacant apart ordered = absurd (cc)
 
 pub none_here : {V : Type 0} (s : Slot V) → is_some (value_in s) ≡ false → value_in s ≡ None
 none_here s is = grind arith
@@ -140,26 +149,26 @@ module _ {V : Type 0} (slots : List (Slot V)) (reads0 start : ℕ) where
     pub smaller : length new.slots - (back + 1) < length now.slots - place
 
   module _ {now new : Counted V} {place : ℕ} {s : Slot V} (at : Reads now place s new) where
-    way_hops : (version : ℕ) (links : Links) → s ≡ Free version links → Hops now new place (max place links.other_end)
-    way_hops version links is =
+    way_hops : is_vacant (links_in s) ≡ true → Hops now new place (hop_in place s)
+    way_hops vacant =
         let v = vacant_at (all_links slots) in
-        let free : (vacant_at (all_links slots) place ≡ true) × (links_at (all_links slots) place ≡ links) = grind (arith, slot_cases slots place, at.found) in
-        let back : links.other_end ≡ end_at (all_links slots) place = sym (ap (λ (l : Links). l.other_end) free.1) in
-        let block : IsBlock v place links.other_end = rw back (block_here slots place at.way.stands free.0) in
-        let past = past_block slots place links.other_end block in
+        let free : (v place ≡ true) × (links_at (all_links slots) place ≡ links_in s) = grind (arith, slot_cases slots place, at.found) in
+        let back = end_at (all_links slots) place in
+        let block : IsBlock v place back = block_here slots place at.way.stands free.0 in
+        let is_back : hop_in place s ≡ back = hop_to_back place s vacant (rw free.1 at (at.way.stands.sound.linked.linked.apart place)) (rw free.1 at block.ordered) ∙ ap (end_in place) (sym free.1) in
+        let past = past_block slots place back block in
         let few = at.way.few_vacant free.0 in
-        let within = slot_within slots links.other_end (block.inside links.other_end block.ordered (omega arith)) in
-        let farther : max place links.other_end ≡ links.other_end = omega (arith, block.ordered) in
-        rw farther (record {
+        let within = slot_within slots back (block.inside back block.ordered (omega arith)) in
+        rw is_back (record {
           on = record {
             kept = at.kept;
-            stands = stands_on slots place (links.other_end + 1) at.way.stands (λ again. clash v (links.other_end + 1) again block.ends);
+            stands = stands_on slots place (back + 1) at.way.stands (λ again. clash v (back + 1) again block.ends);
             same = at.way.same ∙ past.0;
             none = λ q there from. (let live = live_at (places_of slots) q there in grind (arith, at.way.none q there from, block.inside q.index, slot_cases slots q.index));
             gone = at.way.gone;
             still = at.way.still ∙ ap (λ ks. at.way.gone ++ ks) past.1;
-            below = All-weaker (λ k. k.index < place) (λ k. k.index < links.other_end + 1) (λ k low. omega (arith, block.ordered)) at.way.gone at.way.below;
-            few_vacant = λ again. clash v (links.other_end + 1) again block.ends;
+            below = All-weaker (λ k. k.index < place) (λ k. k.index < back + 1) (λ k low. omega (arith, block.ordered)) at.way.gone at.way.below;
+            few_vacant = λ again. clash v (back + 1) again block.ends;
             few = omega (arith, few);
             passed = omega (arith, at.way.passed, block.ordered);
             begun = omega (arith, at.way.begun);
@@ -173,13 +182,11 @@ module _ {V : Type 0} (slots : List (Slot V)) (reads0 start : ℕ) where
     here = let is = place_at slots place s at.found in (is, at.way.stands.sound.stacked.versions place _ is, λ v e. at.way.stands.sound.none_detached place v (is ∙ ap Some e))
 
     -- a retired slot is passed
-    way_passes : (version : ℕ) (links : Links) → s ≡ Retired version links → Hops now new place (max place links.other_end)
-    way_passes version links is =
-        let names_none : links.other_end ≡ 0 = grind (arith, here, is) in
+    way_passes : (version unused nowhere : ℕ) → s ≡ Retired version unused nowhere → Hops now new place place
+    way_passes version unused nowhere is =
         let spent : slice_get (places_of slots) place ≡ Some RetiredPlace = grind (arith, here, is) in
         let more = length-append at.way.gone (key place last_version ∷ []) in
-        let farther : max place links.other_end ≡ place = omega (arith, names_none) in
-        rw farther (record {
+        record {
           on = record {
             kept = at.kept;
             stands = stands_on slots place (place + 1) at.way.stands (λ _. begins_after (vacant_at (all_links slots)) place (place_not_vacant slots place RetiredPlace spent (λ n e. absurd (cc))));
@@ -199,15 +206,17 @@ module _ {V : Type 0} (slots : List (Slot V)) (reads0 start : ℕ) where
           };
           within = at.inside;
           smaller = rw (at.kept, at.way.kept) (omega (arith, at.inside));
-        })
+        }
 
-    pub way_on : value_in s ≡ None → Hops now new place (max place (end_in s))
+    pub way_on : value_in s ≡ None → Hops now new place (hop_in place s)
     way_on none = by s refl none
       where
-        by : (t : Slot V) → s ≡ t → value_in t ≡ None → Hops now new place (max place (end_in t))
+        by : (t : Slot V) → s ≡ t → value_in t ≡ None → Hops now new place (hop_in place s)
         by (Occupied version value) is none = absurd (cc)
-        by (Free version links) is none = way_hops version links is
-        by (Retired version links) is none = way_passes version links is
+        by (Single version next prev) is none = way_hops (ap (λ t. is_vacant (links_in t)) is)
+        by (Front version next back) is none = way_hops (ap (λ t. is_vacant (links_in t)) is)
+        by (Back version front prev) is none = way_hops (ap (λ t. is_vacant (links_in t)) is)
+        by (Retired version unused nowhere) is none = rw is (way_passes version unused nowhere is)
 
     -- a slot with a value is what the search looks for
     pub way_finds : is_some (value_in s) ≡ true → FindsSlot slots start place s × ReadsOnTheWay slots reads0 start new.reads place

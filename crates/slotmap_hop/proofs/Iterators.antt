@@ -2,7 +2,7 @@
 use Rattle.std.specs.FinMap as map
 use Rattle.std.specs.FinSet as set
 use Rattle.std.proofs.Common.{◌≡◌, ◌+◌, ◌-◌, ◌<◌, ◌≤◌, ◌∷◌, ℕ, true, List, [], length, drop, set, ◌∙◌, refl, sym, ap, subst, arith}
-use Rattle.slotmap_core.proofs.Common.{Key, key_cmp, Place, Live, Retired, live, retired_entry, gather, slice_get_within, nil_from_length, drop-set-lt, live_at}
+use Rattle.slotmap_core.proofs.Common.{slice_get_within, nil_from_length, drop-set-lt, Key, key_cmp, Place, Live, Retired, live, retired_entry, gather, live_at}
 use Rattle.slotmap_core.proofs.Common.{retired_fits, detached_laws, len-add, entries-live}
 use Rattle.slotmap_core.specs.Places.{retired}
 use Rattle.slotmap_hop.specs.Slots.{Slot, all_links, places_of, hop_content, IsSound}

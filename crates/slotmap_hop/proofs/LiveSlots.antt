@@ -1,9 +1,9 @@
 -- The slot of a live key: what a look-up, a removal or a write knows of it, and makes of it.
 use Rattle.std.specs.FinMap as map
 use Rattle.std.proofs.Common.{◌≡◌, ◌≢◌, ◌+◌, ◌-◌, ◌^◌, ◌<◌, ◌≤◌, ◌==◌, ◌∷◌, option_and_then, ℕ, true, false, List, length, set, slice_get, get_or, Some, None}
-use Rattle.slotmap_core.proofs.Common.{Key, IsKey, key_cmp, last_version, Live, Vacant, Retired, live, live_value, is_some, sym, ap, subst, ◌∙◌, arith}
-use Rattle.slotmap_core.proofs.Common.{nat_tests, slice_get_past, get_or_from_slice_get, map-set_same, length-set, slice_get-set_other, key, get-live}
-use Rattle.slotmap_core.proofs.Common.{get-live_at, len-live-set, total, live_at, not_first, IsStacked-kept, IsStacked-freed, content-written, same_read}
+use Rattle.slotmap_core.proofs.Common.{is_some, sym, ap, subst, ◌∙◌, arith, nat_tests, slice_get_past, get_or_from_slice_get, map-set_same, length-set, Key}
+use Rattle.slotmap_core.proofs.Common.{IsKey, key_cmp, last_version, Live, Vacant, Retired, live, live_value, slice_get-set_other, key, get-live, get-live_at}
+use Rattle.slotmap_core.proofs.Common.{len-live-set, total, live_at, not_first, IsStacked-kept, IsStacked-freed, content-written, same_read}
 use Rattle.slotmap_hop.specs.Slots.{Slot, Occupied}
 use Rattle.slotmap_hop.specs.Links.{blocks_of, HasBlockList}
 use Rattle.slotmap_hop.specs.HopContent.{hop_with_value}

@@ -2,7 +2,7 @@
 use Rattle.std.specs.FinMap as map
 use Rattle.std.proofs.Common.{◌≡◌, ◌+◌, ◌∷◌, ◌++◌, ℕ, Bool, cond, true, false, List, [], append-nil, Option, Some, None, is_some, refl, sym, ap, ◌∙◌, inl}
 use Rattle.slotmap_core.specs.Words.{MutBor}
-use Rattle.slotmap_core.proofs.Common.{Mut, FoldsTo, Key, key_cmp, IsLive, Removes, Visit, CallsAt, MayCome, seen, arith, FoldsTo-push, from_index}
+use Rattle.slotmap_core.proofs.Common.{arith, Mut, FoldsTo, FoldsTo-push, Key, key_cmp, IsLive, Removes, Visit, CallsAt, MayCome, seen, from_index}
 use Rattle.slotmap_core.proofs.Common.{from_index-start, none_live, in_from, get-remove_other, keys_total, exact_keys, in_after_remove, entries_none}
 use Rattle.slotmap_core.proofs.Common.{remove-insert, Swept-start, Visits, Visits-listed, Visits-stay, Keyed-from_start, Keyed-next, Keyed-same, Keyed-may_come}
 use Rattle.slotmap_hop.specs.HopContent.{HopContent, IsHopContent, IsNextLive, IsNextPlace, HasKeyAt, StaysHop, hop_with_value, blocks_without, blocks_without_all}

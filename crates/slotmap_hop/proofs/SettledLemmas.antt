@@ -1,8 +1,8 @@
 -- What calls know of a map's slots, by what the map holds.
 use Rattle.std.specs.FinMap as map
 use Rattle.std.proofs.Common.{◌≡◌, ◌≢◌, ◌+◌, ◌-◌, ◌^◌, ◌<◌, ℕ, List, length, set, get_or, Some, vec_capacity, refl, sym, ap, subst, ◌∙◌, arith, eq-eqb, ne_eqb}
-use Rattle.slotmap_core.proofs.Common.{with_items, Key, IsKey, last_version, IsLive, most, Inserts, Removes, Place, Live, Vacant, Retired, left_by, used_places}
-use Rattle.slotmap_core.proofs.Common.{nat_tests, with_items_is, key, same_read}
+use Rattle.slotmap_core.proofs.Common.{nat_tests, with_items, with_items_is, Key, IsKey, last_version, IsLive, most, Inserts, Removes, Place, Live, Vacant}
+use Rattle.slotmap_core.proofs.Common.{Retired, left_by, used_places, key, same_read}
 use Rattle.slotmap_hop.specs.declared.HopSlotMap.TheInside.{Inside}
 use Rattle.slotmap_hop.specs.Slots.{Slot, version_in, all_links, places_of, value_at, next_place, hop_content, IsSound}
 use Rattle.slotmap_hop.specs.Blocks.{vacated}

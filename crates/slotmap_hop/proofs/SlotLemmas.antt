@@ -3,9 +3,9 @@ use mathlib.Core.Path.{fun_ext}
 use Rattle.std.specs.FinMap as map
 use Rattle.std.specs.FinSet as set
 use Rattle.std.proofs.Common.{◌≡◌, ◌≢◌, ◌+◌, ◌^◌, ◌<◌, ◌≤◌, ◌==◌, ◌||◌, ◌∷◌, ◌++◌, inl, ℕ, zero, suc, Bool, true, false, eqb, List, [], length, set, slice_get}
-use Rattle.slotmap_core.proofs.Common.{IsKey, key_cmp, IsContent, places, Place, Vacant, detached, next, StackMap, content_of_places, offer, used_places}
-use Rattle.slotmap_core.proofs.Common.{filled, IsVersion, IsStacked, Option, Some, refl, sym, ap, subst, arith, cond, nat_tests, length-set, key}
-use Rattle.slotmap_core.proofs.Common.{contains-detached, get-next_at, vacant_at as next_found, total, IsContent-stacked, keys_total, exact_keys}
+use Rattle.slotmap_core.proofs.Common.{Option, Some, refl, sym, ap, subst, arith, cond, nat_tests, length-set, IsKey, key_cmp, IsContent, places, Place, Vacant}
+use Rattle.slotmap_core.proofs.Common.{detached, next, StackMap, content_of_places, offer, used_places, filled, IsVersion, IsStacked, key, contains-detached}
+use Rattle.slotmap_core.proofs.Common.{get-next_at, vacant_at as next_found, total, IsContent-stacked, keys_total, exact_keys}
 use Rattle.slotmap_hop.specs.Slots.{Links, Slot, version_in, all_links, places_of, next_place, offer_at, holding, hop_content, IsSound}
 use Rattle.slotmap_hop.specs.Blocks.{HasMaximalBlocks}
 use Rattle.slotmap_hop.specs.Links.{list_without, is_front, ListsOnce, vacant_at, next_at, end_at, fronts_of, blocks_of, IsLinked}

@@ -17,8 +17,42 @@ fn clone_slot<V: Clone>(slot: &Slot<V>) -> Result<Slot<V>, AllocError>
 {
     match slot {
         Slot::Occupied(version, value) => Ok(Slot::Occupied(*version, value.clone()?)),
-        Slot::Free(version, links) => Ok(Slot::Free(*version, *links)),
-        Slot::Retired(version, links) => Ok(Slot::Retired(*version, *links)),
+        Slot::Single {
+            version,
+            next,
+            prev,
+        } => Ok(Slot::Single {
+            version: *version,
+            next: *next,
+            prev: *prev,
+        }),
+        Slot::Front {
+            version,
+            next,
+            back,
+        } => Ok(Slot::Front {
+            version: *version,
+            next: *next,
+            back: *back,
+        }),
+        Slot::Back {
+            version,
+            front,
+            prev,
+        } => Ok(Slot::Back {
+            version: *version,
+            front: *front,
+            prev: *prev,
+        }),
+        Slot::Retired {
+            version,
+            unused,
+            nowhere,
+        } => Ok(Slot::Retired {
+            version: *version,
+            unused: *unused,
+            nowhere: *nowhere,
+        }),
     }
 }
 

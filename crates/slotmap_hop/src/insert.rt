@@ -7,7 +7,8 @@ ghost use Rattle.slotmap_hop.specs.Blocks.{shorter};
 ghost use Rattle.slotmap_hop.specs.HopContent.{GrowsHop, IsHopContent, MakesHopRoom, StaysHop};
 
 use crate::HopSlotMap;
-use crate::links::{Slot, fill_back, links_at};
+use crate::blocks::fill_back;
+use crate::links::{Slot, back_of, next_of};
 use slotmap_core::errors::{InsertError, InsertWithError, ReserveError, TryInsertError};
 use slotmap_core::keys::{Key, KeyData};
 use slotmap_core::limits::MOST_KEYS;
@@ -19,8 +20,8 @@ impl<K: Key, V: Drop> HopSlotMap<K, V> {
         ensures { result ≡ self.now.content.offer }
     {
         if self.vacant_count > 0 {
-            let front = links_at(self.slots.as_slice(), 0).next;
-            let back = links_at(self.slots.as_slice(), front).other_end;
+            let front = next_of(self.slots.as_slice(), 0);
+            let back = back_of(self.slots.as_slice(), front);
             return KeyData::exact(back, self.slots[back as usize].version() + 1);
         }
         KeyData::exact(self.slots.len() as u32, 1)
@@ -81,12 +82,11 @@ impl<K: Key, V: Drop> HopSlotMap<K, V> {
             return key;
         }
         self.vacant_count -= 1;
-        let front = links_at(self.slots.as_slice(), 0).next;
-        let block = links_at(self.slots.as_slice(), front);
-        let last = block.other_end;
-        let version = self.slots[last as usize].version() + 1;
-        fill_back(self.slots.as_mut_slice(), front, block, version, value);
-        KeyData::exact(last, version)
+        let front = next_of(self.slots.as_slice(), 0);
+        let back = back_of(self.slots.as_slice(), front);
+        let version = self.slots[back as usize].version() + 1;
+        fill_back(self.slots.as_mut_slice(), front, back, version, value);
+        KeyData::exact(back, version)
     }
 
     /// Inserts a value and returns its new key.

@@ -4,10 +4,11 @@ ghost use Rattle.std.specs.Prelude.{◌≡◌, ◌≤◌, length, Some, IfSome, 
 ghost use Rattle.slotmap_core.specs.Words.{YieldsFirstBy, item_count, at_most, UpTo, ClonesEqual, AreClones, ListsByIndex};
 
 use crate::HopSlotMap;
+use crate::blocks::retire;
 use crate::clone::clone_slots;
 use crate::counted::CountedSlots;
 use crate::iter::{fmt_remaining, next_live};
-use crate::links::{Slot, links_at, retire};
+use crate::links::{Slot, back_of};
 use slotmap_core::keys::{Key, KeyData};
 use std::alloc::AllocError;
 use std::fmt;
@@ -158,10 +159,10 @@ impl<K: Key, V: Drop> IntoIterator for HopSlotMap<K, V> {
             live_count,
             keys: _,
         } = self;
-        let sentinel = links_at(slots.as_slice(), 0);
+        let back = back_of(slots.as_slice(), 0);
         IntoIter {
             slots,
-            place: sentinel.other_end as usize + 1,
+            place: back as usize + 1,
             left: live_count as usize,
             keys: PhantomData,
         }

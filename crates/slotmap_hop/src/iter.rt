@@ -8,7 +8,7 @@ ghost use Rattle.slotmap_hop.specs.Iter.{pairs_left, CanGoOn, FindsSlot, StepsOn
 
 use crate::HopSlotMap;
 use crate::counted::CountedSlots;
-use crate::links::{Slot, links_at};
+use crate::links::{Slot, back_of};
 use slotmap_core::keys::{Key, KeyData};
 use slotmap_core::sure::rule_out;
 use std::alloc::AllocError;
@@ -65,8 +65,8 @@ pub(crate) fn next_live<'a, V>(
         if slot.is_live() {
             return (place, slot);
         }
-        // A vacant slot is the front of a block here. A retired one names slot 0.
-        place = place.max(slot.other_end() as usize) + 1;
+        // A vacant slot is the front of a block here.
+        place = slot.hop(place) + 1;
     }
     rule_out(true);
     unreachable!()
@@ -408,10 +408,10 @@ impl<K: Key, V> HopSlotMap<K, V> {
         ensures reads { result.reads ≡ 0 }
         ensures valid { IsHopContent self.now }
     {
-        let sentinel = links_at(self.slots.as_slice(), 0);
+        let back = back_of(self.slots.as_slice(), 0);
         Iter {
             counted: CountedSlots::new(self.slots.as_slice()),
-            place: sentinel.other_end as usize + 1,
+            place: back as usize + 1,
             left: self.live_count as usize,
             keys: PhantomData,
         }

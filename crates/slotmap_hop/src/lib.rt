@@ -27,6 +27,7 @@ ghost use Rattle.slotmap_core.specs.Words.{used, most, IsNew, RefusesCapacity};
 ghost use Rattle.slotmap_hop.specs.HopContent.{IsHopContent, MakesHopRoom, NoBlocks};
 
 mod access;
+mod blocks;
 mod clear;
 mod clone;
 mod counted;

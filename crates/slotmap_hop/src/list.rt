@@ -9,7 +9,8 @@ ghost use Rattle.slotmap_hop.specs.Slots.{version_in, value_in, read_slot};
 ghost use Rattle.std.specs.FinMap as map;
 
 use crate::HopSlotMap;
-use crate::links::{Slot, open_slot, sentinel, used_up_slot};
+use crate::blocks::open_slot;
+use crate::links::{Slot, retired_slot, sentinel};
 use slotmap_core::errors::{OutOfMemory, SlotsError};
 use slotmap_core::keys::Key;
 use slotmap_core::limits::LIST_LIMIT;
@@ -43,7 +44,7 @@ fn slot_from<V>(version: u32, value: Option<V>) -> Slot<V>
 {
     match value {
         Some(value) => Slot::Occupied(version, value),
-        None => used_up_slot(version),
+        None => retired_slot(version),
     }
 }
 

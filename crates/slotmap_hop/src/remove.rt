@@ -6,7 +6,7 @@ ghost use Rattle.slotmap_core.specs.Words.{IsLive, Removes};
 ghost use Rattle.slotmap_hop.specs.HopContent.{StaysHop, blocks_without};
 
 use crate::HopSlotMap;
-use crate::links::{free_slot, retire};
+use crate::blocks::{free_slot, retire};
 use slotmap_core::keys::Key;
 
 impl<K: Key, V: Drop> HopSlotMap<K, V> {

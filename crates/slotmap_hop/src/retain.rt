@@ -29,8 +29,8 @@ fn find_live<'a, V>(counted: &mut CountedSlots<'a, V>, start: u32) -> Option<(u3
         if slot.is_live() {
             return Some((place, slot));
         }
-        // A vacant slot is the front of a block here. A retired one names slot 0.
-        place = place.max(slot.other_end()) + 1;
+        // A vacant slot is the front of a block here.
+        place = slot.hop(place as usize) as u32 + 1;
     }
     None
 }

@@ -1,14 +1,11 @@
 use Rattle.std.proofs.Common.{◌≡◌, ◌+◌, ap, sym, ◌∙◌, arith}
 use Rattle.slotmap_core.proofs.Common.{key}
-use Rattle.slotmap_hop.specs.Links.{fronts_of}
 use Rattle.slotmap_hop.specs.Slots.{all_links, next_place}
 use Rattle.slotmap_hop.proofs.SlotLemmas.{valid}
 use Rattle.slotmap_hop.proofs.Growth.{some_offered, sound-pushed, blocks-pushed, inserts-pushed}
-use Rattle.slotmap_hop.proofs.Circle.{next_vacant}
-use Rattle.slotmap_hop.proofs.Taking.{read_back}
-use Rattle.slotmap_hop.proofs.Vacating.{zero_in_circle}
+use Rattle.slotmap_hop.proofs.Taking.{zero_leads, first_leads, read_back}
 use Rattle.slotmap_hop.proofs.SettledLemmas.{AtEnd, at_end, Filled, well_formed, back_within, back_key, offered_back, filled}
-use Rattle.slotmap_hop.proofs.HopSlotMap.fill.Goals.{Then-self-eq0, After-links_at-block, After-fill_back}
+use Rattle.slotmap_hop.proofs.HopSlotMap.fill.Goals.{Then-self-eq0, After-back_of-back, After-fill_back}
 use Rattle.slotmap_hop.proofs.HopSlotMap.fill.Goals as goal
 
 -- no slot is vacant
@@ -42,50 +39,51 @@ returns-then-self-eq0 g c =
       };
     }
 
-pub links_at-block-requires : goal.links_at-block-requires
-links_at-block-requires g c =
-    let es = all_links c.self.inside.slots.items in
-    rw (c.as_slice-2.ensures.value, c.links_at-front.ensures, c.as_slice.ensures.value) (next_vacant 0 c.self.invariant.linked.linked (zero_in_circle (fronts_of es)))
+pub next_of-front-requires : goal.next_of-front-requires
+next_of-front-requires g c = rw c.as_slice.ensures.value (zero_leads c.self.invariant.linked)
+
+pub back_of-back-requires : goal.back_of-back-requires
+back_of-back-requires g c = rw (c.as_slice-2.ensures.value, c.next_of-front.ensures, c.as_slice.ensures.value) (first_leads c.self.invariant.linked)
 
 -- the place that is filled
-back : (g : _) (c : After-links_at-block g) → c.links_at-block.result.other_end ≡ next_place c.self.inside.slots.items
-back g c = read_back _ _ _ _ _ (ap all_links c.as_slice.ensures.value) (ap all_links c.as_slice-2.ensures.value) c.links_at-front.ensures c.links_at-block.ensures
+back : (g : _) (c : After-back_of-back g) → c.back_of-back.result ≡ next_place c.self.inside.slots.items
+back g c = read_back _ _ _ (ap all_links c.as_slice.ensures.value) (ap all_links c.as_slice-2.ensures.value) c.next_of-front.ensures c.back_of-back.ensures
 
 pub index-requires : goal.index-requires
 index-requires g c =
-    let back = back g (goal.at.index-requires g c).After-links_at-block in
+    let back = back g (goal.at.index-requires g c).After-back_of-back in
     omega (arith, back_within c.self.inside c.self.view_is c.self.invariant c.if-self-eq0.false back, c.self.inside.slots.ok.0)
 
 pub exact-requires : goal.exact-requires
 exact-requires g c =
     rw c.version-version.ensures
-    (back_key c.self.inside c.self.view_is c.self.invariant c.if-self-eq0.false (back g (goal.at.exact-requires g c).After-links_at-block) c.index.ensures)
+    (back_key c.self.inside c.self.view_is c.self.invariant c.if-self-eq0.false (back g (goal.at.exact-requires g c).After-back_of-back) c.index.ensures)
 
 pub overflow_add-version : goal.overflow_add-version
 overflow_add-version g c =
-    let is_key = back_key c.self.inside c.self.view_is c.self.invariant c.if-self-eq0.false (back g (goal.at.overflow_add-version g c).After-links_at-block) c.index.ensures in
+    let is_key = back_key c.self.inside c.self.view_is c.self.invariant c.if-self-eq0.false (back g (goal.at.overflow_add-version g c).After-back_of-back) c.index.ensures in
     omega (arith, is_key.version_fits, c.version-version.ensures)
 
 pub fill_back-requires-clause-positive : goal.fill_back-requires-clause-positive
 fill_back-requires-clause-positive g c =
-    omega (arith, back g (goal.at.fill_back-requires-clause-positive g c).After-links_at-block, some_offered _ _ _ c.self.invariant c.if-self-eq0.false)
+    omega (arith, back g (goal.at.fill_back-requires-clause-positive g c).After-back_of-back, some_offered _ _ _ c.self.invariant c.if-self-eq0.false)
 
-filled_back : (g : _) (c : After-fill_back g) (is : c.links_at-block.result.other_end ≡ next_place c.self.inside.slots.items)
+filled_back : (g : _) (c : After-fill_back g) (is : c.back_of-back.result ≡ next_place c.self.inside.slots.items)
     → Filled c.self.inside c.self.view_is c.self.invariant c.if-self-eq0.false is c.index.ensures c.args.value c.fill_back.new.slots
 filled_back g c is =
     filled c.self.inside c.self.view_is c.self.invariant c.if-self-eq0.false is c.index.ensures c.args.value c.as_mut_slice.result.now c.fill_back.new.slots
     c.as_mut_slice.ensures.value c.requires c.fill_back.ensures.list (rw c.version-version.ensures at c.fill_back.ensures.places)
 
 pub invariant_of-self-2 : goal.invariant_of-self-2
-invariant_of-self-2 g c = let at = goal.at.invariant_of-self-2 g c in (filled_back g at.After-fill_back (back g at.After-links_at-block)).sound_after
+invariant_of-self-2 g c = let at = goal.at.invariant_of-self-2 g c in (filled_back g at.After-fill_back (back g at.After-back_of-back)).sound_after
 
 pub returns-clause-value : goal.returns-clause-value
 returns-clause-value g c =
-    c.exact.ensures ∙ ap (λ v. key c.links_at-block.result.other_end (v + 1)) c.version-version.ensures
-    ∙ sym (offered_back c.self.inside c.self.view_is c.self.invariant c.if-self-eq0.false (back g (goal.at.returns-clause-value g c).After-links_at-block) c.index.ensures)
+    c.exact.ensures ∙ ap (λ v. key c.back_of-back.result (v + 1)) c.version-version.ensures
+    ∙ sym (offered_back c.self.inside c.self.view_is c.self.invariant c.if-self-eq0.false (back g (goal.at.returns-clause-value g c).After-back_of-back) c.index.ensures)
 
 pub returns-clause-inserts : goal.returns-clause-inserts
-returns-clause-inserts g c = let at = goal.at.returns-clause-inserts g c in (filled_back g at.After-fill_back (back g at.After-links_at-block)).inserts
+returns-clause-inserts g c = let at = goal.at.returns-clause-inserts g c in (filled_back g at.After-fill_back (back g at.After-back_of-back)).inserts
 
 pub returns-clause-valid : goal.returns-clause-valid
-returns-clause-valid g c = let at = goal.at.returns-clause-valid g c in (filled_back g at.After-fill_back (back g at.After-links_at-block)).valid
+returns-clause-valid g c = let at = goal.at.returns-clause-valid g c in (filled_back g at.After-fill_back (back g at.After-back_of-back)).valid

@@ -1,4 +1,4 @@
-use Rattle.slotmap_core.proofs.Common.{IsListing, subst, sym, on_ok_weaker, listing-entries}
+use Rattle.slotmap_core.proofs.Common.{subst, sym, on_ok_weaker, IsListing, listing-entries}
 use Rattle.slotmap_hop.proofs.primary.HopSlotMapPrimary.drain_into.Goals as goal
 
 pub returns-clause-ok : goal.returns-clause-ok

@@ -1,8 +1,8 @@
 use Rattle.std.proofs.Common.{◌<◌, IsSome, length, arith, ap, sym, ◌∙◌}
-use Rattle.slotmap_hop.specs.Slots.{Free, value_at}
-use Rattle.slotmap_hop.proofs.SlotReads.{length-places, values_same, occupied_read, value_read, all_links_written, places_written}
-use Rattle.slotmap_hop.proofs.links.free_slot.Goals.{After-join-links}
-use Rattle.slotmap_hop.proofs.links.free_slot.Goals as goal
+use Rattle.slotmap_hop.specs.Slots.{value_at}
+use Rattle.slotmap_hop.proofs.SlotReads.{length-places, values_same, occupied_read, value_read, all_links_vacant, places_vacant}
+use Rattle.slotmap_hop.proofs.blocks.free_slot.Goals.{After-join-links}
+use Rattle.slotmap_hop.proofs.blocks.free_slot.Goals as goal
 
 inside : (g : _) (c : After-join-links g) → c.args.place < length c.join-links.new.slots
 inside g c = omega (arith, c.requires.can.inside, ap length c.join-links.ensures.places, length-places c.args.slots.now, length-places c.join-links.new.slots)
@@ -16,7 +16,8 @@ rule_out-requires g c =
     grind (arith, occupied_read c.join-links.new.slots c.args.place c.index-slots-place.result (inside g joined) (live g joined), c.in_default.not-Occupied)
 
 pub returns-clause-blocks : goal.returns-clause-blocks
-returns-clause-blocks g c = rw (c.replace.ensures.after, all_links_written c.join-links.new.slots c.args.place (Free c.args.version c.join-links.result)) c.join-links.ensures.blocks
+returns-clause-blocks g c =
+    rw (c.replace.ensures.after, c.linked_slot.ensures, all_links_vacant c.join-links.new.slots c.args.place c.args.version c.join-links.result) c.join-links.ensures.blocks
 
 pub returns-clause-value : goal.returns-clause-value
 returns-clause-value g c =
@@ -25,4 +26,5 @@ returns-clause-value g c =
     ∙ value_read c.join-links.new.slots c.args.place c.index-slots-place.result _ _ (inside g joined) (sym c.replace.ensures.value ∙ c.in-Occupied.is)
 
 pub returns-clause-places : goal.returns-clause-places
-returns-clause-places g c = rw (c.replace.ensures.after, ← c.join-links.ensures.places) (places_written c.join-links.new.slots c.args.place _)
+returns-clause-places g c =
+    rw (c.replace.ensures.after, c.linked_slot.ensures, ← c.join-links.ensures.places) (places_vacant c.join-links.new.slots c.args.place c.args.version c.join-links.result)

@@ -1,0 +1,8 @@
+use Rattle.slotmap_hop.proofs.SlotReads.{all_links_vacant, place_rewritten}
+use Rattle.slotmap_hop.proofs.links.set_links.Goals as goal
+
+pub returns-clause-links : goal.returns-clause-links
+returns-clause-links g c = rw c.linked_slot.ensures (all_links_vacant c.args.slots.now c.args.place c.vacant_version-version.result c.args.links)
+
+pub returns-clause-places : goal.returns-clause-places
+returns-clause-places g c = rw c.linked_slot.ensures (place_rewritten c.args.slots.now c.args.place c.vacant_version-version.result c.args.links c.vacant_version-version.ensures)

@@ -1,0 +1,249 @@
+//! The blocks that the vacant slots of a map form: how a slot joins them, and how one is taken.
+
+ghost use Rattle.std.specs.Prelude.{◌≡◌, ◌+◌, ◌-◌, ◌<◌, ◌≤◌, true, false, length, Some, None, IsSome, is_some, slice_set, slice_get};
+ghost use Rattle.slotmap_core.specs.Words.{Live as LivePlace, Vacant as VacantPlace, Retired as RetiredPlace};
+ghost use Rattle.slotmap_hop.specs.Blocks.{vacated, vacated_alone, vacated_before, vacated_after, vacated_between, shorter};
+ghost use Rattle.slotmap_hop.specs.Links.{vacant_at, has_next, has_prev, links_at, next_at, held_at, end_at, prev_at, CanVacate, HasBlockList, HasBlocks, IsHead, blocks_of};
+ghost use Rattle.slotmap_hop.specs.Links.{SetsNext, SetsPrev, Joins, LeadsTo, KeepsEnds};
+ghost use Rattle.slotmap_hop.specs.Slots.{version_in, value_in, hop_in, linked_slot, all_links, places_of, value_at, CanFree};
+
+use crate::links::{
+    Links, Slot, back_of, front_of, is_vacant, is_vacant_after, linked_slot, next_of, prev_of,
+    retired_slot, set_links, set_next, set_prev,
+};
+use slotmap_core::sure::rule_out;
+use std::mem;
+
+// Makes one block follow another in the circular list; these are their fronts.
+#[inline(always)]
+fn join_blocks<V>(slots: &mut [Slot<V>], before: u32, after: u32)
+    requires before { has_next (links_at (all_links slots.old) before) ≡ true }
+    requires after { IsHead (all_links slots.old) after }
+    ensures links { Joins (next_at (all_links slots.old)) (prev_at (all_links slots.old)) (next_at (all_links slots.new)) (prev_at (all_links slots.new)) before after }
+    ensures ends { KeepsEnds (all_links slots.old) (all_links slots.new) }
+    ensures places { places_of slots.new ≡ places_of slots.old }
+{
+    let back = back_of(slots, after);
+    set_prev(slots, back, before);
+    set_next(slots, before, after);
+}
+
+// Makes two blocks of the circular list lead to this place, which will be between them.
+#[inline(always)]
+fn lead_to<V>(slots: &mut [Slot<V>], before: u32, after: u32, place: u32)
+    requires before { has_next (links_at (all_links slots.old) before) ≡ true }
+    requires after { IsHead (all_links slots.old) after }
+    ensures links { LeadsTo (next_at (all_links slots.old)) (prev_at (all_links slots.old)) (next_at (all_links slots.new)) (prev_at (all_links slots.new)) before after place }
+    ensures ends { KeepsEnds (all_links slots.old) (all_links slots.new) }
+    ensures places { places_of slots.new ≡ places_of slots.old }
+{
+    let back = back_of(slots, after);
+    set_prev(slots, back, place);
+    set_next(slots, before, place);
+}
+
+// The next four functions make the links of vacant slots ready for one more, which isn't vacant yet:
+// as soon as it gets the links that are returned, it has joined the blocks. So a slot is written once,
+// after all others.
+
+// Neither neighbour is vacant: a new block, at the end of the list.
+#[inline(always)]
+fn start_block<V>(slots: &mut [Slot<V>], place: u32) -> Links
+    requires can { CanVacate (all_links slots.old) place }
+    requires left { vacant_at (all_links slots.old) (place - 1) ≡ false }
+    requires right { vacant_at (all_links slots.old) (place + 1) ≡ false }
+    ensures blocks { HasBlocks (slice_set (all_links slots.new) place (Some result)) (vacated_alone (blocks_of (all_links slots.old)) place) }
+    ensures places { places_of slots.new ≡ places_of slots.old }
+{
+    let back = back_of(slots, 0);
+    let last = prev_of(slots, back);
+    lead_to(slots, last, 0, place);
+    Links::Single {
+        next: 0,
+        prev: last,
+    }
+}
+
+// Only the left neighbour is vacant: its block grows to the right.
+#[inline(always)]
+fn grow_right<V: Drop>(slots: &mut [Slot<V>], place: u32) -> Links
+    requires can { CanVacate (all_links slots.old) place }
+    requires left { vacant_at (all_links slots.old) (place - 1) ≡ true }
+    requires right { vacant_at (all_links slots.old) (place + 1) ≡ false }
+    ensures blocks { HasBlocks (slice_set (all_links slots.new) place (Some result)) (vacated_after (blocks_of (all_links slots.old)) place) }
+    ensures places { places_of slots.new ≡ places_of slots.old }
+{
+    let front = front_of(slots, place - 1);
+    let prev = prev_of(slots, place - 1);
+    let next = next_of(slots, front);
+    set_links(slots, front, Links::Front { next, back: place });
+    Links::Back { front, prev }
+}
+
+// Only the right neighbour is vacant: its block grows to the left, and keeps its position in the list.
+#[inline(always)]
+fn grow_left<V: Drop>(slots: &mut [Slot<V>], place: u32) -> Links
+    requires can { CanVacate (all_links slots.old) place }
+    requires left { vacant_at (all_links slots.old) (place - 1) ≡ false }
+    requires right { vacant_at (all_links slots.old) (place + 1) ≡ true }
+    ensures blocks { HasBlocks (slice_set (all_links slots.new) place (Some result)) (vacated_before (blocks_of (all_links slots.old)) place) }
+    ensures places { places_of slots.new ≡ places_of slots.old }
+{
+    let next = next_of(slots, place + 1);
+    let back = back_of(slots, place + 1);
+    let prev = prev_of(slots, back);
+    lead_to(slots, prev, next, place);
+    set_links(slots, back, Links::Back { front: place, prev });
+    Links::Front { next, back }
+}
+
+// Both neighbours are vacant: the block to the right leaves the list, and the one to the left gets its
+// slots.
+#[inline(always)]
+fn merge<V: Drop>(slots: &mut [Slot<V>], place: u32) -> Links
+    requires can { CanVacate (all_links slots.old) place }
+    requires left { vacant_at (all_links slots.old) (place - 1) ≡ true }
+    requires right { vacant_at (all_links slots.old) (place + 1) ≡ true }
+    ensures blocks { HasBlocks (slice_set (all_links slots.new) place (Some result)) (vacated_between (blocks_of (all_links slots.old)) place) }
+    ensures places { places_of slots.new ≡ places_of slots.old }
+{
+    let after = next_of(slots, place + 1);
+    let back = back_of(slots, place + 1);
+    let before = prev_of(slots, back);
+    join_blocks(slots, before, after);
+
+    // Both links are read only now, since the two blocks may be neighbours in the list too.
+    let front = front_of(slots, place - 1);
+    let prev = prev_of(slots, place - 1);
+    let next = next_of(slots, front);
+    set_links(slots, front, Links::Front { next, back });
+    set_links(slots, back, Links::Back { front, prev });
+    Links::Single { next: 0, prev: 0 }
+}
+
+#[inline(always)]
+fn join<V: Drop>(slots: &mut [Slot<V>], place: u32) -> Links
+    requires can { CanVacate (all_links slots.old) place }
+    ensures blocks { HasBlocks (slice_set (all_links slots.new) place (Some result)) (vacated (vacant_at (all_links slots.old)) (blocks_of (all_links slots.old)) place) }
+    ensures places { places_of slots.new ≡ places_of slots.old }
+{
+    // An index of 64 bits serves for the slot and for its neighbours.
+    let index = place as usize;
+    let left = is_vacant(slots, index - 1);
+    if is_vacant_after(slots, index) {
+        if left {
+            merge(slots, place)
+        } else {
+            grow_left(slots, place)
+        }
+    } else if left {
+        grow_right(slots, place)
+    } else {
+        start_block(slots, place)
+    }
+}
+
+// Takes the value out of a live slot, and gives the slot this version. The slot joins the blocks.
+#[inline(always)]
+pub(crate) fn free_slot<V: Drop>(slots: &mut [Slot<V>], place: u32, version: u32) -> V
+    requires can { CanFree slots.old place }
+    ensures blocks { HasBlocks (all_links slots.new) (vacated (vacant_at (all_links slots.old)) (blocks_of (all_links slots.old)) place) }
+    ensures value { value_at slots.old place ≡ Some result }
+    ensures places { places_of slots.new ≡ slice_set (places_of slots.old) place (VacantPlace (version + 1)) }
+{
+    let links = join(slots, place);
+    match mem::replace(&mut slots[place as usize], linked_slot(version, links)) {
+        Slot::Occupied(_, value) => value,
+        _ => {
+            rule_out(true);
+            unreachable!()
+        }
+    }
+}
+
+// Gives this version to a slot without a value, which joins the blocks. A map is built from a list
+// by these steps.
+pub(crate) fn open_slot<V: Drop>(slots: &mut [Slot<V>], place: u32, version: u32)
+    requires can { CanVacate (all_links slots.old) place }
+    ensures blocks { HasBlocks (all_links slots.new) (vacated (vacant_at (all_links slots.old)) (blocks_of (all_links slots.old)) place) }
+    ensures places { places_of slots.new ≡ slice_set (places_of slots.old) place (VacantPlace (version + 1)) }
+{
+    let links = join(slots, place);
+    slots[place as usize] = linked_slot(version, links);
+}
+
+// Takes the value out of a live slot and retires the slot. It joins no block.
+pub(crate) fn retire<V>(slots: &mut [Slot<V>], place: u32) -> V
+    requires inside { place < length slots.old }
+    requires live { IsSome (value_at slots.old place) }
+    ensures all_links { all_links slots.new ≡ all_links slots.old }
+    ensures value { value_at slots.old place ≡ Some result }
+    ensures places { places_of slots.new ≡ slice_set (places_of slots.old) place RetiredPlace }
+{
+    match mem::replace(&mut slots[place as usize], retired_slot(0)) {
+        Slot::Occupied(_, value) => value,
+        _ => {
+            rule_out(true);
+            unreachable!()
+        }
+    }
+}
+
+// Puts a value into a slot, under this version.
+fn put<V: Drop>(slots: &mut [Slot<V>], place: u32, version: u32, value: V)
+    requires inside { place < length slots.old }
+    ensures all_links { all_links slots.new ≡ slice_set (all_links slots.old) place None }
+    ensures places { places_of slots.new ≡ slice_set (places_of slots.old) place (LivePlace version value) }
+{
+    slots[place as usize] = Slot::Occupied(version, value);
+}
+
+// Takes the back from the first block, whose front and back these are: as soon as that slot isn't
+// vacant, the blocks are right.
+#[inline(always)]
+fn drop_back<V: Drop>(slots: &mut [Slot<V>], front: u32, back: u32)
+    requires sound { HasBlockList (all_links slots.old) }
+    requires positive { 0 < back }
+    requires first { front ≡ next_at (all_links slots.old) 0 }
+    requires read { back ≡ end_at (all_links slots.old) front }
+    ensures blocks { HasBlocks (slice_set (all_links slots.new) back None) (shorter (blocks_of (all_links slots.old))) }
+    ensures places { places_of slots.new ≡ places_of slots.old }
+{
+    let next = next_of(slots, front);
+    if front == back {
+        // Slot 0 is before the first block.
+        join_blocks(slots, 0, next);
+    } else if front == back - 1 {
+        set_links(slots, front, Links::Single { next, prev: 0 });
+    } else {
+        set_links(
+            slots,
+            front,
+            Links::Front {
+                next,
+                back: back - 1,
+            },
+        );
+        set_links(slots, back - 1, Links::Back { front, prev: 0 });
+    }
+}
+
+// Puts a value into the back of the first block, under this version. These are its front and its back.
+pub(crate) fn fill_back<V: Drop>(
+    slots: &mut [Slot<V>],
+    front: u32,
+    back: u32,
+    version: u32,
+    value: V,
+)
+    requires sound { HasBlockList (all_links slots.old) }
+    requires positive { 0 < back }
+    requires first { front ≡ next_at (all_links slots.old) 0 }
+    requires read { back ≡ end_at (all_links slots.old) front }
+    ensures list { HasBlockList (all_links slots.new) }
+    ensures blocks { blocks_of (all_links slots.new) ≡ shorter (blocks_of (all_links slots.old)) }
+    ensures places { places_of slots.new ≡ slice_set (places_of slots.old) back (LivePlace version value) }
+{
+    drop_back(slots, front, back);
+    put(slots, back, version, value);
+}
