@@ -5,7 +5,7 @@ use Rattle.std.proofs.Common.{◌≡◌, ◌≢◌, ◌+◌, ◌-◌, ◌*◌, �
 use Rattle.slotmap_core.proofs.Common.{is_some, refl, sym, ap, ◌∙◌, arith, slice_get_within, get_or_from_slice_get, drop_more, drop_all, All-nil, All-cons}
 use Rattle.slotmap_core.proofs.Common.{All-push, All-weaker, All, Key, last_version, Place, Live, Detached, Vacant, Retired as RetiredPlace, live, live_entry}
 use Rattle.slotmap_core.proofs.Common.{retired_entry, gather, HasVersion, live_at, key, get-live_at}
-use Rattle.slotmap_hop.specs.Slots.{Links, Slot, value_in, links_in, hop_in, place_in, all_links, places_of}
+use Rattle.slotmap_hop.specs.Slots.{Links, Slot, value_in, links_in, back_in, place_in, all_links, places_of}
 use Rattle.slotmap_hop.specs.declared.links.Slot.TheVariants.{Occupied, Single, Front, Back, Retired}
 use Rattle.slotmap_hop.specs.Blocks.{Begins, IsBlock}
 use Rattle.slotmap_hop.specs.Links.{is_vacant, end_in, NamesApart, vacant_at, links_at, end_at}
@@ -75,10 +75,11 @@ module _ {V : Type 0} (slots : List (Slot V)) where
   stands_on i j stands front = record { vacant = stands.vacant; elems = stands.elems; sound = stands.sound; at_front = front }
 
 -- a vacant slot that names no earlier place is left at the end of its block
-hop_to_back : {V : Type 0} (place : ℕ) (s : Slot V) → is_vacant (links_in s) ≡ true → NamesApart place (links_in s) → place ≤ end_in place (links_in s) → hop_in place s ≡ end_in place (links_in s)
+hop_to_back : {V : Type 0} (place : ℕ) (s : Slot V) → is_vacant (links_in s) ≡ true → NamesApart place (links_in s) → place ≤ end_in place (links_in s)
+    → max place (back_in s) ≡ end_in place (links_in s)
 hop_to_back place (Occupied version value) vacant apart ordered = absurd (cc)
-hop_to_back place (Single version next prev) vacant apart ordered = refl
-hop_to_back place (Front version next back) vacant apart ordered = refl
+hop_to_back place (Single version next prev) vacant apart ordered = omega arith
+hop_to_back place (Front version next back) vacant apart ordered = omega arith
 hop_to_back place (Back version front prev) vacant apart ordered = absurd (omega arith)
 hop_to_back place (Retired version unused nowhere) vacant apart ordered = absurd (cc)
 
@@ -149,13 +150,13 @@ module _ {V : Type 0} (slots : List (Slot V)) (reads0 start : ℕ) where
     pub smaller : length new.slots - (back + 1) < length now.slots - place
 
   module _ {now new : Counted V} {place : ℕ} {s : Slot V} (at : Reads now place s new) where
-    way_hops : is_vacant (links_in s) ≡ true → Hops now new place (hop_in place s)
+    way_hops : is_vacant (links_in s) ≡ true → Hops now new place (max place (back_in s))
     way_hops vacant =
         let v = vacant_at (all_links slots) in
         let free : (v place ≡ true) × (links_at (all_links slots) place ≡ links_in s) = grind (arith, slot_cases slots place, at.found) in
         let back = end_at (all_links slots) place in
         let block : IsBlock v place back = block_here slots place at.way.stands free.0 in
-        let is_back : hop_in place s ≡ back = hop_to_back place s vacant (rw free.1 at (at.way.stands.sound.linked.linked.apart place)) (rw free.1 at block.ordered) ∙ ap (end_in place) (sym free.1) in
+        let is_back : max place (back_in s) ≡ back = hop_to_back place s vacant (rw free.1 at (at.way.stands.sound.linked.linked.apart place)) (rw free.1 at block.ordered) ∙ ap (end_in place) (sym free.1) in
         let past = past_block slots place back block in
         let few = at.way.few_vacant free.0 in
         let within = slot_within slots back (block.inside back block.ordered (omega arith)) in
@@ -182,11 +183,12 @@ module _ {V : Type 0} (slots : List (Slot V)) (reads0 start : ℕ) where
     here = let is = place_at slots place s at.found in (is, at.way.stands.sound.stacked.versions place _ is, λ v e. at.way.stands.sound.none_detached place v (is ∙ ap Some e))
 
     -- a retired slot is passed
-    way_passes : (version unused nowhere : ℕ) → s ≡ Retired version unused nowhere → Hops now new place place
+    way_passes : (version unused nowhere : ℕ) → s ≡ Retired version unused nowhere → Hops now new place (max place 0)
     way_passes version unused nowhere is =
         let spent : slice_get (places_of slots) place ≡ Some RetiredPlace = grind (arith, here, is) in
         let more = length-append at.way.gone (key place last_version ∷ []) in
-        record {
+        let farther : max place 0 ≡ place = omega arith in
+        rw farther (record {
           on = record {
             kept = at.kept;
             stands = stands_on slots place (place + 1) at.way.stands (λ _. begins_after (vacant_at (all_links slots)) place (place_not_vacant slots place RetiredPlace spent (λ n e. absurd (cc))));
@@ -206,12 +208,12 @@ module _ {V : Type 0} (slots : List (Slot V)) (reads0 start : ℕ) where
           };
           within = at.inside;
           smaller = rw (at.kept, at.way.kept) (omega (arith, at.inside));
-        }
+        })
 
-    pub way_on : value_in s ≡ None → Hops now new place (hop_in place s)
+    pub way_on : value_in s ≡ None → Hops now new place (max place (back_in s))
     way_on none = by s refl none
       where
-        by : (t : Slot V) → s ≡ t → value_in t ≡ None → Hops now new place (hop_in place s)
+        by : (t : Slot V) → s ≡ t → value_in t ≡ None → Hops now new place (max place (back_in s))
         by (Occupied version value) is none = absurd (cc)
         by (Single version next prev) is none = way_hops (ap (λ t. is_vacant (links_in t)) is)
         by (Front version next back) is none = way_hops (ap (λ t. is_vacant (links_in t)) is)

@@ -5,11 +5,11 @@ ghost use Rattle.slotmap_core.specs.Words.{Live as LivePlace, Vacant as VacantPl
 ghost use Rattle.slotmap_hop.specs.Blocks.{vacated, vacated_alone, vacated_before, vacated_after, vacated_between, shorter};
 ghost use Rattle.slotmap_hop.specs.Links.{vacant_at, has_next, has_prev, links_at, next_at, held_at, end_at, prev_at, CanVacate, HasBlockList, HasBlocks, IsHead, blocks_of};
 ghost use Rattle.slotmap_hop.specs.Links.{SetsNext, SetsPrev, Joins, LeadsTo, KeepsEnds};
-ghost use Rattle.slotmap_hop.specs.Slots.{version_in, value_in, hop_in, linked_slot, all_links, places_of, value_at, CanFree};
+ghost use Rattle.slotmap_hop.specs.Slots.{version_in, value_in, linked_slot, all_links, places_of, value_at, CanFree};
 
 use crate::links::{
-    Links, Slot, back_of, front_of, is_vacant, is_vacant_after, linked_slot, next_of, prev_of,
-    retired_slot, set_links, set_next, set_prev,
+    Links, Slot, back_of, front_of, is_vacant, is_vacant_after, linked_slot, name_back, name_front,
+    next_of, prev_of, retired_slot, set_links, set_next, set_prev,
 };
 use slotmap_core::sure::rule_out;
 use std::mem;
@@ -75,8 +75,7 @@ fn grow_right<V: Drop>(slots: &mut [Slot<V>], place: u32) -> Links
 {
     let front = front_of(slots, place - 1);
     let prev = prev_of(slots, place - 1);
-    let next = next_of(slots, front);
-    set_links(slots, front, Links::Front { next, back: place });
+    name_back(slots, front, place);
     Links::Back { front, prev }
 }
 
@@ -93,7 +92,7 @@ fn grow_left<V: Drop>(slots: &mut [Slot<V>], place: u32) -> Links
     let back = back_of(slots, place + 1);
     let prev = prev_of(slots, back);
     lead_to(slots, prev, next, place);
-    set_links(slots, back, Links::Back { front: place, prev });
+    name_front(slots, back, place, prev);
     Links::Front { next, back }
 }
 
@@ -112,12 +111,11 @@ fn merge<V: Drop>(slots: &mut [Slot<V>], place: u32) -> Links
     let before = prev_of(slots, back);
     join_blocks(slots, before, after);
 
-    // Both links are read only now, since the two blocks may be neighbours in the list too.
+    // The front and the link are read only now, since the two blocks may be neighbours in the list too.
     let front = front_of(slots, place - 1);
     let prev = prev_of(slots, place - 1);
-    let next = next_of(slots, front);
-    set_links(slots, front, Links::Front { next, back });
-    set_links(slots, back, Links::Back { front, prev });
+    name_back(slots, front, back);
+    name_front(slots, back, front, prev);
     Links::Single { next: 0, prev: 0 }
 }
 
@@ -209,22 +207,16 @@ fn drop_back<V: Drop>(slots: &mut [Slot<V>], front: u32, back: u32)
     ensures blocks { HasBlocks (slice_set (all_links slots.new) back None) (shorter (blocks_of (all_links slots.old))) }
     ensures places { places_of slots.new ≡ places_of slots.old }
 {
-    let next = next_of(slots, front);
     if front == back {
         // Slot 0 is before the first block.
+        let next = next_of(slots, front);
         join_blocks(slots, 0, next);
     } else if front == back - 1 {
+        let next = next_of(slots, front);
         set_links(slots, front, Links::Single { next, prev: 0 });
     } else {
-        set_links(
-            slots,
-            front,
-            Links::Front {
-                next,
-                back: back - 1,
-            },
-        );
-        set_links(slots, back - 1, Links::Back { front, prev: 0 });
+        name_back(slots, front, back - 1);
+        name_front(slots, back - 1, front, 0);
     }
 }
 

@@ -65,8 +65,9 @@ pub(crate) fn next_live<'a, V>(
         if slot.is_live() {
             return (place, slot);
         }
-        // A vacant slot is the front of a block here.
-        place = slot.hop(place) + 1;
+        // A vacant slot is the front of a block here. A block of one slot names no back, and a retired
+        // slot doesn't either.
+        place = place.max(slot.back() as usize) + 1;
     }
     rule_out(true);
     unreachable!()

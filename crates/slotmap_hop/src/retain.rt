@@ -29,8 +29,9 @@ fn find_live<'a, V>(counted: &mut CountedSlots<'a, V>, start: u32) -> Option<(u3
         if slot.is_live() {
             return Some((place, slot));
         }
-        // A vacant slot is the front of a block here.
-        place = slot.hop(place as usize) as u32 + 1;
+        // A vacant slot is the front of a block here. A block of one slot names no back, and a retired
+        // slot doesn't either.
+        place = place.max(slot.back()) + 1;
     }
     None
 }

@@ -24,11 +24,11 @@ lead_to-requires-clause-before g c = rw (prev g (goal.at.lead_to-requires-clause
 pub lead_to-requires-clause-after : goal.lead_to-requires-clause-after
 lead_to-requires-clause-after g c = rw c.next_of-next.ensures (after_head c.requires.can c.requires.right)
 
-pub set_links-requires : goal.set_links-requires
-set_links-requires g c = rw (flags_kept c.lead_to.ensures.ends) (back_ready c.requires.can c.requires.right c.back_of-back.ensures)
+pub name_front-requires : goal.name_front-requires
+name_front-requires g c = rw (flags_kept c.lead_to.ensures.ends) (back_ready c.requires.can c.requires.right c.back_of-back.ensures)
 
 pub returns-clause-blocks : goal.returns-clause-blocks
 returns-clause-blocks g c =
-    rw c.set_links.ensures.links
+    rw c.name_front.ensures.links
     (joins_before c.requires.can c.requires.right (all_links c.lead_to.new.slots) c.requires.left c.next_of-next.ensures c.back_of-back.ensures
     (prev g (goal.at.returns-clause-blocks g c).After-prev_of-prev) c.lead_to.ensures.links c.lead_to.ensures.ends)

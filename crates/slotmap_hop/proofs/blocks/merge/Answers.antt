@@ -1,4 +1,4 @@
-use Rattle.std.proofs.Common.{◌≡◌, ◌+◌, ◌-◌, true, ap, ◌∙◌}
+use Rattle.std.proofs.Common.{◌≡◌, ◌+◌, ◌-◌, true, refl, ◌∙◌}
 use Rattle.slotmap_hop.specs.Links.{vacant_at, prev_at, end_at}
 use Rattle.slotmap_hop.specs.Slots.{all_links}
 use Rattle.slotmap_hop.proofs.Writes.{ends_kept, flags_kept, leads_kept, tails_kept, vacancy_kept}
@@ -36,21 +36,18 @@ front_of-front-requires g c = rw (tails_kept c.join_blocks.ensures.ends (c.args.
 pub prev_of-prev-requires : goal.prev_of-prev-requires
 prev_of-prev-requires g c = rw (tails_kept c.join_blocks.ensures.ends (c.args.place - 1)) (left_tails c.requires.can c.requires.left)
 
-pub next_of-next-requires : goal.next_of-next-requires
-next_of-next-requires g c =
-    leads_kept c.join_blocks.ensures.ends c.front_of-front.result ∙ front_leads c.requires.can c.requires.left (front g (goal.at.next_of-next-requires g c).After-front_of-front)
+pub name_back-requires : goal.name_back-requires
+name_back-requires g c =
+    leads_kept c.join_blocks.ensures.ends c.front_of-front.result ∙ front_leads c.requires.can c.requires.left (front g (goal.at.name_back-requires g c).After-front_of-front)
 
-pub set_links-requires : goal.set_links-requires
-set_links-requires g c = front_there g (goal.at.set_links-requires g c).After-front_of-front
-
-pub set_links-requires-2 : goal.set_links-requires-2
-set_links-requires-2 g c =
-    let there = front_there g (goal.at.set_links-requires-2 g c).After-front_of-front in
-    rw (c.set_links.ensures.links, vacancy_kept _ c.front_of-front.result _ there, flags_kept c.join_blocks.ensures.ends) (back_ready c.requires.can c.requires.right c.back_of-back.ensures)
+pub name_front-requires : goal.name_front-requires
+name_front-requires g c =
+    let there = front_there g (goal.at.name_front-requires g c).After-front_of-front in
+    rw (c.name_back.ensures.links, vacancy_kept _ c.front_of-front.result _ there, flags_kept c.join_blocks.ensures.ends) (back_ready c.requires.can c.requires.right c.back_of-back.ensures)
 
 pub returns-clause-blocks : goal.returns-clause-blocks
 returns-clause-blocks g c =
-    rw (c.set_links-2.ensures.links, c.set_links.ensures.links)
+    rw (c.name_front.ensures.links, c.name_back.ensures.links)
     (joins_between c.requires.can c.requires.right (all_links c.join_blocks.new.slots) c.requires.left c.next_of-after.ensures c.back_of-back.ensures
     (before g (goal.at.returns-clause-blocks g c).After-prev_of-before) c.join_blocks.ensures.links c.join_blocks.ensures.ends
-    c.front_of-front.ensures c.prev_of-prev.ensures c.next_of-next.ensures)
+    c.front_of-front.ensures c.prev_of-prev.ensures refl)

@@ -1,7 +1,6 @@
 use Rattle.slotmap_core.proofs.Common.{length, refl, sym, ap, ◌∙◌, arith}
-use Rattle.slotmap_hop.proofs.SlotLemmas.{slots_fit}
-use Rattle.slotmap_hop.proofs.HoppingLemmas.{Reads, Hops, way_begins, way_room, way_inside, way_on, way_finds, none_here}
-use Rattle.slotmap_hop.proofs.iter.next_live.Goals.{After-read-slot, After-hop-place}
+use Rattle.slotmap_hop.proofs.HoppingLemmas.{Reads, way_begins, way_room, way_inside, way_on, way_finds, none_here}
+use Rattle.slotmap_hop.proofs.iter.next_live.Goals.{After-read-slot}
 use Rattle.slotmap_hop.proofs.iter.next_live.Goals as goal
 
 pub loop-slot-init : goal.loop-slot-init
@@ -24,21 +23,10 @@ returns-then-is_live g c =
     let finds = way_finds _ _ _ (here g (goal.at.returns-then-is_live g c).After-read-slot) (sym c.is_live.ensures ∙ c.if-is_live.true) in
     record { found = finds.0; slots = c.read-slot.ensures.slots ∙ c.loop-slot.invariant.kept; reads = finds.1 }
 
-pub hop-place-requires : goal.hop-place-requires
-hop-place-requires g c = none_here _ (sym c.is_live.ensures ∙ c.if-is_live.false)
-
-on : (g : _) (c : After-hop-place g)
-    → Reads c.args.counted.now.slots c.args.counted.now.reads c.args.start c.loop-slot.counted c.loop-slot.place c.read-slot.result.now c.read-slot.new.self
-    → Hops c.args.counted.now.slots c.args.counted.now.reads c.args.start c.loop-slot.counted c.read-slot.new.self c.loop-slot.place c.hop-place.result
-on g c here = rw c.hop-place.ensures (way_on _ _ _ here (none_here _ (sym c.is_live.ensures ∙ c.if-is_live.false)))
-
-pub overflow_add-place : goal.overflow_add-place
-overflow_add-place g c =
-    let at = goal.at.overflow_add-place g c in
-    omega (arith, (on g at.After-hop-place (here g at.After-read-slot)).within, slots_fit _ _ _ c.loop-slot.invariant.stands.sound)
-
-pub loop-slot-smaller : goal.loop-slot-smaller
-loop-slot-smaller g c = let at = goal.at.loop-slot-smaller g c in (on g at.After-hop-place (here g at.After-read-slot)).smaller
+pub back-requires : goal.back-requires
+back-requires g c = none_here _ (sym c.is_live.ensures ∙ c.if-is_live.false)
 
 pub loop-slot-preserved : goal.loop-slot-preserved
-loop-slot-preserved g c = let at = goal.at.loop-slot-preserved g c in (on g at.After-hop-place (here g at.After-read-slot)).on
+loop-slot-preserved g c =
+    let none = none_here _ (sym c.is_live.ensures ∙ c.if-is_live.false) in
+    rw (c.max-place.ensures, c.back.ensures) (way_on _ _ _ (here g (goal.at.loop-slot-preserved g c).After-read-slot) none).on
