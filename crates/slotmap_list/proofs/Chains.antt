@@ -311,6 +311,12 @@ module _ {T : Type 0} where
   pub without_absent : (nodes : Nodes T) (first last : Option Key) (xs : List (Key × T)) (k : Key) → IsChain nodes first last xs → map.get nodes k ≡ None → xs ≡ without k xs
   without_absent nodes first last xs k chain none = without_none xs k (sym (value_found nodes first last xs k chain) ∙ ap (option_map (λ n. n.value)) none)
 
+  -- a key that is taken out stands no more
+  pub absent_removed : (xs : List (Key × T)) (k : Key) → IsOnce xs → value_of k (without k xs) ≡ None
+  absent_removed [] k once = refl
+  absent_removed (x ∷ xs) k once = by_key (λ b. value_of k (cond b xs (x ∷ without k xs)) ≡ None) k x.0 (λ is. ap (λ q. value_of q xs) is ∙ once.0)
+      (λ _ apart. ap (λ b. cond b (Some x.1) (value_of k (without k xs))) apart ∙ absent_removed xs k once.1)
+
   pub stands-insert : (nodes : Nodes T) (k : Key) (node : Node T) (q : Key) → map.contains_key nodes q ≡ true → map.contains_key (map.insert nodes k node) q ≡ true
   stands-insert nodes k node q there = still_in keys_total exact_keys nodes k node q there
 

@@ -1,5 +1,4 @@
 pub mod Chains
-pub mod Cursors
 pub mod Iterated
 pub mod Looks
 pub mod Moving

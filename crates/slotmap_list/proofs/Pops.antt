@@ -11,7 +11,7 @@ use Rattle.slotmap_list.specs.Chain.{IsChain}
 use Rattle.slotmap_list.proofs.NodeLists.{snoc_view, last_or-append, value_of-append, once_apart, first_stands, last_stands}
 use Rattle.slotmap_list.proofs.Chains.{without-split}
 use Rattle.slotmap_list.proofs.Moving.{stands_here}
-use Rattle.slotmap_list.proofs.Cursors.{gone_here}
+use Rattle.slotmap_keylist.proofs.Alone.{gone_here}
 
 module _ {T : Type 0} where
   pub no_last : (xs : List (Key × T)) → last_or xs None ≡ None → xs ≡ []

@@ -10,7 +10,7 @@ use Rattle.slotmap_list.specs.Sequence.{Sequence, value_of, first_or, last_or, w
 use Rattle.slotmap_list.specs.Chain.{Nodes, follow, node_at, IsChain}
 use Rattle.slotmap_list.proofs.NodeLists.{len_written}
 use Rattle.slotmap_list.proofs.Chains.{chain_is}
-use Rattle.slotmap_list.proofs.Cursors.{alone-written}
+use Rattle.slotmap_keylist.proofs.Alone.{alone-written}
 
 -- what is lent ends as the same
 pub same_lent : {N A B : Type 0} (n : N) (f g : A → B) → ((w : A) → f w ≡ g w) → ◌≡◌ {A = (N × (A → B)) ⊎ B} (inl (n, f)) (inl (n, g))
