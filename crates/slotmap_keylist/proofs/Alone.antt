@@ -1,8 +1,8 @@
 -- A content without its values: what each change of a map does to it.
-use Rattle.std.proofs.Common.{◌≡◌, true, Option, Some, None, is_some, refl, sym, ap, ◌∙◌, arith}
+use Rattle.std.proofs.Common.{◌≡◌, ◌≤◌, true, Option, Some, None, is_some, refl, sym, ap, ◌∙◌, arith}
 use Rattle.std.specs.FinMap as map
-use Rattle.slotmap.specs.Words.{Key, key_cmp, Content, IsContent, IsLive, IsSpent, KeepsSpent, IsNew, Inserts, Removes, Keeps, keys_of, without_values, with_value, LacksRoom, used}
-use Rattle.slotmap.proofs.Callers.{keys_total, exact_keys, keys, contains-keys_of, len-keys_of, spent_alone, alone_spent, keeps_spent_alone, spent_finds_nothing, inserted_not_spent}
+use Rattle.slotmap.specs.Words.{Key, key_cmp, Content, IsContent, IsLive, IsSpent, KeepsSpent, IsNew, Inserts, Removes, Keeps, IsCopy, IsCloneBy, keys_of, without_values, with_value, LacksRoom, used}
+use Rattle.slotmap.proofs.Callers.{keys_total, exact_keys, keys, clone_live, contains-keys_of, len-keys_of, spent_alone, alone_spent, keeps_spent_alone, spent_finds_nothing, inserted_not_spent}
 
 same_units : (a b : Option (Unit {0})) → is_some a ≡ is_some b → a ≡ b
 same_units None None is = refl
@@ -86,6 +86,17 @@ module _ {V : Type 0} where
     offer = keeps.offer;
     stack = keeps.stack;
     room = keeps.room;
+  }
+
+  pub alone-copy : (is_clone : V → V → Type 0) (source copy : Content V) → IsCloneBy is_clone source copy → IsCopy (without_values source) (without_values copy)
+  alone-copy is_clone source copy clones = record {
+    live = same_keys_of copy.live (keys_of source.live) (λ q. clone_live is_clone source copy clones q ∙ sym (contains-keys_of source.live q));
+    detached = clones.detached;
+    retired = clones.retired;
+    next = clones.next;
+    offer = clones.offer;
+    stack = clones.stack;
+    room = (let same : source.room ≤ source.room = omega arith in same);
   }
 
   -- contents with the same keys have the same live keys

@@ -53,7 +53,7 @@ module _ {T : Type 0} where
   pub value_found : (nodes : Nodes T) (first last : Option Key) (xs : List (Key × T)) (k : Key) → IsChain nodes first last xs → option_map (λ node. node.value) (map.get nodes k) ≡ value_of k xs
   value_found nodes first last xs k chain = ap (option_map (λ node. node.value)) (chain.nodes_are k) ∙ value-node_at None None xs k
 
-  key_after-split : (ys : List (Key × T)) (k : Key) (v : T) (zs : List (Key × T)) → value_of k ys ≡ None → key_after k (ys ++ (k, v) ∷ zs) ≡ first_or zs None
+  pub key_after-split : (ys : List (Key × T)) (k : Key) (v : T) (zs : List (Key × T)) → value_of k ys ≡ None → key_after k (ys ++ (k, v) ∷ zs) ≡ first_or zs None
   key_after-split [] k v zs none = ap (λ b. cond b (first_or zs None) (key_after k zs)) (itself keys_total exact_keys k)
   key_after-split (y ∷ ys) k v zs none = let parts = cond_none (same k y.0) y.1 (value_of k ys) none in
       ap (λ b. cond b (first_or (ys ++ (k, v) ∷ zs) None) (key_after k (ys ++ (k, v) ∷ zs))) parts.0 ∙ key_after-split ys k v zs parts.1

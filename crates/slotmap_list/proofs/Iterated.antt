@@ -125,4 +125,3 @@ module _ {T : Type 0} where
   walk_next_is nodes (suc n) first k node more at found =
       ap (λ o. follow_key nodes o (follow nodes n)) at ∙ ap (λ o. follow_node k o (follow nodes n)) found
       ∙ ap (λ m. (k, node.value) ∷ follow nodes m node.next) (let e : n ≡ suc n - 1 = omega arith in e)
-

@@ -55,7 +55,7 @@ module _ {T : Type 0} (k : Key) (v : T) where
       by rest true false is none = ap (λ c. cond c (Some v) (value_of q xs)) is ∙ none
       by rest false false is none = ap (λ c. cond c (Some x.1) (value_of q (with_value_at k v xs))) is ∙ rest none
 
-  once-written : (xs : List (Key × T)) → IsOnce xs → IsOnce (with_value_at k v xs)
+  pub once-written : (xs : List (Key × T)) → IsOnce xs → IsOnce (with_value_at k v xs)
   once-written [] once = tt
   once-written (x ∷ xs) once = by (once-written xs once.1) (eq_by_cmp key_cmp k x.0)
     where

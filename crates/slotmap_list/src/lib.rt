@@ -41,13 +41,18 @@ use std::ops::Index;
 use thiserror::Error;
 
 mod add;
+mod clone;
 mod cursor;
+mod extend;
+mod into_iter;
 mod iter;
 mod links;
 mod moves;
+mod retain;
 mod take;
 
 pub use cursor::Cursor;
+pub use into_iter::IntoIter;
 pub use iter::Iter;
 use links::Nodes;
 
@@ -273,7 +278,7 @@ impl<K: Key, T: Drop> StableList<K, T> {
     pub fn next(&self, cursor: K) -> Option<K>
         ensures { option_map K.data_of result ≡ key_after (K.data_of cursor) self.now.elements }
     {
-        Some(outer(self.nodes.get(inner(cursor))?.next?))
+        Some(outer(self.after(inner(cursor))?))
     }
 
     /// Returns the cursor before this one, or `None` at the front and for a cursor that isn't in the
@@ -281,7 +286,22 @@ impl<K: Key, T: Drop> StableList<K, T> {
     pub fn prev(&self, cursor: K) -> Option<K>
         ensures { option_map K.data_of result ≡ key_before None (K.data_of cursor) self.now.elements }
     {
-        Some(outer(self.nodes.get(inner(cursor))?.prev?))
+        Some(outer(self.before(inner(cursor))?))
+    }
+
+    // The key after this one.
+    fn after(&self, key: DefaultKey) -> Option<DefaultKey>
+        ensures value { result ≡ key_after key self.now.elements }
+        ensures once { IsOnce self.now.elements }
+    {
+        self.nodes.get(key)?.next
+    }
+
+    // The key before this one.
+    fn before(&self, key: DefaultKey) -> Option<DefaultKey>
+        ensures { result ≡ key_before None key self.now.elements }
+    {
+        self.nodes.get(key)?.prev
     }
 
     /// Returns an iterator over the elements with their cursors, from front to back. It can be
@@ -337,3 +357,6 @@ impl<K: Key, T: Drop> Index<K> for StableList<K, T> {
         &self.nodes[inner(cursor)].value
     }
 }
+
+#[cfg(test)]
+mod tests;

@@ -25,7 +25,7 @@ impl<K: Key, T: Drop> StableList<K, T> {
     }
 
     // Removes the element of a key.
-    fn take(&mut self, cursor: DefaultKey) -> Option<T>
+    pub(crate) fn take(&mut self, cursor: DefaultKey) -> Option<T>
         ensures value { result ≡ value_of cursor self.old.elements }
         ensures removed { self.new.elements ≡ without cursor self.old.elements }
         ensures absent { value_of cursor self.new.elements ≡ None }
