@@ -7,7 +7,7 @@ ghost use Rattle.slotmap_list.specs.Sequence.{value_of};
 use slotmap_list::{Cursor, StableList};
 
 /// Returns the cursor of an element that has this value, or `None` if no element has it.
-pub fn find(list: &StableList<u64>, wanted: u64) -> Option<Cursor>
+pub fn find(list: &StableList<Cursor, u64>, wanted: u64) -> Option<Cursor>
     ensures found { IfSome result (λ cursor. value_of cursor list.now.elements ≡ Some wanted) }
     ensures none { IfNone result ((k : KeyOf) → value_of k list.now.elements ≡ Some wanted → ⊥) }
 {

@@ -53,7 +53,7 @@ module _ {T : Type 0} where
   pub value_found : (nodes : Nodes T) (first last : Option Key) (xs : List (Key × T)) (k : Key) → IsChain nodes first last xs → option_map (λ node. node.value) (map.get nodes k) ≡ value_of k xs
   value_found nodes first last xs k chain = ap (option_map (λ node. node.value)) (chain.nodes_are k) ∙ value-node_at None None xs k
 
-  key_after-split : (ys : List (Key × T)) (k : Key) (v : T) (zs : List (Key × T)) → value_of k ys ≡ None → key_after k (ys ++ (k, v) ∷ zs) ≡ first_or zs None
+  pub key_after-split : (ys : List (Key × T)) (k : Key) (v : T) (zs : List (Key × T)) → value_of k ys ≡ None → key_after k (ys ++ (k, v) ∷ zs) ≡ first_or zs None
   key_after-split [] k v zs none = ap (λ b. cond b (first_or zs None) (key_after k zs)) (itself keys_total exact_keys k)
   key_after-split (y ∷ ys) k v zs none = let parts = cond_none (same k y.0) y.1 (value_of k ys) none in
       ap (λ b. cond b (first_or (ys ++ (k, v) ∷ zs) None) (key_after k (ys ++ (k, v) ∷ zs))) parts.0 ∙ key_after-split ys k v zs parts.1
@@ -310,6 +310,12 @@ module _ {T : Type 0} where
 
   pub without_absent : (nodes : Nodes T) (first last : Option Key) (xs : List (Key × T)) (k : Key) → IsChain nodes first last xs → map.get nodes k ≡ None → xs ≡ without k xs
   without_absent nodes first last xs k chain none = without_none xs k (sym (value_found nodes first last xs k chain) ∙ ap (option_map (λ n. n.value)) none)
+
+  -- a key that is taken out stands no more
+  pub absent_removed : (xs : List (Key × T)) (k : Key) → IsOnce xs → value_of k (without k xs) ≡ None
+  absent_removed [] k once = refl
+  absent_removed (x ∷ xs) k once = by_key (λ b. value_of k (cond b xs (x ∷ without k xs)) ≡ None) k x.0 (λ is. ap (λ q. value_of q xs) is ∙ once.0)
+      (λ _ apart. ap (λ b. cond b (Some x.1) (value_of k (without k xs))) apart ∙ absent_removed xs k once.1)
 
   pub stands-insert : (nodes : Nodes T) (k : Key) (node : Node T) (q : Key) → map.contains_key nodes q ≡ true → map.contains_key (map.insert nodes k node) q ≡ true
   stands-insert nodes k node q there = still_in keys_total exact_keys nodes k node q there

@@ -4,7 +4,7 @@ use Rattle.std.specs.FinMap as map
 use Rattle.slotmap.specs.Words.{Key}
 use Rattle.slotmap_list.specs.declared.Node.{Node}
 use Rattle.slotmap_list.specs.Sequence.{first_or, last_or, IsOnce}
-use Rattle.slotmap_list.specs.Chain.{Nodes, follow_node, follow, node_at, IsChain, IsWalk}
+use Rattle.slotmap_list.specs.Chain.{Nodes, follow_node, follow_key, follow, node_at, IsChain, IsWalk}
 use Rattle.slotmap_list.proofs.NodeLists.{last_or-append, snoc_view}
 use Rattle.slotmap_list.proofs.Chains.{follow_part, node_here}
 
@@ -119,9 +119,9 @@ module _ {T : Type 0} where
       let b = back nodes left first last w k node more at found in
       walk_is nodes left first last w ∙ b.list ∙ ap (λ l. l ++ (k, node.value) ∷ []) (sym (walk_is nodes (left - 1) first node.prev b.rest ∙ b.rest_is))
 
-  pub none_left : (nodes : Nodes T) (left : ℕ) (first : Option Key) → left ≡ 0 → follow nodes left first ≡ []
-  none_left nodes left first is = ap (λ n. follow nodes n first) is
-
-  pub none_found : (nodes : Nodes T) (left : ℕ) (k : Key) → map.get nodes k ≡ None → follow nodes left (Some k) ≡ []
-  none_found nodes zero k is = refl
-  none_found nodes (suc n) k is = ap (λ o. follow_node k o (follow nodes n)) is
+  pub walk_next_is : (nodes : Nodes T) (left : ℕ) (first : Option Key) (k : Key) (node : Node T) → 0 < left → first ≡ Some k → map.get nodes k ≡ Some node
+      → follow nodes left first ≡ (k, node.value) ∷ follow nodes (left - 1) node.next
+  walk_next_is nodes zero first k node more at found = absurd (omega arith)
+  walk_next_is nodes (suc n) first k node more at found =
+      ap (λ o. follow_key nodes o (follow nodes n)) at ∙ ap (λ o. follow_node k o (follow nodes n)) found
+      ∙ ap (λ m. (k, node.value) ∷ follow nodes m node.next) (let e : n ≡ suc n - 1 = omega arith in e)

@@ -1,9 +1,11 @@
+pub mod Adding
 pub mod Chains
-pub mod Cursors
 pub mod Iterated
 pub mod Looks
+pub mod Mapped
 pub mod Moving
 pub mod NeighbourLemmas
 pub mod NodeLists
 pub mod Pops
+pub mod Retaining
 pub mod Written

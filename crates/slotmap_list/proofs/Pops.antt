@@ -1,17 +1,16 @@
 -- Elements that are taken from an end of a list, or all at once.
 use Rattle.std.proofs.Common.{◌≡◌, true, false, cond, List, [], ◌∷◌, ◌++◌, Option, Some, None, IsSome, inl, inr, refl, sym, ap, subst, ◌∙◌, arith, append-nil}
 use Rattle.std.specs.Option.{option_or}
-use Rattle.std.specs.Ordering.{eq_by_cmp}
 use Rattle.std.specs.FinMap as map
 use Rattle.slotmap.specs.Words.{Key, key_cmp, Content, IsContent, IsSpent, Leaves, without_values}
 use Rattle.slotmap.proofs.Callers.{keys_total, exact_keys, keys, itself, left_spent}
 use Rattle.slotmap_list.specs.declared.Node.{Node}
-use Rattle.slotmap_list.specs.Sequence.{value_of, first_or, last_or, without, IsOnce}
+use Rattle.slotmap_list.specs.Sequence.{value_of, last_or, without, IsOnce}
 use Rattle.slotmap_list.specs.Chain.{IsChain}
-use Rattle.slotmap_list.proofs.NodeLists.{snoc_view, last_or-append, value_of-append, once_apart, first_stands, last_stands}
+use Rattle.slotmap_list.proofs.NodeLists.{snoc_view, last_or-append, value_of-append, once_apart, last_stands}
 use Rattle.slotmap_list.proofs.Chains.{without-split}
 use Rattle.slotmap_list.proofs.Moving.{stands_here}
-use Rattle.slotmap_list.proofs.Cursors.{gone_here}
+use Rattle.slotmap_keylist.proofs.Alone.{gone_here}
 
 module _ {T : Type 0} where
   pub no_last : (xs : List (Key × T)) → last_or xs None ≡ None → xs ≡ []

@@ -10,7 +10,7 @@ use Rattle.slotmap_list.specs.Sequence.{Sequence, value_of, first_or, last_or, w
 use Rattle.slotmap_list.specs.Chain.{Nodes, follow, node_at, IsChain}
 use Rattle.slotmap_list.proofs.NodeLists.{len_written}
 use Rattle.slotmap_list.proofs.Chains.{chain_is}
-use Rattle.slotmap_list.proofs.Cursors.{alone-written}
+use Rattle.slotmap_keylist.proofs.Alone.{alone-written}
 
 -- what is lent ends as the same
 pub same_lent : {N A B : Type 0} (n : N) (f g : A → B) → ((w : A) → f w ≡ g w) → ◌≡◌ {A = (N × (A → B)) ⊎ B} (inl (n, f)) (inl (n, g))
@@ -55,7 +55,7 @@ module _ {T : Type 0} (k : Key) (v : T) where
       by rest true false is none = ap (λ c. cond c (Some v) (value_of q xs)) is ∙ none
       by rest false false is none = ap (λ c. cond c (Some x.1) (value_of q (with_value_at k v xs))) is ∙ rest none
 
-  once-written : (xs : List (Key × T)) → IsOnce xs → IsOnce (with_value_at k v xs)
+  pub once-written : (xs : List (Key × T)) → IsOnce xs → IsOnce (with_value_at k v xs)
   once-written [] once = tt
   once-written (x ∷ xs) once = by (once-written xs once.1) (eq_by_cmp key_cmp k x.0)
     where

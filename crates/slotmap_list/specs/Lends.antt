@@ -1,10 +1,14 @@
 -- What a list is once a returned `&mut` to one of its values ends.
 use Rattle.std.specs.Prelude.{Option}
-use Rattle.std.specs.Borrow.{LendsIf, Fml, RattleType, MutBor}
+use Rattle.std.specs.Borrow.{Lends, LendsIf, Fml, RattleType, MutBor}
 use Rattle.slotmap.specs.Words.{Key}
 use Rattle.slotmap_list.specs.Sequence.{Sequence, with_value_at}
 use Rattle.slotmap_list.specs.contracts.StableList.{the_row}
 
 -- once the borrow ends, the cursor has the last value written through it; at `None` nothing changes
-abbrev pub lends_element : (T : RattleType) → MutBor (Sequence T.Denot) → Key → Option (MutBor T.Denot) → Fml
-lends_element T list k r = LendsIf (the_row T) T list r (λ value. record list.now { elements = with_value_at k value list.now.elements }) list.now
+abbrev pub lends_element : (K T : RattleType) → MutBor (Sequence T.Denot) → Key → Option (MutBor T.Denot) → Fml
+lends_element K T list k r = LendsIf (the_row K T) T list r (λ value. record list.now { elements = with_value_at k value list.now.elements }) list.now
+
+-- the same of a key that stands
+abbrev pub lends_value : (K T : RattleType) → MutBor (Sequence T.Denot) → Key → MutBor T.Denot → Fml
+lends_value K T list k r = Lends (the_row K T) T list r (λ value. record list.now { elements = with_value_at k value list.now.elements })

@@ -2,4 +2,6 @@ pub mod Chain
 pub mod Lends
 pub mod Neighbours
 pub mod Refused
+pub mod Retain
 pub mod Sequence
+pub mod Several

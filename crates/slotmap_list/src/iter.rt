@@ -4,24 +4,27 @@ ghost use Rattle.std.specs.Prelude.{◌≡◌, ◌≤◌, length, Some, IfSome};
 ghost use Rattle.slotmap_list.specs.Sequence.{IsOnce};
 ghost use Rattle.std.specs.Iterator.{YieldsFirstBy, YieldsLastBy, item_count, at_most, UpTo};
 
-use crate::{Cursor, Node, StableList};
-use slotmap::SlotMap;
+use crate::StableList;
+use crate::links::Nodes;
+use slotmap::{DefaultKey, Key};
+use slotmap_keylist::outer;
 use std::iter::FusedIterator;
-use std::marker::Model;
+use std::marker::{Model, PhantomData};
 
 /// An iterator over the elements of a list, from both ends: see [`StableList::iter`].
 ///
 /// A contract sees it as the list of the elements that it will still yield, from front to back. After
 /// its end it yields nothing.
 #[derive(Drop)]
-pub struct Iter<'a, T> {
-    pub(super) nodes: &'a SlotMap<Cursor, Node<T>>,
-    pub(super) first: Option<Cursor>,
-    pub(super) last: Option<Cursor>,
+pub struct Iter<'a, K, T> {
+    pub(super) nodes: &'a Nodes<T>,
+    pub(super) first: Option<DefaultKey>,
+    pub(super) last: Option<DefaultKey>,
     pub(super) left: usize,
+    pub(super) key_type: PhantomData<K>,
 }
 
-impl<'a, T> Model for Iter<'a, T> {
+impl<'a, K, T> Model for Iter<'a, K, T> {
     ghost use Rattle.std.specs.Prelude.{List};
     ghost use Rattle.slotmap.specs.Words.{Key};
 
@@ -34,14 +37,14 @@ impl<'a, T> Model for Iter<'a, T> {
     ghost invariant = { λ it. IsWalk it.nodes.now.live it.left it.first it.last };
 }
 
-impl<'a, T: Drop> Iterator for Iter<'a, T> {
-    type Item = (Cursor, &'a T);
+impl<'a, K: Key, T: Drop> Iterator for Iter<'a, K, T> {
+    type Item = (K, &'a T);
 
-    ghost next_gives = { YieldsFirstBy (λ item. (item.0, item.1.now)) (λ rest. rest) };
+    ghost next_gives = { YieldsFirstBy (λ item. (K.data_of item.0, item.1.now)) (λ rest. rest) };
 
     ghost remaining = { item_count (λ rest. rest) };
 
-    fn next(&mut self) -> Option<(Cursor, &'a T)> {
+    fn next(&mut self) -> Option<(K, &'a T)> {
         if self.left == 0 {
             return None;
         }
@@ -49,7 +52,7 @@ impl<'a, T: Drop> Iterator for Iter<'a, T> {
         let node = self.nodes.get(cursor)?;
         self.left -= 1;
         self.first = node.next;
-        Some((cursor, &node.value))
+        Some((outer(cursor), &node.value))
     }
 
     fn size_hint(&self) -> (usize, Option<usize>)
@@ -61,10 +64,10 @@ impl<'a, T: Drop> Iterator for Iter<'a, T> {
     }
 }
 
-impl<'a, T: Drop> DoubleEndedIterator for Iter<'a, T> {
-    ghost next_back_gives = { YieldsLastBy (λ item. (item.0, item.1.now)) (λ rest. rest) };
+impl<'a, K: Key, T: Drop> DoubleEndedIterator for Iter<'a, K, T> {
+    ghost next_back_gives = { YieldsLastBy (λ item. (K.data_of item.0, item.1.now)) (λ rest. rest) };
 
-    fn next_back(&mut self) -> Option<(Cursor, &'a T)> {
+    fn next_back(&mut self) -> Option<(K, &'a T)> {
         if self.left == 0 {
             return None;
         }
@@ -72,26 +75,26 @@ impl<'a, T: Drop> DoubleEndedIterator for Iter<'a, T> {
         let node = self.nodes.get(cursor)?;
         self.left -= 1;
         self.last = node.prev;
-        Some((cursor, &node.value))
+        Some((outer(cursor), &node.value))
     }
 }
 
-impl<'a, T: Drop> ExactSizeIterator for Iter<'a, T> {
+impl<'a, K: Key, T: Drop> ExactSizeIterator for Iter<'a, K, T> {
     fn len(&self) -> usize {
         self.left
     }
 }
 
-impl<'a, T: Drop> FusedIterator for Iter<'a, T> {}
+impl<'a, K: Key, T: Drop> FusedIterator for Iter<'a, K, T> {}
 
-impl<'a, T: Drop> IntoIterator for &'a StableList<T> {
-    type Item = (Cursor, &'a T);
+impl<'a, K: Key, T: Drop> IntoIterator for &'a StableList<K, T> {
+    type Item = (K, &'a T);
 
-    type IntoIter = Iter<'a, T>;
+    type IntoIter = Iter<'a, K, T>;
 
     ghost into_iter_gives = { λ list it. (it ≡ list.now.elements) × IsOnce it };
 
-    fn into_iter(self) -> Iter<'a, T> {
+    fn into_iter(self) -> Iter<'a, K, T> {
         self.iter()
     }
 }

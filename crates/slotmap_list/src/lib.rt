@@ -26,51 +26,57 @@
 //! assert_eq!(rt; list.to_vec(alloc)?.as_slice(), [3, 2].as_slice());
 //! assert_eq!(rt; list.get(one), None);
 //! ```
-#![tactic(auto)]
+#![tactic(auto, using(slotmap::proofs::Callers::keys))]
 
-ghost use Rattle.std.specs.Prelude.{◌≡◌, ◌+◌, ◌<◌, ◌≤◌, IsOk, ◌++◌, ◌∷◌, [], Some, None, true, false, is_some, length, option_copied, if◌then◌else◌, IsTrue, ◌↔◌};
-ghost use Rattle.std.specs.Prelude.{IfOk, OnOk, IfErr, OnErr, IfSome, OnSome, IfNone, IsSome};
-ghost use Rattle.std.specs.Prelude.{map as map_list};
+ghost use Rattle.std.specs.Prelude.{◌≡◌, ◌+◌, ◌≤◌, [], Some, None, true, IsOk, IfOk, OnOk, IfErr, IfSome, IsTrue, ◌↔◌, is_some, length, option_copied, option_map, map as list_map};
 ghost use Rattle.std.specs.FinMap as map;
-ghost use Rattle.slotmap.specs.Words.{Key as KeyOf, IsLive, IsNew, IsSpent, KeepsSpent, RefusesCapacity, used};
-ghost use Rattle.slotmap_list.specs.Sequence.{value_of, first_or, last_or, key_after, key_before, put_after, put_before, without, IsGap, PutsBetween, IsOnce};
-ghost use Rattle.slotmap_list.specs.Sequence.{moved_to_front, moved_to_back, moved_after, moved_before, are_two, TakesFront, TakesBack};
-ghost use Rattle.slotmap_list.specs.Neighbours.{insert_beside};
-ghost use Rattle.slotmap_list.specs.Refused.{RefusesPlace, RefusesPush};
+ghost use Rattle.slotmap.specs.Words.{IsNew, IsSpent, Keeps, KeepsSpent, RefusesCapacity, used};
+ghost use Rattle.slotmap_list.specs.Sequence.{value_of, first_or, last_or, key_after, key_before, IsOnce};
 
-use slotmap::{ReserveError, SlotMap};
+use slotmap::{DefaultKey, Key, ReserveError, SlotMap};
+use slotmap_keylist::{inner, outer};
 use std::alloc::{AllocError, Global};
-use std::marker::Model;
+use std::marker::{Model, PhantomData};
+use std::ops::Index;
 use thiserror::Error;
 
+mod add;
+mod clone;
 mod cursor;
+mod extend;
+mod into_iter;
 mod iter;
 mod links;
 mod moves;
+mod retain;
+mod take;
 
 pub use cursor::Cursor;
+pub use into_iter::IntoIter;
 pub use iter::Iter;
-use links::{Side, add, beside, relink, same};
+use links::Nodes;
 
+// An element's value, with the keys of its neighbours.
 #[derive(Debug, Drop)]
 struct Node<T> {
     value: T,
-    prev: Option<Cursor>,
-    next: Option<Cursor>,
+    prev: Option<DefaultKey>,
+    next: Option<DefaultKey>,
 }
 
-/// A list whose elements have cursors.
+/// A list whose elements have cursors of the key type `K`.
 ///
 /// A clause sees `elements`, the list of the cursors with their values, from front to back, and
 /// `cursors`, by which it says that a cursor is never used again.
 #[derive(Debug, Drop)]
-pub struct StableList<T> {
-    nodes: SlotMap<Cursor, Node<T>>,
-    first: Option<Cursor>,
-    last: Option<Cursor>,
+pub struct StableList<K, T> {
+    nodes: Nodes<T>,
+    first: Option<DefaultKey>,
+    last: Option<DefaultKey>,
+    key_type: PhantomData<K>,
 }
 
-impl<T> Model for StableList<T> {
+impl<K, T> Model for StableList<K, T> {
     ghost use Rattle.std.specs.FinMap as map;
     ghost use Rattle.slotmap.specs.Words.{without_values};
     ghost use Rattle.slotmap_list.specs.Sequence.{Sequence, sequence_code};
@@ -111,40 +117,70 @@ pub enum PlaceError<T> {
     Memory(T),
 }
 
-impl<T: Drop> StableList<T> {
-    /// Makes an empty list.
+impl<T: Drop> StableList<Cursor, T> {
+    /// Makes an empty list, whose elements have cursors of type `Cursor`.
     ///
     /// It fails only if memory runs out.
     pub fn new(alloc: Global) -> Result<Self, ReserveError>
         ensures empty { IfOk result (λ list. list.elements ≡ []) }
+        ensures cursors { IfOk result (λ list. IsNew list.cursors) }
         ensures err { IfErr result (λ error. error ≡ ReserveError.Memory) }
     {
-        Ok(StableList {
-            nodes: SlotMap::with_key(alloc)?,
-            first: None,
-            last: None,
-        })
+        StableList::with_key(alloc)
     }
 
-    /// Makes an empty list with room for `capacity` elements.
+    /// Makes an empty list with room for `capacity` elements, whose cursors are of type `Cursor`.
     ///
     /// The next `capacity` elements are added without allocating. It fails with `TooGreat` if
     /// `capacity` is over 4294967294, and with `Memory` if memory runs out.
     ///
     /// ```
-    /// let mut list: StableList<u64> = StableList::with_capacity(alloc, 2)?;
+    /// let mut list: StableList<Cursor, u64> = StableList::with_capacity(alloc, 2)?;
     /// assert!(rt; list.is_empty());
     /// assert!(rt; list.capacity() >= 2);
     /// ```
     pub fn with_capacity(alloc: Global, capacity: usize) -> Result<Self, ReserveError>
         ensures empty { IfOk result (λ list. list.elements ≡ []) }
+        ensures cursors { IfOk result (λ list. IsNew list.cursors) }
+        ensures room { IfOk result (λ list. capacity ≤ list.cursors.room) }
+        ensures err { IfErr result (RefusesCapacity capacity) }
+    {
+        StableList::with_capacity_and_key(alloc, capacity)
+    }
+}
+
+impl<K: Key, T: Drop> StableList<K, T> {
+    /// Makes an empty list, with any type of cursors.
+    ///
+    /// It fails only if memory runs out.
+    pub fn with_key(alloc: Global) -> Result<Self, ReserveError>
+        ensures empty { IfOk result (λ list. list.elements ≡ []) }
+        ensures cursors { IfOk result (λ list. IsNew list.cursors) }
+        ensures err { IfErr result (λ error. error ≡ ReserveError.Memory) }
+    {
+        StableList::with_capacity_and_key(alloc, 0)
+    }
+
+    /// Makes an empty list with room for `capacity` elements, with any type of cursors.
+    ///
+    /// The next `capacity` elements are added without allocating. It fails with `TooGreat` if
+    /// `capacity` is over 4294967294, and with `Memory` if memory runs out.
+    ///
+    /// ```
+    /// let list: StableList<NodeKey, u64> = StableList::with_capacity_and_key(alloc, 2)?;
+    /// assert!(rt; list.capacity() >= 2);
+    /// ```
+    pub fn with_capacity_and_key(alloc: Global, capacity: usize) -> Result<Self, ReserveError>
+        ensures empty { IfOk result (λ list. list.elements ≡ []) }
+        ensures cursors { IfOk result (λ list. IsNew list.cursors) }
         ensures room { IfOk result (λ list. capacity ≤ list.cursors.room) }
         ensures err { IfErr result (RefusesCapacity capacity) }
     {
         Ok(StableList {
-            nodes: SlotMap::with_capacity_and_key(alloc, capacity)?,
+            nodes: SlotMap::with_capacity(alloc, capacity)?,
             first: None,
             last: None,
+            key_type: PhantomData,
         })
     }
 
@@ -167,8 +203,10 @@ impl<T: Drop> StableList<T> {
     pub fn reserve(&mut self, additional: usize) -> Result<(), ReserveError>
         ensures room { OnOk result (additional ≤ self.new.cursors.room) }
         ensures had_room { additional ≤ self.old.cursors.room → IsOk result }
+        ensures reuses { additional ≤ map.len self.old.cursors.next → IsOk result }
         ensures err { IfErr result (RefusesCapacity (used self.old.cursors + additional)) }
         ensures elements { self.new.elements ≡ self.old.elements }
+        ensures keeps { Keeps self.old.cursors self.new.cursors }
         ensures gone { KeepsSpent self.old.cursors self.new.cursors }
     {
         self.nodes.reserve(additional)
@@ -190,16 +228,17 @@ impl<T: Drop> StableList<T> {
     /// list.remove(one);
     /// assert!(rt; !list.contains(one));
     /// ```
-    pub fn contains(&self, cursor: Cursor) -> bool
-        ensures value { result ≡ is_some (value_of cursor self.now.elements) }
-        ensures live { result ≡ map.contains_key self.now.cursors.live cursor }
+    pub fn contains(&self, cursor: K) -> bool
+        ensures value { result ≡ is_some (value_of (K.data_of cursor) self.now.elements) }
+        ensures live { result ≡ map.contains_key self.now.cursors.live (K.data_of cursor) }
     {
-        self.nodes.contains_key(cursor)
+        self.nodes.contains_key(inner(cursor))
     }
 
-    /// Returns the number of elements.
+    /// Returns the number of elements, in constant time. No cursor stands twice.
     pub fn len(&self) -> usize
-        ensures { result ≡ length self.now.elements }
+        ensures value { result ≡ length self.now.elements }
+        ensures once { IsOnce self.now.elements }
     {
         self.nodes.len()
     }
@@ -212,220 +251,57 @@ impl<T: Drop> StableList<T> {
     }
 
     /// Returns the cursor of the element at the front, or `None` if the list is empty.
-    pub fn first(&self) -> Option<Cursor>
-        ensures { result ≡ first_or self.now.elements None }
+    pub fn first(&self) -> Option<K>
+        ensures { option_map K.data_of result ≡ first_or self.now.elements None }
     {
-        self.first
+        Some(outer(self.first?))
     }
 
     /// Returns the cursor of the element at the back, or `None` if the list is empty.
-    pub fn last(&self) -> Option<Cursor>
-        ensures { result ≡ last_or self.now.elements None }
+    pub fn last(&self) -> Option<K>
+        ensures { option_map K.data_of result ≡ last_or self.now.elements None }
     {
-        self.last
+        Some(outer(self.last?))
     }
 
     /// Returns the value of a cursor, or `None` if it isn't in the list.
-    pub fn get(&self, cursor: Cursor) -> Option<&T>
-        ensures value { option_copied result ≡ value_of cursor self.now.elements }
-        ensures gone { IsSpent self.now.cursors cursor → result ≡ None }
+    pub fn get(&self, cursor: K) -> Option<&T>
+        ensures value { option_copied result ≡ value_of (K.data_of cursor) self.now.elements }
+        ensures gone { IsSpent self.now.cursors (K.data_of cursor) → result ≡ None }
     {
-        let node = self.nodes.get(cursor)?;
+        let node = self.nodes.get(inner(cursor))?;
         Some(&node.value)
     }
 
     /// Returns the cursor after this one, or `None` at the back and for a cursor that isn't in the
     /// list.
-    pub fn next(&self, cursor: Cursor) -> Option<Cursor>
-        ensures { result ≡ key_after cursor self.now.elements }
+    pub fn next(&self, cursor: K) -> Option<K>
+        ensures { option_map K.data_of result ≡ key_after (K.data_of cursor) self.now.elements }
     {
-        self.nodes.get(cursor)?.next
+        Some(outer(self.after(inner(cursor))?))
     }
 
     /// Returns the cursor before this one, or `None` at the front and for a cursor that isn't in the
     /// list.
-    pub fn prev(&self, cursor: Cursor) -> Option<Cursor>
-        ensures { result ≡ key_before None cursor self.now.elements }
+    pub fn prev(&self, cursor: K) -> Option<K>
+        ensures { option_map K.data_of result ≡ key_before None (K.data_of cursor) self.now.elements }
     {
-        self.nodes.get(cursor)?.prev
+        Some(outer(self.before(inner(cursor))?))
     }
 
-    // Puts an element between two neighbours.
-    fn put(
-        &mut self,
-        prev: Option<Cursor>,
-        next: Option<Cursor>,
-        value: T,
-    ) -> Result<Cursor, PushError<T>>
-        requires { IsGap self.old.elements prev next }
-        ensures ok { IfOk result (λ key. PutsBetween self.old.elements prev next (key, value) self.new.elements) }
-        ensures fresh { IfOk result (λ key. value_of key self.old.elements ≡ None) }
-        ensures unspent { IfOk result (λ key. IsSpent self.old.cursors key → ⊥) }
-        ensures err { IfErr result (RefusesPush self.old.cursors value) }
-        ensures reuses { 0 < map.len self.old.cursors.next → IsOk result }
-        ensures unchanged { OnErr result (self.new.elements ≡ self.old.elements) }
-        ensures gone { KeepsSpent self.old.cursors self.new.cursors }
+    // The key after this one.
+    fn after(&self, key: DefaultKey) -> Option<DefaultKey>
+        ensures value { result ≡ key_after key self.now.elements }
+        ensures once { IsOnce self.now.elements }
     {
-        let node = Node {
-            value,
-            prev: same(&prev),
-            next: same(&next),
-        };
-        let key = add(&mut self.nodes, node)?;
-        relink(
-            &mut self.nodes,
-            &mut self.first,
-            &mut self.last,
-            prev,
-            next,
-            Some(key),
-            Some(key),
-        );
-        Ok(key)
+        self.nodes.get(key)?.next
     }
 
-    /// Adds an element at the back, and returns its cursor.
-    ///
-    /// If the call fails, the error holds the value, and the list has the same elements.
-    pub fn push_back(&mut self, value: T) -> Result<Cursor, PushError<T>>
-        ensures ok { IfOk result (λ key. self.new.elements ≡ self.old.elements ++ (key, value) ∷ []) }
-        ensures fresh { IfOk result (λ key. value_of key self.old.elements ≡ None) }
-        ensures unspent { IfOk result (λ key. IsSpent self.old.cursors key → ⊥) }
-        ensures err { IfErr result (RefusesPush self.old.cursors value) }
-        ensures reuses { 0 < map.len self.old.cursors.next → IsOk result }
-        ensures unchanged { OnErr result (self.new.elements ≡ self.old.elements) }
-        ensures gone { KeepsSpent self.old.cursors self.new.cursors }
+    // The key before this one.
+    fn before(&self, key: DefaultKey) -> Option<DefaultKey>
+        ensures { result ≡ key_before None key self.now.elements }
     {
-        let last = self.last;
-        self.put(last, None, value)
-    }
-
-    /// Adds an element at the front, and returns its cursor.
-    ///
-    /// If the call fails, the error holds the value, and the list has the same elements.
-    pub fn push_front(&mut self, value: T) -> Result<Cursor, PushError<T>>
-        ensures ok { IfOk result (λ key. self.new.elements ≡ (key, value) ∷ self.old.elements) }
-        ensures fresh { IfOk result (λ key. value_of key self.old.elements ≡ None) }
-        ensures unspent { IfOk result (λ key. IsSpent self.old.cursors key → ⊥) }
-        ensures err { IfErr result (RefusesPush self.old.cursors value) }
-        ensures reuses { 0 < map.len self.old.cursors.next → IsOk result }
-        ensures unchanged { OnErr result (self.new.elements ≡ self.old.elements) }
-        ensures gone { KeepsSpent self.old.cursors self.new.cursors }
-    {
-        let first = self.first;
-        self.put(None, first, value)
-    }
-
-    // Adds an element on this side of that of a cursor.
-    fn insert(&mut self, side: Side, cursor: Cursor, value: T) -> Result<Cursor, PlaceError<T>>
-        ensures ok { IfOk result (λ key. self.new.elements ≡ insert_beside side cursor (key, value) self.old.elements) }
-        ensures fresh { IfOk result (λ key. value_of key self.old.elements ≡ None) }
-        ensures unspent { IfOk result (λ key. IsSpent self.old.cursors key → ⊥) }
-        ensures stands { OnOk result (IsSome (value_of cursor self.old.elements)) }
-        ensures err { IfErr result (RefusesPlace self.old cursor value) }
-        ensures reuses { IsSome (value_of cursor self.old.elements) → 0 < map.len self.old.cursors.next → IsOk result }
-        ensures unchanged { OnErr result (self.new.elements ≡ self.old.elements) }
-        ensures gone { KeepsSpent self.old.cursors self.new.cursors }
-    {
-        let Some((prev, next)) = beside(&self.nodes, side, cursor) else {
-            return Err(PlaceError::Gone(value));
-        };
-        match self.put(prev, next, value) {
-            Ok(key) => Ok(key),
-            Err(PushError::Full(value)) => Err(PlaceError::Full(value)),
-            Err(PushError::Memory(value)) => Err(PlaceError::Memory(value)),
-        }
-    }
-
-    /// Adds an element after that of a cursor, and returns its cursor.
-    ///
-    /// If the call fails, the error holds the value, and the list has the same elements.
-    pub fn insert_after(&mut self, cursor: Cursor, value: T) -> Result<Cursor, PlaceError<T>>
-        ensures ok { IfOk result (λ key. self.new.elements ≡ put_after cursor (key, value) self.old.elements) }
-        ensures fresh { IfOk result (λ key. value_of key self.old.elements ≡ None) }
-        ensures unspent { IfOk result (λ key. IsSpent self.old.cursors key → ⊥) }
-        ensures stands { OnOk result (IsSome (value_of cursor self.old.elements)) }
-        ensures err { IfErr result (RefusesPlace self.old cursor value) }
-        ensures reuses { IsSome (value_of cursor self.old.elements) → 0 < map.len self.old.cursors.next → IsOk result }
-        ensures unchanged { OnErr result (self.new.elements ≡ self.old.elements) }
-        ensures gone { KeepsSpent self.old.cursors self.new.cursors }
-    {
-        self.insert(Side::After, cursor, value)
-    }
-
-    /// Adds an element before that of a cursor, and returns its cursor.
-    ///
-    /// If the call fails, the error holds the value, and the list has the same elements.
-    pub fn insert_before(&mut self, cursor: Cursor, value: T) -> Result<Cursor, PlaceError<T>>
-        ensures ok { IfOk result (λ key. self.new.elements ≡ put_before cursor (key, value) self.old.elements) }
-        ensures fresh { IfOk result (λ key. value_of key self.old.elements ≡ None) }
-        ensures unspent { IfOk result (λ key. IsSpent self.old.cursors key → ⊥) }
-        ensures stands { OnOk result (IsSome (value_of cursor self.old.elements)) }
-        ensures err { IfErr result (RefusesPlace self.old cursor value) }
-        ensures reuses { IsSome (value_of cursor self.old.elements) → 0 < map.len self.old.cursors.next → IsOk result }
-        ensures unchanged { OnErr result (self.new.elements ≡ self.old.elements) }
-        ensures gone { KeepsSpent self.old.cursors self.new.cursors }
-    {
-        self.insert(Side::Before, cursor, value)
-    }
-
-    /// Removes the element of a cursor, and returns its value, or `None` if the cursor isn't in the
-    /// list. The cursor is never used again.
-    pub fn remove(&mut self, cursor: Cursor) -> Option<T>
-        ensures value { result ≡ value_of cursor self.old.elements }
-        ensures removed { self.new.elements ≡ without cursor self.old.elements }
-        ensures for_good { OnSome result (IsSpent self.new.cursors cursor) }
-        ensures gone { KeepsSpent self.old.cursors self.new.cursors }
-        ensures stale { IfNone result (self.new ≡ self.old) }
-    {
-        let node = self.nodes.remove(cursor)?;
-        relink(
-            &mut self.nodes,
-            &mut self.first,
-            &mut self.last,
-            node.prev,
-            node.next,
-            node.next,
-            node.prev,
-        );
-        Some(node.value)
-    }
-
-    /// Removes the element at the front, and returns its cursor and its value, or `None` if the list
-    /// is empty. The cursor is never used again.
-    pub fn pop_front(&mut self) -> Option<(Cursor, T)>
-        ensures front { TakesFront self.old.elements result self.new.elements }
-        ensures for_good { IfSome result (λ element. IsSpent self.new.cursors element.0) }
-        ensures gone { KeepsSpent self.old.cursors self.new.cursors }
-        ensures empty { IfNone result (self.new ≡ self.old) }
-    {
-        let cursor = self.first?;
-        let value = self.remove(cursor)?;
-        Some((cursor, value))
-    }
-
-    /// Removes the element at the back, and returns its cursor and its value, or `None` if the list
-    /// is empty. The cursor is never used again.
-    pub fn pop_back(&mut self) -> Option<(Cursor, T)>
-        ensures back { TakesBack self.old.elements result self.new.elements }
-        ensures for_good { IfSome result (λ element. IsSpent self.new.cursors element.0) }
-        ensures gone { KeepsSpent self.old.cursors self.new.cursors }
-        ensures empty { IfNone result (self.new ≡ self.old) }
-    {
-        let cursor = self.last?;
-        let value = self.remove(cursor)?;
-        Some((cursor, value))
-    }
-
-    /// Removes all elements. Their cursors are never used again.
-    pub fn clear(&mut self)
-        ensures empty { self.new.elements ≡ [] }
-        ensures for_good { (k : KeyOf) → IsSome (value_of k self.old.elements) → IsSpent self.new.cursors k }
-        ensures gone { KeepsSpent self.old.cursors self.new.cursors }
-    {
-        self.nodes.clear();
-        self.first = None;
-        self.last = None;
+        self.nodes.get(key)?.prev
     }
 
     /// Returns an iterator over the elements with their cursors, from front to back. It can be
@@ -442,7 +318,7 @@ impl<T: Drop> StableList<T> {
     /// assert_eq!(rt; elements.next(), Some((one, &1)));
     /// assert_eq!(rt; elements.next(), None);
     /// ```
-    pub fn iter(&self) -> Iter<'_, T>
+    pub fn iter(&self) -> Iter<'_, K, T>
         ensures elements { result ≡ self.now.elements }
         ensures once { IsOnce result }
     {
@@ -451,6 +327,7 @@ impl<T: Drop> StableList<T> {
             first: self.first,
             last: self.last,
             left: self.nodes.len(),
+            key_type: PhantomData,
         }
     }
 
@@ -458,7 +335,7 @@ impl<T: Drop> StableList<T> {
     pub fn to_vec(&self, alloc: Global) -> Result<Vec<T>, AllocError>
     where
         T: Copy,
-        ensures { IfOk result (λ values. values.items ≡ map_list (λ e. e.1) self.now.elements) }
+        ensures { IfOk result (λ values. values.items ≡ list_map (λ e. e.1) self.now.elements) }
     {
         let mut values = Vec::new(alloc);
         for (_, value) in self {
@@ -467,3 +344,19 @@ impl<T: Drop> StableList<T> {
         Ok(values)
     }
 }
+
+/// `list[cursor]` is the value of a cursor. The caller proves that it is in the list.
+impl<K: Key, T: Drop> Index<K> for StableList<K, T> {
+    type Output = T;
+
+    ghost can_index = { λ list cursor. is_some (value_of (K.data_of cursor) list.elements) ≡ true };
+
+    ghost index_gives = { λ list cursor value. value_of (K.data_of cursor) list.elements ≡ Some value };
+
+    fn index(&self, cursor: K) -> &T {
+        &self.nodes[inner(cursor)].value
+    }
+}
+
+#[cfg(test)]
+mod tests;

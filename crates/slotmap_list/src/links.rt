@@ -8,8 +8,11 @@ ghost use Rattle.slotmap_list.specs.Chain.{with_link, outer, HasNeighbours, Reli
 ghost use Rattle.slotmap_list.specs.Neighbours.{gap_beside};
 ghost use Rattle.slotmap_list.specs.Refused.{RefusesPush};
 
-use crate::{Cursor, Node, PushError};
-use slotmap::{InsertError, SlotMap};
+use crate::{Node, PushError};
+use slotmap::{DefaultKey, InsertError, SlotMap};
+
+// The nodes under their keys.
+pub(crate) type Nodes<T> = SlotMap<DefaultKey, Node<T>>;
 
 // A side of a node.
 #[derive(Drop)]
@@ -20,11 +23,11 @@ pub(crate) enum Side {
 
 // Lets the link on this side of `at`, or else the list's own, lead to `to`.
 fn set_link<T: Drop>(
-    nodes: &mut SlotMap<Cursor, Node<T>>,
+    nodes: &mut Nodes<T>,
     side: Side,
-    end: &mut Option<Cursor>,
-    at: Option<Cursor>,
-    to: Option<Cursor>,
+    end: &mut Option<DefaultKey>,
+    at: Option<DefaultKey>,
+    to: Option<DefaultKey>,
 )
     requires { IfSome at (λ key. IsLive nodes.old key) }
     ensures nodes { nodes.new.live ≡ with_link side nodes.old.live at to }
@@ -42,13 +45,13 @@ fn set_link<T: Drop>(
 
 // Lets the link after `prev` lead on to `on`, and the link before `next` back to `back`.
 pub(crate) fn relink<T: Drop>(
-    nodes: &mut SlotMap<Cursor, Node<T>>,
-    first: &mut Option<Cursor>,
-    last: &mut Option<Cursor>,
-    prev: Option<Cursor>,
-    next: Option<Cursor>,
-    on: Option<Cursor>,
-    back: Option<Cursor>,
+    nodes: &mut Nodes<T>,
+    first: &mut Option<DefaultKey>,
+    last: &mut Option<DefaultKey>,
+    prev: Option<DefaultKey>,
+    next: Option<DefaultKey>,
+    on: Option<DefaultKey>,
+    back: Option<DefaultKey>,
 )
     requires prev_stands { IfSome prev (λ key. IsLive nodes.old key) }
     requires next_stands { IfSome next (λ key. IsLive nodes.old key) }
@@ -60,15 +63,13 @@ pub(crate) fn relink<T: Drop>(
 }
 
 // Adds a node, or hands its value back.
-pub(crate) fn add<T: Drop>(
-    nodes: &mut SlotMap<Cursor, Node<T>>,
-    node: Node<T>,
-) -> Result<Cursor, PushError<T>>
+pub(crate) fn add<T: Drop>(nodes: &mut Nodes<T>, node: Node<T>) -> Result<DefaultKey, PushError<T>>
     ensures ok { IfOk result (λ key. Inserts nodes.old key node nodes.new) }
     ensures fresh { IfOk result (λ key. map.get nodes.old.live key ≡ None) }
     ensures err { IfErr result (RefusesPush (without_values nodes.old) node.value) }
     ensures unchanged { OnErr result (nodes.new.live ≡ nodes.old.live) }
     ensures reuses { 0 < map.len nodes.old.next → IsOk result }
+    ensures room { 0 < nodes.old.room → IsOk result }
     ensures valid { MayGrow true nodes.old (IsErr result) nodes.new }
 {
     match nodes.insert(node) {
@@ -80,10 +81,10 @@ pub(crate) fn add<T: Drop>(
 
 // The neighbours of the place on this side of an element, or `None` if it isn't in the list.
 pub(crate) fn beside<T: Drop>(
-    nodes: &SlotMap<Cursor, Node<T>>,
+    nodes: &Nodes<T>,
     side: Side,
-    key: Cursor,
-) -> Option<(Option<Cursor>, Option<Cursor>)>
+    key: DefaultKey,
+) -> Option<(Option<DefaultKey>, Option<DefaultKey>)>
     ensures { result ≡ option_map (gap_beside side key) (map.get nodes.now.live key) }
 {
     let node = nodes.get(key)?;
@@ -95,10 +96,10 @@ pub(crate) fn beside<T: Drop>(
 
 // Links the neighbours of a node to each other. The node stays in the map.
 pub(crate) fn unlink<T: Drop>(
-    nodes: &mut SlotMap<Cursor, Node<T>>,
-    first: &mut Option<Cursor>,
-    last: &mut Option<Cursor>,
-    key: Cursor,
+    nodes: &mut Nodes<T>,
+    first: &mut Option<DefaultKey>,
+    last: &mut Option<DefaultKey>,
+    key: DefaultKey,
 )
     requires stands { IsLive nodes.old key }
     requires linked { HasNeighbours nodes.old.live key }
@@ -113,12 +114,12 @@ pub(crate) fn unlink<T: Drop>(
 
 // Links a node that stands in the map between two others.
 pub(crate) fn link<T: Drop>(
-    nodes: &mut SlotMap<Cursor, Node<T>>,
-    first: &mut Option<Cursor>,
-    last: &mut Option<Cursor>,
-    key: Cursor,
-    prev: Option<Cursor>,
-    next: Option<Cursor>,
+    nodes: &mut Nodes<T>,
+    first: &mut Option<DefaultKey>,
+    last: &mut Option<DefaultKey>,
+    key: DefaultKey,
+    prev: Option<DefaultKey>,
+    next: Option<DefaultKey>,
 )
     requires stands { IsLive nodes.old key }
     requires prev_stands { IfSome prev (λ other. IsLive nodes.old other) }
@@ -133,7 +134,7 @@ pub(crate) fn link<T: Drop>(
 }
 
 // The same link: the prover does not follow a second use of an `Option` of a key.
-pub(crate) fn same(link: &Option<Cursor>) -> Option<Cursor>
+pub(crate) fn same(link: &Option<DefaultKey>) -> Option<DefaultKey>
     ensures { result ≡ link.now }
 {
     *link

@@ -6,25 +6,26 @@ ghost use Rattle.std.specs.Option.{option_copied_mut};
 ghost use Rattle.slotmap_list.specs.Sequence.{value_of, moved_to_front, moved_to_back, moved_after, moved_before, are_two};
 ghost use Rattle.slotmap_list.specs.Neighbours.{gap_at, is_move, moved_to};
 
-use crate::links::{Side, beside, link, unlink};
-use crate::{Cursor, Node, StableList};
-use slotmap::SlotMap;
+use crate::StableList;
+use crate::links::{Nodes, Side, beside, link, unlink};
+use slotmap::{DefaultKey, Key};
+use slotmap_keylist::inner;
 
 // A place in a list: at an end, or on a side of an element.
 #[derive(Drop)]
 enum Place {
     Front,
     Back,
-    Beside(Side, Cursor),
+    Beside(Side, DefaultKey),
 }
 
 // The neighbours of a place, or `None` if it isn't there.
 fn gap<T: Drop>(
-    nodes: &SlotMap<Cursor, Node<T>>,
-    first: &Option<Cursor>,
-    last: &Option<Cursor>,
+    nodes: &Nodes<T>,
+    first: &Option<DefaultKey>,
+    last: &Option<DefaultKey>,
     place: Place,
-) -> Option<(Option<Cursor>, Option<Cursor>)>
+) -> Option<(Option<DefaultKey>, Option<DefaultKey>)>
     ensures { result ≡ gap_at nodes.now.live first.now last.now place }
 {
     match place {
@@ -34,7 +35,7 @@ fn gap<T: Drop>(
     }
 }
 
-impl<T: Drop> StableList<T> {
+impl<K: Key, T: Drop> StableList<K, T> {
     ghost use Rattle.slotmap_list.specs.Lends.{lends_element};
 
     /// Returns a mutable reference to the value of a cursor, or `None` if it isn't in the list.
@@ -49,11 +50,11 @@ impl<T: Drop> StableList<T> {
     /// }
     /// assert_eq!(rt; list.get(one), Some(&5));
     /// ```
-    pub fn get_mut(&mut self, cursor: Cursor) -> Option<&mut T>
-        ensures* writes_back { sem 𝓛 (lends_element T.row self.entry cursor result) }
-        ensures value { option_copied_mut result ≡ value_of cursor self.old.elements }
+    pub fn get_mut(&mut self, cursor: K) -> Option<&mut T>
+        ensures* writes_back { sem 𝓛 (lends_element K.row T.row self.entry (K.data_of cursor) result) }
+        ensures value { option_copied_mut result ≡ value_of (K.data_of cursor) self.old.elements }
     {
-        match self.nodes.get_mut(cursor) {
+        match self.nodes.get_mut(inner(cursor)) {
             Some(node) => Some(&mut node.value),
             None => None,
         }
@@ -62,33 +63,33 @@ impl<T: Drop> StableList<T> {
     /// Moves the element of a cursor to the front. It returns `false` if the cursor isn't in the list.
     ///
     /// Constant time. Nothing is allocated, and the element keeps its cursor.
-    pub fn move_to_front(&mut self, cursor: Cursor) -> bool
-        ensures which { result ≡ is_some (value_of cursor self.old.elements) }
-        ensures moved { self.new ≡ record self.old { elements = moved_to_front cursor self.old.elements } }
+    pub fn move_to_front(&mut self, cursor: K) -> bool
+        ensures which { result ≡ is_some (value_of (K.data_of cursor) self.old.elements) }
+        ensures moved { self.new ≡ record self.old { elements = moved_to_front (K.data_of cursor) self.old.elements } }
     {
-        self.move_to(cursor, Place::Front)
+        self.move_to(inner(cursor), Place::Front)
     }
 
     /// Moves the element of a cursor to the back. It returns `false` if the cursor isn't in the list.
     ///
     /// Constant time. Nothing is allocated, and the element keeps its cursor.
-    pub fn move_to_back(&mut self, cursor: Cursor) -> bool
-        ensures which { result ≡ is_some (value_of cursor self.old.elements) }
-        ensures moved { self.new ≡ record self.old { elements = moved_to_back cursor self.old.elements } }
+    pub fn move_to_back(&mut self, cursor: K) -> bool
+        ensures which { result ≡ is_some (value_of (K.data_of cursor) self.old.elements) }
+        ensures moved { self.new ≡ record self.old { elements = moved_to_back (K.data_of cursor) self.old.elements } }
     {
-        self.move_to(cursor, Place::Back)
+        self.move_to(inner(cursor), Place::Back)
     }
 
     /// Moves the element of a cursor to the place after another one. It returns `false`, and changes
     /// nothing, if one of the two isn't in the list, or if they are the same.
     ///
     /// Constant time. Nothing is allocated, and the element keeps its cursor.
-    pub fn move_after(&mut self, cursor: Cursor, other: Cursor) -> bool
-        ensures which { result ≡ are_two cursor other self.old.elements }
+    pub fn move_after(&mut self, cursor: K, other: K) -> bool
+        ensures which { result ≡ are_two (K.data_of cursor) (K.data_of other) self.old.elements }
         ensures moved { self.new ≡ record self.old
-            { elements = if result then moved_after cursor other self.old.elements else self.old.elements } }
+            { elements = if result then moved_after (K.data_of cursor) (K.data_of other) self.old.elements else self.old.elements } }
     {
-        self.move_to(cursor, Place::Beside(Side::After, other))
+        self.move_to(inner(cursor), Place::Beside(Side::After, inner(other)))
     }
 
     /// Moves the element of a cursor to the place before another one. It returns `false`, and changes
@@ -104,16 +105,16 @@ impl<T: Drop> StableList<T> {
     /// assert_eq!(rt; list.to_vec(alloc)?.as_slice(), [2, 1].as_slice());
     /// assert!(rt; !list.move_before(two, two));
     /// ```
-    pub fn move_before(&mut self, cursor: Cursor, other: Cursor) -> bool
-        ensures which { result ≡ are_two cursor other self.old.elements }
+    pub fn move_before(&mut self, cursor: K, other: K) -> bool
+        ensures which { result ≡ are_two (K.data_of cursor) (K.data_of other) self.old.elements }
         ensures moved { self.new ≡ record self.old
-            { elements = if result then moved_before cursor other self.old.elements else self.old.elements } }
+            { elements = if result then moved_before (K.data_of cursor) (K.data_of other) self.old.elements else self.old.elements } }
     {
-        self.move_to(cursor, Place::Beside(Side::Before, other))
+        self.move_to(inner(cursor), Place::Beside(Side::Before, inner(other)))
     }
 
     // Moves the element of a cursor to a place, if it can.
-    fn move_to(&mut self, cursor: Cursor, place: Place) -> bool
+    fn move_to(&mut self, cursor: DefaultKey, place: Place) -> bool
         ensures which { result ≡ is_move cursor place self.old.elements }
         ensures moved { self.new ≡ record self.old { elements = moved_to place cursor self.old.elements } }
     {
@@ -136,7 +137,7 @@ impl<T: Drop> StableList<T> {
     }
 
     // Whether the element of a cursor is in the list, and can move to a place.
-    fn can_move(&self, cursor: Cursor, place: &Place) -> bool
+    fn can_move(&self, cursor: DefaultKey, place: &Place) -> bool
         ensures { result ≡ is_move cursor place.now self.now.elements }
     {
         match place {
@@ -147,7 +148,7 @@ impl<T: Drop> StableList<T> {
     }
 
     // Whether both cursors are in the list, and are two.
-    fn has_two(&self, cursor: Cursor, other: Cursor) -> bool
+    fn has_two(&self, cursor: DefaultKey, other: DefaultKey) -> bool
         ensures { result ≡ are_two cursor other self.now.elements }
     {
         if cursor == other {

@@ -1,3 +1,4 @@
+pub mod AboveLemmas
 pub mod Climbs
 pub mod Families
 pub mod Lasts

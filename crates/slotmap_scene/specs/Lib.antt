@@ -1,3 +1,4 @@
+pub mod Above
 pub mod Climb
 pub mod Family
 pub mod Lends

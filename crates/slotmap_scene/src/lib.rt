@@ -46,6 +46,7 @@ ghost use Rattle.slotmap_scene.specs.Family.{children_of, is_parent, value_of};
 
 use crate::children::Children;
 use crate::links::Nodes;
+pub use above::{Ancestors, Roots};
 pub use iter::ChildKeys;
 use slotmap::{DefaultKey, InsertError, Key, ReserveError, SlotMap};
 use slotmap_keylist::{inner, outer};
@@ -53,6 +54,7 @@ use std::alloc::Global;
 use std::marker::{Model, PhantomData};
 use thiserror::Error;
 
+mod above;
 mod children;
 mod climb;
 mod iter;

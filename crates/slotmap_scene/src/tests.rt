@@ -53,3 +53,13 @@ fn removals(rt: HostRuntime) -> Result<(), Fail> {
     assert_eq!(rt; scene.len(), 0);
     Ok(())
 }
+
+#[test]
+fn goes_up(rt: HostRuntime) -> Result<(), Fail> {
+    let (scene, top, first, _) = family(rt.alloc())?;
+    assert_eq!(rt; scene.roots().next(), Some(top));
+    let mut above = scene.ancestors(first);
+    assert_eq!(rt; above.next(), Some(top));
+    assert_eq!(rt; above.next(), None);
+    Ok(())
+}

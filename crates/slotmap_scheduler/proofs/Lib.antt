@@ -3,10 +3,12 @@ pub mod Handles
 pub mod HeapPlaces
 pub mod HeapWritten
 pub mod Heaps
+pub mod Listing
 pub mod Lookups
 pub mod Moves
 pub mod Order
 pub mod Results
 pub mod Schedules
 pub mod Seen
+pub mod Taking
 pub mod Turns

@@ -1,3 +1,4 @@
 pub mod Heap
 pub mod Lends
+pub mod Listed
 pub mod Schedule

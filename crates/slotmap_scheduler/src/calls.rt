@@ -5,10 +5,12 @@ ghost use Rattle.std.specs.List.{All};
 ghost use Rattle.std.specs.FinMap as map;
 ghost use Rattle.slotmap.specs.Words.{Key as KeyOf, Inserts, Removes, Keeps, IsSpent, KeepsSpent, RefusesCapacity, used, most};
 ghost use Rattle.slotmap_scheduler.specs.Schedule.{job_of, in_turn, without, last_turn, RefusesJob, RefusesMove};
+ghost use Rattle.slotmap_scheduler.specs.Listed.{TakesDue};
 
 use crate::heap::{Entry, settle, take_out};
 use crate::{Job, RescheduleError, ScheduleError, Scheduler};
 use slotmap::{DefaultKey, Key, ReserveError};
+use std::alloc::AllocError;
 
 impl<K: Key, T: Drop> Scheduler<K, T> {
     /// Reserves room for `additional` more jobs.
@@ -231,6 +233,40 @@ impl<K: Key, T: Drop> Scheduler<K, T> {
         }
         let job = self.cancel(handle).unwrap();
         Some((handle, job))
+    }
+
+    /// Removes all jobs that are due at `now`, and adds them to a vector with their handles, in their
+    /// order. Their handles are never used again.
+    ///
+    /// Room for all jobs that wait is made in the vector first. So if the call fails, nothing has
+    /// changed. It takes time logarithmic in the number of jobs for each job that is due.
+    ///
+    /// ```
+    /// let mut scheduler: Scheduler<DefaultKey, &str> = Scheduler::new(alloc)?;
+    /// let tea = scheduler.schedule(30, "tea")?;
+    /// let bell = scheduler.schedule(20, "bell")?;
+    /// let mut due = Vec::new(alloc);
+    /// scheduler.pop_all_due(30, &mut due)?;
+    /// assert_eq!(rt; due.as_slice(), [(bell, "bell"), (tea, "tea")].as_slice());
+    /// ```
+    pub fn pop_all_due(&mut self, now: u64, due: &mut Vec<(K, T)>) -> Result<(), AllocError>
+        // The first jobs that wait are taken out, those that are due.
+        ensures taken { OnOk result (TakesDue K.data_of now self.old.waiting due.old.items due.new.items self.new.waiting) }
+        ensures turns { self.new.turns ≡ self.old.turns }
+
+        // What a failing call leaves.
+        ensures unchanged { OnErr result (self.new ≡ self.old) }
+        ensures same_items { OnErr result (due.new.items ≡ due.old.items) }
+
+        // What never comes again.
+        ensures for_good { (k : KeyOf) → is_some (job_of k self.old.waiting) ≡ true → job_of k self.new.waiting ≡ None → IsSpent self.new.handles k }
+        ensures stale { KeepsSpent self.old.handles self.new.handles }
+    {
+        due.reserve(self.len())?;
+        while let Some(job) = self.pop_due(now) {
+            let _ = due.push(job);
+        }
+        Ok(())
     }
 
     /// Removes all jobs. Their handles are never used again. The room stays.

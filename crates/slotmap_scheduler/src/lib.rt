@@ -34,8 +34,10 @@ ghost use Rattle.slotmap_scheduler.specs.Schedule.{job_of};
 
 mod calls;
 mod heap;
+mod iter;
 
 use heap::{Entry, Jobs};
+pub use iter::{Iter, Keys, Values};
 use slotmap::{DefaultKey, Key, ReserveError, SlotMap};
 use std::alloc::Global;
 use std::marker::{Model, PhantomData};
@@ -241,3 +243,6 @@ impl<K: Key, T: Drop> Index<K> for Scheduler<K, T> {
         &self.jobs[DefaultKey::from(handle.data())].job
     }
 }
+
+#[cfg(test)]
+mod tests;

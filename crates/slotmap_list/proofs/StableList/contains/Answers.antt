@@ -13,8 +13,8 @@ is_some_mapped f (Some x) = refl
 
 pub returns-clause-value : goal.returns-clause-value
 returns-clause-value g c =
-    rw (← (elements_are c.self.view_is)) (c.contains_key.ensures.value ∙ is_some_mapped (λ (n : Node g.row.T.Denot). n.value) (map.get c.self.inside.nodes.live c.args.cursor)
-    ∙ ap is_some (value_found _ _ _ _ c.args.cursor c.self.invariant))
+    rw (← (elements_are c.self.view_is), ← c.inner.ensures) (c.contains_key.ensures.value ∙ is_some_mapped (λ (n : Node g.row.T.Denot). n.value) (map.get c.self.inside.nodes.live c.inner.result)
+    ∙ ap is_some (value_found _ _ _ _ c.inner.result c.self.invariant))
 
 pub returns-clause-live : goal.returns-clause-live
-returns-clause-live g c = rw (← c.self.view_is) (c.contains_key.ensures.value ∙ sym (contains-keys_of c.self.inside.nodes.live c.args.cursor))
+returns-clause-live g c = rw (← c.self.view_is, ← c.inner.ensures) (c.contains_key.ensures.value ∙ sym (contains-keys_of c.self.inside.nodes.live c.inner.result))

@@ -30,3 +30,8 @@ pub returns-in_default-clause-reuses : goal.returns-in_default-clause-reuses
 returns-in_default-clause-reuses g c there vacant =
     let none = sym (beside_none _ _ _ _ c.args.side c.args.cursor c.self.invariant (sym c.in_default.ensures) ∙ ap (value_of c.args.cursor) (elements_are c.self.view_is)) in
     absurd (let t = ap is_some none in cc)
+
+pub returns-in_default-clause-room : goal.returns-in_default-clause-room
+returns-in_default-clause-room g c there room =
+    let none = sym (beside_none _ _ _ _ c.args.side c.args.cursor c.self.invariant (sym c.in_default.ensures) ∙ ap (value_of c.args.cursor) (elements_are c.self.view_is)) in
+    absurd (let t = ap is_some none in cc)

@@ -3,7 +3,7 @@ use Rattle.slotmap_list.specs.Sequence.{Sequence}
 use Rattle.slotmap_list.specs.Chain.{IsChain}
 use Rattle.slotmap_list.proofs.NodeLists.{elements_are}
 use Rattle.slotmap_list.proofs.Chains.{chain_is, self_chain}
-use Rattle.slotmap_list.proofs.Cursors.{same_live}
+use Rattle.slotmap_keylist.proofs.Alone.{same_live}
 use Rattle.slotmap_list.proofs.Moving.{stands_here, mover_stands, move_stays, neighbours, both_stand, place_gap, place_there, to_place, seen_as}
 use Rattle.slotmap_list.proofs.StableList.move_to.Goals as goal
 

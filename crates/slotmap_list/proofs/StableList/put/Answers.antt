@@ -1,11 +1,11 @@
-use Rattle.std.proofs.Common.{true, ap, sym, ◌∙◌, subst, refl, rules}
+use Rattle.std.proofs.Common.{true, is_err, ap, sym, ◌∙◌, subst, refl, rules}
 use Rattle.std.specs.Option.{option_map}
 use Rattle.slotmap_list.specs.Sequence.{value_of}
 use Rattle.slotmap_list.specs.Chain.{IsChain}
 use Rattle.slotmap_list.proofs.NodeLists.{elements_are}
 use Rattle.slotmap_list.proofs.Chains.{value_found, put_chain, added_stands, self_chain, chain_is}
 use Rattle.slotmap.proofs.Callers.{spent_insert}
-use Rattle.slotmap_list.proofs.Cursors.{gone_stays, new_not_gone}
+use Rattle.slotmap_keylist.proofs.Alone.{alone-inserts, alone-keeps, gone_stays, new_not_gone}
 use Rattle.slotmap_list.proofs.StableList.put.Goals as goal
 
 pub relink-requires-clause-prev_stands : goal.relink-requires-clause-prev_stands
@@ -54,3 +54,9 @@ returns-in_err-key-clause-gone g c = rw (← c.self.view_is) (gone_stays _ _ _ r
 
 pub returns-in_err-key-clause-err : goal.returns-in_err-key-clause-err
 returns-in_err-key-clause-err g c = rw (← c.self.view_is) (search rules)
+
+pub returns-clause-cursors : goal.returns-clause-cursors
+returns-clause-cursors g c = rw (c.relink.ensures.keys, ← c.self.view_is) (alone-inserts _ _ _ _ c.in_ok-key.ensures.ok)
+
+pub returns-in_err-key-clause-keeps : goal.returns-in_err-key-clause-keeps
+returns-in_err-key-clause-keeps g c = let kept = alone-keeps _ _ (c.add.ensures.valid.unchanged (ap is_err c.in_err-key.was)) in rw (← c.self.view_is) (search (rules, kept))

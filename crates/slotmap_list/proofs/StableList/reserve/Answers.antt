@@ -2,7 +2,7 @@ use Rattle.std.proofs.Common.{subst, sym, ap}
 use Rattle.std.specs.FinMap as map
 use Rattle.slotmap.proofs.Callers.{spent_keeps, keeps_spent_alone}
 use Rattle.slotmap_list.specs.Chain.{follow, IsChain}
-use Rattle.slotmap_list.proofs.Cursors.{used_alone}
+use Rattle.slotmap_keylist.proofs.Alone.{used_alone, alone-keeps}
 use Rattle.slotmap_list.proofs.StableList.reserve.Goals as goal
 
 pub invariant_of-self : goal.invariant_of-self
@@ -16,3 +16,6 @@ returns-clause-err g c = rw (← c.self.view_is, used_alone c.self.inside.nodes)
 
 pub returns-clause-gone : goal.returns-clause-gone
 returns-clause-gone g c = rw (← c.self.view_is) (keeps_spent_alone _ _ (spent_keeps _ _ c.reserve.ensures.makes_room.keeps))
+
+pub returns-clause-keeps : goal.returns-clause-keeps
+returns-clause-keeps g c = rw (← c.self.view_is) (alone-keeps _ _ c.reserve.ensures.makes_room.keeps)

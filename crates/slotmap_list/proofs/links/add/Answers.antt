@@ -1,6 +1,6 @@
 use Rattle.std.proofs.Common.{ap, ◌∙◌}
 use Rattle.slotmap_list.specs.declared.Node.{Node}
-use Rattle.slotmap_list.proofs.Cursors.{used_alone, lacks_alone}
+use Rattle.slotmap_keylist.proofs.Alone.{used_alone, lacks_alone}
 use Rattle.slotmap_list.proofs.links.add.Goals as goal
 
 pub returns-in-Err-Full-clause-err : goal.returns-in-Err-Full-clause-err

@@ -2,7 +2,7 @@ use Rattle.std.proofs.Common.{◌≡◌, true, is_some, ap, ◌∙◌}
 use Rattle.std.specs.FinMap as map
 use Rattle.slotmap_list.proofs.NodeLists.{if_some_so}
 use Rattle.slotmap_list.proofs.Chains.{stands-insert}
-use Rattle.slotmap_list.proofs.Cursors.{alone-written}
+use Rattle.slotmap_keylist.proofs.Alone.{alone-written}
 use Rattle.slotmap_list.proofs.links.link.Goals as goal
 
 pub relink-requires-clause-prev_stands : goal.relink-requires-clause-prev_stands

@@ -1,5 +1,5 @@
 use Rattle.std.proofs.Common.{is_some, ap}
-use Rattle.slotmap_list.proofs.Cursors.{alone-written}
+use Rattle.slotmap_keylist.proofs.Alone.{alone-written}
 use Rattle.slotmap_list.proofs.links.set_link.Goals as goal
 
 pub returns-in-Before-clause-keys : goal.returns-in-Before-clause-keys

@@ -21,10 +21,11 @@ pub invariant_of-self : goal.invariant_of-self
 invariant_of-self g c = walk_back _ _ _ _ c.self.invariant _ _ (omega (arith, c.if-self-eq0.false)) c.in_ok-cursor.was (sym (rw c.in_ok-node.was at c.get.ensures.value))
 
 pub returns-clause-steps : goal.returns-clause-steps
-returns-clause-steps g c = sym c.self.view_is ∙ walk_back_is _ _ _ _ c.self.invariant _ _ (omega (arith, c.if-self-eq0.false)) c.in_ok-cursor.was (sym (rw c.in_ok-node.was at c.get.ensures.value))
+returns-clause-steps g c =
+    rw c.outer.ensures (sym c.self.view_is ∙ walk_back_is _ _ _ _ c.self.invariant _ _ (omega (arith, c.if-self-eq0.false)) c.in_ok-cursor.was (sym (rw c.in_ok-node.was at c.get.ensures.value)))
 
 pub returns-clause-goes : goal.returns-clause-goes
 returns-clause-goes g c =
     let rest = follow c.self.inside.nodes.now.live (c.self.inside.left - 1) c.self.inside.first in
-    let long = ap length (returns-clause-steps g c) ∙ length-append rest ((c.in_ok-cursor.cursor, c.in_ok-node.node.now.value) ∷ []) in
+    let long = ap length (returns-clause-steps g c) ∙ length-append rest ((g.K.Key.data_of c.outer.result, c.in_ok-node.node.now.value) ∷ []) in
     record { on = λ _. (tt, tt, omega (arith, long)); keeps = tt; rests = λ _. tt }

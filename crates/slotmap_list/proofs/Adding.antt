@@ -1,0 +1,94 @@
+-- Many values that are added at the back.
+use Rattle.std.proofs.Common.{◌≡◌, ◌≤◌, ◌⊎◌, cond, List, [], ◌∷◌, ◌++◌, length, map as list_map, Some, IsSome, Result, Ok, Err, IsOk, IfOk, inl, inr, refl, sym, ap, subst, ◌∙◌, arith, append_assoc, append-nil}
+use Rattle.slotmap.specs.Words.{Key, Content, IsSpent, KeepsSpent, Inserts}
+use Rattle.slotmap_list.specs.Sequence.{Sequence, value_of, TakesFront}
+use Rattle.slotmap_list.specs.declared.PushError.{PushError}
+use Rattle.slotmap_list.specs.declared.PushError.TheVariants.{Full, Memory}
+use Rattle.slotmap_list.specs.Refused.{RefusesPush}
+use Rattle.slotmap_list.specs.Several.{Adds, refused}
+use Rattle.slotmap_list.proofs.NodeLists.{by_key}
+
+-- what a call ensures of its result, where it succeeds
+pub ok_so : {A E : Type 0} (r : Result A E) (P Q : A → Type 0) → IsOk r → IfOk r P → IfOk r Q → (x : A) × P x × Q x
+ok_so (Ok x) P Q ok p q = (x, p, q)
+ok_so (Err e) P Q ok p q = absurd (cc)
+
+module _ {T : Type 0} where
+  pub refused_is : (cursors : Content (Unit {0})) (v : T) (error : PushError T) → RefusesPush cursors v error → refused error ≡ v
+  refused_is cursors v (Full back) is = is.1
+  refused_is cursors v (Memory back) is = is.1
+
+  abbrev pub values : List (Key × T) → List T
+  values es = list_map (λ e. e.1) es
+
+  values-append : (xs ys : List (Key × T)) → values (xs ++ ys) ≡ values xs ++ values ys
+  values-append [] ys = refl
+  values-append (x ∷ xs) ys = ap (λ l. x.1 ∷ l) (values-append xs ys)
+
+  pub Adds-start : (es : List (Key × T)) → Adds es [] es
+  Adds-start es = record { added = []; behind = sym (append-nil es); values_are = refl }
+
+  pub Adds-push : (old mid new : List (Key × T)) (vs : List T) (k : Key) (v : T) → Adds old vs mid → new ≡ mid ++ (k, v) ∷ [] → Adds old (vs ++ v ∷ []) new
+  Adds-push old mid new vs k v adds is = record {
+    added = adds.added ++ (k, v) ∷ [];
+    behind = is ∙ ap (λ l. l ++ (k, v) ∷ []) adds.behind ∙ append_assoc old adds.added ((k, v) ∷ []);
+    values_are = values-append adds.added ((k, v) ∷ []) ∙ ap (λ l. l ++ v ∷ []) adds.values_are;
+  }
+
+  -- a list that was empty has the values
+  pub Adds-anew : (vs : List T) (new : List (Key × T)) → Adds [] vs new → values new ≡ vs
+  Adds-anew vs new adds = ap values adds.behind ∙ adds.values_are
+
+  -- some elements of another list were moved here, and the others are ahead
+  pub record Moving (old old_other now other : Sequence T) : Type 0 where
+    pub moved : List T
+    pub adds : Adds old.elements moved now.elements
+    pub ahead : moved ++ values other.elements ≡ values old_other.elements
+    pub room : length other.elements ≤ now.cursors.room
+    pub gone : KeepsSpent old.cursors now.cursors
+    pub gone_other : KeepsSpent old_other.cursors other.cursors
+    pub taken : (k : Key) → IsSome (value_of k old_other.elements) → IsSome (value_of k other.elements) ⊎ IsSpent other.cursors k
+
+  pub moving_start : (old now other : Sequence T) → now.elements ≡ old.elements → length other.elements ≤ now.cursors.room → KeepsSpent old.cursors now.cursors → Moving old other now other
+  moving_start old now other same room gone = record {
+    moved = [];
+    adds = subst (Adds old.elements []) (sym same) (Adds-start old.elements);
+    ahead = refl;
+    room = room;
+    gone = gone;
+    gone_other = λ k spent. spent;
+    taken = λ k there. inl there;
+  }
+
+  stands_or_first : (k : Key) (v : T) (es : List (Key × T)) (q : Key) → IsSome (value_of q ((k, v) ∷ es)) → IsSome (value_of q es) ⊎ (q ≡ k)
+  stands_or_first k v es q = by_key (λ b. IsSome (cond b (Some v) (value_of q es)) → IsSome (value_of q es) ⊎ (q ≡ k)) q k (λ is there. inr is) (λ _ _ there. inl there)
+
+  pub moving_step : (old old_other now other next next_other : Sequence T) (k q : Key) (v : T) → Moving old old_other now other
+      → TakesFront other.elements (Some (k, v)) next_other.elements → IsSpent next_other.cursors k → KeepsSpent other.cursors next_other.cursors
+      → next.elements ≡ now.elements ++ (q, v) ∷ [] → Inserts now.cursors q tt next.cursors → KeepsSpent now.cursors next.cursors
+      → Moving old old_other next next_other
+  moving_step old old_other now other next next_other k q v m takes spent keeps_other adds inserts keeps = record {
+    moved = m.moved ++ v ∷ [];
+    adds = Adds-push old.elements now.elements next.elements m.moved q v m.adds adds;
+    ahead = append_assoc m.moved (v ∷ []) (values next_other.elements) ∙ ap (λ l. m.moved ++ l) (sym (ap values takes)) ∙ m.ahead;
+    room = (let long = ap length takes in let more = inserts.room in let had = m.room in omega arith);
+    gone = λ u s. keeps u (m.gone u s);
+    gone_other = λ u s. keeps_other u (m.gone_other u s);
+    taken = λ u there. elim (m.taken u there) [
+      | inl here ↦ elim (stands_or_first k v next_other.elements u (subst (λ l. IsSome (value_of u l)) takes here)) [
+        | inl still ↦ inl still
+        | inr same ↦ inr (subst (IsSpent next_other.cursors) (sym same) spent)
+      ]
+      | inr gone ↦ inr (keeps_other u gone)
+    ];
+  }
+
+  pub moving_end : (old old_other now other : Sequence T) → Moving old old_other now other → other.elements ≡ [] → Adds old.elements (values old_other.elements) now.elements
+  moving_end old old_other now other m empty =
+      subst (λ vs. Adds old.elements vs now.elements) (sym (append-nil m.moved) ∙ ap (λ l. m.moved ++ values l) (sym empty) ∙ m.ahead) m.adds
+
+  pub moving_spent : (old old_other now other : Sequence T) → Moving old old_other now other → other.elements ≡ [] → (k : Key) → IsSome (value_of k old_other.elements) → IsSpent other.cursors k
+  moving_spent old old_other now other m empty k there = elim (m.taken k there) [
+    | inl here ↦ absurd (let none = ap (value_of k) empty in let some = subst (λ o. IsSome o) none here in cc)
+    | inr spent ↦ spent
+  ]

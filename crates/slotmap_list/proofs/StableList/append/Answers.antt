@@ -1,0 +1,24 @@
+use Rattle.std.proofs.Common.{◌≡◌, ◌<◌, ◌++◌, ◌∷◌, [], length, ap, arith}
+use Rattle.slotmap.specs.Words.{Inserts}
+use Rattle.slotmap_list.proofs.Adding.{ok_so, moving_start, moving_step}
+use Rattle.slotmap_list.proofs.StableList.append.Goals as goal
+
+pub loop-value-init : goal.loop-value-init
+loop-value-init g c =
+    let made = c.in_ok-reserve.ensures in
+    let room = made.room in
+    let long = c.len.ensures.value in
+    moving_start _ _ _ made.elements (omega arith) made.gone
+
+pub loop-value-preserved : goal.loop-value-preserved
+loop-value-preserved g c =
+    let m = c.loop-value.invariant in
+    let popped = c.in-Some.ensures in
+    let room : 0 < c.loop-value.self.cursors.room = (let long = ap length popped.front in let had = m.room in omega arith) in
+    let ok = c.push_back.ensures.room room in
+    let added = ok_so c.push_back.result (λ key. c.push_back.new.self.elements ≡ c.loop-value.self.elements ++ (g.K.Key.data_of key, c.in-Some.value) ∷ [])
+    (λ key. Inserts c.loop-value.self.cursors (g.K.Key.data_of key) tt c.push_back.new.self.cursors) ok c.push_back.ensures.ok c.push_back.ensures.cursors in
+    moving_step _ _ _ _ _ _ _ _ _ m popped.front popped.for_good popped.gone added.1 added.2 c.push_back.ensures.gone
+
+pub returns-clause-gone_other : goal.returns-clause-gone_other
+returns-clause-gone_other g c k spent = c.pop_front.ensures.gone k (c.loop-value.invariant.gone_other k spent)

@@ -1,0 +1,28 @@
+use Rattle.std.proofs.Common.{◌≡◌, sym, subst, rules}
+use Rattle.slotmap.specs.Words.{KeepsSpent}
+use Rattle.slotmap_list.specs.Several.{Adds, refused}
+use Rattle.slotmap_list.proofs.Adding.{Adds-push, refused_is}
+use Rattle.slotmap_list.proofs.StableList.extend.Goals as goal
+
+pub loop-value-preserved : goal.loop-value-preserved
+loop-value-preserved g c =
+    let at = c.loop-value in
+    let more = Adds-push c.args.self.now.elements at.self.elements c.push_back.new.self.elements at.yielded (g.K.Key.data_of c.in_default.field-0) c.in-Some.value at.invariant.2.adds c.in_default.ensures.ok in
+    let gone : KeepsSpent c.args.self.now.cursors c.push_back.new.self.cursors = λ k spent. c.push_back.ensures.gone k (at.invariant.2.gone k spent) in
+    search rules
+
+pub returns-in-Err-clause-extends : goal.returns-in-Err-clause-extends
+returns-in-Err-clause-extends g c =
+    let at = c.loop-value in
+    let back : refused c.in-Err.error ≡ c.in-Some.value = refused_is at.self.cursors c.in-Some.value c.in-Err.error c.in-Err.ensures.err in (
+      c.into_iter-value-iterator.result,
+      c.into_iter-value-iterator.ensures.into_iter_gives,
+      record {
+        values = at.yielded;
+        adds = subst (λ es. Adds c.args.self.now.elements at.yielded es) (sym c.in-Err.ensures.unchanged) at.invariant.2.adds;
+        ended = (c.next.new.self, rw back (search rules));
+      },
+    )
+
+pub returns-in-Err-clause-gone : goal.returns-in-Err-clause-gone
+returns-in-Err-clause-gone g c k spent = c.push_back.ensures.gone k (c.loop-value.invariant.2.gone k spent)

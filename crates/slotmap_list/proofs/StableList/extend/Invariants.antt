@@ -1,0 +1,9 @@
+use Rattle.slotmap.specs.Words.{KeepsSpent}
+use Rattle.slotmap_list.specs.Several.{Adds}
+use Rattle.slotmap_list.proofs.StableList.extend.Given as goal
+
+abbrev pub invariant-loop-value : goal.invariant-loop-value
+invariant-loop-value g l =
+    (goal.iterator-loop-value g).can_next l.value-iterator
+    × (goal.iterator-loop-value g).is_finite l.value-iterator
+    × record { adds : Adds l.fn.self.elements l.yielded l.self.elements; gone : KeepsSpent l.fn.self.cursors l.self.cursors }

@@ -1,8 +1,0 @@
-use Rattle.slotmap_list.proofs.Chains.{chain_new, chain_is, self_chain}
-use Rattle.slotmap_list.proofs.StableList.with_capacity.Goals as goal
-
-pub invariant_of-result : goal.invariant_of-result
-invariant_of-result g c = self_chain _ _ _ _ (chain_new _ c.in_ok-with_capacity_and_key.ensures.starts.live)
-
-pub returns-clause-empty : goal.returns-clause-empty
-returns-clause-empty g c = chain_is _ _ _ _ (chain_new _ c.in_ok-with_capacity_and_key.ensures.starts.live)

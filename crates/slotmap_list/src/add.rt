@@ -1,0 +1,161 @@
+//! The calls that add an element.
+
+ghost use Rattle.std.specs.Prelude.{◌≡◌, ◌<◌, ◌++◌, ◌∷◌, [], IsOk, IfOk, OnOk, IfErr, OnErr, IsSome, None};
+ghost use Rattle.std.specs.FinMap as map;
+ghost use Rattle.slotmap.specs.Words.{Inserts, IsSpent, Keeps, KeepsSpent};
+ghost use Rattle.slotmap_list.specs.Sequence.{value_of, put_after, put_before, IsGap, PutsBetween};
+ghost use Rattle.slotmap_list.specs.Neighbours.{insert_beside};
+ghost use Rattle.slotmap_list.specs.Refused.{RefusesPlace, RefusesPush};
+
+use crate::links::{Side, add, beside, relink, same};
+use crate::{Node, PlaceError, PushError, StableList};
+use slotmap::{DefaultKey, Key};
+use slotmap_keylist::{inner, outer};
+
+impl<K: Key, T: Drop> StableList<K, T> {
+    // Puts an element between two neighbours.
+    fn put(
+        &mut self,
+        prev: Option<DefaultKey>,
+        next: Option<DefaultKey>,
+        value: T,
+    ) -> Result<DefaultKey, PushError<T>>
+        requires { IsGap self.old.elements prev next }
+        ensures ok { IfOk result (λ key. PutsBetween self.old.elements prev next (key, value) self.new.elements) }
+        ensures fresh { IfOk result (λ key. value_of key self.old.elements ≡ None) }
+        ensures unspent { IfOk result (λ key. IsSpent self.old.cursors key → ⊥) }
+        ensures cursors { IfOk result (λ key. Inserts self.old.cursors key tt self.new.cursors) }
+        ensures err { IfErr result (RefusesPush self.old.cursors value) }
+        ensures reuses { 0 < map.len self.old.cursors.next → IsOk result }
+        ensures room { 0 < self.old.cursors.room → IsOk result }
+        ensures unchanged { OnErr result (self.new.elements ≡ self.old.elements) }
+        ensures keeps { OnErr result (Keeps self.old.cursors self.new.cursors) }
+        ensures gone { KeepsSpent self.old.cursors self.new.cursors }
+    {
+        let node = Node {
+            value,
+            prev: same(&prev),
+            next: same(&next),
+        };
+        let key = add(&mut self.nodes, node)?;
+        relink(
+            &mut self.nodes,
+            &mut self.first,
+            &mut self.last,
+            prev,
+            next,
+            Some(key),
+            Some(key),
+        );
+        Ok(key)
+    }
+
+    /// Adds an element at the back, and returns its cursor.
+    ///
+    /// If an element was removed or room was reserved, nothing is allocated. If the call fails, the
+    /// error holds the value, and the list has the same elements.
+    pub fn push_back(&mut self, value: T) -> Result<K, PushError<T>>
+        ensures ok { IfOk result (λ key. self.new.elements ≡ self.old.elements ++ (K.data_of key, value) ∷ []) }
+        ensures fresh { IfOk result (λ key. value_of (K.data_of key) self.old.elements ≡ None) }
+        ensures unspent { IfOk result (λ key. IsSpent self.old.cursors (K.data_of key) → ⊥) }
+        ensures cursors { IfOk result (λ key. Inserts self.old.cursors (K.data_of key) tt self.new.cursors) }
+        ensures err { IfErr result (RefusesPush self.old.cursors value) }
+        ensures reuses { 0 < map.len self.old.cursors.next → IsOk result }
+        ensures room { 0 < self.old.cursors.room → IsOk result }
+        ensures unchanged { OnErr result (self.new.elements ≡ self.old.elements) }
+        ensures keeps { OnErr result (Keeps self.old.cursors self.new.cursors) }
+        ensures gone { KeepsSpent self.old.cursors self.new.cursors }
+    {
+        let last = self.last;
+        Ok(outer(self.put(last, None, value)?))
+    }
+
+    /// Adds an element at the front, and returns its cursor.
+    ///
+    /// If an element was removed or room was reserved, nothing is allocated. If the call fails, the
+    /// error holds the value, and the list has the same elements.
+    pub fn push_front(&mut self, value: T) -> Result<K, PushError<T>>
+        ensures ok { IfOk result (λ key. self.new.elements ≡ (K.data_of key, value) ∷ self.old.elements) }
+        ensures fresh { IfOk result (λ key. value_of (K.data_of key) self.old.elements ≡ None) }
+        ensures unspent { IfOk result (λ key. IsSpent self.old.cursors (K.data_of key) → ⊥) }
+        ensures cursors { IfOk result (λ key. Inserts self.old.cursors (K.data_of key) tt self.new.cursors) }
+        ensures err { IfErr result (RefusesPush self.old.cursors value) }
+        ensures reuses { 0 < map.len self.old.cursors.next → IsOk result }
+        ensures room { 0 < self.old.cursors.room → IsOk result }
+        ensures unchanged { OnErr result (self.new.elements ≡ self.old.elements) }
+        ensures keeps { OnErr result (Keeps self.old.cursors self.new.cursors) }
+        ensures gone { KeepsSpent self.old.cursors self.new.cursors }
+    {
+        let first = self.first;
+        Ok(outer(self.put(None, first, value)?))
+    }
+
+    // Adds an element on this side of that of a cursor.
+    fn insert(
+        &mut self,
+        side: Side,
+        cursor: DefaultKey,
+        value: T,
+    ) -> Result<DefaultKey, PlaceError<T>>
+        ensures ok { IfOk result (λ key. self.new.elements ≡ insert_beside side cursor (key, value) self.old.elements) }
+        ensures fresh { IfOk result (λ key. value_of key self.old.elements ≡ None) }
+        ensures unspent { IfOk result (λ key. IsSpent self.old.cursors key → ⊥) }
+        ensures cursors { IfOk result (λ key. Inserts self.old.cursors key tt self.new.cursors) }
+        ensures stands { OnOk result (IsSome (value_of cursor self.old.elements)) }
+        ensures err { IfErr result (RefusesPlace self.old cursor value) }
+        ensures reuses { IsSome (value_of cursor self.old.elements) → 0 < map.len self.old.cursors.next → IsOk result }
+        ensures room { IsSome (value_of cursor self.old.elements) → 0 < self.old.cursors.room → IsOk result }
+        ensures unchanged { OnErr result (self.new.elements ≡ self.old.elements) }
+        ensures keeps { OnErr result (Keeps self.old.cursors self.new.cursors) }
+        ensures gone { KeepsSpent self.old.cursors self.new.cursors }
+    {
+        let Some((prev, next)) = beside(&self.nodes, side, cursor) else {
+            return Err(PlaceError::Gone(value));
+        };
+        match self.put(prev, next, value) {
+            Ok(key) => Ok(key),
+            Err(PushError::Full(value)) => Err(PlaceError::Full(value)),
+            Err(PushError::Memory(value)) => Err(PlaceError::Memory(value)),
+        }
+    }
+
+    /// Adds an element after that of a cursor, and returns its cursor.
+    ///
+    /// If an element was removed or room was reserved, nothing is allocated. If the call fails, the
+    /// error holds the value, and the list has the same elements.
+    pub fn insert_after(&mut self, cursor: K, value: T) -> Result<K, PlaceError<T>>
+        ensures ok { IfOk result (λ key. self.new.elements ≡ put_after (K.data_of cursor) (K.data_of key, value) self.old.elements) }
+        ensures fresh { IfOk result (λ key. value_of (K.data_of key) self.old.elements ≡ None) }
+        ensures unspent { IfOk result (λ key. IsSpent self.old.cursors (K.data_of key) → ⊥) }
+        ensures cursors { IfOk result (λ key. Inserts self.old.cursors (K.data_of key) tt self.new.cursors) }
+        ensures stands { OnOk result (IsSome (value_of (K.data_of cursor) self.old.elements)) }
+        ensures err { IfErr result (RefusesPlace self.old (K.data_of cursor) value) }
+        ensures reuses { IsSome (value_of (K.data_of cursor) self.old.elements) → 0 < map.len self.old.cursors.next → IsOk result }
+        ensures room { IsSome (value_of (K.data_of cursor) self.old.elements) → 0 < self.old.cursors.room → IsOk result }
+        ensures unchanged { OnErr result (self.new.elements ≡ self.old.elements) }
+        ensures keeps { OnErr result (Keeps self.old.cursors self.new.cursors) }
+        ensures gone { KeepsSpent self.old.cursors self.new.cursors }
+    {
+        Ok(outer(self.insert(Side::After, inner(cursor), value)?))
+    }
+
+    /// Adds an element before that of a cursor, and returns its cursor.
+    ///
+    /// If an element was removed or room was reserved, nothing is allocated. If the call fails, the
+    /// error holds the value, and the list has the same elements.
+    pub fn insert_before(&mut self, cursor: K, value: T) -> Result<K, PlaceError<T>>
+        ensures ok { IfOk result (λ key. self.new.elements ≡ put_before (K.data_of cursor) (K.data_of key, value) self.old.elements) }
+        ensures fresh { IfOk result (λ key. value_of (K.data_of key) self.old.elements ≡ None) }
+        ensures unspent { IfOk result (λ key. IsSpent self.old.cursors (K.data_of key) → ⊥) }
+        ensures cursors { IfOk result (λ key. Inserts self.old.cursors (K.data_of key) tt self.new.cursors) }
+        ensures stands { OnOk result (IsSome (value_of (K.data_of cursor) self.old.elements)) }
+        ensures err { IfErr result (RefusesPlace self.old (K.data_of cursor) value) }
+        ensures reuses { IsSome (value_of (K.data_of cursor) self.old.elements) → 0 < map.len self.old.cursors.next → IsOk result }
+        ensures room { IsSome (value_of (K.data_of cursor) self.old.elements) → 0 < self.old.cursors.room → IsOk result }
+        ensures unchanged { OnErr result (self.new.elements ≡ self.old.elements) }
+        ensures keeps { OnErr result (Keeps self.old.cursors self.new.cursors) }
+        ensures gone { KeepsSpent self.old.cursors self.new.cursors }
+    {
+        Ok(outer(self.insert(Side::Before, inner(cursor), value)?))
+    }
+}

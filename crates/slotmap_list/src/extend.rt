@@ -1,0 +1,111 @@
+//! Many values at once: of an iterator, or of another list.
+
+ghost use Rattle.std.specs.Prelude.{◌≡◌, ◌+◌, ◌≤◌, [], List, IsOk, IfOk, OnOk, IfErr, OnErr, IfSome, IsSome, Some, length, map as list_map};
+ghost use Rattle.std.specs.Iterator.{IsFinite, Drains, YieldsThen};
+ghost use Rattle.slotmap.specs.Words.{Key as KeyOf, IsSpent, Keeps, KeepsSpent, RefusesCapacity, used};
+ghost use Rattle.slotmap_list.specs.Sequence.{value_of};
+ghost use Rattle.slotmap_list.specs.Several.{Adds, Extends, refused};
+
+use crate::{PushError, StableList};
+use slotmap::{Key, ReserveError};
+use std::alloc::Global;
+
+impl<K: Key, T: Drop> StableList<K, T> {
+    /// Adds each value of an iterator at the back, in its order.
+    ///
+    /// If a value can't be added, the error holds it. The values before it are then in the list, and
+    /// the rest of the iterator is dropped. The iterator has to end. It takes constant time a value,
+    /// unless a vector grows. In Rust this is the trait `Extend`.
+    ///
+    /// ```
+    /// let mut list = StableList::new(alloc)?;
+    /// list.push_back(1)?;
+    /// list.extend(vec![in alloc; 2, 3]?)?;
+    /// assert_eq!(rt; list.to_vec(alloc)?.as_slice(), [1, 2, 3].as_slice());
+    /// ```
+    pub fn extend<I: IntoIterator<Item = T>>(&mut self, iter: I) -> Result<(), PushError<T>>
+        requires { (it : I.IntoIter) → I.into_iter_gives iter it →
+            I.IntoIter.can_next it × IsFinite (I.IntoIter.remaining it) }
+        ensures extends { (it : I.IntoIter) × I.into_iter_gives iter it
+            × Extends it self.old.elements result self.new.elements I.IntoIter.next_gives }
+        ensures gone { KeepsSpent self.old.cursors self.new.cursors }
+    {
+        for value in iter {
+            if let Err(error) = self.push_back(value) {
+                return Err(error);
+            }
+        }
+        Ok(())
+    }
+
+    /// Makes a list of the values of an iterator, in its order.
+    ///
+    /// If a value can't be added, there is no list. The error then holds that value, or is `None` if
+    /// not even an empty list could be made. The iterator has to end. In Rust this is `FromIterator`.
+    ///
+    /// ```
+    /// let list: StableList<Cursor, u64> = StableList::from_iter(alloc, vec![in alloc; 1, 2]?).unwrap();
+    /// assert_eq!(rt; list.to_vec(alloc)?.as_slice(), [1, 2].as_slice());
+    /// ```
+    pub fn from_iter<I: IntoIterator<Item = T>>(
+        alloc: Global,
+        iter: I,
+    ) -> Result<Self, Option<PushError<T>>>
+    where
+        I: Drop,
+        requires { (it : I.IntoIter) → I.into_iter_gives iter it →
+            I.IntoIter.can_next it × IsFinite (I.IntoIter.remaining it) }
+        ensures ok { IfOk result (λ list. (it : I.IntoIter) × (values : List T) × I.into_iter_gives iter it
+            × Drains I.IntoIter.next_gives it values × (list_map (λ e. e.1) list.elements ≡ values)) }
+        ensures err { IfErr result (λ error. IfSome error (λ back. (it : I.IntoIter) × (values : List T) × (rest : I.IntoIter)
+            × I.into_iter_gives iter it × YieldsThen I.IntoIter.next_gives it values (Some (refused back)) rest)) }
+    {
+        let Ok(mut list) = StableList::with_key(alloc) else {
+            return Err(None);
+        };
+        match list.extend(iter) {
+            Ok(()) => Ok(list),
+            Err(error) => Err(Some(error)),
+        }
+    }
+
+    /// Moves the values of another list to the back of this one, in their order. They get new cursors,
+    /// and their old ones are never used again.
+    ///
+    /// Room is made first. So if the call fails, both lists have the same elements. It fails with
+    /// `TooGreat` if more than 4294967294 elements would be there, counting cursors that are used up,
+    /// and with `Memory` if memory runs out. It takes time linear in the number of elements of the
+    /// other list.
+    ///
+    /// ```
+    /// let mut list = StableList::new(alloc)?;
+    /// let mut other = StableList::new(alloc)?;
+    /// list.push_back(1)?;
+    /// other.push_back(2)?;
+    /// list.append(&mut other)?;
+    /// assert_eq!(rt; list.to_vec(alloc)?.as_slice(), [1, 2].as_slice());
+    /// assert!(rt; other.is_empty());
+    /// ```
+    pub fn append<L: Key>(&mut self, other: &mut StableList<L, T>) -> Result<(), ReserveError>
+        ensures adds { OnOk result (Adds self.old.elements (list_map (λ e. e.1) other.old.elements) self.new.elements) }
+        ensures empty { OnOk result (other.new.elements ≡ []) }
+        ensures for_good { OnOk result ((k : KeyOf) → IsSome (value_of k other.old.elements) → IsSpent other.new.cursors k) }
+
+        // Why the call failed, and what that leaves.
+        ensures had_room { length other.old.elements ≤ self.old.cursors.room → IsOk result }
+        ensures err { IfErr result (RefusesCapacity (used self.old.cursors + length other.old.elements)) }
+        ensures same_elements { OnErr result (self.new.elements ≡ self.old.elements) }
+        ensures keeps { OnErr result (Keeps self.old.cursors self.new.cursors) }
+        ensures same_other { OnErr result (other.new ≡ other.old) }
+
+        // What never comes again.
+        ensures gone { KeepsSpent self.old.cursors self.new.cursors }
+        ensures gone_other { KeepsSpent other.old.cursors other.new.cursors }
+    {
+        self.reserve(other.len())?;
+        while let Some((_, value)) = other.pop_front() {
+            let _ = self.push_back(value);
+        }
+        Ok(())
+    }
+}

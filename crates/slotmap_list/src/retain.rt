@@ -1,0 +1,67 @@
+//! The call that visits all elements, and keeps or removes each.
+
+ghost use Rattle.std.specs.Prelude.{◌≡◌, IsSome, None, Some};
+ghost use Rattle.std.specs.Borrow.{sem};
+ghost use Rattle.slotmap.specs.Words.{Key as KeyOf, IsSpent, KeepsSpent};
+ghost use Rattle.slotmap_list.specs.Sequence.{value_of, without};
+ghost use Rattle.slotmap_list.specs.Retain.{RetainsEach, CallableOnEach};
+
+use crate::StableList;
+use slotmap::{DefaultKey, Key};
+use slotmap_keylist::outer;
+
+impl<K: Key, T: Drop> StableList<K, T> {
+    ghost use Rattle.slotmap_list.specs.Lends.{lends_value};
+
+    // The value of a key that stands.
+    fn value_mut(&mut self, key: DefaultKey) -> &mut T
+        requires { IsSome (value_of key self.old.elements) }
+        ensures* lends { sem 𝓛 (lends_value K.row T.row self.entry key result) }
+        ensures value { value_of key self.old.elements ≡ Some result.now }
+    {
+        &mut self.nodes[key].value
+    }
+
+    // Removes the element of a key that stands, and drops its value.
+    fn reject(&mut self, key: DefaultKey)
+        requires { IsSome (value_of key self.old.elements) }
+        ensures removed { self.new.elements ≡ without key self.old.elements }
+        ensures for_good { IsSpent self.new.cursors key }
+        ensures gone { KeepsSpent self.old.cursors self.new.cursors }
+    {
+        self.take(key);
+    }
+
+    /// Calls a closure once for each element, from front to back, and removes those for which it
+    /// returns `false`.
+    ///
+    /// The closure gets the cursor and a mutable reference to the value. What it writes is kept. The
+    /// cursor of a removed element is never used again. It takes time linear in the number of
+    /// elements, and allocates nothing.
+    ///
+    /// ```
+    /// let mut list = StableList::from_iter(alloc, vec![in alloc; 1, 2, 3]?).unwrap();
+    /// list.retain(|_: Cursor, value| {
+    ///     *value *= 10;
+    ///     *value != 20
+    /// });
+    /// assert_eq!(rt; list.to_vec(alloc)?.as_slice(), [10, 30].as_slice());
+    /// ```
+    pub fn retain<F: FnMut(K, &mut T) -> bool>(&mut self, mut f: F)
+    where
+        F: Drop,
+        requires { CallableOnEach F.FnMut K.data_of f self.old.elements }
+        ensures retained { (last : F) × RetainsEach F.FnMut K.data_of f self.old.elements self.new.elements last }
+        ensures for_good { (k : KeyOf) → IsSome (value_of k self.old.elements) → value_of k self.new.elements ≡ None → IsSpent self.new.cursors k }
+        ensures gone { KeepsSpent self.old.cursors self.new.cursors }
+    {
+        let mut at = self.first;
+        while let Some(key) = at {
+            at = self.after(key);
+            let stays = f(outer(key), self.value_mut(key));
+            if !stays {
+                self.reject(key);
+            }
+        }
+    }
+}

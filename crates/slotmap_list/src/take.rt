@@ -1,0 +1,88 @@
+//! The calls that remove elements.
+
+ghost use Rattle.std.specs.Prelude.{◌≡◌, [], IfNone, IfSome, OnSome, IsSome, None, option_map};
+ghost use Rattle.slotmap.specs.Words.{Key as KeyOf, IsSpent, KeepsSpent, Removes};
+ghost use Rattle.slotmap_list.specs.Sequence.{value_of, without, TakesFront, TakesBack};
+
+use crate::StableList;
+use crate::links::relink;
+use slotmap::{DefaultKey, Key};
+use slotmap_keylist::{inner, outer};
+
+impl<K: Key, T: Drop> StableList<K, T> {
+    /// Removes the element of a cursor, and returns its value, or `None` if the cursor isn't in the
+    /// list. The cursor is never used again.
+    pub fn remove(&mut self, cursor: K) -> Option<T>
+        ensures value { result ≡ value_of (K.data_of cursor) self.old.elements }
+        ensures removed { self.new.elements ≡ without (K.data_of cursor) self.old.elements }
+        ensures absent { value_of (K.data_of cursor) self.new.elements ≡ None }
+        ensures cursors { OnSome result (Removes self.old.cursors (K.data_of cursor) self.new.cursors) }
+        ensures for_good { OnSome result (IsSpent self.new.cursors (K.data_of cursor)) }
+        ensures gone { KeepsSpent self.old.cursors self.new.cursors }
+        ensures stale { IfNone result (self.new ≡ self.old) }
+    {
+        self.take(inner(cursor))
+    }
+
+    // Removes the element of a key.
+    pub(crate) fn take(&mut self, cursor: DefaultKey) -> Option<T>
+        ensures value { result ≡ value_of cursor self.old.elements }
+        ensures removed { self.new.elements ≡ without cursor self.old.elements }
+        ensures absent { value_of cursor self.new.elements ≡ None }
+        ensures cursors { OnSome result (Removes self.old.cursors cursor self.new.cursors) }
+        ensures for_good { OnSome result (IsSpent self.new.cursors cursor) }
+        ensures gone { KeepsSpent self.old.cursors self.new.cursors }
+        ensures stale { IfNone result (self.new ≡ self.old) }
+    {
+        let node = self.nodes.remove(cursor)?;
+        relink(
+            &mut self.nodes,
+            &mut self.first,
+            &mut self.last,
+            node.prev,
+            node.next,
+            node.next,
+            node.prev,
+        );
+        Some(node.value)
+    }
+
+    /// Removes the element at the front, and returns its cursor and its value, or `None` if the list
+    /// is empty. The cursor is never used again.
+    pub fn pop_front(&mut self) -> Option<(K, T)>
+        ensures front { TakesFront self.old.elements (option_map (λ e. (K.data_of e.0, e.1)) result) self.new.elements }
+        ensures cursors { IfSome result (λ element. Removes self.old.cursors (K.data_of element.0) self.new.cursors) }
+        ensures for_good { IfSome result (λ element. IsSpent self.new.cursors (K.data_of element.0)) }
+        ensures gone { KeepsSpent self.old.cursors self.new.cursors }
+        ensures empty { IfNone result (self.new ≡ self.old) }
+    {
+        let cursor = self.first?;
+        let value = self.take(cursor)?;
+        Some((outer(cursor), value))
+    }
+
+    /// Removes the element at the back, and returns its cursor and its value, or `None` if the list
+    /// is empty. The cursor is never used again.
+    pub fn pop_back(&mut self) -> Option<(K, T)>
+        ensures back { TakesBack self.old.elements (option_map (λ e. (K.data_of e.0, e.1)) result) self.new.elements }
+        ensures cursors { IfSome result (λ element. Removes self.old.cursors (K.data_of element.0) self.new.cursors) }
+        ensures for_good { IfSome result (λ element. IsSpent self.new.cursors (K.data_of element.0)) }
+        ensures gone { KeepsSpent self.old.cursors self.new.cursors }
+        ensures empty { IfNone result (self.new ≡ self.old) }
+    {
+        let cursor = self.last?;
+        let value = self.take(cursor)?;
+        Some((outer(cursor), value))
+    }
+
+    /// Removes all elements. Their cursors are never used again.
+    pub fn clear(&mut self)
+        ensures empty { self.new.elements ≡ [] }
+        ensures for_good { (k : KeyOf) → IsSome (value_of k self.old.elements) → IsSpent self.new.cursors k }
+        ensures gone { KeepsSpent self.old.cursors self.new.cursors }
+    {
+        self.nodes.clear();
+        self.first = None;
+        self.last = None;
+    }
+}

@@ -1,0 +1,81 @@
+-- The keys above a node, as an iterator yields them.
+use Rattle.std.proofs.Common.{◌≡◌, ℕ, zero, suc, ◌<◌, true, false, cond, List, [], ◌∷◌, Option, Some, None, is_some, refl, sym, ap, subst, ◌∙◌, arith}
+use Rattle.std.specs.FinMap as map
+use Rattle.slotmap.specs.Words.{Key}
+use Rattle.slotmap_scene.specs.declared.Node.{Node}
+use Rattle.slotmap_scene.specs.Climb.{Nodes, ClimbsTo, IsTree, has_node, parent_of, parent_in}
+use Rattle.slotmap_scene.specs.Above.{GoesUp, keys_up, HasRoot, roots_in}
+use Rattle.slotmap_scene.proofs.Climbs.{short, leads_live}
+use Rattle.slotmap_scene.proofs.Families.{parent_there}
+
+module _ {T : Type 0} (nodes : Nodes T) where
+  none_up : (n : ℕ) → keys_up nodes n None ≡ []
+  none_up zero = refl
+  none_up (suc n) = refl
+
+  -- enough is enough
+  same_up : (steps n m : ℕ) (k : Key) → ClimbsTo nodes steps k → steps < n → steps < m → keys_up nodes n (Some k) ≡ keys_up nodes m (Some k)
+  same_up steps zero m k climbs a b = absurd (omega arith)
+  same_up steps (suc n) zero k climbs a b = absurd (omega arith)
+  same_up zero (suc n) (suc m) k climbs a b =
+      ap (λ o. k ∷ keys_up nodes n o) climbs.1 ∙ ap (λ l. k ∷ l) (none_up n ∙ sym (none_up m)) ∙ ap (λ o. k ∷ keys_up nodes m o) (sym climbs.1)
+  same_up (suc steps) (suc n) (suc m) k climbs a b =
+      ap (λ o. k ∷ keys_up nodes n o) climbs.1.1 ∙ ap (λ l. k ∷ l) (same_up steps n m climbs.0 climbs.1.2 (omega arith) (omega arith))
+      ∙ ap (λ o. k ∷ keys_up nodes m o) (sym climbs.1.1)
+
+  -- the parent of a key with a root above it has one too
+  pub root_above : (k : Key) → HasRoot nodes (Some k) → HasRoot nodes (parent_of nodes k)
+  root_above k has = by has.0 has.1
+    where
+      by : (n : ℕ) → ClimbsTo nodes n k → HasRoot nodes (parent_of nodes k)
+      by zero climbs = subst (HasRoot nodes) (sym climbs.1) tt
+      by (suc n) climbs = subst (HasRoot nodes) (sym climbs.1.1) (n, climbs.1.2)
+
+  -- a key with what is above its parent
+  pub step_up : (k : Key) → HasRoot nodes (Some k) → keys_up nodes (map.len nodes) (Some k) ≡ k ∷ keys_up nodes (map.len nodes) (parent_of nodes k)
+  step_up k has = by (map.len nodes) has.0 has.1 (short nodes has.0 k has.1)
+    where
+      by : (len n : ℕ) → ClimbsTo nodes n k → n < len → keys_up nodes len (Some k) ≡ k ∷ keys_up nodes len (parent_of nodes k)
+      by zero n climbs below = absurd (omega arith)
+      by (suc len) zero climbs below = ap (λ o. k ∷ keys_up nodes len o) climbs.1 ∙ ap (λ l. k ∷ l) (none_up len) ∙ ap (λ o. k ∷ keys_up nodes (suc len) o) (sym climbs.1)
+      by (suc len) (suc n) climbs below =
+          ap (λ o. k ∷ keys_up nodes len o) climbs.1.1 ∙ ap (λ l. k ∷ l) (same_up n len (suc len) climbs.0 climbs.1.2 (omega arith) (omega arith))
+          ∙ ap (λ o. k ∷ keys_up nodes (suc len) o) (sym climbs.1.1)
+
+  pub root_live : (k : Key) → HasRoot nodes (Some k) → has_node nodes k
+  root_live k has = leads_live nodes has.0 k has.1
+
+  goes_up_from : (n : ℕ) (k : Key) → ClimbsTo nodes n k → GoesUp nodes (Some k) (keys_up nodes (suc n) (Some k))
+  goes_up_from zero k climbs = (refl, subst (λ o. GoesUp nodes o (keys_up nodes zero o)) (sym climbs.1) tt)
+  goes_up_from (suc n) k climbs = (refl, subst (λ o. GoesUp nodes o (keys_up nodes (suc n) o)) (sym climbs.1.1) (goes_up_from n climbs.0 climbs.1.2))
+
+  -- they lead up to the root
+  pub goes_up : (at : Option Key) → HasRoot nodes at → GoesUp nodes at (keys_up nodes (map.len nodes) at)
+  goes_up None has = subst (GoesUp nodes None) (sym (none_up (map.len nodes))) tt
+  goes_up (Some k) has =
+      let below = short nodes has.0 k has.1 in
+      subst (GoesUp nodes (Some k)) (same_up has.0 (suc has.0) (map.len nodes) k has.1 (omega arith) below) (goes_up_from has.0 k has.1)
+
+  -- a node's parent has a root above it
+  pub parent_rooted : IsTree nodes → (k : Key) → HasRoot nodes (parent_of nodes k)
+  parent_rooted tree k = by (parent_of nodes k) refl
+    where
+      by : (o : Option Key) → parent_of nodes k ≡ o → HasRoot nodes o
+      by None is = tt
+      by (Some p) is = tree p (parent_there nodes tree k p is)
+
+module _ {T : Type 0} where
+  -- the next root among these nodes
+  pub root_first : (nodes rest : List (Key × Node T)) (k : Key) (node : Node T) → nodes ≡ (k, node) ∷ rest → is_some node.parent ≡ false → roots_in nodes ≡ k ∷ roots_in rest
+  root_first nodes rest k node is root = ap roots_in is ∙ by node.parent root
+    where
+      by : (o : Option Key) → is_some o ≡ false → cond (is_some o) (roots_in rest) (k ∷ roots_in rest) ≡ k ∷ roots_in rest
+      by None root = refl
+      by (Some p) root = absurd (cc)
+
+  pub root_passed : (nodes rest : List (Key × Node T)) (k : Key) (node : Node T) → nodes ≡ (k, node) ∷ rest → is_some node.parent ≡ true → roots_in nodes ≡ roots_in rest
+  root_passed nodes rest k node is below = ap roots_in is ∙ by node.parent below
+    where
+      by : (o : Option Key) → is_some o ≡ true → cond (is_some o) (roots_in rest) (k ∷ roots_in rest) ≡ roots_in rest
+      by None below = absurd (cc)
+      by (Some p) below = refl

@@ -1,0 +1,10 @@
+use Rattle.std.proofs.Common.{None, sym, ap, subst, ◌∙◌}
+use Rattle.slotmap_scene.specs.Climb.{parent_in}
+use Rattle.slotmap_scene.specs.Above.{HasRoot}
+use Rattle.slotmap_scene.proofs.AboveLemmas.{parent_rooted}
+use Rattle.slotmap_scene.proofs.Scene.parent_key.Goals as goal
+
+pub returns-clause-rooted : goal.returns-clause-rooted
+returns-clause-rooted g c =
+    let found = sym (rw c.in_ok-get.was at c.get.ensures.value) in
+    rw (← c.self.view_is) (subst (HasRoot c.self.inside.nodes.live) (ap parent_in found) (parent_rooted c.self.inside.nodes.live c.self.invariant.tree c.args.node))

@@ -1,0 +1,155 @@
+//! Iterators over the nodes above a node, and over the roots.
+
+ghost use Rattle.std.specs.Prelude.{◌≡◌, is_some, not};
+ghost use Rattle.std.specs.Iterator.{YieldsFirstBy, item_count};
+ghost use Rattle.std.specs.FinMap as map;
+ghost use Rattle.slotmap_scene.specs.Climb.{parent_of};
+ghost use Rattle.slotmap_scene.specs.Above.{GoesUp, HasRoot, roots_in};
+
+use crate::links::Nodes;
+use crate::{Node, Scene};
+use slotmap::{DefaultKey, Key, basic};
+use slotmap_keylist::{inner, outer};
+use std::iter::FusedIterator;
+use std::marker::{Model, PhantomData};
+
+/// An iterator over the keys of the nodes above a node: see [`Scene::ancestors`].
+///
+/// A contract sees it as the list of the keys that it will still yield. After its end it yields
+/// nothing.
+#[derive(Drop)]
+pub struct Ancestors<'a, K, T> {
+    nodes: &'a Nodes<T>,
+    at: Option<DefaultKey>,
+    key_type: PhantomData<K>,
+}
+
+impl<'a, K, T> Model for Ancestors<'a, K, T> {
+    ghost use Rattle.std.specs.Prelude.{List};
+    ghost use Rattle.std.specs.FinMap as map;
+    ghost use Rattle.slotmap.specs.Words.{Key};
+    ghost use Rattle.slotmap_scene.specs.Above.{keys_up, HasRoot};
+
+    ghost Value = { List Key };
+
+    ghost view = { λ it. keys_up it.nodes.now.live (map.len it.nodes.now.live) it.at };
+
+    ghost invariant = { λ it. HasRoot it.nodes.now.live it.at };
+}
+
+impl<'a, K: Key, T: Drop> Iterator for Ancestors<'a, K, T> {
+    type Item = K;
+
+    ghost next_gives = { YieldsFirstBy K.data_of (λ rest. rest) };
+
+    ghost remaining = { item_count (λ rest. rest) };
+
+    fn next(&mut self) -> Option<K> {
+        let key = self.at?;
+        let node = self.nodes.get(key)?;
+        self.at = node.parent;
+        Some(outer(key))
+    }
+}
+
+impl<'a, K: Key, T: Drop> FusedIterator for Ancestors<'a, K, T> {}
+
+/// An iterator over the keys of the roots: see [`Scene::roots`].
+///
+/// A contract sees it as the list of the keys that it will still yield.
+#[derive(Drop)]
+pub struct Roots<'a, K, T> {
+    nodes: basic::Iter<'a, DefaultKey, Node<T>>,
+    key_type: PhantomData<K>,
+}
+
+impl<'a, K, T> Model for Roots<'a, K, T> {
+    ghost use Rattle.std.specs.Prelude.{List};
+    ghost use Rattle.slotmap.specs.Words.{Key};
+    ghost use Rattle.slotmap_scene.specs.Above.{roots_in};
+
+    ghost Value = { List Key };
+
+    ghost view = { λ it. roots_in it.nodes };
+}
+
+// Whether a node has no parent.
+fn is_root<T>(node: &Node<T>) -> bool
+    ensures { is_some node.now.parent ≡ not result }
+{
+    node.parent.is_none()
+}
+
+impl<'a, K: Key, T: Drop> Iterator for Roots<'a, K, T> {
+    type Item = K;
+
+    ghost next_gives = { YieldsFirstBy K.data_of (λ rest. rest) };
+
+    ghost remaining = { item_count (λ rest. rest) };
+
+    fn next(&mut self) -> Option<K> {
+        while let Some(entry) = self.nodes.next() {
+            if is_root(entry.1) {
+                return Some(outer(entry.0));
+            }
+        }
+        None
+    }
+}
+
+impl<'a, K: Key, T: Drop> FusedIterator for Roots<'a, K, T> {}
+
+impl<K: Key, T: Drop> Scene<K, T> {
+    // The key of the parent of a node.
+    fn parent_key(&self, node: DefaultKey) -> Option<DefaultKey>
+        ensures value { result ≡ parent_of self.now.live node }
+        ensures rooted { HasRoot self.now.live result }
+    {
+        self.nodes.get(node)?.parent
+    }
+
+    /// Returns an iterator over the keys of the nodes above a node: its parent first, and its root
+    /// last.
+    ///
+    /// A root and a removed node have none. It is made in constant time, and each step takes constant
+    /// time.
+    ///
+    /// ```
+    /// let mut scene: Scene<DefaultKey, &str> = Scene::new(alloc)?;
+    /// let car = scene.add_root("car")?;
+    /// let wheel = scene.add_child(car, "wheel")?;
+    /// let mut above = scene.ancestors(wheel);
+    /// assert_eq!(rt; above.next(), Some(car));
+    /// assert_eq!(rt; above.next(), None);
+    /// ```
+    pub fn ancestors(&self, node: K) -> Ancestors<'_, K, T>
+        ensures { GoesUp self.now.live (parent_of self.now.live (K.data_of node)) result }
+    {
+        Ancestors {
+            nodes: &self.nodes,
+            at: self.parent_key(inner(node)),
+            key_type: PhantomData,
+        }
+    }
+
+    /// Returns an iterator over the keys of the roots, by ascending index.
+    ///
+    /// It is made in constant time. All its steps together read each node once.
+    ///
+    /// ```
+    /// let mut scene: Scene<DefaultKey, &str> = Scene::new(alloc)?;
+    /// let car = scene.add_root("car")?;
+    /// scene.add_child(car, "wheel")?;
+    /// let mut roots = scene.roots();
+    /// assert_eq!(rt; roots.next(), Some(car));
+    /// assert_eq!(rt; roots.next(), None);
+    /// ```
+    pub fn roots(&self) -> Roots<'_, K, T>
+        ensures { result ≡ roots_in (map.entries self.now.live) }
+    {
+        Roots {
+            nodes: self.nodes.iter(),
+            key_type: PhantomData,
+        }
+    }
+}

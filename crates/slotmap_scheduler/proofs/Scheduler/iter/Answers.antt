@@ -1,0 +1,6 @@
+use Rattle.std.proofs.Common.{sym, ap, ◌∙◌}
+use Rattle.slotmap_scheduler.proofs.Listing.{lists_jobs}
+use Rattle.slotmap_scheduler.proofs.Scheduler.iter.Goals as goal
+
+pub returns : goal.returns
+returns g c = rw (← c.self.view_is, c.iter.ensures.in_order) (lists_jobs c.self.inside.jobs.live c.self.invariant.turns)

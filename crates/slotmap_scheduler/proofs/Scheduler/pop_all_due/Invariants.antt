@@ -1,0 +1,9 @@
+use Rattle.std.proofs.Common.{length}
+use Rattle.slotmap_scheduler.proofs.Taking.{Taking}
+use Rattle.slotmap_scheduler.proofs.Scheduler.pop_all_due.Given as goal
+
+abbrev pub invariant-loop-job : goal.invariant-loop-job
+invariant-loop-job g l = Taking g.K.Key.data_of l.now l.fn.self l.fn.due l.self l.due
+
+abbrev pub decreases-loop-job : goal.decreases-loop-job
+decreases-loop-job g l = length l.self.waiting

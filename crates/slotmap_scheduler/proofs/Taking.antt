@@ -1,0 +1,73 @@
+-- A loop that takes out the jobs that are due.
+use Rattle.std.proofs.Common.{◌≡◌, ℕ, ◌+◌, ◌<◌, ◌≤◌, Bool, true, false, cond, List, [], ◌∷◌, ◌++◌, Option, Some, None, is_some, length, refl, sym, ap, subst, ◌∙◌, arith, append_assoc, append-nil, map as list_map}
+use Rattle.std.specs.Prelude.{vec_len, vec_capacity}
+use Rattle.std.specs.declared.vec.Vec.{Vec}
+use Rattle.std.specs.List.{All}
+use Rattle.std.specs.Ordering.{eq_by_cmp}
+use Rattle.std.proofs.lemmas.List.Elements.{All-nil, All-push}
+use Rattle.slotmap.specs.Words.{Key, key_cmp, IsSpent, KeepsSpent}
+use Rattle.slotmap.proofs.Callers.{keys_total, exact_keys, tied}
+use Rattle.slotmap_scheduler.specs.Schedule.{Schedule, Waiting, job_of}
+use Rattle.slotmap_scheduler.specs.Listed.{Due, TakesDue}
+
+map-push : {A B : Type 0} (f : A → B) (xs : List A) (x : A) → list_map f (xs ++ x ∷ []) ≡ list_map f xs ++ f x ∷ []
+map-push f [] x = refl
+map-push f (y ∷ xs) x = ap (λ l. f y ∷ l) (map-push f xs x)
+
+gone_or_before : {T : Type 0} (k : Key) (e : Key × (ℕ × T)) (es ws : Waiting T) → ws ≡ e ∷ es → job_of k es ≡ None → (P : Type 0) → (k ≡ e.0 → P) → (job_of k ws ≡ None → P) → P
+gone_or_before k e es ws is none P here before = by (eq_by_cmp key_cmp k e.0) refl
+  where
+    by : (b : Bool) → eq_by_cmp key_cmp k e.0 ≡ b → P
+    by true same = here (tied keys_total exact_keys k e.0 same)
+    by false other = before (ap (job_of k) is ∙ ap (λ b. cond b (Some e.1) (job_of k es)) other ∙ none)
+
+module _ {K T Z : Type 0} (data_of : K → Key) (now : ℕ) where
+  -- some jobs were taken out, and there is room in the vector for the others
+  pub record Taking (old : Schedule T) (start : Vec (K × T) Z) (s : Schedule T) (due : Vec (K × T) Z) : Type 0 where
+    pub first : Waiting T
+    pub taken : List (K × T)
+    pub waited : old.waiting ≡ first ++ s.waiting
+    pub all_due : All (λ e. e.1.0 ≤ now) first
+    pub returned : Due data_of first taken
+    pub added : due.items ≡ start.items ++ taken
+    pub room : length s.waiting + vec_len due ≤ vec_capacity due
+    pub turns : s.turns ≡ old.turns
+    pub for_good : (k : Key) → is_some (job_of k old.waiting) ≡ true → job_of k s.waiting ≡ None → IsSpent s.handles k
+    pub stale : KeepsSpent old.handles s.handles
+
+  pub taking_start : (old : Schedule T) (start due : Vec (K × T) Z) → due.items ≡ start.items → length old.waiting + vec_len due ≤ vec_capacity due → Taking old start old due
+  taking_start old start due same room = record {
+    first = [];
+    taken = [];
+    waited = refl;
+    all_due = All-nil _;
+    returned = refl;
+    added = same ∙ sym (append-nil start.items);
+    room = room;
+    turns = refl;
+    for_good = λ k there none. absurd (let h = ap is_some none in cc);
+    stale = λ k spent. spent;
+  }
+
+  pub taking_step : (old : Schedule T) (start : Vec (K × T) Z) (s s' : Schedule T) (due due' : Vec (K × T) Z) (job : K × T) (time : ℕ) → Taking old start s due → time ≤ now
+      → s.waiting ≡ (data_of job.0, (time, job.1)) ∷ s'.waiting → IsSpent s'.handles (data_of job.0) → KeepsSpent s.handles s'.handles → s'.turns ≡ s.turns
+      → due'.items ≡ due.items ++ job ∷ [] → vec_len due' ≡ vec_len due + 1 → vec_capacity due ≤ vec_capacity due' → Taking old start s' due'
+  taking_step old start s s' due due' job time t le waits spent stale turns items len capacity =
+      let e : Key × (ℕ × T) = (data_of job.0, (time, job.1)) in
+      record {
+        first = t.first ++ e ∷ [];
+        taken = t.taken ++ job ∷ [];
+        waited = t.waited ∙ ap (λ l. t.first ++ l) waits ∙ sym (append_assoc t.first (e ∷ []) s'.waiting);
+        all_due = All-push (λ (x : Key × (ℕ × T)). x.1.0 ≤ now) t.first e t.all_due le;
+        returned = map-push (λ (x : Key × (ℕ × T)). (x.0, x.1.1)) t.first e ∙ ap (λ l. l ++ (data_of job.0, job.1) ∷ []) t.returned ∙ sym (map-push (λ (x : K × T). (data_of x.0, x.1)) t.taken job);
+        added = items ∙ ap (λ l. l ++ job ∷ []) t.added ∙ append_assoc start.items t.taken (job ∷ []);
+        room = (let had = t.room in let long = ap length waits in omega arith);
+        turns = turns ∙ t.turns;
+        for_good = λ k there none. gone_or_before k e s'.waiting s.waiting waits none (IsSpent s'.handles k) (λ same. subst (IsSpent s'.handles) (sym same) spent)
+            (λ before. stale k (t.for_good k there before));
+        stale = λ k h. stale k (t.stale k h);
+      }
+
+  pub taking_end : (old : Schedule T) (start : Vec (K × T) Z) (s : Schedule T) (due : Vec (K × T) Z) → Taking old start s due → All (λ e. now < e.1.0) s.waiting
+      → TakesDue data_of now old.waiting start.items due.items s.waiting
+  taking_end old start s due t later = record { first = t.first; taken = t.taken; waited = t.waited; due = t.all_due; later = later; returned = t.returned; added = t.added }
