@@ -11,7 +11,6 @@ use Rattle.slotmap_core.specs.Gather.{gather}
 use Rattle.slotmap_core.specs.StackMap.{HasVersion}
 use Rattle.slotmap_core.proofs.Contents.ContentLemmas.{live_at}
 use Rattle.slotmap_core.proofs.Places.PlacesLemmas.{key, get-live_at}
-use Rattle.slotmap_hop.specs.declared.links.Links.{Links}
 use Rattle.slotmap_hop.specs.declared.links.Slot.{Slot}
 use Rattle.slotmap_hop.specs.declared.links.Slot.TheVariants.{Occupied, Single, Front, Back, Retired}
 use Rattle.slotmap_hop.specs.Blocks.{Begins, IsBlock}
