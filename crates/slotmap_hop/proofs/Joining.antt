@@ -1,14 +1,14 @@
 -- A slot joins the blocks by one write, after the links of the others were made ready for it.
 use Rattle.std.proofs.Common.{◌≡◌, ◌≢◌, ◌+◌, ◌-◌, ◌<◌, ◌≤◌, ◌∷◌, ◌++◌, Option, Some, cond, eqb, ℕ, true, false, List, [], length, map, set, refl, sym, ap, ◌∙◌}
-use Rattle.slotmap_core.proofs.Common.{arith, nat_tests, map-set, length-map, length-set}
+use Rattle.slotmap_core.proofs.Common.{arith, map-set, length-map}
 use Rattle.slotmap_hop.specs.declared.links.Links.{Links}
 use Rattle.slotmap_hop.specs.declared.links.Links.TheVariants.{Single, Front, Back}
 use Rattle.slotmap_hop.specs.Blocks.{IsBlock, vacated_alone, vacated_before, vacated_after, vacated_between}
-use Rattle.slotmap_hop.specs.Links.{is_vacant, has_next, has_prev, next_in, prev_in, end_in, without_links, NamesApart, vacant_at, links_at, next_at, held_at, prev_at, end_at, occurs, list_without, replaced, fronts_of, blocks_of}
+use Rattle.slotmap_hop.specs.Links.{is_vacant, has_next, has_prev, next_in, prev_in, end_in, vacant_at, links_at, next_at, held_at, prev_at, end_at, occurs, list_without, replaced, fronts_of, blocks_of}
 use Rattle.slotmap_hop.specs.Links.{LeadsTo, Joins, Puts, Unlinks, TakesOver, KeepsEnds, HasBlocks, CanVacate, IsHead}
 use Rattle.slotmap_hop.proofs.Chain.{in_removed, next_occurs, prev_occurs, IsChain-removed, IsChain-replaced, IsChain-appended}
 use Rattle.slotmap_hop.proofs.BlockLemmas.{IsBlock-front, begins_at, joined}
-use Rattle.slotmap_hop.proofs.Writes.{links_here, links_other, vacancy_kept, flags_kept, ends_kept, apart_kept, apart_set, leads_kept, tails_kept, within, same_test, other_test}
+use Rattle.slotmap_hop.proofs.Writes.{links_here, links_other, vacancy_kept, flags_kept, ends_kept, apart_kept, apart_set, within, same_test, other_test}
 use Rattle.slotmap_hop.proofs.FrontsLemmas.{stands_once, zero_apart, on_circle, listed_alone, listed_right, listed_left, listed_both}
 use Rattle.slotmap_hop.proofs.Views.{blocks_replaced, blocks_removed, blocks_appended, back_at-listed, blocks_grown}
 use Rattle.slotmap_hop.proofs.Circle.{shown, head_on, held_on, leads_at, tails_at}

@@ -1,11 +1,11 @@
 //! The blocks that the vacant slots of a map form: how a slot joins them, and how one is taken.
 
-ghost use Rattle.std.specs.Prelude.{◌≡◌, ◌+◌, ◌-◌, ◌<◌, ◌≤◌, true, false, length, Some, None, IsSome, is_some, slice_set, slice_get};
+ghost use Rattle.std.specs.Prelude.{◌≡◌, ◌+◌, ◌-◌, ◌<◌, true, false, length, Some, None, IsSome, slice_set};
 ghost use Rattle.slotmap_core.specs.Words.{Live as LivePlace, Vacant as VacantPlace, Retired as RetiredPlace};
 ghost use Rattle.slotmap_hop.specs.Blocks.{vacated, vacated_alone, vacated_before, vacated_after, vacated_between, shorter};
-ghost use Rattle.slotmap_hop.specs.Links.{vacant_at, has_next, has_prev, links_at, next_at, held_at, end_at, prev_at, CanVacate, HasBlockList, HasBlocks, IsHead, blocks_of};
-ghost use Rattle.slotmap_hop.specs.Links.{SetsNext, SetsPrev, Joins, LeadsTo, KeepsEnds};
-ghost use Rattle.slotmap_hop.specs.Slots.{version_in, value_in, linked_slot, all_links, places_of, value_at, CanFree};
+ghost use Rattle.slotmap_hop.specs.Links.{vacant_at, has_next, links_at, next_at, prev_at, end_at, CanVacate, HasBlockList, HasBlocks, IsHead, blocks_of};
+ghost use Rattle.slotmap_hop.specs.Links.{Joins, LeadsTo, KeepsEnds};
+ghost use Rattle.slotmap_hop.specs.Slots.{all_links, places_of, value_at, CanFree};
 
 use crate::links::{
     Links, Slot, back_of, front_of, is_vacant, is_vacant_after, linked_slot, name_back, name_front,

@@ -1,5 +1,5 @@
 use Rattle.slotmap_core.proofs.Common.{◌∙◌, ap}
-use Rattle.slotmap_hop.specs.Links.{has_prev, has_next, links_at, held_at}
+use Rattle.slotmap_hop.specs.Links.{held_at}
 use Rattle.slotmap_hop.specs.Slots.{all_links}
 use Rattle.slotmap_hop.proofs.Joining.{head_zero, last_is, last_leads, joins_alone}
 use Rattle.slotmap_hop.proofs.blocks.start_block.Goals as goal

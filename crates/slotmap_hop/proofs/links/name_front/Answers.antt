@@ -1,5 +1,4 @@
 use Rattle.slotmap_core.proofs.Common.{refl}
-use Rattle.slotmap_hop.specs.declared.links.Slot.TheVariants.{Back}
 use Rattle.slotmap_hop.proofs.SlotReads.{all_links_written, places_kept}
 use Rattle.slotmap_hop.proofs.links.name_front.Goals as goal
 
