@@ -5,7 +5,7 @@ use Rattle.slotmap_list.specs.Sequence.{Sequence, value_of, TakesFront}
 use Rattle.slotmap_list.specs.declared.PushError.{PushError}
 use Rattle.slotmap_list.specs.declared.PushError.TheVariants.{Full, Memory}
 use Rattle.slotmap_list.specs.Refused.{RefusesPush}
-use Rattle.slotmap_list.specs.Several.{Adds, refused}
+use Rattle.slotmap_list.specs.Additions.{Adds, refused}
 use Rattle.slotmap_list.proofs.NodeLists.{by_key}
 
 -- what a call ensures of its result, where it succeeds

@@ -7,5 +7,5 @@ pub mod Moving
 pub mod NeighbourLemmas
 pub mod NodeLists
 pub mod Pops
-pub mod Retaining
+pub mod Visiting
 pub mod Written

@@ -1,7 +1,7 @@
+pub mod Additions
 pub mod Chain
 pub mod Lends
 pub mod Neighbours
 pub mod Refused
 pub mod Retain
 pub mod Sequence
-pub mod Several

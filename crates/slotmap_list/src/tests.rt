@@ -68,7 +68,7 @@ fn copies(rt: HostRuntime) -> Result<(), Fail> {
 }
 
 #[test]
-#[tactic(auto, using(crate::proofs::Retaining::callable_on_each))]
+#[tactic(auto, using(crate::proofs::Visiting::callable_in_order))]
 fn retains(rt: HostRuntime) -> Result<(), Fail> {
     let alloc = rt.alloc();
     let (mut list, _, _) = pair(alloc)?;
