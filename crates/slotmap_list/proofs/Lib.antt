@@ -1,5 +1,6 @@
 pub mod Adding
 pub mod Chains
+pub mod Draining
 pub mod Iterated
 pub mod Looks
 pub mod Mapped

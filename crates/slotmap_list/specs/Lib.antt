@@ -1,5 +1,6 @@
 pub mod Additions
 pub mod Chain
+pub mod Drain
 pub mod Lends
 pub mod Neighbours
 pub mod Refused
