@@ -51,6 +51,7 @@ use slotmap_keylist::{inner, outer};
 use std::alloc::Global;
 use std::fmt;
 use std::marker::{Model, PhantomData};
+use std::ops::Index;
 use thiserror::Error;
 
 /// An edge from one node to another, or to itself, with its value.
@@ -380,6 +381,19 @@ impl<K: Key, N: Drop, E: Drop> Graph<K, N, E> {
         ensures { result ≡ length (edges_at self.now.into (K.data_of node)) }
     {
         self.edges_to(node).len()
+    }
+}
+
+/// `graph[node]` is the value of a node. The caller proves that the node exists.
+impl<K: Key, N: Drop, E: Drop> Index<K> for Graph<K, N, E> {
+    type Output = N;
+
+    ghost can_index = { λ graph node. IsLive graph.nodes (K.data_of node) };
+
+    ghost index_gives = { λ graph node value. map.get graph.nodes.live (K.data_of node) ≡ Some value };
+
+    fn index(&self, node: K) -> &N {
+        &self.nodes[node]
     }
 }
 

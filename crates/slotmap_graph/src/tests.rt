@@ -48,3 +48,39 @@ fn removals(rt: HostRuntime) -> Result<(), Fail> {
     assert!(rt; !graph.contains_edge(edge));
     Ok(())
 }
+
+#[test]
+fn writes(rt: HostRuntime) -> Result<(), Fail> {
+    let (mut graph, a, _, edge) = pair(rt.alloc())?;
+    if let Some(value) = graph.node_mut(a) {
+        *value = 7;
+    }
+    if let Some(value) = graph.edge_mut(edge) {
+        *value = 8;
+    }
+    assert_eq!(rt; graph.node(a), Some(&7));
+    assert_eq!(rt; graph.edge(edge), Some(&8));
+    Ok(())
+}
+
+#[test]
+fn keys_of_all(rt: HostRuntime) -> Result<(), Fail> {
+    let (graph, a, b, edge) = pair(rt.alloc())?;
+    let mut nodes = graph.nodes();
+    assert_eq!(rt; nodes.next(), Some(a));
+    assert_eq!(rt; nodes.next(), Some(b));
+    assert_eq!(rt; graph.edges().next(), Some(edge));
+    Ok(())
+}
+
+#[test]
+fn room_and_clear(rt: HostRuntime) -> Result<(), Fail> {
+    let (mut graph, a, _, edge) = pair(rt.alloc())?;
+    graph.reserve_nodes(2)?;
+    graph.reserve_edges(2)?;
+    graph.clear();
+    assert!(rt; !graph.contains_node(a));
+    assert!(rt; !graph.contains_edge(edge));
+    assert_eq!(rt; graph.node_count(), 0);
+    Ok(())
+}

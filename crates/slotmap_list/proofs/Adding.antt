@@ -5,7 +5,7 @@ use Rattle.slotmap_list.specs.Sequence.{Sequence, value_of, TakesFront}
 use Rattle.slotmap_list.specs.declared.PushError.{PushError}
 use Rattle.slotmap_list.specs.declared.PushError.TheVariants.{Full, Memory}
 use Rattle.slotmap_list.specs.Refused.{RefusesPush}
-use Rattle.slotmap_list.specs.Several.{Adds, refused}
+use Rattle.slotmap_list.specs.Additions.{Adds, refused}
 use Rattle.slotmap_list.proofs.NodeLists.{by_key}
 
 -- what a call ensures of its result, where it succeeds
@@ -60,7 +60,7 @@ module _ {T : Type 0} where
     taken = λ k there. inl there;
   }
 
-  stands_or_first : (k : Key) (v : T) (es : List (Key × T)) (q : Key) → IsSome (value_of q ((k, v) ∷ es)) → IsSome (value_of q es) ⊎ (q ≡ k)
+  pub stands_or_first : (k : Key) (v : T) (es : List (Key × T)) (q : Key) → IsSome (value_of q ((k, v) ∷ es)) → IsSome (value_of q es) ⊎ (q ≡ k)
   stands_or_first k v es q = by_key (λ b. IsSome (cond b (Some v) (value_of q es)) → IsSome (value_of q es) ⊎ (q ≡ k)) q k (λ is there. inr is) (λ _ _ there. inl there)
 
   pub moving_step : (old old_other now other next next_other : Sequence T) (k q : Key) (v : T) → Moving old old_other now other

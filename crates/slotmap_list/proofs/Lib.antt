@@ -1,5 +1,6 @@
 pub mod Adding
 pub mod Chains
+pub mod Draining
 pub mod Iterated
 pub mod Looks
 pub mod Mapped
@@ -7,5 +8,5 @@ pub mod Moving
 pub mod NeighbourLemmas
 pub mod NodeLists
 pub mod Pops
-pub mod Retaining
+pub mod Visiting
 pub mod Written

@@ -1,7 +1,8 @@
+pub mod Additions
 pub mod Chain
+pub mod Drain
 pub mod Lends
 pub mod Neighbours
 pub mod Refused
 pub mod Retain
 pub mod Sequence
-pub mod Several

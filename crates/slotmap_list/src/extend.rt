@@ -4,7 +4,7 @@ ghost use Rattle.std.specs.Prelude.{◌≡◌, ◌+◌, ◌≤◌, [], List, IsO
 ghost use Rattle.std.specs.Iterator.{IsFinite, Drains, YieldsThen};
 ghost use Rattle.slotmap.specs.Words.{Key as KeyOf, IsSpent, Keeps, KeepsSpent, RefusesCapacity, used};
 ghost use Rattle.slotmap_list.specs.Sequence.{value_of};
-ghost use Rattle.slotmap_list.specs.Several.{Adds, Extends, refused};
+ghost use Rattle.slotmap_list.specs.Additions.{Adds, AddsAll, refused};
 
 use crate::{PushError, StableList};
 use slotmap::{Key, ReserveError};
@@ -27,7 +27,7 @@ impl<K: Key, T: Drop> StableList<K, T> {
         requires { (it : I.IntoIter) → I.into_iter_gives iter it →
             I.IntoIter.can_next it × IsFinite (I.IntoIter.remaining it) }
         ensures extends { (it : I.IntoIter) × I.into_iter_gives iter it
-            × Extends it self.old.elements result self.new.elements I.IntoIter.next_gives }
+            × AddsAll it self.old.elements result self.new.elements I.IntoIter.next_gives }
         ensures gone { KeepsSpent self.old.cursors self.new.cursors }
     {
         for value in iter {

@@ -43,6 +43,7 @@ use thiserror::Error;
 mod add;
 mod clone;
 mod cursor;
+mod drain;
 mod extend;
 mod into_iter;
 mod iter;
@@ -52,6 +53,7 @@ mod retain;
 mod take;
 
 pub use cursor::Cursor;
+pub use drain::Drain;
 pub use into_iter::IntoIter;
 pub use iter::Iter;
 use links::Nodes;

@@ -4,7 +4,7 @@ ghost use Rattle.std.specs.Prelude.{◌≡◌, IsSome, None, Some};
 ghost use Rattle.std.specs.Borrow.{sem};
 ghost use Rattle.slotmap.specs.Words.{Key as KeyOf, IsSpent, KeepsSpent};
 ghost use Rattle.slotmap_list.specs.Sequence.{value_of, without};
-ghost use Rattle.slotmap_list.specs.Retain.{RetainsEach, CallableOnEach};
+ghost use Rattle.slotmap_list.specs.Retain.{RetainsEach, CallableInOrder};
 
 use crate::StableList;
 use slotmap::{DefaultKey, Key};
@@ -50,7 +50,7 @@ impl<K: Key, T: Drop> StableList<K, T> {
     pub fn retain<F: FnMut(K, &mut T) -> bool>(&mut self, mut f: F)
     where
         F: Drop,
-        requires { CallableOnEach F.FnMut K.data_of f self.old.elements }
+        requires { CallableInOrder F.FnMut K.data_of f self.old.elements }
         ensures retained { (last : F) × RetainsEach F.FnMut K.data_of f self.old.elements self.new.elements last }
         ensures for_good { (k : KeyOf) → IsSome (value_of k self.old.elements) → value_of k self.new.elements ≡ None → IsSpent self.new.cursors k }
         ensures gone { KeepsSpent self.old.cursors self.new.cursors }

@@ -45,6 +45,16 @@ fn goes_through(rt: HostRuntime) -> Result<(), Fail> {
 }
 
 #[test]
+fn drains(rt: HostRuntime) -> Result<(), Fail> {
+    let (mut list, one, two) = pair(rt.alloc())?;
+    let mut elements = list.drain();
+    assert_eq!(rt; elements.next(), Some((one, 1)));
+    assert_eq!(rt; elements.next(), Some((two, 2)));
+    assert!(rt; elements.next().is_none());
+    Ok(())
+}
+
+#[test]
 fn adds_several(rt: HostRuntime) -> Result<(), Fail> {
     let alloc = rt.alloc();
     let (mut list, _, _) = pair(alloc)?;
@@ -68,7 +78,7 @@ fn copies(rt: HostRuntime) -> Result<(), Fail> {
 }
 
 #[test]
-#[tactic(auto, using(crate::proofs::Retaining::callable_on_each))]
+#[tactic(auto, using(crate::proofs::Visiting::callable_in_order))]
 fn retains(rt: HostRuntime) -> Result<(), Fail> {
     let alloc = rt.alloc();
     let (mut list, _, _) = pair(alloc)?;

@@ -10,5 +10,5 @@ pub mod Order
 pub mod Results
 pub mod Schedules
 pub mod Seen
-pub mod Taking
+pub mod TakingDue
 pub mod Turns

@@ -1,6 +1,6 @@
 use Rattle.std.proofs.Common.{◌≡◌, sym, subst, rules}
 use Rattle.slotmap.specs.Words.{KeepsSpent}
-use Rattle.slotmap_list.specs.Several.{Adds, refused}
+use Rattle.slotmap_list.specs.Additions.{Adds, refused}
 use Rattle.slotmap_list.proofs.Adding.{Adds-push, refused_is}
 use Rattle.slotmap_list.proofs.StableList.extend.Goals as goal
 

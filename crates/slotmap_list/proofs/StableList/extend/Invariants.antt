@@ -1,5 +1,5 @@
 use Rattle.slotmap.specs.Words.{KeepsSpent}
-use Rattle.slotmap_list.specs.Several.{Adds}
+use Rattle.slotmap_list.specs.Additions.{Adds}
 use Rattle.slotmap_list.proofs.StableList.extend.Given as goal
 
 abbrev pub invariant-loop-value : goal.invariant-loop-value

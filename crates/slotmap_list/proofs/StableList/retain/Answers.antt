@@ -1,7 +1,7 @@
 use Rattle.std.proofs.Common.{None, refl, ap, ◌∙◌}
 use Rattle.slotmap_list.specs.Sequence.{first_or}
 use Rattle.slotmap_list.proofs.NodeLists.{elements_are}
-use Rattle.slotmap_list.proofs.Retaining.{retaining_start, retaining_stands, retaining_takes, retaining_kept, retaining_dropped, kept_less, dropped_less, written_stands, retaining_end}
+use Rattle.slotmap_list.proofs.Visiting.{retaining_start, retaining_stands, retaining_takes, retaining_kept, retaining_dropped, kept_less, dropped_less, written_stands, retaining_end}
 use Rattle.slotmap_list.proofs.StableList.retain.Goals as goal
 
 pub loop-at-init : goal.loop-at-init

@@ -1,4 +1,4 @@
-use Rattle.slotmap_list.proofs.Retaining.{Retaining, ahead}
+use Rattle.slotmap_list.proofs.Visiting.{Retaining, ahead}
 use Rattle.slotmap_list.proofs.StableList.retain.Given as goal
 
 abbrev pub invariant-loop-at : goal.invariant-loop-at

@@ -1,7 +1,7 @@
 use Rattle.std.proofs.Common.{◌≡◌, ◌+◌, ◌≤◌, ◌++◌, ◌∷◌, [], IsOk, length, ap, arith}
 use Rattle.std.specs.Prelude.{vec_len, vec_capacity}
 use Rattle.slotmap_scheduler.proofs.Results.{done}
-use Rattle.slotmap_scheduler.proofs.Taking.{taking_start, taking_step, taking_end}
+use Rattle.slotmap_scheduler.proofs.TakingDue.{taking_start, taking_step, taking_end}
 use Rattle.slotmap_scheduler.proofs.Scheduler.pop_all_due.Goals as goal
 
 pub loop-job-init : goal.loop-job-init

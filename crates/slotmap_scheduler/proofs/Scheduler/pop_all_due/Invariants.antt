@@ -1,5 +1,5 @@
 use Rattle.std.proofs.Common.{length}
-use Rattle.slotmap_scheduler.proofs.Taking.{Taking}
+use Rattle.slotmap_scheduler.proofs.TakingDue.{Taking}
 use Rattle.slotmap_scheduler.proofs.Scheduler.pop_all_due.Given as goal
 
 abbrev pub invariant-loop-job : goal.invariant-loop-job

@@ -19,7 +19,7 @@ module _ {T : Type 0} where
 
   -- All that the iterator yielded was added, and it is at its end. Or a value was refused, which the error holds, and what was
   -- yielded before was added
-  pub record Extends {It : Type 0} (it : It) (old : List (Key × T)) (result : Result (Unit {0}) (PushError T)) (new : List (Key × T)) (gives : It → Option T → It → Type 0) : Type 0 where
+  pub record AddsAll {It : Type 0} (it : It) (old : List (Key × T)) (result : Result (Unit {0}) (PushError T)) (new : List (Key × T)) (gives : It → Option T → It → Type 0) : Type 0 where
     pub values : List T
     pub adds : Adds old values new
     pub ended : MatchResult result (λ _. Drains gives it values) (λ error. (rest : It) × YieldsThen gives it values (Some (refused error)) rest)

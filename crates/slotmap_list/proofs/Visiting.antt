@@ -7,7 +7,7 @@ use Rattle.std.specs.Option.{option_or}
 use Rattle.slotmap.specs.Words.{Key, IsSpent, KeepsSpent}
 use Rattle.slotmap.proofs.Callers.{keys_total, exact_keys, itself}
 use Rattle.slotmap_list.specs.Sequence.{Sequence, value_of, first_or, key_after, with_value_at, without, IsOnce}
-use Rattle.slotmap_list.specs.Retain.{Retains, RetainsEach, CallableOnEach}
+use Rattle.slotmap_list.specs.Retain.{RetainsOne, RetainsEach, CallableInOrder}
 use Rattle.slotmap_list.proofs.NodeLists.{by_key, cond_none, value_of-append, once_apart, once_drop, same}
 use Rattle.slotmap_list.proofs.Chains.{without-split, key_after-split}
 use Rattle.slotmap_list.proofs.Written.{once-written}
@@ -60,10 +60,10 @@ module _ {T : Type 0} where
       ap length (from-split ys z.0 z.1 zs (once_apart ys (z ∷ zs) z.0 z.1 once (ap (λ b. cond b (Some z.1) (value_of z.0 zs)) (itself keys_total exact_keys z.0))))
 
 module _ {F K T : Type 0} (g : Mut F (K × (MutBor T × Unit {0})) (Bool × (MutBor T × Unit {0}))) (data_of : K → Key) where
-  each_push : (f : F) (es left : List (Key × T)) (f' : F) (e : Key × T) (more : List (Key × T)) (f'' : F) → RetainsEach g data_of f es left f' → Retains g data_of f' e more f''
+  each_push : (f : F) (es left : List (Key × T)) (f' : F) (e : Key × T) (more : List (Key × T)) (f'' : F) → RetainsEach g data_of f es left f' → RetainsOne g data_of f' e more f''
       → RetainsEach g data_of f (es ++ e ∷ []) (left ++ more) f''
   each_push f [] left f' e more f'' all one =
-      (more, f'', [], subst (λ x. Retains g data_of x e more f'') all.1 one, (refl, refl), ap (λ l. l ++ more) all.0 ∙ sym (append-nil more))
+      (more, f'', [], subst (λ x. RetainsOne g data_of x e more f'') all.1 one, (refl, refl), ap (λ l. l ++ more) all.0 ∙ sym (append-nil more))
   each_push f (x ∷ es) left f' e more f'' all one =
       (all.0, all.1, all.2 ++ more, all.3, each_push all.1 es all.2 f' e more f'' all.4 one, ap (λ l. l ++ more) all.5 ∙ append_assoc all.0 all.2 more)
 
@@ -124,14 +124,14 @@ module _ {F K T : Type 0} (g : Mut F (K × (MutBor T × Unit {0})) (Bool × (Mut
       old_here = r.old_is ∙ ap (λ l. r.done ++ l) here.2
 
       -- the closure may be called for it
-      pub retaining_takes : CallableOnEach g data_of f old.elements → Takes g f' (key, (shown, tt))
+      pub retaining_takes : CallableInOrder g data_of f old.elements → Takes g f' (key, (shown, tt))
       retaining_takes callable = callable.at r.done (k, here.0) here.1 r.left f' key shown old_here r.visited is shown_is
 
       module _ (f'' : F) (stays : Bool) (after : MutBor T) (called : Called g f' (key, (shown, tt)) (stays, (after, tt)) f'') (next : Option Key) (goes : next ≡ key_after k now.elements) where
         next_is : next ≡ first_or here.1 None
         next_is = goes ∙ ap (key_after k) now_here ∙ key_after-split r.left k here.0 here.1 apart
 
-        one : Retains g data_of f' (k, here.0) (cond stays ((k, after.now) ∷ []) []) f''
+        one : RetainsOne g data_of f' (k, here.0) (cond stays ((k, after.now) ∷ []) []) f''
         one = record { key = key; at = is; shown = shown; shows = shown_is; stays = stays; after = after; called = called; left_is = refl }
 
         written : with_value_at k after.now now.elements ≡ r.left ++ (k, after.now) ∷ here.1
@@ -166,7 +166,7 @@ module _ {F K T : Type 0} (g : Mut F (K × (MutBor T × Unit {0})) (Bool × (Mut
           old_is = old_here ∙ sym (append_assoc r.done ((k, here.0) ∷ []) here.1);
           now_is = written ∙ sym (append_assoc r.left ((k, after.now) ∷ []) here.1);
           visited = each_push f r.done r.left f' (k, here.0) ((k, after.now) ∷ []) f'' r.visited
-              (subst (λ b. Retains g data_of f' (k, here.0) (cond b ((k, after.now) ∷ []) []) f'') keep one);
+              (subst (λ b. RetainsOne g data_of f' (k, here.0) (cond b ((k, after.now) ∷ []) []) f'') keep one);
           at_is = next_is;
           for_good = λ u there none. r.for_good u there (ap (value_of u) now_here ∙ absent_before u (sym (ap (value_of u) written) ∙ none));
           gone = r.gone;
@@ -190,7 +190,7 @@ module _ {F K T : Type 0} (g : Mut F (K × (MutBor T × Unit {0})) (Bool × (Mut
               rest = here.1;
               old_is = old_here ∙ sym (append_assoc r.done ((k, here.0) ∷ []) here.1);
               now_is = new_is ∙ ap (λ l. l ++ here.1) (sym (append-nil r.left));
-              visited = each_push f r.done r.left f' (k, here.0) [] f'' r.visited (subst (λ b. Retains g data_of f' (k, here.0) (cond b ((k, after.now) ∷ []) []) f'') drop one);
+              visited = each_push f r.done r.left f' (k, here.0) [] f'' r.visited (subst (λ b. RetainsOne g data_of f' (k, here.0) (cond b ((k, after.now) ∷ []) []) f'') drop one);
               at_is = next_is;
               for_good = λ u there none. elim (still_absent r.left k here.0 here.1 u (sym (ap (value_of u) new_is) ∙ none)) [
                 | inl is_k ↦ subst (IsSpent new.cursors) (sym is_k) spent
@@ -204,7 +204,7 @@ module _ {F K T : Type 0} (g : Mut F (K × (MutBor T × Unit {0})) (Bool × (Mut
   still_callable f [] left f' always all = subst (always_mut g) (sym all.1) always
   still_callable f (e ∷ es) left f' always all = still_callable all.1 es all.2 f' (mut_next g f _ _ all.1 all.1 all.3.called refl always) all.4
 
-  pub callable_on_each : (f : F) (es : List (Key × T)) → always_mut g f → CallableOnEach g data_of f es
-  callable_on_each f es always = record {
+  pub callable_in_order : (f : F) (es : List (Key × T)) → always_mut g f → CallableInOrder g data_of f es
+  callable_in_order f es always = record {
     at = λ before e after left f' key shown is visited at shows. ((still_callable f before left f' always visited).at ((key, (shown, tt)) ∷ [])).0;
   }

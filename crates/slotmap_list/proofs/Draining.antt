@@ -1,0 +1,44 @@
+-- What the steps of a drain keep, and what they yield.
+use Rattle.std.proofs.Common.{◌≡◌, List, [], ◌∷◌, ◌++◌, Option, Some, None, IsSome, IfSome, inl, inr, refl, sym, ap, subst, ◌∙◌, map as list_map}
+use Rattle.std.specs.Iterator.{Yields}
+use Rattle.std.specs.Prelude.{option_map}
+use Rattle.slotmap.specs.Words.{Key, IsSpent, KeepsSpent}
+use Rattle.slotmap_list.specs.Sequence.{Sequence, value_of, TakesFront}
+use Rattle.slotmap_list.specs.declared.drain.Drain.{Drain}
+use Rattle.slotmap_list.specs.Drain.{EmptiesList, SameLoan, DrainSteps, KeepsLent, YieldsInOrder}
+use Rattle.slotmap_list.proofs.Adding.{stands_or_first}
+
+module _ {T : Type 0} where
+  -- a list whose first element was taken out, and then the others
+  pub emptied_then : (old mid : Sequence T) (k : Key) (v : T) → old.elements ≡ (k, v) ∷ mid.elements → IsSpent mid.cursors k → KeepsSpent old.cursors mid.cursors
+      → (end : Sequence T) → EmptiesList mid end → EmptiesList old end
+  emptied_then old mid k v takes spent keeps end empties = record {
+    empty = empties.empty;
+    for_good = λ u there. elim (stands_or_first k v mid.elements u (subst (λ l. IsSome (value_of u l)) takes there)) [
+      | inl still ↦ empties.for_good u still
+      | inr is_k ↦ subst (IsSpent end.cursors) (sym is_k) (empties.gone k spent)
+    ];
+    gone = λ u s. empties.gone u (keeps u s);
+  }
+
+module _ {K T : Type 0} (data_of : K → Key) where
+  pub keeps_lent : (first : Drain K T) → KeepsLent data_of first
+  keeps_lent first [] later run = subst (SameLoan first) run (refl, λ end ends. ends)
+  keeps_lent first (item ∷ items) later run =
+      let step = run.1.1 in
+      let rest = keeps_lent run.0 items later run.2 in
+      (rest.0 ∙ step.0, λ end ends. step.1 end (rest.1 end ends))
+
+  pub yields_in_order : (first : Drain K T) → YieldsInOrder data_of first
+  yields_in_order first [] later run = ap (λ (d : Drain K T). d.list.now.elements) run
+  yields_in_order first (item ∷ items) later run = run.1.0 ∙ ap (λ l. (data_of item.0, item.1) ∷ l) (yields_in_order run.0 items later run.2)
+
+  -- a list whose first element was taken out, if it had one, and then the others
+  pub emptied_after : (old mid : Sequence T) (r : Option (K × T)) → TakesFront old.elements (option_map (λ e. (data_of e.0, e.1)) r) mid.elements
+      → IfSome r (λ e. IsSpent mid.cursors (data_of e.0)) → KeepsSpent old.cursors mid.cursors → (end : Sequence T) → EmptiesList mid end → EmptiesList old end
+  emptied_after old mid None takes spent keeps end empties = record {
+    empty = empties.empty;
+    for_good = λ u there. absurd (let some = subst (λ l. IsSome (value_of u l)) takes.0 there in cc);
+    gone = λ u s. empties.gone u (keeps u s);
+  }
+  emptied_after old mid (Some e) takes spent keeps end empties = emptied_then old mid (data_of e.0) e.1 takes spent keeps end empties
