@@ -1,11 +1,10 @@
 -- What the steps of a drain keep, and what they yield.
-use Rattle.std.proofs.Common.{◌≡◌, List, [], ◌∷◌, ◌++◌, Option, Some, None, IsSome, IfSome, inl, inr, refl, sym, ap, subst, ◌∙◌, map as list_map}
-use Rattle.std.specs.Iterator.{Yields}
+use Rattle.std.proofs.Common.{◌≡◌, [], ◌∷◌, Option, Some, None, IsSome, IfSome, inl, inr, refl, sym, ap, subst, ◌∙◌}
 use Rattle.std.specs.Prelude.{option_map}
 use Rattle.slotmap.specs.Words.{Key, IsSpent, KeepsSpent}
 use Rattle.slotmap_list.specs.Sequence.{Sequence, value_of, TakesFront}
 use Rattle.slotmap_list.specs.declared.drain.Drain.{Drain}
-use Rattle.slotmap_list.specs.Drain.{EmptiesList, SameLoan, DrainSteps, KeepsLent, YieldsInOrder}
+use Rattle.slotmap_list.specs.Drain.{EmptiesList, SameLoan, KeepsLent, YieldsInOrder}
 use Rattle.slotmap_list.proofs.Adding.{stands_or_first}
 
 module _ {T : Type 0} where

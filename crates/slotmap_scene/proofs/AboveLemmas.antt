@@ -3,7 +3,7 @@ use Rattle.std.proofs.Common.{◌≡◌, ℕ, zero, suc, ◌<◌, true, false, c
 use Rattle.std.specs.FinMap as map
 use Rattle.slotmap.specs.Words.{Key}
 use Rattle.slotmap_scene.specs.declared.Node.{Node}
-use Rattle.slotmap_scene.specs.Climb.{Nodes, ClimbsTo, IsTree, has_node, parent_of, parent_in}
+use Rattle.slotmap_scene.specs.Climb.{Nodes, ClimbsTo, IsTree, has_node, parent_of}
 use Rattle.slotmap_scene.specs.Above.{GoesUp, keys_up, HasRoot, roots_in}
 use Rattle.slotmap_scene.proofs.Climbs.{short, leads_live}
 use Rattle.slotmap_scene.proofs.Families.{parent_there}

@@ -1,9 +1,8 @@
 -- The keys above a node, up to its root, and the roots.
-use Rattle.std.specs.Prelude.{◌≡◌, ℕ, zero, suc, Option, Some, None, List, [], ◌∷◌, ◌⊎◌, ⊤, cond, is_some}
-use Rattle.std.specs.FinMap as map
+use Rattle.std.specs.Prelude.{◌≡◌, ℕ, zero, suc, Option, Some, None, List, [], ◌∷◌, ⊤, cond, is_some}
 use Rattle.slotmap.specs.Words.{Key}
 use Rattle.slotmap_scene.specs.declared.Node.{Node}
-use Rattle.slotmap_scene.specs.Climb.{Nodes, ClimbsTo, has_node, parent_of}
+use Rattle.slotmap_scene.specs.Climb.{Nodes, ClimbsTo, parent_of}
 
 module _ {T : Type 0} where
   -- these keys lead from this one up to its root, and above a root there are none

@@ -35,7 +35,7 @@
 //! ```
 #![tactic(auto, using(slotmap::proofs::Callers::keys))]
 
-ghost use Rattle.std.specs.Prelude.{◌≡◌, ◌↔◌, ◌≤◌, ◌+◌, IfOk, IfErr, IsOk, IfSome, IsTrue, option_copied, option_map, true};
+ghost use Rattle.std.specs.Prelude.{◌≡◌, ◌↔◌, ◌≤◌, ◌+◌, IfOk, IfErr, IsOk, IfSome, IsTrue, Some, option_copied, option_map, true};
 ghost use Rattle.std.specs.FinMap as map;
 ghost use Rattle.std.specs.Borrow.{sem};
 ghost use Rattle.std.specs.Option.{option_copied_mut};
@@ -52,6 +52,7 @@ use slotmap::{DefaultKey, InsertError, Key, ReserveError, SlotMap};
 use slotmap_keylist::{inner, outer};
 use std::alloc::Global;
 use std::marker::{Model, PhantomData};
+use std::ops::Index;
 use thiserror::Error;
 
 mod above;
@@ -271,6 +272,19 @@ impl<K: Key, T: Drop> Scene<K, T> {
         ensures live { IfSome result (λ parent. has_node self.now.live (K.data_of parent)) }
     {
         Some(outer(self.nodes.get(inner(node))?.parent?))
+    }
+}
+
+/// `scene[node]` is the value of a node. The caller proves that the node exists.
+impl<K: Key, T: Drop> Index<K> for Scene<K, T> {
+    type Output = T;
+
+    ghost can_index = { λ scene node. has_node scene.live (K.data_of node) };
+
+    ghost index_gives = { λ scene node value. value_of scene.live (K.data_of node) ≡ Some value };
+
+    fn index(&self, node: K) -> &T {
+        &self.nodes[inner(node)].value
     }
 }
 

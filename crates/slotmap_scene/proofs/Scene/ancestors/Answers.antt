@@ -1,5 +1,3 @@
-use Rattle.std.proofs.Common.{sym}
-use Rattle.slotmap_scene.specs.Above.{HasRoot}
 use Rattle.slotmap_scene.proofs.AboveLemmas.{goes_up}
 use Rattle.slotmap_scene.proofs.Scene.ancestors.Goals as goal
 

@@ -1,4 +1,4 @@
-use Rattle.std.proofs.Common.{None, sym, ap, subst, ◌∙◌}
+use Rattle.std.proofs.Common.{sym, ap, subst}
 use Rattle.slotmap_scene.specs.Climb.{parent_in}
 use Rattle.slotmap_scene.specs.Above.{HasRoot}
 use Rattle.slotmap_scene.proofs.AboveLemmas.{parent_rooted}

@@ -1,4 +1,4 @@
-use Rattle.std.proofs.Common.{◌∷◌, Some, sym, ap, subst, ◌∙◌, length, arith}
+use Rattle.std.proofs.Common.{◌∷◌, sym, ap, subst, ◌∙◌, length, arith}
 use Rattle.std.specs.FinMap as map
 use Rattle.slotmap_scene.specs.Climb.{parent_in}
 use Rattle.slotmap_scene.specs.Above.{HasRoot, keys_up}
