@@ -1,4 +1,3 @@
-use Rattle.std.proofs.Common.{sym, ap, ◌∙◌}
 use Rattle.slotmap_scheduler.proofs.Listing.{lists_jobs}
 use Rattle.slotmap_scheduler.proofs.Scheduler.iter.Goals as goal
 
