@@ -41,7 +41,7 @@ HEIGHT = 56
 
 
 # The library of each row program stands for the program too.
-LIBRARIES = {"primary_maps": "primary_rows", "secondary_maps": "secondary_rows"}
+LIBRARIES = {"slotmap_rows_primary": "primary_rows", "slotmap_rows_secondary": "secondary_rows"}
 
 
 def shown(name):

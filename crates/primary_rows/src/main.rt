@@ -7,7 +7,7 @@
 //! those of maps whose keys can be detached. The status is 1 where a result differs, and 3 where a file can't be read, the
 //! output can't be written or memory runs out twice.
 //!
-//! `primary_maps` says which calls the maps have, and how keys, values and slots are written.
+//! `slotmap_rows_primary` says which calls the maps have, and how keys, values and slots are written.
 //!
 //! Calls in runs: `insert V`, `insert_made`, `insert_many N` of the values from 1 on, `get K`, `contains_key K`, `replace K V`,
 //! `remove K`, `retain even`, `clear`, `drain_into`, `keys_into`, `len` and `reserve N`; where keys can be detached also `detach K`
@@ -22,9 +22,9 @@ mod script;
 mod steps;
 
 use crate::runs::{Detachable, Plain, Runner, Runs};
-use primary_maps::{hold_basic, hold_dense, hold_hop};
 use slotmap::{DefaultKey, DenseSlotMap, HopSlotMap, SlotMap};
 use slotmap_rows::{File, Kinds, Number, Stop, run_program};
+use slotmap_rows_primary::{hold_basic, hold_dense, hold_hop};
 use std::io::Write;
 use std::process::ExitCode;
 

@@ -2,7 +2,6 @@
 
 use crate::script::Script;
 use crate::steps::{Answer, Step, plain_command, read_step, write_answer};
-use primary_maps::{Made, make};
 use slotmap::{
     Command, DefaultKey, DetachCommand, Detaching, Primary, Reply, run, run_detaching,
     run_detaching_new, run_new,
@@ -10,6 +9,7 @@ use slotmap::{
 use slotmap_rows::{
     Call, Number, Outcome, Stop, Subject, Sum, Supply, Word, Words, keep_even, look,
 };
+use slotmap_rows_primary::{Made, make};
 use std::marker::PhantomData;
 
 type Answers<'a> = Vec<Answer<'a>>;

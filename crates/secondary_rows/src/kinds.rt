@@ -3,10 +3,10 @@
 use crate::maps::Maps;
 use crate::plain::{Plain, PlainMap};
 use crate::runs::{Alone, Bench, Runs};
-use secondary_maps::{Constant, NoHasher, Seed, Sparse};
 use slotmap::sparse_secondary::DefaultHasher;
 use slotmap::{DefaultKey, SecondaryMap, SparseSecondaryMap};
 use slotmap_rows::{File, Kinds, Number, Stop};
+use slotmap_rows_secondary::{Constant, NoHasher, Seed, Sparse};
 use std::collections::hash_map::RandomState;
 use std::io::Write;
 

@@ -2,12 +2,12 @@
 
 use crate::call::{is_name, read_pair};
 use crate::maps::Maps;
-use secondary_maps::{Held, Keep, Pairs};
 use slotmap::{DefaultKey, Secondary, SlotsError};
 use slotmap_rows::{
     Number, Outcome, Slots, Stop, Supply, Word, read_slots, write_put_three, write_put_two,
     write_slots,
 };
+use slotmap_rows_secondary::{Held, Keep, Pairs};
 
 impl<'a, M: Held<'a, H> + Secondary<DefaultKey, Number<'a>>, H: Copy> Maps<'a, M, H> {
     /// The calls that are given a list of words.
