@@ -1,5 +1,5 @@
 #!/usr/bin/env python3
-"""Writes the blocks of crates/slotmap/CALLING.md and PROVING.md from the proved examples in crates/slotmap_examples.
+"""Writes the blocks of CALLING.md, PROVING.md and STRUCTURES.md from the proved examples.
 
     docs/calling.py            writes the blocks anew
     docs/calling.py --check    says which page is out of date, with status 1
@@ -19,8 +19,12 @@ import re
 import sys
 
 TOP = os.path.dirname(os.path.dirname(os.path.abspath(__file__)))
-PAGES = ["crates/slotmap/CALLING.md", "crates/slotmap/PROVING.md"]
-EXAMPLES = os.path.join(TOP, "crates/slotmap_examples")
+# The pages, and the crate that each copies from.
+PAGES = {
+    "crates/slotmap/CALLING.md": "slotmap_examples",
+    "crates/slotmap/PROVING.md": "slotmap_examples",
+    "docs/STRUCTURES.md": "structure_examples",
+}
 BLOCK = re.compile(r"(<!-- from (?P<file>\S+?)(?:: (?P<items>[^;]*?))?(?P<bare>; no head)? -->\n)\n?```\w+\n.*?\n```\n", re.S)
 ITEM = re.compile(r"(?:pub )?(?:fn|struct|enum|trait|type) (\w+)|impl\b[^{]*? for (\w+)|impl(?:<[^>]*>)? (\w+)")
 
@@ -102,8 +106,8 @@ def method(text, name):
     return "\n".join(lines[start:end + 1])
 
 
-def source(file, wanted, bare):
-    text = read(f"{EXAMPLES}/src/{file}")
+def source(crate, file, wanted, bare):
+    text = read(f"{TOP}/crates/{crate}/src/{file}")
     if not wanted:
         return re.sub(r"\A(//!.*\n)+\n", "", text).rstrip("\n")
     head, items = split(text)
@@ -122,33 +126,33 @@ def source(file, wanted, bare):
     return "\n\n".join(parts)
 
 
-def module_of(file):
+def module_of(crate, file):
     """The path of the source file that a proof file belongs to, as a module."""
     parts = file.split("/")
-    at = next(it for it in reversed(range(len(parts))) if os.path.isfile(f"{EXAMPLES}/src/{'/'.join(parts[:it])}.rt"))
+    at = next(it for it in reversed(range(len(parts))) if os.path.isfile(f"{TOP}/crates/{crate}/src/{'/'.join(parts[:it])}.rt"))
     return ".".join(parts[:at])
 
 
-def proof(file):
-    text = read(f"{EXAMPLES}/proofs/{file}").rstrip("\n")
+def proof(crate, file):
+    text = read(f"{TOP}/crates/{crate}/proofs/{file}").rstrip("\n")
     for part in ("proofs", "specs.contracts", "specs.declared"):
-        text = text.replace(f"Rattle.slotmap_examples.{part}.{module_of(file)}.", f"Rattle.app.{part}.")
+        text = text.replace(f"Rattle.{crate}.{part}.{module_of(crate, file)}.", f"Rattle.app.{part}.")
     return text
 
 
-def block(found):
+def block(crate, found):
     file = found.group("file")
     if file.endswith(".rt"):
-        return f"{found.group(1)}\n```rust\n{source(file, found.group('items'), found.group('bare'))}\n```\n"
-    return f"{found.group(1)}\n```text\n{proof(file)}\n```\n"
+        return f"{found.group(1)}\n```rust\n{source(crate, file, found.group('items'), found.group('bare'))}\n```\n"
+    return f"{found.group(1)}\n```text\n{proof(crate, file)}\n```\n"
 
 
 def main():
     stale = 0
-    for page in PAGES:
+    for page, crate in PAGES.items():
         path = os.path.join(TOP, page)
         text = read(path)
-        new = BLOCK.sub(block, text)
+        new = BLOCK.sub(lambda found: block(crate, found), text)
         if new.count("<!-- from ") != len(BLOCK.findall(text)):
             sys.exit(f"calling.py: a block is missing after a line of {page}")
         if "--check" in sys.argv:

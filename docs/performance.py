@@ -145,6 +145,37 @@ def stepped(figures):
     return table(["What", "instructions, 1,000 keys", "nanoseconds, 100,000 keys"], rows)
 
 
+def structures(figures):
+    """The structures beside code of the usual form: the ratios of instructions and of times."""
+
+    def cell(measure, kind, operation, slots):
+        row = figures.row(measure, kind, operation, slots)
+        return f"{row.port:.1f} / {row.rust:.1f} = **{row.ratio:.2f}**" if row else "?"
+
+    rows = [
+        [f"`{MAPS[kind].type}`: {it.title}", *[cell(*place) for place in places_of(kind, it.name)]]
+        for kind in operations.STRUCTURES
+        for it in operations.operations_of(MAPS[kind])
+    ]
+    return table(["What", "instructions, 1,000 keys", "nanoseconds, 1,000 keys", "nanoseconds, 100,000 keys"], rows)
+
+
+def places_of(kind, operation):
+    measures = [("instructions", 1_000), ("time", 1_000), ("time", 100_000)]
+    return [(measure, kind, operation, slots) for measure, slots in measures]
+
+
+def memory_structures(figures):
+    """The bytes for an element, an edge, a node and a job of a structure that grows from nothing."""
+    rows = []
+    for kind in operations.STRUCTURES:
+        for it in operations.operations_of(MAPS[kind]):
+            row = figures.row("memory", kind, it.name, 1_000_000)
+            if row:
+                rows.append([f"`{MAPS[kind].type}`: {it.title}", f"{row.port:.1f} / {row.rust:.1f} = **{row.ratio:.2f}**"])
+    return table(["Bytes, after", "1,000,000 keys"], rows)
+
+
 def growth(figures):
     """The time of an insert into a map that grows from nothing to so many keys."""
 
@@ -205,6 +236,8 @@ TABLES = {
     "memory-values": memory_values,
     "values": values,
     "stepped": stepped,
+    "structures": structures,
+    "memory-structures": memory_structures,
     "growth": growth,
     "spread": spread,
 }

@@ -18,18 +18,22 @@ sys.dont_write_bytecode = True
 import build
 import results
 from measure import Bench
-from operations import MAPS, FAMILIES, operations_of
+from operations import FAMILIES, MAPS, STRUCTURES, operations_of
 
 SIZES = {"instructions": [1_000, 100_000], "time": [1_000, 100_000, 1_000_000], "memory": [1_000_000]}
 
 # The families with a few operations are measured at one size each.
 ONE_SIZE = {"instructions": [1_000], "time": [100_000], "memory": [1_000_000]}
 
+# The structures are measured at two sizes.
+STRUCTURE_SIZES = {"instructions": [1_000], "time": [1_000, 100_000], "memory": [1_000_000]}
+
 # The time of growth is measured at more keys, too.
 MANY = 10_000_000
 
-# Memory is measured where a map is filled, and where it is more than a few pages.
+# Memory is measured where a map or a structure is filled, and where it is more than a few pages.
 FEW = 100_000
+FILLS = ("insert", "push", "build", "run")
 
 
 def place_of(row):
@@ -42,6 +46,8 @@ def sizes_of(measure, kind, operation):
     """The numbers of slots at which an operation is measured."""
     if kind.family in ("Valued", "Stepped"):
         return ONE_SIZE[measure]
+    if kind.name in STRUCTURES:
+        return STRUCTURE_SIZES[measure]
     is_growth = measure == "time" and kind.family == "Primary" and operation.name == "insert"
     return SIZES[measure] + [MANY] * is_growth
 
@@ -54,7 +60,7 @@ def tasks(args):
             for operation in operations_of(kind):
                 is_wanted = not args.operations or operation.name in args.operations
                 for n in args.sizes or sizes_of(measure, kind, operation):
-                    if is_wanted and (measure != "memory" or operation.name.startswith("insert") and n >= FEW):
+                    if is_wanted and (measure != "memory" or operation.name.startswith(FILLS) and n >= FEW):
                         found.append((measure, kind, operation, n))
     return found
 

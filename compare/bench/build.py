@@ -88,7 +88,7 @@ def with_crates_below(names, lines):
 def write_port(folder, crates):
     """A repository in `folder`: copies of the maps' crates and those below them, and the library over them."""
     lines = {it.split(":")[0]: it for it in read(os.path.join(crates, "../crates.txt")).split("\n") if it}
-    used = sorted({"slotmap_core"} | {it.crate for it in operations.MAPS})
+    used = sorted({"slotmap", "slotmap_core"} | {it.crate for it in operations.MAPS})
     copied = with_crates_below(used, lines)
     write(
         os.path.join(folder, "crates.txt"),

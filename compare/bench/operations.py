@@ -31,6 +31,10 @@ def few(n):
     return n - n // 100 * 99
 
 
+def fourfold(n):
+    return 4 * n
+
+
 PRIMARY = [
     Operation("insert", "Insert", "`insert`, from an empty map", each),
     Operation("insert-room", "InsertRoom", "`insert`, with room", each),
@@ -108,7 +112,46 @@ STEPPED = [
     Operation("churn", "Churn", "a removal and an insert in both", each),
 ]
 
-FAMILIES = {"Primary": PRIMARY, "Secondary": SECONDARY, "Valued": VALUED, "Stepped": STEPPED}
+LIST = [
+    Operation("push", "Push", "`push_back`, from an empty list", each),
+    Operation("walk", "Walk", "a step of `iter`, over elements that lie by chance", each),
+    Operation("touch", "Touch", "`move_to_front` of an element by chance", each),
+    Operation("churn", "Churn", "a removal by cursor, and `push_back`", each),
+]
+
+GRAPH = [
+    Operation("build", "Build", "`add_edge`, and a fourth of `add_node`", fourfold),
+    Operation("ends", "Ends", "an edge of `edges_from`, and the value at its end", fourfold),
+    Operation("search", "Search", "a node of `reachable`, and its value", each),
+    Operation("churn", "Churn", "`remove_edge`, and `add_edge`", fourfold),
+]
+
+SCENE = [
+    Operation("build", "Build", "`add_child` below a node by chance", each),
+    Operation("move", "Move", "`reparent` to a node by chance", each),
+    Operation("climb", "Climb", "`fold_up` from a node to its root", each),
+    Operation("children", "Children", "a node of `children`, and its value", each),
+]
+
+SCHEDULER = [
+    Operation("run", "Run", "`schedule`, and later `pop_due`", each),
+    Operation("churn", "Churn", "`cancel`, and `schedule`", each),
+    Operation("postpone", "Postpone", "`reschedule`", each),
+]
+
+FAMILIES = {
+    "Primary": PRIMARY,
+    "Secondary": SECONDARY,
+    "Valued": VALUED,
+    "Stepped": STEPPED,
+    "List": LIST,
+    "Graph": GRAPH,
+    "Scene": SCENE,
+    "Scheduler": SCHEDULER,
+}
+
+# The structures are compared with code of the usual form, written for the bench (driver/list.rs and its like).
+STRUCTURES = ["list", "graph", "scene", "scheduler"]
 
 # `folded` is the port's sparse map beside the Rust crate's with a hasher like the port's, and `stepped` a SecondaryMap in step with
 # a SlotMap.
@@ -123,6 +166,10 @@ MAPS = [
     Map("dense-values", 7, "DenseSlotMap", "slotmap_dense", "Valued", []),
     Map("hop-values", 8, "HopSlotMap", "slotmap_hop", "Valued", []),
     Map("stepped", 9, "SecondaryMap", "slotmap_secondary", "Stepped", []),
+    Map("list", 10, "StableList", "slotmap_list", "List", []),
+    Map("graph", 11, "Graph", "slotmap_graph", "Graph", []),
+    Map("scene", 12, "Scene", "slotmap_scene", "Scene", []),
+    Map("scheduler", 13, "Scheduler", "slotmap_scheduler", "Scheduler", []),
 ]
 
 

@@ -29,12 +29,13 @@ CRATES = {
     "secondary_rows": (2.2, 4, "checks the secondary maps"),
     "joined_rows": (3.85, 4, "checks runs on two maps"),
     STRUCTURES: (5.5, 4, "list, graph, entities, scene, scheduler"),
-    "slotmap_examples": (3.85, 5, "examples of callers"),
+    "slotmap_examples": (2.2, 5, "callers of the maps"),
+    "structure_examples": (3.85, 5, "callers of the structures"),
     "slotdemo": (5.5, 5, "program: a demonstration"),
 }
 COLORS = {
     "slotmap": BLUE, "slotrun": ORANGE, "primary_rows": GREEN, "secondary_rows": RED, "joined_rows": SOFT, STRUCTURES: BLUE,
-    "slotmap_examples": SOFT, "slotdemo": ORANGE,
+    "slotmap_examples": BLUE, "structure_examples": SOFT, "slotdemo": ORANGE,
 }
 PITCH, LEFT, TOPS = 152, 22, [698, 598, 460, 316, 186, 66]
 HEIGHT = 56
@@ -98,7 +99,7 @@ def drop(name, to, shift, bus, color):
 
 
 # Two crates that use the same ones have a level and a shift each, so that their lines keep apart.
-LEVELS = {"slotmap": (30, -12), "slotrun": (52, 12), "primary_rows": (28, -12), "secondary_rows": (48, 4), "joined_rows": (38, 20), STRUCTURES: (58, 36), "slotmap_examples": (46, -30), "slotdemo": (32, 0)}
+LEVELS = {"slotmap": (30, -12), "slotrun": (52, 12), "primary_rows": (28, -12), "secondary_rows": (48, 4), "joined_rows": (38, 20), STRUCTURES: (58, 36), "slotmap_examples": (18, -99), "structure_examples": (46, -30), "slotdemo": (32, 0)}
 for name in uses:
     for to in sorted(uses[name], key=lambda it: CRATES[it][0]):
         if to == "slotmap_core":

@@ -9,15 +9,19 @@
 
 mod clock;
 mod folded;
+mod graph;
+mod list;
 mod operations;
 mod primary;
+mod scene;
+mod scheduler;
 mod secondary;
 mod shuffler;
 mod stepped;
 mod value;
 mod valued;
 
-use operations::{Primary, Secondary, Stepped};
+use operations::{Graph, List, Primary, Scene, Scheduler, Secondary, Stepped};
 use std::hint::black_box;
 use std::process::ExitCode;
 
@@ -43,6 +47,10 @@ fn rust_bench(map: u32, operation: u32, n: u64, rounds: u64) -> Option<u64> {
         7 => valued::dense::workload(operation, n, rounds),
         8 => valued::hop::workload(operation, n, rounds),
         9 => Some(stepped::workload(Stepped::of_number(operation)?, n, rounds)),
+        10 => Some(list::workload(List::of_number(operation)?, n, rounds)),
+        11 => Some(graph::workload(Graph::of_number(operation)?, n, rounds)),
+        12 => Some(scene::workload(Scene::of_number(operation)?, n, rounds)),
+        13 => Some(scheduler::workload(Scheduler::of_number(operation)?, n, rounds)),
         _ => None,
     }
 }

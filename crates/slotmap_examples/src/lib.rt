@@ -2,9 +2,7 @@
 #![tactic(auto, using(slotmap::proofs::Callers::keys))]
 
 pub mod any_map;
-pub mod arm;
 pub mod clones;
-pub mod cursors;
 pub mod drains;
 pub mod exchange;
 pub mod hops;
@@ -23,6 +21,5 @@ pub mod side_writes;
 pub mod sparse_table;
 pub mod stale;
 pub mod strangers;
-pub mod timer;
 pub mod tour;
 pub mod walks;

@@ -405,6 +405,3 @@ impl<K: Key, N: fmt::Debug, E: fmt::Debug> fmt::Debug for Graph<K, N, E> {
             .finish()
     }
 }
-
-#[cfg(test)]
-mod tests;

@@ -187,6 +187,3 @@ fn value_member(element: &Value) -> Option<&Value>
 {
     element.get("value").filter(|value| !value.is_null())
 }
-
-#[cfg(test)]
-mod tests;

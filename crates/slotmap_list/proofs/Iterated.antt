@@ -1,5 +1,7 @@
 -- Steps of an iterator over a list, from either end.
 use Rattle.std.proofs.Common.{◌≡◌, ℕ, zero, suc, ◌-◌, ◌<◌, List, [], ◌∷◌, ◌++◌, length, Option, Some, None, inl, inr, refl, sym, ap, subst, ◌∙◌, arith, length-append, append_assoc, append-nil}
+use Rattle.std.specs.Option.{option_map, MatchOption}
+use Rattle.std.specs.List.{slice_get}
 use Rattle.std.specs.FinMap as map
 use Rattle.slotmap.specs.Words.{Key}
 use Rattle.slotmap_list.specs.declared.Node.{Node}
@@ -125,3 +127,19 @@ module _ {T : Type 0} where
   walk_next_is nodes (suc n) first k node more at found =
       ap (λ o. follow_key nodes o (follow nodes n)) at ∙ ap (λ o. follow_node k o (follow nodes n)) found
       ∙ ap (λ m. (k, node.value) ∷ follow nodes m node.next) (let e : n ≡ suc n - 1 = omega arith in e)
+
+-- what the first step of an iterator yields, from either end
+module _ {A B : Type 0} (view : A → B) where
+  pub first_yielded : (xs rest : List B) (o : Option A) → MatchOption o ((xs ≡ []) × (rest ≡ [])) (λ x. xs ≡ view x ∷ rest) → option_map view o ≡ slice_get xs 0
+  first_yielded xs rest None is = sym (ap (λ l. slice_get l 0) is.0)
+  first_yielded xs rest (Some x) is = sym (ap (λ l. slice_get l 0) is)
+
+  behind : (xs : List B) (x : B) → slice_get (xs ++ x ∷ []) (length xs) ≡ Some x
+  behind [] x = refl
+  behind (y ∷ xs) x = behind xs x
+
+  pub last_yielded : (xs rest : List B) (o : Option A) → MatchOption o ((xs ≡ []) × (rest ≡ [])) (λ x. xs ≡ rest ++ view x ∷ []) → option_map view o ≡ slice_get xs (length xs - 1)
+  last_yielded xs rest None is = sym (ap (λ l. slice_get l (length l - 1)) is.0)
+  last_yielded xs rest (Some x) is =
+      let at : length (rest ++ view x ∷ []) - 1 ≡ length rest = omega (arith, length-append rest (view x ∷ [])) in
+      sym (ap (λ l. slice_get l (length l - 1)) is ∙ ap (slice_get (rest ++ view x ∷ [])) at ∙ behind rest (view x))

@@ -1,4 +1,5 @@
 pub mod Adding
+pub mod Callers
 pub mod Chains
 pub mod Draining
 pub mod Iterated

@@ -51,12 +51,14 @@ mod links;
 mod moves;
 mod retain;
 mod take;
+mod values;
 
 pub use cursor::Cursor;
 pub use drain::Drain;
 pub use into_iter::IntoIter;
 pub use iter::Iter;
 use links::Nodes;
+pub use values::{Cursors, Values};
 
 // An element's value, with the keys of its neighbours.
 #[derive(Debug, Drop)]
@@ -359,6 +361,3 @@ impl<K: Key, T: Drop> Index<K> for StableList<K, T> {
         &self.nodes[inner(cursor)].value
     }
 }
-
-#[cfg(test)]
-mod tests;

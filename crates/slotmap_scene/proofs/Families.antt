@@ -145,7 +145,7 @@ module _ {T : Type 0} where
       others = λ q other. parented_others (without_child nodes (parent_of nodes k) k) k None q other ∙ left_parent (parent_of nodes k) q;
     }
 
-    detached_others : (q : Key) → parent_of nodes k ≢ Some q → children_of (as_root nodes k) q ≡ children_of nodes q
+    pub detached_others : (q : Key) → parent_of nodes k ≢ Some q → children_of (as_root nodes k) q ≡ children_of nodes q
     detached_others q other = parented_children (without_child nodes (parent_of nodes k) k) k None q ∙ left_others (parent_of nodes k) q other
 
     pub detached_here : (q : Key) → parent_of nodes k ≡ Some q → has_node nodes q → children_of (as_root nodes k) q ≡ without k (children_of nodes q)
@@ -160,10 +160,10 @@ module _ {T : Type 0} where
       others = λ q other. parented_others (with_child nodes p k) k (Some p) q other ∙ written_parent nodes p (λ ks. ks ++ k ∷ []) q;
     }
 
-    attached_others : (q : Key) → q ≢ p → children_of (attached nodes k p) q ≡ children_of nodes q
+    pub attached_others : (q : Key) → q ≢ p → children_of (attached nodes k p) q ≡ children_of nodes q
     attached_others q other = parented_children (with_child nodes p k) k (Some p) q ∙ written_others nodes p (λ ks. ks ++ k ∷ []) q other
 
-    attached_here : has_node nodes p → children_of (attached nodes k p) p ≡ children_of nodes p ++ k ∷ []
+    pub attached_here : has_node nodes p → children_of (attached nodes k p) p ≡ children_of nodes p ++ k ∷ []
     attached_here there = parented_children (with_child nodes p k) k (Some p) p ∙ written_is nodes p (λ ks. ks ++ k ∷ []) there
 
   module _ (nodes : Nodes T) (listed : AreListed nodes) where

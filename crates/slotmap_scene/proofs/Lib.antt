@@ -1,4 +1,5 @@
 pub mod AboveLemmas
+pub mod Callers
 pub mod Climbs
 pub mod Families
 pub mod Lasts

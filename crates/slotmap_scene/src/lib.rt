@@ -287,6 +287,3 @@ impl<K: Key, T: Drop> Index<K> for Scene<K, T> {
         &self.nodes[inner(node)].value
     }
 }
-
-#[cfg(test)]
-mod tests;

@@ -4,7 +4,7 @@ ghost use Rattle.std.specs.Prelude.{◌≡◌, ◌↔◌, ◌<◌, Some, None, I
 ghost use Rattle.std.specs.FinMap as map;
 ghost use Rattle.slotmap.specs.Words.{Key as KeyOf, IsSpent, KeepsSpent, Inserts, Keeps, Leaves};
 ghost use Rattle.slotmap_scene.specs.Climb.{IsWithin, has_node, lacks_node};
-ghost use Rattle.slotmap_scene.specs.Family.{attached, as_root, child, forgets, value_of, with_child};
+ghost use Rattle.slotmap_scene.specs.Family.{IsScene, attached, as_root, child, forgets, value_of, with_child};
 ghost use Rattle.slotmap_scene.specs.Refusals.{RefusesNode, RefusesChild, RefusesParent};
 
 use crate::links::{add, add_below, leave_parent, push_child, remove_tree, set_parent};
@@ -69,6 +69,7 @@ impl<K: Key, T: Drop> Scene<K, T> {
         ensures nodes { OnOk result (has_node self.old.live (K.data_of node) × has_node self.old.live (K.data_of parent)) }
         ensures no_cycle { OnOk result (IsWithin self.old.live (K.data_of parent) (K.data_of node) → ⊥) }
         ensures stale { KeepsSpent self.old self.new }
+        ensures valid { IsScene self.old.live }
         ensures err { IfErr result (RefusesParent self.old.live (K.data_of node) (K.data_of parent)) }
         ensures unchanged { OnErr result (self.new ≡ self.old) }
     {

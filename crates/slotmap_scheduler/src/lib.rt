@@ -243,6 +243,3 @@ impl<K: Key, T: Drop> Index<K> for Scheduler<K, T> {
         &self.jobs[DefaultKey::from(handle.data())].job
     }
 }
-
-#[cfg(test)]
-mod tests;

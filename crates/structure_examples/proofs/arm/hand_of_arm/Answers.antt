@@ -5,7 +5,7 @@ use Rattle.std.proofs.lemmas.Int.{int_wrap-add_right}
 use Rattle.slotmap_scene.specs.Offset.{shifted}
 use Rattle.slotmap_scene.specs.WorldValue.{IsWorld}
 use Rattle.slotmap_scene.proofs.Worlds.{world_added_root, world_added_below, world_is}
-use Rattle.slotmap_examples.proofs.arm.hand_of_arm.Goals as goal
+use Rattle.structure_examples.proofs.arm.hand_of_arm.Goals as goal
 
 wrap_three : (a b c : ℤ) → int_wrap w32 (a +ℤ int_wrap w32 (b +ℤ c)) ≡ int_wrap w32 (a +ℤ b +ℤ c)
 wrap_three a b c = int_wrap-add_right w32 a (b +ℤ c) ∙ ap (int_wrap w32) (sym (+ℤ_assoc a b c))

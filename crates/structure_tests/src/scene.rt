@@ -1,7 +1,7 @@
 //! Calls on their happy path, in short functions.
 
-use crate::Scene;
 use slotmap::NodeKey;
+use slotmap_scene::Scene;
 use std::alloc::Global;
 use std::test::Fail;
 

@@ -1,7 +1,7 @@
 use Rattle.std.proofs.Common.{[], ◌∷◌, ◌++◌, ◌≤◌, ℕ, refl, sym, ap, ◌∙◌, append_assoc}
 use Rattle.slotmap.specs.Words.{Key}
 use Rattle.std.proofs.lemmas.List.Elements.{All-nil, All-push}
-use Rattle.slotmap_examples.proofs.timer.run_due.Goals as goal
+use Rattle.structure_examples.proofs.timer.run_due.Goals as goal
 
 pub loop-job-init : goal.loop-job-init
 loop-job-init c = ([], refl, All-nil _)

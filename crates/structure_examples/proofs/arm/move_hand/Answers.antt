@@ -3,7 +3,7 @@ use Rattle.slotmap_scene.specs.Family.{value_of}
 use Rattle.slotmap_scene.specs.Offset.{shifted}
 use Rattle.slotmap_scene.specs.WorldValue.{IsWorld}
 use Rattle.slotmap_scene.proofs.Worlds.{one_world, world_moved}
-use Rattle.slotmap_examples.proofs.arm.move_hand.Goals as goal
+use Rattle.structure_examples.proofs.arm.move_hand.Goals as goal
 
 pub prove_eq-unreachable-requires : goal.prove_eq-unreachable-requires
 prove_eq-unreachable-requires c =

@@ -1,11 +1,11 @@
 //! Tests of texts, errors and calls of closures that no example shows. Expected texts were worked out by
 //! hand.
 
-use super::{key_from_value, key_to_value, slots_from_value, slots_to_value};
 use serde_json::Value;
 use slotmap_core::errors::{JsonError, OutOfMemory};
 use slotmap_core::keys::{DefaultKey, Key, KeyData};
 use slotmap_core::serial::SlotRecord;
+use slotmap_json::{key_from_value, key_to_value, slots_from_value, slots_to_value};
 use std::alloc::{AllocError, Global};
 use std::cell::Cell;
 use std::test::Fail;

@@ -1,7 +1,7 @@
 //! Calls on their happy path, in short functions.
 
-use crate::Scheduler;
 use slotmap::NodeKey;
+use slotmap_scheduler::Scheduler;
 use std::alloc::Global;
 use std::test::Fail;
 

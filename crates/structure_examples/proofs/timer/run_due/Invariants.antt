@@ -1,7 +1,7 @@
 use Rattle.std.proofs.Common.{◌≡◌, ◌++◌, ◌≤◌, ℕ, length}
 use Rattle.std.specs.List.{All}
 use Rattle.slotmap_scheduler.specs.Schedule.{Waiting}
-use Rattle.slotmap_examples.proofs.timer.run_due.Given as goal
+use Rattle.structure_examples.proofs.timer.run_due.Given as goal
 
 -- those that were taken out were due
 abbrev pub invariant-loop-job : goal.invariant-loop-job

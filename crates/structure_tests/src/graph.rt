@@ -1,7 +1,7 @@
 //! Calls on their happy path, in short functions.
 
-use crate::{EdgeKey, Graph};
 use slotmap::NodeKey;
+use slotmap_graph::{EdgeKey, Graph};
 use std::alloc::Global;
 use std::test::Fail;
 

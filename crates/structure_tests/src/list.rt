@@ -1,7 +1,7 @@
 //! Calls on their happy path, in short functions.
 
-use crate::{Cursor, StableList};
 use slotmap::NodeKey;
+use slotmap_list::{Cursor, StableList};
 use std::alloc::Global;
 use std::test::Fail;
 
@@ -78,7 +78,7 @@ fn copies(rt: HostRuntime) -> Result<(), Fail> {
 }
 
 #[test]
-#[tactic(auto, using(crate::proofs::Visiting::callable_in_order))]
+#[tactic(auto, using(slotmap_list::proofs::Visiting::callable_in_order))]
 fn retains(rt: HostRuntime) -> Result<(), Fail> {
     let alloc = rt.alloc();
     let (mut list, _, _) = pair(alloc)?;

@@ -1,0 +1,38 @@
+//! Callers of a list, each proved only from its contracts.
+
+ghost use Rattle.std.specs.Prelude.{◌≡◌, ◌≢◌, Some, None, IfSome, IfNone, IfOk, OnOk, OnErr};
+ghost use Rattle.slotmap.specs.Words.{Key as KeyOf, IsSpent};
+ghost use Rattle.slotmap_list.specs.Sequence.{value_of};
+
+use slotmap_list::{Cursor, PlaceError, StableList};
+
+/// Returns the cursor of an element that has this value, or `None` if no element has it.
+pub fn find(list: &StableList<Cursor, u64>, wanted: u64) -> Option<Cursor>
+    ensures found { IfSome result (λ cursor. value_of cursor list.now.elements ≡ Some wanted) }
+    ensures none { IfNone result ((k : KeyOf) → value_of k list.now.elements ≡ Some wanted → ⊥) }
+{
+    for (cursor, value) in list {
+        if *value == wanted {
+            return Some(cursor);
+        }
+    }
+    None
+}
+
+/// Puts a new element in the place of another one, whose cursor is gone for good.
+pub fn renew(
+    list: &mut StableList<Cursor, u64>,
+    cursor: Cursor,
+    value: u64,
+) -> Result<Cursor, PlaceError<u64>>
+    ensures there { IfOk result (λ key. value_of key list.new.elements ≡ Some value) }
+    ensures gone { OnOk result (value_of cursor list.new.elements ≡ None) }
+    ensures for_good { OnOk result (IsSpent list.new.cursors cursor) }
+    ensures others { IfOk result (λ key. (q : KeyOf) → q ≢ cursor → q ≢ key
+        → value_of q list.new.elements ≡ value_of q list.old.elements) }
+    ensures unchanged { OnErr result (list.new.elements ≡ list.old.elements) }
+{
+    let key = list.insert_after(cursor, value)?;
+    list.remove(cursor);
+    Ok(key)
+}

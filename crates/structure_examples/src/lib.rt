@@ -1,0 +1,8 @@
+//! Callers of the structures, each proved only from their contracts.
+#![tactic(auto, using(slotmap::proofs::Callers::keys))]
+
+pub mod arm;
+pub mod cursors;
+pub mod forward;
+pub mod groups;
+pub mod timer;
