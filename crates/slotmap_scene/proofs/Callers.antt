@@ -38,6 +38,10 @@ module _ {T : Type 0} (nodes : Nodes T) where
     moved_children scene there =
         attached_here (as_root nodes k) k p live_root ((detached_parents nodes k).same_keys p ∙ there) ∙ ap (λ ks. ks ++ k ∷ []) (rooted_children scene k p)
 
+    -- where k wasn't among these children before
+    pub moved_behind : (ks : List Key) → IsScene nodes → has_node nodes p → children_of nodes p ≡ ks → without k ks ≡ ks → children_of (attached (as_root nodes k) k p) p ≡ ks ++ k ∷ []
+    moved_behind ks scene there are none = moved_children scene there ∙ ap (λ rest. rest ++ k ∷ []) (ap (without k) are ∙ none)
+
     pub moved_others : IsScene nodes → (q : Key) → q ≢ p → children_of (attached (as_root nodes k) k p) q ≡ without k (children_of nodes q)
     moved_others scene q other = attached_others (as_root nodes k) k p live_root q other ∙ rooted_children scene k q
 

@@ -1,6 +1,6 @@
 //! A graph that stays without cycles.
 
-ghost use Rattle.std.specs.Prelude.{◌≡◌, IfOk, IsSome, ⊥};
+ghost use Rattle.std.specs.Prelude.{◌≡◌, IfOk, IsSome};
 ghost use Rattle.slotmap_graph.specs.Search.{Leads};
 
 use slotmap::NodeKey;
