@@ -1,9 +1,9 @@
 //! The calls that add, move and remove nodes.
 
-ghost use Rattle.std.specs.Prelude.{◌≡◌, ◌↔◌, ◌<◌, Some, None, IfOk, IfErr, IsOk, OnOk, OnErr, IfSome, IfNone, OnSome, IsTrue, true, option_map};
+ghost use Rattle.std.specs.Prelude.{◌≡◌, ◌↔◌, ◌<◌, Some, None, IfOk, IfErr, IsOk, OnOk, OnErr, IfSome, IsSome, IfNone, OnSome, IsTrue, true, option_map};
 ghost use Rattle.std.specs.FinMap as map;
 ghost use Rattle.slotmap.specs.Words.{Key as KeyOf, IsSpent, KeepsSpent, Inserts, Keeps, Leaves};
-ghost use Rattle.slotmap_scene.specs.Climb.{IsWithin, has_node, lacks_node};
+ghost use Rattle.slotmap_scene.specs.Climb.{IsWithin, has_node, lacks_node, parent_of};
 ghost use Rattle.slotmap_scene.specs.Family.{attached, as_root, child, forgets, value_of, with_child};
 ghost use Rattle.slotmap_scene.specs.Refusals.{RefusesNode, RefusesChild, RefusesParent};
 
@@ -118,6 +118,7 @@ impl<K: Key, T: Drop> Scene<K, T> {
         ensures value { result ≡ value_of self.old.live (K.data_of node) }
         ensures removed { (k : KeyOf) → IsWithin self.old.live k (K.data_of node) → lacks_node self.new.live k }
         ensures others { (k : KeyOf) → (IsWithin self.old.live k (K.data_of node) → ⊥) → map.get self.new.live k ≡ option_map (forgets (K.data_of node)) (map.get self.old.live k) }
+        ensures leaves { Leaves self.old self.new }
         ensures for_good { (k : KeyOf) → has_node self.old.live k → IsWithin self.old.live k (K.data_of node) → IsSpent self.new k }
         ensures stale { KeepsSpent self.old self.new }
         ensures unchanged { IfNone result (self.new ≡ self.old) }
