@@ -1,20 +1,14 @@
 -- A node that is put beside another one, among the children of its parent.
-use Rattle.std.proofs.Common.{◌≡◌, ℕ, ◌+◌, ◌<◌, true, false, cond, Some, List, [], ◌∷◌, ◌++◌, length, get_or, take, drop, refl, sym, ap, subst, ◌∙◌, arith, append_assoc, IsSome}
-use Rattle.std.specs.List.{insert}
+use Rattle.std.proofs.Common.{◌≡◌, ◌+◌, true, false, cond, Some, List, [], ◌∷◌, ◌++◌, refl, sym, ap, subst, ◌∙◌, arith}
 use Rattle.std.specs.FinMap as map
-use Rattle.std.proofs.Math.ListN.{drop_of_length-le}
-use Rattle.std.proofs.lemmas.List.{take_more}
 use Rattle.slotmap.specs.Words.{Key, Content, Inserts}
 use Rattle.slotmap_keylist.specs.KeyLists.{is_key, same, times}
-use Rattle.slotmap_keylist.proofs.Counts.{times_first, times_pushed, behind_split}
+use Rattle.slotmap_keylist.proofs.Counts.{times_first, times_pushed}
 use Rattle.slotmap_scene.specs.declared.Node.{Node}
-use Rattle.slotmap_scene.specs.declared.AddError.{AddError}
-use Rattle.slotmap_scene.specs.declared.AddError.TheVariants.{Gone, Full, Memory}
 use Rattle.slotmap_scene.specs.declared.children.Side.{Side}
 use Rattle.slotmap_scene.specs.declared.children.Side.TheVariants.{Before, After}
 use Rattle.slotmap_scene.specs.Climb.{has_node, lacks_node, parent_of}
 use Rattle.slotmap_scene.specs.Family.{IsScene, child, placed, placed_before, placed_after, with_child, with_children_of, with_sibling}
-use Rattle.slotmap_scene.specs.Refusals.{RefusesBelow, RefusesSibling}
 use Rattle.slotmap_scene.proofs.Families.{scene_reordered, written_keys}
 use Rattle.slotmap_scene.proofs.Moved.{below_added, gained, mid_is, mid_there, not_parent}
 
@@ -36,58 +30,6 @@ module _ (s k x : Key) where
   pub times_placed : (side : Side) (ks : List Key) → times x (placed side s k ks) ≡ times x ks + same k x
   times_placed Before ks = times_before ks
   times_placed After ks = times_after ks
-
--- a search for the place from the front: the sibling is not among the first i keys
-pub record PlacedFrom (side : Side) (s : Key) (ks : List Key) (i : ℕ) : Type 0 where
-  pub place : (k : Key) → placed side s k ks ≡ take i ks ++ placed side s k (drop i ks)
-
-not_here : (side : Side) (s k q : Key) (qs : List Key) → is_key q s ≡ false → placed side s k (q ∷ qs) ≡ q ∷ placed side s k qs
-not_here Before s k q qs other = ap (λ b. cond b (k ∷ q ∷ qs) (q ∷ placed_before s k qs)) other
-not_here After s k q qs other = ap (λ b. cond b (q ∷ k ∷ qs) (q ∷ placed_after s k qs)) other
-
-module _ (side : Side) (s : Key) (ks : List Key) where
-  pub placed_start : PlacedFrom side s ks 0
-  placed_start = record { place = λ k. refl }
-
-  module _ (i : ℕ) (from : PlacedFrom side s ks i) where
-    pub placed_end : i ≡ length ks → (k : Key) → placed side s k ks ≡ insert ks i k
-    placed_end is k =
-        let none = drop_of_length-le ks {i = i} (omega arith) in
-        from.place k ∙ ap (λ l. take i ks ++ placed side s k l) none ∙ ap (λ l. take i ks ++ l) (alone side) ∙ ap (λ l. take i ks ++ k ∷ l) (sym none)
-      where
-        alone : (side : Side) → placed side s k [] ≡ k ∷ []
-        alone Before = refl
-        alone After = refl
-
-    module _ (q : Key) (below : i < length ks) (at : q ≡ get_or ks i q) where
-      shorter : take (i + 1) ks ≡ take i ks ++ q ∷ []
-      shorter = take_more ks i q below ∙ ap (λ r. take i ks ++ r ∷ []) (sym at)
-
-      pub placed_step : is_key q s ≡ false → PlacedFrom side s ks (i + 1)
-      placed_step other = record {
-        place = λ k. from.place k ∙ ap (λ l. take i ks ++ placed side s k l) (behind_split ks i q below at) ∙ ap (λ l. take i ks ++ l) (not_here side s k q (drop (i + 1) ks) other)
-            ∙ sym (append_assoc (take i ks) (q ∷ []) (placed side s k (drop (i + 1) ks))) ∙ ap (λ l. l ++ placed side s k (drop (i + 1) ks)) (sym shorter);
-      }
-
-module _ (s : Key) (ks : List Key) (i : ℕ) (q : Key) (below : i < length ks) (at : q ≡ get_or ks i q) (here : is_key q s ≡ true) where
-  pub found_before : PlacedFrom Before s ks i → (k : Key) → placed Before s k ks ≡ insert ks i k
-  found_before from k =
-      from.place k ∙ ap (λ l. take i ks ++ placed_before s k l) (behind_split ks i q below at)
-      ∙ ap (λ b. take i ks ++ cond b (k ∷ q ∷ drop (i + 1) ks) (q ∷ placed_before s k (drop (i + 1) ks))) here
-      ∙ ap (λ l. take i ks ++ k ∷ l) (sym (behind_split ks i q below at))
-
-  pub found_after : PlacedFrom After s ks i → (k : Key) → placed After s k ks ≡ insert ks (i + 1) k
-  found_after from k =
-      from.place k ∙ ap (λ l. take i ks ++ placed_after s k l) (behind_split ks i q below at)
-      ∙ ap (λ b. take i ks ++ cond b (q ∷ k ∷ drop (i + 1) ks) (q ∷ placed_after s k (drop (i + 1) ks))) here
-      ∙ sym (append_assoc (take i ks) (q ∷ []) (k ∷ drop (i + 1) ks))
-      ∙ ap (λ l. l ++ k ∷ drop (i + 1) ks) (sym (take_more ks i q below ∙ ap (λ r. take i ks ++ r ∷ []) (sym at)))
-
--- why a node isn't put beside another one, whose parent is there
-pub refuses_sibling : {T : Type 0} (c : Content (Node T)) (s : Key) (v : T) (error : AddError T) → IsSome (parent_of c.live s) → RefusesBelow c v error → RefusesSibling c s v error
-refuses_sibling c s v (Gone back) some is = absurd is
-refuses_sibling c s v (Full back) some is = (some, is.0, is.1)
-refuses_sibling c s v (Memory back) some is = (some, is)
 
 -- a node came as the last child of p, and is put beside its sibling s
 module _ {T : Type 0} (old mid : Content (Node T)) (s p k : Key) (v : T) (own : parent_of old.live s ≡ Some p) (there : has_node old.live p) (fresh : lacks_node old.live k)

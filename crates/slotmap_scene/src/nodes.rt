@@ -1,9 +1,9 @@
 //! The calls that add, move and remove nodes.
 
-ghost use Rattle.std.specs.Prelude.{◌≡◌, ◌↔◌, ◌<◌, Some, None, IfOk, IfErr, IsOk, OnOk, OnErr, IfSome, IsSome, IfNone, OnSome, IsTrue, true, option_map};
+ghost use Rattle.std.specs.Prelude.{◌≡◌, ◌↔◌, ◌<◌, Some, None, IfOk, IfErr, IsOk, OnOk, OnErr, IfSome, IfNone, OnSome, IsTrue, true, option_map};
 ghost use Rattle.std.specs.FinMap as map;
 ghost use Rattle.slotmap.specs.Words.{Key as KeyOf, IsSpent, KeepsSpent, Inserts, Keeps, Leaves};
-ghost use Rattle.slotmap_scene.specs.Climb.{IsWithin, has_node, lacks_node, parent_of};
+ghost use Rattle.slotmap_scene.specs.Climb.{IsWithin, has_node, lacks_node};
 ghost use Rattle.slotmap_scene.specs.Family.{attached, as_root, child, forgets, value_of, with_child};
 ghost use Rattle.slotmap_scene.specs.Refusals.{RefusesNode, RefusesChild, RefusesParent};
 
