@@ -8,7 +8,7 @@ use Rattle.slotmap_scene.specs.declared.Node.{Node}
 use Rattle.slotmap_scene.specs.Climb.{Nodes, has_node, lacks_node, parent_in, parent_of, ClimbsTo, IsTree, IsWithin, with_parent, with_parent_in}
 use Rattle.slotmap_keylist.specs.KeyLists.{same, times, without}
 use Rattle.slotmap_keylist.proofs.Counts.{one_itself, one_other, times_pushed, times_gone, times_without}
-use Rattle.slotmap_scene.specs.Family.{value_of, is_parent, children_in, children_of, AreListed, IsScene, IsNodeClone, MayLeave, child, with_children_in, with_child, without_child, as_root, attached}
+use Rattle.slotmap_scene.specs.Family.{value_of, is_parent, children_in, children_of, AreListed, IsScene, IsNodeClone, IsNewChild, MayLeave, child, with_children_in, with_child, without_child, as_root, attached}
 use Rattle.slotmap_scene.proofs.Climbs.{leads_live, Parents, tree_cut, tree_hung, tree_root, tree_same}
 
 -- who is a parent of whom
@@ -313,6 +313,21 @@ module _ {T : Type 0} (nodes : Nodes T) (k : Key) where
 
   pub value_attached : (p q : Key) → value_of (attached nodes k p) q ≡ value_of nodes q
   value_attached p q = value_parented (with_child nodes p k) k (Some p) q ∙ value_written nodes p (λ ks. ks ++ k ∷ []) q
+
+-- a node that came is a new child
+pub new_child : {T : Type 0} (nodes new : Nodes T) (k p : Key) (v : T) (f : List Key → List Key) → has_node nodes p → lacks_node nodes k
+    → new ≡ map.insert (with_children_in nodes p (map.get nodes p) f) k (child (Some p) v) → IsNewChild nodes new k p v (f (children_of nodes p))
+new_child nodes new k p v f there fresh is =
+    let written = with_children_in nodes p (map.get nodes p) f in
+    let apart : p ≢ k = λ same. (let live = subst (has_node nodes) same there in cc) in
+    let here : map.get (map.insert written k (child (Some p) v)) p ≡ map.get written p = get-insert_other written k (child (Some p) v) p apart in
+    subst (λ m. IsNewChild nodes m k p v (f (children_of nodes p))) (sym is) (record {
+      node = get-insert_here written k (child (Some p) v);
+      children_are = ap children_in here ∙ written_is nodes p f there;
+      value = ap (option_map (λ n. n.value)) here ∙ value_written nodes p f p;
+      parent = ap parent_in here ∙ written_parent nodes p f p;
+      others = λ q other elsewhere. get-insert_other written k (child (Some p) v) q other ∙ written_other nodes p f (map.get nodes p) q elsewhere;
+    })
 
 -- a value that is written
 module _ {T : Type 0} (nodes : Nodes T) (k : Key) (n : Node T) (v : T) (there : map.get nodes k ≡ Some n) where

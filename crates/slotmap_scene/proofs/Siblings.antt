@@ -8,8 +8,8 @@ use Rattle.slotmap_scene.specs.declared.Node.{Node}
 use Rattle.slotmap_scene.specs.declared.children.Side.{Side}
 use Rattle.slotmap_scene.specs.declared.children.Side.TheVariants.{Before, After}
 use Rattle.slotmap_scene.specs.Climb.{has_node, lacks_node, parent_of}
-use Rattle.slotmap_scene.specs.Family.{IsScene, child, placed, placed_before, placed_after, with_child, with_children_of, with_sibling}
-use Rattle.slotmap_scene.proofs.Families.{scene_reordered, written_keys}
+use Rattle.slotmap_scene.specs.Family.{IsNewChild, IsScene, child, children_of, placed, placed_before, placed_after, with_child, with_children_in, with_children_of, with_sibling}
+use Rattle.slotmap_scene.proofs.Families.{scene_reordered, new_child, written_keys}
 use Rattle.slotmap_scene.proofs.Moved.{below_added, gained, mid_is, mid_there, not_parent}
 
 module _ (s k x : Key) where
@@ -44,9 +44,19 @@ module _ {T : Type 0} (old mid : Content (Node T)) (s p k : Key) (v : T) (own : 
   parent_stays = mid_there old held mid p k k (child (Some p) v) refl there still_fresh inserts
 
   module _ (side : Side) (n : Node T) (found : map.get mid.live p ≡ Some n) (ks : List Key) (fill : (others : List Key) (last : Key) → n.children ≡ others ++ last ∷ [] → ks ≡ placed side s last others) where
+    placed_here : Inserts (record old { live = with_children_in old.live p (map.get old.live p) (placed side s k) }) k (child (Some p) v) (record mid { live = map.insert mid.live p (record n { children = ks }) })
+    placed_here = below_added old held mid p k k (child (Some p) v) refl there still_fresh inserts (placed side s k) n found ks (λ others is. fill others k is)
+
+    pub sibling_gained : (q : Key) → parent_of old.live s ≡ Some q → IsNewChild old.live (map.insert mid.live p (record n { children = ks })) k q v (placed side s k (children_of old.live q))
+    sibling_gained q is =
+        let h = sym own ∙ is in
+        let same : p ≡ q = cc in
+        subst (λ x. IsNewChild old.live (map.insert mid.live p (record n { children = ks })) k x v (placed side s k (children_of old.live x))) same
+        (new_child old.live (map.insert mid.live p (record n { children = ks })) k p v (placed side s k) there fresh placed_here.live)
+
     pub sibling_added : Inserts (record old { live = with_sibling side old.live s k }) k (child (parent_of old.live s) v) (record mid { live = map.insert mid.live p (record n { children = ks }) })
     sibling_added = subst (λ o. Inserts (record old { live = with_children_of old.live o (placed side s k) }) k (child o v) (record mid { live = map.insert mid.live p (record n { children = ks }) })) (sym own)
-        (below_added old held mid p k k (child (Some p) v) refl there still_fresh inserts (placed side s k) n found ks (λ others is. fill others k is))
+        placed_here
 
     alike : (x : Key) → times x ks ≡ times x n.children
     alike x =

@@ -1,5 +1,5 @@
 -- The children of each node, and how a call changes them.
-use Rattle.std.specs.Prelude.{◌≡◌, ℕ, Option, Some, None, List, [], ◌∷◌, ◌++◌, ◌≤◌, ⊤, cond, option_map}
+use Rattle.std.specs.Prelude.{◌≡◌, ◌≢◌, ℕ, Option, Some, None, List, [], ◌∷◌, ◌++◌, ◌≤◌, ⊤, cond, option_map}
 use Rattle.std.specs.FinMap as map
 use Rattle.slotmap.specs.Words.{Key}
 use Rattle.slotmap_scene.specs.declared.Node.{Node}
@@ -57,6 +57,14 @@ module _ {T : Type 0} where
   -- the value of k, if k is a node
   abbrev pub value_of : Nodes T → Key → Option T
   value_of nodes k = option_map (λ n. n.value) (map.get nodes k)
+
+  -- k is a new child of p, which has these children now, and the same value and parent; all other nodes are the same
+  pub record IsNewChild (old new : Nodes T) (k p : Key) (v : T) (children : List Key) : Type 0 where
+    pub node : map.get new k ≡ Some (child (Some p) v)
+    pub children_are : children_of new p ≡ children
+    pub value : value_of new p ≡ value_of old p
+    pub parent : parent_of new p ≡ parent_of old p
+    pub others : (q : Key) → q ≢ k → q ≢ p → map.get new q ≡ map.get old q
 
   abbrev pub with_value_in : Nodes T → Key → Option (Node T) → T → Nodes T
   with_value_in nodes k None v = nodes

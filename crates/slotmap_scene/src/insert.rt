@@ -1,10 +1,10 @@
 //! The calls that add a node beside another one.
 
-ghost use Rattle.std.specs.Prelude.{◌≡◌, IfOk, IfErr, OnOk, OnErr, IsSome};
-ghost use Rattle.slotmap.specs.Words.{Inserts, IsSpent, Keeps, KeepsSpent};
+ghost use Rattle.std.specs.Prelude.{◌≡◌, Some, IfOk, IfErr, OnOk, OnErr, IsSome};
+ghost use Rattle.slotmap.specs.Words.{Key as KeyOf, Inserts, IsSpent, Keeps, KeepsSpent};
 ghost use Rattle.slotmap_scene.specs.declared.children.Side.TheVariants.{Before, After};
 ghost use Rattle.slotmap_scene.specs.Climb.{lacks_node, parent_of};
-ghost use Rattle.slotmap_scene.specs.Family.{child, with_sibling};
+ghost use Rattle.slotmap_scene.specs.Family.{IsNewChild, child, children_of, placed, placed_before, placed_after, with_sibling};
 ghost use Rattle.slotmap_scene.specs.Refusals.{RefusesSibling};
 
 use crate::children::Side;
@@ -23,6 +23,8 @@ impl<K: Key, T: Drop> Scene<K, T> {
     ) -> Result<DefaultKey, AddError<T>>
         ensures adds { IfOk result (λ key. Inserts (record self.old { live = with_sibling side self.old.live sibling key })
             key (child (parent_of self.old.live sibling) value) self.new) }
+        ensures gains { IfOk result (λ key. (p : KeyOf) → parent_of self.old.live sibling ≡ Some p
+            → IsNewChild self.old.live self.new.live key p value (placed side sibling key (children_of self.old.live p))) }
         ensures fresh { IfOk result (λ key. lacks_node self.old.live key) }
         ensures unspent { IfOk result (λ key. IsSpent self.old key → ⊥) }
         ensures stale { KeepsSpent self.old self.new }
@@ -58,6 +60,8 @@ impl<K: Key, T: Drop> Scene<K, T> {
         // The parent of the sibling has one more child, under a new key.
         ensures adds { IfOk result (λ key. Inserts (record self.old { live = with_sibling Before self.old.live (K.data_of sibling) (K.data_of key) })
             (K.data_of key) (child (parent_of self.old.live (K.data_of sibling)) value) self.new) }
+        ensures gains { IfOk result (λ key. (p : KeyOf) → parent_of self.old.live (K.data_of sibling) ≡ Some p
+            → IsNewChild self.old.live self.new.live (K.data_of key) p value (placed_before (K.data_of sibling) (K.data_of key) (children_of self.old.live p))) }
         ensures fresh { IfOk result (λ key. lacks_node self.old.live (K.data_of key)) }
         ensures unspent { IfOk result (λ key. IsSpent self.old (K.data_of key) → ⊥) }
         ensures stale { KeepsSpent self.old self.new }
@@ -88,6 +92,8 @@ impl<K: Key, T: Drop> Scene<K, T> {
         // The parent of the sibling has one more child, under a new key.
         ensures adds { IfOk result (λ key. Inserts (record self.old { live = with_sibling After self.old.live (K.data_of sibling) (K.data_of key) })
             (K.data_of key) (child (parent_of self.old.live (K.data_of sibling)) value) self.new) }
+        ensures gains { IfOk result (λ key. (p : KeyOf) → parent_of self.old.live (K.data_of sibling) ≡ Some p
+            → IsNewChild self.old.live self.new.live (K.data_of key) p value (placed_after (K.data_of sibling) (K.data_of key) (children_of self.old.live p))) }
         ensures fresh { IfOk result (λ key. lacks_node self.old.live (K.data_of key)) }
         ensures unspent { IfOk result (λ key. IsSpent self.old (K.data_of key) → ⊥) }
         ensures stale { KeepsSpent self.old self.new }

@@ -1,10 +1,10 @@
 //! Links between nodes: each call changes one link, or one end of it.
 
-ghost use Rattle.std.specs.Prelude.{◌≡◌, ◌<◌, Some, None, IfOk, IfErr, IsOk, IfSome, OnOk, OnErr, option_map, true};
+ghost use Rattle.std.specs.Prelude.{◌≡◌, ◌<◌, ◌++◌, ◌∷◌, [], Some, None, IfOk, IfErr, IsOk, IfSome, OnOk, OnErr, option_map, true};
 ghost use Rattle.std.specs.FinMap as map;
 ghost use Rattle.slotmap.specs.Words.{Key as KeyOf, IsContent, IsSpent, KeepsSpent, Inserts, Keeps, Leaves, MayGrow};
 ghost use Rattle.slotmap_scene.specs.Climb.{IsWithin, has_node, lacks_node, parent_of, with_parent};
-ghost use Rattle.slotmap_scene.specs.Family.{IsScene, child, value_of, with_child, without_child, MayLeave};
+ghost use Rattle.slotmap_scene.specs.Family.{IsNewChild, IsScene, child, children_of, value_of, with_child, without_child, MayLeave};
 ghost use Rattle.slotmap_scene.specs.Refusals.{RefusesNode, RefusesBelow};
 
 use crate::children::Children;
@@ -69,6 +69,7 @@ pub(crate) fn add_below<T: Drop>(
 ) -> Result<DefaultKey, AddError<T>>
     requires { has_node nodes.old.live parent }
     ensures adds { IfOk result (λ key. Inserts (record nodes.old { live = with_child nodes.old.live parent key }) key (child (Some parent) value) nodes.new) }
+    ensures gains { IfOk result (λ key. IsNewChild nodes.old.live nodes.new.live key parent value (children_of nodes.old.live parent ++ key ∷ [])) }
     ensures fresh { IfOk result (λ key. lacks_node nodes.old.live key) }
     ensures unspent { IfOk result (λ key. IsSpent nodes.old key → ⊥) }
     ensures err { IfErr result (RefusesBelow nodes.old value) }

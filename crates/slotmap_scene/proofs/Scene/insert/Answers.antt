@@ -3,7 +3,7 @@ use Rattle.slotmap.proofs.Callers.{spent_with_value}
 use Rattle.slotmap_scene.specs.Climb.{parent_of}
 use Rattle.slotmap_scene.proofs.Families.{parent_there}
 use Rattle.slotmap_scene.proofs.Moved.{child_added}
-use Rattle.slotmap_scene.proofs.Siblings.{parent_stays, sibling_added, sibling_scene}
+use Rattle.slotmap_scene.proofs.Siblings.{parent_stays, sibling_added, sibling_gained, sibling_scene}
 use Rattle.slotmap_scene.proofs.Scene.insert.Goals as goal
 
 pub index_mut-requires : goal.index_mut-requires
@@ -25,6 +25,13 @@ returns-clause-adds g c =
     let own : parent_of c.self.inside.nodes.live c.args.sibling ≡ Some c.in-Some.parent = rw c.self.view_is (sym c.in-Some.ensures.value) in
     let there = parent_there c.self.inside.nodes.live c.self.invariant.tree c.args.sibling c.in-Some.parent own in
     rw (← c.self.view_is) (sibling_added c.self.inside.nodes c.add_below.new.nodes c.args.sibling c.in-Some.parent c.in_ok-key.key c.args.value own there c.in_ok-key.ensures.fresh c.in_ok-key.ensures.adds
+    c.args.side c.index_mut.result.now c.index_mut.ensures.value c.settle_last.new.self c.settle_last.ensures)
+
+pub returns-clause-gains : goal.returns-clause-gains
+returns-clause-gains g c =
+    let own : parent_of c.self.inside.nodes.live c.args.sibling ≡ Some c.in-Some.parent = rw c.self.view_is (sym c.in-Some.ensures.value) in
+    let there = parent_there c.self.inside.nodes.live c.self.invariant.tree c.args.sibling c.in-Some.parent own in
+    rw (← c.self.view_is) (sibling_gained c.self.inside.nodes c.add_below.new.nodes c.args.sibling c.in-Some.parent c.in_ok-key.key c.args.value own there c.in_ok-key.ensures.fresh c.in_ok-key.ensures.adds
     c.args.side c.index_mut.result.now c.index_mut.ensures.value c.settle_last.new.self c.settle_last.ensures)
 
 pub returns-clause-stale : goal.returns-clause-stale
