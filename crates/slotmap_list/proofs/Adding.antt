@@ -1,11 +1,13 @@
 -- Many values that are added at the back.
+use Rattle.std.specs.FinMap as map
+use Rattle.std.specs.FinSet as set
 use Rattle.std.proofs.Common.{◌≡◌, ◌≤◌, ◌⊎◌, cond, List, [], ◌∷◌, ◌++◌, length, map as list_map, Some, IsSome, Result, Ok, Err, IsOk, IfOk, inl, inr, refl, sym, ap, subst, ◌∙◌, arith, append_assoc, append-nil}
-use Rattle.slotmap.specs.Words.{Key, Content, IsSpent, KeepsSpent, Inserts}
+use Rattle.slotmap.specs.Words.{Key, Content, IsSpent, KeepsSpent, Inserts, Keeps}
 use Rattle.slotmap_list.specs.Sequence.{Sequence, value_of, TakesFront}
 use Rattle.slotmap_list.specs.declared.PushError.{PushError}
 use Rattle.slotmap_list.specs.declared.PushError.TheVariants.{Full, Memory}
 use Rattle.slotmap_list.specs.Refused.{RefusesPush}
-use Rattle.slotmap_list.specs.Additions.{Adds, refused}
+use Rattle.slotmap_list.specs.Additions.{Adds, FullAtLimit, refused}
 use Rattle.slotmap_list.proofs.NodeLists.{by_key}
 
 -- what a call ensures of its result, where it succeeds
@@ -17,6 +19,11 @@ module _ {T : Type 0} where
   pub refused_is : (cursors : Content (Unit {0})) (v : T) (error : PushError T) → RefusesPush cursors v error → refused error ≡ v
   refused_is cursors v (Full back) is = is.1
   refused_is cursors v (Memory back) is = is.1
+
+  -- a refused push leaves as many keys as there were
+  pub full_after : (old new : Content (Unit {0})) (v : T) (error : PushError T) → RefusesPush old v error → Keeps old new → FullAtLimit new error
+  full_after old new v (Full back) is keeps = omega (arith, is.0, ap map.len keeps.live, ap set.len keeps.detached, ap set.len keeps.retired)
+  full_after old new v (Memory back) is keeps = omega (arith, is.0.below_limit, ap map.len keeps.live, ap set.len keeps.detached, ap set.len keeps.retired)
 
   abbrev pub values : List (Key × T) → List T
   values es = list_map (λ e. e.1) es

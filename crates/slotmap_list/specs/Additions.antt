@@ -1,7 +1,7 @@
 -- Many values that are added to a list at once.
-use Rattle.std.specs.Prelude.{◌≡◌, ◌++◌, List, Option, Some, Result, MatchResult, map as list_map}
+use Rattle.std.specs.Prelude.{◌≡◌, ◌<◌, ◌++◌, List, Option, Some, Result, MatchResult, map as list_map}
 use Rattle.std.specs.Iterator.{Drains, YieldsThen}
-use Rattle.slotmap.specs.Words.{Key}
+use Rattle.slotmap.specs.Words.{Key, Content, used, most}
 use Rattle.slotmap_list.specs.declared.PushError.{PushError}
 use Rattle.slotmap_list.specs.declared.PushError.TheVariants.{Full, Memory}
 
@@ -10,6 +10,11 @@ module _ {T : Type 0} where
   abbrev pub refused : PushError T → T
   refused (Full v) = v
   refused (Memory v) = v
+
+  -- `Full` if and only if a map can hold no more keys than it has now
+  abbrev pub FullAtLimit : Content (Unit {0}) → PushError T → Type 0
+  FullAtLimit cursors (Full v) = used cursors ≡ most
+  FullAtLimit cursors (Memory v) = used cursors < most
 
   -- these values stand at the back, in this order, under cursors of their own; the elements before them are the same
   pub record Adds (old : List (Key × T)) (values : List T) (new : List (Key × T)) : Type 0 where

@@ -4,7 +4,7 @@ ghost use Rattle.std.specs.Prelude.{◌≡◌, ◌+◌, ◌≤◌, [], List, IsO
 ghost use Rattle.std.specs.Iterator.{IsFinite, Drains, YieldsThen};
 ghost use Rattle.slotmap.specs.Words.{Key as KeyOf, IsSpent, Keeps, KeepsSpent, RefusesCapacity, used};
 ghost use Rattle.slotmap_list.specs.Sequence.{value_of};
-ghost use Rattle.slotmap_list.specs.Additions.{Adds, AddsAll, refused};
+ghost use Rattle.slotmap_list.specs.Additions.{Adds, AddsAll, FullAtLimit, refused};
 
 use crate::{PushError, StableList};
 use slotmap::{Key, ReserveError};
@@ -13,9 +13,10 @@ use std::alloc::Global;
 impl<K: Key, T: Drop> StableList<K, T> {
     /// Adds each value of an iterator at the back, in its order.
     ///
-    /// If a value can't be added, the error holds it. The values before it are then in the list, and
-    /// the rest of the iterator is dropped. The iterator has to end. It takes constant time a value,
-    /// unless a vector grows. In Rust this is the trait `Extend`.
+    /// If a value can't be added, the error holds it. It is `Full` if the list then has as many elements
+    /// as a map can hold, counting those whose slots are retired, else `Memory`. The values before it are
+    /// then in the list, and the rest of the iterator is dropped. The iterator has to end. It takes
+    /// constant time a value, unless a vector grows. In Rust this is the trait `Extend`.
     ///
     /// ```
     /// let mut list = StableList::new(alloc)?;
@@ -28,6 +29,7 @@ impl<K: Key, T: Drop> StableList<K, T> {
             I.IntoIter.can_next it × IsFinite (I.IntoIter.remaining it) }
         ensures extends { (it : I.IntoIter) × I.into_iter_gives iter it
             × AddsAll it self.old.elements result self.new.elements I.IntoIter.next_gives }
+        ensures err { IfErr result (FullAtLimit self.new.cursors) }
         ensures gone { KeepsSpent self.old.cursors self.new.cursors }
     {
         for value in iter {
@@ -73,9 +75,9 @@ impl<K: Key, T: Drop> StableList<K, T> {
     /// and their old ones are never used again.
     ///
     /// Room is made first. So if the call fails, both lists have the same elements. It fails with
-    /// `TooGreat` if more than 4294967294 elements would be there, counting cursors that are used up,
-    /// and with `Memory` if memory runs out. It takes time linear in the number of elements of the
-    /// other list.
+    /// `TooGreat` if more than 4294967294 elements would be there, counting those whose slots are
+    /// retired, and with `Memory` if memory runs out. It takes time linear in the number of elements of
+    /// the other list.
     ///
     /// ```
     /// let mut list = StableList::new(alloc)?;

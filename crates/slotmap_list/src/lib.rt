@@ -193,7 +193,8 @@ impl<K: Key, T: Drop> StableList<K, T> {
     /// The next `additional` elements are added without allocating. The errors are these; either
     /// leaves the same elements:
     ///
-    /// - `TooGreat`: more than 4294967294 elements would be there, counting cursors that are used up.
+    /// - `TooGreat`: more than 4294967294 elements would be there, counting those whose slots are
+    ///   retired.
     /// - `Memory`: memory runs out.
     ///
     /// ```

@@ -1,14 +1,14 @@
 -- What a call that changes one link makes of the parent and the children of each node.
-use Rattle.std.proofs.Common.{◌≡◌, ◌≢◌, ◌⊎◌, ℕ, zero, suc, ◌+◌, ◌<◌, true, false, Option, Some, None, List, [], ◌∷◌, ◌++◌, is_some, refl, sym, ap, subst, ◌∙◌, inl, inr, arith}
+use Rattle.std.proofs.Common.{◌≡◌, ◌≢◌, ◌⊎◌, ℕ, zero, suc, ◌+◌, ◌≤◌, ◌<◌, true, false, Option, Some, None, List, [], ◌∷◌, ◌++◌, is_some, refl, sym, ap, subst, ◌∙◌, inl, inr, arith}
 use Rattle.std.specs.Prelude.{option_map}
 use Rattle.std.specs.FinMap as map
-use Rattle.slotmap.specs.Words.{Key}
-use Rattle.slotmap.proofs.Callers.{get-insert_here, get-insert_other, same_or_other, keys_total, exact_keys}
+use Rattle.slotmap.specs.Words.{Key, Content, ClonesEqual, IsCloneOf, IsCloneBy}
+use Rattle.slotmap.proofs.Callers.{get-insert_here, get-insert_other, same_or_other, keys_total, exact_keys, clone_live}
 use Rattle.slotmap_scene.specs.declared.Node.{Node}
 use Rattle.slotmap_scene.specs.Climb.{Nodes, has_node, lacks_node, parent_in, parent_of, ClimbsTo, IsTree, IsWithin, with_parent, with_parent_in}
 use Rattle.slotmap_keylist.specs.KeyLists.{same, times, without}
 use Rattle.slotmap_keylist.proofs.Counts.{one_itself, one_other, times_pushed, times_gone, times_without}
-use Rattle.slotmap_scene.specs.Family.{value_of, is_parent, children_in, children_of, AreListed, IsScene, MayLeave, child, with_children_in, with_child, without_child, as_root, attached}
+use Rattle.slotmap_scene.specs.Family.{value_of, is_parent, children_in, children_of, AreListed, IsScene, IsNodeClone, IsNewChild, MayLeave, child, with_children_in, with_child, without_child, as_root, attached}
 use Rattle.slotmap_scene.proofs.Climbs.{leads_live, Parents, tree_cut, tree_hung, tree_root, tree_same}
 
 -- who is a parent of whom
@@ -55,7 +55,7 @@ module _ {T : Type 0} where
       | inr other ↦ ap children_in (parented_other (map.get nodes k) q other)
     ]
 
-    parented_keys : (q : Key) → map.contains_key (with_parent nodes k parent) q ≡ map.contains_key nodes q
+    pub parented_keys : (q : Key) → map.contains_key (with_parent nodes k parent) q ≡ map.contains_key nodes q
     parented_keys q = elim (same_or_other q k) [
       | inl same ↦ rw same (ap is_some (parented_here (map.get nodes k) refl) ∙ kept_some (map.get nodes k))
       | inr other ↦ ap is_some (parented_other (map.get nodes k) q other)
@@ -127,7 +127,7 @@ module _ {T : Type 0} where
     left_parent None q = refl
     left_parent (Some p) q = written_parent nodes p (without k) q
 
-    left_keys : (o : Option Key) (q : Key) → map.contains_key (without_child nodes o k) q ≡ map.contains_key nodes q
+    pub left_keys : (o : Option Key) (q : Key) → map.contains_key (without_child nodes o k) q ≡ map.contains_key nodes q
     left_keys None q = refl
     left_keys (Some p) q = written_keys nodes p (without k) q
 
@@ -172,6 +172,10 @@ module _ {T : Type 0} where
 
     pub listed_never : (p k : Key) → parent_of nodes k ≢ Some p → times k (children_of nodes p) ≡ 0
     listed_never p k other = listed p k ∙ is_no_parent (parent_of nodes k) p other
+
+    pub listed_few : (p k : Key) → times k (children_of nodes p) ≤ 1
+    listed_few p k = by_parent (parent_of nodes k) p (times k (children_of nodes p) ≤ 1)
+        (λ is. let one = listed_once p k is in omega arith) (λ other. let none = listed_never p k other in omega arith)
 
     pub listed_parent : (p k : Key) → 0 < times k (children_of nodes p) → parent_of nodes k ≡ Some p
     listed_parent p k more = by_parent (parent_of nodes k) p (parent_of nodes k ≡ Some p) (λ is. is) (λ other. absurd (let none = listed_never p k other in omega arith))
@@ -310,6 +314,21 @@ module _ {T : Type 0} (nodes : Nodes T) (k : Key) where
   pub value_attached : (p q : Key) → value_of (attached nodes k p) q ≡ value_of nodes q
   value_attached p q = value_parented (with_child nodes p k) k (Some p) q ∙ value_written nodes p (λ ks. ks ++ k ∷ []) q
 
+-- a node that came is a new child
+pub new_child : {T : Type 0} (nodes new : Nodes T) (k p : Key) (v : T) (f : List Key → List Key) → has_node nodes p → lacks_node nodes k
+    → new ≡ map.insert (with_children_in nodes p (map.get nodes p) f) k (child (Some p) v) → IsNewChild nodes new k p v (f (children_of nodes p))
+new_child nodes new k p v f there fresh is =
+    let written = with_children_in nodes p (map.get nodes p) f in
+    let apart : p ≢ k = λ same. (let live = subst (has_node nodes) same there in cc) in
+    let here : map.get (map.insert written k (child (Some p) v)) p ≡ map.get written p = get-insert_other written k (child (Some p) v) p apart in
+    subst (λ m. IsNewChild nodes m k p v (f (children_of nodes p))) (sym is) (record {
+      node = get-insert_here written k (child (Some p) v);
+      children_are = ap children_in here ∙ written_is nodes p f there;
+      value = ap (option_map (λ n. n.value)) here ∙ value_written nodes p f p;
+      parent = ap parent_in here ∙ written_parent nodes p f p;
+      others = λ q other elsewhere. get-insert_other written k (child (Some p) v) q other ∙ written_other nodes p f (map.get nodes p) q elsewhere;
+    })
+
 -- a value that is written
 module _ {T : Type 0} (nodes : Nodes T) (k : Key) (n : Node T) (v : T) (there : map.get nodes k ≡ Some n) where
   valued : (q : Key) → (parent_of (map.insert nodes k (record n { value = v })) q ≡ parent_of nodes q) × (children_of (map.insert nodes k (record n { value = v })) q ≡ children_of nodes q)
@@ -326,6 +345,49 @@ module _ {T : Type 0} (nodes : Nodes T) (k : Key) (n : Node T) (v : T) (there : 
     ]) (λ q. (valued q).0) scene.tree;
     listed = listed_alike nodes (map.insert nodes k (record n { value = v })) (λ q. (valued q).0) (λ q. (valued q).1) scene.listed;
   }
+
+-- the children of a node in another order
+module _ {T : Type 0} (nodes : Nodes T) (p : Key) (n : Node T) (there : map.get nodes p ≡ Some n) (ks : List Key) where
+  abbrev reordered : Nodes T
+  reordered = map.insert nodes p (record n { children = ks })
+
+  pub scene_reordered : ((k : Key) → times k ks ≡ times k n.children) → IsScene nodes → IsScene reordered
+  scene_reordered alike scene = record {
+    tree = tree_same nodes reordered (λ q. elim (same_or_other q p) [
+      | inl is ↦ rw is (ap is_some (get-insert_here nodes p (record n { children = ks })) ∙ sym (ap is_some there))
+      | inr other ↦ ap is_some (get-insert_other nodes p (record n { children = ks }) q other)
+    ]) parents scene.tree;
+    listed = λ q k. counts q k ∙ scene.listed q k ∙ ap (λ o. is_parent o q) (sym (parents k));
+  }
+    where
+      parents : (q : Key) → parent_of reordered q ≡ parent_of nodes q
+      parents q = elim (same_or_other q p) [
+        | inl is ↦ rw is (ap parent_in (get-insert_here nodes p (record n { children = ks })) ∙ sym (ap parent_in there))
+        | inr other ↦ ap parent_in (get-insert_other nodes p (record n { children = ks }) q other)
+      ]
+
+      counts : (q k : Key) → times k (children_of reordered q) ≡ times k (children_of nodes q)
+      counts q k = elim (same_or_other q p) [
+        | inl is ↦ rw is (ap (λ o. times k (children_in o)) (get-insert_here nodes p (record n { children = ks })) ∙ alike k ∙ sym (ap (λ o. times k (children_in o)) there))
+        | inr other ↦ ap (λ o. times k (children_in o)) (get-insert_other nodes p (record n { children = ks }) q other)
+      ]
+
+-- a copy has the same trees
+module _ {T : Type 0} (is_clone : T → T → Type 0) where
+  pub nodes_equal : ClonesEqual is_clone → ClonesEqual (IsNodeClone is_clone)
+  nodes_equal same x y is = λ i. record { value = same x.value y.value is.0 i; parent = is.1 i; children = is.2 i }
+
+  pub scene_copied : (nodes copy : Content (Node T)) → IsCloneBy (IsNodeClone is_clone) nodes copy → IsScene nodes.live → IsScene copy.live
+  scene_copied nodes copy clones scene = record {
+    tree = tree_same nodes.live copy.live (clone_live (IsNodeClone is_clone) nodes copy clones) (λ k. (linked (map.get nodes.live k) (map.get copy.live k) (clones.live k)).0) scene.tree;
+    listed = listed_alike nodes.live copy.live (λ k. (linked (map.get nodes.live k) (map.get copy.live k) (clones.live k)).0)
+        (λ k. (linked (map.get nodes.live k) (map.get copy.live k) (clones.live k)).1) scene.listed;
+  }
+    where
+      linked : (o p : Option (Node T)) → IsCloneOf (IsNodeClone is_clone) o p → (parent_in p ≡ parent_in o) × (children_in p ≡ children_in o)
+      linked None p is = (ap parent_in is, ap children_in is)
+      linked (Some n) None is = absurd is
+      linked (Some n) (Some m) is = (is.1, is.2)
 
 -- a reference that is lent gives the same scene back
 pub same_lent : {N A B : Type 0} (n : N) (f g : A → B) → ((w : A) → f w ≡ g w) → ◌≡◌ {A = (N × (A → B)) ⊎ B} (inl (n, f)) (inl (n, g))

@@ -1,9 +1,11 @@
 pub mod AboveLemmas
 pub mod Callers
 pub mod Climbs
+pub mod Descending
 pub mod Families
 pub mod Lasts
+pub mod Leaving
 pub mod Moved
 pub mod Removals
-pub mod Spared
+pub mod Siblings
 pub mod Worlds

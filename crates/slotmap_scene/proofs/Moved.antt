@@ -12,7 +12,7 @@ use Rattle.slotmap_keylist.specs.KeyLists.{times, without}
 use Rattle.slotmap_keylist.proofs.Counts.{one_other, times_pushed, without_none, without_pushed}
 use Rattle.slotmap_scene.specs.Family.{children_in, children_of, IsScene, MayLeave, child, forgets, with_child, with_children_in, without_child, as_root, attached}
 use Rattle.slotmap_scene.proofs.Climbs.{no_cycle}
-use Rattle.slotmap_scene.proofs.Families.{by_parent, listed_once, listed_never, parent_there, parented_here, parented_other, written_here, written_other, written_keys, written_parent}
+use Rattle.slotmap_scene.proofs.Families.{by_parent, listed_once, listed_never, parent_there, parented_here, parented_other, parented_keys, left_keys, written_here, written_other, written_keys, written_parent}
 use Rattle.slotmap_scene.proofs.Families.{written_is, detached_parents, scene_leaf, scene_detached, scene_attached}
 
 module _ {T : Type 0} where
@@ -130,25 +130,32 @@ module _ {T : Type 0} where
     parent_now : map.get added p ≡ option_map (gains nodes g) (map.get nodes p)
     parent_now = get-insert_other (with_child nodes p g) k new p (λ s. apart (sym s)) ∙ pushed_here nodes g p
 
-    module _ (n : Node T) (there : map.get added p ≡ Some n) (ks : List Key) (fill : (others : List Key) (last : Key) → n.children ≡ others ++ last ∷ [] → ks ≡ others ++ k ∷ []) where
-      gained : (o : Option (Node T)) → map.get nodes p ≡ o → Some (record n { children = ks }) ≡ option_map (gains nodes k) o
+    module _ (n : Node T) (there : map.get added p ≡ Some n) where
+      pub gained : (o : Option (Node T)) → map.get nodes p ≡ o → (m : Node T) × (o ≡ Some m) × (n ≡ record m { children = m.children ++ g ∷ [] })
       unfolding gains
       gained None is = absurd (let h = sym there ∙ parent_now ∙ ap (option_map (gains nodes g)) is in cc)
-      gained (Some m) is =
-          let h = sym there ∙ parent_now ∙ ap (option_map (gains nodes g)) is in
-          let n_is : n ≡ record m { children = m.children ++ g ∷ [] } = cc in
-          ap (λ (x : Node T). Some (record x { children = ks })) n_is ∙ ap (λ l. Some (record m { children = l })) (fill m.children g (ap (λ (x : Node T). x.children) n_is))
+      gained (Some m) is = let h = sym there ∙ parent_now ∙ ap (option_map (gains nodes g)) is in (m, refl, (let n_is : n ≡ record m { children = m.children ++ g ∷ [] } = cc in n_is))
 
-      place_filled : map.insert added p (record n { children = ks }) ≡ map.insert (with_child nodes p k) k new
-      place_filled = map.same_map keys_total exact_keys _ _ (λ q. elim (same_or_other q p) [
-        | inl is ↦ rw is (get-insert_here added p (record n { children = ks }) ∙ gained (map.get nodes p) refl
-            ∙ sym (get-insert_other (with_child nodes p k) k new p (λ s. apart (sym s)) ∙ pushed_here nodes k p))
-        | inr other ↦ get-insert_other added p (record n { children = ks }) q other ∙ elim (same_or_other q k) [
-          | inl is ↦ rw is (get-insert_here (with_child nodes p g) k new ∙ sym (get-insert_here (with_child nodes p k) k new))
-          | inr elsewhere ↦ get-insert_other (with_child nodes p g) k new q elsewhere ∙ pushed_other nodes g p q other
-              ∙ sym (get-insert_other (with_child nodes p k) k new q elsewhere ∙ pushed_other nodes k p q other)
-        ]
-      ])
+      -- the children of p with the node in its place
+      module _ (f : List Key → List Key) (ks : List Key) (fill : (others : List Key) → n.children ≡ others ++ g ∷ [] → ks ≡ f others) where
+        abbrev filled : Nodes T
+        filled = with_children_in nodes p (map.get nodes p) f
+
+        parent_filled : Some (record n { children = ks }) ≡ map.get filled p
+        parent_filled =
+            let was = gained (map.get nodes p) refl in
+            ap (λ (x : Node T). Some (record x { children = ks })) was.2 ∙ ap (λ l. Some (record was.0 { children = l })) (fill was.0.children (ap (λ (x : Node T). x.children) was.2))
+            ∙ sym (written_here nodes p f (map.get nodes p) refl ∙ ap (option_map (λ (x : Node T). record x { children = f x.children })) was.1)
+
+        place_filled : map.insert added p (record n { children = ks }) ≡ map.insert filled k new
+        place_filled = map.same_map keys_total exact_keys _ _ (λ q. elim (same_or_other q p) [
+          | inl is ↦ rw is (get-insert_here added p (record n { children = ks }) ∙ parent_filled ∙ sym (get-insert_other filled k new p (λ s. apart (sym s))))
+          | inr other ↦ get-insert_other added p (record n { children = ks }) q other ∙ elim (same_or_other q k) [
+            | inl is ↦ rw is (get-insert_here (with_child nodes p g) k new ∙ sym (get-insert_here filled k new))
+            | inr elsewhere ↦ get-insert_other (with_child nodes p g) k new q elsewhere ∙ pushed_other nodes g p q other
+                ∙ sym (get-insert_other filled k new q elsewhere ∙ written_other nodes p f (map.get nodes p) q other)
+          ]
+        ])
 
   -- a node that comes under p is one that comes as a root, and is then put under p
   pub child_attached : (nodes : Nodes T) (p k : Key) (v : T) → k ≢ p → map.insert (with_child nodes p k) k (child (Some p) v) ≡ attached (map.insert nodes k (child None v)) k p
@@ -253,17 +260,20 @@ module _ {T : Type 0} where
         ]
       ])
 
+    pub placed_there : has_node placed p
+    placed_there = parented_keys left k (Some p) p ∙ left_keys held k (parent_of held k) p ∙ written_keys nodes p (λ ks. ks ++ g ∷ []) p ∙ there
+
     pub scene_moved : IsScene (attached (as_root nodes k) k p)
     scene_moved = scene_attached (as_root nodes k) k p ((detached_parents nodes k).same_keys k ∙ live) (detached_parents nodes k).here ((detached_parents nodes k).same_keys p ∙ there)
         (λ w. out (within_before nodes k p k w)) (scene_detached nodes k live scene)
 
 -- the same count where the children of one node changed
-len_child : {T : Type 0} (nodes : Nodes T) (p k : Key) → map.len (with_child nodes p k) ≡ map.len nodes
-len_child {T} nodes p k = by (map.get nodes p) refl
+len_written : {T : Type 0} (nodes : Nodes T) (p : Key) (f : List Key → List Key) → map.len (with_children_in nodes p (map.get nodes p) f) ≡ map.len nodes
+len_written {T} nodes p f = by (map.get nodes p) refl
   where
-    by : (o : Option (Node T)) → map.get nodes p ≡ o → map.len (with_children_in nodes p o (λ ks. ks ++ k ∷ [])) ≡ map.len nodes
+    by : (o : Option (Node T)) → map.get nodes p ≡ o → map.len (with_children_in nodes p o f) ≡ map.len nodes
     by None is = refl
-    by (Some n) is = let there : map.contains_key nodes p ≡ true = ap is_some is in grind (arith, map.len-insert keys_total nodes p (record n { children = n.children ++ k ∷ [] }))
+    by (Some n) is = let there : map.contains_key nodes p ≡ true = ap is_some is in grind (arith, map.len-insert keys_total nodes p (record n { children = f n.children }))
 
 -- by the clauses of a call that adds a node, whatever it returns
 module _ {T E : Type 0} (old new : Content (Node T)) (scene : IsScene old.live) (v : T) where
@@ -287,23 +297,23 @@ module _ {T : Type 0} (old held mid : Content (Node T)) (p g k : Key) (new : Nod
     pub old_lacks : lacks_node old.live k
     old_lacks = sym (held_live k) ∙ fresh
 
-    not_parent : k ≢ p
+    pub not_parent : k ≢ p
     not_parent same = let live = subst (has_node old.live) (sym same) there in let none = old_lacks in cc
 
     module _ (inserts : Inserts held k new mid) where
-      mid_is : mid.live ≡ map.insert (with_child old.live p g) k new
+      pub mid_is : mid.live ≡ map.insert (with_child old.live p g) k new
       mid_is = inserts.live ∙ ap (λ c. map.insert c.live k new) is
 
-      mid_there : has_node mid.live p
+      pub mid_there : has_node mid.live p
       mid_there = ap (λ m. map.contains_key m p) inserts.live ∙ still_in keys_total exact_keys held.live k new p (held_live p ∙ there)
 
-      pub below_added : (n : Node T) → map.get mid.live p ≡ Some n → (ks : List Key) → ((others : List Key) (last : Key) → n.children ≡ others ++ last ∷ [] → ks ≡ others ++ k ∷ [])
-          → Inserts (record old { live = with_child old.live p k }) k new (record mid { live = map.insert mid.live p (record n { children = ks }) })
-      below_added n found ks fill = record {
+      pub below_added : (f : List Key → List Key) (n : Node T) → map.get mid.live p ≡ Some n → (ks : List Key) → ((others : List Key) → n.children ≡ others ++ g ∷ [] → ks ≡ f others)
+          → Inserts (record old { live = with_children_in old.live p (map.get old.live p) f }) k new (record mid { live = map.insert mid.live p (record n { children = ks }) })
+      below_added f n found ks fill = record {
         offered = inserts.offered ∙ ap (λ c. c.offer) is;
-        below_limit = (let b = inserts.below_limit in let l = ap (λ c. map.len c.live) is ∙ len_child old.live p g in let m = len_child old.live p k in
+        below_limit = (let b = inserts.below_limit in let l = ap (λ c. map.len c.live) is ∙ len_written old.live p (λ ks. ks ++ g ∷ []) in let m = len_written old.live p f in
             let d = ap (λ c. set.len c.detached) is in let r = ap (λ c. set.len c.retired) is in omega arith);
-        live = ap (λ m. map.insert m p (record n { children = ks })) mid_is ∙ place_filled old.live p g k new not_parent n (sym (ap (λ m. map.get m p) mid_is) ∙ found) ks fill;
+        live = ap (λ m. map.insert m p (record n { children = ks })) mid_is ∙ place_filled old.live p g k new not_parent n (sym (ap (λ m. map.get m p) mid_is) ∙ found) f ks fill;
         detached = inserts.detached ∙ ap (λ c. c.detached) is;
         retired = inserts.retired ∙ ap (λ c. c.retired) is;
         next = inserts.next ∙ ap (λ c. map.remove c.next k.index) is;

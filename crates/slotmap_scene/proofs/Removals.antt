@@ -10,7 +10,7 @@ use Rattle.slotmap_keylist.specs.KeyLists.{same, times}
 use Rattle.slotmap_keylist.proofs.Counts.{one_itself, one_other, times_pushed}
 use Rattle.slotmap_scene.specs.Family.{children_in, children_of, IsScene, value_of}
 use Rattle.slotmap_scene.proofs.Climbs.{short, within_up, root_within, has_parent, no_cycle}
-use Rattle.slotmap_scene.proofs.Families.{by_parent, listed_once, listed_never, listed_parent, parent_there, make_listed}
+use Rattle.slotmap_scene.proofs.Families.{by_parent, listed_once, listed_never, listed_few, listed_parent, parent_there, make_listed}
 
 module _ {T : Type 0} where
   -- what stands while a root is being removed: the walk is at a node, and no list names the nodes that are above it
@@ -80,9 +80,7 @@ module _ {T : Type 0} where
       left = λ k n is. (n.children, is);
       above = λ c p there is. parent_there old scene.tree c p is;
       below = λ c p there is. inl (let one = listed_once old scene.listed p c is in omega arith);
-      once = λ c p. by_parent (parent_of old c) p (times c (children_of old p) ≤ 1)
-          (λ is. let one = listed_once old scene.listed p c is in omega arith)
-          (λ other. let none = listed_never old scene.listed p c other in omega arith);
+      once = λ c p. listed_few old scene.listed p c;
       named = λ c p more. (let is = listed_parent old scene.listed p c more in (
         has_parent old c p is,
         is,

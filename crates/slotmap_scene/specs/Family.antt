@@ -1,15 +1,31 @@
 -- The children of each node, and how a call changes them.
-use Rattle.std.specs.Prelude.{◌≡◌, ℕ, Option, Some, None, List, [], ◌∷◌, ◌++◌, ◌≤◌, ⊤, option_map}
+use Rattle.std.specs.Prelude.{◌≡◌, ◌≢◌, ℕ, Option, Some, None, List, [], ◌∷◌, ◌++◌, ◌≤◌, ⊤, cond, option_map}
 use Rattle.std.specs.FinMap as map
 use Rattle.slotmap.specs.Words.{Key}
 use Rattle.slotmap_scene.specs.declared.Node.{Node}
 use Rattle.slotmap_scene.specs.Climb.{Nodes, IsTree, has_node, parent_of, with_parent}
-use Rattle.slotmap_keylist.specs.KeyLists.{same, times, without}
+use Rattle.slotmap_scene.specs.declared.children.Side.{Side}
+use Rattle.slotmap_scene.specs.declared.children.Side.TheVariants.{Before, After}
+use Rattle.slotmap_keylist.specs.KeyLists.{is_key, same, times, without}
 
 -- 1 if p is the parent, else 0
 abbrev pub is_parent : Option Key → Key → ℕ
 is_parent None p = 0
 is_parent (Some q) p = same q p
+
+-- k is placed right before its sibling s, or at the end, where s isn't there
+abbrev pub placed_before : Key → Key → List Key → List Key
+placed_before s k [] = k ∷ []
+placed_before s k (q ∷ qs) = cond (is_key q s) (k ∷ q ∷ qs) (q ∷ placed_before s k qs)
+
+-- the same right behind it
+abbrev pub placed_after : Key → Key → List Key → List Key
+placed_after s k [] = k ∷ []
+placed_after s k (q ∷ qs) = cond (is_key q s) (q ∷ k ∷ qs) (q ∷ placed_after s k qs)
+
+abbrev pub placed : Side → Key → Key → List Key → List Key
+placed Before s k ks = placed_before s k ks
+placed After s k ks = placed_after s k ks
 
 module _ {T : Type 0} where
   -- the children of a node, if there is one
@@ -34,9 +50,21 @@ module _ {T : Type 0} where
   abbrev pub child : Option Key → T → Node T
   child parent v = record { value = v; parent = parent; children = [] }
 
+  -- a clone of the value, with the same parent and the same children
+  abbrev pub IsNodeClone : (T → T → Type 0) → Node T → Node T → Type 0
+  IsNodeClone is_clone node copy = is_clone node.value copy.value × (copy.parent ≡ node.parent) × (copy.children ≡ node.children)
+
   -- the value of k, if k is a node
   abbrev pub value_of : Nodes T → Key → Option T
   value_of nodes k = option_map (λ n. n.value) (map.get nodes k)
+
+  -- k is a new child of p, which has these children now, and the same value and parent; all other nodes are the same
+  pub record IsNewChild (old new : Nodes T) (k p : Key) (v : T) (children : List Key) : Type 0 where
+    pub node : map.get new k ≡ Some (child (Some p) v)
+    pub children_are : children_of new p ≡ children
+    pub value : value_of new p ≡ value_of old p
+    pub parent : parent_of new p ≡ parent_of old p
+    pub others : (q : Key) → q ≢ k → q ≢ p → map.get new q ≡ map.get old q
 
   abbrev pub with_value_in : Nodes T → Key → Option (Node T) → T → Nodes T
   with_value_in nodes k None v = nodes
@@ -59,10 +87,18 @@ module _ {T : Type 0} where
   abbrev pub with_child : Nodes T → Key → Key → Nodes T
   with_child nodes p k = with_children_in nodes p (map.get nodes p) (λ ks. ks ++ k ∷ [])
 
+  -- the node under a parent, if there is one, has other children
+  abbrev pub with_children_of : Nodes T → Option Key → (List Key → List Key) → Nodes T
+  with_children_of nodes None f = nodes
+  with_children_of nodes (Some p) f = with_children_in nodes p (map.get nodes p) f
+
   -- k is taken from the children of p
   abbrev pub without_child : Nodes T → Option Key → Key → Nodes T
-  without_child nodes None k = nodes
-  without_child nodes (Some p) k = with_children_in nodes p (map.get nodes p) (without k)
+  without_child nodes p k = with_children_of nodes p (without k)
+
+  -- k is put right before s, or right behind it, among the children of the parent of s
+  abbrev pub with_sibling : Side → Nodes T → Key → Key → Nodes T
+  with_sibling side nodes s k = with_children_of nodes (parent_of nodes s) (placed side s k)
 
   -- the parent of k, if it has one, is there, and has k as a child at most once
   abbrev pub MayLeave : Nodes T → Key → Option Key → Type 0

@@ -1,4 +1,5 @@
 pub mod Above
+pub mod Below
 pub mod Climb
 pub mod Family
 pub mod Lends

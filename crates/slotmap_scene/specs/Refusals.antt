@@ -1,5 +1,5 @@
 -- When a node isn't added or moved.
-use Rattle.std.specs.Prelude.{◌≡◌}
+use Rattle.std.specs.Prelude.{◌≡◌, None, IsSome}
 use Rattle.slotmap.specs.Words.{Key, Content, LacksRoom, used, most}
 use Rattle.slotmap.specs.declared.InsertError.{InsertError}
 use Rattle.slotmap.specs.declared.InsertError.TheVariants as insert
@@ -8,7 +8,7 @@ use Rattle.slotmap_scene.specs.declared.AddError.{AddError}
 use Rattle.slotmap_scene.specs.declared.AddError.TheVariants.{Gone, Full, Memory}
 use Rattle.slotmap_scene.specs.declared.ReparentError.{ReparentError}
 use Rattle.slotmap_scene.specs.declared.ReparentError.TheVariants as move
-use Rattle.slotmap_scene.specs.Climb.{Nodes, has_node, lacks_node, IsWithin}
+use Rattle.slotmap_scene.specs.Climb.{Nodes, has_node, lacks_node, parent_of, IsWithin}
 
 module _ {T : Type 0} where
   -- `Full` if and only if the limit is reached, else `Memory`, where no room was promised; the error holds the value
@@ -31,6 +31,12 @@ module _ {T : Type 0} where
   RefusesChild c parent v (Gone back) = lacks_node c.live parent × (back ≡ v)
   RefusesChild c parent v (Full back) = has_node c.live parent × (used c ≡ most) × (back ≡ v)
   RefusesChild c parent v (Memory back) = has_node c.live parent × (back ≡ v)
+
+  -- the same of a sibling: `Gone` if and only if it has no parent
+  abbrev pub RefusesSibling : Content (Node T) → Key → T → AddError T → Type 0
+  RefusesSibling c s v (Gone back) = (parent_of c.live s ≡ None) × (back ≡ v)
+  RefusesSibling c s v (Full back) = IsSome (parent_of c.live s) × (used c ≡ most) × (back ≡ v)
+  RefusesSibling c s v (Memory back) = IsSome (parent_of c.live s) × (back ≡ v)
 
   -- `GoneNode` and `GoneParent` where there is no such node; `Cycle` if and only if the parent is the node, or below it;
   -- `Memory` only if none of them is to be said

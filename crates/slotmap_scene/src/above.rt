@@ -101,7 +101,7 @@ impl<'a, K: Key, T: Drop> FusedIterator for Roots<'a, K, T> {}
 
 impl<K: Key, T: Drop> Scene<K, T> {
     // The key of the parent of a node.
-    fn parent_key(&self, node: DefaultKey) -> Option<DefaultKey>
+    pub(crate) fn parent_key(&self, node: DefaultKey) -> Option<DefaultKey>
         ensures value { result ≡ parent_of self.now.live node }
         ensures rooted { HasRoot self.now.live result }
     {

@@ -56,8 +56,11 @@ use std::ops::Index;
 use thiserror::Error;
 
 mod above;
+mod below;
 mod children;
 mod climb;
+mod clone;
+mod insert;
 mod iter;
 mod links;
 mod nodes;

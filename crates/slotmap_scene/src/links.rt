@@ -1,10 +1,10 @@
 //! Links between nodes: each call changes one link, or one end of it.
 
-ghost use Rattle.std.specs.Prelude.{◌≡◌, ◌<◌, Some, None, IfOk, IfErr, IsOk, IfSome, OnOk, OnErr, option_map, true};
+ghost use Rattle.std.specs.Prelude.{◌≡◌, ◌<◌, ◌++◌, ◌∷◌, [], Some, None, IfOk, IfErr, IsOk, IfSome, OnOk, OnErr, option_map, true};
 ghost use Rattle.std.specs.FinMap as map;
-ghost use Rattle.slotmap.specs.Words.{Key as KeyOf, IsContent, IsSpent, KeepsSpent, Inserts, Keeps, MayGrow};
+ghost use Rattle.slotmap.specs.Words.{Key as KeyOf, IsContent, IsSpent, KeepsSpent, Inserts, Keeps, Leaves, MayGrow};
 ghost use Rattle.slotmap_scene.specs.Climb.{IsWithin, has_node, lacks_node, parent_of, with_parent};
-ghost use Rattle.slotmap_scene.specs.Family.{IsScene, child, value_of, with_child, without_child, MayLeave};
+ghost use Rattle.slotmap_scene.specs.Family.{IsNewChild, IsScene, child, children_of, value_of, with_child, without_child, MayLeave};
 ghost use Rattle.slotmap_scene.specs.Refusals.{RefusesNode, RefusesBelow};
 
 use crate::children::Children;
@@ -60,7 +60,7 @@ pub(crate) fn push_child<T: Drop>(
 
 // Adds a node with no children behind the children of another one.
 //
-// A place in the list is taken first, so that no key is used up if memory runs out.
+// A place in the list is taken first, so that the next key stays the same if memory runs out.
 pub(crate) fn add_below<T: Drop>(
     nodes: &mut Nodes<T>,
     alloc: Global,
@@ -69,6 +69,7 @@ pub(crate) fn add_below<T: Drop>(
 ) -> Result<DefaultKey, AddError<T>>
     requires { has_node nodes.old.live parent }
     ensures adds { IfOk result (λ key. Inserts (record nodes.old { live = with_child nodes.old.live parent key }) key (child (Some parent) value) nodes.new) }
+    ensures gains { IfOk result (λ key. IsNewChild nodes.old.live nodes.new.live key parent value (children_of nodes.old.live parent ++ key ∷ [])) }
     ensures fresh { IfOk result (λ key. lacks_node nodes.old.live key) }
     ensures unspent { IfOk result (λ key. IsSpent nodes.old key → ⊥) }
     ensures err { IfErr result (RefusesBelow nodes.old value) }
@@ -95,7 +96,7 @@ pub(crate) fn leave_parent<T: Drop>(nodes: &mut Nodes<T>, node: DefaultKey)
     requires there { has_node nodes.old.live node }
     requires parent { MayLeave nodes.old.live node (parent_of nodes.old.live node) }
     ensures leaves { nodes.new ≡ record nodes.old { live = without_child nodes.old.live (parent_of nodes.old.live node) node } }
-    ensures stale { KeepsSpent nodes.old nodes.new }
+    ensures removes { Leaves nodes.old nodes.new }
 {
     if let Some(parent) = nodes[node].parent {
         nodes[parent].children.take_out(node);
@@ -110,7 +111,7 @@ pub(crate) fn set_parent<T: Drop>(
 )
     requires { has_node nodes.old.live node }
     ensures sets { nodes.new ≡ record nodes.old { live = with_parent nodes.old.live node parent } }
-    ensures stale { KeepsSpent nodes.old nodes.new }
+    ensures removes { Leaves nodes.old nodes.new }
 {
     nodes[node].parent = parent;
 }
@@ -126,8 +127,7 @@ pub(crate) fn remove_tree<T: Drop>(nodes: &mut Nodes<T>, root: DefaultKey) -> T
     ensures value { value_of nodes.old.live root ≡ Some result }
     ensures removed { (k : KeyOf) → IsWithin nodes.old.live k root → lacks_node nodes.new.live k }
     ensures others { (k : KeyOf) → (IsWithin nodes.old.live k root → ⊥) → map.get nodes.new.live k ≡ map.get nodes.old.live k }
-    ensures for_good { (k : KeyOf) → has_node nodes.old.live k → lacks_node nodes.new.live k → IsSpent nodes.new k }
-    ensures stale { KeepsSpent nodes.old nodes.new }
+    ensures removes { Leaves nodes.old nodes.new }
 {
     let mut at = root;
     loop {

@@ -1,10 +1,10 @@
 //! The calls that add, move and remove nodes.
 
-ghost use Rattle.std.specs.Prelude.{◌≡◌, ◌↔◌, ◌<◌, Some, None, IfOk, IfErr, IsOk, OnOk, OnErr, IfSome, IfNone, OnSome, IsTrue, true, option_map};
+ghost use Rattle.std.specs.Prelude.{◌≡◌, ◌↔◌, ◌<◌, ◌++◌, ◌∷◌, [], Some, None, IfOk, IfErr, IsOk, OnOk, OnErr, IfSome, IfNone, OnSome, IsTrue, true, option_map};
 ghost use Rattle.std.specs.FinMap as map;
 ghost use Rattle.slotmap.specs.Words.{Key as KeyOf, IsSpent, KeepsSpent, Inserts, Keeps, Leaves};
 ghost use Rattle.slotmap_scene.specs.Climb.{IsWithin, has_node, lacks_node};
-ghost use Rattle.slotmap_scene.specs.Family.{IsScene, attached, as_root, child, forgets, value_of, with_child};
+ghost use Rattle.slotmap_scene.specs.Family.{IsNewChild, IsScene, attached, as_root, child, children_of, forgets, value_of, with_child};
 ghost use Rattle.slotmap_scene.specs.Refusals.{RefusesNode, RefusesChild, RefusesParent};
 
 use crate::links::{add, add_below, leave_parent, push_child, remove_tree, set_parent};
@@ -41,6 +41,8 @@ impl<K: Key, T: Drop> Scene<K, T> {
         // The parent has one more child, under a new key.
         ensures adds { IfOk result (λ key. Inserts (record self.old { live = with_child self.old.live (K.data_of parent) (K.data_of key) })
             (K.data_of key) (child (Some (K.data_of parent)) value) self.new) }
+        ensures gains { IfOk result (λ key. IsNewChild self.old.live self.new.live (K.data_of key) (K.data_of parent) value
+            (children_of self.old.live (K.data_of parent) ++ K.data_of key ∷ [])) }
         ensures fresh { IfOk result (λ key. lacks_node self.old.live (K.data_of key)) }
         ensures unspent { IfOk result (λ key. IsSpent self.old (K.data_of key) → ⊥) }
         ensures stale { KeepsSpent self.old self.new }
@@ -119,6 +121,7 @@ impl<K: Key, T: Drop> Scene<K, T> {
         ensures value { result ≡ value_of self.old.live (K.data_of node) }
         ensures removed { (k : KeyOf) → IsWithin self.old.live k (K.data_of node) → lacks_node self.new.live k }
         ensures others { (k : KeyOf) → (IsWithin self.old.live k (K.data_of node) → ⊥) → map.get self.new.live k ≡ option_map (forgets (K.data_of node)) (map.get self.old.live k) }
+        ensures leaves { Leaves self.old self.new }
         ensures for_good { (k : KeyOf) → has_node self.old.live k → IsWithin self.old.live k (K.data_of node) → IsSpent self.new k }
         ensures stale { KeepsSpent self.old self.new }
         ensures unchanged { IfNone result (self.new ≡ self.old) }

@@ -4,8 +4,8 @@ use Rattle.std.specs.Prelude.{min, vec_len, vec_capacity}
 use Rattle.std.specs.declared.vec.Vec.{Vec}
 use Rattle.std.specs.Option.{option_map}
 use Rattle.std.specs.FinMap as map
-use Rattle.slotmap.specs.Words.{Key, key_cmp, Content, IsContent, IsSpent, KeepsSpent, IsNew, Keeps, Inserts, Removes, keys_of, without_values, with_value, used}
-use Rattle.slotmap.proofs.Callers.{keys, keys_total, exact_keys, get-insert_here, get-insert_other, same_or_other, contains-keys_of, len-keys_of, spent_alone, alone_spent, keeps_spent_alone, inserted_not_spent}
+use Rattle.slotmap.specs.Words.{Key, key_cmp, Content, IsContent, IsSpent, KeepsSpent, IsNew, Keeps, Inserts, Removes, IsCopy, IsCloneBy, keys_of, without_values, with_value, used}
+use Rattle.slotmap.proofs.Callers.{keys, keys_total, exact_keys, get-insert_here, get-insert_other, same_or_other, clone_live, contains-keys_of, len-keys_of, spent_alone, alone_spent, keeps_spent_alone, inserted_not_spent}
 use Rattle.slotmap_scheduler.specs.declared.Job.{Job}
 use Rattle.slotmap_scheduler.specs.declared.heap.Entry.{Entry}
 use Rattle.slotmap_scheduler.specs.Heap.{Resettled, unplaced}
@@ -133,6 +133,18 @@ module _ {T Z : Type 0} where
     detached = new.detached;
     retired = new.retired;
     next = new.next;
+  }
+
+  -- a copy has the same handles
+  pub handles_copied : (is_clone : Job T → Job T → Type 0) (c c' : Content (Job T)) (heap heap' : Vec Entry Z) → IsCloneBy is_clone c c' → IsCopy (handles_of c heap) (handles_of c' heap')
+  handles_copied is_clone c c' heap heap' clones = record {
+    live = same_keys_of c'.live (keys_of c.live) (λ q. clone_live is_clone c c' clones q ∙ sym (contains-keys_of c.live q));
+    detached = clones.detached;
+    retired = clones.retired;
+    next = clones.next;
+    offer = clones.offer;
+    stack = clones.stack;
+    room = omega arith;
   }
 
   -- a value that is written changes no handle

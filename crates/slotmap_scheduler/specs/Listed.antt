@@ -15,6 +15,10 @@ module _ {T : Type 0} where
   abbrev pub shown : Key × Job T → Key × (ℕ × T)
   shown e = (e.0, (e.1.turn.0, e.1.job))
 
+  -- the same time, with a clone of the job
+  abbrev pub IsDueClone : (T → T → Type 0) → ℕ × T → ℕ × T → Type 0
+  IsDueClone is_clone due copy = (copy.0 ≡ due.0) × is_clone due.1 copy.1
+
   -- the jobs of these times and handles, as they are returned
   abbrev pub Due : {K : Type 0} → (K → Key) → List (Key × (ℕ × T)) → List (K × T) → Type 0
   Due data_of waiting taken = list_map {B = Key × T} (λ e. (e.0, e.1.1)) waiting ≡ list_map {B = Key × T} (λ e. (data_of e.0, e.1)) taken

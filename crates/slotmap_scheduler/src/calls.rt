@@ -1,6 +1,6 @@
 //! The calls that change which jobs wait, and in which order.
 
-ghost use Rattle.std.specs.Prelude.{◌≡◌, ℕ, ◌+◌, ◌<◌, ◌≤◌, ◌∷◌, [], Some, None, IfOk, OnOk, IfErr, OnErr, IfSome, OnSome, IfNone, IsOk, is_some, true, option_map};
+ghost use Rattle.std.specs.Prelude.{◌≡◌, ℕ, ◌+◌, ◌<◌, ◌≤◌, ◌∷◌, [], Some, None, IfOk, OnOk, IfErr, OnErr, IfSome, OnSome, IfNone, IsOk, is_some, true, option_map, length, vec_len, vec_capacity};
 ghost use Rattle.std.specs.List.{All};
 ghost use Rattle.std.specs.FinMap as map;
 ghost use Rattle.slotmap.specs.Words.{Key as KeyOf, Inserts, Removes, Keeps, IsSpent, KeepsSpent, RefusesCapacity, used, most};
@@ -18,7 +18,7 @@ impl<K: Key, T: Drop> Scheduler<K, T> {
     /// The next `additional` schedules don't allocate. The errors are these; either leaves the same
     /// jobs waiting:
     ///
-    /// - `TooGreat`: more than 4294967294 jobs would be there, counting handles that are used up.
+    /// - `TooGreat`: more than 4294967294 jobs would be there, counting those whose slots are retired.
     /// - `Memory`: memory runs out.
     ///
     /// ```
@@ -71,8 +71,8 @@ impl<K: Key, T: Drop> Scheduler<K, T> {
 
     /// Schedules a job, and returns its handle. It is behind all waiting jobs of its time.
     ///
-    /// If the call fails, the error holds the job, and the same jobs wait: no handle is used up. It
-    /// takes time logarithmic in the number of jobs, unless a vector grows.
+    /// If the call fails, the error holds the job, and the same jobs wait. The next handle stays the
+    /// same. It takes time logarithmic in the number of jobs, unless a vector grows.
     ///
     /// ```
     /// let mut scheduler: Scheduler<DefaultKey, &str> = Scheduler::new(alloc)?;
@@ -239,7 +239,8 @@ impl<K: Key, T: Drop> Scheduler<K, T> {
     /// order. Their handles are never used again.
     ///
     /// Room for all jobs that wait is made in the vector first. So if the call fails, nothing has
-    /// changed. It takes time logarithmic in the number of jobs for each job that is due.
+    /// changed. Where the vector has that room, the call succeeds. It takes time logarithmic in the
+    /// number of jobs for each job that is due.
     ///
     /// ```
     /// let mut scheduler: Scheduler<DefaultKey, &str> = Scheduler::new(alloc)?;
@@ -254,7 +255,8 @@ impl<K: Key, T: Drop> Scheduler<K, T> {
         ensures taken { OnOk result (TakesDue K.data_of now self.old.waiting due.old.items due.new.items self.new.waiting) }
         ensures turns { self.new.turns ≡ self.old.turns }
 
-        // What a failing call leaves.
+        // When the call succeeds, and what a failing one leaves.
+        ensures had_room { vec_len due.old + length self.old.waiting ≤ vec_capacity due.old → IsOk result }
         ensures unchanged { OnErr result (self.new ≡ self.old) }
         ensures same_items { OnErr result (due.new.items ≡ due.old.items) }
 

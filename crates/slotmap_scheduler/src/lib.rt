@@ -33,6 +33,7 @@ ghost use Rattle.std.specs.Option.{option_copied_mut};
 ghost use Rattle.slotmap_scheduler.specs.Schedule.{job_of};
 
 mod calls;
+mod clone;
 mod heap;
 mod iter;
 

@@ -63,3 +63,26 @@ fn goes_up(rt: HostRuntime) -> Result<(), Fail> {
     assert_eq!(rt; above.next(), None);
     Ok(())
 }
+
+#[test]
+fn siblings(rt: HostRuntime) -> Result<(), Fail> {
+    let (mut scene, top, first, second) = family(rt.alloc())?;
+    let mid = scene.insert_before(second, 4)?;
+    let last = scene.insert_after(second, 5)?;
+    assert_eq!(rt;
+        scene.descendants(top)?.as_slice(),
+        [first, mid, second, last].as_slice()
+    );
+    assert!(rt; scene.insert_after(top, 6).is_err());
+    Ok(())
+}
+
+#[test]
+fn copies(rt: HostRuntime) -> Result<(), Fail> {
+    let (mut scene, top, first, _) = family(rt.alloc())?;
+    let copy = scene.clone()?;
+    scene.clear();
+    assert_eq!(rt; copy.parent(first), Some(top));
+    assert_eq!(rt; copy.get(first), Some(&2));
+    Ok(())
+}

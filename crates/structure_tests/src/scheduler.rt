@@ -40,3 +40,13 @@ fn lists_the_jobs(rt: HostRuntime) -> Result<(), Fail> {
     assert_eq!(rt; scheduler.values().next(), Some(&1));
     Ok(())
 }
+
+#[test]
+fn copies(rt: HostRuntime) -> Result<(), Fail> {
+    let (mut scheduler, tea, bell) = pair(rt.alloc())?;
+    let copy = scheduler.clone()?;
+    scheduler.clear();
+    assert_eq!(rt; copy.get(tea), Some(&1));
+    assert_eq!(rt; copy.peek(), Some((20, bell)));
+    Ok(())
+}

@@ -1,7 +1,7 @@
 use Rattle.std.proofs.Common.{◌≡◌, sym, subst, rules}
 use Rattle.slotmap.specs.Words.{KeepsSpent}
 use Rattle.slotmap_list.specs.Additions.{Adds, refused}
-use Rattle.slotmap_list.proofs.Adding.{Adds-push, refused_is}
+use Rattle.slotmap_list.proofs.Adding.{Adds-push, refused_is, full_after}
 use Rattle.slotmap_list.proofs.StableList.extend.Goals as goal
 
 pub loop-value-preserved : goal.loop-value-preserved
@@ -23,6 +23,9 @@ returns-in-Err-clause-extends g c =
         ended = (c.next.new.self, rw back (search rules));
       },
     )
+
+pub returns-in-Err-clause-err : goal.returns-in-Err-clause-err
+returns-in-Err-clause-err g c = full_after c.loop-value.self.cursors _ c.in-Some.value c.in-Err.error c.in-Err.ensures.err c.in-Err.ensures.keeps
 
 pub returns-in-Err-clause-gone : goal.returns-in-Err-clause-gone
 returns-in-Err-clause-gone g c k spent = c.push_back.ensures.gone k (c.loop-value.invariant.2.gone k spent)

@@ -1,4 +1,5 @@
 use Rattle.std.proofs.Common.{◌≡◌, None, sym, ap, subst, ◌∙◌}
+use Rattle.slotmap.proofs.Callers.{spent_leaves}
 use Rattle.slotmap_scene.specs.Climb.{with_parent}
 use Rattle.slotmap_scene.specs.Family.{IsScene, as_root}
 use Rattle.slotmap_scene.proofs.Families.{may_leave, scene_detached}
@@ -14,4 +15,4 @@ invariant_of-self g c =
     subst IsScene (sym mid) (scene_detached c.self.inside.nodes.live c.inner-node.result (sym c.contains_key.ensures.value ∙ c.if-not-contains_key.false) c.self.invariant)
 
 pub returns-clause-stale : goal.returns-clause-stale
-returns-clause-stale g c k spent = c.set_parent.ensures.stale k (c.leave_parent.ensures.stale k (rw (← c.self.view_is) at spent))
+returns-clause-stale g c k spent = spent_leaves _ _ c.set_parent.ensures.removes k (spent_leaves _ _ c.leave_parent.ensures.removes k (rw (← c.self.view_is) at spent))

@@ -1,5 +1,6 @@
-use Rattle.std.proofs.Common.{◌≡◌, None, sym, ap, subst, ◌∙◌}
+use Rattle.std.proofs.Common.{◌≡◌, true, None, sym, ap, subst, ◌∙◌}
 use Rattle.std.specs.FinMap as map
+use Rattle.slotmap.proofs.Callers.{leaves_none, leaves_in_turn, left_spent, spent_leaves}
 use Rattle.slotmap_scene.specs.Climb.{IsWithin, has_node, parent_of, with_parent}
 use Rattle.slotmap_scene.specs.Family.{IsScene, as_root, value_of}
 use Rattle.slotmap_scene.proofs.Families.{may_leave, scene_detached, detached_parents, value_detached}
@@ -19,6 +20,9 @@ pub returns-then-not-contains_key-clause-for_good : goal.returns-then-not-contai
 returns-then-not-contains_key-clause-for_good g c =
     rw (← c.self.view_is, ← c.inner-node.ensures) (λ k live within.
     absurd (let dead = gone_within c.self.inside.nodes.live c.inner-node.result (sym c.contains_key.ensures.value ∙ c.if-not-contains_key.true) c.self.invariant k within in cc))
+
+pub returns-then-not-contains_key-clause-leaves : goal.returns-then-not-contains_key-clause-leaves
+returns-then-not-contains_key-clause-leaves g c = leaves_none _
 
 pub leave_parent-requires-clause-parent : goal.leave_parent-requires-clause-parent
 leave_parent-requires-clause-parent g c = may_leave c.self.inside.nodes.live c.self.invariant c.inner-node.result
@@ -70,13 +74,18 @@ returns-clause-others g c =
     scene_removed c.self.inside.nodes.live c.inner-node.result c.self.invariant c.remove_tree.new.nodes.live
     (λ q apart. c.remove_tree.ensures.others q (λ w. apart (subst (λ m. IsWithin m q c.inner-node.result) mid w)) ∙ ap (λ m. map.get m q) mid) k out)
 
+pub returns-clause-leaves : goal.returns-clause-leaves
+returns-clause-leaves g c =
+    rw (← c.self.view_is) (leaves_in_turn _ _ _ (leaves_in_turn _ _ _ c.leave_parent.ensures.removes c.set_parent.ensures.removes) c.remove_tree.ensures.removes)
+
 pub returns-clause-for_good : goal.returns-clause-for_good
 returns-clause-for_good g c =
     let mid : c.set_parent.new.nodes.live ≡ as_root c.self.inside.nodes.live c.inner-node.result =
     ap (λ m. m.live) c.set_parent.ensures.sets ∙ ap (λ m. with_parent m.live c.inner-node.result None) c.leave_parent.ensures.leaves in
+    let leaves = leaves_in_turn _ _ _ (leaves_in_turn _ _ _ c.leave_parent.ensures.removes c.set_parent.ensures.removes) c.remove_tree.ensures.removes in
     rw (← c.self.view_is, ← c.inner-node.ensures) (λ k live within.
-    c.remove_tree.ensures.for_good k (subst (λ m. has_node m k) (sym mid) ((detached_parents c.self.inside.nodes.live c.inner-node.result).same_keys k ∙ live))
+    left_spent c.self.inside.nodes c.remove_tree.new.nodes true c.contains_key.ensures.valid k leaves live
     (c.remove_tree.ensures.removed k (subst (λ m. IsWithin m k c.inner-node.result) (sym mid) (within_after c.self.inside.nodes.live c.inner-node.result k within))))
 
 pub returns-clause-stale : goal.returns-clause-stale
-returns-clause-stale g c k spent = c.remove_tree.ensures.stale k (c.set_parent.ensures.stale k (c.leave_parent.ensures.stale k (rw (← c.self.view_is) at spent)))
+returns-clause-stale g c = spent_leaves _ _ (rw (← c.self.view_is) (leaves_in_turn _ _ _ (leaves_in_turn _ _ _ c.leave_parent.ensures.removes c.set_parent.ensures.removes) c.remove_tree.ensures.removes))

@@ -1,17 +1,18 @@
 use Rattle.std.proofs.Common.{is_some, sym, ap}
-use Rattle.slotmap_scene.proofs.Spared.{spares_start, spares_written, spares_removed}
+use Rattle.slotmap.proofs.Callers.{leaves_none}
+use Rattle.slotmap_scene.proofs.Leaving.{left_written, left_removed}
 use Rattle.slotmap_scene.proofs.Removals.{removing_start, removing_down, down_less, went_up, up_less, ended_value, ended_removed, ended_others}
 use Rattle.slotmap_scene.proofs.links.remove_tree.Goals as goal
 
 pub loop-child-init : goal.loop-child-init
-loop-child-init g c = record { removing = removing_start c.args.nodes.now.live c.args.root c.requires.scene c.requires.root c.requires.there; spares = spares_start c.args.nodes.now }
+loop-child-init g c = record { removing = removing_start c.args.nodes.now.live c.args.root c.requires.scene c.requires.root c.requires.there; leaves = leaves_none c.args.nodes.now }
 
 pub loop-child-preserved-in-Some : goal.loop-child-preserved-in-Some
 loop-child-preserved-in-Some g c =
     record {
       removing = removing_down c.args.nodes.now.live c.args.root c.requires.scene c.requires.root c.loop-child.nodes.live c.loop-child.at c.loop-child.invariant.removing
           c.index_mut.result.now c.index_mut.ensures.value c.pop.new.self c.in-Some.child c.in-Some.ensures.last;
-      spares = spares_written c.args.nodes.now c.loop-child.nodes c.loop-child.invariant.spares c.loop-child.at _ (ap is_some c.index_mut.ensures.value);
+      leaves = left_written c.args.nodes.now c.loop-child.nodes c.loop-child.invariant.leaves c.loop-child.at _ (ap is_some c.index_mut.ensures.value);
     }
 
 pub loop-child-smaller-in-Some : goal.loop-child-smaller-in-Some
@@ -25,7 +26,7 @@ loop-child-preserved g c =
       removing = went_up c.args.nodes.now.live c.args.root c.requires.scene c.requires.root c.loop-child.nodes.live c.loop-child.at c.loop-child.invariant.removing
           c.index_mut.result.now c.index_mut.ensures.value c.pop.new.self c.in-None.ensures.none c.in-None.ensures.last
           c.remove.new.self.live c.remove.ensures.live c.in-Some-remove.leaf c.in-Some-remove.ensures.value c.in-Some-parent.parent c.in-Some-parent.is;
-      spares = spares_removed c.args.nodes.now _ c.remove.new.self (spares_written c.args.nodes.now c.loop-child.nodes c.loop-child.invariant.spares c.loop-child.at _ (ap is_some c.index_mut.ensures.value)) c.loop-child.at (ap is_some (sym c.in-Some-remove.ensures.value)) c.remove.ensures.valid.before c.in-Some-remove.ensures.removes;
+      leaves = left_removed c.args.nodes.now c.loop-child.nodes c.loop-child.invariant.leaves c.loop-child.at _ (ap is_some c.index_mut.ensures.value) c.remove.new.self c.remove.ensures.valid.before (ap is_some (sym c.in-Some-remove.ensures.value)) c.in-Some-remove.ensures.removes;
     }
 
 pub loop-child-smaller : goal.loop-child-smaller
@@ -52,10 +53,6 @@ returns-in-None-parent-clause-others g c =
     c.index_mut.result.now c.index_mut.ensures.value c.pop.new.self c.in-None.ensures.none c.in-None.ensures.last
     c.remove.new.self.live c.remove.ensures.live c.in-Some-remove.leaf c.in-Some-remove.ensures.value c.in-None-parent.is
 
-pub returns-in-None-parent-clause-for_good : goal.returns-in-None-parent-clause-for_good
-returns-in-None-parent-clause-for_good g c =
-    (spares_removed c.args.nodes.now _ c.remove.new.self (spares_written c.args.nodes.now c.loop-child.nodes c.loop-child.invariant.spares c.loop-child.at _ (ap is_some c.index_mut.ensures.value)) c.loop-child.at (ap is_some (sym c.in-Some-remove.ensures.value)) c.remove.ensures.valid.before c.in-Some-remove.ensures.removes).gone
-
-pub returns-in-None-parent-clause-stale : goal.returns-in-None-parent-clause-stale
-returns-in-None-parent-clause-stale g c =
-    (spares_removed c.args.nodes.now _ c.remove.new.self (spares_written c.args.nodes.now c.loop-child.nodes c.loop-child.invariant.spares c.loop-child.at _ (ap is_some c.index_mut.ensures.value)) c.loop-child.at (ap is_some (sym c.in-Some-remove.ensures.value)) c.remove.ensures.valid.before c.in-Some-remove.ensures.removes).keeps
+pub returns-in-None-parent-clause-removes : goal.returns-in-None-parent-clause-removes
+returns-in-None-parent-clause-removes g c =
+    left_removed c.args.nodes.now c.loop-child.nodes c.loop-child.invariant.leaves c.loop-child.at _ (ap is_some c.index_mut.ensures.value) c.remove.new.self c.remove.ensures.valid.before (ap is_some (sym c.in-Some-remove.ensures.value)) c.in-Some-remove.ensures.removes

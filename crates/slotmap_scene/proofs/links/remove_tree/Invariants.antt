@@ -1,11 +1,11 @@
-use Rattle.slotmap_scene.proofs.Spared.{Spares}
+use Rattle.slotmap.specs.Words.{Leaves}
 use Rattle.slotmap_scene.proofs.Removals.{Removing, to_do}
 use Rattle.slotmap_scene.proofs.links.remove_tree.Given as goal
 
 abbrev pub invariant-loop-child : goal.invariant-loop-child
 invariant-loop-child g l = record {
   removing : Removing l.fn.nodes.live l.nodes.live l.fn.root l.at;
-  spares : Spares l.fn.nodes l.nodes;
+  leaves : Leaves l.fn.nodes l.nodes;
 }
 
 abbrev pub decreases-loop-child : goal.decreases-loop-child

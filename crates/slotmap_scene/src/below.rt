@@ -1,0 +1,61 @@
+//! The nodes below a node.
+
+ghost use Rattle.std.specs.Prelude.{◌≡◌, ◌≢◌, ◌<◌, ◌≤◌, IfOk, map as list_map};
+ghost use Rattle.slotmap.specs.Words.{Key as KeyOf};
+ghost use Rattle.slotmap_keylist.specs.KeyLists.{times};
+ghost use Rattle.slotmap_scene.specs.Below.{GoesDown};
+ghost use Rattle.slotmap_scene.specs.Climb.{IsWithin, has_node};
+ghost use Rattle.slotmap_scene.specs.Family.{children_of};
+
+use crate::Scene;
+use crate::children::Children;
+use crate::links::Nodes;
+use slotmap::{DefaultKey, Key};
+use slotmap_keylist::{inner, outer};
+use std::alloc::AllocError;
+
+// The keys of the children of a node, in order. A removed node has none.
+fn child_keys<T: Drop>(nodes: &Nodes<T>, node: DefaultKey) -> &[DefaultKey]
+    ensures { result.now ≡ children_of nodes.now.live node }
+{
+    match nodes.get(node) {
+        Some(node) => node.children.as_slice(),
+        None => &[],
+    }
+}
+
+impl<K: Key, T: Drop> Scene<K, T> {
+    /// Returns the keys of the nodes below a node, depth-first: each node comes before those below it,
+    /// and the children of each in their order.
+    ///
+    /// The node itself isn't among them, and a removed node has none. If memory runs out, the call
+    /// fails. It takes time linear in the number of keys that it returns.
+    ///
+    /// ```
+    /// let mut scene: Scene<DefaultKey, &str> = Scene::new(alloc)?;
+    /// let car = scene.add_root("car")?;
+    /// let door = scene.add_child(car, "door")?;
+    /// let wheel = scene.add_child(car, "wheel")?;
+    /// let handle = scene.add_child(door, "handle")?;
+    /// assert_eq!(rt; scene.descendants(car)?.as_slice(), [door, handle, wheel].as_slice());
+    /// ```
+    pub fn descendants(&self, node: K) -> Result<Vec<K>, AllocError>
+        ensures order { IfOk result (λ keys. GoesDown self.now.live (children_of self.now.live (K.data_of node)) (list_map K.data_of keys.items)) }
+
+        // Each node below it, and no other, is there once.
+        ensures all { IfOk result (λ keys. (k : KeyOf) → IsWithin self.now.live k (K.data_of node) → k ≢ K.data_of node → 0 < times k (list_map K.data_of keys.items)) }
+        ensures only { IfOk result (λ keys. (k : KeyOf) → 0 < times k (list_map K.data_of keys.items)
+            → has_node self.now.live k × IsWithin self.now.live k (K.data_of node) × (k ≢ K.data_of node)) }
+        ensures once { IfOk result (λ keys. (k : KeyOf) → times k (list_map K.data_of keys.items) ≤ 1) }
+    {
+        let mut below = Vec::new(self.alloc);
+        // The keys that are ahead, the next one last.
+        let mut ahead = Children::new(self.alloc);
+        ahead.push_reversed(child_keys(&self.nodes, inner(node)))?;
+        while let Some(key) = ahead.pop() {
+            below.push(outer(key))?;
+            ahead.push_reversed(child_keys(&self.nodes, key))?;
+        }
+        Ok(below)
+    }
+}

@@ -1,0 +1,55 @@
+//! Copies of a scene.
+
+ghost use Rattle.std.specs.Prelude.{◌≡◌, IfOk};
+ghost use Rattle.slotmap.specs.Words.{ClonesEqual, IsCloneBy, IsCopy};
+ghost use Rattle.slotmap_scene.specs.Family.{IsNodeClone};
+
+use crate::{Node, Scene};
+use slotmap::Key;
+use std::alloc::AllocError;
+use std::marker::PhantomData;
+
+impl<T: Clone> Clone for Node<T> {
+    ghost is_clone = { IsNodeClone T.is_clone };
+
+    fn clone(&self) -> Result<Self, AllocError> {
+        Ok(Node {
+            value: self.value.clone()?,
+            parent: self.parent,
+            children: self.children.clone()?,
+        })
+    }
+}
+
+impl<K: Key, T: Clone> Scene<K, T> {
+    /// Returns a copy of the scene: the same trees, with clones of the values under the same keys.
+    ///
+    /// Both scenes will return the same new keys. If memory runs out, the call fails, and what was
+    /// copied is dropped. It takes time linear in the number of slots.
+    ///
+    /// ```
+    /// let mut scene: Scene<DefaultKey, u64> = Scene::new(alloc)?;
+    /// let car = scene.add_root(1)?;
+    /// let copy = scene.clone()?;
+    /// scene.remove(car);
+    /// assert_eq!(rt; copy.get(car), Some(&1));
+    /// ```
+    pub fn clone(&self) -> Result<Self, AllocError>
+        ensures clones { IfOk result (IsCloneBy (IsNodeClone T.is_clone) self.now) }
+        ensures copies_if_clones_equal { IfOk result (λ copy. ClonesEqual T.is_clone → IsCopy self.now copy) }
+    {
+        Ok(Scene {
+            alloc: self.alloc,
+            nodes: self.nodes.clone()?,
+            key_type: PhantomData,
+        })
+    }
+}
+
+impl<K: Key, T: Clone> Clone for Scene<K, T> {
+    ghost is_clone = { IsCloneBy (IsNodeClone T.is_clone) };
+
+    fn clone(&self) -> Result<Self, AllocError> {
+        Scene::clone(self)
+    }
+}

@@ -1,0 +1,106 @@
+//! The calls that add a node beside another one.
+
+ghost use Rattle.std.specs.Prelude.{◌≡◌, Some, IfOk, IfErr, OnOk, OnErr, IsSome};
+ghost use Rattle.slotmap.specs.Words.{Key as KeyOf, Inserts, IsSpent, Keeps, KeepsSpent};
+ghost use Rattle.slotmap_scene.specs.declared.children.Side.TheVariants.{Before, After};
+ghost use Rattle.slotmap_scene.specs.Climb.{lacks_node, parent_of};
+ghost use Rattle.slotmap_scene.specs.Family.{IsNewChild, child, children_of, placed, placed_before, placed_after, with_sibling};
+ghost use Rattle.slotmap_scene.specs.Refusals.{RefusesSibling};
+
+use crate::children::Side;
+use crate::links::add_below;
+use crate::{AddError, Scene};
+use slotmap::{DefaultKey, Key};
+use slotmap_keylist::{inner, outer};
+
+impl<K: Key, T: Drop> Scene<K, T> {
+    // Adds a node with no children on this side of another one.
+    fn insert(
+        &mut self,
+        side: Side,
+        sibling: DefaultKey,
+        value: T,
+    ) -> Result<DefaultKey, AddError<T>>
+        ensures adds { IfOk result (λ key. Inserts (record self.old { live = with_sibling side self.old.live sibling key })
+            key (child (parent_of self.old.live sibling) value) self.new) }
+        ensures gains { IfOk result (λ key. (p : KeyOf) → parent_of self.old.live sibling ≡ Some p
+            → IsNewChild self.old.live self.new.live key p value (placed side sibling key (children_of self.old.live p))) }
+        ensures fresh { IfOk result (λ key. lacks_node self.old.live key) }
+        ensures unspent { IfOk result (λ key. IsSpent self.old key → ⊥) }
+        ensures stale { KeepsSpent self.old self.new }
+        ensures parent { OnOk result (IsSome (parent_of self.old.live sibling)) }
+        ensures err { IfErr result (RefusesSibling self.old sibling value) }
+        ensures unchanged { OnErr result (Keeps self.old self.new) }
+    {
+        let Some(parent) = self.parent_key(sibling) else {
+            return Err(AddError::Gone(value));
+        };
+        let key = add_below(&mut self.nodes, self.alloc, parent, value)?;
+        self.nodes[parent].children.settle_last(side, sibling);
+        Ok(key)
+    }
+
+    /// Adds a node with no children right before another one, among the children of its parent, and
+    /// returns its key, which no node had before.
+    ///
+    /// It fails with `Gone` exactly if the sibling is a root or doesn't exist. If the call fails, the
+    /// error holds the value, and the scene is unchanged. The children of the parent are searched for
+    /// the sibling, and those behind it move up.
+    ///
+    /// ```
+    /// let mut scene: Scene<DefaultKey, &str> = Scene::new(alloc)?;
+    /// let car = scene.add_root("car")?;
+    /// let door = scene.add_child(car, "door")?;
+    /// let wheel = scene.insert_before(door, "wheel")?;
+    /// let mut children = scene.children(car);
+    /// assert_eq!(rt; children.next(), Some(wheel));
+    /// assert_eq!(rt; children.next(), Some(door));
+    /// ```
+    pub fn insert_before(&mut self, sibling: K, value: T) -> Result<K, AddError<T>>
+        // The parent of the sibling has one more child, under a new key.
+        ensures adds { IfOk result (λ key. Inserts (record self.old { live = with_sibling Before self.old.live (K.data_of sibling) (K.data_of key) })
+            (K.data_of key) (child (parent_of self.old.live (K.data_of sibling)) value) self.new) }
+        ensures gains { IfOk result (λ key. (p : KeyOf) → parent_of self.old.live (K.data_of sibling) ≡ Some p
+            → IsNewChild self.old.live self.new.live (K.data_of key) p value (placed_before (K.data_of sibling) (K.data_of key) (children_of self.old.live p))) }
+        ensures fresh { IfOk result (λ key. lacks_node self.old.live (K.data_of key)) }
+        ensures unspent { IfOk result (λ key. IsSpent self.old (K.data_of key) → ⊥) }
+        ensures stale { KeepsSpent self.old self.new }
+        ensures parent { OnOk result (IsSome (parent_of self.old.live (K.data_of sibling))) }
+        ensures err { IfErr result (RefusesSibling self.old (K.data_of sibling) value) }
+        ensures unchanged { OnErr result (Keeps self.old self.new) }
+    {
+        Ok(outer(self.insert(Side::Before, inner(sibling), value)?))
+    }
+
+    /// Adds a node with no children right behind another one, among the children of its parent, and
+    /// returns its key, which no node had before.
+    ///
+    /// It fails with `Gone` exactly if the sibling is a root or doesn't exist. If the call fails, the
+    /// error holds the value, and the scene is unchanged. The children of the parent are searched for
+    /// the sibling, and those behind it move up.
+    ///
+    /// ```
+    /// let mut scene: Scene<DefaultKey, &str> = Scene::new(alloc)?;
+    /// let car = scene.add_root("car")?;
+    /// let wheel = scene.add_child(car, "wheel")?;
+    /// let door = scene.insert_after(wheel, "door")?;
+    /// let mut children = scene.children(car);
+    /// assert_eq!(rt; children.next(), Some(wheel));
+    /// assert_eq!(rt; children.next(), Some(door));
+    /// ```
+    pub fn insert_after(&mut self, sibling: K, value: T) -> Result<K, AddError<T>>
+        // The parent of the sibling has one more child, under a new key.
+        ensures adds { IfOk result (λ key. Inserts (record self.old { live = with_sibling After self.old.live (K.data_of sibling) (K.data_of key) })
+            (K.data_of key) (child (parent_of self.old.live (K.data_of sibling)) value) self.new) }
+        ensures gains { IfOk result (λ key. (p : KeyOf) → parent_of self.old.live (K.data_of sibling) ≡ Some p
+            → IsNewChild self.old.live self.new.live (K.data_of key) p value (placed_after (K.data_of sibling) (K.data_of key) (children_of self.old.live p))) }
+        ensures fresh { IfOk result (λ key. lacks_node self.old.live (K.data_of key)) }
+        ensures unspent { IfOk result (λ key. IsSpent self.old (K.data_of key) → ⊥) }
+        ensures stale { KeepsSpent self.old self.new }
+        ensures parent { OnOk result (IsSome (parent_of self.old.live (K.data_of sibling))) }
+        ensures err { IfErr result (RefusesSibling self.old (K.data_of sibling) value) }
+        ensures unchanged { OnErr result (Keeps self.old self.new) }
+    {
+        Ok(outer(self.insert(Side::After, inner(sibling), value)?))
+    }
+}
