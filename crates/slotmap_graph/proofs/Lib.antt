@@ -1,5 +1,6 @@
 pub mod Adjacent
 pub mod ByNode
+pub mod Copies
 pub mod Followed
 pub mod GraphSteps
 pub mod Searches
