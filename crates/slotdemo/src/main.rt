@@ -1,19 +1,23 @@
 //! A morning at a pond, hour by hour: an entity store and a scheduler at work.
 //!
 //! What will happen is scheduled in a `Scheduler`. Each animal at the pond is an entity of a `World`,
-//! and its position is the stone that it sits on. An event speaks of an animal by its key. If the
-//! animal is gone when the event comes, the key finds nobody, also where another animal has its
+//! and its one component is the stone that it sits on. An event speaks of an animal by its key. If
+//! the animal is gone when the event comes, the key finds nobody, also where another animal has its
 //! place in the store by then.
 #![tactic(auto)]
 
-use slotmap::DefaultKey;
-use slotmap_entities::World;
+use slotmap::{DefaultKey, SecondaryMap};
+use slotmap_entities::{First, World};
 use slotmap_scheduler::Scheduler;
 use std::alloc::Global;
+use std::mem;
 use std::process::ExitCode;
 
-// Animals by their names, each on a stone.
-type Pond = World<Animal, u32, u32>;
+// Animals, each on a stone.
+type Pond = World<DefaultKey, Animal, (SecondaryMap<DefaultKey, u32>, ())>;
+
+// The stone of an animal, among its components.
+type Stone = First;
 
 // Who comes to the pond.
 #[derive(Clone, Copy, Debug, PartialEq, Eq)]
@@ -55,7 +59,7 @@ fn comes(
     stone: u32,
 ) -> Option<()> {
     let key = pond.spawn(animal).ok()?;
-    pond.attach_position(key, stone).ok()?;
+    pond.attach::<Stone>(key, stone).ok()?;
     let next = stone.saturating_add(1);
     events
         .schedule(hour.saturating_add(1), Event::Hops(key, next))
@@ -73,7 +77,10 @@ fn comes(
 
 // An animal goes on to another stone.
 fn hops(rt: &HostRuntime, pond: &mut Pond, key: DefaultKey, stone: u32) -> Option<()> {
-    let before = pond.move_to(key, stone).ok();
+    let before = match pond.component_mut::<Stone>(key) {
+        Some(place) => Some(mem::replace(place, stone)),
+        None => None,
+    };
     match (pond.get(key), before) {
         (Some(animal), Some(before)) => {
             let name = animal.name();
@@ -86,7 +93,7 @@ fn hops(rt: &HostRuntime, pond: &mut Pond, key: DefaultKey, stone: u32) -> Optio
 // An animal is at the pond no more.
 fn goes(rt: &HostRuntime, pond: &mut Pond, key: DefaultKey, how: &str) -> Option<()> {
     match pond.despawn(key) {
-        Some(animal) => {
+        Some((animal, _)) => {
             let name = animal.name();
             println!(rt; "  the {name} {how}").ok()
         }
@@ -114,7 +121,7 @@ fn act(
     }
 }
 
-// All events that are due at an hour.
+// All events that are due at an hour. What they bring about comes at a later one.
 fn pass(
     rt: &HostRuntime,
     pond: &mut Pond,
@@ -122,10 +129,9 @@ fn pass(
     hour: u64,
 ) -> Option<()> {
     println!(rt; "{hour} o'clock").ok()?;
-    for _ in 0..10 {
-        let Some((_, event)) = events.pop_due(hour) else {
-            break;
-        };
+    let mut due = Vec::new(rt.alloc());
+    events.pop_all_due(hour, &mut due).ok()?;
+    for (_, event) in due {
         act(rt, pond, events, hour, event)?;
     }
     Some(())

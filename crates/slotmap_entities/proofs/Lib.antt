@@ -1,1 +1,2 @@
--- Declares nothing.
+mod Fewer
+mod LiveOnly

@@ -1,33 +1,38 @@
 -- A world as its user sees it.
-use Rattle.std.specs.Prelude.{◌≡◌, refl, false, Bool, ◌&&◌}
+use Rattle.std.specs.Prelude.{◌≡◌, refl, true, false, Bool, Option, option_map, List}
+use Rattle.std.specs.List.{filter_map}
+use Rattle.std.specs.Option.{option_and_then}
 use Rattle.std.specs.FinMap as map
-use Rattle.std.specs.Coded.{Coded, code_by, coded×, coded_ℕ}
-use Rattle.slotmap.specs.Words.{Key, Content, Dense, dense_code, IsLive, Pairs, contains_key}
-use Rattle.slotmap_entities.specs.declared.AttachError.{AttachError}
-use Rattle.slotmap_entities.specs.declared.AttachError.TheVariants.{Gone, Memory}
+use Rattle.std.specs.Coded.{Coded, code_by, coded×}
+use Rattle.slotmap.specs.Words.{Key, Content, Dense, dense_code, IsLive}
+use Rattle.slotmap_entities.specs.declared.components.AttachError.{AttachError}
+use Rattle.slotmap_entities.specs.declared.components.AttachError.TheVariants.{Gone, Memory}
 
-pub record World (E P N : Type 0) : Type 0 where
+pub record World (E T : Type 0) : Type 0 where
   -- `content.live` has the value of each entity, `keys` are the entities in packed order, and `IsSpent` says which keys of
   -- `content` are never used again
   pub entities : Dense E
-  -- the two components
-  pub positions : Pairs P
-  pub names : Pairs N
+  -- the tables of the components
+  pub tables : T
 
 -- by which a proof tells two worlds apart
-abbrev pub table_code : {V : Type 0} → Coded V → Coded (Pairs V)
-table_code code = map.code coded_ℕ (coded× coded_ℕ code)
+abbrev pub world_code : {E T : Type 0} → Coded E → Coded T → Coded (World E T)
+world_code {E} {T} e t =
+    code_by (Dense E × T) (coded× (dense_code e) t) (λ w. (w.entities, w.tables)) (λ p. record { entities = p.0; tables = p.1 }) (λ _. refl)
 
-abbrev pub world_code : {E P N : Type 0} → Coded E → Coded P → Coded N → Coded (World E P N)
-world_code {E} {P} {N} e p n =
-    code_by (Dense E × (Pairs P × Pairs N)) (coded× (dense_code e) (coded× (table_code p) (table_code n)))
-    (λ w. (w.entities, (w.positions, w.names))) (λ p. record { entities = p.0; positions = p.1.0; names = p.1.1 }) (λ _. refl)
-
--- whether an entity has a position and a name
-abbrev pub has_both : {E P N : Type 0} → World E P N → Key → Bool
-has_both w k = contains_key w.positions k && contains_key w.names k
+-- each key of which `has` is true is an entity
+abbrev pub OnlyLive : {E : Type 0} → Content E → (Key → Bool) → Type 0
+OnlyLive entities has = (k : Key) → has k ≡ true → IsLive entities k
 
 -- `Gone` if and only if the entity doesn't exist; the component is returned
 abbrev pub RefusesAttach : {E C : Type 0} → Content E → Key → C → AttachError C → Type 0
 RefusesAttach entities k c (Gone back) = (map.contains_key entities.live k ≡ false) × (back ≡ c)
 RefusesAttach entities k c (Memory back) = IsLive entities k × (back ≡ c)
+
+-- the keys of a list for which there is something, each with it
+abbrev pub found_by : {C : Type 0} → (Key → Option C) → List Key → List (Key × C)
+found_by find ks = filter_map (λ k. option_map (λ c. (k, c)) (find k)) ks
+
+-- the keys of a list for which there are two things, each with both
+abbrev pub both_found_by : {A B : Type 0} → (Key → Option A) → (Key → Option B) → List Key → List (Key × (A × B))
+both_found_by a b ks = filter_map (λ k. option_and_then (λ x. option_map (λ y. (k, (x, y))) (b k)) (a k)) ks

@@ -1,132 +1,140 @@
 //! Entities with components: an entity store.
 //!
 //! An entity of a [`World`] is a key that no other entity ever had. Its components are in side
-//! tables, under the same keys, and are removed with it. What is proved of it:
+//! tables, one for each kind, under the same keys, and are removed with it. What is proved of it:
 //!
 //! - A component is never seen under a later entity, even if that has the same slot.
 //! - Only live entities have components.
 //! - A call on one entity changes no component of another, and none of another kind.
+//! - A call that fails changes nothing, and returns what it was given.
 //!
-//! The entities are in a `DenseSlotMap`, packed for iteration. The positions are in a
-//! `SecondaryMap`, since most entities have one, and the names in a `SparseSecondaryMap`. Each call
-//! takes constant time, unless a table grows.
+//! The entities are in a `DenseSlotMap`, packed for iteration. The tables are nested pairs of
+//! secondary maps: a `SecondaryMap` for a kind that most entities have, a `SparseSecondaryMap` for a
+//! rare one. A call names the kind that it is about by a type: [`First`], [`Second`] and so on, best
+//! under a name of your own. Each call takes constant time, unless a table grows.
 //!
 //! ```
-//! let mut world: World<u8, (i32, i32), &str> = World::new(alloc)?;
+//! type Position = First;
+//! type Name = Second;
+//! type Tables = (
+//!     SecondaryMap<DefaultKey, (i32, i32)>,
+//!     (SparseSecondaryMap<DefaultKey, &'static str>, ()),
+//! );
+//! let mut world: World<DefaultKey, u8, Tables> = World::new(alloc)?;
 //! let hero = world.spawn(1)?;
-//! world.attach_position(hero, (3, 4))?;
-//! world.despawn(hero);
+//! world.attach::<Position>(hero, (3, 4))?;
+//! assert_eq!(rt; world.component::<Position>(hero), Some(&(3, 4)));
+//! assert_eq!(rt; world.despawn(hero), Some((1, (Some((3, 4)), (None, ())))));
 //! let other = world.spawn(2)?;
-//! assert_eq!(rt; world.position(other), None);
+//! assert_eq!(rt; world.component::<Name>(other), None);
 //! ```
 #![tactic(auto, using(slotmap::proofs::Callers::keys))]
 
-ghost use Rattle.std.specs.Prelude.{◌≡◌, ◌≢◌, Some, None, IfOk, OnOk, IfErr, OnErr, IfSome, IsSome, IfNone, OnSome, false, true, option_copied, ◌&&◌, IsTrue, ◌↔◌};
+ghost use Rattle.std.specs.Prelude.{◌≡◌, ◌≢◌, ◌+◌, ◌≤◌, ◌↔◌, Some, None, IfOk, IsOk, OnErr, IfErr, IfSome, IfNone, IsTrue, OnSome, false, zip, option_copied, option_map};
 ghost use Rattle.std.specs.FinMap as map;
-ghost use Rattle.std.specs.List.{filter};
-ghost use Rattle.slotmap.specs.Words.{Key as KeyOf, IsLive, IsNew, IsSpent, KeepsSpent, Refuses, get, contains_key};
-ghost use Rattle.slotmap.specs.Words.{Appends, ClosesGap, IsBeside, SameOrder, IsEmpty};
-ghost use Rattle.slotmap_entities.specs.World.{RefusesAttach, has_both};
+ghost use Rattle.std.specs.Option.{option_copied_mut};
+ghost use Rattle.std.specs.Borrow.{sem};
+ghost use Rattle.slotmap.specs.Words.{Key as KeyOf, IsLive, IsNew, IsSpent, KeepsSpent, Leaves, Refuses, RefusesCapacity, MakesDenseRoom, used};
+ghost use Rattle.slotmap.specs.Words.{Appends, ClosesGap, SameOrder, IsEmpty, IsListing, ListsPairs};
 
-use slotmap::{
-    DefaultKey, DenseSlotMap, InsertError, PutError, ReserveError, Secondary, SecondaryMap,
-    SparseSecondaryMap,
-};
-use std::alloc::{AllocError, Global};
+mod components;
+mod join;
+mod kinds;
+mod tables;
+
+pub use components::AttachError;
+pub use join::{With, WithBoth};
+pub use kinds::{First, Fourth, Kind, Second, Then, Third};
+use slotmap::dense::{Iter, Keys, Values};
+use slotmap::{DefaultKey, DenseSlotMap, InsertError, Key, ReserveError};
+use std::alloc::Global;
 use std::marker::Model;
-use std::mem;
-use thiserror::Error;
+use std::ops::Index;
+pub use tables::{Table, Tables};
 
-/// Entities with values of type `E`, each with a position, a name, both or none.
+/// Entities with values of type `E` under keys of type `K`, and their components in the tables `T`.
 ///
-/// A clause sees `entities`, which has the value of each entity and their packed order, and the two
-/// tables.
-#[derive(Debug, Drop)]
-pub struct World<E, P, N> {
-    entities: DenseSlotMap<DefaultKey, E>,
-    positions: SecondaryMap<DefaultKey, P>,
-    names: SparseSecondaryMap<DefaultKey, N>,
+/// A clause sees `entities`, which has the value of each entity and their packed order, and the
+/// tables. An entity `has` a component in one of them, or it doesn't, and `parts` is what it has in
+/// each.
+#[derive(Drop)]
+pub struct World<K: Key, E, T: Tables<K>> {
+    entities: DenseSlotMap<K, E>,
+    tables: T,
 }
 
-impl<E, P, N> Model for World<E, P, N> {
-    ghost use Rattle.slotmap_entities.specs.World.{World as Seen, world_code};
+impl<K: Key, E, T: Tables<K>> Model for World<K, E, T> {
+    ghost use Rattle.slotmap_entities.specs.World.{World as Seen, world_code, OnlyLive};
 
-    ghost Value = { Seen E P N };
+    ghost Value = { Seen E T };
 
-    ghost coded = { world_code E.code P.code N.code };
+    ghost coded = { world_code E.code T.code };
 
-    ghost use Rattle.slotmap.specs.Words.{IsBeside};
+    ghost view = { λ w. record { entities = w.entities; tables = w.tables } };
 
-    ghost view = { λ w. record { entities = w.entities; positions = w.positions.pairs; names = w.names.pairs } };
-
-    ghost invariant = { λ w. IsBeside w.entities.content w.positions.pairs × IsBeside w.entities.content w.names.pairs };
+    ghost invariant = { λ w. OnlyLive w.entities.content (T.has w.tables) };
 }
 
-/// A component was not attached. The error holds it.
-#[derive(Debug, Drop, Error)]
-pub enum AttachError<C> {
-    /// The entity doesn't exist.
-    #[error("the entity is gone")]
-    Gone(C),
-    /// The allocation fails.
-    #[error("out of memory")]
-    Memory(C),
-}
-
-// Whether a key is in both tables.
-fn is_in_both<P: Drop, N: Drop>(
-    positions: &SecondaryMap<DefaultKey, P>,
-    names: &SparseSecondaryMap<DefaultKey, N>,
-    key: DefaultKey,
-) -> bool
-    ensures { result ≡ contains_key positions.now.pairs key && contains_key names.now.pairs key }
-{
-    positions.contains_key(key) && names.contains_key(key)
-}
-
-// Puts a component beside an entity, into the table of its kind, and returns the one that it had.
-fn attach<E: Drop, C: Drop, T: Secondary<DefaultKey, C>>(
-    entities: &DenseSlotMap<DefaultKey, E>,
-    table: &mut T,
-    key: DefaultKey,
-    component: C,
-) -> Result<Option<C>, AttachError<C>>
-    requires { IsBeside entities.now.content (T.pairs table.old) }
-    ensures before { IfOk result (λ before. before ≡ get (T.pairs table.old) key) }
-    ensures there { OnOk result (get (T.pairs table.new) key ≡ Some component) }
-    ensures live { OnOk result (IsLive entities.now.content key) }
-    ensures err { IfErr result (RefusesAttach entities.now.content key component) }
-    ensures unchanged { OnErr result (T.pairs table.new ≡ T.pairs table.old) }
-    ensures others { (q : KeyOf) → q ≢ key → get (T.pairs table.new) q ≡ get (T.pairs table.old) q }
-    ensures beside { IsBeside entities.now.content (T.pairs table.new) }
-{
-    if !entities.contains_key(key) {
-        return Err(AttachError::Gone(component));
-    }
-    match table.insert(key, component) {
-        Ok(before) => Ok(before),
-        Err(PutError(component)) => Err(AttachError::Memory(component)),
-    }
-}
-
-impl<E: Drop, P: Drop, N: Drop> World<E, P, N> {
-    /// Makes a world with no entity.
+impl<E: Drop, T: Tables<DefaultKey>> World<DefaultKey, E, T> {
+    /// Makes a world with no entity, whose entities have keys of type `DefaultKey`.
     ///
     /// It fails only if memory runs out.
     pub fn new(alloc: Global) -> Result<Self, ReserveError>
         ensures entities { IfOk result (λ world. IsNew world.entities.content × IsEmpty world.entities) }
-        ensures positions { IfOk result (λ world. world.positions ≡ map.empty) }
-        ensures names { IfOk result (λ world. world.names ≡ map.empty) }
+        ensures tables { IfOk result (λ world. (q : KeyOf) → T.has world.tables q ≡ false) }
         ensures err { IfErr result (λ error. error ≡ ReserveError.Memory) }
     {
-        let entities = DenseSlotMap::new(alloc)?;
-        let positions = SecondaryMap::new(alloc)?;
-        let names = SparseSecondaryMap::new(alloc)?;
-        Ok(World {
-            entities,
-            positions,
-            names,
-        })
+        World::with_key(alloc)
+    }
+}
+
+impl<K: Key, E: Drop, T: Tables<K>> World<K, E, T> {
+    ghost use Rattle.slotmap_entities.specs.Lends.{lends_entity};
+
+    /// Makes a world with no entity, with any type of keys.
+    ///
+    /// It fails only if memory runs out.
+    pub fn with_key(alloc: Global) -> Result<Self, ReserveError>
+        ensures entities { IfOk result (λ world. IsNew world.entities.content × IsEmpty world.entities) }
+        ensures tables { IfOk result (λ world. (q : KeyOf) → T.has world.tables q ≡ false) }
+        ensures err { IfErr result (λ error. error ≡ ReserveError.Memory) }
+    {
+        World::with_capacity_and_key(alloc, 0)
+    }
+
+    /// Makes a world with no entity and with room for `capacity` of them, with any type of keys.
+    ///
+    /// It fails with `TooGreat` if `capacity` is over 4294967294, and with `Memory` if memory runs
+    /// out.
+    pub fn with_capacity_and_key(alloc: Global, capacity: usize) -> Result<Self, ReserveError>
+        ensures entities { IfOk result (λ world. IsNew world.entities.content × IsEmpty world.entities) }
+        ensures tables { IfOk result (λ world. (q : KeyOf) → T.has world.tables q ≡ false) }
+        ensures room { IfOk result (λ world. capacity ≤ world.entities.content.room) }
+        ensures err { IfErr result (RefusesCapacity capacity) }
+    {
+        let entities = DenseSlotMap::with_capacity_and_key(alloc, capacity)?;
+        let tables = T::new(alloc)?;
+        Ok(World { entities, tables })
+    }
+
+    /// Reserves room for `additional` more entities: to spawn them can't fail then. The tables grow
+    /// by themselves.
+    ///
+    /// It fails with `TooGreat` if more than 4294967294 entities would be there, and with `Memory` if
+    /// memory runs out. The world has the same entities then.
+    pub fn reserve(&mut self, additional: usize) -> Result<(), ReserveError>
+        ensures makes_room { MakesDenseRoom self.old.entities additional (IsOk result) self.new.entities }
+        ensures err { IfErr result (RefusesCapacity (used self.old.entities.content + additional)) }
+        ensures tables { self.new.tables ≡ self.old.tables }
+    {
+        self.entities.reserve(additional)
+    }
+
+    /// Returns for how many entities there is memory, in constant time.
+    pub fn capacity(&self) -> usize
+        ensures { result ≡ self.now.entities.content.capacity }
+    {
+        self.entities.capacity()
     }
 
     /// Returns how many entities there are.
@@ -144,23 +152,22 @@ impl<E: Drop, P: Drop, N: Drop> World<E, P, N> {
     }
 
     /// Returns whether an entity exists, in constant time.
-    pub fn contains(&self, entity: DefaultKey) -> bool
-        ensures { result ≡ map.contains_key self.now.entities.content.live entity }
+    pub fn contains_key(&self, key: K) -> bool
+        ensures { result ≡ map.contains_key self.now.entities.content.live (K.data_of key) }
     {
-        self.entities.contains_key(entity)
+        self.entities.contains_key(key)
     }
 
     /// Adds an entity with no component, and returns its key.
     ///
     /// If the call fails, the error holds the value, and the world is unchanged.
-    pub fn spawn(&mut self, entity: E) -> Result<DefaultKey, InsertError<E>>
+    pub fn spawn(&mut self, entity: E) -> Result<K, InsertError<E>>
         // A new entity, with no component.
-        ensures adds { IfOk result (λ key. self.new.entities.content.live ≡ map.insert self.old.entities.content.live key entity) }
-        ensures fresh { IfOk result (λ key. map.get self.old.entities.content.live key ≡ None) }
-        ensures no_position { IfOk result (λ key. get self.new.positions key ≡ None) }
-        ensures no_name { IfOk result (λ key. get self.new.names key ≡ None) }
+        ensures adds { IfOk result (λ key. self.new.entities.content.live ≡ map.insert self.old.entities.content.live (K.data_of key) entity) }
+        ensures fresh { IfOk result (λ key. map.get self.old.entities.content.live (K.data_of key) ≡ None) }
+        ensures no_component { IfOk result (λ key. T.has self.new.tables (K.data_of key) ≡ false) }
         // It is the last in the packed order.
-        ensures order { IfOk result (λ key. Appends self.old.entities key entity self.new.entities) }
+        ensures order { IfOk result (λ key. Appends self.old.entities (K.data_of key) entity self.new.entities) }
 
         // Why the call failed, and what that leaves.
         ensures err { IfErr result (Refuses self.old.entities.content entity) }
@@ -168,166 +175,109 @@ impl<E: Drop, P: Drop, N: Drop> World<E, P, N> {
         ensures same_order { OnErr result (SameOrder self.old.entities self.new.entities) }
 
         // All else is as before.
-        ensures positions { self.new.positions ≡ self.old.positions }
-        ensures names { self.new.names ≡ self.old.names }
+        ensures tables { self.new.tables ≡ self.old.tables }
         ensures gone { KeepsSpent self.old.entities.content self.new.entities.content }
     {
         self.entities.insert(entity)
     }
 
-    /// Removes an entity, and drops its components. It returns the entity's value, or `None` if it
-    /// doesn't exist. The key is never used again.
-    pub fn despawn(&mut self, key: DefaultKey) -> Option<E>
+    /// Removes an entity with its components. It returns the entity's value and what it had in each
+    /// table, or `None` if it doesn't exist. The key is never used again.
+    pub fn despawn(&mut self, key: K) -> Option<(E, T::Parts)>
         // The entity is gone, with its components.
-        ensures value { result ≡ map.get self.old.entities.content.live key }
-        ensures removed { self.new.entities.content.live ≡ map.remove self.old.entities.content.live key }
-        ensures no_position { get self.new.positions key ≡ None }
-        ensures no_name { get self.new.names key ≡ None }
-        ensures for_good { OnSome result (IsSpent self.new.entities.content key) }
+        ensures value { result ≡ option_map (λ value. (value, T.parts self.old.tables (K.data_of key))) (map.get self.old.entities.content.live (K.data_of key)) }
+        ensures removed { self.new.entities.content.live ≡ map.remove self.old.entities.content.live (K.data_of key) }
+        ensures no_component { T.has self.new.tables (K.data_of key) ≡ false }
+        ensures for_good { OnSome result (IsSpent self.new.entities.content (K.data_of key)) }
         // The last entity takes its position in the packed order.
-        ensures order { IfSome result (λ value. ClosesGap self.old.entities key value self.new.entities) }
+        ensures order { IfSome result (λ removed. ClosesGap self.old.entities (K.data_of key) removed.0 self.new.entities) }
 
         // All else is as before.
-        ensures others { (q : KeyOf) → q ≢ key
-            → (get self.new.positions q ≡ get self.old.positions q) × (get self.new.names q ≡ get self.old.names q) }
+        ensures others { (q : KeyOf) → q ≢ K.data_of key → (T.has self.new.tables q ≡ T.has self.old.tables q) × (T.parts self.new.tables q ≡ T.parts self.old.tables q) }
         ensures gone { KeepsSpent self.old.entities.content self.new.entities.content }
+        ensures unchanged { IfNone result (self.new ≡ self.old) }
     {
-        self.positions.remove(key);
-        self.names.remove(key);
-        self.entities.remove(key)
+        let value = self.entities.remove(key)?;
+        Some((value, self.tables.remove(key)))
+    }
+
+    /// Removes all entities and all components. The keys are never used again, and the room stays.
+    pub fn clear(&mut self)
+        ensures removed { self.new.entities.content.live ≡ map.empty }
+        ensures empty { IsEmpty self.new.entities }
+        ensures leaves { Leaves self.old.entities.content self.new.entities.content }
+        ensures for_good { (k : KeyOf) → IsLive self.old.entities.content k → IsSpent self.new.entities.content k }
+        ensures tables { (q : KeyOf) → T.has self.new.tables q ≡ false }
+    {
+        self.entities.clear();
+        self.tables.clear();
     }
 
     /// Returns the value of an entity, or `None` if it doesn't exist.
-    pub fn get(&self, key: DefaultKey) -> Option<&E>
-        ensures { option_copied result ≡ map.get self.now.entities.content.live key }
+    pub fn get(&self, key: K) -> Option<&E>
+        ensures { option_copied result ≡ map.get self.now.entities.content.live (K.data_of key) }
     {
         self.entities.get(key)
     }
 
-    /// Gives an entity a position, and returns the one that it had.
-    ///
-    /// If the call fails, the error holds the position, and the world is unchanged.
-    pub fn attach_position(
-        &mut self,
-        key: DefaultKey,
-        position: P,
-    ) -> Result<Option<P>, AttachError<P>>
-        // The entity has this position now.
-        ensures before { IfOk result (λ before. before ≡ get self.old.positions key) }
-        ensures there { OnOk result (get self.new.positions key ≡ Some position) }
-        ensures live { OnOk result (IsLive self.old.entities.content key) }
-
-        // Why the call failed, and what that leaves.
-        ensures err { IfErr result (RefusesAttach self.old.entities.content key position) }
-        ensures unchanged { OnErr result (self.new ≡ self.old) }
-
-        // All else is as before.
-        ensures others { (q : KeyOf) → q ≢ key → get self.new.positions q ≡ get self.old.positions q }
-        ensures entities { self.new.entities ≡ self.old.entities }
-        ensures names { self.new.names ≡ self.old.names }
+    /// Returns a mutable reference to the value of an entity, or `None` if it doesn't exist.
+    pub fn get_mut(&mut self, key: K) -> Option<&mut E>
+        ensures* writes_back { sem 𝓛 (lends_entity K.row E.row T.row T.Parts.row K.Key T.Tables self.entry (K.data_of key) result) }
+        ensures value { option_copied_mut result ≡ map.get self.old.entities.content.live (K.data_of key) }
     {
-        attach(&self.entities, &mut self.positions, key, position)
-    }
-
-    /// Gives an entity a name, and returns the one that it had.
-    ///
-    /// If the call fails, the error holds the name, and the world is unchanged.
-    pub fn attach_name(&mut self, key: DefaultKey, name: N) -> Result<Option<N>, AttachError<N>>
-        // The entity has this name now.
-        ensures before { IfOk result (λ before. before ≡ get self.old.names key) }
-        ensures there { OnOk result (get self.new.names key ≡ Some name) }
-        ensures live { OnOk result (IsLive self.old.entities.content key) }
-
-        // Why the call failed, and what that leaves.
-        ensures err { IfErr result (RefusesAttach self.old.entities.content key name) }
-        ensures unchanged { OnErr result (self.new ≡ self.old) }
-
-        // All else is as before.
-        ensures others { (q : KeyOf) → q ≢ key → get self.new.names q ≡ get self.old.names q }
-        ensures entities { self.new.entities ≡ self.old.entities }
-        ensures positions { self.new.positions ≡ self.old.positions }
-    {
-        attach(&self.entities, &mut self.names, key, name)
-    }
-
-    /// Takes the position off an entity, and returns it, if it has one.
-    pub fn detach_position(&mut self, key: DefaultKey) -> Option<P>
-        ensures value { result ≡ get self.old.positions key }
-        ensures gone { get self.new.positions key ≡ None }
-        ensures others { (q : KeyOf) → q ≢ key → get self.new.positions q ≡ get self.old.positions q }
-        ensures entities { self.new.entities ≡ self.old.entities }
-        ensures names { self.new.names ≡ self.old.names }
-    {
-        self.positions.remove(key)
-    }
-
-    /// Takes the name off an entity, and returns it, if it has one.
-    pub fn detach_name(&mut self, key: DefaultKey) -> Option<N>
-        ensures value { result ≡ get self.old.names key }
-        ensures gone { get self.new.names key ≡ None }
-        ensures others { (q : KeyOf) → q ≢ key → get self.new.names q ≡ get self.old.names q }
-        ensures entities { self.new.entities ≡ self.old.entities }
-        ensures positions { self.new.positions ≡ self.old.positions }
-    {
-        self.names.remove(key)
-    }
-
-    /// Returns the position of an entity, or `None` if it has none or doesn't exist.
-    pub fn position(&self, key: DefaultKey) -> Option<&P>
-        ensures value { option_copied result ≡ get self.now.positions key }
-        ensures live { IsSome result → IsLive self.now.entities.content key }
-    {
-        self.positions.get(key)
-    }
-
-    /// Returns the name of an entity, or `None` if it has none or doesn't exist.
-    pub fn name(&self, key: DefaultKey) -> Option<&N>
-        ensures value { option_copied result ≡ get self.now.names key }
-        ensures live { IsSome result → IsLive self.now.entities.content key }
-    {
-        self.names.get(key)
-    }
-
-    /// Returns the entities that have both a position and a name, in the packed order of the entities.
-    ///
-    /// It fails only if memory runs out. Linear in the number of entities.
-    ///
-    /// ```
-    /// let mut world: World<u8, (i32, i32), &str> = World::new(alloc)?;
-    /// let hero = world.spawn(1)?;
-    /// let rock = world.spawn(2)?;
-    /// world.attach_position(hero, (3, 4))?;
-    /// world.attach_position(rock, (5, 6))?;
-    /// world.attach_name(hero, "Ann")?;
-    /// assert_eq!(rt; world.with_both(alloc)?.as_slice(), [hero].as_slice());
-    /// ```
-    pub fn with_both(&self, alloc: Global) -> Result<Vec<DefaultKey>, AllocError>
-        ensures { IfOk result (λ found. found.items ≡ filter (has_both self.now) self.now.entities.keys) }
-    {
-        let mut found = Vec::new(alloc);
-        for key in self.entities.keys() {
-            if is_in_both(&self.positions, &self.names, key) {
-                found.push(key)?;
-            }
+        match self.entities.get_mut(key) {
+            Some(value) => Some(value),
+            None => None,
         }
-        Ok(found)
     }
 
-    /// Moves an entity that has a position to another one, and returns the old one. It allocates
-    /// nothing. If the entity has no position, the new one is returned.
-    pub fn move_to(&mut self, key: DefaultKey, position: P) -> Result<P, P>
-        ensures before { IfOk result (λ before. get self.old.positions key ≡ Some before) }
-        ensures there { OnOk result (get self.new.positions key ≡ Some position) }
-        ensures others { (q : KeyOf) → q ≢ key → get self.new.positions q ≡ get self.old.positions q }
-        ensures err { IfErr result (λ back. back ≡ position) }
-        ensures none { OnErr result (get self.old.positions key ≡ None) }
-        ensures unchanged { OnErr result (self.new ≡ self.old) }
-        ensures entities { self.new.entities ≡ self.old.entities }
-        ensures names { self.new.names ≡ self.old.names }
+    /// Returns an iterator over the entities with their values, in packed order.
+    pub fn iter(&self) -> Iter<'_, K, E>
+        ensures listing { IsListing self.now.entities.content.live result }
+        ensures in_order { result ≡ zip self.now.entities.keys self.now.entities.values }
     {
-        let Some(place) = self.positions.get_mut(key) else {
-            return Err(position);
-        };
-        Ok(mem::replace(place, position))
+        self.entities.iter()
+    }
+
+    /// Returns an iterator over the keys of the entities, in packed order.
+    pub fn keys(&self) -> Keys<'_, K, E>
+        ensures { result ≡ self.now.entities.keys }
+    {
+        self.entities.keys()
+    }
+
+    /// Returns an iterator over the values of the entities, in packed order.
+    pub fn values(&self) -> Values<'_, K, E>
+        ensures { result ≡ self.now.entities.values }
+    {
+        self.entities.values()
     }
 }
+
+impl<'a, K: Key, E: Drop, T: Tables<K>> IntoIterator for &'a World<K, E, T> {
+    type Item = (K, &'a E);
+
+    type IntoIter = Iter<'a, K, E>;
+
+    ghost into_iter_gives = { λ world it. ListsPairs world.now.entities it };
+
+    fn into_iter(self) -> Iter<'a, K, E> {
+        self.iter()
+    }
+}
+
+/// `world[key]` is the value of an entity. The caller proves that the entity exists.
+impl<K: Key, E: Drop, T: Tables<K>> Index<K> for World<K, E, T> {
+    type Output = E;
+
+    ghost can_index = { λ world key. IsLive world.entities.content (K.data_of key) };
+
+    ghost index_gives = { λ world key value. map.get world.entities.content.live (K.data_of key) ≡ Some value };
+
+    fn index(&self, key: K) -> &E {
+        &self.entities[key]
+    }
+}
+
+#[cfg(test)]
+mod tests;

@@ -1,10 +1,10 @@
 -- What a call makes of a graph, as a whole.
-use Rattle.std.proofs.Common.{◌≡◌, ◌≢◌, ◌<◌, true, false, cond, Option, Some, None, IfSome, IfNone, Result, Ok, Err, IfOk, IsErr, [], ◌∷◌, ◌++◌}
+use Rattle.std.proofs.Common.{◌≡◌, ◌≢◌, ◌<◌, Bool, true, false, cond, Option, Some, None, IfSome, OnSome, IfNone, Result, Ok, Err, IfOk, IsErr, [], ◌∷◌, ◌++◌}
 use Rattle.std.proofs.Common.{is_some, ◌||◌, refl, sym, ap, ◌∙◌, inl, inr, arith}
 use Rattle.std.specs.FinMap as map
 use Rattle.std.specs.declared.vec.Vec.{Vec}
-use Rattle.slotmap.specs.Words.{Key, Content, IsContent, IsLive, Inserts, Keeps, Pairs, IsBeside, get, remove, with_value}
-use Rattle.slotmap.proofs.Callers.{keys, get-insert_here, get-insert_other, same_or_other, get-put_live, get-put_other, beside_empty}
+use Rattle.slotmap.specs.Words.{Key, Content, IsContent, IsLive, Inserts, Removes, Leaves, Keeps, Pairs, IsBeside, get, remove, with_value}
+use Rattle.slotmap.proofs.Callers.{keys, get-insert_here, get-insert_other, same_or_other, get-put_live, get-put_other, beside_empty, leaves_none, leaves_by_removal}
 use Rattle.slotmap.proofs.Callers.{beside_removed, live-remove_other, live-insert_still, removed_gone, get-remove_other, secondary}
 use Rattle.slotmap_keylist.specs.KeyLists.{is_key, times, without}
 use Rattle.slotmap_keylist.proofs.Counts.{is_itself, is_other}
@@ -19,6 +19,12 @@ puts_alone nodes m k beside live well = record { here = get-put_live true nodes 
 -- nothing changes
 pub kept : {V : Type 0} (c : Content V) → Keeps c c
 kept c = record { live = refl; detached = refl; retired = refl; next = refl; offer = refl; stack = refl; room = omega arith }
+
+-- a removal, whatever it returns, lets no key come
+pub node_leaves : {N : Type 0} (old new : Content N) (reuses : Bool) → IsContent reuses old → (k : Key) (answer : Option N) → answer ≡ map.get old.live k
+    → OnSome answer (Removes old k new) → IfNone answer (new ≡ old) → Leaves old new
+node_leaves old new reuses well k None is removes unchanged = rw unchanged (leaves_none old)
+node_leaves old new reuses well k (Some n) is removes unchanged = leaves_by_removal reuses old well k (ap is_some (sym is)) new removes
 
 -- the list of one live node changes
 module _ {N Z : Type 0} (nodes : Content N) (lists : Pairs (Vec Key Z)) (k : Key) (beside : IsBeside nodes lists) (live : IsLive nodes k) (new : Pairs (Vec Key Z))

@@ -60,6 +60,10 @@ module _ {E : Type 0} where
   abbrev pub touches : Key → Edge E → Bool
   touches k e = is_key e.from k || is_key e.to k
 
+  -- the copy of an edge joins the same nodes, and has a clone of its value
+  abbrev pub clones_edge : (E → E → Type 0) → Edge E → Edge E → Type 0
+  clones_edge is_clone e copy = (copy.from ≡ e.from) × (copy.to ≡ e.to) × is_clone e.value copy.value
+
   abbrev pub avoids : Key → Edge E → Bool
   avoids k e = not (touches k e)
 

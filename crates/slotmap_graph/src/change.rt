@@ -127,6 +127,7 @@ impl<K: Key, N: Drop, E: Drop> Graph<K, N, E> {
         ensures removes { OnSome result (Removes self.old.edges edge self.new.edges) }
         ensures unchanged { IfNone result (self.new.edges ≡ self.old.edges) }
         ensures for_good { OnSome result (IsSpent self.new.edges edge) }
+        ensures leaves { Leaves self.old.edges self.new.edges }
         ensures out { (k : KeyOf) → edges_at self.new.out k ≡ without edge (edges_at self.old.out k) }
         ensures into { (k : KeyOf) → edges_at self.new.into k ≡ without edge (edges_at self.old.into k) }
         ensures nodes { self.new.nodes ≡ self.old.nodes }
@@ -164,6 +165,7 @@ impl<K: Key, N: Drop, E: Drop> Graph<K, N, E> {
         ensures edges { (k : KeyOf) → map.get self.new.edges.live k ≡ option_and_then
             (λ e. cond (avoids (K.data_of node) e) (Some e) None) (map.get self.old.edges.live k) }
         ensures for_good { (k : KeyOf) (e : SeenEdge E) → map.get self.old.edges.live k ≡ Some e → touches (K.data_of node) e ≡ true → IsSpent self.new.edges k }
+        ensures leaves { Leaves self.old.edges self.new.edges }
         ensures out { (k : KeyOf) → edges_at self.new.out k ≡ filter (map.contains_key self.new.edges.live) (edges_at self.old.out k) }
         ensures into { (k : KeyOf) → edges_at self.new.into k ≡ filter (map.contains_key self.new.edges.live) (edges_at self.old.into k) }
         ensures nodes { self.new.nodes ≡ self.old.nodes }
@@ -193,12 +195,14 @@ impl<K: Key, N: Drop, E: Drop> Graph<K, N, E> {
         ensures removes { OnSome result (Removes self.old.nodes (K.data_of node) self.new.nodes) }
         ensures unchanged { IfNone result (self.new.nodes ≡ self.old.nodes) }
         ensures for_good { OnSome result (IsSpent self.new.nodes (K.data_of node)) }
+        ensures leaves { Leaves self.old.nodes self.new.nodes }
         ensures gone { KeepsSpent self.old.nodes self.new.nodes }
 
         // Its edges are gone, and no others.
         ensures edges { (k : KeyOf) → map.get self.new.edges.live k ≡ option_and_then
             (λ e. cond (avoids (K.data_of node) e) (Some e) None) (map.get self.old.edges.live k) }
         ensures edges_for_good { (k : KeyOf) (e : SeenEdge E) → map.get self.old.edges.live k ≡ Some e → touches (K.data_of node) e ≡ true → IsSpent self.new.edges k }
+        ensures edges_leave { Leaves self.old.edges self.new.edges }
         ensures edges_gone { KeepsSpent self.old.edges self.new.edges }
         ensures out { (k : KeyOf) → edges_at self.new.out k ≡ filter (map.contains_key self.new.edges.live) (edges_at self.old.out k) }
         ensures into { (k : KeyOf) → edges_at self.new.into k ≡ filter (map.contains_key self.new.edges.live) (edges_at self.old.into k) }

@@ -39,6 +39,7 @@ ghost use Rattle.slotmap.specs.Words.{IsNew, IsLive, MakesRoom, RefusesCapacity,
 ghost use Rattle.slotmap_graph.specs.Parts.{both, edges_at, ends, from, to, value, ListsEdges, RefusesEither, SameEdges};
 
 mod change;
+mod clone;
 mod edge_key;
 mod lists;
 mod search;

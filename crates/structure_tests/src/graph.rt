@@ -64,6 +64,16 @@ fn writes(rt: HostRuntime) -> Result<(), Fail> {
 }
 
 #[test]
+fn copies(rt: HostRuntime) -> Result<(), Fail> {
+    let (mut graph, a, b, edge) = pair(rt.alloc())?;
+    let copy = graph.clone()?;
+    graph.remove_node(b);
+    assert_eq!(rt; copy.node(b), Some(&2));
+    assert_eq!(rt; copy.edges_from(a), [edge].as_slice());
+    Ok(())
+}
+
+#[test]
 fn keys_of_all(rt: HostRuntime) -> Result<(), Fail> {
     let (graph, a, b, edge) = pair(rt.alloc())?;
     let mut nodes = graph.nodes();

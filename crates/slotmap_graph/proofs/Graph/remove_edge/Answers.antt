@@ -1,5 +1,5 @@
 use Rattle.std.proofs.Common.{true, is_some, sym, ap, ◌∙◌}
-use Rattle.slotmap.proofs.Callers.{removed_spent, spent_remove}
+use Rattle.slotmap.proofs.Callers.{removed_spent, spent_remove, leaves_none, leaves_by_removal}
 use Rattle.slotmap_graph.specs.Parts.{from, to, listed}
 use Rattle.slotmap_graph.proofs.Adjacent.{listed_once}
 use Rattle.slotmap_graph.proofs.GraphSteps.{edge_removed, out_seen, into_seen, out_lacks, into_lacks}
@@ -26,6 +26,10 @@ returns-clause-into g c = rw (← c.self.view_is)
 pub returns-clause-for_good : goal.returns-clause-for_good
 returns-clause-for_good g c = removed_spent _ _ true c.remove.ensures.valid.before _ (ap is_some (sym c.in_ok-removed.ensures.value)) c.in_ok-removed.ensures.removes
 
+pub returns-clause-leaves : goal.returns-clause-leaves
+returns-clause-leaves g c = rw (← c.self.view_is)
+    (leaves_by_removal true _ c.remove.ensures.valid.before c.args.edge (ap is_some (sym c.in_ok-removed.ensures.value)) _ c.in_ok-removed.ensures.removes)
+
 pub returns-clause-gone : goal.returns-clause-gone
 returns-clause-gone g c = rw (← c.self.view_is) (spent_remove _ _ true c.remove.ensures.valid _ _ c.remove.ensures.value c.remove.ensures.removes c.remove.ensures.unchanged)
 
@@ -34,3 +38,6 @@ returns-in_err-removed-clause-out g c = rw (← c.self.view_is) (out_lacks _ _ _
 
 pub returns-in_err-removed-clause-into : goal.returns-in_err-removed-clause-into
 returns-in_err-removed-clause-into g c = rw (← c.self.view_is) (into_lacks _ _ _ _ c.self.invariant c.args.edge (sym c.remove.ensures.value ∙ c.in_err-removed.was))
+
+pub returns-in_err-removed-clause-leaves : goal.returns-in_err-removed-clause-leaves
+returns-in_err-removed-clause-leaves g c = rw (← c.self.view_is) (rw (rw c.in_err-removed.was at c.remove.ensures.unchanged) (leaves_none c.self.inside.edges))

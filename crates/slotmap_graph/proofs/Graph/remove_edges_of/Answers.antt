@@ -1,12 +1,12 @@
 use Rattle.std.proofs.Common.{is_some, refl, ap, ◌∙◌, arith}
 use Rattle.std.specs.Option.{option_map}
-use Rattle.slotmap.proofs.Callers.{keys_total, exact_keys, len_removed, of_some}
+use Rattle.slotmap.proofs.Callers.{keys_total, exact_keys, len_removed, of_some, leaves_none, leaves_in_turn}
 use Rattle.slotmap_graph.specs.Parts.{edges_at, from, to, value}
 use Rattle.slotmap_graph.proofs.Thinned.{thinned_start, thinned_step, thinned_end, thinned_spent, thin_step, thin_end}
 use Rattle.slotmap_graph.proofs.Graph.remove_edges_of.Goals as goal
 
 pub loop-edge-init : goal.loop-edge-init
-loop-edge-init g c = record { thinned = thinned_start c.inner-node.result c.args.self.now.edges c.args.self.now.edges refl; nodes = refl; out = λ k. refl; into = λ k. refl }
+loop-edge-init g c = record { thinned = thinned_start c.inner-node.result c.args.self.now.edges c.args.self.now.edges refl; leaves = leaves_none c.args.self.now.edges; nodes = refl; out = λ k. refl; into = λ k. refl }
 
 pub loop-edge-smaller : goal.loop-edge-smaller
 loop-edge-smaller g c =
@@ -22,6 +22,7 @@ loop-edge-preserved-in-Some g c =
     record {
       thinned = thinned_step c.inner-node.result c.args.self.now.edges c.loop-edge.self.edges so_far.thinned c.remove_edge.new.self.edges c.in-Some.edge there.0
           there.1 there.2 c.remove_edge.ensures.live spent c.remove_edge.ensures.gone;
+      leaves = leaves_in_turn c.args.self.now.edges c.loop-edge.self.edges c.remove_edge.new.self.edges so_far.leaves c.remove_edge.ensures.leaves;
       nodes = c.remove_edge.ensures.nodes ∙ so_far.nodes;
       out = λ k. rw (c.remove_edge.ensures.live, c.remove_edge.ensures.out k) (thin_step now (edges_at c.args.self.now.out k) (edges_at c.loop-edge.self.out k) (so_far.out k) c.in-Some.edge);
       into = λ k. rw (c.remove_edge.ensures.live, c.remove_edge.ensures.into k) (thin_step now (edges_at c.args.self.now.into k) (edges_at c.loop-edge.self.into k) (so_far.into k) c.in-Some.edge);
@@ -44,3 +45,6 @@ returns-clause-nodes g c = c.loop-edge.invariant.nodes
 
 pub returns-clause-gone : goal.returns-clause-gone
 returns-clause-gone g c = c.loop-edge.invariant.thinned.keeps
+
+pub returns-clause-leaves : goal.returns-clause-leaves
+returns-clause-leaves g c = c.loop-edge.invariant.leaves

@@ -1,7 +1,7 @@
 use Rattle.std.proofs.Common.{◌≡◌}
 use Rattle.std.specs.List.{filter}
 use Rattle.std.specs.FinMap as map
-use Rattle.slotmap.specs.Words.{Key}
+use Rattle.slotmap.specs.Words.{Key, Leaves}
 use Rattle.slotmap_graph.specs.Parts.{edges_at}
 use Rattle.slotmap_graph.proofs.Thinned.{Thinned}
 use Rattle.slotmap_graph.proofs.Graph.remove_edges_of.Given as goal
@@ -9,6 +9,7 @@ use Rattle.slotmap_graph.proofs.Graph.remove_edges_of.Given as goal
 abbrev pub invariant-loop-edge : goal.invariant-loop-edge
 invariant-loop-edge g l = record {
   thinned : Thinned l.node l.fn.self.edges l.self.edges;
+  leaves : Leaves l.fn.self.edges l.self.edges;
   nodes : l.self.nodes ≡ l.fn.self.nodes;
   out : (k : Key) → filter (map.contains_key l.self.edges.live) (edges_at l.fn.self.out k) ≡ filter (map.contains_key l.self.edges.live) (edges_at l.self.out k);
   into : (k : Key) → filter (map.contains_key l.self.edges.live) (edges_at l.fn.self.into k) ≡ filter (map.contains_key l.self.edges.live) (edges_at l.self.into k);

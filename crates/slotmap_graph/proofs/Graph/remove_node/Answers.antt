@@ -2,7 +2,7 @@ use Rattle.std.proofs.Common.{true, ap, ◌∙◌}
 use Rattle.std.specs.FinMap as map
 use Rattle.slotmap.proofs.Callers.{remove_spent, spent_remove}
 use Rattle.slotmap_graph.specs.Parts.{edges_at}
-use Rattle.slotmap_graph.proofs.GraphSteps.{node_removed, out_still, into_still}
+use Rattle.slotmap_graph.proofs.GraphSteps.{node_removed, node_leaves, out_still, into_still}
 use Rattle.slotmap_graph.proofs.Thinned.{none_left}
 use Rattle.slotmap_graph.proofs.Graph.remove_node.Goals as goal
 
@@ -35,6 +35,14 @@ returns-clause-unchanged g c =
 
 pub returns-clause-for_good : goal.returns-clause-for_good
 returns-clause-for_good g c = remove_spent _ _ true c.remove-3.ensures.valid _ _ c.remove-3.ensures.value c.remove-3.ensures.removes
+
+pub returns-clause-leaves : goal.returns-clause-leaves
+returns-clause-leaves g c =
+    let same = ap (λ s. s.nodes) c.self.view_is ∙ c.remove_edges_of.ensures.nodes in
+    rw (← same) (node_leaves _ _ true c.remove-3.ensures.valid.before _ _ c.remove-3.ensures.value c.remove-3.ensures.removes c.remove-3.ensures.unchanged)
+
+pub returns-clause-edges_leave : goal.returns-clause-edges_leave
+returns-clause-edges_leave g c = rw (ap (λ s. s.edges) c.self.view_is) c.remove_edges_of.ensures.leaves
 
 pub returns-clause-gone : goal.returns-clause-gone
 returns-clause-gone g c =

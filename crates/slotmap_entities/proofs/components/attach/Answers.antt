@@ -1,6 +1,6 @@
 use Rattle.std.proofs.Common.{sym, ◌∙◌}
 use Rattle.slotmap.proofs.Callers.{beside_put, get-put_live, get-put_other}
-use Rattle.slotmap_entities.proofs.attach.Goals as goal
+use Rattle.slotmap_entities.proofs.components.attach.Goals as goal
 
 pub returns-in-Ok-clause-there : goal.returns-in-Ok-clause-there
 returns-in-Ok-clause-there g c =

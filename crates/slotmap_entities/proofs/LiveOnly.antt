@@ -1,0 +1,41 @@
+-- That only entities have components: what a call does to that.
+use Rattle.std.proofs.Common.{◌≡◌, ◌≢◌, ◌⊎◌, Bool, true, false, inl, inr, arith}
+use Rattle.std.specs.FinMap as map
+use Rattle.slotmap.specs.Words.{Key, Content, IsLive, IsBeside, Pairs, contains_key}
+use Rattle.slotmap.proofs.Callers.{same_or_other, live-remove_other, false_of, secondary}
+use Rattle.slotmap_entities.specs.World.{OnlyLive}
+
+-- an empty table
+pub in_none : {C : Type 0} (m : Pairs C) → m ≡ map.empty → (k : Key) → contains_key m k ≡ false
+in_none m is k = rw is (grind (arith, secondary))
+
+-- none has one
+pub none_live : {E : Type 0} (c : Content E) (has : Key → Bool) → ((k : Key) → has k ≡ false) → OnlyLive c has
+none_live c has none k there = absurd (let no = none k in cc)
+
+module _ {E : Type 0} (c : Content E) (has : Key → Bool) (only : OnlyLive c has) where
+  -- a key that isn't live has none
+  pub dead_has_none : (k : Key) → map.contains_key c.live k ≡ false → has k ≡ false
+  dead_has_none k dead = false_of (has k) (λ there. let live = only k there in absurd (cc))
+
+  -- the table of one kind has no more
+  pub own_beside : {C : Type 0} (m : Pairs C) → ((k : Key) → contains_key m k ≡ true → has k ≡ true) → IsBeside c m
+  own_beside m own k there = only k (own k there)
+
+  -- a new table of one kind, where all else stays
+  pub table_live : {C : Type 0} (m : Pairs C) (now : Key → Bool) → IsBeside c m → ((k : Key) → now k ≡ true → (has k ≡ true) ⊎ (contains_key m k ≡ true)) → OnlyLive c now
+  table_live m now beside more k there = elim (more k there) [
+    | inl before ↦ only k before
+    | inr here ↦ beside k here
+  ]
+
+  -- an entity leaves, and its components do
+  pub removed_live : (new : Content E) (k : Key) (now : Key → Bool) → new.live ≡ map.remove c.live k → now k ≡ false → ((q : Key) → q ≢ k → now q ≡ has q) → OnlyLive new now
+  removed_live new k now is gone others q there = rw is (elim (same_or_other q k) [
+    | inl e ↦ absurd (let t = rw e at there in cc)
+    | inr other ↦ live-remove_other c.live k q other (only q (rw (others q other) at there))
+  ])
+
+-- a reference that is lent gives the same world back
+pub same_lent : {N A B : Type 0} (n : N) (f g : A → B) → ((w : A) → f w ≡ g w) → ◌≡◌ {A = (N × (A → B)) ⊎ B} (inl (n, f)) (inl (n, g))
+same_lent n f g same = λ i. inl (n, λ w. same w i)

@@ -1,0 +1,6 @@
+use Rattle.std.proofs.Common.{rules}
+use Rattle.slotmap_entities.proofs.Fewer.{found_less}
+use Rattle.slotmap_entities.proofs.join.WithBothIterator.size_hint.Goals as goal
+
+pub returns-clause-upper : goal.returns-clause-upper
+returns-clause-upper g c = (tt, rw c.len.ensures (found_less _ c.args.self.now.keys))

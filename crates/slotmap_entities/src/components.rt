@@ -1,0 +1,117 @@
+//! The calls on one component of one entity.
+
+ghost use Rattle.std.specs.Prelude.{◌≡◌, ◌≢◌, IfOk, OnOk, IfErr, OnErr, IsSome, Some, None, option_copied};
+ghost use Rattle.std.specs.Option.{option_copied_mut};
+ghost use Rattle.std.specs.Borrow.{sem};
+ghost use Rattle.slotmap.specs.Words.{Key as KeyOf, IsBeside, IsLive, get};
+ghost use Rattle.slotmap_entities.specs.World.{OnlyLive, RefusesAttach};
+
+use crate::{Kind, Table, Tables, World};
+use slotmap::{DenseSlotMap, Key, PutError};
+use thiserror::Error;
+
+/// A component was not attached. The error holds it.
+#[derive(Debug, Drop, Error)]
+pub enum AttachError<C> {
+    /// The entity doesn't exist.
+    #[error("the entity is gone")]
+    Gone(C),
+    /// The allocation fails.
+    #[error("out of memory")]
+    Memory(C),
+}
+
+// The type of the components of a kind.
+type ComponentOf<K, T, C> = <<C as Kind<K, T>>::Table as Table<K>>::Component;
+
+// Puts a component beside an entity, into the table of its kind, and returns the one that it had.
+fn attach<K: Key, E: Drop, M: Table<K>>(
+    entities: &DenseSlotMap<K, E>,
+    table: &mut M,
+    key: K,
+    component: M::Component,
+) -> Result<Option<M::Component>, AttachError<M::Component>>
+    requires { IsBeside entities.now.content (M.pairs table.old) }
+    ensures before { IfOk result (λ before. before ≡ get (M.pairs table.old) (K.data_of key)) }
+    ensures there { OnOk result (get (M.pairs table.new) (K.data_of key) ≡ Some component) }
+    ensures live { OnOk result (IsLive entities.now.content (K.data_of key)) }
+    ensures err { IfErr result (RefusesAttach entities.now.content (K.data_of key) component) }
+    ensures unchanged { OnErr result (M.pairs table.new ≡ M.pairs table.old) }
+    ensures others { (q : KeyOf) → q ≢ K.data_of key → get (M.pairs table.new) q ≡ get (M.pairs table.old) q }
+    ensures beside { IsBeside entities.now.content (M.pairs table.new) }
+{
+    if !entities.contains_key(key) {
+        return Err(AttachError::Gone(component));
+    }
+    match table.insert(key, component) {
+        Ok(before) => Ok(before),
+        Err(PutError(component)) => Err(AttachError::Memory(component)),
+    }
+}
+
+impl<K: Key, E: Drop, T: Tables<K>> World<K, E, T> {
+    ghost use Rattle.slotmap_entities.specs.Lends.{lends_component};
+
+    /// Gives an entity a component, and returns the one of this kind that it had.
+    pub fn attach<C: Kind<K, T>>(
+        &mut self,
+        key: K,
+        component: ComponentOf<K, T, C>,
+    ) -> Result<Option<ComponentOf<K, T, C>>, AttachError<ComponentOf<K, T, C>>>
+        // The entity has this component now.
+        ensures before { IfOk result (λ before. before ≡ get (C.Table.pairs (C.table self.old.tables)) (K.data_of key)) }
+        ensures there { OnOk result (get (C.Table.pairs (C.table self.new.tables)) (K.data_of key) ≡ Some component) }
+        ensures live { OnOk result (IsLive self.old.entities.content (K.data_of key)) }
+
+        // Why the call failed, and what that leaves.
+        ensures err { IfErr result (RefusesAttach self.old.entities.content (K.data_of key) component) }
+        ensures unchanged { OnErr result (C.Table.pairs (C.table self.new.tables) ≡ C.Table.pairs (C.table self.old.tables)) }
+
+        // All else is as before: the other components of this kind, and the other kinds.
+        ensures others { (q : KeyOf) → q ≢ K.data_of key → get (C.Table.pairs (C.table self.new.tables)) q ≡ get (C.Table.pairs (C.table self.old.tables)) q }
+        ensures kinds { self.new.tables ≡ C.with_table self.old.tables (C.table self.new.tables) }
+        ensures entities { self.new.entities ≡ self.old.entities }
+    {
+        let table = C::table_mut(&mut self.tables);
+        attach(&self.entities, table, key, component)
+    }
+
+    /// Takes a component off an entity, and returns it, if it has one of this kind.
+    pub fn detach<C: Kind<K, T>>(&mut self, key: K) -> Option<ComponentOf<K, T, C>>
+        ensures value { result ≡ get (C.Table.pairs (C.table self.old.tables)) (K.data_of key) }
+        ensures gone { get (C.Table.pairs (C.table self.new.tables)) (K.data_of key) ≡ None }
+        ensures others { (q : KeyOf) → q ≢ K.data_of key → get (C.Table.pairs (C.table self.new.tables)) q ≡ get (C.Table.pairs (C.table self.old.tables)) q }
+        ensures kinds { self.new.tables ≡ C.with_table self.old.tables (C.table self.new.tables) }
+        ensures entities { self.new.entities ≡ self.old.entities }
+    {
+        C::table_mut(&mut self.tables).remove(key)
+    }
+
+    /// Returns the component of this kind of an entity, or `None` if it has none or doesn't exist.
+    pub fn component<'a, C: Kind<K, T>>(&'a self, key: K) -> Option<&'a ComponentOf<K, T, C>>
+    where
+        C::Table: 'a,
+        ensures value { option_copied result ≡ get (C.Table.pairs (C.table self.now.tables)) (K.data_of key) }
+        ensures live { IsSome result → IsLive self.now.entities.content (K.data_of key) }
+    {
+        C::table(&self.tables).get(key)
+    }
+
+    /// Returns a mutable reference to the component of this kind of an entity, or `None` if it has none
+    /// or doesn't exist.
+    pub fn component_mut<'a, C: Kind<K, T>>(
+        &'a mut self,
+        key: K,
+    ) -> Option<&'a mut ComponentOf<K, T, C>>
+    where
+        C::Table: 'a,
+        ensures* writes_back { sem 𝓛 (lends_component K.row E.row T.row T.Parts.row K.Key T.Tables C.Table.Component.row self.entry
+            (λ component. C.with_table self.old.tables (C.Table.with_value (C.table self.old.tables) (K.data_of key) component)) result) }
+        ensures value { option_copied_mut result ≡ get (C.Table.pairs (C.table self.old.tables)) (K.data_of key) }
+    {
+        match C::table_mut(&mut self.tables).get_mut(key) {
+            Some(component) => Some(component),
+            None => None,
+        }
+    }
+}

@@ -1,0 +1,113 @@
+//! Joins: iterators over the entities that have components of given kinds.
+
+ghost use Rattle.std.specs.Prelude.{◌≡◌};
+ghost use Rattle.std.specs.Iterator.{YieldsFirstBy, item_count};
+ghost use Rattle.slotmap.specs.Words.{get};
+ghost use Rattle.slotmap_entities.specs.World.{found_by, both_found_by};
+
+use crate::{Kind, Table, Tables, World};
+use slotmap::Key;
+use slotmap::dense::Keys;
+
+/// An iterator over the entities that have a component of one kind: see [`World::with`].
+#[derive(Drop)]
+pub struct With<'a, K: Key, E, M> {
+    keys: Keys<'a, K, E>,
+    table: &'a M,
+}
+
+impl<'a, K: Key, E: Drop, M: Table<K>> Iterator for With<'a, K, E, M>
+where
+    M::Component: 'a,
+{
+    type Item = (K, &'a M::Component);
+
+    ghost next_gives = { YieldsFirstBy (λ item. (K.data_of item.0, item.1.now)) (λ it. found_by (get (M.pairs it.table.now)) it.keys) };
+
+    ghost remaining = { item_count (λ it. found_by (get (M.pairs it.table.now)) it.keys) };
+
+    fn next(&mut self) -> Option<(K, &'a M::Component)> {
+        while let Some(key) = self.keys.next() {
+            if let Some(component) = self.table.get(key) {
+                return Some((key, component));
+            }
+        }
+        None
+    }
+
+    fn size_hint(&self) -> (usize, Option<usize>) {
+        (0, Some(self.keys.len()))
+    }
+}
+
+/// An iterator over the entities that have components of two kinds: see [`World::with_both`].
+#[derive(Drop)]
+pub struct WithBoth<'a, K: Key, E, A, B> {
+    keys: Keys<'a, K, E>,
+    first: &'a A,
+    second: &'a B,
+}
+
+impl<'a, K: Key, E: Drop, A: Table<K>, B: Table<K>> Iterator for WithBoth<'a, K, E, A, B>
+where
+    A::Component: 'a,
+    B::Component: 'a,
+{
+    type Item = (K, &'a A::Component, &'a B::Component);
+
+    ghost next_gives = { YieldsFirstBy (λ item. (K.data_of item.0, (item.1.now, item.2.now))) (λ it. both_found_by (get (A.pairs it.first.now)) (get (B.pairs it.second.now)) it.keys) };
+
+    ghost remaining = { item_count (λ it. both_found_by (get (A.pairs it.first.now)) (get (B.pairs it.second.now)) it.keys) };
+
+    fn next(&mut self) -> Option<(K, &'a A::Component, &'a B::Component)> {
+        while let Some(key) = self.keys.next() {
+            if let (Some(first), Some(second)) = (self.first.get(key), self.second.get(key)) {
+                return Some((key, first, second));
+            }
+        }
+        None
+    }
+
+    fn size_hint(&self) -> (usize, Option<usize>) {
+        (0, Some(self.keys.len()))
+    }
+}
+
+impl<K: Key, E: Drop, T: Tables<K>> World<K, E, T> {
+    /// Returns an iterator over the entities that have a component of one kind, with it, in packed
+    /// order.
+    ///
+    /// It is made in constant time. All its steps together look each entity up once, and allocate
+    /// nothing.
+    pub fn with<'a, C: Kind<K, T>>(&'a self) -> With<'a, K, E, C::Table>
+    where
+        C::Table: 'a,
+        ensures in_order { found_by (get (C.Table.pairs result.table.now)) result.keys ≡ found_by (get (C.Table.pairs (C.table self.now.tables))) self.now.entities.keys }
+    {
+        With {
+            keys: self.entities.keys(),
+            table: C::table(&self.tables),
+        }
+    }
+
+    /// Returns an iterator over the entities that have components of two kinds, with both, in packed
+    /// order.
+    ///
+    /// It is made in constant time. All its steps together look each entity up once in the two
+    /// tables, and allocate nothing.
+    pub fn with_both<'a, A: Kind<K, T>, B: Kind<K, T>>(
+        &'a self,
+    ) -> WithBoth<'a, K, E, A::Table, B::Table>
+    where
+        A::Table: 'a,
+        B::Table: 'a,
+        ensures in_order { both_found_by (get (A.Table.pairs result.first.now)) (get (B.Table.pairs result.second.now)) result.keys
+            ≡ both_found_by (get (A.Table.pairs (A.table self.now.tables))) (get (B.Table.pairs (B.table self.now.tables))) self.now.entities.keys }
+    {
+        WithBoth {
+            keys: self.entities.keys(),
+            first: A::table(&self.tables),
+            second: B::table(&self.tables),
+        }
+    }
+}

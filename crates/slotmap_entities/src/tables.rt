@@ -1,0 +1,221 @@
+//! Tables of components, one for each kind.
+
+ghost use Rattle.std.specs.FinMap as map;
+ghost use Rattle.std.specs.Prelude.{◌≡◌, ◌≢◌, ◌||◌, Bool, true, false, refl, IfOk, OnOk, IfErr, OnErr, option_copied};
+ghost use Rattle.std.specs.Option.{option_copied_mut};
+ghost use Rattle.std.specs.Borrow.{sem, LendsIf};
+ghost use Rattle.slotmap.specs.Words.{Key as KeyOf, Pairs, get, contains_key, put, bind, remove, RefusesPut, side_with_value, sparse_with_value};
+
+use slotmap::{Key, PutError, ReserveError, SecondaryMap, SparseSecondaryMap};
+use std::alloc::Global;
+
+/// A table of components of one kind: a `SecondaryMap` or a `SparseSecondaryMap`.
+///
+/// The first suits a kind that most entities have, the other a rare one.
+pub trait Table<K: Key>: Drop {
+    /// The type of the components.
+    type Component: Drop;
+
+    ghost use Rattle.slotmap.specs.Words.{Key as KeyOf};
+
+    // The components, by their entities.
+    ghost pairs: { Self → Pairs Self.Component };
+
+    // The table once the entity has another component.
+    ghost with_value: { Self → KeyOf → Self.Component → Self };
+
+    /// Makes an empty table. It fails only if memory runs out.
+    fn new(alloc: Global) -> Result<Self, ReserveError>
+        ensures empty { IfOk result (λ table. pairs table ≡ map.empty) }
+        ensures err { IfErr result (λ error. error ≡ ReserveError.Memory) };
+
+    /// Returns whether an entity has a component here.
+    fn contains_key(&self, key: K) -> bool
+        ensures { result ≡ contains_key (pairs self.now) (K.data_of key) };
+
+    /// Returns the component of an entity, or `None` if it has none here.
+    fn get(&self, key: K) -> Option<&Self::Component>
+        ensures { option_copied result ≡ get (pairs self.now) (K.data_of key) };
+
+    /// Returns a mutable reference to the component of an entity, or `None` if it has none here.
+    fn get_mut(&mut self, key: K) -> Option<&mut Self::Component>
+        ensures* writes_back { sem 𝓛 (LendsIf Self.row Self.Component.row self.entry result (with_value self.old (K.data_of key)) self.old) }
+        ensures value { option_copied_mut result ≡ get (pairs self.old) (K.data_of key) };
+
+    /// Inserts a component, and returns the one that the entity had. If memory runs out, the error
+    /// holds the component, and the table has the same components.
+    fn insert(
+        &mut self,
+        key: K,
+        component: Self::Component,
+    ) -> Result<Option<Self::Component>, PutError<Self::Component>>
+        ensures value { IfOk result (λ before. before ≡ get (pairs self.old) (K.data_of key)) }
+        ensures ok { OnOk result (pairs self.new ≡ put (pairs self.old) (K.data_of key) component) }
+        ensures err { IfErr result (λ error. RefusesPut (pairs self.old) (K.data_of key) component error.0) }
+        ensures unchanged { OnErr result (pairs self.new ≡ pairs self.old) };
+
+    /// Removes the component of an entity, and returns it, or `None` if it has none here.
+    fn remove(&mut self, key: K) -> Option<Self::Component>
+        ensures value { result ≡ get (pairs self.old) (K.data_of key) }
+        ensures removes { pairs self.new ≡ remove (pairs self.old) (K.data_of key) };
+
+    /// Removes all components.
+    fn clear(&mut self)
+        ensures { pairs self.new ≡ map.empty };
+
+    ghost with_value_is: { (m : Self) (k : KeyOf) (v : Self.Component) → pairs (with_value m k v) ≡ bind (pairs m) k v };
+}
+
+impl<K: Key, C: Drop> Table<K> for SecondaryMap<K, C> {
+    type Component = C;
+
+    ghost pairs = { λ m. m.pairs };
+
+    ghost with_value = { side_with_value };
+
+    fn new(alloc: Global) -> Result<Self, ReserveError> {
+        SecondaryMap::new(alloc)
+    }
+
+    fn contains_key(&self, key: K) -> bool {
+        SecondaryMap::contains_key(self, key)
+    }
+
+    fn get(&self, key: K) -> Option<&C> {
+        SecondaryMap::get(self, key)
+    }
+
+    fn get_mut(&mut self, key: K) -> Option<&mut C> {
+        SecondaryMap::get_mut(self, key)
+    }
+
+    fn insert(&mut self, key: K, component: C) -> Result<Option<C>, PutError<C>> {
+        SecondaryMap::insert(self, key, component)
+    }
+
+    fn remove(&mut self, key: K) -> Option<C> {
+        SecondaryMap::remove(self, key)
+    }
+
+    fn clear(&mut self) {
+        SecondaryMap::clear(self);
+    }
+
+    ghost with_value_is = { λ m k v. refl };
+}
+
+impl<K: Key, C: Drop> Table<K> for SparseSecondaryMap<K, C> {
+    type Component = C;
+
+    ghost pairs = { λ m. m.pairs };
+
+    ghost with_value = { sparse_with_value };
+
+    fn new(alloc: Global) -> Result<Self, ReserveError> {
+        SparseSecondaryMap::new(alloc)
+    }
+
+    fn contains_key(&self, key: K) -> bool {
+        SparseSecondaryMap::contains_key(self, key)
+    }
+
+    fn get(&self, key: K) -> Option<&C> {
+        SparseSecondaryMap::get(self, key)
+    }
+
+    fn get_mut(&mut self, key: K) -> Option<&mut C> {
+        SparseSecondaryMap::get_mut(self, key)
+    }
+
+    fn insert(&mut self, key: K, component: C) -> Result<Option<C>, PutError<C>> {
+        SparseSecondaryMap::insert(self, key, component)
+    }
+
+    fn remove(&mut self, key: K) -> Option<C> {
+        SparseSecondaryMap::remove(self, key)
+    }
+
+    fn clear(&mut self) {
+        SparseSecondaryMap::clear(self);
+    }
+
+    ghost with_value_is = { λ m k v. refl };
+}
+
+/// The tables of a world: pairs of a [`Table`] and further tables, down to `()`.
+///
+/// Any number of kinds of components is a nest of pairs. A struct of tables can have an impl of its
+/// own.
+///
+/// ```
+/// let mut tables: (SecondaryMap<DefaultKey, u8>, (SparseSecondaryMap<DefaultKey, &str>, ())) =
+///     Tables::new(alloc)?;
+/// let parts = Tables::remove(&mut tables, DefaultKey::null());
+/// assert_eq!(rt; parts, (None, (None, ())));
+/// ```
+pub trait Tables<K: Key>: Drop {
+    /// What an entity has in the tables: for each an `Option`, in the same pairs.
+    type Parts: Drop;
+
+    ghost use Rattle.slotmap.specs.Words.{Key as KeyOf};
+
+    // Whether an entity has a component in one of the tables.
+    ghost has: { Self → KeyOf → Bool };
+
+    // What it has in each of them.
+    ghost parts: { Self → KeyOf → Self.Parts };
+
+    /// Makes empty tables. It fails only if memory runs out.
+    fn new(alloc: Global) -> Result<Self, ReserveError>
+        ensures empty { IfOk result (λ tables. (q : KeyOf) → has tables q ≡ false) }
+        ensures err { IfErr result (λ error. error ≡ ReserveError.Memory) };
+
+    /// Removes the components of an entity from all tables, and returns them.
+    fn remove(&mut self, key: K) -> Self::Parts
+        ensures value { result ≡ parts self.old (K.data_of key) }
+        ensures gone { has self.new (K.data_of key) ≡ false }
+        ensures others { (q : KeyOf) → q ≢ K.data_of key → (has self.new q ≡ has self.old q) × (parts self.new q ≡ parts self.old q) };
+
+    /// Removes all components of all entities.
+    fn clear(&mut self)
+        ensures { (q : KeyOf) → has self.new q ≡ false };
+}
+
+impl<K: Key> Tables<K> for () {
+    type Parts = ();
+
+    ghost has = { λ tables k. false };
+
+    ghost parts = { λ tables k. tables };
+
+    fn new(_alloc: Global) -> Result<(), ReserveError> {
+        Ok(())
+    }
+
+    fn remove(&mut self, _key: K) {}
+
+    fn clear(&mut self) {}
+}
+
+impl<K: Key, A: Table<K>, B: Tables<K>> Tables<K> for (A, B) {
+    type Parts = (Option<A::Component>, B::Parts);
+
+    ghost has = { λ tables k. contains_key (A.pairs tables.0) k || B.has tables.1 k };
+
+    ghost parts = { λ tables k. (get (A.pairs tables.0) k, B.parts tables.1 k) };
+
+    fn new(alloc: Global) -> Result<(A, B), ReserveError> {
+        let table = A::new(alloc)?;
+        let others = B::new(alloc)?;
+        Ok((table, others))
+    }
+
+    fn remove(&mut self, key: K) -> (Option<A::Component>, B::Parts) {
+        (self.0.remove(key), self.1.remove(key))
+    }
+
+    fn clear(&mut self) {
+        self.0.clear();
+        self.1.clear();
+    }
+}

@@ -1,0 +1,69 @@
+//! Copies of a graph.
+
+ghost use Rattle.std.specs.Prelude.{◌≡◌, IfOk};
+ghost use Rattle.slotmap.specs.Words.{ClonesEqual, IsCloneBy, IsCopy};
+ghost use Rattle.slotmap_graph.specs.Parts.{SameEdges, clones_edge};
+
+use crate::{Edge, Graph};
+use slotmap::Key;
+use std::alloc::AllocError;
+
+impl<E: Clone> Clone for Edge<E> {
+    ghost is_clone = { λ edge copy. (copy.from ≡ edge.from) × (copy.to ≡ edge.to) × E.is_clone edge.value copy.value };
+
+    fn clone(&self) -> Result<Self, AllocError> {
+        Ok(Edge {
+            from: self.from,
+            to: self.to,
+            value: self.value.clone()?,
+        })
+    }
+}
+
+impl<K: Key, N: Clone, E: Clone> Graph<K, N, E> {
+    /// Returns a copy of the graph, with clones of the values under the same keys.
+    ///
+    /// The edges of each node are listed in the same order, and both graphs will return the same new
+    /// keys. If memory runs out, the call fails, and what was copied is dropped. It takes time linear in
+    /// the number of slots and edges.
+    ///
+    /// ```
+    /// let mut graph: Graph<NodeKey, &str, u64> = Graph::new(alloc)?;
+    /// let a = graph.add_node("a")?;
+    /// let edge = graph.add_edge(a, a, 5)?;
+    /// let copy = graph.clone()?;
+    /// graph.remove_node(a);
+    /// assert_eq!(rt; copy.edges_from(a), [edge].as_slice());
+    /// ```
+    pub fn clone(&self) -> Result<Self, AllocError>
+        ensures nodes { IfOk result (λ copy. IsCloneBy N.is_clone self.now.nodes copy.nodes) }
+        ensures edges { IfOk result (λ copy. IsCloneBy (clones_edge E.is_clone) self.now.edges copy.edges) }
+        ensures out { IfOk result (λ copy. SameEdges self.now.out copy.out) }
+        ensures into { IfOk result (λ copy. SameEdges self.now.into copy.into) }
+
+        // Where clones equal their values, so do the nodes and the edges.
+        ensures same_nodes { IfOk result (λ copy. ClonesEqual N.is_clone → IsCopy self.now.nodes copy.nodes) }
+        ensures same_edges { IfOk result (λ copy. ClonesEqual E.is_clone → IsCopy self.now.edges copy.edges) }
+    {
+        let nodes = self.nodes.clone()?;
+        let edges = self.edges.clone()?;
+        let out = self.out.clone()?;
+        let into = self.into.clone()?;
+        Ok(Graph {
+            alloc: self.alloc,
+            nodes,
+            edges,
+            out,
+            into,
+        })
+    }
+}
+
+impl<K: Key, N: Clone, E: Clone> Clone for Graph<K, N, E> {
+    ghost is_clone = { λ graph copy. IsCloneBy N.is_clone graph.nodes copy.nodes × IsCloneBy (clones_edge E.is_clone) graph.edges copy.edges
+        × SameEdges graph.out copy.out × SameEdges graph.into copy.into };
+
+    fn clone(&self) -> Result<Self, AllocError> {
+        Graph::clone(self)
+    }
+}
