@@ -30,7 +30,7 @@ CRATES = {
     "joined_rows": (3.85, 4, "checks runs on two maps"),
     STRUCTURES: (5.5, 4, "list, graph, entities, scene, scheduler"),
     "slotmap_examples": (2.2, 5, "callers of the maps"),
-    "structure_examples": (3.85, 5, "callers of the structures"),
+    "structure_examples": (3.85, 5, "callers and tests of the structures"),
     "slotdemo": (5.5, 5, "program: a demonstration"),
 }
 COLORS = {
@@ -41,8 +41,11 @@ PITCH, LEFT, TOPS = 152, 22, [698, 598, 460, 316, 186, 66]
 HEIGHT = 56
 
 
-# The library of each row program stands for the program too.
-LIBRARIES = {"slotmap_rows_primary": "primary_rows", "slotmap_rows_secondary": "secondary_rows"}
+# The library of each row program stands for the program too, and a library for its tests.
+LIBRARIES = {
+    "slotmap_rows_primary": "primary_rows", "slotmap_rows_secondary": "secondary_rows", "json_tests": "slotmap_json",
+    "structure_tests": "structure_examples",
+}
 
 
 def shown(name):

@@ -278,6 +278,3 @@ impl<K: Key, E: Drop, T: Tables<K>> Index<K> for World<K, E, T> {
         &self.entities[key]
     }
 }
-
-#[cfg(test)]
-mod tests;

@@ -5,4 +5,5 @@ pub mod arm;
 pub mod cursors;
 pub mod forward;
 pub mod groups;
+pub mod heirs;
 pub mod timer;

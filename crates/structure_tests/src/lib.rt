@@ -3,6 +3,8 @@
 #![tactic(auto, using(slotmap::proofs::Callers::keys))]
 
 #[cfg(test)]
+mod entities;
+#[cfg(test)]
 mod graph;
 #[cfg(test)]
 mod list;

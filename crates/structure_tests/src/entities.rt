@@ -1,7 +1,7 @@
 //! Calls on their happy path, in short functions.
 
-use crate::{First, Second, World};
 use slotmap::{DefaultKey, SecondaryMap, SparseSecondaryMap};
+use slotmap_entities::{First, Second, World};
 use std::alloc::Global;
 use std::test::Fail;
 

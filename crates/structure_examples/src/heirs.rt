@@ -1,0 +1,23 @@
+//! An entity that makes way for another one.
+
+ghost use Rattle.std.specs.Prelude.{◌≡◌, ◌≢◌, Some, None, IfOk, false};
+ghost use Rattle.std.specs.FinMap as map;
+ghost use Rattle.slotmap.specs.Words.{IsLive};
+
+use slotmap::{DefaultKey, InsertError};
+use slotmap_entities::{Tables, World};
+
+/// Removes an entity, and adds another one, which has nothing of it, whatever the tables are.
+pub fn reborn<T: Tables<DefaultKey>>(
+    world: &mut World<DefaultKey, u8, T>,
+    key: DefaultKey,
+    entity: u8,
+) -> Result<DefaultKey, InsertError<u8>>
+    ensures there { IfOk result (λ new. map.get world.new.entities.content.live new ≡ Some entity) }
+    ensures bare { IfOk result (λ new. T.has world.new.tables new ≡ false) }
+    ensures other { IsLive world.old.entities.content key → IfOk result (λ new. new ≢ key) }
+    ensures dead { map.get world.new.entities.content.live key ≡ None }
+{
+    world.despawn(key);
+    world.spawn(entity)
+}
