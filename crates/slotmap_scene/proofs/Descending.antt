@@ -1,6 +1,8 @@
 -- A walk down from a node: the keys that were listed, and those that are ahead.
 use Rattle.std.proofs.Common.{◌≡◌, ◌≢◌, ◌⊎◌, ℕ, zero, suc, ◌+◌, ◌<◌, ◌≤◌, Some, List, [], ◌∷◌, ◌++◌, length, length-append, refl, sym, ap, subst, ◌∙◌, inl, inr, arith, append_assoc, append-nil}
-use Rattle.std.specs.Prelude.{reverse}
+use Rattle.std.specs.Prelude.{reverse, map as list_map}
+use Rattle.std.specs.List.{All}
+use Rattle.std.proofs.lemmas.List.Elements.{All-nil, All-cons}
 use Rattle.std.specs.FinMap as map
 use Rattle.slotmap.specs.Words.{Key}
 use Rattle.slotmap.proofs.Callers.{same_or_other, keys_total, exact_keys, left_in, len_removed}
@@ -11,6 +13,13 @@ use Rattle.slotmap_scene.specs.Climb.{Nodes, has_node, parent_of, StepsTo, IsWit
 use Rattle.slotmap_scene.specs.Family.{children_of, IsScene}
 use Rattle.slotmap_scene.proofs.Climbs.{has_parent, no_cycle}
 use Rattle.slotmap_scene.proofs.Families.{listed_once, listed_few, listed_parent}
+
+-- what holds of each key that is listed
+pub each_listed : {K : Type 0} (data_of : K → Key) (P : Key → Type 0) (xs : List K) → ((k : Key) → 0 < times k (list_map data_of xs) → P k) → All (λ x. P (data_of x)) xs
+each_listed data_of P [] only = All-nil _
+each_listed data_of P (x ∷ xs) only = All-cons (λ y. P (data_of y)) x xs
+    (only (data_of x) (let first = times_first (data_of x) (data_of x) (list_map data_of xs) in let one = one_itself (data_of x) in omega arith))
+    (each_listed data_of P xs (λ k more. only k (let first = times_first k (data_of x) (list_map data_of xs) in omega arith)))
 
 module _ {T : Type 0} where
   -- distinct keys of nodes are no more than the nodes

@@ -1,6 +1,7 @@
 //! The nodes below a node.
 
 ghost use Rattle.std.specs.Prelude.{◌≡◌, ◌≢◌, ◌<◌, ◌≤◌, IfOk, map as list_map};
+ghost use Rattle.std.specs.List.{All};
 ghost use Rattle.slotmap.specs.Words.{Key as KeyOf};
 ghost use Rattle.slotmap_keylist.specs.KeyLists.{times};
 ghost use Rattle.slotmap_scene.specs.Below.{GoesDown};
@@ -44,8 +45,8 @@ impl<K: Key, T: Drop> Scene<K, T> {
 
         // Each node below it, and no other, is there once.
         ensures all { IfOk result (λ keys. (k : KeyOf) → IsWithin self.now.live k (K.data_of node) → k ≢ K.data_of node → 0 < times k (list_map K.data_of keys.items)) }
-        ensures only { IfOk result (λ keys. (k : KeyOf) → 0 < times k (list_map K.data_of keys.items)
-            → has_node self.now.live k × IsWithin self.now.live k (K.data_of node) × (k ≢ K.data_of node)) }
+        ensures only { IfOk result (λ keys. All (λ key. has_node self.now.live (K.data_of key)
+            × IsWithin self.now.live (K.data_of key) (K.data_of node) × (K.data_of key ≢ K.data_of node)) keys.items) }
         ensures once { IfOk result (λ keys. (k : KeyOf) → times k (list_map K.data_of keys.items) ≤ 1) }
     {
         let mut below = Vec::new(self.alloc);

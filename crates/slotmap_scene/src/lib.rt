@@ -5,6 +5,8 @@
 //!
 //! - The nodes form trees: each has a root above it, [`Scene::depth`] steps away.
 //! - Each node appears exactly once in its parent's list of children, and in no other.
+//! - [`Scene::descendants`] lists the nodes below a node, each once: depth-first, in the order of the
+//!   children.
 //! - [`Scene::reparent`] moves a node with its subtree, as the last child of its new parent. Unless
 //!   memory runs out, it is refused exactly if a node doesn't exist or the move would make a cycle.
 //! - [`Scene::remove`] removes a node with its subtree, and no other node. Their keys are never used
@@ -17,8 +19,11 @@
 //!   and [`Scene::reparent`] in the number of those above the new parent.
 //! - [`Scene::reparent`], [`Scene::make_root`] and [`Scene::remove`] search the children of the node's
 //!   parent from the back, and move up those behind it.
-//! - [`Scene::remove`] also takes time linear in the number of nodes that it removes.
-//! - [`Scene::clear`] takes time linear in the number of slots.
+//! - [`Scene::insert_before`] and [`Scene::insert_after`] search the children of the parent from the
+//!   front, and move up those behind the sibling.
+//! - [`Scene::remove`] also takes time linear in the number of nodes that it removes, and
+//!   [`Scene::descendants`] in the number of those that it lists.
+//! - [`Scene::clear`] and [`Scene::clone`] take time linear in the number of slots.
 //!
 //! ```
 //! let mut scene: Scene<DefaultKey, &str> = Scene::new(alloc)?;
@@ -104,7 +109,7 @@ impl<K, T> Model for Scene<K, T> {
 /// A node was not added. The error holds its value.
 #[derive(Debug, Drop, Error)]
 pub enum AddError<T> {
-    /// The parent doesn't exist.
+    /// The parent doesn't exist, or the sibling has none.
     #[error("the parent is gone")]
     Gone(T),
     /// There are as many nodes as a map can hold.

@@ -61,6 +61,18 @@ impl<'a, K: Key, T: Drop> ExactSizeIterator for Iter<'a, K, T> {
 
 impl<'a, K: Key, T: Drop> FusedIterator for Iter<'a, K, T> {}
 
+impl<'a, K: Key, T: Drop> IntoIterator for &'a Scheduler<K, T> {
+    type Item = (K, u64, &'a T);
+
+    type IntoIter = Iter<'a, K, T>;
+
+    ghost into_iter_gives = { λ scheduler it. ListsJobs scheduler.now.waiting it };
+
+    fn into_iter(self) -> Iter<'a, K, T> {
+        self.iter()
+    }
+}
+
 /// An iterator over the handles that wait: see [`Scheduler::keys`].
 ///
 /// A contract sees it as the list of the handles that it will still yield.

@@ -8,8 +8,9 @@
 //! - A job that was cancelled or returned is never returned again. Its handle is never used again, so
 //!   it finds no later job either.
 //! - A call that fails returns the job, and leaves the same jobs waiting. It uses up no handle.
-//! - Only [`Scheduler::schedule`] and [`Scheduler::reserve`] allocate. Where a job was taken out or
-//!   room was reserved, a schedule can't run out of memory.
+//! - Of the calls that change a scheduler, only [`Scheduler::schedule`] and [`Scheduler::reserve`]
+//!   allocate memory for it. Where a job was taken out or room was reserved, a schedule can't run out
+//!   of memory.
 //!
 //! The jobs are in a `SlotMap`, and their turns in a heap in a `Vec`; each job has its place in the
 //! heap. So `schedule`, `reschedule`, `cancel` and `pop_due` take time logarithmic in the number of

@@ -1,8 +1,9 @@
-use Rattle.std.proofs.Common.{◌≡◌, [], ◌∷◌, ◌++◌, length, length-append, append-nil, map as list_map, ap, ◌∙◌, arith}
+use Rattle.std.proofs.Common.{◌≡◌, ◌≢◌, [], ◌∷◌, ◌++◌, length, length-append, append-nil, map as list_map, ap, ◌∙◌, arith}
 use Rattle.std.specs.Prelude.{reverse}
 use Rattle.std.proofs.lemmas.List.{length-map, map-append, reverse-append}
+use Rattle.slotmap_scene.specs.Climb.{IsWithin, has_node}
 use Rattle.slotmap_scene.specs.Family.{IsScene, children_of}
-use Rattle.slotmap_scene.proofs.Descending.{descending_start, descending_step, longer, descended_order, descended_only, descended_all}
+use Rattle.slotmap_scene.proofs.Descending.{descending_start, each_listed, descending_step, longer, descended_order, descended_only, descended_all}
 use Rattle.slotmap_scene.proofs.Scene.descendants.Goals as goal
 
 pub loop-key-init : goal.loop-key-init
@@ -38,4 +39,6 @@ pub returns-clause-all : goal.returns-clause-all
 returns-clause-all g c = descended_all c.args.self.now.live (rw (← c.self.view_is) c.self.invariant) _ _ _ c.loop-key.invariant c.in_default.ensures.none
 
 pub returns-clause-only : goal.returns-clause-only
-returns-clause-only g c = descended_only c.args.self.now.live (rw (← c.self.view_is) c.self.invariant) _ _ _ c.loop-key.invariant c.in_default.ensures.none
+returns-clause-only g c =
+    each_listed g.K.Key.data_of (λ k. has_node c.args.self.now.live k × IsWithin c.args.self.now.live k (g.K.Key.data_of c.args.node) × (k ≢ g.K.Key.data_of c.args.node)) _
+    (descended_only c.args.self.now.live (rw (← c.self.view_is) c.self.invariant) _ _ _ c.loop-key.invariant c.in_default.ensures.none)
