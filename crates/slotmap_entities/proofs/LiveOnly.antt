@@ -1,23 +1,11 @@
 -- That only entities have components: what a call does to that.
-use Rattle.std.proofs.Common.{◌≡◌, ◌≢◌, ◌⊎◌, Bool, true, false, inl, inr, arith}
+use Rattle.std.proofs.Common.{◌≡◌, ◌≢◌, ◌⊎◌, Bool, true, false, inl, inr}
 use Rattle.std.specs.FinMap as map
-use Rattle.slotmap.specs.Words.{Key, Content, IsLive, IsBeside, Pairs, contains_key}
-use Rattle.slotmap.proofs.Callers.{same_or_other, live-remove_other, false_of, secondary}
+use Rattle.slotmap.specs.Words.{Key, Content, IsBeside, Pairs, contains_key}
+use Rattle.slotmap.proofs.Callers.{same_or_other, live-remove_other}
 use Rattle.slotmap_entities.specs.World.{OnlyLive}
 
--- an empty table
-pub in_none : {C : Type 0} (m : Pairs C) → m ≡ map.empty → (k : Key) → contains_key m k ≡ false
-in_none m is k = rw is (grind (arith, secondary))
-
--- none has one
-pub none_live : {E : Type 0} (c : Content E) (has : Key → Bool) → ((k : Key) → has k ≡ false) → OnlyLive c has
-none_live c has none k there = absurd (let no = none k in cc)
-
 module _ {E : Type 0} (c : Content E) (has : Key → Bool) (only : OnlyLive c has) where
-  -- a key that isn't live has none
-  pub dead_has_none : (k : Key) → map.contains_key c.live k ≡ false → has k ≡ false
-  dead_has_none k dead = false_of (has k) (λ there. let live = only k there in absurd (cc))
-
   -- the table of one kind has no more
   pub own_beside : {C : Type 0} (m : Pairs C) → ((k : Key) → contains_key m k ≡ true → has k ≡ true) → IsBeside c m
   own_beside m own k there = only k (own k there)

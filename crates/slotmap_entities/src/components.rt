@@ -53,6 +53,16 @@ impl<K: Key, E: Drop, T: Tables<K>> World<K, E, T> {
     ghost use Rattle.slotmap_entities.specs.Lends.{lends_component};
 
     /// Gives an entity a component, and returns the one of this kind that it had.
+    ///
+    /// If the call fails, the error holds the component, and the world has the same components. Constant
+    /// time, unless the table grows.
+    ///
+    /// ```
+    /// let mut world: World<DefaultKey, u8, (SecondaryMap<DefaultKey, u32>, ())> = World::new(alloc)?;
+    /// let hero = world.spawn(1)?;
+    /// assert!(rt; matches!(world.attach::<First>(hero, 7), Ok(None)));
+    /// assert!(rt; matches!(world.attach::<First>(hero, 8), Ok(Some(7))));
+    /// ```
     pub fn attach<C: Kind<K, T>>(
         &mut self,
         key: K,
@@ -76,7 +86,14 @@ impl<K: Key, E: Drop, T: Tables<K>> World<K, E, T> {
         attach(&self.entities, table, key, component)
     }
 
-    /// Takes a component off an entity, and returns it, if it has one of this kind.
+    /// Takes a component off an entity, and returns it, or `None` if it has none of this kind.
+    ///
+    /// ```
+    /// let mut world: World<DefaultKey, u8, (SecondaryMap<DefaultKey, u32>, ())> = World::new(alloc)?;
+    /// let hero = world.spawn(1)?;
+    /// world.attach::<First>(hero, 7)?;
+    /// assert_eq!(rt; world.detach::<First>(hero), Some(7));
+    /// ```
     pub fn detach<C: Kind<K, T>>(&mut self, key: K) -> Option<ComponentOf<K, T, C>>
         ensures value { result ≡ get (C.Table.pairs (C.table self.old.tables)) (K.data_of key) }
         ensures gone { get (C.Table.pairs (C.table self.new.tables)) (K.data_of key) ≡ None }
@@ -88,6 +105,13 @@ impl<K: Key, E: Drop, T: Tables<K>> World<K, E, T> {
     }
 
     /// Returns the component of this kind of an entity, or `None` if it has none or doesn't exist.
+    ///
+    /// ```
+    /// let mut world: World<DefaultKey, u8, (SecondaryMap<DefaultKey, u32>, ())> = World::new(alloc)?;
+    /// let hero = world.spawn(1)?;
+    /// world.attach::<First>(hero, 7)?;
+    /// assert_eq!(rt; world.component::<First>(hero), Some(&7));
+    /// ```
     pub fn component<'a, C: Kind<K, T>>(&'a self, key: K) -> Option<&'a ComponentOf<K, T, C>>
     where
         C::Table: 'a,
@@ -99,6 +123,19 @@ impl<K: Key, E: Drop, T: Tables<K>> World<K, E, T> {
 
     /// Returns a mutable reference to the component of this kind of an entity, or `None` if it has none
     /// or doesn't exist.
+    ///
+    /// Once the reference ends, the entity has the last component written through it, and all else is as
+    /// before.
+    ///
+    /// ```
+    /// let mut world: World<DefaultKey, u8, (SecondaryMap<DefaultKey, u32>, ())> = World::new(alloc)?;
+    /// let hero = world.spawn(1)?;
+    /// world.attach::<First>(hero, 7)?;
+    /// if let Some(component) = world.component_mut::<First>(hero) {
+    ///     *component = 8;
+    /// }
+    /// assert_eq!(rt; world.component::<First>(hero), Some(&8));
+    /// ```
     pub fn component_mut<'a, C: Kind<K, T>>(
         &'a mut self,
         key: K,

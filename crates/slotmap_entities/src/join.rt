@@ -79,6 +79,16 @@ impl<K: Key, E: Drop, T: Tables<K>> World<K, E, T> {
     ///
     /// It is made in constant time. All its steps together look each entity up once, and allocate
     /// nothing.
+    ///
+    /// ```
+    /// let mut world: World<DefaultKey, u8, (SecondaryMap<DefaultKey, u32>, ())> = World::new(alloc)?;
+    /// let hero = world.spawn(1)?;
+    /// world.spawn(2)?;
+    /// world.attach::<First>(hero, 7)?;
+    /// let mut found = world.with::<First>();
+    /// assert_eq!(rt; found.next(), Some((hero, &7)));
+    /// assert_eq!(rt; found.next(), None);
+    /// ```
     pub fn with<'a, C: Kind<K, T>>(&'a self) -> With<'a, K, E, C::Table>
     where
         C::Table: 'a,
@@ -95,6 +105,18 @@ impl<K: Key, E: Drop, T: Tables<K>> World<K, E, T> {
     ///
     /// It is made in constant time. All its steps together look each entity up once in the two
     /// tables, and allocate nothing.
+    ///
+    /// ```
+    /// type Tables = (
+    ///     SecondaryMap<DefaultKey, u32>,
+    ///     (SparseSecondaryMap<DefaultKey, u64>, ()),
+    /// );
+    /// let mut world: World<DefaultKey, u8, Tables> = World::new(alloc)?;
+    /// let hero = world.spawn(1)?;
+    /// world.attach::<First>(hero, 7)?;
+    /// world.attach::<Second>(hero, 8)?;
+    /// assert_eq!(rt; world.with_both::<First, Second>().next(), Some((hero, &7, &8)));
+    /// ```
     pub fn with_both<'a, A: Kind<K, T>, B: Kind<K, T>>(
         &'a self,
     ) -> WithBoth<'a, K, E, A::Table, B::Table>

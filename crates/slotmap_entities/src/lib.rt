@@ -48,6 +48,7 @@ pub use kinds::{First, Fourth, Kind, Second, Then, Third};
 use slotmap::dense::{Iter, Keys, Values};
 use slotmap::{DefaultKey, DenseSlotMap, InsertError, Key, ReserveError};
 use std::alloc::Global;
+use std::fmt;
 use std::marker::Model;
 use std::ops::Index;
 pub use tables::{Table, Tables};
@@ -94,6 +95,11 @@ impl<K: Key, E: Drop, T: Tables<K>> World<K, E, T> {
     /// Makes a world with no entity, with any type of keys.
     ///
     /// It fails only if memory runs out.
+    ///
+    /// ```
+    /// let world: World<NodeKey, u8, ()> = World::with_key(alloc)?;
+    /// assert!(rt; world.is_empty());
+    /// ```
     pub fn with_key(alloc: Global) -> Result<Self, ReserveError>
         ensures entities { IfOk result (λ world. IsNew world.entities.content × IsEmpty world.entities) }
         ensures tables { IfOk result (λ world. (q : KeyOf) → T.has world.tables q ≡ false) }
@@ -106,6 +112,11 @@ impl<K: Key, E: Drop, T: Tables<K>> World<K, E, T> {
     ///
     /// It fails with `TooGreat` if `capacity` is over 4294967294, and with `Memory` if memory runs
     /// out.
+    ///
+    /// ```
+    /// let world: World<NodeKey, u8, ()> = World::with_capacity_and_key(alloc, 2)?;
+    /// assert!(rt; world.capacity() >= 2);
+    /// ```
     pub fn with_capacity_and_key(alloc: Global, capacity: usize) -> Result<Self, ReserveError>
         ensures entities { IfOk result (λ world. IsNew world.entities.content × IsEmpty world.entities) }
         ensures tables { IfOk result (λ world. (q : KeyOf) → T.has world.tables q ≡ false) }
@@ -122,6 +133,12 @@ impl<K: Key, E: Drop, T: Tables<K>> World<K, E, T> {
     ///
     /// It fails with `TooGreat` if more than 4294967294 entities would be there, and with `Memory` if
     /// memory runs out. The world has the same entities then.
+    ///
+    /// ```
+    /// let mut world: World<DefaultKey, u8, ()> = World::new(alloc)?;
+    /// world.reserve(2)?;
+    /// assert!(rt; world.spawn(1).is_ok());
+    /// ```
     pub fn reserve(&mut self, additional: usize) -> Result<(), ReserveError>
         ensures makes_room { MakesDenseRoom self.old.entities additional (IsOk result) self.new.entities }
         ensures err { IfErr result (RefusesCapacity (used self.old.entities.content + additional)) }
@@ -161,6 +178,13 @@ impl<K: Key, E: Drop, T: Tables<K>> World<K, E, T> {
     /// Adds an entity with no component, and returns its key.
     ///
     /// If the call fails, the error holds the value, and the world is unchanged.
+    ///
+    /// ```
+    /// let mut world: World<DefaultKey, u8, ()> = World::new(alloc)?;
+    /// let hero = world.spawn(1)?;
+    /// assert_eq!(rt; world.len(), 1);
+    /// assert!(rt; world.contains_key(hero));
+    /// ```
     pub fn spawn(&mut self, entity: E) -> Result<K, InsertError<E>>
         // A new entity, with no component.
         ensures adds { IfOk result (λ key. self.new.entities.content.live ≡ map.insert self.old.entities.content.live (K.data_of key) entity) }
@@ -183,6 +207,14 @@ impl<K: Key, E: Drop, T: Tables<K>> World<K, E, T> {
 
     /// Removes an entity with its components. It returns the entity's value and what it had in each
     /// table, or `None` if it doesn't exist. The key is never used again.
+    ///
+    /// ```
+    /// let mut world: World<DefaultKey, u8, (SecondaryMap<DefaultKey, u32>, ())> = World::new(alloc)?;
+    /// let hero = world.spawn(1)?;
+    /// world.attach::<First>(hero, 7)?;
+    /// assert_eq!(rt; world.despawn(hero), Some((1, (Some(7), ()))));
+    /// assert_eq!(rt; world.despawn(hero), None);
+    /// ```
     pub fn despawn(&mut self, key: K) -> Option<(E, T::Parts)>
         // The entity is gone, with its components.
         ensures value { result ≡ option_map (λ value. (value, T.parts self.old.tables (K.data_of key))) (map.get self.old.entities.content.live (K.data_of key)) }
@@ -193,6 +225,7 @@ impl<K: Key, E: Drop, T: Tables<K>> World<K, E, T> {
         ensures order { IfSome result (λ removed. ClosesGap self.old.entities (K.data_of key) removed.0 self.new.entities) }
 
         // All else is as before.
+        ensures leaves { Leaves self.old.entities.content self.new.entities.content }
         ensures others { (q : KeyOf) → q ≢ K.data_of key → (T.has self.new.tables q ≡ T.has self.old.tables q) × (T.parts self.new.tables q ≡ T.parts self.old.tables q) }
         ensures gone { KeepsSpent self.old.entities.content self.new.entities.content }
         ensures unchanged { IfNone result (self.new ≡ self.old) }
@@ -202,6 +235,13 @@ impl<K: Key, E: Drop, T: Tables<K>> World<K, E, T> {
     }
 
     /// Removes all entities and all components. The keys are never used again, and the room stays.
+    ///
+    /// ```
+    /// let mut world: World<DefaultKey, u8, ()> = World::new(alloc)?;
+    /// let hero = world.spawn(1)?;
+    /// world.clear();
+    /// assert!(rt; !world.contains_key(hero));
+    /// ```
     pub fn clear(&mut self)
         ensures removed { self.new.entities.content.live ≡ map.empty }
         ensures empty { IsEmpty self.new.entities }
@@ -214,6 +254,12 @@ impl<K: Key, E: Drop, T: Tables<K>> World<K, E, T> {
     }
 
     /// Returns the value of an entity, or `None` if it doesn't exist.
+    ///
+    /// ```
+    /// let mut world: World<DefaultKey, u8, ()> = World::new(alloc)?;
+    /// let hero = world.spawn(1)?;
+    /// assert_eq!(rt; world.get(hero), Some(&1));
+    /// ```
     pub fn get(&self, key: K) -> Option<&E>
         ensures { option_copied result ≡ map.get self.now.entities.content.live (K.data_of key) }
     {
@@ -221,6 +267,15 @@ impl<K: Key, E: Drop, T: Tables<K>> World<K, E, T> {
     }
 
     /// Returns a mutable reference to the value of an entity, or `None` if it doesn't exist.
+    ///
+    /// ```
+    /// let mut world: World<DefaultKey, u8, ()> = World::new(alloc)?;
+    /// let hero = world.spawn(1)?;
+    /// if let Some(value) = world.get_mut(hero) {
+    ///     *value = 2;
+    /// }
+    /// assert_eq!(rt; world.get(hero), Some(&2));
+    /// ```
     pub fn get_mut(&mut self, key: K) -> Option<&mut E>
         ensures* writes_back { sem 𝓛 (lends_entity K.row E.row T.row T.Parts.row K.Key T.Tables self.entry (K.data_of key) result) }
         ensures value { option_copied_mut result ≡ map.get self.old.entities.content.live (K.data_of key) }
@@ -232,6 +287,14 @@ impl<K: Key, E: Drop, T: Tables<K>> World<K, E, T> {
     }
 
     /// Returns an iterator over the entities with their values, in packed order.
+    ///
+    /// ```
+    /// let mut world: World<DefaultKey, u8, ()> = World::new(alloc)?;
+    /// let hero = world.spawn(1)?;
+    /// let mut entities = world.iter();
+    /// assert_eq!(rt; entities.next(), Some((hero, &1)));
+    /// assert_eq!(rt; entities.next(), None);
+    /// ```
     pub fn iter(&self) -> Iter<'_, K, E>
         ensures listing { IsListing self.now.entities.content.live result }
         ensures in_order { result ≡ zip self.now.entities.keys self.now.entities.values }
@@ -240,6 +303,12 @@ impl<K: Key, E: Drop, T: Tables<K>> World<K, E, T> {
     }
 
     /// Returns an iterator over the keys of the entities, in packed order.
+    ///
+    /// ```
+    /// let mut world: World<DefaultKey, u8, ()> = World::new(alloc)?;
+    /// let hero = world.spawn(1)?;
+    /// assert_eq!(rt; world.keys().next(), Some(hero));
+    /// ```
     pub fn keys(&self) -> Keys<'_, K, E>
         ensures { result ≡ self.now.entities.keys }
     {
@@ -247,6 +316,12 @@ impl<K: Key, E: Drop, T: Tables<K>> World<K, E, T> {
     }
 
     /// Returns an iterator over the values of the entities, in packed order.
+    ///
+    /// ```
+    /// let mut world: World<DefaultKey, u8, ()> = World::new(alloc)?;
+    /// world.spawn(1)?;
+    /// assert_eq!(rt; world.values().next(), Some(&1));
+    /// ```
     pub fn values(&self) -> Values<'_, K, E>
         ensures { result ≡ self.now.entities.values }
     {
@@ -276,5 +351,14 @@ impl<K: Key, E: Drop, T: Tables<K>> Index<K> for World<K, E, T> {
 
     fn index(&self, key: K) -> &E {
         &self.entities[key]
+    }
+}
+
+impl<K: Key, E: fmt::Debug, T: Tables<K> + fmt::Debug> fmt::Debug for World<K, E, T> {
+    fn fmt<W: fmt::Write>(&self, f: &mut fmt::Formatter<W>) -> fmt::Result {
+        f.debug_struct("World")
+            .field("entities", &self.entities)
+            .field("tables", &self.tables)
+            .finish()
     }
 }

@@ -145,7 +145,29 @@ impl<K: Key, C: Drop> Table<K> for SparseSecondaryMap<K, C> {
 /// The tables of a world: pairs of a [`Table`] and further tables, down to `()`.
 ///
 /// Any number of kinds of components is a nest of pairs. A struct of tables can have an impl of its
-/// own.
+/// own, and each of its kinds one of [`Kind`]. With the attribute below that needs no proof file:
+///
+/// ```text
+/// #[tactic(auto, using(slotmap::proofs::Callers::secondary))]
+/// impl Tables<DefaultKey> for Parts {
+///     type Parts = (Option<u32>, Option<u8>);
+///
+///     ghost has = { λ tables k. contains_key tables.health.pairs k || contains_key tables.armour.pairs k };
+///
+///     ghost parts = { λ tables k. (get tables.health.pairs k, get tables.armour.pairs k) };
+///     ..
+/// }
+///
+/// impl Kind<DefaultKey, Parts> for Health {
+///     type Table = SecondaryMap<DefaultKey, u32>;
+///
+///     ghost table = { λ tables. tables.health };
+///
+///     ghost with_table = { λ tables table. record tables { health = table } };
+///     ..
+///     ghost has_own = { λ tables k. Prim.grind arith };
+/// }
+/// ```
 ///
 /// ```
 /// let mut tables: (SecondaryMap<DefaultKey, u8>, (SparseSecondaryMap<DefaultKey, &str>, ())) =
@@ -197,6 +219,7 @@ impl<K: Key> Tables<K> for () {
     fn clear(&mut self) {}
 }
 
+#[tactic(auto, using(slotmap::proofs::Callers::secondary))]
 impl<K: Key, A: Table<K>, B: Tables<K>> Tables<K> for (A, B) {
     type Parts = (Option<A::Component>, B::Parts);
 

@@ -1,4 +1,3 @@
-use Rattle.std.proofs.Common.{rules}
 use Rattle.slotmap_entities.proofs.Fewer.{found_less}
 use Rattle.slotmap_entities.proofs.join.WithBothIterator.size_hint.Goals as goal
 
