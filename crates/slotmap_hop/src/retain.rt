@@ -19,14 +19,14 @@ fn find_live<V>(slots: &[Slot<V>], start: u32) -> Option<u32>
     ensures found { IfSome result (λ place. FindsPlace slots.now start place) }
     ensures none { IfNone result (FindsNone slots.now start) }
 {
-    let mut place = start;
-    while (place as usize) < slots.len() {
-        let slot = &slots[place as usize];
+    let mut place = start as usize;
+    while place < slots.len() {
+        let slot = &slots[place];
         if slot.is_live() {
-            return Some(place);
+            return Some(place as u32);
         }
         // A vacant slot is the front of a block here.
-        place = slot.hop(place as usize) as u32 + 1;
+        place = slot.hop(place) + 1;
     }
     None
 }
