@@ -1,15 +1,15 @@
 -- A search for the next live place skips a block of vacant places in one step.
 use Rattle.std.proofs.lemmas.List.{append_assoc, length-append}
 use Rattle.std.specs.FinMap as map
-use Rattle.std.proofs.Common.{◌≡◌, ◌≢◌, ◌+◌, ◌-◌, ◌*◌, ◌<◌, ◌≤◌, ◌^◌, ◌∷◌, ◌++◌, ℕ, max, zero, suc, true, false, List, [], length, drop, slice_get, Some, None}
+use Rattle.std.proofs.Common.{◌≡◌, ◌≢◌, ◌+◌, ◌-◌, ◌<◌, ◌≤◌, ◌^◌, ◌∷◌, ◌++◌, ℕ, zero, suc, true, false, List, [], length, drop, slice_get, Some, None}
 use Rattle.slotmap_core.proofs.Common.{is_some, refl, sym, ap, ◌∙◌, arith, slice_get_within, get_or_from_slice_get, drop_more, drop_all, All-nil, All-cons}
 use Rattle.slotmap_core.proofs.Common.{All-push, All-weaker, All, Key, last_version, Place, Live, Detached, Vacant, Retired as RetiredPlace, live, live_entry}
 use Rattle.slotmap_core.proofs.Common.{retired_entry, gather, HasVersion, live_at, key, get-live_at}
-use Rattle.slotmap_hop.specs.Slots.{Slot, value_in, links_in, back_in, place_in, all_links, places_of}
+use Rattle.slotmap_hop.specs.Slots.{Slot, value_in, links_in, hop_in, place_in, all_links, places_of}
 use Rattle.slotmap_hop.specs.declared.links.Slot.TheVariants.{Occupied, Single, Front, Back, Retired}
 use Rattle.slotmap_hop.specs.Blocks.{Begins, IsBlock}
 use Rattle.slotmap_hop.specs.Links.{is_vacant, end_in, NamesApart, vacant_at, links_at, end_at}
-use Rattle.slotmap_hop.specs.Iter.{pairs_left, retired_left, StandsAt, CanGoOn, FindsNone, FindsSlot, ReadsOnTheWay, Counted}
+use Rattle.slotmap_hop.specs.Iter.{pairs_left, retired_left, StandsAt, CanGoOn, FindsNone, FindsSlot, ReadsOnTheWay, OnTheWay}
 use Rattle.slotmap_hop.proofs.BlockLemmas.{clash, begins_after, front_here}
 use Rattle.slotmap_hop.proofs.Circle.{shown}
 use Rattle.slotmap_hop.proofs.SlotReads.{length-places, slot_within, place_at, slot_cases, occupied}
@@ -74,12 +74,12 @@ module _ {V : Type 0} (slots : List (Slot V)) where
   pub stands_on : (i j : ℕ) → StandsAt slots i → (vacant_at (all_links slots) j ≡ true → Begins (vacant_at (all_links slots)) j) → StandsAt slots j
   stands_on i j stands front = record { vacant = stands.vacant; elems = stands.elems; sound = stands.sound; at_front = front }
 
--- a vacant slot that names no earlier place is left at the end of its block
+-- a vacant slot is left at the end of its block
 hop_to_back : {V : Type 0} (place : ℕ) (s : Slot V) → is_vacant (links_in s) ≡ true → NamesApart place (links_in s) → place ≤ end_in place (links_in s)
-    → max place (back_in s) ≡ end_in place (links_in s)
+    → hop_in place s ≡ end_in place (links_in s)
 hop_to_back place (Occupied version value) vacant apart ordered = absurd (cc)
-hop_to_back place (Single version next prev) vacant apart ordered = omega arith
-hop_to_back place (Front version next back) vacant apart ordered = omega arith
+hop_to_back place (Single version next prev) vacant apart ordered = refl
+hop_to_back place (Front version next back) vacant apart ordered = refl
 hop_to_back place (Back version front prev) vacant apart ordered = absurd (omega arith)
 hop_to_back place (Retired version unused nowhere) vacant apart ordered = absurd (cc)
 
@@ -87,24 +87,8 @@ pub none_here : {V : Type 0} (s : Slot V) → is_some (value_in s) ≡ false →
 none_here s is = grind arith
 
 module _ {V : Type 0} (slots : List (Slot V)) (reads0 start : ℕ) where
-  -- on the way from a place to the next live one: the slots are as they were, and no live key was passed
-  pub record OnTheWay (now : Counted V) (place : ℕ) : Type 0 where
-    pub kept : now.slots ≡ slots
-    pub stands : StandsAt slots place
-    pub same : pairs_left slots start ≡ pairs_left slots place
-    pub none : (q : Key) → map.contains_key (live (places_of slots)) q ≡ true → start ≤ q.index → place ≤ q.index
-    pub gone : List Key
-    pub still : retired_left slots start ≡ gone ++ retired_left slots place
-    pub below : All (λ k. k.index < place) gone
-    pub few_vacant : vacant_at (all_links slots) place ≡ true → now.reads ≤ reads0 + 2 * length gone
-    pub few : now.reads ≤ reads0 + 2 * length gone + 1
-    pub passed : now.reads + start ≤ reads0 + place
-    pub begun : reads0 ≤ now.reads
-    pub before : reads0 ≤ start
-
-  pub way_begins : (now : Counted V) → now.slots ≡ slots → now.reads ≡ reads0 → CanGoOn slots reads0 start → OnTheWay now start
-  way_begins now kept none can = record {
-    kept = kept;
+  pub way_begins : CanGoOn slots reads0 start → OnTheWay slots reads0 start reads0 start
+  way_begins can = record {
     stands = can.stands;
     same = refl;
     none = λ q there from. from;
@@ -118,102 +102,93 @@ module _ {V : Type 0} (slots : List (Slot V)) (reads0 start : ℕ) where
     before = can.passed;
   }
 
-  -- after all places nothing is left
-  pub way_ends : (now : Counted V) (place : ℕ) → OnTheWay now place → length slots ≤ place → FindsNone slots start
-  way_ends now place way past = record {
-    none = way.same ∙ ap (pairs_from place) (drop_all place (places_of slots) (omega (arith, length-places slots)));
-    below = λ q there. (let at = live_at (places_of slots) q there in grind (arith, way.none q there, slice_get_within (places_of slots) q.index, length-places slots));
-  }
+  module _ {reads place : ℕ} (way : OnTheWay slots reads0 start reads place) where
+    -- another search may begin there
+    pub way_can : CanGoOn slots reads place
+    way_can = record { stands = way.stands; passed = omega (arith, way.passed, way.before) }
 
-  -- what is left lies ahead
-  pub way_inside : (now : Counted V) (place : ℕ) → OnTheWay now place → 0 < length (pairs_left slots start) → place < length slots
-  way_inside now place way some = grind (arith, λ (past : length slots ≤ place). ap length (way_ends now place way past).none)
+    -- after all places nothing is left
+    pub way_ends : length slots ≤ place → FindsNone slots start
+    way_ends past = record {
+      none = way.same ∙ ap (pairs_from place) (drop_all place (places_of slots) (omega (arith, length-places slots)));
+      below = λ q there. (let at = live_at (places_of slots) q there in grind (arith, way.none q there, slice_get_within (places_of slots) q.index, length-places slots));
+    }
 
-  pub way_few : (now : Counted V) (place : ℕ) → OnTheWay now place → now.reads ≤ reads0 + 2 * length (retired_left slots start) + 1
-  way_few now place way = omega (arith, way.few, ap length way.still, length-append way.gone (retired_left slots place))
+    -- what is left lies ahead
+    pub way_inside : 0 < length (pairs_left slots start) → place < length slots
+    way_inside some = grind (arith, λ (past : length slots ≤ place). ap length (way_ends past).none)
 
-  pub way_room : (now : Counted V) (place : ℕ) → OnTheWay now place → place < length slots → now.reads + 1 < 2 ^ 64
-  way_room now place way inside = omega (arith, inside, way.passed, way.before, slots_fit slots _ _ way.stands.sound)
+    pub way_room : place < length slots → reads + 1 < 2 ^ 64
+    way_room inside = omega (arith, inside, way.passed, way.before, slots_fit slots _ _ way.stands.sound)
+
+  -- a block that begins at a place is skipped in one step
+  pub record Hops (reads place back : ℕ) : Type 0 where
+    pub on : OnTheWay slots reads0 start reads (back + 1)
+    pub within : back < length slots
+    pub onward : place ≤ back
 
   -- a search that has come to this place reads the slot there
-  pub record Reads (now : Counted V) (place : ℕ) (s : Slot V) (new : Counted V) : Type 0 where
-    pub way : OnTheWay now place
-    pub inside : place < length slots
-    pub found : slice_get slots place ≡ Some s
-    pub kept : new.slots ≡ slots
-    pub one : new.reads ≡ now.reads + 1
-
-  -- a block that begins there is skipped in one step
-  pub record Hops (now new : Counted V) (place back : ℕ) : Type 0 where
-    pub on : OnTheWay new (back + 1)
-    pub within : back < length slots
-    pub smaller : length new.slots - (back + 1) < length now.slots - place
-
-  module _ {now new : Counted V} {place : ℕ} {s : Slot V} (at : Reads now place s new) where
-    way_hops : is_vacant (links_in s) ≡ true → Hops now new place (max place (back_in s))
+  module _ {reads place : ℕ} {s : Slot V} (way : OnTheWay slots reads0 start reads place) (found : slice_get slots place ≡ Some s) where
+    way_hops : is_vacant (links_in s) ≡ true → Hops (reads + 1) place (hop_in place s)
     way_hops vacant =
         let v = vacant_at (all_links slots) in
-        let free : (v place ≡ true) × (links_at (all_links slots) place ≡ links_in s) = grind (arith, slot_cases slots place, at.found) in
+        let free : (v place ≡ true) × (links_at (all_links slots) place ≡ links_in s) = grind (arith, slot_cases slots place, found) in
         let back = end_at (all_links slots) place in
-        let block : IsBlock v place back = block_here slots place at.way.stands free.0 in
-        let is_back : max place (back_in s) ≡ back = hop_to_back place s vacant (rw free.1 at (at.way.stands.sound.linked.linked.apart place)) (rw free.1 at block.ordered) ∙ ap (end_in place) (sym free.1) in
+        let block : IsBlock v place back = block_here slots place way.stands free.0 in
+        let is_back : hop_in place s ≡ back = hop_to_back place s vacant (rw free.1 at (way.stands.sound.linked.linked.apart place)) (rw free.1 at block.ordered) ∙ ap (end_in place) (sym free.1) in
         let past = past_block slots place back block in
-        let few = at.way.few_vacant free.0 in
-        let within = slot_within slots back (block.inside back block.ordered (omega arith)) in
+        let few = way.few_vacant free.0 in
         rw is_back (record {
           on = record {
-            kept = at.kept;
-            stands = stands_on slots place (back + 1) at.way.stands (λ again. clash v (back + 1) again block.ends);
-            same = at.way.same ∙ past.0;
-            none = λ q there from. (let live = live_at (places_of slots) q there in grind (arith, at.way.none q there from, block.inside q.index, slot_cases slots q.index));
-            gone = at.way.gone;
-            still = at.way.still ∙ ap (λ ks. at.way.gone ++ ks) past.1;
-            below = All-weaker (λ k. k.index < place) (λ k. k.index < back + 1) (λ k low. omega (arith, block.ordered)) at.way.gone at.way.below;
+            stands = stands_on slots place (back + 1) way.stands (λ again. clash v (back + 1) again block.ends);
+            same = way.same ∙ past.0;
+            none = λ q there from. (let live = live_at (places_of slots) q there in grind (arith, way.none q there from, block.inside q.index, slot_cases slots q.index));
+            gone = way.gone;
+            still = way.still ∙ ap (λ ks. way.gone ++ ks) past.1;
+            below = All-weaker (λ k. k.index < place) (λ k. k.index < back + 1) (λ k low. omega (arith, block.ordered)) way.gone way.below;
             few_vacant = λ again. clash v (back + 1) again block.ends;
             few = omega (arith, few);
-            passed = omega (arith, at.way.passed, block.ordered);
-            begun = omega (arith, at.way.begun);
-            before = at.way.before;
+            passed = omega (arith, way.passed, block.ordered);
+            begun = omega (arith, way.begun);
+            before = way.before;
           };
-          within = within;
-          smaller = rw (at.kept, at.way.kept) (omega (arith, within, block.ordered));
+          within = slot_within slots back (block.inside back block.ordered (omega arith));
+          onward = block.ordered;
         })
 
     here : (slice_get (places_of slots) place ≡ Some (place_in s)) × HasVersion (place_in s) × ((v : ℕ) → place_in s ≢ Detached v)
-    here = let is = place_at slots place s at.found in (is, at.way.stands.sound.stacked.versions place _ is, λ v e. at.way.stands.sound.none_detached place v (is ∙ ap Some e))
+    here = let is = place_at slots place s found in (is, way.stands.sound.stacked.versions place _ is, λ v e. way.stands.sound.none_detached place v (is ∙ ap Some e))
 
     -- a retired slot is passed
-    way_passes : (version unused nowhere : ℕ) → s ≡ Retired version unused nowhere → Hops now new place (max place 0)
+    way_passes : (version unused nowhere : ℕ) → s ≡ Retired version unused nowhere → Hops (reads + 1) place place
     way_passes version unused nowhere is =
         let spent : slice_get (places_of slots) place ≡ Some RetiredPlace = grind (arith, here, is) in
-        let more = length-append at.way.gone (key place last_version ∷ []) in
-        let farther : max place 0 ≡ place = omega arith in
-        rw farther (record {
+        let more = length-append way.gone (key place last_version ∷ []) in
+        record {
           on = record {
-            kept = at.kept;
-            stands = stands_on slots place (place + 1) at.way.stands (λ _. begins_after (vacant_at (all_links slots)) place (place_not_vacant slots place RetiredPlace spent (λ n e. absurd (cc))));
-            same = at.way.same ∙ left-on slots pairs_from place RetiredPlace spent;
-            none = λ q there from. (let live = live_at (places_of slots) q there in grind (arith, at.way.none q there from));
-            gone = at.way.gone ++ key place last_version ∷ [];
-            still = at.way.still ∙ ap (λ ks. at.way.gone ++ ks) (left-on slots retired_from place RetiredPlace spent)
-                ∙ sym (append_assoc at.way.gone (key place last_version ∷ []) (retired_left slots (place + 1)));
+            stands = stands_on slots place (place + 1) way.stands (λ _. begins_after (vacant_at (all_links slots)) place (place_not_vacant slots place RetiredPlace spent (λ n e. absurd (cc))));
+            same = way.same ∙ left-on slots pairs_from place RetiredPlace spent;
+            none = λ q there from. (let live = live_at (places_of slots) q there in grind (arith, way.none q there from));
+            gone = way.gone ++ key place last_version ∷ [];
+            still = way.still ∙ ap (λ ks. way.gone ++ ks) (left-on slots retired_from place RetiredPlace spent)
+                ∙ sym (append_assoc way.gone (key place last_version ∷ []) (retired_left slots (place + 1)));
             below =
-                All-push (λ k. k.index < place + 1) at.way.gone (key place last_version)
-                (All-weaker (λ k. k.index < place) (λ k. k.index < place + 1) (λ k low. omega arith) at.way.gone at.way.below) (omega arith);
-            few_vacant = λ vacant. omega (arith, at.way.few, more);
-            few = omega (arith, at.way.few, more);
-            passed = omega (arith, at.way.passed);
-            begun = omega (arith, at.way.begun);
-            before = at.way.before;
+                All-push (λ k. k.index < place + 1) way.gone (key place last_version)
+                (All-weaker (λ k. k.index < place) (λ k. k.index < place + 1) (λ k low. omega arith) way.gone way.below) (omega arith);
+            few_vacant = λ vacant. omega (arith, way.few, more);
+            few = omega (arith, way.few, more);
+            passed = omega (arith, way.passed);
+            begun = omega (arith, way.begun);
+            before = way.before;
           };
-          within = at.inside;
-          smaller = rw (at.kept, at.way.kept) (omega (arith, at.inside));
-        })
+          within = omega (arith, slice_get_within slots place s found);
+          onward = omega arith;
+        }
 
-    pub way_on : value_in s ≡ None → Hops now new place (max place (back_in s))
+    pub way_on : value_in s ≡ None → Hops (reads + 1) place (hop_in place s)
     way_on none = by s refl none
       where
-        by : (t : Slot V) → s ≡ t → value_in t ≡ None → Hops now new place (max place (back_in s))
+        by : (t : Slot V) → s ≡ t → value_in t ≡ None → Hops (reads + 1) place (hop_in place s)
         by (Occupied version value) is none = absurd (cc)
         by (Single version next prev) is none = way_hops (ap (λ t. is_vacant (links_in t)) is)
         by (Front version next back) is none = way_hops (ap (λ t. is_vacant (links_in t)) is)
@@ -221,27 +196,27 @@ module _ {V : Type 0} (slots : List (Slot V)) (reads0 start : ℕ) where
         by (Retired version unused nowhere) is none = rw is (way_passes version unused nowhere is)
 
     -- a slot with a value is what the search looks for
-    pub way_finds : is_some (value_in s) ≡ true → FindsSlot slots start place s × ReadsOnTheWay slots reads0 start new.reads place
+    pub way_finds : is_some (value_in s) ≡ true → FindsSlot slots start place s × ReadsOnTheWay slots reads0 start (reads + 1) place
     way_finds live =
         let slot : (version : ℕ) × (x : V) × (s ≡ Occupied version x) = occupied s live in
         let version = slot.0 in
         let x = slot.1 in
         let is = slot.2 in
         let live_there = here.0 ∙ ap (λ slot. Some (place_in slot)) is in
-        let gone = at.way.still ∙ ap (λ ks. at.way.gone ++ ks) (left-on slots retired_from place (Live version x) live_there) in (
+        let gone = way.still ∙ ap (λ ks. way.gone ++ ks) (left-on slots retired_from place (Live version x) live_there) in (
           record {
             version = version;
             value = x;
             is = is;
-            finds = record { there = live_there; first = at.way.same ∙ left-on slots pairs_from place (Live version x) live_there; least = at.way.none };
+            finds = record { there = live_there; first = way.same ∙ left-on slots pairs_from place (Live version x) live_there; least = way.none };
           },
           record {
-            gone = at.way.gone;
+            gone = way.gone;
             still = gone;
-            before = at.way.below;
+            before = way.below;
             after = above place (place + 1) (drop (place + 1) (places_of slots)) (omega arith);
-            some = omega (arith, at.one, at.way.begun);
-            few = omega (arith, at.one, at.way.few, ap length gone, length-append at.way.gone (retired_left slots (place + 1)));
-            passed = omega (arith, at.one, at.way.passed);
+            some = omega (arith, way.begun);
+            few = omega (arith, way.few, ap length gone, length-append way.gone (retired_left slots (place + 1)));
+            passed = omega (arith, way.passed);
           },
         )

@@ -12,7 +12,7 @@ use Rattle.slotmap_hop.specs.Iter.{pairs_left, retired_left, IsIter, CanGoOn, Fi
 use Rattle.slotmap_hop.proofs.BlockLemmas.{clash, begins_after}
 use Rattle.slotmap_hop.proofs.Circle.{block_at}
 use Rattle.slotmap_hop.proofs.Vacating.{zero_in_circle}
-use Rattle.slotmap_hop.proofs.SlotReads.{length-places}
+use Rattle.slotmap_hop.proofs.SlotReads.{length-places, slot_within}
 use Rattle.slotmap_hop.proofs.SlotLemmas.{place_not_vacant}
 use Rattle.slotmap_hop.proofs.LiveSlots.{sound-retired}
 use Rattle.slotmap_hop.proofs.HoppingLemmas.{pairs_from, retired_from, past_block, stands_on, left-on, skip_to}
@@ -64,13 +64,17 @@ module _ {V : Type 0} {slots : List (Slot V)} {reads place left : ℕ} (iterates
         passed = omega arith;
       }
 
+-- the place of a live key is inside
+pub key_within : {V : Type 0} (slots : List (Slot V)) (k : Key) → map.contains_key (live (places_of slots)) k ≡ true → k.index + 1 ≤ length slots
+key_within slots k there = let at = live_at (places_of slots) k there in omega (arith, slice_get_within (places_of slots) k.index _ at.1, length-places slots)
+
 -- another key is live beside the first one
 pub more_left : {V : Type 0} (slots : List (Slot V)) (k : Key) → map.contains_key (live (places_of slots)) k ≡ true
     → ((q : Key) → map.contains_key (live (places_of slots)) q ≡ true → k.index ≤ q.index) → 1 < map.len (live (places_of slots)) → 0 < length (pairs_left slots (k.index + 1))
 more_left slots k there least more =
     let ps = places_of slots in
     let at = live_at ps k there in
-    let inside : k.index < length slots = omega (arith, slice_get_within ps k.index _ at.1, length-places slots) in
+    let inside : k.index < length slots = omega (arith, key_within slots k there) in
     let first = skip_to slots k.index 0 k.index (omega arith) inside (λ q lives low. least q lives) ∙ left-on slots pairs_from k.index (Live k.version at.0) at.1 in
     omega (arith, ap length first, ap length (entries-live ps), map.len-entries (live ps), more)
 
@@ -78,6 +82,9 @@ module _ {V : Type 0} (slots : List (Slot V)) (vacant elems : ℕ) (sound : IsSo
   -- an iterator starts after the block of place 0
   first_place : IsBlock (vacant_at (all_links slots)) 0 (end_at (all_links slots) 0)
   first_place = block_at 0 sound.linked.linked (zero_in_circle (fronts_of (all_links slots)))
+
+  pub start_inside : end_at (all_links slots) 0 + 1 ≤ length slots
+  start_inside = omega (arith, slot_within slots (end_at (all_links slots) 0) (first_place.inside _ first_place.ordered (omega arith)))
 
   pub pairs-start : pairs_left slots (end_at (all_links slots) 0 + 1) ≡ map.entries (live (places_of slots))
   pairs-start = sym (past_block slots 0 (end_at (all_links slots) 0) first_place).0 ∙ sym (entries-live (places_of slots))

@@ -63,7 +63,7 @@ module _ {V : Type 0} {slots : List (Slot V)} {lives : map.FinMap key_cmp V} {k 
 -- the slot of a live key
 
 module _ {V : Type 0} (slots : List (Slot V)) (vacant elems : ℕ) (sound : IsSound slots vacant elems) (i v : ℕ) (x : V) (place : slice_get (places_of slots) i ≡ Some (Live v x)) where
-  live_within : i < length slots
+  pub live_within : i < length slots
   live_within = (live_slot slots i v x place).0
 
   -- its index and version are those of a key

@@ -1,12 +1,12 @@
 -- A loop over the live keys of a map, which skips vacant places.
 use Rattle.std.specs.FinMap as map
-use Rattle.std.proofs.Common.{◌∷◌, ◌≡◌, ◌↔◌, ◌+◌, ◌-◌, ◌<◌, ◌≤◌, ◌^◌, ℕ, true, Option, Some, None, List, refl, sym, ap, ◌∙◌, arith}
+use Rattle.std.proofs.Common.{◌∷◌, ◌≡◌, ◌↔◌, ◌+◌, ◌-◌, ◌<◌, ◌≤◌, ◌^◌, ℕ, true, Option, Some, None, IfSome, IfNone, is_some, List, refl, sym, ap, ◌∙◌, arith}
 use Rattle.slotmap_core.proofs.Common.{Key, Content, IsLive, NoneBelow, Removes, with_value, NoneBelow-end, get-remove_other, in_after_remove, len_removed}
 use Rattle.slotmap_core.proofs.Common.{some_entry, keys_total, exact_keys, first_entry, above_next, Swept, Swept-start, Swept-to, Swept-on, Swept-next}
-use Rattle.slotmap_core.proofs.Common.{Swept-removed, same_live, remove-insert}
-use Rattle.slotmap_hop.specs.Slots.{Slot, hop_content, IsSound}
-use Rattle.slotmap_hop.specs.HopContent.{HopContent, IsHopContent, IsNextLive, MayStand, StaysHop, hop_with_value, blocks_without, blocks_without_all}
-use Rattle.slotmap_hop.specs.Iter.{CanGoOn}
+use Rattle.slotmap_core.proofs.Common.{Swept-removed, key, get-live_at, same_live, remove-insert}
+use Rattle.slotmap_hop.specs.Slots.{Slot, places_of, hop_content, IsSound}
+use Rattle.slotmap_hop.specs.HopContent.{HopContent, IsHopContent, IsNextLive, IsNextPlace, MayStand, StaysHop, hop_with_value, blocks_without, blocks_without_all}
+use Rattle.slotmap_hop.specs.Iter.{CanGoOn, FindsPlace, FindsNone}
 use Rattle.slotmap_hop.proofs.SlotLemmas.{same_counts}
 use Rattle.slotmap_hop.proofs.BlocksLeft.{blocks_taken, keys_first, keys_none}
 use Rattle.slotmap_hop.proofs.WellFormed.{IsHopContent-with_value}
@@ -16,6 +16,14 @@ pub look_begins : {V : Type 0} (slots : List (Slot V)) (vacant elems : ℕ) → 
 look_begins slots vacant elems sound start c may =
     let same = ap (λ f. f (start - 1)) (same_counts slots vacant elems sound c) in
     record { stands = record { vacant = vacant; elems = elems; sound = sound; at_front = λ _ left next. grind arith }; passed = omega arith }
+
+-- what a search finds is the next place
+pub place_comes : {V : Type 0} (slots : List (Slot V)) (c start : ℕ) (next : Option ℕ) → IfSome next (λ place. FindsPlace slots start place) → IfNone next (FindsNone slots start)
+    → IsNextPlace (hop_content slots c).content start next
+place_comes slots c start None found none = none.below
+place_comes slots c start (Some place) found none =
+    let finds = found.3 in
+    ((key place found.1, ap is_some (get-live_at (places_of slots) (key place found.1) place _ refl finds.there), refl), found.0, finds.least)
 
 -- the measure by which a loop over the live keys ends
 abbrev pub indices_left : {K : Type 0} → (K → Key) → Option K → ℕ

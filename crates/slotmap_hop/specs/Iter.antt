@@ -26,9 +26,10 @@ pub record StartsIter {V : Type 0} (m : HopContent V) (it : HopIter (Key × V)) 
   pub retired : ListsRetired m it.retired
   pub reads : it.reads ≡ 0
 
--- slots, and how often one of them was read
+-- a place among slots, and how often one of them was read
 pub record Counted (V : Type 0) : Type 0 where
   pub slots : List (Slot V)
+  pub place : ℕ
   pub reads : ℕ
 
 -- a step that yields the item of this index reads one or two slots, and at most two more for each retired place that it passes
@@ -96,6 +97,10 @@ module _ {V : Type 0} where
     pub is : slot ≡ Occupied version value
     pub finds : FindsLive slots place found version value
 
+  -- the first live slot from `place` on is `found`
+  abbrev pub FindsPlace : List (Slot V) → ℕ → ℕ → Type 0
+  FindsPlace slots place found = (place ≤ found) × (version : ℕ) × (value : V) × FindsLive slots place found version value
+
   -- a step to the next live key, whose slot is this one
   pub record StepsOn (old new : HopIter (Key × V)) (key : Key) (slot : Slot V) : Type 0 where
     pub version : ℕ
@@ -115,6 +120,23 @@ module _ {V : Type 0} where
     pub few : reads' + 2 * length (retired_left slots (found + 1)) ≤ reads + 2 * length (retired_left slots place) + 2
     pub passed : reads' + place ≤ reads + found + 1
 
-  -- the number of reads if no live slot is left
-  abbrev pub ReadsToTheEnd : List (Slot V) → ℕ → ℕ → ℕ → Type 0
-  ReadsToTheEnd slots reads place reads' = reads' ≤ reads + 2 * length (retired_left slots place) + 1
+  -- a search for the first live slot that began at `start`, with this number of reads, has come to a place: it passed no live
+  -- key
+  pub record OnTheWay (slots : List (Slot V)) (reads0 start reads place : ℕ) : Type 0 where
+    pub stands : StandsAt slots place
+    pub same : pairs_left slots start ≡ pairs_left slots place
+    pub none : (q : Key) → map.contains_key (live (places_of slots)) q ≡ true → start ≤ q.index → place ≤ q.index
+    -- the retired places on the way
+    pub gone : List Key
+    pub still : retired_left slots start ≡ gone ++ retired_left slots place
+    pub below : All (λ k. k.index < place) gone
+    pub few_vacant : vacant_at (all_links slots) place ≡ true → reads ≤ reads0 + 2 * length gone
+    pub few : reads ≤ reads0 + 2 * length gone + 1
+    pub passed : reads + start ≤ reads0 + place
+    pub begun : reads0 ≤ reads
+    pub before : reads0 ≤ start
+
+  -- a search that was at one place has found this slot, and so has each search that came there
+  abbrev pub FindsFarther : Counted V → Counted V → Slot V → Type 0
+  FindsFarther old new slot = (reads0 start : ℕ) → OnTheWay old.slots reads0 start old.reads old.place
+      → FindsSlot old.slots start new.place slot × ReadsOnTheWay old.slots reads0 start new.reads new.place

@@ -5,7 +5,7 @@ ghost use Rattle.slotmap_core.specs.Words.{Live as LivePlace, Vacant as VacantPl
 ghost use Rattle.slotmap_hop.specs.Blocks.{vacated, vacated_alone, vacated_before, vacated_after, vacated_between, shorter};
 ghost use Rattle.slotmap_hop.specs.Links.{vacant_at, has_next, links_at, next_at, prev_at, end_at, CanVacate, HasBlockList, HasBlocks, IsHead, blocks_of};
 ghost use Rattle.slotmap_hop.specs.Links.{Joins, LeadsTo, KeepsEnds};
-ghost use Rattle.slotmap_hop.specs.Slots.{all_links, places_of, value_at, CanFree};
+ghost use Rattle.slotmap_hop.specs.Slots.{all_links, places_of, value_at, CanFree, Gives, Vacates};
 
 use crate::links::{
     Links, Slot, back_of, front_of, is_vacant, is_vacant_after, linked_slot, name_back, name_front,
@@ -119,26 +119,39 @@ fn merge<V: Drop>(slots: &mut [Slot<V>], place: u32) -> Links
     Links::Single { next: 0, prev: 0 }
 }
 
+// Gives a slot this version and these links, and returns what it was.
 #[inline(always)]
-fn join<V: Drop>(slots: &mut [Slot<V>], place: u32) -> Links
+fn give<V: Drop>(slots: &mut [Slot<V>], place: u32, version: u32, links: Links) -> Slot<V>
+    requires { place < length slots.old }
+    ensures { Gives slots.old slots.new place version links result }
+{
+    mem::replace(&mut slots[place as usize], linked_slot(version, links))
+}
+
+// Gives a slot that isn't vacant this version. It joins the blocks. Returns what it was. Each case has
+// a write of its own, since it knows the kind of the links.
+#[inline(always)]
+fn vacate<V: Drop>(slots: &mut [Slot<V>], place: u32, version: u32) -> Slot<V>
     requires can { CanVacate (all_links slots.old) place }
-    ensures blocks { HasBlocks (slice_set (all_links slots.new) place (Some result)) (vacated (vacant_at (all_links slots.old)) (blocks_of (all_links slots.old)) place) }
-    ensures places { places_of slots.new ≡ places_of slots.old }
+    ensures { Vacates slots.old slots.new place version result }
 {
     // An index of 64 bits serves for the slot and for its neighbours.
     let index = place as usize;
     let left = is_vacant(slots, index - 1);
     if is_vacant_after(slots, index) {
         if left {
-            merge(slots, place)
-        } else {
-            grow_left(slots, place)
+            let links = merge(slots, place);
+            return give(slots, place, version, links);
         }
-    } else if left {
-        grow_right(slots, place)
-    } else {
-        start_block(slots, place)
+        let links = grow_left(slots, place);
+        return give(slots, place, version, links);
     }
+    if left {
+        let links = grow_right(slots, place);
+        return give(slots, place, version, links);
+    }
+    let links = start_block(slots, place);
+    give(slots, place, version, links)
 }
 
 // Takes the value out of a live slot, and gives the slot this version. The slot joins the blocks.
@@ -149,8 +162,7 @@ pub(crate) fn free_slot<V: Drop>(slots: &mut [Slot<V>], place: u32, version: u32
     ensures value { value_at slots.old place ≡ Some result }
     ensures places { places_of slots.new ≡ slice_set (places_of slots.old) place (VacantPlace (version + 1)) }
 {
-    let links = join(slots, place);
-    match mem::replace(&mut slots[place as usize], linked_slot(version, links)) {
+    match vacate(slots, place, version) {
         Slot::Occupied(_, value) => value,
         _ => {
             rule_out(true);
@@ -166,8 +178,7 @@ pub(crate) fn open_slot<V: Drop>(slots: &mut [Slot<V>], place: u32, version: u32
     ensures blocks { HasBlocks (all_links slots.new) (vacated (vacant_at (all_links slots.old)) (blocks_of (all_links slots.old)) place) }
     ensures places { places_of slots.new ≡ slice_set (places_of slots.old) place (VacantPlace (version + 1)) }
 {
-    let links = join(slots, place);
-    slots[place as usize] = linked_slot(version, links);
+    vacate(slots, place, version);
 }
 
 // Takes the value out of a live slot and retires the slot. It joins no block.

@@ -112,8 +112,8 @@ impl<K: Key, V: Drop> Iterator for IntoIter<K, V> {
         if self.left == 0 {
             return None;
         }
-        let mut counted = CountedSlots::new(self.slots.as_slice());
-        let (place, slot) = next_live(&mut counted, self.place);
+        let mut counted = CountedSlots::new(self.slots.as_slice(), self.place);
+        let (place, slot) = next_live(&mut counted);
         let version = slot.version();
         self.left -= 1;
         self.place = place + 1;

@@ -4,7 +4,7 @@ ghost use Rattle.std.specs.FinMap as map;
 ghost use Rattle.std.specs.Prelude.{◌≡◌, ◌<◌, ◌≤◌, [], length, Some, IfSome, IfNone, ⊤};
 ghost use Rattle.slotmap_core.specs.Words.{YieldsFirstBy, item_count, at_most, UpTo, IsListing, IsKeyListing, IsValueListing};
 ghost use Rattle.slotmap_hop.specs.HopContent.{IsHopContent};
-ghost use Rattle.slotmap_hop.specs.Iter.{pairs_left, CanGoOn, FindsSlot, StepsOn, ReadsOnTheWay, CountsReads, CountsReadsSomewhere, ListsRetired, StartsIter};
+ghost use Rattle.slotmap_hop.specs.Iter.{pairs_left, CanGoOn, FindsSlot, FindsFarther, StepsOn, ReadsOnTheWay, CountsReads, CountsReadsSomewhere, ListsRetired, StartsIter};
 
 use crate::HopSlotMap;
 use crate::counted::CountedSlots;
@@ -27,9 +27,8 @@ use std::marker::{Model, PhantomData};
 /// After its end it yields nothing. A clone yields the same pairs; cloning allocates nothing.
 #[derive(Drop)]
 pub struct Iter<'a, K, V> {
+    // At the slot to read next: a live or retired one, the first one of a block, or the end.
     counted: CountedSlots<'a, V>,
-    // The slot to read next: a live or retired one, the first one of a block, or the end.
-    place: usize,
     // How many values are still to come.
     left: usize,
     keys: PhantomData<K>,
@@ -41,33 +40,51 @@ impl<'a, K, V> Model for Iter<'a, K, V> {
 
     ghost Value = { HopIter (Key × V) };
 
-    ghost view = { λ it. record { rest = pairs_left it.counted.slots it.place; retired = retired_left it.counted.slots it.place; reads = it.counted.reads } };
+    ghost view = { λ it. record { rest = pairs_left it.counted.slots it.counted.place; retired = retired_left it.counted.slots it.counted.place; reads = it.counted.reads } };
 
-    ghost invariant = { λ it. IsIter it.counted.slots it.counted.reads it.place it.left };
+    ghost invariant = { λ it. IsIter it.counted.slots it.counted.reads it.counted.place it.left };
 }
 
-// The next live slot from this one on, and its index. All iterators find their slots here. Since
-// there is one, no index is compared with the end. A vacant and a retired slot are left in the same
-// way, so that one test of the slot is enough.
-pub(crate) fn next_live<'a, V>(
-    counted: &mut CountedSlots<'a, V>,
-    start: usize,
-) -> (usize, &'a Slot<V>)
-    requires can { CanGoOn counted.old.slots counted.old.reads start }
-    requires some { 0 < length (pairs_left counted.old.slots start) }
-    ensures found { FindsSlot counted.old.slots start result.0 result.1.now }
+// The next live slot from the place on, which is then the place. All iterators find their slots here.
+// Since there is one, no place is compared with the end. Unless a slot is retired, there are two tests
+// and no loop: so a loop over the items has none within.
+pub(crate) fn next_live<'a, V>(counted: &mut CountedSlots<'a, V>) -> (usize, &'a Slot<V>)
+    requires can { CanGoOn counted.old.slots counted.old.reads counted.old.place }
+    requires some { 0 < length (pairs_left counted.old.slots counted.old.place) }
+    ensures found { FindsSlot counted.old.slots counted.old.place result.0 result.1.now }
     ensures slots { counted.new.slots ≡ counted.old.slots }
-    ensures reads { ReadsOnTheWay counted.old.slots counted.old.reads start counted.new.reads result.0 }
+    ensures place { counted.new.place ≡ result.0 }
+    ensures reads { ReadsOnTheWay counted.old.slots counted.old.reads counted.old.place counted.new.reads result.0 }
 {
-    let mut place = start;
+    let first = counted.read();
+    if first.is_live() {
+        return (counted.place(), first);
+    }
+    counted.hop(first);
+    let second = counted.read();
+    if second.is_live() {
+        return (counted.place(), second);
+    }
+    // A retired slot.
+    counted.hop(second);
+    let slot = find_farther(counted);
+    (counted.place(), slot)
+}
+
+// The same, one slot after the other.
+#[inline(always)]
+fn find_farther<'a, V>(counted: &mut CountedSlots<'a, V>) -> &'a Slot<V>
+    requires can { CanGoOn counted.old.slots counted.old.reads counted.old.place }
+    requires some { 0 < length (pairs_left counted.old.slots counted.old.place) }
+    ensures found { FindsFarther counted.old counted.new result.now }
+    ensures slots { counted.new.slots ≡ counted.old.slots }
+{
     loop {
-        let slot = counted.read(place);
+        let slot = counted.read();
         if slot.is_live() {
-            return (place, slot);
+            return slot;
         }
-        // A vacant slot is the front of a block here. A block of one slot names no back, and a retired
-        // slot doesn't either.
-        place = place.max(slot.back() as usize) + 1;
+        counted.hop(slot);
     }
     rule_out(true);
     unreachable!()
@@ -124,7 +141,6 @@ impl<'a, K, V> Clone for Iter<'a, K, V> {
     fn clone(&self) -> Result<Self, AllocError> {
         Ok(Iter {
             counted: self.counted.copy(),
-            place: self.place,
             left: self.left,
             keys: PhantomData,
         })
@@ -141,9 +157,9 @@ impl<'a, K: Key, V> Iter<'a, K, V> {
         if self.left == 0 {
             return None;
         }
-        let (place, slot) = next_live(&mut self.counted, self.place);
+        let (place, slot) = next_live(&mut self.counted);
+        self.counted.pass();
         self.left -= 1;
-        self.place = place + 1;
         let key = K::from(KeyData::exact(place as u32, slot.version()));
         Some((key, slot))
     }
@@ -409,10 +425,10 @@ impl<K: Key, V> HopSlotMap<K, V> {
         ensures reads { result.reads ≡ 0 }
         ensures valid { IsHopContent self.now }
     {
-        let back = back_of(self.slots.as_slice(), 0);
+        let slots = self.slots.as_slice();
+        let start = back_of(slots, 0) as usize + 1;
         Iter {
-            counted: CountedSlots::new(self.slots.as_slice()),
-            place: back as usize + 1,
+            counted: CountedSlots::new(slots, start),
             left: self.live_count as usize,
             keys: PhantomData,
         }

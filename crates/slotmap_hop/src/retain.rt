@@ -5,7 +5,7 @@ ghost use Rattle.std.specs.Prelude.{◌≡◌, ◌+◌, ◌<◌, Some, IfSome, I
 ghost use Rattle.slotmap_core.specs.Words.{IsLive, Leaves, RetainsBy, CallableOnEach};
 ghost use Rattle.slotmap_hop.specs.HopContent.{IsHopContent, IsNextLive, IsNextPlace, HasKeyAt, MayStand, StaysHop};
 ghost use Rattle.slotmap_hop.specs.Retain.{RetainsByIndex};
-ghost use Rattle.slotmap_hop.specs.Iter.{CanGoOn, FindsSlot, FindsNone, ReadsOnTheWay, ReadsToTheEnd};
+ghost use Rattle.slotmap_hop.specs.Iter.{CanGoOn, FindsPlace, FindsNone};
 
 use crate::HopSlotMap;
 use crate::counted::CountedSlots;
@@ -13,25 +13,20 @@ use crate::iter::next_live;
 use crate::links::Slot;
 use slotmap_core::keys::{Key, KeyData};
 
-// The first live slot from this one on, and its index. The loops over a map that changes find their
-// slots here.
-fn find_live<'a, V>(counted: &mut CountedSlots<'a, V>, start: u32) -> Option<(u32, &'a Slot<V>)>
-    requires { CanGoOn counted.old.slots counted.old.reads start }
-    ensures found { IfSome result (λ r. FindsSlot counted.old.slots start r.0 r.1.now) }
-    ensures none { IfNone result (FindsNone counted.old.slots start) }
-    ensures slots { counted.new.slots ≡ counted.old.slots }
-    ensures reads { IfSome result (λ r. ReadsOnTheWay counted.old.slots counted.old.reads start counted.new.reads r.0) }
-    ensures reads_none { IfNone result (ReadsToTheEnd counted.old.slots counted.old.reads start counted.new.reads) }
+// The first live slot from this one on. The loops over a map that changes find their slots here.
+fn find_live<V>(slots: &[Slot<V>], start: u32) -> Option<u32>
+    requires { CanGoOn slots.now 0 start }
+    ensures found { IfSome result (λ place. FindsPlace slots.now start place) }
+    ensures none { IfNone result (FindsNone slots.now start) }
 {
-    let mut place = start;
-    while place < counted.len() {
-        let slot = counted.read(place as usize);
+    let mut place = start as usize;
+    while place < slots.len() {
+        let slot = &slots[place];
         if slot.is_live() {
-            return Some((place, slot));
+            return Some(place as u32);
         }
-        // A vacant slot is the front of a block here. A block of one slot names no back, and a retired
-        // slot doesn't either.
-        place = place.max(slot.back()) + 1;
+        // A vacant slot is the front of a block here.
+        place = slot.hop(place) + 1;
     }
     None
 }
@@ -44,9 +39,7 @@ impl<K: Key, V: Drop> HopSlotMap<K, V> {
         ensures valid { IsHopContent self.now }
     {
         self.note_valid();
-        let mut counted = CountedSlots::new(self.slots.as_slice());
-        let (place, _) = find_live(&mut counted, start)?;
-        Some(place)
+        find_live(self.slots.as_slice(), start)
     }
 
     // Returns the live key of this index.
@@ -78,9 +71,9 @@ impl<K: Key, V: Drop> HopSlotMap<K, V> {
         ensures valid { IsHopContent self.now }
     {
         self.note_valid();
-        let mut counted = CountedSlots::new(self.slots.as_slice());
         let start = key.data().idx() as usize + 1;
-        let (place, slot) = next_live(&mut counted, start);
+        let mut counted = CountedSlots::new(self.slots.as_slice(), start);
+        let (place, slot) = next_live(&mut counted);
         K::from(KeyData::exact(place as u32, slot.version()))
     }
 

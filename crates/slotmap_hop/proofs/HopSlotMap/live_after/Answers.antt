@@ -4,24 +4,29 @@ use Rattle.slotmap_hop.specs.HopContent.{MayStand}
 use Rattle.slotmap_hop.specs.Slots.{version_in}
 use Rattle.slotmap_hop.specs.Iter.{FindsSlot}
 use Rattle.slotmap_hop.proofs.LiveSlots.{live_key}
-use Rattle.slotmap_hop.proofs.Iterators.{more_left}
+use Rattle.slotmap_hop.proofs.Iterators.{more_left, key_within}
 use Rattle.slotmap_hop.proofs.Sweeping.{look_begins}
 use Rattle.slotmap_hop.proofs.HopSlotMap.live_after.Goals.{After-next_live-place}
 use Rattle.slotmap_hop.proofs.HopSlotMap.live_after.Goals as goal
+
+pub new-counted-requires : goal.new-counted-requires
+new-counted-requires g c =
+    let first = rw (← c.self.view_is) at c.requires.first in
+    rw (c.as_slice.ensures.value, c.idx.ensures.value, c.data.ensures.value) (key_within c.self.inside.slots.items _ first.0)
 
 pub next_live-place-requires : goal.next_live-place-requires
 next_live-place-requires g c =
     let k = g.K.Key.data_of c.args.key in
     let first = rw (← c.self.view_is) at c.requires.first in
     let others = rw (← c.self.view_is) at c.requires.others in
-    rw (c.new-counted.ensures.slots, c.as_slice.ensures.value, c.new-counted.ensures.reads, c.idx.ensures.value, c.data.ensures.value)
+    rw (c.new-counted.ensures.slots, c.as_slice.ensures.value, c.new-counted.ensures.reads, c.new-counted.ensures.place, c.idx.ensures.value, c.data.ensures.value)
     (record {
       can = look_begins _ _ _ c.self.invariant _ (vec_capacity c.self.inside.slots - 1) (subst (λ m. MayStand m.content (k.index + 1)) (sym c.self.view_is) c.requires.stands);
       some = more_left c.self.inside.slots.items k first.0 (λ q there. first.2 q there (omega arith)) others;
     })
 
 found : (g : _) (c : After-next_live-place g) → FindsSlot c.self.inside.slots.items ((g.K.Key.data_of c.args.key).index + 1) c.next_live-place.result.0 c.next_live-place.result.1.now
-found g c = rw (c.new-counted.ensures.slots, c.as_slice.ensures.value, c.idx.ensures.value, c.data.ensures.value) at c.next_live-place.ensures.found
+found g c = rw (c.new-counted.ensures.slots, c.as_slice.ensures.value, c.new-counted.ensures.place, c.idx.ensures.value, c.data.ensures.value) at c.next_live-place.ensures.found
 
 pub exact-requires : goal.exact-requires
 exact-requires g c =
@@ -40,6 +45,6 @@ returns-clause-comes g c =
     let is = ap g.K.Key.data_of (g.met.K.Key.from_gives_key _ _ c.from.ensures) ∙ g.met.K.Key.from_data _ (rw exact is_key) ∙ exact in
     rw (is, ← c.self.view_is) (
       ap is_some (get-live_at _ (key place (version_in c.next_live-place.result.1.now)) place _ refl there),
-      omega (arith, way.some, way.passed, c.new-counted.ensures.reads, c.idx.ensures.value, ap (λ k. k.index) c.data.ensures.value),
+      omega (arith, way.some, way.passed, c.new-counted.ensures.reads, c.new-counted.ensures.place, c.idx.ensures.value, ap (λ k. k.index) c.data.ensures.value),
       finds.least,
     )

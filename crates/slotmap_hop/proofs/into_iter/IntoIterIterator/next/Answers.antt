@@ -10,11 +10,11 @@ use Rattle.slotmap_hop.proofs.into_iter.IntoIterIterator.next.Goals as goal
 
 pub next_live-place-requires : goal.next_live-place-requires
 next_live-place-requires g c =
-    rw (c.new-counted.ensures.slots, c.as_slice.ensures.value, c.new-counted.ensures.reads)
+    rw (c.new-counted.ensures.slots, c.new-counted.ensures.place, c.as_slice.ensures.value, c.new-counted.ensures.reads)
     (record { can = can_go_on c.self.invariant; some = omega (arith, c.self.invariant.counted, c.if-self-eq0.false) })
 
 found : (g : _) (c : After-next_live-place g) → FindsSlot c.self.inside.slots.items c.self.inside.place c.next_live-place.result.0 c.next_live-place.result.1.now
-found g c = rw (c.new-counted.ensures.slots, c.as_slice.ensures.value) at c.next_live-place.ensures.found
+found g c = rw (c.new-counted.ensures.slots, c.new-counted.ensures.place, c.as_slice.ensures.value) at c.next_live-place.ensures.found
 
 pub exact-requires : goal.exact-requires
 exact-requires g c =
@@ -28,7 +28,7 @@ moved : (g : _) (c : After-retire-value g) (found : FindsSlot c.self.inside.slot
     ∷ pairs_left (with_items c.self.inside.slots c.retire-value.new.slots).items (c.next_live-place.result.0 + 1))
 moved g c found =
     let iterates = c.self.invariant in
-    let way = rw (c.new-counted.ensures.slots, c.as_slice.ensures.value, c.new-counted.ensures.reads) at c.next_live-place.ensures.reads in
+    let way = rw (c.new-counted.ensures.slots, c.new-counted.ensures.place, c.as_slice.ensures.value, c.new-counted.ensures.reads) at c.next_live-place.ensures.reads in
     let same = rw c.as_mut_slice.ensures.value at c.retire-value.ensures.all_links in
     let after = rw c.as_mut_slice.ensures.value at c.retire-value.ensures.places in
     let value = same_Some _ _ (value_is _ _ _ iterates.stands.sound _ _ _ found.finds.there _ (rw c.as_mut_slice.ensures.value at c.retire-value.ensures.value)) in

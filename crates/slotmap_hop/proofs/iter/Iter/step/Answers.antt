@@ -1,6 +1,6 @@
 use Rattle.slotmap_core.proofs.Common.{refl, sym, ap, ◌∙◌, arith}
 use Rattle.slotmap_hop.specs.Slots.{version_in}
-use Rattle.slotmap_hop.proofs.LiveSlots.{live_key}
+use Rattle.slotmap_hop.proofs.LiveSlots.{live_key, live_within}
 use Rattle.slotmap_hop.proofs.Iterators.{can_go_on, iter_on, left_none}
 use Rattle.slotmap_hop.proofs.iter.Iter.step.Goals as goal
 
@@ -16,11 +16,20 @@ exact-requires g c =
     rw (c.version.ensures ∙ ap version_in found.is) (live_key _ _ _ c.self.invariant.stands.sound _ _ _ found.finds.there)
 
 pub invariant_of-self : goal.invariant_of-self
-invariant_of-self g c = let found = c.next_live-place.ensures in rw found.slots (iter_on c.self.invariant found.found.finds found.reads)
+invariant_of-self g c =
+    let found = c.next_live-place.ensures in
+    let pass = c.pass.ensures in
+    rw (pass.slots, pass.place, pass.reads, found.place, found.slots) (iter_on c.self.invariant found.found.finds found.reads)
+
+pub pass-requires : goal.pass-requires
+pass-requires g c =
+    let found = c.next_live-place.ensures in
+    rw (found.place, found.slots) (live_within _ _ _ c.self.invariant.stands.sound _ _ _ found.found.finds.there)
 
 pub returns-clause-some : goal.returns-clause-some
 returns-clause-some g c =
     let found = c.next_live-place.ensures in
+    let pass = c.pass.ensures in
     let way = found.reads in
     let is_key = live_key _ _ _ c.self.invariant.stands.sound _ _ _ found.found.finds.there in
     let exact = rw (c.version.ensures ∙ ap version_in found.found.is) at c.exact.ensures in
@@ -29,8 +38,8 @@ returns-clause-some g c =
       version = found.found.version;
       value = found.found.value;
       is = found.found.is;
-      rest = ap (λ w. w.rest) (sym c.self.view_is) ∙ found.found.finds.first ∙ rw (is, found.slots) refl;
-      reads = rw (is, found.slots, ← c.self.view_is) (record { passed = way.gone; still = way.still; before = way.before; after = way.after; some = way.some; few = way.few });
+      rest = ap (λ w. w.rest) (sym c.self.view_is) ∙ found.found.finds.first ∙ rw (is, pass.slots, pass.place, found.place, found.slots) refl;
+      reads = rw (is, pass.slots, pass.place, pass.reads, found.place, found.slots, ← c.self.view_is) (record { passed = way.gone; still = way.still; before = way.before; after = way.after; some = way.some; few = way.few });
     }
 
 pub returns-then-self-eq0-clause-none : goal.returns-then-self-eq0-clause-none
