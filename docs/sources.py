@@ -161,7 +161,8 @@ def set_subject(item):
     rest = rest.strip()
     trait, between, subject = rest.partition(" for ")
     item.of_trait = trait if between else ""
-    item.of = re.search(r"(\w+)(?:<|$| )", re.sub(r"^&('\w+ )?(mut )?", "", subject if between else rest) + " ").group(1)
+    named = re.sub(r"^&('\w+ )?(mut )?", "", subject if between else rest)
+    item.of = "tuple" if named.startswith("(") else re.search(r"(\w+)(?:<|$| )", named + " ").group(1)
 
 
 def files_of(crate):
