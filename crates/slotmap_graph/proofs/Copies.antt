@@ -3,10 +3,10 @@ use Rattle.std.proofs.Common.{◌≡◌, true, List, [], ◌∷◌, Option, Some
 use Rattle.std.specs.List.{AllZip}
 use Rattle.std.specs.FinMap as map
 use Rattle.std.specs.declared.vec.Vec.{Vec}
-use Rattle.slotmap.specs.Words.{Key, Content, IsLive, IsBeside, Pairs, get, contains_key, IsCloneOf, IsCloneBy, HasClones, ClonesEqual}
+use Rattle.slotmap.specs.Words.{Key, Content, IsBeside, Pairs, get, contains_key, IsCloneOf, IsCloneBy, HasClones, ClonesEqual}
 use Rattle.slotmap.proofs.Callers.{clone_live}
 use Rattle.slotmap_graph.specs.declared.Edge.{Edge}
-use Rattle.slotmap_graph.specs.Parts.{EndsLive, IsAdjacency, IsGraph, SameEdges, by_node, clones_edge, ends_at, from, list_in, listed, to}
+use Rattle.slotmap_graph.specs.Parts.{EndsLive, IsGraph, SameEdges, by_node, clones_edge, ends_at, from, list_in, listed, to}
 use Rattle.slotmap_graph.proofs.ByNode.{same_edges}
 
 -- where clones equal their values, so do lists of them

@@ -1,5 +1,3 @@
-use Rattle.std.proofs.Common.{ap}
-use Rattle.slotmap_graph.specs.Parts.{by_node, clones_edge}
 use Rattle.slotmap_graph.proofs.Copies.{graph_copied, copy_seen, zip_same, edges_equal}
 use Rattle.slotmap_graph.proofs.Graph.clone.Goals as goal
 
