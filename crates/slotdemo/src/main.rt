@@ -1,99 +1,79 @@
-//! A morning at a pond, hour by hour: an entity store and a scheduler at work.
+//! A morning at a pond, hour by hour: all five structures at work.
 //!
-//! What will happen is scheduled in a `Scheduler`. Each animal at the pond is an entity of a `World`,
-//! and its one component is the stone that it sits on. An event speaks of an animal by its key. If
-//! the animal is gone when the event comes, the key finds nobody, also where another animal has its
-//! place in the store by then.
+//! - What will happen waits in a `Scheduler`, by its hour.
+//! - Each animal is an entity of a `World`. Its components are the stone that it sits on, and its
+//!   cursor in the choir.
+//! - The stones are the nodes of a `Graph`. An edge leads to each stone that is one hop away.
+//! - The choir is a `StableList`, in the order in which the animals came.
+//! - A log with a leaf on it is a `Scene`: where the log drifts, the leaf goes too.
+//!
+//! An event speaks of an animal by its key. If the animal is gone when the event comes, the key finds
+//! nobody, also where another animal has its place in the store by then.
 #![tactic(auto)]
 
-use slotmap::{DefaultKey, SecondaryMap};
-use slotmap_entities::{First, World};
+mod animals;
+mod log;
+mod pond;
+
+use animals::Animal;
+use log::Log;
+use pond::Pond;
+use slotmap::{DefaultKey, NodeKey};
 use slotmap_scheduler::Scheduler;
 use std::alloc::Global;
-use std::mem;
 use std::process::ExitCode;
-
-// Animals, each on a stone.
-type Pond = World<DefaultKey, Animal, (SecondaryMap<DefaultKey, u32>, ())>;
-
-// The stone of an animal, among its components.
-type Stone = First;
-
-// Who comes to the pond.
-#[derive(Clone, Copy, Debug, PartialEq, Eq)]
-enum Animal {
-    Frog,
-    Newt,
-    Duck,
-}
-
-impl Animal {
-    fn name(self) -> &'static str {
-        match self {
-            Animal::Frog => "frog",
-            Animal::Newt => "newt",
-            Animal::Duck => "duck",
-        }
-    }
-}
 
 // What happens at an hour.
 #[derive(Clone, Copy, Debug)]
 enum Event {
     // An animal comes to a stone.
-    Comes(Animal, u32),
-    // It goes on to another stone.
-    Hops(DefaultKey, u32),
+    Comes(Animal, NodeKey),
+    // It goes on to the next stone.
+    Hops(DefaultKey),
     // A heron eats it.
     Eaten(DefaultKey),
     // It leaves.
     Leaves(DefaultKey),
+    // The log drifts.
+    Drifts,
 }
+
+type Events = Scheduler<DefaultKey, Event>;
 
 // An animal comes. It will go on to the next stone, and leave. The frog is eaten before that.
 fn comes(
     pond: &mut Pond,
-    events: &mut Scheduler<DefaultKey, Event>,
+    events: &mut Events,
     hour: u64,
     animal: Animal,
-    stone: u32,
+    stone: NodeKey,
 ) -> Option<()> {
-    let key = pond.spawn(animal).ok()?;
-    pond.attach::<Stone>(key, stone).ok()?;
-    let next = stone.saturating_add(1);
-    events
-        .schedule(hour.saturating_add(1), Event::Hops(key, next))
-        .ok()?;
-    events
-        .schedule(hour.saturating_add(3), Event::Leaves(key))
-        .ok()?;
+    let key = pond.welcome(animal, stone)?;
+    let next = hour.saturating_add(1);
+    events.schedule(next, Event::Hops(key)).ok()?;
+    let last = hour.saturating_add(3);
+    events.schedule(last, Event::Leaves(key)).ok()?;
     if animal == Animal::Frog {
-        events
-            .schedule(hour.saturating_add(1), Event::Eaten(key))
-            .ok()?;
+        events.schedule(next, Event::Eaten(key)).ok()?;
     }
     Some(())
 }
 
 // An animal goes on to another stone.
-fn hops(rt: &HostRuntime, pond: &mut Pond, key: DefaultKey, stone: u32) -> Option<()> {
-    let before = match pond.component_mut::<Stone>(key) {
-        Some(place) => Some(mem::replace(place, stone)),
-        None => None,
-    };
-    match (pond.get(key), before) {
-        (Some(animal), Some(before)) => {
+fn hops(rt: &HostRuntime, pond: &mut Pond, key: DefaultKey) -> Option<()> {
+    match pond.hop(key) {
+        Some((animal, from, to)) => {
             let name = animal.name();
-            println!(rt; "  the {name} hops from stone {before} to stone {stone}").ok()
+            println!(rt; "  the {name} hops from stone {from} to stone {to}").ok()
         }
-        _ => println!(rt; "  nobody hops").ok(),
+        None => println!(rt; "  nobody hops").ok(),
     }
 }
 
 // An animal is at the pond no more.
 fn goes(rt: &HostRuntime, pond: &mut Pond, key: DefaultKey, how: &str) -> Option<()> {
-    match pond.despawn(key) {
-        Some((animal, _)) => {
+    match pond.take(key) {
+        Some(animal) => {
             let name = animal.name();
             println!(rt; "  the {name} {how}").ok()
         }
@@ -101,23 +81,37 @@ fn goes(rt: &HostRuntime, pond: &mut Pond, key: DefaultKey, how: &str) -> Option
     }
 }
 
+// The log drifts, with the leaf on it.
+fn drifts(rt: &HostRuntime, log: &mut Log) -> Option<()> {
+    log.drift();
+    let leaf = log.leaf()?;
+    println!(rt;
+        "  the log drifts, and its leaf lies at {}, {}",
+        leaf.x, leaf.y
+    )
+    .ok()
+}
+
 // One event.
 fn act(
     rt: &HostRuntime,
     pond: &mut Pond,
-    events: &mut Scheduler<DefaultKey, Event>,
+    log: &mut Log,
+    events: &mut Events,
     hour: u64,
     event: Event,
 ) -> Option<()> {
     match event {
         Event::Comes(animal, stone) => {
             let name = animal.name();
-            println!(rt; "  a {name} comes to stone {stone}").ok()?;
+            let number = pond.number(stone)?;
+            println!(rt; "  a {name} comes to stone {number}").ok()?;
             comes(pond, events, hour, animal, stone)
         }
-        Event::Hops(key, stone) => hops(rt, pond, key, stone),
+        Event::Hops(key) => hops(rt, pond, key),
         Event::Eaten(key) => goes(rt, pond, key, "is eaten by a heron"),
         Event::Leaves(key) => goes(rt, pond, key, "leaves"),
+        Event::Drifts => drifts(rt, log),
     }
 }
 
@@ -125,35 +119,42 @@ fn act(
 fn pass(
     rt: &HostRuntime,
     pond: &mut Pond,
-    events: &mut Scheduler<DefaultKey, Event>,
+    log: &mut Log,
+    events: &mut Events,
     hour: u64,
 ) -> Option<()> {
     println!(rt; "{hour} o'clock").ok()?;
     let mut due = Vec::new(rt.alloc());
     events.pop_all_due(hour, &mut due).ok()?;
     for (_, event) in due {
-        act(rt, pond, events, hour, event)?;
+        act(rt, pond, log, events, hour, event)?;
     }
-    Some(())
+    let choir = pond.choir(rt.alloc())?;
+    println!(rt; "  the choir:{choir}").ok()
 }
 
-// What is known at dawn.
-fn agenda(alloc: Global) -> Option<Scheduler<DefaultKey, Event>> {
+// What is known at dawn. One of two ducks thinks better of it.
+fn agenda(alloc: Global, first: NodeKey, second: NodeKey) -> Option<Events> {
     let mut events = Scheduler::new(alloc).ok()?;
-    events.schedule(6, Event::Comes(Animal::Frog, 1)).ok()?;
-    events.schedule(8, Event::Comes(Animal::Newt, 4)).ok()?;
-    let duck = events.schedule(8, Event::Comes(Animal::Duck, 7)).ok()?;
-    events.schedule(7, Event::Comes(Animal::Duck, 8)).ok()?;
+    events.schedule(6, Event::Comes(Animal::Frog, first)).ok()?;
+    events.schedule(8, Event::Comes(Animal::Newt, first)).ok()?;
+    let duck = events.schedule(8, Event::Comes(Animal::Duck, first)).ok()?;
+    events.schedule(7, Event::Comes(Animal::Duck, second)).ok()?;
+    events.schedule(9, Event::Drifts).ok()?;
     events.cancel(duck);
     Some(events)
 }
 
 // The hours from 6 to 11.
 fn morning(rt: &HostRuntime) -> Option<()> {
-    let mut pond = World::new(rt.alloc()).ok()?;
-    let mut events = agenda(rt.alloc())?;
+    let alloc = rt.alloc();
+    let (mut pond, first, second) = Pond::new(alloc)?;
+    let within = pond.within_reach(alloc, first)?;
+    println!(rt; "{within} stones are within reach of the first").ok()?;
+    let mut log = Log::new(alloc)?;
+    let mut events = agenda(alloc, first, second)?;
     for hour in 6..12 {
-        pass(rt, &mut pond, &mut events, hour)?;
+        pass(rt, &mut pond, &mut log, &mut events, hour)?;
     }
     let left = pond.len();
     println!(rt; "{left} are left").ok()
