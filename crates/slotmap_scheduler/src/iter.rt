@@ -154,7 +154,7 @@ impl<'a, K: Key, T: Drop> Iterator for Values<'a, K, T> {
 
 impl<K: Key, T: Drop> Scheduler<K, T> {
     /// Returns an iterator over the jobs that wait, each with its handle and its time, in no promised
-    /// order.
+    /// order. A `for` loop over `&scheduler` goes over the same.
     ///
     /// It is made in constant time. All its steps together read each slot once.
     ///

@@ -42,6 +42,17 @@ fn lists_the_jobs(rt: HostRuntime) -> Result<(), Fail> {
 }
 
 #[test]
+fn goes_over_the_jobs(rt: HostRuntime) -> Result<(), Fail> {
+    let (scheduler, _, _) = pair(rt.alloc())?;
+    let mut greatest = 0;
+    for (_, _, job) in &scheduler {
+        greatest = (*job).max(greatest);
+    }
+    assert_eq!(rt; greatest, 2);
+    Ok(())
+}
+
+#[test]
 fn copies(rt: HostRuntime) -> Result<(), Fail> {
     let (mut scheduler, tea, bell) = pair(rt.alloc())?;
     let copy = scheduler.clone()?;
