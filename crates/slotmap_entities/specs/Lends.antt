@@ -8,8 +8,8 @@ use Rattle.slotmap_entities.specs.declared.tables.Tables.{Ghosts}
 use Rattle.slotmap_entities.specs.contracts.World.{the_row}
 
 -- the members of a key type, which a clause writes as K.Key
-abbrev pub KeyMembers : Type 0 → Type 1
-KeyMembers K =
+abbrev pub MembersOfKey : Type 0 → Type 1
+MembersOfKey K =
     record {
       debug_output : K → Option (List ℕ);
       hash_input : K → List (List ℕ);
@@ -22,7 +22,7 @@ KeyMembers K =
       of_data : Key → K;
     }
 
-module _ (K E T P : RattleType) (key : KeyMembers K.Denot) (tables : Ghosts T.Denot K.Denot P.Denot) where
+module _ (K E T P : RattleType) (key : MembersOfKey K.Denot) (tables : Ghosts T.Denot K.Denot P.Denot) where
   -- the type of the world in the logic
   abbrev pub world_row : RattleType
   world_row =

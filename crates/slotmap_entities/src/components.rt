@@ -3,7 +3,7 @@
 ghost use Rattle.std.specs.Prelude.{◌≡◌, ◌≢◌, IfOk, OnOk, IfErr, OnErr, IsSome, Some, None, option_copied};
 ghost use Rattle.std.specs.Option.{option_copied_mut};
 ghost use Rattle.std.specs.Borrow.{sem};
-ghost use Rattle.slotmap.specs.Words.{Key as KeyOf, IsBeside, IsLive, get};
+ghost use Rattle.slotmap.specs.Words.{Key as KeyOf, IsBeside, IsLive, get, contains_key};
 ghost use Rattle.slotmap_entities.specs.World.{OnlyLive, RefusesAttach};
 
 use crate::{Kind, Table, Tables, World};
@@ -102,6 +102,19 @@ impl<K: Key, E: Drop, T: Tables<K>> World<K, E, T> {
         ensures entities { self.new.entities ≡ self.old.entities }
     {
         C::table_mut(&mut self.tables).remove(key)
+    }
+
+    /// Returns whether an entity has a component of this kind. One that doesn't exist has none.
+    ///
+    /// ```
+    /// let mut world: World<DefaultKey, u8, (SecondaryMap<DefaultKey, u32>, ())> = World::new(alloc)?;
+    /// let hero = world.spawn(1)?;
+    /// assert!(rt; !world.has::<First>(hero));
+    /// ```
+    pub fn has<C: Kind<K, T>>(&self, key: K) -> bool
+        ensures { result ≡ contains_key (C.Table.pairs (C.table self.now.tables)) (K.data_of key) }
+    {
+        C::table(&self.tables).contains_key(key)
     }
 
     /// Returns the component of this kind of an entity, or `None` if it has none or doesn't exist.

@@ -8,6 +8,7 @@ ghost use Rattle.slotmap_entities.specs.World.{found_by, both_found_by};
 use crate::{Kind, Table, Tables, World};
 use slotmap::Key;
 use slotmap::dense::Keys;
+use std::iter::FusedIterator;
 
 /// An iterator over the entities that have a component of one kind: see [`World::with`].
 #[derive(Drop)]
@@ -39,6 +40,11 @@ where
         (0, Some(self.keys.len()))
     }
 }
+
+impl<'a, K: Key, E: Drop, M: Table<K>> FusedIterator for With<'a, K, E, M>
+where
+    M::Component: 'a,
+{}
 
 /// An iterator over the entities that have components of two kinds: see [`World::with_both`].
 #[derive(Drop)]
@@ -72,6 +78,12 @@ where
         (0, Some(self.keys.len()))
     }
 }
+
+impl<'a, K: Key, E: Drop, A: Table<K>, B: Table<K>> FusedIterator for WithBoth<'a, K, E, A, B>
+where
+    A::Component: 'a,
+    B::Component: 'a,
+{}
 
 impl<K: Key, E: Drop, T: Tables<K>> World<K, E, T> {
     /// Returns an iterator over the entities that have a component of one kind, with it, in packed

@@ -30,7 +30,7 @@
 //! ```
 #![tactic(auto, using(slotmap::proofs::Callers::keys))]
 
-ghost use Rattle.std.specs.Prelude.{◌≡◌, ◌≢◌, ◌+◌, ◌≤◌, ◌↔◌, Some, None, IfOk, IsOk, OnErr, IfErr, IfSome, IfNone, IsTrue, OnSome, false, zip, option_copied, option_map};
+ghost use Rattle.std.specs.Prelude.{◌≡◌, ◌≢◌, ◌+◌, ◌≤◌, ◌↔◌, Some, None, IfOk, IsOk, OnErr, IfErr, IfSome, IfNone, IsTrue, OnSome, true, false, zip, option_copied, option_map};
 ghost use Rattle.std.specs.FinMap as map;
 ghost use Rattle.std.specs.Option.{option_copied_mut};
 ghost use Rattle.std.specs.Borrow.{sem};
@@ -284,6 +284,21 @@ impl<K: Key, E: Drop, T: Tables<K>> World<K, E, T> {
             Some(value) => Some(value),
             None => None,
         }
+    }
+
+    /// Returns the tables, as to go through a table of few components. Only entities have components.
+    ///
+    /// ```
+    /// let mut world: World<DefaultKey, u8, (SparseSecondaryMap<DefaultKey, u32>, ())> = World::new(alloc)?;
+    /// let hero = world.spawn(1)?;
+    /// world.attach::<First>(hero, 7)?;
+    /// assert_eq!(rt; world.tables().0.iter().next(), Some((hero, &7)));
+    /// ```
+    pub fn tables(&self) -> &T
+        ensures tables { result.now ≡ self.now.tables }
+        ensures live { (k : KeyOf) → T.has result.now k ≡ true → IsLive self.now.entities.content k }
+    {
+        &self.tables
     }
 
     /// Returns an iterator over the entities with their values, in packed order.
