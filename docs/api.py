@@ -62,7 +62,7 @@ PAGE_OF = {title: name for name, title in PAGES.items()}
 STRUCTURES = {
     "slotmap_list": ("StableList", "a doubly linked list with cursors"),
     "slotmap_graph": ("Graph", "a directed graph, with values on nodes and edges"),
-    "slotmap_entities": ("World", "an entity store with two kinds of components"),
+    "slotmap_entities": ("World", "an entity store with any number of kinds of components"),
     "slotmap_scene": ("Scene", "trees of nodes, with children in order"),
     "slotmap_scheduler": ("Scheduler", "jobs ordered by time, each with a handle"),
 }
