@@ -27,7 +27,7 @@ module _ (s k x : Key) where
     | false ↦ (let first = times_first x q (placed_after s k qs) in let was = times_first x q qs in let rest = times_after qs in omega arith)
   ]
 
-  times_placed : (side : Side) (ks : List Key) → times x (placed side s k ks) ≡ times x ks + same k x
+  pub times_placed : (side : Side) (ks : List Key) → times x (placed side s k ks) ≡ times x ks + same k x
   times_placed Before ks = times_before ks
   times_placed After ks = times_after ks
 
