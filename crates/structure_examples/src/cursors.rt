@@ -20,6 +20,7 @@ pub fn find(list: &StableList<Cursor, u64>, wanted: u64) -> Option<Cursor>
 }
 
 /// Puts a new element in the place of another one, whose cursor is gone for good.
+#[tactic(auto, using(slotmap::proofs::Callers::keys, slotmap_list::proofs::Callers::cursors))]
 pub fn renew(
     list: &mut StableList<Cursor, u64>,
     cursor: Cursor,

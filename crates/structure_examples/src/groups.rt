@@ -18,6 +18,7 @@ pub enum GroupError {
 }
 
 /// Puts two nodes, with all that is below them, under a new root.
+#[tactic(auto, using(slotmap::proofs::Callers::keys, slotmap_scene::proofs::Callers::families))]
 pub fn group(
     scene: &mut Scene<DefaultKey, u64>,
     a: DefaultKey,

@@ -16,7 +16,7 @@ pub fn reborn<T: Tables<DefaultKey>>(
     ensures there { IfOk result (λ new. map.get world.new.entities.content.live new ≡ Some entity) }
     ensures bare { IfOk result (λ new. T.has world.new.tables new ≡ false) }
     ensures other { IsLive world.old.entities.content key → IfOk result (λ new. new ≢ key) }
-    ensures dead { map.get world.new.entities.content.live key ≡ None }
+    ensures dead { IsLive world.old.entities.content key → map.get world.new.entities.content.live key ≡ None }
 {
     world.despawn(key);
     world.spawn(entity)

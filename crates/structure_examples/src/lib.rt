@@ -1,5 +1,5 @@
 //! Callers of the structures, each proved only from their contracts.
-#![tactic(auto, using(slotmap::proofs::Callers::keys, slotmap_list::proofs::Callers::cursors, slotmap_scene::proofs::Callers::families))]
+#![tactic(auto, using(slotmap::proofs::Callers::keys))]
 
 pub mod arm;
 pub mod cursors;
