@@ -1,2 +1,3 @@
 mod Fewer
 mod LiveOnly
+mod Retained
