@@ -54,7 +54,6 @@ SPECS = {
 }
 
 WORDS = {
-    'KeyMembers': 'the members of a key type',
     'lends_value lends_get entry_lends occupied_lends rests_if_err': 'what is left once the reference to a value ends',
     'IsSound IsContent IsIter IsInPlace': 'what always holds, of slots, of a content, of an iterator, of an entry',
     'Content content_code content_of with_value value_of used retired pairs_of': 'the same of each kind of map, and of the states of its machine',

@@ -4,7 +4,7 @@ use Rattle.std.specs.List.{filter_map}
 use Rattle.std.specs.Option.{option_and_then}
 use Rattle.std.specs.FinMap as map
 use Rattle.std.specs.Coded.{Coded, code_by, coded×}
-use Rattle.slotmap.specs.Words.{Key, Content, Dense, dense_code, IsLive}
+use Rattle.slotmap.specs.Words.{Key, Content, Dense, dense_code, IsLive, Pairs, RefusesPut}
 use Rattle.slotmap_entities.specs.declared.components.AttachError.{AttachError}
 use Rattle.slotmap_entities.specs.declared.components.AttachError.TheVariants.{Gone, Memory}
 
@@ -24,10 +24,10 @@ world_code {E} {T} e t =
 abbrev pub OnlyLive : {E : Type 0} → Content E → (Key → Bool) → Type 0
 OnlyLive entities has = (k : Key) → has k ≡ true → IsLive entities k
 
--- `Gone` if and only if the entity doesn't exist; the component is returned
-abbrev pub RefusesAttach : {E C : Type 0} → Content E → Key → C → AttachError C → Type 0
-RefusesAttach entities k c (Gone back) = (map.contains_key entities.live k ≡ false) × (back ≡ c)
-RefusesAttach entities k c (Memory back) = IsLive entities k × (back ≡ c)
+-- `Gone` if and only if the entity doesn't exist, else `Memory`, where the table refuses a put; the component is returned
+abbrev pub RefusesAttach : {E C : Type 0} → Content E → Pairs C → Key → C → AttachError C → Type 0
+RefusesAttach entities pairs k c (Gone back) = (map.contains_key entities.live k ≡ false) × (back ≡ c)
+RefusesAttach entities pairs k c (Memory back) = IsLive entities k × RefusesPut pairs k c back
 
 -- the keys of a list for which there is something, each with it
 abbrev pub found_by : {C : Type 0} → (Key → Option C) → List Key → List (Key × C)

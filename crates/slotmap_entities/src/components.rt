@@ -35,7 +35,7 @@ fn attach<K: Key, E: Drop, M: Table<K>>(
     ensures before { IfOk result (λ before. before ≡ get (M.pairs table.old) (K.data_of key)) }
     ensures there { OnOk result (get (M.pairs table.new) (K.data_of key) ≡ Some component) }
     ensures live { OnOk result (IsLive entities.now.content (K.data_of key)) }
-    ensures err { IfErr result (RefusesAttach entities.now.content (K.data_of key) component) }
+    ensures err { IfErr result (RefusesAttach entities.now.content (M.pairs table.old) (K.data_of key) component) }
     ensures unchanged { OnErr result (M.pairs table.new ≡ M.pairs table.old) }
     ensures others { (q : KeyOf) → q ≢ K.data_of key → get (M.pairs table.new) q ≡ get (M.pairs table.old) q }
     ensures beside { IsBeside entities.now.content (M.pairs table.new) }
@@ -54,8 +54,8 @@ impl<K: Key, E: Drop, T: Tables<K>> World<K, E, T> {
 
     /// Gives an entity a component, and returns the one of this kind that it had.
     ///
-    /// If the call fails, the error holds the component, and the world has the same components. Constant
-    /// time, unless the table grows.
+    /// If the call fails, the error holds the component, and the world has the same components. Memory
+    /// can't run out where the entity has such a component already. Constant time, unless the table grows.
     ///
     /// ```
     /// let mut world: World<DefaultKey, u8, (SecondaryMap<DefaultKey, u32>, ())> = World::new(alloc)?;
@@ -74,7 +74,7 @@ impl<K: Key, E: Drop, T: Tables<K>> World<K, E, T> {
         ensures live { OnOk result (IsLive self.old.entities.content (K.data_of key)) }
 
         // Why the call failed, and what that leaves.
-        ensures err { IfErr result (RefusesAttach self.old.entities.content (K.data_of key) component) }
+        ensures err { IfErr result (RefusesAttach self.old.entities.content (C.Table.pairs (C.table self.old.tables)) (K.data_of key) component) }
         ensures unchanged { OnErr result (C.Table.pairs (C.table self.new.tables) ≡ C.Table.pairs (C.table self.old.tables)) }
 
         // All else is as before: the other components of this kind, and the other kinds.

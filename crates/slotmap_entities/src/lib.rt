@@ -34,7 +34,7 @@ ghost use Rattle.std.specs.Prelude.{◌≡◌, ◌≢◌, ◌+◌, ◌≤◌, �
 ghost use Rattle.std.specs.FinMap as map;
 ghost use Rattle.std.specs.Option.{option_copied_mut};
 ghost use Rattle.std.specs.Borrow.{sem};
-ghost use Rattle.slotmap.specs.Words.{Key as KeyOf, IsLive, IsNew, IsSpent, KeepsSpent, Leaves, Refuses, RefusesCapacity, MakesDenseRoom, used};
+ghost use Rattle.slotmap.specs.Words.{Key as KeyOf, Inserts, IsLive, IsNew, IsSpent, Keeps, KeepsSpent, Leaves, Refuses, RefusesCapacity, MakesDenseRoom, used};
 ghost use Rattle.slotmap.specs.Words.{Appends, ClosesGap, SameOrder, IsEmpty, IsListing, ListsPairs};
 
 mod components;
@@ -175,7 +175,7 @@ impl<K: Key, E: Drop, T: Tables<K>> World<K, E, T> {
         self.entities.contains_key(key)
     }
 
-    /// Adds an entity with no component, and returns its key.
+    /// Adds an entity with no component, and returns its key, which no entity had before.
     ///
     /// If the call fails, the error holds the value, and the world is unchanged.
     ///
@@ -187,15 +187,16 @@ impl<K: Key, E: Drop, T: Tables<K>> World<K, E, T> {
     /// ```
     pub fn spawn(&mut self, entity: E) -> Result<K, InsertError<E>>
         // A new entity, with no component.
-        ensures adds { IfOk result (λ key. self.new.entities.content.live ≡ map.insert self.old.entities.content.live (K.data_of key) entity) }
+        ensures adds { IfOk result (λ key. Inserts self.old.entities.content (K.data_of key) entity self.new.entities.content) }
         ensures fresh { IfOk result (λ key. map.get self.old.entities.content.live (K.data_of key) ≡ None) }
+        ensures unspent { IfOk result (λ key. IsSpent self.old.entities.content (K.data_of key) → ⊥) }
         ensures no_component { IfOk result (λ key. T.has self.new.tables (K.data_of key) ≡ false) }
         // It is the last in the packed order.
         ensures order { IfOk result (λ key. Appends self.old.entities (K.data_of key) entity self.new.entities) }
 
         // Why the call failed, and what that leaves.
         ensures err { IfErr result (Refuses self.old.entities.content entity) }
-        ensures unchanged { OnErr result (self.new.entities.content.live ≡ self.old.entities.content.live) }
+        ensures unchanged { OnErr result (Keeps self.old.entities.content self.new.entities.content) }
         ensures same_order { OnErr result (SameOrder self.old.entities self.new.entities) }
 
         // All else is as before.

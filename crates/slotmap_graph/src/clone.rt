@@ -9,7 +9,7 @@ use slotmap::Key;
 use std::alloc::AllocError;
 
 impl<E: Clone> Clone for Edge<E> {
-    ghost is_clone = { λ edge copy. (copy.from ≡ edge.from) × (copy.to ≡ edge.to) × E.is_clone edge.value copy.value };
+    ghost is_clone = { clones_edge E.is_clone };
 
     fn clone(&self) -> Result<Self, AllocError> {
         Ok(Edge {
