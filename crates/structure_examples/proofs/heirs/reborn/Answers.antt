@@ -1,8 +1,7 @@
-use Rattle.std.proofs.Common.{◌≡◌, Option, Some, None, Result, Ok, Err, IfOk, true, is_some, refl, sym, ap, subst, ◌∙◌}
+use Rattle.std.proofs.Common.{◌≡◌, Option, Some, None, Result, Ok, Err, IfOk, true, is_some, refl}
 use Rattle.std.specs.Option.{option_map}
-use Rattle.std.specs.FinMap as map
 use Rattle.slotmap.specs.Words.{IsSpent}
-use Rattle.slotmap.proofs.Callers.{get-insert_here, of_some, spent_finds_nothing}
+use Rattle.slotmap.proofs.Callers.{of_some, spent_finds_nothing}
 use Rattle.structure_examples.proofs.heirs.reborn.Goals as goal
 
 still : {A B : Type 0} (f : A → B) (o : Option A) → is_some o ≡ true → is_some (option_map f o) ≡ true
@@ -20,7 +19,5 @@ returns-clause-dead g c live =
 
 pub returns-clause-other : goal.returns-clause-other
 returns-clause-other g c live =
-    so _ _ c.spawn.result (λ new added is.
-    (let there = subst (λ q. map.get (map.insert c.despawn.new.self.entities.content.live new c.args.entity) q ≡ Some c.args.entity) is (get-insert_here _ new c.args.entity) in
-    let none = returns-clause-dead g c live in
-    let h = sym none ∙ (ap (λ m. map.get m c.args.key) added ∙ there) in absurd (cc))) c.spawn.ensures.adds
+    let spent = of_some (IsSpent c.despawn.new.self.entities.content c.args.key) c.despawn.result (rw c.despawn.ensures.value (still _ _ live)) c.despawn.ensures.for_good in
+    so _ _ c.spawn.result (λ new unspent is. unspent (rw is spent)) c.spawn.ensures.unspent
