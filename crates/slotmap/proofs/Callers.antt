@@ -7,7 +7,7 @@ pub use Rattle.slotmap_core.proofs.ForCallers.Callers.{get-insert_here, get-inse
 pub use Rattle.slotmap_core.proofs.SecondaryMaps.KeyedLemmas.{get-keyed}
 pub use Rattle.slotmap_core.proofs.General.KeyLemmas.{keys_total, exact_keys, tied, untied, itself, alike_or_apart, same_or_other}
 pub use Rattle.slotmap_core.proofs.General.Maps.{item_inserted, get_after_insert, get_after_remove, still_in, left_in, len_removed, some_entry, none_of, false_of}
-pub use Rattle.slotmap_core.proofs.Several.RetainLemmas.{retained_as, retained_counted, retained_unwritten}
+pub use Rattle.slotmap_core.proofs.Several.RetainLemmas.{retained_as, retained_none, retained_counted, retained_unwritten}
 pub use Rattle.slotmap_core.proofs.ForCallers.RetainCallers.{retained_but}
 pub use Rattle.slotmap_core.proofs.Several.VisitLemmas.{callable_by, callable_on_each}
 pub use Rattle.slotmap_core.proofs.ForCallers.SpentLemmas.{spent_stale, spent_finds_nothing, spent_not_detached, live_not_spent}
@@ -25,6 +25,8 @@ pub use Rattle.slotmap.proofs.MapSpent.{spent_insert-dense, insert_not_spent-den
 pub use Rattle.slotmap.proofs.MapSpent.{spent_insert-hop, insert_not_spent-hop, spent_remove-hop, live_remove_spent-hop, remove_spent-hop}
 -- a content without its values
 pub use Rattle.slotmap.proofs.KeysAlone.{contains-keys_of, len-keys_of, spent_alone, alone_spent, keeps_spent_alone}
+-- a structure over a map that lends a value
+pub use Rattle.slotmap.proofs.Loans.{same_lent, same_unlent}
 pub use Rattle.slotmap_core.proofs.ForCallers.Walks.{Walks, walk_start, walk_here, walk_next, walk_step, walk_end, none_found}
 -- the replies of runs, by their positions
 pub use Rattle.slotmap_core.proofs.ForCallers.RunCallers.{as_many, Begins, begins, keys_differ, removed_finds_nothing, reserved_not_refused}

@@ -23,7 +23,3 @@ module _ {E : Type 0} (c : Content E) (has : Key → Bool) (only : OnlyLive c ha
     | inl e ↦ absurd (let t = rw e at there in cc)
     | inr other ↦ live-remove_other c.live k q other (only q (rw (others q other) at there))
   ])
-
--- a reference that is lent gives the same world back
-pub same_lent : {N A B : Type 0} (n : N) (f g : A → B) → ((w : A) → f w ≡ g w) → ◌≡◌ {A = (N × (A → B)) ⊎ B} (inl (n, f)) (inl (n, g))
-same_lent n f g same = λ i. inl (n, λ w. same w i)

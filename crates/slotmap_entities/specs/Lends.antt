@@ -1,28 +1,12 @@
 -- What a world is once a returned `&mut` into it ends.
-use Rattle.std.specs.Prelude.{Option, List, ℕ, Bool}
-use Rattle.std.specs.declared.cmp.Ordering.{Ordering}
+use Rattle.std.specs.Prelude.{Option}
 use Rattle.std.specs.Borrow.{LendsIf, Fml, RattleType, MutBor}
-use Rattle.slotmap.specs.Words.{Key, with_value_of}
+use Rattle.slotmap.specs.Words.{Key, KeyMembers, with_value_of}
 use Rattle.slotmap_entities.specs.World.{World}
 use Rattle.slotmap_entities.specs.declared.tables.Tables.{Ghosts}
 use Rattle.slotmap_entities.specs.contracts.World.{the_row}
 
--- the members of a key type, which a clause writes as K.Key
-abbrev pub MembersOfKey : Type 0 → Type 1
-MembersOfKey K =
-    record {
-      debug_output : K → Option (List ℕ);
-      hash_input : K → List (List ℕ);
-      partial_cmp : K → K → Option Ordering;
-      cmp : K → K → Ordering;
-      eq : K → K → Bool;
-      is_default : K → Type 0;
-      from_gives : Key → K → Type 0;
-      data_of : K → Key;
-      of_data : Key → K;
-    }
-
-module _ (K E T P : RattleType) (key : MembersOfKey K.Denot) (tables : Ghosts T.Denot K.Denot P.Denot) where
+module _ (K E T P : RattleType) (key : KeyMembers K.Denot) (tables : Ghosts T.Denot K.Denot P.Denot) where
   -- the type of the world in the logic
   abbrev pub world_row : RattleType
   world_row =

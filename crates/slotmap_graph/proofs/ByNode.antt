@@ -49,7 +49,3 @@ by_node_written {N} nodes lists k v live = map.same_map keys_total exact_keys _ 
 pub same_edges : {N M Z : Type 0} (nodes : Content N) (new : Content M) (lists lists' : Pairs (Vec Key Z)) → IsBeside nodes lists → IsBeside new lists'
     → ((k : Key) → listed lists' k ≡ listed lists k) → SameEdges (by_node nodes lists) (by_node new lists')
 same_edges nodes new lists lists' beside beside' same k = at_node new lists' beside' k ∙ same k ∙ sym (at_node nodes lists beside k)
-
--- a reference that is lent gives the same graph back
-pub same_lent : {N A B : Type 0} (n : N) (f g : A → B) → ((w : A) → f w ≡ g w) → ◌≡◌ {A = (N × (A → B)) ⊎ B} (inl (n, f)) (inl (n, g))
-same_lent n f g same = λ i. inl (n, λ w. same w i)

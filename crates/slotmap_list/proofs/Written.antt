@@ -12,13 +12,6 @@ use Rattle.slotmap_list.proofs.NodeLists.{len_written}
 use Rattle.slotmap_list.proofs.Chains.{chain_is}
 use Rattle.slotmap_keylist.proofs.Alone.{alone-written}
 
--- what is lent ends as the same
-pub same_lent : {N A B : Type 0} (n : N) (f g : A → B) → ((w : A) → f w ≡ g w) → ◌≡◌ {A = (N × (A → B)) ⊎ B} (inl (n, f)) (inl (n, g))
-same_lent n f g same = λ i. inl (n, λ w. same w i)
-
-pub same_unlent : {N B : Type 0} (a b : B) → a ≡ b → ◌≡◌ {A = N ⊎ B} (inr a) (inr b)
-same_unlent a b same = λ i. inr (same i)
-
 module _ {T : Type 0} (k : Key) (v : T) where
   -- the same cursors stand in the same places
   first_or-written : (xs : List (Key × T)) (o : Option Key) → first_or (with_value_at k v xs) o ≡ first_or xs o

@@ -388,7 +388,3 @@ module _ {T : Type 0} (is_clone : T → T → Type 0) where
       linked None p is = (ap parent_in is, ap children_in is)
       linked (Some n) None is = absurd is
       linked (Some n) (Some m) is = (is.1, is.2)
-
--- a reference that is lent gives the same scene back
-pub same_lent : {N A B : Type 0} (n : N) (f g : A → B) → ((w : A) → f w ≡ g w) → ◌≡◌ {A = (N × (A → B)) ⊎ B} (inl (n, f)) (inl (n, g))
-same_lent n f g same = λ i. inl (n, λ w. same w i)

@@ -117,9 +117,3 @@ module _ {A Z : Type 0} (jobs : Content (Job A)) (count : ℕ) (heap : Vec Entry
   written_seen =
       let handles = handles_written jobs (with_value jobs k (record j { job = w })) heap heap k j (record j { job = w }) found (resettled_same _) refl refl in
       λ i. record { waiting = written_waits jobs.live is.turns k j found w i; handles = handles i; turns = count }
-
-pub same_lent : {N A B : Type 0} (n : N) (f g : A → B) → ((w : A) → f w ≡ g w) → ◌≡◌ {A = (N × (A → B)) ⊎ B} (inl (n, f)) (inl (n, g))
-same_lent n f g same = λ i. inl (n, λ w. same w i)
-
-pub same_unlent : {N B : Type 0} (a b : B) → a ≡ b → ◌≡◌ {A = N ⊎ B} (inr a) (inr b)
-same_unlent a b same = λ i. inr (same i)

@@ -1,8 +1,9 @@
 use Rattle.std.proofs.Common.{is_some, sym, ap, ◌∙◌}
 use Rattle.slotmap.specs.Words.{IsLive, with_value}
+use Rattle.slotmap.proofs.Callers.{same_lent}
 use Rattle.slotmap_graph.specs.Parts.{Seen}
 use Rattle.slotmap_graph.proofs.GraphSteps.{node_written}
-use Rattle.slotmap_graph.proofs.ByNode.{by_node_written, same_lent}
+use Rattle.slotmap_graph.proofs.ByNode.{by_node_written}
 use Rattle.slotmap_graph.proofs.Graph.node_mut.Goals as goal
 
 pub invariant_of-self-lent : goal.invariant_of-self-lent

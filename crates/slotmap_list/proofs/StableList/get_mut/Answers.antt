@@ -1,9 +1,10 @@
 use Rattle.std.proofs.Common.{sym, ap, ◌∙◌}
 use Rattle.std.specs.Option.{option_map}
+use Rattle.slotmap.proofs.Callers.{same_lent, same_unlent}
 use Rattle.slotmap_list.specs.Sequence.{Sequence, value_of, with_value_at}
 use Rattle.slotmap_list.proofs.NodeLists.{elements_are}
 use Rattle.slotmap_list.proofs.Chains.{value_found, self_chain}
-use Rattle.slotmap_list.proofs.Written.{chain_written, seen_written, same_lent, same_unlent}
+use Rattle.slotmap_list.proofs.Written.{chain_written, seen_written}
 use Rattle.slotmap_list.proofs.StableList.get_mut.Goals as goal
 
 pub invariant_of-self-lent : goal.invariant_of-self-lent

@@ -1,8 +1,9 @@
 use Rattle.std.proofs.Common.{option_map, sym, ap, ◌∙◌}
 use Rattle.slotmap.specs.Words.{Content}
+use Rattle.slotmap.proofs.Callers.{same_lent}
 use Rattle.slotmap_scene.specs.declared.Node.{Node}
 use Rattle.slotmap_scene.specs.Family.{with_value, with_value_in}
-use Rattle.slotmap_scene.proofs.Families.{scene_valued, same_lent}
+use Rattle.slotmap_scene.proofs.Families.{scene_valued}
 use Rattle.slotmap_scene.proofs.Scene.get_mut.Goals as goal
 
 pub invariant_of-self-lent : goal.invariant_of-self-lent

@@ -1,10 +1,11 @@
 use Rattle.std.proofs.Common.{◌≡◌, sym, ap, ◌∙◌}
 use Rattle.std.specs.Option.{option_map}
 use Rattle.std.specs.FinMap as map
+use Rattle.slotmap.proofs.Callers.{same_lent, same_unlent}
 use Rattle.slotmap_scheduler.specs.declared.Job.{Job}
 use Rattle.slotmap_scheduler.specs.Schedule.{Schedule, with_job}
 use Rattle.slotmap_scheduler.proofs.Seen.{job_is}
-use Rattle.slotmap_scheduler.proofs.HeapWritten.{written_schedule, written_seen, same_lent, same_unlent}
+use Rattle.slotmap_scheduler.proofs.HeapWritten.{written_schedule, written_seen}
 use Rattle.slotmap_scheduler.proofs.Scheduler.get_mut.Goals as goal
 
 pub invariant_of-self-lent : goal.invariant_of-self-lent
