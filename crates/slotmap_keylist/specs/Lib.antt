@@ -1,1 +1,2 @@
 pub mod KeyLists
+pub mod Linked

@@ -1,4 +1,5 @@
-//! What structures over the maps share: lists of keys, and keys of one type inside of them.
+//! What structures over the maps share: lists of keys, lists that are kept as links, and keys of one
+//! type inside of them.
 //!
 //! A structure with keys of any type `K` keeps those of the default type, and changes them by [`inner`]
 //! and [`outer`] where its calls take and return them. The words of lists of keys, with lemmas about
@@ -9,6 +10,21 @@ ghost use Rattle.std.specs.Prelude.{◌≡◌, ◌≤◌, not};
 ghost use Rattle.std.specs.List.{count_by, filter};
 
 use slotmap::{DefaultKey, Key};
+
+/// The two ends of a list of keys that is kept as links, and how many keys it has.
+#[derive(Clone, Copy, Debug, Drop)]
+pub struct Ends<K> {
+    pub first: Option<K>,
+    pub last: Option<K>,
+    pub len: usize,
+}
+
+/// The neighbours of a key in a list that is kept as links.
+#[derive(Clone, Copy, Debug, Drop)]
+pub struct Link<K> {
+    pub prev: Option<K>,
+    pub next: Option<K>,
+}
 
 /// Takes an item out of a list in which it appears at most once. Those behind it move up.
 ///
