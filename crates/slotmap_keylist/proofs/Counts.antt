@@ -4,8 +4,9 @@ use Rattle.std.specs.List.{filter}
 use Rattle.std.proofs.Math.ListN.{drop_of_length-le}
 use Rattle.std.proofs.lemmas.List.Elements.{filter-append}
 use Rattle.std.proofs.lemmas.List.Sums.{sum_by-cons, sum_by_push, sum_by-append, sum_by-take-drop}
-use Rattle.slotmap.specs.Words.{Key, same_keys}
-use Rattle.slotmap.proofs.Callers.{same_or_other}
+use Rattle.std.specs.FinMap as map
+use Rattle.slotmap.specs.Words.{Key, key_cmp, same_keys}
+use Rattle.slotmap.proofs.Callers.{same_or_other, keys_total, exact_keys, left_in, len_removed}
 use Rattle.slotmap_keylist.specs.KeyLists.{is_key, same, times, without}
 
 pub is_itself : (k : Key) → is_key k k ≡ true
@@ -104,3 +105,16 @@ times_there ks i k below is =
 
 pub without_pushed : (k y : Key) (ks : List Key) → y ≢ k → without k (ks ++ y ∷ []) ≡ without k ks ++ y ∷ []
 without_pushed k y ks other = filter-append (λ q. not (is_key q k)) ks (y ∷ []) ∙ ap (λ b. without k ks ++ cond (not b) (y ∷ []) []) (is_other y k other)
+
+-- keys with no two alike, each of them in a map, are no more than the map has
+pub no_more_than : {V : Type 0} (ks : List Key) (m : map.FinMap key_cmp V) → ((k : Key) → times k ks ≤ 1) → ((k : Key) → 0 < times k ks → map.contains_key m k ≡ true) → length ks ≤ map.len m
+no_more_than [] m once there = omega arith
+no_more_than (k ∷ ks) m once there =
+    let first = times_first k k ks in
+    let one = one_itself k in
+    let here = there k (omega arith) in
+    let rest = no_more_than ks (map.remove m k) (λ x. let f = times_first x k ks in let o = once x in omega arith) (λ x more.
+    let f = times_first x k ks in
+    left_in keys_total exact_keys m k x (λ is. let twice = rw is at more in let o = once k in omega arith) (there x (omega arith))) in
+    let all = len_removed keys_total exact_keys m k here in
+    omega arith

@@ -1,3 +1,4 @@
 pub mod Alone
 pub mod Counts
+pub mod Linking
 pub mod Searched

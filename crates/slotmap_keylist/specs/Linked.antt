@@ -1,5 +1,5 @@
 -- Lists of keys that are kept as links: each owner has the ends of its list, and each key in a list its two neighbours.
-use Rattle.std.specs.Prelude.{◌≡◌, ◌<◌, ◌≤◌, ℕ, zero, suc, Option, Some, None, List, [], ◌∷◌, ◌++◌, length}
+use Rattle.std.specs.Prelude.{◌≡◌, ◌≢◌, ◌<◌, ◌≤◌, ℕ, zero, suc, Option, Some, None, List, [], ◌∷◌, ◌++◌, length}
 use Rattle.slotmap.specs.Words.{Key}
 use Rattle.slotmap_keylist.specs.KeyLists.{times}
 use Rattle.slotmap_keylist.specs.declared.Ends.{Ends}
@@ -42,3 +42,17 @@ pub record IsLinked (ends : Key → Ends Key) (link : Key → Link Key) (lists :
 pub record AreApart (lists : Key → List Key) : Type 0 where
   pub once : (p k : Key) → times k (lists p) ≤ 1
   pub alone : (p q k : Key) → 0 < times k (lists p) → 0 < times k (lists q) → p ≡ q
+
+-- the last key of `before` leads on to this one now, the first key of `after` leads back to that one, and all links but these and that of k
+-- are the same
+pub record Relinks (old new : Key → Link Key) (k : Key) (before after : List Key) (on back : Option Key) : Type 0 where
+  pub prev : (l : Key) → last_or before None ≡ Some l → new l ≡ record (old l) { next = on }
+  pub next : (f : Key) → first_or after None ≡ Some f → new f ≡ record (old f) { prev = back }
+  pub others : (x : Key) → x ≢ k → last_or before None ≢ Some x → first_or after None ≢ Some x → new x ≡ old x
+
+-- this list is the one of p now, with its ends, and all other owners have theirs as before
+pub record IsListed (old new : Key → List Key) (old_ends new_ends : Key → Ends Key) (p : Key) (ks : List Key) : Type 0 where
+  pub list : new p ≡ ks
+  pub ends : new_ends p ≡ ends_of ks
+  pub others : (q : Key) → q ≢ p → new q ≡ old q
+  pub other_ends : (q : Key) → q ≢ p → new_ends q ≡ old_ends q
