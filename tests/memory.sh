@@ -1,7 +1,7 @@
 #!/usr/bin/env bash
 # tests/memory.sh [PROGRAM ..]
 #
-# Runs the programs primary_rows, secondary_rows, joined_rows and slotrun with refused memory, or those that are named. Each program
+# Runs the programs primary_rows, secondary_rows, joined_rows, slotrun and slotdemo with refused memory, or those that are named. Each program
 # runs once for each of its requests for memory, with this request refused alone, and once with all from it on refused.
 #
 # - A row program with one refused request prints what it prints without, and ends with status 0: the refused call left
@@ -10,6 +10,7 @@
 #   it ends with 0, 1 or 3, and each difference that it prints says `out of memory`.
 # - `slotrun` prints what it prints without, up to a line that says `memory`, or `no script` at the end. Where one request
 #   was refused, the other lines are then those of the script without the refused line.
+# - `slotdemo`, whose five structures do without a second try, prints what it prints without, or stops on the way with status 1.
 #
 # Row files with a call that is repeated over 1,000 times are left out, and the hundred lists, which ask for memory as often. So
 # are the random rows of secondary_rows, which count drops after an `extend`: it keeps the pairs before the fault, and is called
@@ -100,6 +101,17 @@ check_slotrun() {
     cmp -s "$1.rest" "$1.expected" || fault "line $line was refused and changed something" "$1.rest" "$1.expected"
 }
 export -f check_slotrun
+
+# check_demo OUT: what slotdemo printed.
+check_demo() {
+    local text seen
+    read_text "$1"
+    seen=$text
+    read_text "$case/full"
+    [ "$status" = 0 ] && [ "$seen" = "$text" ] && return
+    [[ $status = 1 && $text = "$seen"* ]] || fault "it has to print the same, or to stop on the way with status 1" "$1" "$case/full"
+}
+export -f check_demo
 
 # enter_case CASE: what runs, and where.
 enter_case() {
@@ -232,7 +244,7 @@ try_slotrun() {
     done
 }
 
-[ $# -gt 0 ] || set -- primary_rows secondary_rows joined_rows slotrun
+[ $# -gt 0 ] || set -- primary_rows secondary_rows joined_rows slotrun slotdemo
 for program in "$@"; do
     if [ ! -x "$top/crates/$program/out/$program" ]; then
         echo "memory.sh: crates/$program/out/$program isn't built: run \`rt run\` in crates/$program first" >&2
@@ -248,6 +260,7 @@ cases=0
 for program in "$@"; do
     case $program in
         slotrun) try_slotrun ;;
+        slotdemo) try_case check_demo "$top" "$top/crates/slotdemo/out/slotdemo" "" /dev/null 0 ;;
         *)
             check_rooms "$program"
             try_rows "$program"

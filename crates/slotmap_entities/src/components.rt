@@ -3,7 +3,7 @@
 ghost use Rattle.std.specs.Prelude.{◌≡◌, ◌≢◌, IfOk, OnOk, IfErr, OnErr, IsSome, Some, None, option_copied};
 ghost use Rattle.std.specs.Option.{option_copied_mut};
 ghost use Rattle.std.specs.Borrow.{sem};
-ghost use Rattle.slotmap.specs.Words.{Key as KeyOf, IsBeside, IsLive, get, contains_key};
+ghost use Rattle.slotmap.specs.Words.{Key as KeyOf, IsBeside, IsLive, get, contains_key, keyed, RetainsBy, CallableOnEach};
 ghost use Rattle.slotmap_entities.specs.World.{OnlyLive, RefusesAttach};
 
 use crate::{Kind, Table, Tables, World};
@@ -163,5 +163,36 @@ impl<K: Key, E: Drop, T: Tables<K>> World<K, E, T> {
             Some(component) => Some(component),
             None => None,
         }
+    }
+
+    /// Calls `f` once for each component of a kind, which it may change, and takes the component off the
+    /// entity where it returns false.
+    ///
+    /// The caller has to prove that `f` may be called for each component of the kind, and for no other. The
+    /// components come in the order of their table, by ascending index in a `SecondaryMap`. It takes time
+    /// linear in the size of the table, and allocates nothing.
+    ///
+    /// ```
+    /// let mut world: World<DefaultKey, u8, (SecondaryMap<DefaultKey, u32>, ())> = World::new(alloc)?;
+    /// let hero = world.spawn(1)?;
+    /// world.attach::<First>(hero, 7)?;
+    /// world.retain_components::<First, _>(|_, component| {
+    ///     *component *= 2;
+    ///     true
+    /// });
+    /// assert_eq!(rt; world.component::<First>(hero), Some(&14));
+    /// ```
+    pub fn retain_components<C: Kind<K, T>, F: FnMut(K, &mut ComponentOf<K, T, C>) -> bool>(
+        &mut self,
+        f: F,
+    )
+    where
+        F: Drop,
+        requires { CallableOnEach F.FnMut K.data_of f (keyed (C.Table.pairs (C.table self.old.tables))) }
+        ensures retained { RetainsBy F.FnMut K.data_of f (keyed (C.Table.pairs (C.table self.old.tables))) (keyed (C.Table.pairs (C.table self.new.tables))) }
+        ensures kinds { self.new.tables ≡ C.with_table self.old.tables (C.table self.new.tables) }
+        ensures entities { self.new.entities ≡ self.old.entities }
+    {
+        C::table_mut(&mut self.tables).retain(f);
     }
 }

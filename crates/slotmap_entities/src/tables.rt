@@ -4,7 +4,7 @@ ghost use Rattle.std.specs.FinMap as map;
 ghost use Rattle.std.specs.Prelude.{◌≡◌, ◌≢◌, ◌||◌, Bool, true, false, refl, IfOk, OnOk, IfErr, OnErr, option_copied};
 ghost use Rattle.std.specs.Option.{option_copied_mut};
 ghost use Rattle.std.specs.Borrow.{sem, LendsIf};
-ghost use Rattle.slotmap.specs.Words.{Key as KeyOf, Pairs, get, contains_key, put, bind, remove, RefusesPut, side_with_value, sparse_with_value};
+ghost use Rattle.slotmap.specs.Words.{Key as KeyOf, Pairs, get, contains_key, put, bind, remove, RefusesPut, keyed, RetainsBy, CallableOnEach, side_with_value, sparse_with_value};
 
 use slotmap::{Key, PutError, ReserveError, SecondaryMap, SparseSecondaryMap};
 use std::alloc::Global;
@@ -59,6 +59,14 @@ pub trait Table<K: Key>: Drop {
         ensures value { result ≡ get (pairs self.old) (K.data_of key) }
         ensures removes { pairs self.new ≡ remove (pairs self.old) (K.data_of key) };
 
+    /// Calls `f` once for each component, which it may change, and removes those for which it returns
+    /// false.
+    fn retain<F: FnMut(K, &mut Self::Component) -> bool>(&mut self, f: F)
+    where
+        F: Drop,
+        requires { CallableOnEach F.FnMut K.data_of f (keyed (pairs self.old)) }
+        ensures { RetainsBy F.FnMut K.data_of f (keyed (pairs self.old)) (keyed (pairs self.new)) };
+
     /// Removes all components.
     fn clear(&mut self)
         ensures { pairs self.new ≡ map.empty };
@@ -97,6 +105,13 @@ impl<K: Key, C: Drop> Table<K> for SecondaryMap<K, C> {
         SecondaryMap::remove(self, key)
     }
 
+    fn retain<F: FnMut(K, &mut C) -> bool>(&mut self, f: F)
+    where
+        F: Drop,
+    {
+        SecondaryMap::retain(self, f);
+    }
+
     fn clear(&mut self) {
         SecondaryMap::clear(self);
     }
@@ -133,6 +148,13 @@ impl<K: Key, C: Drop> Table<K> for SparseSecondaryMap<K, C> {
 
     fn remove(&mut self, key: K) -> Option<C> {
         SparseSecondaryMap::remove(self, key)
+    }
+
+    fn retain<F: FnMut(K, &mut C) -> bool>(&mut self, f: F)
+    where
+        F: Drop,
+    {
+        SparseSecondaryMap::retain(self, f);
     }
 
     fn clear(&mut self) {

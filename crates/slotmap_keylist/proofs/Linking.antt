@@ -1,5 +1,5 @@
 -- Lists that are kept as links: a walk along them, and what a key that is put in or taken out does to them. For the structures.
-use Rattle.std.proofs.Common.{◌≡◌, ◌≢◌, ◌⊎◌, ℕ, ◌+◌, ◌<◌, ◌≤◌, Option, Some, None, List, [], ◌∷◌, ◌++◌, length, cond, not, true, refl, sym, ap, subst, ◌∙◌, inl, inr, arith, append_assoc, append-nil}
+use Rattle.std.proofs.Common.{◌≡◌, ◌≢◌, ◌⊎◌, ◌+◌, ◌<◌, ◌≤◌, Option, Some, None, List, [], ◌∷◌, ◌++◌, length, cond, not, refl, sym, ap, ◌∙◌, inl, inr, arith, append_assoc, append-nil}
 use Rattle.std.proofs.Math.Nat.{eq-zero-or-pos}
 use Rattle.std.proofs.lemmas.List.Elements.{filter-append}
 use Rattle.std.proofs.lemmas.Option.{same_Some}
@@ -56,11 +56,11 @@ split_at k [] more = absurd (omega arith)
 split_at k (q ∷ ks) more = elim (same_or_other q k) [
   | inl here ↦ ([], ks, ap (λ x. x ∷ ks) here)
   | inr other ↦ (
-    let first = times_first k q ks in
-    let none = one_other q k other in
-    let later = split_at k ks (omega arith) in
-    (q ∷ later.0, later.1, ap (λ l. q ∷ l) later.2)
-  )
+      let first = times_first k q ks in
+      let none = one_other q k other in
+      let later = split_at k ks (omega arith) in
+      (q ∷ later.0, later.1, ap (λ l. q ∷ l) later.2)
+      )
 ]
 
 -- and between no others, where it is there once
@@ -202,12 +202,12 @@ module _ {ends : Key → Ends Key} {link : Key → Link Key} {lists : Key → Li
   linked_put apart p k before after is none {link'} own relinks listed =
       let sum = sym (ap (times k) is ∙ times_joined k before after) ∙ none p in
       linked_now apart p k before [] after is (omega arith) (omega arith) (λ q _. none q) (k ∷ []) link' relinks (alone_between own) listed where
-    alone_between : link' k ≡ link_between before after → (b : List Key) (x : Key) (a : List Key) → k ∷ [] ≡ b ++ x ∷ a → link' x ≡ link_between (before ++ b) (a ++ after)
-    alone_between own [] x a at =
-        let key : x ≡ k = (cc) in
-        let rest : a ≡ [] = (cc) in
-        ap link' key ∙ own ∙ ap (λ b. link_between b after) (sym (append-nil before)) ∙ ap (λ l. link_between (before ++ []) (l ++ after)) (sym rest)
-    alone_between own (q ∷ b) x a at = absurd (cons_not_nil b x a (cc))
+        alone_between : link' k ≡ link_between before after → (b : List Key) (x : Key) (a : List Key) → k ∷ [] ≡ b ++ x ∷ a → link' x ≡ link_between (before ++ b) (a ++ after)
+        alone_between own [] x a at =
+            let key : x ≡ k = (cc) in
+            let rest : a ≡ [] = (cc) in
+            ap link' key ∙ own ∙ ap (λ b. link_between b after) (sym (append-nil before)) ∙ ap (λ l. link_between (before ++ []) (l ++ after)) (sym rest)
+        alone_between own (q ∷ b) x a at = absurd (cons_not_nil b x a (cc))
 
   -- a key is taken out of a list
   pub linked_taken : AreApart lists → (p k : Key) (before after : List Key) → lists p ≡ before ++ k ∷ after → {link' : Key → Link Key}

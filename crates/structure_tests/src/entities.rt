@@ -40,6 +40,19 @@ fn writes(rt: HostRuntime) -> Result<(), Fail> {
 }
 
 #[test]
+fn retains(rt: HostRuntime) -> Result<(), Fail> {
+    let (mut world, a) = one(rt.alloc())?;
+    world.retain_components::<Second, _>(|_, component| {
+        *component += 1;
+        true
+    });
+    assert_eq!(rt; world.component::<Second>(a), Some(&6));
+    world.retain_components::<First, _>(|_, _| false);
+    assert!(rt; !world.has::<First>(a));
+    Ok(())
+}
+
+#[test]
 fn removals(rt: HostRuntime) -> Result<(), Fail> {
     let (mut world, a) = one(rt.alloc())?;
     assert_eq!(rt; world.despawn(a), Some((1, (Some(10), (Some(5), ())))));
