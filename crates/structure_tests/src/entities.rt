@@ -43,7 +43,7 @@ fn writes(rt: HostRuntime) -> Result<(), Fail> {
 fn retains(rt: HostRuntime) -> Result<(), Fail> {
     let (mut world, a) = one(rt.alloc())?;
     world.retain_components::<Second, _>(|_, component| {
-        *component += 1;
+        *component = 6;
         true
     });
     assert_eq!(rt; world.component::<Second>(a), Some(&6));
