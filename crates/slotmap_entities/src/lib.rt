@@ -30,7 +30,7 @@
 //! ```
 #![tactic(auto, using(slotmap::proofs::Callers::keys))]
 
-ghost use Rattle.std.specs.Prelude.{◌≡◌, ◌≢◌, ◌+◌, ◌≤◌, ◌↔◌, Some, None, IfOk, IsOk, OnErr, IfErr, IfSome, IfNone, IsTrue, OnSome, true, false, zip, option_copied, option_map};
+ghost use Rattle.std.specs.Prelude.{◌≡◌, ◌≢◌, ◌+◌, ◌≤◌, ◌↔◌, Some, None, IfOk, IsOk, OnErr, IfErr, IfSome, IfNone, IsTrue, true, false, zip, option_copied, option_map};
 ghost use Rattle.std.specs.FinMap as map;
 ghost use Rattle.std.specs.Option.{option_copied_mut};
 ghost use Rattle.std.specs.Borrow.{sem};
@@ -221,7 +221,7 @@ impl<K: Key, E: Drop, T: Tables<K>> World<K, E, T> {
         ensures value { result ≡ option_map (λ value. (value, T.parts self.old.tables (K.data_of key))) (map.get self.old.entities.content.live (K.data_of key)) }
         ensures removed { self.new.entities.content.live ≡ map.remove self.old.entities.content.live (K.data_of key) }
         ensures no_component { T.has self.new.tables (K.data_of key) ≡ false }
-        ensures for_good { OnSome result (IsSpent self.new.entities.content (K.data_of key)) }
+        ensures for_good { IsLive self.old.entities.content (K.data_of key) → IsSpent self.new.entities.content (K.data_of key) }
         // The last entity takes its position in the packed order.
         ensures order { IfSome result (λ removed. ClosesGap self.old.entities (K.data_of key) removed.0 self.new.entities) }
 

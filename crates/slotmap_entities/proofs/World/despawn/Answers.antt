@@ -9,7 +9,7 @@ invariant_of-self-2 g c =
     c.remove.ensures.live c.remove-2.ensures.gone (λ q other. (c.remove-2.ensures.others q other).0)
 
 pub returns-clause-for_good : goal.returns-clause-for_good
-returns-clause-for_good g c = rw c.in_ok-value.was at (remove_spent-dense _ _ _ _ c.remove.ensures.valid c.remove.ensures.value c.remove.ensures.removes)
+returns-clause-for_good g c live = rw c.in_ok-value.was at (remove_spent-dense _ _ _ _ c.remove.ensures.valid c.remove.ensures.value c.remove.ensures.removes)
 
 pub returns-clause-leaves : goal.returns-clause-leaves
 returns-clause-leaves g c = rw (← c.self.view_is)
