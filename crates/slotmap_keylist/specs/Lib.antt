@@ -1,2 +1,3 @@
 pub mod KeyLists
+pub mod KeyOrNull
 pub mod Linked

@@ -9,7 +9,10 @@
 ghost use Rattle.std.specs.Prelude.{◌≡◌, ◌≤◌, not};
 ghost use Rattle.std.specs.List.{count_by, filter};
 
+pub use key_or_null::KeyOrNull;
 use slotmap::{DefaultKey, Key};
+
+mod key_or_null;
 
 /// The two ends of a list of keys that is kept as links, and how many keys it has.
 #[derive(Clone, Copy, Debug, Drop)]
