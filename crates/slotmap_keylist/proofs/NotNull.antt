@@ -1,5 +1,5 @@
 -- The keys of a map aren't null.
-use Rattle.std.proofs.Common.{◌≡◌, ◌≢◌, Bool, true, inl, ap, arith}
+use Rattle.std.proofs.Common.{◌≢◌, Bool, true, inl, ap, arith}
 use Rattle.slotmap.specs.Words.{Key, Content, IsContent, IsLive, null_key}
 
 pub live_not_null : {V : Type 0} (reuses : Bool) (c : Content V) → IsContent reuses c → (k : Key) → IsLive c k → k ≢ null_key

@@ -1,6 +1,6 @@
-use Rattle.std.proofs.Common.{◌≡◌, ◌≢◌, true, false, Some, None, cond, sym, ap, ◌∙◌}
+use Rattle.std.proofs.Common.{◌≡◌, ◌≢◌, true, Some, None, cond, sym, ap, ◌∙◌}
 use Rattle.slotmap.specs.Words.{null_key}
-use Rattle.slotmap_keylist.proofs.Counts.{is_itself, is_other}
+use Rattle.slotmap_keylist.proofs.Counts.{is_other}
 use Rattle.slotmap_keylist.proofs.key_or_null.KeyOrNull.get.Goals as goal
 
 pub returns-clause-value : goal.returns-clause-value
