@@ -77,11 +77,7 @@ module _ {V : Type 0} (slots : List (Slot V)) where
 -- a vacant slot is left at the end of its block
 hop_to_back : {V : Type 0} (place : ℕ) (s : Slot V) → is_vacant (links_in s) ≡ true → NamesApart place (links_in s) → place ≤ end_in place (links_in s)
     → hop_in place s ≡ end_in place (links_in s)
-hop_to_back place (Occupied version value) vacant apart ordered = absurd (cc)
-hop_to_back place (Single version next prev) vacant apart ordered = refl
-hop_to_back place (Front version next back) vacant apart ordered = refl
-hop_to_back place (Back version front prev) vacant apart ordered = absurd (omega arith)
-hop_to_back place (Retired version unused nowhere) vacant apart ordered = absurd (cc)
+hop_to_back place s vacant apart ordered = grind arith
 
 pub none_here : {V : Type 0} (s : Slot V) → is_some (value_in s) ≡ false → value_in s ≡ None
 none_here s is = grind arith

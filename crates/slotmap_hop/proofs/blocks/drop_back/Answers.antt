@@ -10,8 +10,8 @@ next_of-next-requires g c = front_leads c.requires.sound c.requires.first c.requ
 pub next_of-next-requires-then-front-back-2 : goal.next_of-next-requires-then-front-back-2
 next_of-next-requires-then-front-back-2 g c = front_leads c.requires.sound c.requires.first c.requires.read c.requires.positive
 
-pub join_blocks-requires-clause-after : goal.join_blocks-requires-clause-after
-join_blocks-requires-clause-after g c = next_head c.requires.sound c.requires.first c.requires.read c.requires.positive c.next_of-next.ensures
+pub relink-requires-clause-after : goal.relink-requires-clause-after
+relink-requires-clause-after g c = next_head c.requires.sound c.requires.first c.requires.read c.requires.positive c.next_of-next.ensures
 
 pub set_links-requires : goal.set_links-requires
 set_links-requires g c = front_vacant c.requires.sound c.requires.first c.requires.read c.requires.positive
@@ -28,8 +28,8 @@ name_front-requires g c =
 
 pub returns-then-front-back-clause-blocks : goal.returns-then-front-back-clause-blocks
 returns-then-front-back-clause-blocks g c =
-    lost_front c.requires.sound c.requires.first c.requires.read c.requires.positive (all_links c.join_blocks.new.slots) c.if-front-back.true c.next_of-next.ensures
-    c.join_blocks.ensures.links c.join_blocks.ensures.ends
+    lost_front c.requires.sound c.requires.first c.requires.read c.requires.positive (all_links c.relink.new.slots) c.if-front-back.true c.next_of-next.ensures
+    c.relink.ensures.links c.relink.ensures.ends
 
 pub returns-then-front-back-2-clause-blocks : goal.returns-then-front-back-2-clause-blocks
 returns-then-front-back-2-clause-blocks g c =
