@@ -1,5 +1,7 @@
 //! The blocks that the vacant slots of a map form: how a slot joins them, and how one is taken.
 
+#![tactic(auto, using(crate::proofs::Joining::ready, crate::proofs::Taking::first))]
+
 ghost use Rattle.std.specs.Prelude.{◌≡◌, ◌+◌, ◌-◌, ◌<◌, true, false, length, Some, None, IsSome, slice_set};
 ghost use Rattle.slotmap_core.specs.Words.{Live as LivePlace, Vacant as VacantPlace, Retired as RetiredPlace};
 ghost use Rattle.slotmap_hop.specs.Blocks.{vacated, vacated_alone, vacated_before, vacated_after, vacated_between, shorter};

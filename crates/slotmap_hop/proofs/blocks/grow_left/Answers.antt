@@ -2,24 +2,12 @@ use Rattle.std.proofs.Common.{◌≡◌, ◌+◌}
 use Rattle.slotmap_hop.specs.Links.{prev_at}
 use Rattle.slotmap_hop.specs.Slots.{all_links}
 use Rattle.slotmap_hop.proofs.Writes.{flags_kept}
-use Rattle.slotmap_hop.proofs.Joining.{right_head, back_tails, back_ready, prev_is, before_leads, after_head, joins_before}
+use Rattle.slotmap_hop.proofs.Joining.{back_ready, prev_is, after_head, joins_before}
 use Rattle.slotmap_hop.proofs.blocks.grow_left.Goals as goal
 use Rattle.slotmap_hop.proofs.blocks.grow_left.Goals.{After-prev_of-prev}
 
 prev : (g : _) (c : After-prev_of-prev g) → c.prev_of-prev.result ≡ prev_at (all_links c.args.slots.now) (c.args.place + 1)
 prev g c = prev_is c.requires.can c.requires.right c.back_of-back.ensures c.prev_of-prev.ensures
-
-pub next_of-next-requires : goal.next_of-next-requires
-next_of-next-requires g c = (right_head c.requires.can c.requires.right).leads
-
-pub back_of-back-requires : goal.back_of-back-requires
-back_of-back-requires g c = (right_head c.requires.can c.requires.right).leads
-
-pub prev_of-prev-requires : goal.prev_of-prev-requires
-prev_of-prev-requires g c = back_tails c.requires.can c.requires.right c.back_of-back.ensures
-
-pub relink-requires-clause-before : goal.relink-requires-clause-before
-relink-requires-clause-before g c = rw (prev g (goal.at.relink-requires-clause-before g c).After-prev_of-prev) (before_leads c.requires.can c.requires.right)
 
 pub relink-requires-clause-after : goal.relink-requires-clause-after
 relink-requires-clause-after g c = rw c.next_of-next.ensures (after_head c.requires.can c.requires.right)

@@ -2,7 +2,7 @@ use Rattle.std.proofs.Common.{◌≡◌, ◌+◌, ◌-◌, true, refl, ◌∙◌
 use Rattle.slotmap_hop.specs.Links.{vacant_at, prev_at, end_at}
 use Rattle.slotmap_hop.specs.Slots.{all_links}
 use Rattle.slotmap_hop.proofs.Writes.{ends_kept, flags_kept, leads_kept, tails_kept, vacancy_kept}
-use Rattle.slotmap_hop.proofs.Joining.{left_tails, front_leads, front_ready, right_head, back_tails, back_ready, prev_is, before_leads, after_head, joins_between}
+use Rattle.slotmap_hop.proofs.Joining.{left_tails, front_leads, front_ready, back_ready, prev_is, after_head, joins_between}
 use Rattle.slotmap_hop.proofs.blocks.merge.Goals as goal
 use Rattle.slotmap_hop.proofs.blocks.merge.Goals.{After-prev_of-before, After-front_of-front}
 
@@ -15,18 +15,6 @@ front g c = c.front_of-front.ensures ∙ ends_kept c.relink.ensures.ends (c.args
 front_there : (g : _) (c : After-front_of-front g) → vacant_at (all_links c.relink.new.slots) c.front_of-front.result ≡ true
 front_there g c = rw (flags_kept c.relink.ensures.ends) (front_ready c.requires.can c.requires.left (front g c))
 
-pub next_of-after-requires : goal.next_of-after-requires
-next_of-after-requires g c = (right_head c.requires.can c.requires.right).leads
-
-pub back_of-back-requires : goal.back_of-back-requires
-back_of-back-requires g c = (right_head c.requires.can c.requires.right).leads
-
-pub prev_of-before-requires : goal.prev_of-before-requires
-prev_of-before-requires g c = back_tails c.requires.can c.requires.right c.back_of-back.ensures
-
-pub relink-requires-clause-before : goal.relink-requires-clause-before
-relink-requires-clause-before g c = rw (before g (goal.at.relink-requires-clause-before g c).After-prev_of-before) (before_leads c.requires.can c.requires.right)
-
 pub relink-requires-clause-after : goal.relink-requires-clause-after
 relink-requires-clause-after g c = rw c.next_of-after.ensures (after_head c.requires.can c.requires.right)
 
@@ -38,7 +26,7 @@ prev_of-prev-requires g c = rw (tails_kept c.relink.ensures.ends (c.args.place -
 
 pub name_back-requires : goal.name_back-requires
 name_back-requires g c =
-    leads_kept c.relink.ensures.ends c.front_of-front.result ∙ front_leads c.requires.can c.requires.left (front g (goal.at.name_back-requires g c).After-front_of-front)
+    leads_kept c.relink.ensures.ends c.front_of-front.result ∙ rw (front g (goal.at.name_back-requires g c).After-front_of-front) (front_leads c.requires.can c.requires.left)
 
 pub name_front-requires : goal.name_front-requires
 name_front-requires g c =
