@@ -1,6 +1,6 @@
 -- Chunks of versions, whose odd ones are bits.
 -- For this crate alone.
-use Rattle.std.proofs.Common.{◌≡◌, ◌≢◌, ◌+◌, ◌-◌, ◌*◌, ◌/◌, ◌%◌, ◌^◌, ◌<◌, ◌≤◌, ℕ, zero, suc, List, cond, eqb, length, get_or, slice_get, Some, refl, sym, ap}
+use Rattle.std.proofs.Common.{◌≡◌, ◌≢◌, ◌+◌, ◌-◌, ◌*◌, ◌/◌, ◌%◌, ◌^◌, ◌<◌, ◌≤◌, ℕ, zero, suc, List, cond, eqb, length, get_or, slice_get, Some, sym, ap}
 use Rattle.slotmap_core.proofs.Common.{bit_at, ◌∙◌, arith, w64, bit_and, bit_or, min, max, subst, bit_at-zero, bit_at-suc, bit_at_lowest, bit_at_and}
 use Rattle.slotmap_core.proofs.Common.{bit_at_set_same, bit_at_set_other, bit_at_ones, get_or_from_slice_get, slice_get_within, found_within}
 use native.Mathlib.Decide.{dec_lt}
@@ -11,9 +11,7 @@ use Rattle.slotmap_slots.specs.Odds.{AreOdd, AllOdd, IsRun, IsFound, HasOdds, Is
 
 -- ---- a lane
 not_zero : (r : ℕ) → r < 2 → 1 - cond {A = ℕ} (eqb r 0) 1 0 ≡ r
-not_zero zero h = refl
-not_zero (suc zero) h = refl
-not_zero (suc (suc r)) h = absurd (omega arith)
+not_zero r h = grind arith
 
 pub odd_lane : (x : ℕ) → 1 - cond {A = ℕ} (eqb (bit_and x 1) 0) 1 0 ≡ x % 2
 odd_lane x = ap (λ r. 1 - cond (eqb r 0) 1 0) (and_mask x 1) ∙ not_zero (x % 2) (omega arith)
@@ -26,21 +24,13 @@ pub record Below (versions : List ℕ) (at lane bits : ℕ) : Type 0 where
 module _ (versions : List ℕ) (at lane bits : ℕ) (below : Below versions at lane bits) where
   pub below_odd : lane < 64 → get_or versions (at + lane) 0 % 2 ≡ 1 → Below versions at (lane + 1) (bit_or bits (1 * 2 ^ lane % 2 ^ 64))
   below_odd within odd = record {
-    set = λ k l. elim (dec_lt k lane) [
-      | yes p ↦ bit_at_set_other w64 bits lane within k (λ e. omega arith) ∙ below.set k p
-      | no p ↦ (let e : lane ≡ k = omega arith in ap (bit_at (bit_or bits (1 * 2 ^ lane % 2 ^ 64))) (sym e) ∙ bit_at_set_same w64 bits lane within ∙ sym odd ∙ ap (λ j. get_or versions (at + j) 0 % 2) e)
-    ];
+    set = λ k l. grind (arith, bit_at_set_other w64 bits lane within k, bit_at_set_same w64 bits lane within, below.set k);
     clear = λ k l. bit_at_set_other w64 bits lane within k (λ e. omega arith) ∙ below.clear k (omega arith);
   }
 
   pub below_even : (get_or versions (at + lane) 0 % 2 ≡ 1 → ⊥) → Below versions at (lane + 1) bits
   below_even even = record {
-    set = λ k l. elim (dec_lt k lane) [
-      | yes p ↦ below.set k p
-      | no p ↦ (let e : lane ≡ k = omega arith in
-          let z : get_or versions (at + lane) 0 % 2 ≡ 0 = omega (arith, even) in
-          below.clear k (omega arith) ∙ sym z ∙ ap (λ j. get_or versions (at + j) 0 % 2) e)
-    ];
+    set = λ k l. grind (arith, below.set k, below.clear k, even);
     clear = λ k l. below.clear k (omega arith);
   }
 
@@ -52,7 +42,7 @@ half_less : (n : ℕ) → n % 2 ≡ 0 → 0 < n → (n - 1) / 2 ≡ n / 2 - 1
 half_less n even some = omega arith
 
 has_bit : (n k : ℕ) → bit_at n k ≡ 1 → 0 < n
-has_bit n k set = elim (dec_lt 0 n) [ yes p ↦ p | no p ↦ absurd (let none : n ≡ 0 = omega arith in let e : ◌≡◌ {A = ℕ} 1 0 = sym set ∙ ap (λ m. bit_at m k) none ∙ bit_at-zero k in omega arith) ]
+has_bit n k set = grind (arith, bit_at-zero k)
 
 -- One less than a number with this lowest bit: the bit is clear, and all above it are the same
 pub record OneLess (n lane : ℕ) : Type 0 where
@@ -90,24 +80,12 @@ without_one n lane fits set below k =
     let less : (n + (2 ^ 64 - 1)) % 2 ^ 64 ≡ n - 1 = omega (arith, has_bit n lane set, fits) in
     bit_at_and n _ k ∙ ap (λ m. min (bit_at n k) (bit_at m k)) less
 
-min_none : (x : ℕ) → min x 0 ≡ 0
-min_none x = omega arith
-
-min_both : (x y : ℕ) → y ≡ x → min x y ≡ x
-min_both x y same = omega (arith, same)
-
-min_first : (x y : ℕ) → x ≡ 0 → min x y ≡ x
-min_first x y none = omega (arith, none)
-
 module _ (n lane : ℕ) (fits : n < 2 ^ 64) (set : bit_at n lane ≡ 1) (below : (k : ℕ) → k < lane → bit_at n k ≡ 0) where
   pub lowest_gone : bit_at (bit_and n ((n + (2 ^ 64 - 1)) % 2 ^ 64)) lane ≡ 0
-  lowest_gone = without_one n lane fits set below lane ∙ ap (min (bit_at n lane)) (one_less n lane set below).clear ∙ min_none _
+  lowest_gone = omega (arith, without_one n lane fits set below lane, (one_less n lane set below).clear)
 
   pub others_kept : (k : ℕ) → k ≢ lane → bit_at (bit_and n ((n + (2 ^ 64 - 1)) % 2 ^ 64)) k ≡ bit_at n k
-  others_kept k apart = without_one n lane fits set below k ∙ elim (dec_lt k lane) [
-    | yes p ↦ min_first _ _ (below k p)
-    | no p ↦ min_both _ _ ((one_less n lane set below).above k (omega arith))
-  ]
+  others_kept k apart = grind (arith, without_one n lane fits set below k, below k, (one_less n lane set below).above k)
 
 -- ---- the next odd version
 -- only a version that is there is odd
@@ -138,10 +116,7 @@ module _ (versions : List ℕ) (end index bits : ℕ) (has : HasOdds versions en
       odds_next = record {
         on = omega (arith, odds_on);
         within = omega (arith, within);
-        passed = λ i v from to at. elim (dec_lt (i + 64) end) [
-          | yes p ↦ has.before i v from p at
-          | no p ↦ even_at i v from (omega arith) (omega arith) at (λ k e. below k (omega arith))
-        ];
+        passed = λ i v from to at. grind (arith, has.before i v, even_at i v, below);
         odd = λ v at. ap (λ x. x % 2) (sym (get_or_from_slice_get versions found v 0 at)) ∙ there;
       }
 
@@ -152,10 +127,7 @@ module _ (versions : List ℕ) (end index bits : ℕ) (has : HasOdds versions en
         upto = omega arith;
         before = λ i v from to at. absurd (omega arith);
         odd = λ i k l e on. kept k l (λ same. omega arith) ∙ has.odd i k l e (omega (arith, odds_on));
-        passed = λ k l. elim (dec_lt k lane) [
-          | yes p ↦ kept k (omega arith) (λ e. omega arith) ∙ below k p
-          | no p ↦ (let e : lane ≡ k = omega arith in ap (bit_at rest) (sym e) ∙ gone)
-        ];
+        passed = λ k l. grind (arith, kept k, below k, gone);
       }
 
 -- no version is left in a chunk of which no bit is left
@@ -244,7 +216,7 @@ module _ (versions : List ℕ) (run end index bits : ℕ) (ahead : IsAhead versi
     on = omega arith;
     within = omega (arith, odd_within versions index (ahead.odd index (omega arith) before));
     passed = λ i v from below at. absurd (omega arith);
-    odd = λ v at. ap (λ x. x % 2) (sym (get_or_from_slice_get versions index v 0 at)) ∙ ahead.odd index (omega arith) before;
+    odd = λ v at. grind (arith, get_or_from_slice_get versions index v 0, ahead.odd index);
   }
 
   run_step : index < run → IsAhead versions run end (index + 1) bits
