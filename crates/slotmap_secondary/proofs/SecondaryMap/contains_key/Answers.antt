@@ -1,7 +1,6 @@
 use Rattle.std.specs.FinMap as map
 use Rattle.slotmap_core.proofs.Common.{value_at, is_some, sym, ap, ◌∙◌}
 use Rattle.slotmap_secondary.proofs.ReadLemmas.{at-read, at-past, marked-read}
-use Rattle.slotmap_secondary.proofs.WellFormed.{well_formed}
 use Rattle.slotmap_secondary.proofs.SecondaryMap.contains_key.Goals as goal
 
 pub has-requires-clause-marked : goal.has-requires-clause-marked
@@ -22,9 +21,3 @@ returns-in-None-clause-value g c =
     sym (ap (λ o. is_some (value_at (g.K.Key.data_of c.args.key).version o))
     (at-past _ _ (ap (λ m. m.pairs) c.self.view_is) _ _ c.data-key.ensures.value _ c.idx.ensures.value _ c.deref.ensures.value
     c.in-None.ensures.lookup.3))
-
-pub returns-in-Some-clause-valid : goal.returns-in-Some-clause-valid
-returns-in-Some-clause-valid g c = well_formed c.self.inside _ c.self.view_is c.self.invariant
-
-pub returns-in-None-clause-valid : goal.returns-in-None-clause-valid
-returns-in-None-clause-valid g c = well_formed c.self.inside _ c.self.view_is c.self.invariant

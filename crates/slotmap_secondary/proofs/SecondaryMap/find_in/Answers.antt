@@ -1,7 +1,6 @@
 use Rattle.std.proofs.Common.{◌<◌, length, refl, sym, ap, subst, arith}
 use Rattle.slotmap_secondary.specs.Found.{is_found}
 use Rattle.slotmap_secondary.proofs.ReadLemmas.{marked-read, at-read, entry-at}
-use Rattle.slotmap_secondary.proofs.WellFormed.{well_formed}
 use Rattle.slotmap_secondary.proofs.SecondaryMap.find_in.Goals as goal
 
 pub find-requires-clause-marked : goal.find-requires-clause-marked
@@ -18,6 +17,3 @@ returns-clause-found g c =
     let stands = at-read _ _ all _ _ c.data-key.ensures.value _ c.idx.ensures.value slots refl _ c.index.ensures within in
     subst (is_found c.find.result) (sym (entry-at _ _ all _ _ c.data-key.ensures.value _ c.idx.ensures.value
     (λ null. omega (arith, c.self.invariant.fits)) _ stands _ c.version.ensures.value _ refl)) c.find.ensures
-
-pub returns-clause-valid : goal.returns-clause-valid
-returns-clause-valid g c = well_formed c.self.inside _ c.self.view_is c.self.invariant

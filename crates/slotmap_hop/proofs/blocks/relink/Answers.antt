@@ -1,5 +1,5 @@
 use Rattle.slotmap_hop.proofs.Writes.{keeps_both, nexts_both, prev_both, prevs_both, leads_kept}
-use Rattle.slotmap_hop.proofs.blocks.lead_to.Goals as goal
+use Rattle.slotmap_hop.proofs.blocks.relink.Goals as goal
 
 pub set_prev-requires : goal.set_prev-requires
 set_prev-requires g c = rw c.back_of-back.ensures c.requires.after.ends
@@ -13,7 +13,7 @@ returns-clause-links g c =
     let next = c.set_next.ensures.links in
     let head = c.requires.after in
     let back = c.back_of-back.ensures in
-    record { to_other = next.written; back_to_other = prev_both head back prev next; nexts = nexts_both head back prev next; prevs = prevs_both head back prev next }
+    record { onward = next.written; back = prev_both head back prev next; nexts = nexts_both head back prev next; prevs = prevs_both head back prev next }
 
 pub returns-clause-ends : goal.returns-clause-ends
 returns-clause-ends g c = keeps_both c.requires.after c.back_of-back.ensures c.set_prev.ensures.links c.set_next.ensures.links
