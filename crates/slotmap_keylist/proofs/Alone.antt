@@ -15,6 +15,10 @@ module _ {V : Type 0} where
   same_keys_of : (m : map.FinMap key_cmp V) (ks : map.FinMap key_cmp (Unit {0})) → ((q : Key) → map.contains_key m q ≡ map.contains_key ks q) → keys_of m ≡ ks
   same_keys_of m ks same = map.same_map keys_total exact_keys _ _ (λ q. same_units (map.get (keys_of m) q) (map.get ks q) (contains-keys_of m q ∙ same q))
 
+  -- so maps with the same keys have as many
+  pub len_alike : (a b : map.FinMap key_cmp V) → ((q : Key) → map.contains_key a q ≡ map.contains_key b q) → map.len a ≡ map.len b
+  len_alike a b same = sym (len-keys_of a) ∙ ap map.len (same_keys_of a (keys_of b) (λ q. same q ∙ sym (contains-keys_of b q))) ∙ len-keys_of b
+
   contains_written : (m : map.FinMap key_cmp V) (k : Key) (v : V) → map.contains_key m k ≡ true → (q : Key) → map.contains_key (map.insert m k v) q ≡ map.contains_key m q
   contains_written m k v live q = grind (arith, keys)
 

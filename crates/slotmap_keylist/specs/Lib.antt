@@ -1,3 +1,4 @@
 pub mod KeyLists
 pub mod KeyOrNull
 pub mod Linked
+pub mod Shown

@@ -2,10 +2,14 @@
 
 ghost use Rattle.std.specs.Prelude.{◌≡◌, ◌≤◌, length, Some, IfSome, ⊤};
 ghost use Rattle.std.specs.Iterator.{YieldsFirstBy, item_count, at_most, UpTo};
+ghost use Rattle.slotmap_keylist.specs.Linked.{follow};
+ghost use Rattle.slotmap_scene.specs.Links.{IsWalk, link_of};
 
+use crate::links::LinkedNodes;
 use slotmap::{DefaultKey, Key};
 use slotmap_keylist::outer;
 use std::alloc::AllocError;
+use std::fmt;
 use std::iter::FusedIterator;
 use std::marker::{Model, PhantomData};
 
@@ -15,28 +19,41 @@ use std::marker::{Model, PhantomData};
 /// cloning allocates nothing.
 ///
 /// [`Scene::children`]: crate::Scene::children
-#[derive(Debug, Drop)]
-pub struct ChildKeys<'a, K> {
-    keys: &'a [DefaultKey],
+#[derive(Drop)]
+pub struct ChildKeys<'a, K, T> {
+    nodes: &'a LinkedNodes<T>,
+    at: Option<DefaultKey>,
+    left: usize,
     key_type: PhantomData<K>,
 }
 
-impl<'a, K> Model for ChildKeys<'a, K> {
+impl<'a, K, T> Model for ChildKeys<'a, K, T> {
     ghost use Rattle.std.specs.Prelude.{List};
     ghost use Rattle.slotmap.specs.Words.{Key};
+    ghost use Rattle.slotmap_keylist.specs.Linked.{follow};
+    ghost use Rattle.slotmap_scene.specs.Links.{IsWalk, link_of};
 
     ghost Value = { List Key };
 
-    ghost view = { λ it. it.keys.now };
+    ghost view = { λ it. follow (link_of it.nodes.now.live) it.left it.at };
+
+    ghost invariant = { λ it. IsWalk it.nodes.now.live it.left it.at };
 }
 
-impl<'a, K> ChildKeys<'a, K> {
-    // The keys of a list.
-    pub(crate) fn over(keys: &'a [DefaultKey]) -> ChildKeys<'a, K>
-        ensures { result ≡ keys.now }
+impl<'a, K, T> ChildKeys<'a, K, T> {
+    // The keys from this one on, as many as are left.
+    pub(crate) fn from(
+        nodes: &'a LinkedNodes<T>,
+        at: Option<DefaultKey>,
+        left: usize,
+    ) -> ChildKeys<'a, K, T>
+        requires { IsWalk nodes.now.live left at }
+        ensures { result ≡ follow (link_of nodes.now.live) left at }
     {
         ChildKeys {
-            keys,
+            nodes,
+            at,
+            left,
             key_type: PhantomData,
         }
     }
@@ -45,21 +62,21 @@ impl<'a, K> ChildKeys<'a, K> {
     pub fn len(&self) -> usize
         ensures { result ≡ length self.now }
     {
-        self.keys.len()
+        self.left
     }
 }
 
-impl<'a, K> Clone for ChildKeys<'a, K> {
+impl<'a, K, T> Clone for ChildKeys<'a, K, T> {
     ghost is_clone = { λ it copy. copy ≡ it };
 
     ghost is_infallible = { λ _. ⊤ };
 
     fn clone(&self) -> Result<Self, AllocError> {
-        Ok(ChildKeys::over(self.keys))
+        Ok(ChildKeys::from(self.nodes, self.at, self.left))
     }
 }
 
-impl<'a, K: Key> Iterator for ChildKeys<'a, K> {
+impl<'a, K: Key, T: Drop> Iterator for ChildKeys<'a, K, T> {
     type Item = K;
 
     ghost next_gives = { YieldsFirstBy K.data_of (λ rest. rest) };
@@ -67,9 +84,13 @@ impl<'a, K: Key> Iterator for ChildKeys<'a, K> {
     ghost remaining = { item_count (λ rest. rest) };
 
     fn next(&mut self) -> Option<K> {
-        let (key, rest) = self.keys.split_first()?;
-        self.keys = rest;
-        Some(outer(*key))
+        if self.left == 0 {
+            return None;
+        }
+        let key = self.at?;
+        self.at = self.nodes.get(key)?.siblings.next;
+        self.left -= 1;
+        Some(outer(key))
     }
 
     fn size_hint(&self) -> (usize, Option<usize>)
@@ -82,10 +103,18 @@ impl<'a, K: Key> Iterator for ChildKeys<'a, K> {
     }
 }
 
-impl<'a, K: Key> ExactSizeIterator for ChildKeys<'a, K> {
+impl<'a, K: Key, T: Drop> ExactSizeIterator for ChildKeys<'a, K, T> {
     fn len(&self) -> usize {
         ChildKeys::len(self)
     }
 }
 
-impl<'a, K: Key> FusedIterator for ChildKeys<'a, K> {}
+impl<'a, K: Key, T: Drop> FusedIterator for ChildKeys<'a, K, T> {}
+
+impl<'a, K, T> fmt::Debug for ChildKeys<'a, K, T> {
+    fn fmt<W: fmt::Write>(&self, f: &mut fmt::Formatter<W>) -> fmt::Result {
+        f.debug_struct("ChildKeys")
+            .field("remaining", &self.len())
+            .finish()
+    }
+}
