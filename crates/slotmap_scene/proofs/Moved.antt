@@ -1,13 +1,12 @@
 -- A scene after a node came, was moved, or was removed with all that is below it.
 use Rattle.std.proofs.Common.{◌≡◌, ◌≢◌, ℕ, zero, suc, ◌+◌, true, Option, Some, None, List, [], ◌∷◌, ◌++◌, is_some, refl, sym, ap, subst, ◌∙◌, inl, inr, arith}
 use Rattle.std.specs.Prelude.{option_map}
-use Rattle.std.proofs.Common.{Bool, IsTrue, ◌↔◌, false, Result, Ok, Err, IfOk, OnOk, OnErr, is_err, drop}
+use Rattle.std.proofs.Common.{Bool, IsTrue, ◌↔◌, false, Result, Ok, Err, IfOk, OnErr}
 use Rattle.std.specs.FinMap as map
-use Rattle.std.specs.FinSet as set
 use Rattle.slotmap.specs.Words.{Key, Content, Inserts, Keeps}
 use Rattle.slotmap.proofs.Callers.{get-insert_here, get-insert_other, same_or_other, keys_total, exact_keys, still_in, none_of}
 use Rattle.slotmap_scene.specs.Node.{Node, Nodes}
-use Rattle.slotmap_scene.specs.Climb.{has_node, lacks_node, parent_in, parent_of, StepsTo, IsWithin, with_parent}
+use Rattle.slotmap_scene.specs.Climb.{has_node, lacks_node, parent_in, parent_of, StepsTo, IsWithin}
 use Rattle.slotmap_keylist.specs.KeyLists.{same, times, without}
 use Rattle.slotmap_keylist.proofs.Counts.{times_pushed, without_none}
 use Rattle.slotmap_scene.specs.Family.{children_in, children_of, IsNewChild, IsScene, child, forgets, with_children_in, without_child, as_root, attached, attached_by}

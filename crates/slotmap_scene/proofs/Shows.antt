@@ -1,16 +1,14 @@
 -- What the calls on linked nodes require and make, by what the nodes show.
-use Rattle.std.proofs.Common.{◌≡◌, ◌+◌, ◌-◌, ◌<◌, ◌≤◌, ℕ, zero, suc, true, Option, Some, None, IfSome, List, [], ◌∷◌, ◌++◌, length, length-append, is_some, refl, sym, ap, subst, ◌∙◌, inl, inr, arith}
+use Rattle.std.proofs.Common.{◌≡◌, ◌-◌, ◌<◌, ℕ, zero, suc, true, Option, Some, None, IfSome, List, [], ◌∷◌, ◌++◌, length, is_some, refl, sym, ap, subst, ◌∙◌, arith}
 use Rattle.std.specs.FinMap as map
-use Rattle.std.proofs.Math.Nat.{eq-zero-or-pos}
-use Rattle.slotmap.specs.Words.{Key, Content, IsContent, IsLive, Leaves}
+use Rattle.slotmap.specs.Words.{Key, Content, IsLive, Leaves}
 use Rattle.slotmap_keylist.specs.declared.Ends.{Ends}
 use Rattle.slotmap_keylist.specs.declared.Link.{Link}
 use Rattle.slotmap_keylist.specs.KeyLists.{times, without}
 use Rattle.slotmap_keylist.specs.Linked.{first_or, last_or, follow, followed, link_between}
 use Rattle.slotmap_keylist.proofs.Counts.{one_itself, times_first}
-use Rattle.slotmap_keylist.proofs.Linking.{in_midst, split_at}
+use Rattle.slotmap_keylist.proofs.Linking.{split_at}
 use Rattle.slotmap_scene.specs.declared.links.LinkedNode.{LinkedNode}
-use Rattle.slotmap_scene.specs.Node.{Node, Nodes}
 use Rattle.slotmap_scene.specs.Climb.{with_parent}
 use Rattle.slotmap_scene.specs.Family.{child, children_of, with_children_in}
 use Rattle.slotmap_scene.specs.Links.{IsPlace, IsWalk, IsWoven, LinkedNodes, ends_in, ends_of, led_to, link_in, link_of, put_between, shown, shown_nodes, taken_between, with_node, with_node_in}
@@ -28,7 +26,6 @@ empty_len [] k more = absurd (omega arith)
 empty_len (q ∷ ks) k more = omega arith
 
 module _ {T : Type 0} (c : Content (LinkedNode T)) (woven : IsWoven c.live) where
-
   -- a key with children is a node
   parent_there : (p k : Key) → 0 < times k (led_to c.live p) → map.contains_key c.live p ≡ true
   parent_there p k more = by (map.get c.live p) more

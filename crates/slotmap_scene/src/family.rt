@@ -157,12 +157,7 @@ impl<T: Drop> Nodes<T> {
     }
 
     // Puts a node that is in no list between two children of a parent, as its child.
-    pub fn put_between(
-        &mut self,
-        parent: DefaultKey,
-        node: DefaultKey,
-        siblings: Link<DefaultKey>,
-    )
+    pub fn put_between(&mut self, parent: DefaultKey, node: DefaultKey, siblings: Link<DefaultKey>)
         requires parent { has_node self.old.live parent }
         requires node { has_node self.old.live node }
         requires alone { (p : KeyOf) → times node (children_of self.old.live p) ≡ 0 }

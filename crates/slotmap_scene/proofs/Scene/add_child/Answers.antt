@@ -1,4 +1,4 @@
-use Rattle.std.proofs.Common.{◌≡◌, ◌∷◌, ◌++◌, List, [], true, sym, ap, ◌∙◌}
+use Rattle.std.proofs.Common.{◌∷◌, ◌++◌, List, [], sym, ◌∙◌}
 use Rattle.slotmap.specs.Words.{Key}
 use Rattle.slotmap.proofs.Callers.{spent_leaves}
 use Rattle.slotmap_keylist.proofs.Counts.{times_pushed}

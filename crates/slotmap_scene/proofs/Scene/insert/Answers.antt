@@ -1,5 +1,5 @@
-use Rattle.std.proofs.Common.{◌≡◌, Some, sym, ap, subst, ◌∙◌}
-use Rattle.slotmap.specs.Words.{Key, Content, Inserts}
+use Rattle.std.proofs.Common.{◌≡◌, Some, sym, subst, ◌∙◌}
+use Rattle.slotmap.specs.Words.{Content, Inserts}
 use Rattle.slotmap.proofs.Callers.{spent_leaves}
 use Rattle.slotmap_scene.specs.Node.{Node}
 use Rattle.slotmap_scene.specs.Climb.{parent_of}

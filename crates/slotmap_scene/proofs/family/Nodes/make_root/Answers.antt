@@ -1,7 +1,7 @@
-use Rattle.std.proofs.Common.{◌∙◌, sym, ap, subst}
+use Rattle.std.proofs.Common.{◌∙◌, sym, subst}
 use Rattle.slotmap.specs.Words.{Content}
 use Rattle.slotmap_scene.specs.Node.{Node}
-use Rattle.slotmap_scene.specs.Climb.{has_node, with_parent}
+use Rattle.slotmap_scene.specs.Climb.{has_node}
 use Rattle.slotmap_scene.proofs.Showing.{shown_keys}
 use Rattle.slotmap_scene.proofs.Shows.{root_woven, root_shows, root_leaves}
 use Rattle.slotmap_scene.proofs.family.Nodes.make_root.Goals as goal

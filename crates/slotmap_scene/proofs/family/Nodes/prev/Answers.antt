@@ -1,4 +1,4 @@
-use Rattle.std.proofs.Common.{sym, ap, ◌∙◌}
+use Rattle.std.proofs.Common.{ap, ◌∙◌}
 use Rattle.slotmap_keylist.specs.declared.Link.{Link}
 use Rattle.slotmap.specs.Words.{Key}
 use Rattle.slotmap_scene.specs.Links.{link_in}

@@ -1,4 +1,4 @@
-use Rattle.std.proofs.Common.{◌≡◌, ap, sym, subst}
+use Rattle.std.proofs.Common.{◌≡◌, sym, subst}
 use Rattle.slotmap.specs.Words.{Key, Content}
 use Rattle.slotmap_keylist.specs.KeyLists.{times}
 use Rattle.slotmap_scene.specs.Node.{Node}

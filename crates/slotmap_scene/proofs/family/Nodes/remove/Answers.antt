@@ -1,4 +1,4 @@
-use Rattle.std.proofs.Common.{◌≡◌, true, List, [], is_some, sym, ap, subst, ◌∙◌}
+use Rattle.std.proofs.Common.{◌≡◌, true, [], is_some, sym, ap, subst, ◌∙◌}
 use Rattle.slotmap.specs.Words.{Key, Content}
 use Rattle.slotmap.proofs.Callers.{leaves_by_removal}
 use Rattle.slotmap_keylist.specs.KeyLists.{times}
