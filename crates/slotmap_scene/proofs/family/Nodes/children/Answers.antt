@@ -6,7 +6,7 @@ use Rattle.slotmap_scene.proofs.Shows.{walk_children}
 use Rattle.slotmap_scene.proofs.family.Nodes.children.Goals as goal
 
 pub from-requires : goal.from-requires
-from-requires g c = rw (ap ends_in (sym c.in-Some.ensures.value)) at (walk_children c.self.inside.map c.self.invariant c.args.node)
+from-requires g c = rw (ap ends_in (sym c.in-Some.ensures.value)) at (walk_children c.self.inside.map.live c.self.invariant c.args.node)
 
 pub returns-in-Some : goal.returns-in-Some
 returns-in-Some g c =
