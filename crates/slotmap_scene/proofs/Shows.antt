@@ -1,18 +1,17 @@
 -- What the calls on linked nodes require and make, by what the nodes show.
-use Rattle.std.proofs.Common.{◌≡◌, ◌-◌, ◌<◌, ℕ, zero, suc, true, Option, Some, None, IfSome, List, [], ◌∷◌, ◌++◌, length, is_some, refl, sym, ap, subst, ◌∙◌, arith}
+use Rattle.std.proofs.Common.{◌≡◌, ◌<◌, true, Option, Some, None, IfSome, List, [], ◌∷◌, ◌++◌, length, is_some, refl, sym, ap, subst, ◌∙◌, arith}
 use Rattle.std.specs.FinMap as map
 use Rattle.slotmap.specs.Words.{Key, Content, IsLive, Leaves}
 use Rattle.slotmap_keylist.specs.declared.Ends.{Ends}
 use Rattle.slotmap_keylist.specs.declared.Link.{Link}
 use Rattle.slotmap_keylist.specs.KeyLists.{times, without}
-use Rattle.slotmap_keylist.specs.Linked.{first_or, last_or, follow, followed, link_between}
-use Rattle.slotmap_keylist.proofs.Counts.{one_itself, times_first}
+use Rattle.slotmap_keylist.specs.Linked.{first_or, last_or, followed, link_between}
 use Rattle.slotmap_keylist.proofs.Linking.{split_at}
 use Rattle.slotmap_scene.specs.declared.links.LinkedNode.{LinkedNode}
 use Rattle.slotmap_scene.specs.Node.{Node, Nodes}
 use Rattle.slotmap_scene.specs.Climb.{has_node, with_parent}
 use Rattle.slotmap_scene.specs.Family.{child, children_of, with_children_in}
-use Rattle.slotmap_scene.specs.Links.{IsPlace, IsWalk, IsWoven, LinkedNodes, ends_in, ends_of, led_to, link_in, link_of, put_between, shown, shown_nodes, taken_between, with_node, with_node_in}
+use Rattle.slotmap_scene.specs.Links.{IsPlace, IsWoven, LinkedNodes, ends_in, ends_of, led_to, link_of, put_between, shown, shown_nodes, taken_between, with_node, with_node_in}
 use Rattle.slotmap_scene.proofs.Leaving.{leaves_alike}
 use Rattle.slotmap_scene.proofs.Showing.{nodes_leave, seen_there, shown_children, shown_keys}
 use Rattle.slotmap_scene.proofs.ShownChanges.{put_shown, taken_shown, rooted_keys, rooted_shown, rooted_woven, gone_shown, gone_woven}
@@ -157,22 +156,3 @@ module _ {T : Type 0} (c : Content (LinkedNode T)) (woven : IsWoven c.live) (sel
     remove_value n found =
         ap (λ s. map.get s.live k) (sym view) ∙ seen_there c.live k n found
         ∙ ap (λ ks. Some (record { value = n.value; parent = n.parent; children = ks })) (ap (λ s. children_of s.live k) view ∙ leaf)
-
--- the walk along the children of a node
-pub walk_children : {T : Type 0} (m : LinkedNodes T) → IsWoven m → (p : Key) → IsWalk m (ends_of m p).len (ends_of m p).first
-walk_children m woven p = record {
-  long = sym (ap (λ (e : Ends Key). e.len) (woven.linked.ends_are p));
-  live = λ k more. woven.live p k more;
-}
-
--- a walk along the links
-module _ {T : Type 0} (m : LinkedNodes T) (at : Option Key) (k : Key) (is : at ≡ Some k) where
-  pub walk_live : (left : ℕ) → IsWalk m left at → (left ≡ 0 → ⊥) → map.contains_key m k ≡ true
-  walk_live zero walk more = absurd (more refl)
-  walk_live (suc left) walk more = walk.live k (let steps = ap (λ o. times k (follow (link_of m) (suc left) o)) is in let first = times_first k k (follow (link_of m) left (link_of m k).next) in let one = one_itself k in omega arith)
-
-  pub walk_step : (left : ℕ) → (left ≡ 0 → ⊥) → (n : LinkedNode T) → map.get m k ≡ Some n → follow (link_of m) left at ≡ k ∷ follow (link_of m) (left - 1) n.siblings.next
-  walk_step zero more n found = absurd (more refl)
-  walk_step (suc left) more n found =
-      let less : left ≡ suc left - 1 = omega arith in
-      ap (follow (link_of m) (suc left)) is ∙ ap (λ o. k ∷ follow (link_of m) left (link_in o).next) found ∙ ap (λ i. k ∷ follow (link_of m) i n.siblings.next) less

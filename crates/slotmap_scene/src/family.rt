@@ -16,7 +16,7 @@ ghost use Rattle.slotmap_scene.specs.Refusals.{RefusesNode};
 use crate::iter::ChildKeys;
 use crate::links::{LinkedNode, LinkedNodes, add, put_between, take_between};
 use slotmap::{DefaultKey, InsertError, Key, ReserveError, SlotMap, basic};
-use slotmap_keylist::Link;
+use slotmap_keylist::{Ends, Link};
 use std::alloc::Global;
 use std::marker::Model;
 use std::ops::Index;
@@ -109,8 +109,8 @@ impl<T: Drop> Nodes<T> {
         ensures { result ≡ children_of self.now.live node }
     {
         match self.map.get(node) {
-            Some(node) => ChildKeys::from(&self.map, node.children.first, node.children.len),
-            None => ChildKeys::from(&self.map, None, 0),
+            Some(node) => ChildKeys::between(&self.map, node.children),
+            None => ChildKeys::between(&self.map, Ends::none()),
         }
     }
 

@@ -1,5 +1,4 @@
-use Rattle.std.proofs.Common.{true, is_some, sym, ap, subst}
-use Rattle.slotmap.specs.Words.{Leaves}
+use Rattle.std.proofs.Common.{true, is_some, sym, ap}
 use Rattle.slotmap.proofs.Callers.{leaves_by_removal}
 use Rattle.slotmap_scene.proofs.Showing.{nodes_leave}
 use Rattle.slotmap_scene.proofs.Shows.{live_is, remove_live, remove_value, remove_woven}
