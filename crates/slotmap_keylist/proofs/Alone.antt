@@ -2,6 +2,7 @@
 use Rattle.std.proofs.Common.{◌≡◌, ◌≤◌, true, Option, Some, None, is_some, refl, sym, ap, ◌∙◌, arith}
 use Rattle.std.specs.FinMap as map
 use Rattle.slotmap.specs.Words.{Key, key_cmp, Content, IsContent, IsLive, IsSpent, KeepsSpent, IsNew, Inserts, Removes, Keeps, IsCopy, IsCloneBy, keys_of, without_values, with_value, LacksRoom, used}
+use Rattle.slotmap_keylist.proofs.Shown.{shown_inserts, shown_keeps, shown_removes}
 use Rattle.slotmap.proofs.Callers.{keys_total, exact_keys, keys, clone_live, contains-keys_of, len-keys_of, spent_alone, alone_spent, keeps_spent_alone, spent_finds_nothing, inserted_not_spent}
 
 same_units : (a b : Option (Unit {0})) → is_some a ≡ is_some b → a ≡ b
@@ -60,37 +61,16 @@ module _ {V : Type 0} where
   }
 
   pub alone-inserts : (old new : Content V) (k : Key) (v : V) → Inserts old k v new → Inserts (without_values old) k tt (without_values new)
-  alone-inserts old new k v inserts = record {
-    offered = inserts.offered;
-    below_limit = (let below = inserts.below_limit in let same = len-keys_of old.live in omega arith);
-    live = ap keys_of inserts.live ∙ keys-inserted old.live k v;
-    detached = inserts.detached;
-    retired = inserts.retired;
-    next = inserts.next;
-    stack = inserts.stack;
-    room = inserts.room;
-  }
+  alone-inserts old new k v inserts = shown_inserts old new (keys_of old.live) (keys_of new.live) (contains-keys_of old.live) (len-keys_of old.live) (contains-keys_of new.live) (len-keys_of new.live)
+      k v tt (ap keys_of inserts.live ∙ keys-inserted old.live k v) inserts
 
   pub alone-removes : (old new : Content V) (k : Key) → Removes old k new → Removes (without_values old) k (without_values new)
-  alone-removes old new k removes = record {
-    live = ap keys_of removes.live ∙ keys-removed old.live k;
-    detached = removes.detached;
-    retired = removes.retired;
-    next = removes.next;
-    stack = removes.stack;
-    room = removes.room;
-  }
+  alone-removes old new k removes = shown_removes old new (keys_of old.live) (keys_of new.live) (contains-keys_of old.live) (len-keys_of old.live) (contains-keys_of new.live) (len-keys_of new.live)
+      k (ap keys_of removes.live ∙ keys-removed old.live k) removes
 
   pub alone-keeps : (old new : Content V) → Keeps old new → Keeps (without_values old) (without_values new)
-  alone-keeps old new keeps = record {
-    live = ap keys_of keeps.live;
-    detached = keeps.detached;
-    retired = keeps.retired;
-    next = keeps.next;
-    offer = keeps.offer;
-    stack = keeps.stack;
-    room = keeps.room;
-  }
+  alone-keeps old new keeps = shown_keeps old new (keys_of old.live) (keys_of new.live) (contains-keys_of old.live) (len-keys_of old.live) (contains-keys_of new.live) (len-keys_of new.live)
+      (ap keys_of keeps.live) keeps
 
   pub alone-copy : (is_clone : V → V → Type 0) (source copy : Content V) → IsCloneBy is_clone source copy → IsCopy (without_values source) (without_values copy)
   alone-copy is_clone source copy clones = record {

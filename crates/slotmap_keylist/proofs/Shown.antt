@@ -1,5 +1,5 @@
 -- What is known of a content, and of how a call changes it, where its values are shown as others.
-use Rattle.std.proofs.Common.{◌≡◌, ℕ, is_lt, ◌&&◌, ◌||◌, ◌+◌, ◌≤◌, ◌⊎◌, Bool, true, false, T, cond, not, is_some, Option, Some, None, List, [], ◌∷◌, length, map as list_map, refl, sym, ap, ◌∙◌, subst, inl, inr, arith}
+use Rattle.std.proofs.Common.{◌≡◌, ℕ, is_lt, ◌&&◌, ◌||◌, ◌⊎◌, Bool, true, false, T, cond, not, is_some, Option, Some, None, List, [], ◌∷◌, length, map as list_map, refl, sym, ap, ◌∙◌, subst, inl, inr, arith}
 use Rattle.std.specs.Option.{option_map}
 use Rattle.std.specs.Ordering.{eq_by_cmp}
 use Rattle.std.specs.FinMap as map
@@ -112,7 +112,7 @@ module _ {V W : Type 0} (old new : Content V) (was now : map.FinMap key_cmp W)
     retired = λ k. leaves.retired k ∙ retired_alike k;
     next = λ i v. (let step = leaves.next i v in (
       λ found. elim (step.0 found) [ inl before ↦ inl before | inr left ↦ inr (left.0, sym (shown_left left.0) ∙ left.1, left.2, left.3, left.4) ],
-      λ either. step.1 (elim either [ inl before ↦ inl before | inr left ↦ inr (left.0, shown_left left.0 ∙ left.1, left.2, left.3, left.4) ])
+      λ either. step.1 (elim either [ inl before ↦ inl before | inr left ↦ inr (left.0, shown_left left.0 ∙ left.1, left.2, left.3, left.4) ]),
     ));
     same_places = (let same = leaves.same_places in omega arith);
     room = leaves.room;

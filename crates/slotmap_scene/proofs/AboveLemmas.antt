@@ -2,7 +2,7 @@
 use Rattle.std.proofs.Common.{◌≡◌, ℕ, zero, suc, ◌<◌, true, false, cond, List, [], ◌∷◌, Option, Some, None, is_some, refl, sym, ap, subst, ◌∙◌, arith}
 use Rattle.std.specs.FinMap as map
 use Rattle.slotmap.specs.Words.{Key}
-use Rattle.slotmap_scene.specs.Node.{Node, Nodes}
+use Rattle.slotmap_scene.specs.Node.{Nodes}
 use Rattle.slotmap_scene.specs.Climb.{ClimbsTo, IsTree, has_node, parent_of}
 use Rattle.slotmap_scene.specs.Above.{GoesUp, keys_up, HasRoot, roots_by}
 use Rattle.slotmap_scene.proofs.Climbs.{short, leads_live}

@@ -1,5 +1,5 @@
 -- What callers of a scene cite: the parent and the children of each node after a move.
-use Rattle.std.proofs.Common.{◌≡◌, ◌≢◌, true, Some, None, List, [], ◌∷◌, ◌++◌, refl, sym, ap, ◌∙◌}
+use Rattle.std.proofs.Common.{◌≡◌, ◌≢◌, Some, None, List, [], ◌∷◌, ◌++◌, refl, sym, ap, ◌∙◌}
 use Rattle.std.specs.FinMap as map
 use Rattle.slotmap.specs.Words.{Key}
 use Rattle.slotmap_keylist.specs.KeyLists.{without}

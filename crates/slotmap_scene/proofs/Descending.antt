@@ -7,7 +7,7 @@ use Rattle.std.specs.List.{All}
 use Rattle.std.proofs.lemmas.List.Elements.{All-nil, All-cons}
 use Rattle.std.specs.FinMap as map
 use Rattle.slotmap.specs.Words.{Key}
-use Rattle.slotmap.proofs.Callers.{same_or_other, keys_total, exact_keys}
+use Rattle.slotmap.proofs.Callers.{same_or_other}
 use Rattle.slotmap_keylist.specs.KeyLists.{same, times}
 use Rattle.slotmap_keylist.proofs.Counts.{no_more_than, one_itself, one_other, times_first, times_pushed, times_joined}
 use Rattle.slotmap_scene.specs.Node.{Nodes}
@@ -47,9 +47,12 @@ module _ {T : Type 0} where
       → ((p : Key) (before after : List Key) → children_of nodes p ≡ before ++ q ∷ after → next ≡ first_or after None) → first ≡ first_or (children_of nodes q) None
       → (others : List Key) × (ahead ≡ q ∷ others) × Stacked nodes (option_to_list first ++ (option_to_list next ++ qs)) (children_of nodes q ++ others)
   stacked_step nodes q qs ahead s next first next_is first_is =
-      let later = subst (λ o. Stacked nodes (option_to_list o ++ qs) (s.2 ++ s.3)) (sym (next_is s.0 s.1 s.2 s.4)) (stacked_list nodes s.0 (s.1 ++ q ∷ []) s.2 (s.4 ∙ sym (append_assoc s.1 (q ∷ []) s.2)) qs s.3 s.6) in
-      (s.2 ++ s.3, s.5, subst (λ o. Stacked nodes (option_to_list o ++ (option_to_list next ++ qs)) (children_of nodes q ++ (s.2 ++ s.3))) (sym first_is)
-      (stacked_list nodes q [] (children_of nodes q) refl (option_to_list next ++ qs) (s.2 ++ s.3) later))
+      let later = subst (λ o. Stacked nodes (option_to_list o ++ qs) (s.2 ++ s.3)) (sym (next_is s.0 s.1 s.2 s.4)) (stacked_list nodes s.0 (s.1 ++ q ∷ []) s.2 (s.4 ∙ sym (append_assoc s.1 (q ∷ []) s.2)) qs s.3 s.6) in (
+        s.2 ++ s.3,
+        s.5,
+        subst (λ o. Stacked nodes (option_to_list o ++ (option_to_list next ++ qs)) (children_of nodes q ++ (s.2 ++ s.3))) (sym first_is)
+            (stacked_list nodes q [] (children_of nodes q) refl (option_to_list next ++ qs) (s.2 ++ s.3) later),
+      )
 
   module _ (nodes : Nodes T) (node : Key) where
     -- each key that was listed, or is ahead, is so once, and its parent is the node or was listed; and so is each child of these

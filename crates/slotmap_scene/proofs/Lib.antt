@@ -11,5 +11,6 @@ pub mod Removals
 pub mod Showing
 pub mod ShownChanges
 pub mod Shows
+pub mod Walking
 pub mod Weaving
 pub mod Worlds

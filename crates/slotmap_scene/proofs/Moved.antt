@@ -1,17 +1,18 @@
 -- A scene after a node came, was moved, or was removed with all that is below it.
 use Rattle.std.proofs.Common.{◌≡◌, ◌≢◌, ℕ, zero, suc, ◌+◌, true, Option, Some, None, List, [], ◌∷◌, ◌++◌, is_some, refl, sym, ap, subst, ◌∙◌, inl, inr, arith}
 use Rattle.std.specs.Prelude.{option_map}
-use Rattle.std.proofs.Common.{Bool, IsTrue, ◌↔◌, false, Result, Ok, Err, IfOk, OnOk, OnErr, is_err, drop}
+use Rattle.std.proofs.Common.{Bool, IsTrue, ◌↔◌, false, Result, Ok, Err, IfOk, OnErr}
 use Rattle.std.specs.FinMap as map
-use Rattle.std.specs.FinSet as set
 use Rattle.slotmap.specs.Words.{Key, Content, Inserts, Keeps}
 use Rattle.slotmap.proofs.Callers.{get-insert_here, get-insert_other, same_or_other, keys_total, exact_keys, still_in, none_of}
 use Rattle.slotmap_scene.specs.Node.{Node, Nodes}
-use Rattle.slotmap_scene.specs.Climb.{has_node, lacks_node, parent_in, parent_of, StepsTo, IsWithin, with_parent}
+use Rattle.slotmap_scene.specs.Climb.{has_node, lacks_node, parent_in, parent_of, StepsTo, IsWithin}
 use Rattle.slotmap_keylist.specs.KeyLists.{same, times, without}
 use Rattle.slotmap_keylist.proofs.Counts.{times_pushed, without_none}
-use Rattle.slotmap_scene.specs.Family.{children_in, children_of, IsNewChild, IsScene, child, forgets, with_children_in, without_child, as_root, attached, attached_by}
-use Rattle.slotmap_scene.proofs.Climbs.{no_cycle}
+use Rattle.slotmap_scene.specs.declared.tree.Side.{Side}
+use Rattle.slotmap_scene.proofs.Placing.{times_placed}
+use Rattle.slotmap_scene.specs.Family.{placed, with_children_of, with_sibling, children_in, children_of, IsNewChild, IsScene, child, forgets, with_children_in, without_child, as_root, attached, attached_by}
+use Rattle.slotmap_scene.proofs.Climbs.{has_parent, no_cycle}
 use Rattle.slotmap_scene.proofs.Families.{by_parent, listed_once, listed_never, parent_there, parented_here, parented_other, written_here, written_other, new_child}
 use Rattle.slotmap_scene.proofs.Families.{detached_parents, scene_leaf, scene_detached, scene_attached}
 
@@ -156,9 +157,6 @@ module _ {T E : Type 0} (old new : Content (Node T)) (scene : IsScene old.live) 
 
 -- a node came as a root
 module _ {T : Type 0} (old mid : Content (Node T)) (k : Key) (v : T) (fresh : lacks_node old.live k) (came : Inserts old k (child None v) mid) where
-  pub came_live : has_node mid.live k
-  came_live = ap (λ m. map.contains_key m k) came.live ∙ ap is_some (get-insert_here old.live k (child None v))
-
   pub came_stays : (p : Key) → has_node old.live p → has_node mid.live p
   came_stays p there = ap (λ m. map.contains_key m p) came.live ∙ still_in keys_total exact_keys old.live k (child None v) p there
 
@@ -166,19 +164,12 @@ module _ {T : Type 0} (old mid : Content (Node T)) (k : Key) (v : T) (fresh : la
   came_alone scene q = ap (λ m. times k (children_of m q)) came.live ∙ listed_never (map.insert old.live k (child None v)) (scene_leaf old.live k v fresh scene).listed q k
       (λ is. (let none = ap parent_in (get-insert_here old.live k (child None v)) in let h = sym none ∙ is in cc))
 
-  -- a node that has a parent is still its child
-  pub sibling_stays : IsScene old.live → (s p : Key) → has_node old.live s → parent_of old.live s ≡ Some p → times s (children_of mid.live p) ≡ 1
-  sibling_stays scene s p there own =
-      let other : s ≢ k = λ same. (let live = subst (has_node old.live) same there in cc) in
-      listed_once mid.live (subst IsScene (sym came.live) (scene_leaf old.live k v fresh scene)).listed p s (ap (λ m. parent_of m s) came.live ∙ ap parent_in (get-insert_other old.live k (child None v) s other) ∙ own)
-
   -- and is put under p
-  module _ (new : Content (Node T)) (p : Key) (f : List Key → List Key) (there : has_node old.live p) (put : new ≡ record mid { live = attached_by mid.live k p f }) where
-    not_parent : k ≢ p
-    not_parent same = let live = subst (has_node old.live) (sym same) there in cc
-
+  module _ (new : Content (Node T)) (p : Key) (f : List Key → List Key) (put : new ≡ record mid { live = attached_by mid.live k p f }) (there : has_node old.live p) where
     child_live : new.live ≡ map.insert (with_children_in old.live p (map.get old.live p) f) k (child (Some p) v)
-    child_live = ap (λ c. c.live) put ∙ ap (λ m. attached_by m k p f) came.live ∙ sym (child_attached old.live p k v f not_parent)
+    child_live =
+        ap (λ c. c.live) put ∙ ap (λ m. attached_by m k p f) came.live
+        ∙ sym (child_attached old.live p k v f (λ same. (let live = subst (has_node old.live) (sym same) there in cc)))
 
     pub child_inserts : Inserts (record old { live = with_children_in old.live p (map.get old.live p) f }) k (child (Some p) v) new
     child_inserts = record {
@@ -197,6 +188,30 @@ module _ {T : Type 0} (old mid : Content (Node T)) (k : Key) (v : T) (fresh : la
 
     pub child_scene : ((x : Key) (ks : List Key) → times x (f ks) ≡ times x ks + same k x) → IsScene old.live → IsScene new.live
     child_scene more scene = subst IsScene (sym (ap (λ c. c.live) put ∙ ap (λ m. attached_by m k p f) came.live)) (scene_child old.live k p v fresh there scene f more)
+
+  -- or beside a sibling s, whose parent is p
+  module _ (scene : IsScene old.live) (s p : Key) (own : parent_of old.live s ≡ Some p) where
+    pub parent_stays : has_node mid.live p
+    parent_stays = came_stays p (parent_there old.live scene.tree s p own)
+
+    pub sibling_stays : times s (children_of mid.live p) ≡ 1
+    sibling_stays =
+        let other : s ≢ k = λ same. (let live = subst (has_node old.live) same (has_parent old.live s p own) in cc) in
+        listed_once mid.live (subst IsScene (sym came.live) (scene_leaf old.live k v fresh scene)).listed p s (ap (λ m. parent_of m s) came.live ∙ ap parent_in (get-insert_other old.live k (child None v) s other) ∙ own)
+
+    module _ (new : Content (Node T)) (side : Side) (put : new ≡ record mid { live = attached_by mid.live k p (placed side s k) }) where
+      pub beside_scene : IsScene new.live
+      beside_scene = child_scene new p (placed side s k) put (parent_there old.live scene.tree s p own) (λ x ks. times_placed s k x side ks) scene
+
+      pub beside_inserts : Inserts (record old { live = with_sibling side old.live s k }) k (child (parent_of old.live s) v) new
+      beside_inserts = subst (λ o. Inserts (record old { live = with_children_of old.live o (placed side s k) }) k (child o v) new) (sym own)
+          (child_inserts new p (placed side s k) put (parent_there old.live scene.tree s p own))
+
+      pub beside_gained : (q : Key) → parent_of old.live s ≡ Some q → IsNewChild old.live new.live k q v (placed side s k (children_of old.live q))
+      beside_gained q is =
+          let h = sym own ∙ is in
+          let at : p ≡ q = cc in
+          subst (λ x. IsNewChild old.live new.live k x v (placed side s k (children_of old.live x))) at (child_gained new p (placed side s k) put (parent_there old.live scene.tree s p own))
 
 -- a test answered no, so what it tests does not hold
 pub out_of : {P : Type 0} (answer : Bool) → IsTrue answer ↔ P → answer ≡ false → P → ⊥

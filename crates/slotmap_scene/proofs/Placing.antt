@@ -5,7 +5,7 @@ use Rattle.slotmap.specs.Words.{Key, Content}
 use Rattle.slotmap_keylist.specs.declared.Link.{Link}
 use Rattle.slotmap_keylist.specs.KeyLists.{is_key, same, times}
 use Rattle.slotmap_keylist.specs.Linked.{last_or, link_between}
-use Rattle.slotmap_keylist.proofs.Counts.{is_itself, is_other, one_itself, times_first}
+use Rattle.slotmap_keylist.proofs.Counts.{is_itself, times_first}
 use Rattle.slotmap_keylist.proofs.Linking.{in_midst}
 use Rattle.slotmap_scene.specs.Node.{Node, Nodes}
 use Rattle.slotmap_scene.specs.declared.tree.Side.{Side}

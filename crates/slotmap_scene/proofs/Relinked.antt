@@ -1,5 +1,5 @@
 -- What a change of links does to the links of each node.
-use Rattle.std.proofs.Common.{◌≡◌, ◌≢◌, ℕ, ◌+◌, true, Option, Some, None, List, [], ◌∷◌, ◌++◌, length, is_some, refl, sym, ap, subst, ◌∙◌, inl, inr}
+use Rattle.std.proofs.Common.{◌≡◌, ◌≢◌, ℕ, true, Option, Some, None, List, [], ◌∷◌, ◌++◌, length, is_some, refl, sym, ap, ◌∙◌, inl, inr}
 use Rattle.std.specs.Option.{option_map}
 use Rattle.std.specs.FinMap as map
 use Rattle.slotmap.specs.Words.{Key}
@@ -9,7 +9,7 @@ use Rattle.slotmap_keylist.specs.declared.Link.{Link}
 use Rattle.slotmap_keylist.specs.Linked.{first_or, last_or, link_between, ends_of as ends_of_list}
 use Rattle.slotmap_keylist.proofs.Linking.{first_or-append, last_or-append}
 use Rattle.slotmap_scene.specs.declared.links.LinkedNode.{LinkedNode}
-use Rattle.slotmap_scene.specs.Links.{LinkedNodes, ends_in, ends_of, link_in, link_of, with_node, with_node_in, with_next, with_prev, with_len, relinked}
+use Rattle.slotmap_scene.specs.Links.{LinkedNodes, ends_in, ends_of, link_in, link_of, with_node, with_node_in, with_next, with_prev, relinked}
 
 -- one node is changed
 module _ {T : Type 0} (m : LinkedNodes T) (k : Key) (f : LinkedNode T → LinkedNode T) where
@@ -158,8 +158,8 @@ module _ {T : Type 0} (m : LinkedNodes T) (p : Key) (l : Link Key) (on back : Op
       → ends_of (relinked m p l on back f) p ≡ record { first = first_or before on; last = last_or after back; len = f (length (before ++ (mid ++ after))) }
   relinked_here before mid after place live was =
       let front = ap (λ (s : Link Key). ends_of (with_next m p s.prev on) p) place
-          ∙ first_now m p before on (first_or (mid ++ after) None) live (ap (λ (e : Ends Key). e.first) was ∙ first_or-append before (mid ++ after) None)
-          ∙ ap (λ (e : Ends Key). record e { first = first_or before on }) was in
+      ∙ first_now m p before on (first_or (mid ++ after) None) live (ap (λ (e : Ends Key). e.first) was ∙ first_or-append before (mid ++ after) None)
+      ∙ ap (λ (e : Ends Key). record e { first = first_or before on }) was in
       let last_was : (ends_of first_done p).last ≡ last_or after (last_or mid (last_or before None)) =
       ap (λ (e : Ends Key). e.last) front ∙ last_or-append before (mid ++ after) None ∙ last_or-append mid after (last_or before None) in
       let there : map.contains_key both_done p ≡ true = prev_keeps first_done p is_some (λ n e s. refl) l.next back p ∙ live_then p live in

@@ -1,29 +1,22 @@
 -- The nodes that links show: what is known of each, and how a change of the links shows.
-use Rattle.std.proofs.Common.{◌≡◌, ◌≢◌, ◌+◌, ◌<◌, ℕ, true, false, Option, Some, None, Result, Ok, Err, IfOk, IfErr, OnErr, List, [], ◌∷◌, ◌++◌, is_some, map as list_map, cond, refl, sym, ap, subst, ◌∙◌, inl, inr, arith}
+use Rattle.std.proofs.Common.{◌≡◌, ℕ, true, false, Option, Some, None, Result, Ok, Err, IfOk, IfErr, OnErr, List, [], ◌∷◌, is_some, map as list_map, cond, refl, sym, ap, subst, ◌∙◌, inl, inr, arith}
 use Rattle.std.specs.Option.{option_map}
 use Rattle.std.specs.FinMap as map
 use Rattle.std.proofs.lemmas.Option.{same_Some}
-use Rattle.slotmap.specs.Words.{Key, key_cmp, Content, IsContent, IsNew, IsSpent, KeepsSpent, Inserts, Keeps, Leaves, MakesRoom, IsCloneBy, IsCloneOf}
+use Rattle.slotmap.specs.Words.{Key, Content, IsContent, KeepsSpent, Inserts, Keeps, Leaves, MakesRoom}
 use Rattle.slotmap.proofs.Callers.{get-insert_here, get-insert_other, same_or_other, keys_total, exact_keys}
 use Rattle.slotmap.specs.declared.InsertError.{InsertError}
 use Rattle.slotmap.specs.declared.InsertError.TheVariants.{Full, Memory}
-use Rattle.slotmap_keylist.specs.declared.Ends.{Ends}
-use Rattle.slotmap_keylist.specs.declared.Link.{Link}
-use Rattle.slotmap_keylist.specs.KeyLists.{times, without}
-use Rattle.slotmap_keylist.specs.Linked.{followed, link_between, IsLinked, AreApart}
-use Rattle.slotmap_keylist.specs.Shown.{mapped, with_live}
-use Rattle.slotmap_keylist.proofs.Linking.{without_split}
-use Rattle.slotmap_keylist.proofs.Shown.{entries-mapped, get-mapped, contains-mapped, len-mapped, shown_content, shown_spent, shown_keeps_spent, shown_inserts, shown_keeps, shown_leaves, shown_makes_room}
+use Rattle.slotmap_keylist.specs.Linked.{followed}
+use Rattle.slotmap_keylist.proofs.Shown.{entries-mapped, get-mapped, contains-mapped, len-mapped, shown_content, shown_keeps_spent, shown_inserts, shown_keeps, shown_leaves, shown_makes_room}
 use Rattle.slotmap_scene.specs.declared.links.LinkedNode.{LinkedNode}
 use Rattle.slotmap_scene.specs.Node.{Node, Nodes}
-use Rattle.slotmap_scene.specs.Above.{roots_by, roots_in}
-use Rattle.slotmap_scene.specs.Climb.{has_node, lacks_node, parent_in, parent_of, with_parent}
-use Rattle.slotmap_scene.specs.Family.{IsNodeClone, child, children_in, children_of, value_of, with_children_in, with_value}
-use Rattle.slotmap_scene.specs.Links.{LinkedNodes, ends_in, ends_of, leaf, led_to, link_in, link_of, linked_roots, seen, shown, shown_node, shown_nodes, with_node, put_between, taken_between, IsLinkedClone, IsWoven}
+use Rattle.slotmap_scene.specs.Above.{roots_in}
+use Rattle.slotmap_scene.specs.Climb.{parent_in, parent_of}
+use Rattle.slotmap_scene.specs.Family.{child, children_in, children_of, value_of}
+use Rattle.slotmap_scene.specs.Links.{LinkedNodes, ends_in, leaf, led_to, link_in, link_of, linked_roots, seen, shown, shown_node, shown_nodes, IsWoven}
 use Rattle.slotmap_scene.specs.Refusals.{RefusesNode}
-use Rattle.slotmap_scene.proofs.Families.{parented_children, parented_is, parented_others, value_parented, value_written, written_is, written_others, written_parent, written_keys}
-use Rattle.slotmap_scene.proofs.Relinked.{node_here, node_other, node_keeps, node_gives, relinked_keeps}
-use Rattle.slotmap_scene.proofs.Weaving.{led_is, woven_by, led_same, woven_same, with_list, list_at, list_other, put_keys, put_linked, put_woven, taken_keys, taken_linked, taken_woven}
+use Rattle.slotmap_scene.proofs.Weaving.{led_same, woven_same}
 
 -- nodes with the same values, parents and children are the same
 pub same_nodes : {T : Type 0} (a b : Nodes T) → ((q : Key) → value_of a q ≡ value_of b q) → ((q : Key) → parent_of a q ≡ parent_of b q) → ((q : Key) → children_of a q ≡ children_of b q) → a ≡ b

@@ -1,18 +1,18 @@
 -- How a change of the links between nodes shows.
-use Rattle.std.proofs.Common.{◌≡◌, ◌≢◌, ℕ, ◌+◌, ◌-◌, ◌<◌, ◌≤◌, true, false, Option, Some, None, List, [], ◌∷◌, ◌++◌, is_some, refl, sym, ap, subst, ◌∙◌, inl, inr, arith}
+use Rattle.std.proofs.Common.{◌≡◌, ◌≢◌, ◌+◌, ◌-◌, ◌≤◌, true, Option, Some, None, List, [], ◌∷◌, ◌++◌, is_some, refl, sym, ap, subst, ◌∙◌, inl, inr, arith}
 use Rattle.std.specs.Option.{option_map}
 use Rattle.std.specs.FinMap as map
-use Rattle.slotmap.specs.Words.{Key, key_cmp, Content, IsNew, ClonesEqual, IsCloneBy, IsCloneOf}
-use Rattle.slotmap.proofs.Callers.{keys, get-insert_here, get-insert_other, same_or_other, keys_total, exact_keys, left_in, clone_live}
+use Rattle.slotmap.specs.Words.{Key, key_cmp, Content, IsCloneBy, IsCloneOf}
+use Rattle.slotmap.proofs.Callers.{keys, get-insert_here, get-insert_other, same_or_other, keys_total, exact_keys, left_in}
 use Rattle.slotmap_keylist.specs.declared.Link.{Link}
 use Rattle.slotmap_keylist.specs.KeyLists.{times, without}
-use Rattle.slotmap_keylist.specs.Linked.{ends_of as ends_of_list, link_between, IsLinked, AreApart}
+use Rattle.slotmap_keylist.specs.Linked.{ends_of as ends_of_list, link_between, IsLinked}
 use Rattle.slotmap_keylist.proofs.Linking.{in_midst, without_split}
 use Rattle.slotmap_scene.specs.declared.links.LinkedNode.{LinkedNode}
 use Rattle.slotmap_scene.specs.Node.{Node, Nodes}
-use Rattle.slotmap_scene.specs.Climb.{has_node, parent_in, parent_of, with_parent}
+use Rattle.slotmap_scene.specs.Climb.{parent_in, parent_of, with_parent}
 use Rattle.slotmap_scene.specs.Family.{IsNodeClone, children_in, children_of, value_of, with_children_in, with_value, with_value_in}
-use Rattle.slotmap_scene.specs.Links.{LinkedNodes, ends_in, ends_of, led_to, link_in, link_of, seen, shown, shown_nodes, with_node, with_node_in, put_between, taken_between, IsLinkedClone, IsWoven}
+use Rattle.slotmap_scene.specs.Links.{LinkedNodes, ends_in, ends_of, led_to, link_in, link_of, seen, shown, shown_nodes, with_node, put_between, taken_between, IsLinkedClone, IsWoven}
 use Rattle.slotmap_scene.proofs.Families.{parented_children, parented_is, parented_others, value_parented, value_written, written_is, written_others, written_parent, written_keys}
 use Rattle.slotmap_scene.proofs.Relinked.{node_other, node_keeps, node_gives, relinked_keeps}
 use Rattle.slotmap_scene.proofs.Weaving.{led_is, woven_by, led_same, woven_same, with_list, list_at, list_other, put_linked, taken_linked}

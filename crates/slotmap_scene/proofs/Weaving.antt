@@ -1,18 +1,16 @@
 -- The lists that the links of nodes make, after a node was put into one, or taken out of it.
-use Rattle.std.proofs.Common.{◌≡◌, ◌≢◌, ℕ, ◌+◌, ◌-◌, ◌<◌, ◌≤◌, ◌⊎◌, true, false, cond, Option, Some, None, List, [], ◌∷◌, ◌++◌, length, length-append, is_some, refl, sym, ap, subst, ◌∙◌, inl, inr, arith}
+use Rattle.std.proofs.Common.{◌≡◌, ◌≢◌, ℕ, ◌+◌, ◌-◌, ◌<◌, ◌≤◌, ◌⊎◌, true, cond, Option, Some, None, List, [], ◌∷◌, ◌++◌, length, length-append, is_some, refl, sym, ap, subst, ◌∙◌, inl, inr, arith}
 use Rattle.std.specs.FinMap as map
-use Rattle.std.proofs.lemmas.Option.{same_Some}
 use Rattle.slotmap.specs.Words.{Key}
 use Rattle.slotmap.proofs.Callers.{same_or_other}
 use Rattle.slotmap_keylist.specs.declared.Ends.{Ends}
 use Rattle.slotmap_keylist.specs.declared.Link.{Link}
 use Rattle.slotmap_keylist.specs.KeyLists.{is_key, same, times}
-use Rattle.slotmap_keylist.specs.Linked.{first_or, last_or, link_between, ends_of as ends_of_list, IsLinked, AreApart, Relinks, IsListed}
+use Rattle.slotmap_keylist.specs.Linked.{first_or, last_or, link_between, ends_of as ends_of_list, IsLinked, AreApart, Relinks}
 use Rattle.slotmap_keylist.proofs.Counts.{is_itself, is_other, one_itself, one_other, times_first, times_joined, no_more_than}
 use Rattle.slotmap_keylist.proofs.Linking.{first_or-append, last_or-append, first_in, last_in, in_midst, followed_is, linked_put, linked_taken}
-use Rattle.slotmap_scene.specs.declared.links.LinkedNode.{LinkedNode}
 use Rattle.slotmap_scene.specs.Links.{LinkedNodes, ends_in, ends_of, led_to, link_in, link_of, with_node, relinked, put_between, taken_between, IsWoven}
-use Rattle.slotmap_scene.proofs.Relinked.{node_here, node_other, node_keeps, node_gives, relinked_keeps, relinked_others, relinked_prev, relinked_next, relinked_ends, relinked_here}
+use Rattle.slotmap_scene.proofs.Relinked.{node_other, node_keeps, node_gives, relinked_keeps, relinked_others, relinked_prev, relinked_next, relinked_ends, relinked_here}
 
 -- the lists that the links of nodes make, by what is known of the links
 module _ {T : Type 0} (m : LinkedNodes T) (lists : Key → List Key) (linked : IsLinked (ends_of m) (link_of m) lists) where

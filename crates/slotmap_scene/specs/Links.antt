@@ -5,7 +5,7 @@ use Rattle.slotmap.specs.Words.{Key, key_cmp, Content}
 use Rattle.slotmap_keylist.specs.declared.Ends.{Ends}
 use Rattle.slotmap_keylist.specs.declared.Link.{Link}
 use Rattle.slotmap_keylist.specs.KeyLists.{times}
-use Rattle.slotmap_keylist.specs.Linked.{link_between, follow, followed, IsLinked, AreApart}
+use Rattle.slotmap_keylist.specs.Linked.{first_or, last_or, link_between, followed, IsLinked, AreApart}
 use Rattle.slotmap_keylist.specs.Shown.{mapped, with_live}
 use Rattle.slotmap_scene.specs.Node.{Node, Nodes}
 use Rattle.slotmap_scene.specs.Above.{roots_by}
@@ -106,7 +106,14 @@ module _ {T : Type 0} where
     pub list : children_of nodes p ≡ before ++ after
     pub link : l ≡ link_between before after
 
-  -- so many keys, each by the link of the one before it, are there, and are keys of nodes
-  pub record IsWalk (m : LinkedNodes T) (left : ℕ) (at : Option Key) : Type 0 where
-    pub long : length (follow (link_of m) left at) ≡ left
-    pub live : (k : Key) → 0 < times k (follow (link_of m) left at) → map.contains_key m k ≡ true
+  -- a walk along a part of the list of a node: so many keys of it are left, and the links of its neighbours lead on from `first` and back from `last`
+  pub record IsWalk (m : LinkedNodes T) (left : ℕ) (first last : Option Key) : Type 0 where
+    pub woven : IsWoven m
+    pub owner : Key
+    pub before : List Key
+    pub keys : List Key
+    pub after : List Key
+    pub list : led_to m owner ≡ before ++ (keys ++ after)
+    pub long : length keys ≡ left
+    pub begins : first ≡ first_or (keys ++ after) None
+    pub ends : last ≡ last_or (before ++ keys) None

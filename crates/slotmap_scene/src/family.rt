@@ -16,7 +16,7 @@ ghost use Rattle.slotmap_scene.specs.Refusals.{RefusesNode};
 use crate::iter::ChildKeys;
 use crate::links::{LinkedNode, LinkedNodes, add, put_between, take_between};
 use slotmap::{DefaultKey, InsertError, Key, ReserveError, SlotMap, basic};
-use slotmap_keylist::Link;
+use slotmap_keylist::{Ends, Link};
 use std::alloc::Global;
 use std::marker::Model;
 use std::ops::Index;
@@ -109,8 +109,8 @@ impl<T: Drop> Nodes<T> {
         ensures { result ≡ children_of self.now.live node }
     {
         match self.map.get(node) {
-            Some(node) => ChildKeys::from(&self.map, node.children.first, node.children.len),
-            None => ChildKeys::from(&self.map, None, 0),
+            Some(node) => ChildKeys::between(&self.map, node.children),
+            None => ChildKeys::between(&self.map, Ends::none()),
         }
     }
 
@@ -157,12 +157,7 @@ impl<T: Drop> Nodes<T> {
     }
 
     // Puts a node that is in no list between two children of a parent, as its child.
-    pub fn put_between(
-        &mut self,
-        parent: DefaultKey,
-        node: DefaultKey,
-        siblings: Link<DefaultKey>,
-    )
+    pub fn put_between(&mut self, parent: DefaultKey, node: DefaultKey, siblings: Link<DefaultKey>)
         requires parent { has_node self.old.live parent }
         requires node { has_node self.old.live node }
         requires alone { (p : KeyOf) → times node (children_of self.old.live p) ≡ 0 }

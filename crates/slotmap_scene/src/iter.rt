@@ -1,19 +1,19 @@
 //! The iterator over the keys of a node's children.
 
 ghost use Rattle.std.specs.Prelude.{◌≡◌, ◌≤◌, length, Some, IfSome, ⊤};
-ghost use Rattle.std.specs.Iterator.{YieldsFirstBy, item_count, at_most, UpTo};
-ghost use Rattle.slotmap_keylist.specs.Linked.{follow};
+ghost use Rattle.std.specs.Iterator.{YieldsFirstBy, YieldsLastBy, item_count, at_most, UpTo};
+ghost use Rattle.slotmap_keylist.specs.Linked.{followed};
 ghost use Rattle.slotmap_scene.specs.Links.{IsWalk, link_of};
 
 use crate::links::LinkedNodes;
 use slotmap::{DefaultKey, Key};
-use slotmap_keylist::outer;
+use slotmap_keylist::{Ends, outer};
 use std::alloc::AllocError;
 use std::fmt;
 use std::iter::FusedIterator;
 use std::marker::{Model, PhantomData};
 
-/// An iterator over the keys of a node's children, in order: see [`Scene::children`].
+/// An iterator over the keys of a node's children, in order, from both ends: see [`Scene::children`].
 ///
 /// A contract sees it as the list of the keys that it will still yield. A clone yields the same keys;
 /// cloning allocates nothing.
@@ -22,7 +22,8 @@ use std::marker::{Model, PhantomData};
 #[derive(Drop)]
 pub struct ChildKeys<'a, K, T> {
     nodes: &'a LinkedNodes<T>,
-    at: Option<DefaultKey>,
+    first: Option<DefaultKey>,
+    last: Option<DefaultKey>,
     left: usize,
     key_type: PhantomData<K>,
 }
@@ -35,25 +36,22 @@ impl<'a, K, T> Model for ChildKeys<'a, K, T> {
 
     ghost Value = { List Key };
 
-    ghost view = { λ it. follow (link_of it.nodes.now.live) it.left it.at };
+    ghost view = { λ it. follow (link_of it.nodes.now.live) it.left it.first };
 
-    ghost invariant = { λ it. IsWalk it.nodes.now.live it.left it.at };
+    ghost invariant = { λ it. IsWalk it.nodes.now.live it.left it.first it.last };
 }
 
 impl<'a, K, T> ChildKeys<'a, K, T> {
-    // The keys from this one on, as many as are left.
-    pub(crate) fn from(
-        nodes: &'a LinkedNodes<T>,
-        at: Option<DefaultKey>,
-        left: usize,
-    ) -> ChildKeys<'a, K, T>
-        requires { IsWalk nodes.now.live left at }
-        ensures { result ≡ follow (link_of nodes.now.live) left at }
+    // The keys of a list with these ends.
+    pub(crate) fn between(nodes: &'a LinkedNodes<T>, ends: Ends<DefaultKey>) -> ChildKeys<'a, K, T>
+        requires { IsWalk nodes.now.live ends.len ends.first ends.last }
+        ensures { result ≡ followed (link_of nodes.now.live) ends }
     {
         ChildKeys {
             nodes,
-            at,
-            left,
+            first: ends.first,
+            last: ends.last,
+            left: ends.len,
             key_type: PhantomData,
         }
     }
@@ -72,7 +70,13 @@ impl<'a, K, T> Clone for ChildKeys<'a, K, T> {
     ghost is_infallible = { λ _. ⊤ };
 
     fn clone(&self) -> Result<Self, AllocError> {
-        Ok(ChildKeys::from(self.nodes, self.at, self.left))
+        Ok(ChildKeys {
+            nodes: self.nodes,
+            first: self.first,
+            last: self.last,
+            left: self.left,
+            key_type: PhantomData,
+        })
     }
 }
 
@@ -87,9 +91,10 @@ impl<'a, K: Key, T: Drop> Iterator for ChildKeys<'a, K, T> {
         if self.left == 0 {
             return None;
         }
-        let key = self.at?;
-        self.at = self.nodes.get(key)?.siblings.next;
+        let key = self.first?;
+        let node = self.nodes.get(key)?;
         self.left -= 1;
+        self.first = node.siblings.next;
         Some(outer(key))
     }
 
@@ -100,6 +105,21 @@ impl<'a, K: Key, T: Drop> Iterator for ChildKeys<'a, K, T> {
     {
         let len = self.len();
         (len, Some(len))
+    }
+}
+
+impl<'a, K: Key, T: Drop> DoubleEndedIterator for ChildKeys<'a, K, T> {
+    ghost next_back_gives = { YieldsLastBy K.data_of (λ rest. rest) };
+
+    fn next_back(&mut self) -> Option<K> {
+        if self.left == 0 {
+            return None;
+        }
+        let key = self.last?;
+        let node = self.nodes.get(key)?;
+        self.left -= 1;
+        self.last = node.siblings.prev;
+        Some(outer(key))
     }
 }
 

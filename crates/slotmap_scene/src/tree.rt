@@ -29,10 +29,7 @@ impl<T: Drop> Nodes<T> {
         ensures leaves { Leaves self.old self.new }
     {
         let prev = self.last(parent);
-        self.put_between(parent, node, Link {
-            prev,
-            next: None,
-        });
+        self.put_between(parent, node, Link { prev, next: None });
     }
 
     // The neighbours of a place beside a node, among its siblings.

@@ -2,7 +2,7 @@ use Rattle.std.proofs.Common.{◌≡◌, ◌≢◌, [], ◌∷◌, ◌++◌, len
 use Rattle.std.specs.Prelude.{option_to_list}
 use Rattle.std.proofs.lemmas.List.{length-map, map-append, nil_from_length}
 use Rattle.slotmap_scene.specs.Climb.{IsWithin, has_node}
-use Rattle.slotmap_scene.specs.Family.{IsScene, children_of}
+use Rattle.slotmap_scene.specs.Family.{IsScene}
 use Rattle.slotmap_scene.proofs.Descending.{each_listed, descended_all, descended_only, descended_order, walk_longer, walk_none, walk_start, walk_step}
 use Rattle.slotmap_scene.proofs.Scene.descendants.Goals as goal
 

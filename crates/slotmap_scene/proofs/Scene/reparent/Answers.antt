@@ -1,8 +1,6 @@
 use Rattle.std.proofs.Common.{sym, ap, subst, ◌∙◌}
 use Rattle.slotmap_scene.specs.Climb.{IsWithin, has_node}
 use Rattle.slotmap_scene.specs.Family.{IsScene, attached}
-use Rattle.slotmap_scene.specs.Links.{shown}
-use Rattle.slotmap_keylist.specs.KeyLists.{times}
 use Rattle.slotmap_scene.proofs.Families.{may_leave}
 use Rattle.slotmap_scene.proofs.Moved.{out_of, root_alone, scene_moved}
 use Rattle.slotmap_scene.proofs.Scene.reparent.Goals as goal

@@ -1,5 +1,5 @@
-use Rattle.std.proofs.Common.{◌≡◌, sym, ap, ◌∙◌, arith}
-use Rattle.slotmap_scene.specs.Links.{ends_of, taken_between, with_next, with_prev}
+use Rattle.std.proofs.Common.{sym, ap, ◌∙◌, arith}
+use Rattle.slotmap_scene.specs.Links.{with_prev}
 use Rattle.std.specs.FinMap as map
 use Rattle.slotmap_scene.proofs.Relinked.{neighbours_len}
 use Rattle.slotmap_scene.proofs.links.take_between.Goals as goal

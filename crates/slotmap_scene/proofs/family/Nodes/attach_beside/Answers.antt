@@ -1,4 +1,4 @@
-use Rattle.std.proofs.Common.{◌≡◌, sym, arith}
+use Rattle.std.proofs.Common.{arith}
 use Rattle.slotmap_keylist.proofs.Linking.{split_at}
 use Rattle.slotmap_scene.specs.Family.{beside, children_of}
 use Rattle.slotmap_scene.proofs.Placing.{attached_side, side_place}

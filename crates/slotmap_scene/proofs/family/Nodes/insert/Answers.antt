@@ -1,4 +1,4 @@
-use Rattle.std.proofs.Common.{sym, ◌∙◌, true}
+use Rattle.std.proofs.Common.{◌∙◌}
 use Rattle.std.proofs.lemmas.Result.{IfOk-weaker}
 use Rattle.slotmap_keylist.proofs.Shown.{spent_shown}
 use Rattle.slotmap_scene.specs.Links.{shown_nodes}

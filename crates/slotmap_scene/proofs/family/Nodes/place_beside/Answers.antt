@@ -1,4 +1,4 @@
-use Rattle.std.proofs.Common.{Some, None, ◌∷◌, [], sym}
+use Rattle.std.proofs.Common.{None, ◌∷◌, [], sym}
 use Rattle.slotmap_keylist.proofs.Linking.{last_or-append}
 use Rattle.slotmap_scene.proofs.family.Nodes.place_beside.Goals as goal
 

@@ -1,4 +1,3 @@
-use Rattle.std.proofs.Common.{sym, ap}
 use Rattle.slotmap_scene.proofs.Showing.{nodes_make_room, shown_len}
 use Rattle.slotmap_scene.proofs.family.Nodes.reserve.Goals as goal
 

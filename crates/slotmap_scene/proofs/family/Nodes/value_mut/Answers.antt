@@ -1,4 +1,4 @@
-use Rattle.std.proofs.Common.{◌∙◌, sym, ap, option_map}
+use Rattle.std.proofs.Common.{◌∙◌, sym, ap}
 use Rattle.slotmap.specs.Words.{Content}
 use Rattle.slotmap.proofs.Callers.{same_lent, same_unlent}
 use Rattle.slotmap_scene.specs.Node.{Node}

@@ -1,4 +1,3 @@
-use Rattle.std.proofs.Common.{sym}
 use Rattle.slotmap_scene.proofs.ShownChanges.{shown_none, woven_none}
 use Rattle.slotmap_scene.proofs.family.Nodes.with_capacity.Goals as goal
 
