@@ -1,4 +1,5 @@
 pub mod Alone
 pub mod Counts
 pub mod Linking
+pub mod Mapped
 pub mod Searched

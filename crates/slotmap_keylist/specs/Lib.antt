@@ -1,2 +1,3 @@
 pub mod KeyLists
 pub mod Linked
+pub mod Mapped
