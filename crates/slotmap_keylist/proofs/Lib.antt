@@ -3,3 +3,4 @@ pub mod Counts
 pub mod Linking
 pub mod Mapped
 pub mod Searched
+pub mod Splicing

@@ -20,7 +20,7 @@ last_or-append [] ys o = refl
 last_or-append (x ∷ xs) ys o = last_or-append xs ys (Some x)
 
 -- the first key of a list is in it, and the last one too
-first_in : (ks : List Key) (f : Key) → first_or ks None ≡ Some f → 0 < times f ks
+pub first_in : (ks : List Key) (f : Key) → first_or ks None ≡ Some f → 0 < times f ks
 first_in [] f is = absurd (cc)
 first_in (k ∷ ks) f is = let here = same_Some k f is in let first = times_first f k ks in let one = ap (λ q. same q f) here ∙ one_itself f in omega arith
 
@@ -28,7 +28,7 @@ last_of : (k : Key) (ks : List Key) (l : Key) → last_or ks (Some k) ≡ Some l
 last_of k [] l is = let e = same_Some k l is in let first = times_first l k [] in let one = ap (λ q. same q l) e ∙ one_itself l in omega arith
 last_of k (q ∷ ks) l is = let rest = last_of q ks l is in let first = times_first l k (q ∷ ks) in omega arith
 
-last_in : (ks : List Key) (l : Key) → last_or ks None ≡ Some l → 0 < times l ks
+pub last_in : (ks : List Key) (l : Key) → last_or ks None ≡ Some l → 0 < times l ks
 last_in [] l is = absurd (cc)
 last_in (k ∷ ks) l is = last_of k ks l is
 
@@ -37,7 +37,7 @@ cons_not_nil [] x a at = absurd (cc)
 cons_not_nil (q ∷ b) x a at = absurd (cc)
 
 -- a key in the midst of a list is in it
-in_midst : (before : List Key) (k : Key) (after : List Key) → times k (before ++ k ∷ after) ≡ 1 + (times k before + times k after)
+pub in_midst : (before : List Key) (k : Key) (after : List Key) → times k (before ++ k ∷ after) ≡ 1 + (times k before + times k after)
 in_midst before k after = let sum = times_joined k before (k ∷ after) in let first = times_first k k after in let one = one_itself k in omega arith
 
 -- where a list is cut, a key of it is before the cut or after it

@@ -1,3 +1,4 @@
 pub mod KeyLists
 pub mod Linked
 pub mod Mapped
+pub mod Splice
