@@ -1,12 +1,12 @@
 -- A map, or a content, with another value for each of its values: what each change of a map does to it.
-use Rattle.std.proofs.Common.{◌≡◌, ◌≢◌, ◌+◌, ◌&&◌, ◌||◌, ◌≤◌, ◌⊎◌, ⊎_elim, ℕ, T, Bool, true, false, cond, not, is_lt, Option, Some, None, OnSome, IfNone, is_some, List, [], ◌∷◌, length, map as list_map, refl, sym, ap, ◌∙◌, subst, inl, inr, arith}
+use Rattle.std.proofs.Common.{◌≡◌, ◌&&◌, ◌||◌, ◌⊎◌, ⊎_elim, ℕ, T, Bool, true, false, cond, not, is_lt, Option, Some, None, OnSome, IfNone, is_some, List, [], ◌∷◌, length, map as list_map, refl, sym, ap, ◌∙◌, subst, inl, inr, arith}
 use Rattle.std.specs.Option.{option_map}
 use Rattle.std.specs.Ordering.{eq_by_cmp}
 use Rattle.std.specs.FinMap as map
 use Rattle.std.specs.FinSet as set
 use Rattle.std.specs.FinMap.Entries.{find, below_all, is_sorted}
 use Rattle.std.proofs.lemmas.List.{length-map}
-use Rattle.slotmap.specs.Words.{Key, key_cmp, is_last, Content, IsContent, IsRetired, Stands, IsLive, IsSpent, KeepsSpent, IsNew, Inserts, Removes, Keeps, Leaves, MakesRoom, IsCloneOf, IsCloneBy, with_value, LacksRoom, used, places}
+use Rattle.slotmap.specs.Words.{Key, key_cmp, is_last, Content, IsContent, IsRetired, Stands, IsLive, IsSpent, KeepsSpent, IsNew, Inserts, Removes, Keeps, Leaves, MakesRoom, MayGrow, StaysValid, IsCloneOf, IsCloneBy, with_value, LacksRoom, used, places}
 use Rattle.slotmap.proofs.Callers.{keys_total, exact_keys, same_or_other, get-insert_here, get-insert_other}
 use Rattle.slotmap_keylist.specs.Mapped.{map_values, map_content}
 
@@ -172,6 +172,26 @@ module _ {V W : Type 0} (f : V → W) where
       room = keeps.room;
     }
 
+    pub mapped-grow : (refused : Type 0) → MayGrow true old refused new → MayGrow true (map_content f old) refused (map_content f new)
+    mapped-grow refused valid = record {
+      before = content-mapped old true valid.before;
+      after = content-mapped new true valid.after;
+      capacity = valid.capacity;
+      unchanged = λ no. mapped-keeps (valid.unchanged no);
+    }
+
+    pub mapped-stays : StaysValid true old new → StaysValid true (map_content f old) (map_content f new)
+    mapped-stays valid = record { before = content-mapped old true valid.before; after = content-mapped new true valid.after; capacity = valid.capacity }
+
+    -- a removal, whatever it returns
+    pub mapped-removal : (k : Key) (answer : Option V) → OnSome answer (Removes old k new) → OnSome (option_map f answer) (Removes (map_content f old) k (map_content f new))
+    mapped-removal k None removes = tt
+    mapped-removal k (Some v) removes = mapped-removes k removes
+
+    pub mapped-unchanged : (answer : Option V) → IfNone answer (new ≡ old) → IfNone (option_map f answer) (map_content f new ≡ map_content f old)
+    mapped-unchanged None is = ap (map_content f) is
+    mapped-unchanged (Some v) is = tt
+
     same_left : (k : Key) → (map.contains_key (map_values f old.live) k && not (map.contains_key (map_values f new.live) k))
         ≡ (map.contains_key old.live k && not (map.contains_key new.live k))
     same_left k = ap (λ b. b && not (map.contains_key (map_values f new.live) k)) (contains-mapped old.live k) ∙ ap (λ b. map.contains_key old.live k && not b) (contains-mapped new.live k)
@@ -202,6 +222,10 @@ module _ {V W : Type 0} (f : V → W) where
       capacity = makes.capacity;
     }
 
+    -- a write, seen through f
+    pub mapped-with : (k : Key) (v : V) → map_content f (with_value old k v) ≡ with_value (map_content f old) k (f v)
+    mapped-with k v = ap (λ (m : map.FinMap key_cmp W). record (map_content f old) { live = m }) (mapped-insert old.live k v)
+
     -- a write that changes nothing of what f sees
     pub mapped-written : (k : Key) (v was : V) → map.get old.live k ≡ Some was → f v ≡ f was → new ≡ with_value old k v → map_content f new ≡ map_content f old
     mapped-written k v was there same is = ap (map_content f) is ∙ ap (λ (m : map.FinMap key_cmp W). record (map_content f old) { live = m }) (is_mapped (map.insert old.live k v) (map_values f old.live) (λ q.
@@ -226,3 +250,6 @@ module _ {V W : Type 0} (f : V → W) where
       by None p is = ap (option_map f) is
       by (Some v) None is = is
       by (Some v) (Some w) is = so v w is
+
+-- what is found, and how much, where each value is another
+pub ruleset mapped = (get-mapped, contains-mapped, len-mapped, keys-mapped)

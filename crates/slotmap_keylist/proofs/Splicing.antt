@@ -2,14 +2,14 @@
 use Rattle.std.proofs.Common.{◌≡◌, ◌≢◌, ◌+◌, ◌-◌, ◌<◌, ◌≤◌, true, Option, Some, None, List, [], ◌∷◌, ◌++◌, length, cond, refl, sym, ap, subst, ◌∙◌, arith, append-nil, length-append}
 use Rattle.std.specs.FinMap as map
 use Rattle.slotmap.specs.Words.{Key, key_cmp}
-use Rattle.slotmap.proofs.Callers.{keys_total, exact_keys, same_or_other, len_removed, live-remove_other}
-use Rattle.slotmap_keylist.specs.KeyLists.{is_key, same, times}
-use Rattle.slotmap_keylist.specs.Linked.{first_or, last_or, ends_of, link_between, followed, IsLinked, Relinks}
+use Rattle.slotmap.proofs.Callers.{keys_total, exact_keys, len_removed, live-remove_other}
+use Rattle.slotmap_keylist.specs.KeyLists.{same, times}
+use Rattle.slotmap_keylist.specs.Linked.{first_or, last_or, ends_of, followed, IsLinked, Relinks}
 use Rattle.slotmap_keylist.specs.Splice.{with_next, with_prev, own}
 use Rattle.slotmap_keylist.specs.declared.Ends.{Ends}
 use Rattle.slotmap_keylist.specs.declared.Link.{Link}
 use Rattle.slotmap_keylist.proofs.Counts.{is_itself, is_other, one_itself, times_first}
-use Rattle.slotmap_keylist.proofs.Linking.{first_or-append, last_or-append, first_in, last_in, in_midst, followed_is}
+use Rattle.slotmap_keylist.proofs.Linking.{last_or-append, first_in, last_in, in_midst, followed_is}
 
 module _ (to : Option Key) (link : Key → Link Key) (q : Key) where
   next_here : with_next (Some q) to link q ≡ record (link q) { next = to }

@@ -1,7 +1,7 @@
 -- A map, or a content, with another value for each of its values.
 use Rattle.std.specs.Prelude.{map as list_map}
 use Rattle.std.specs.FinMap as map
-use Rattle.slotmap.specs.Words.{Key, key_cmp, Content}
+use Rattle.slotmap.specs.Words.{key_cmp, Content}
 
 -- the same keys, each with what f makes of its value
 unfoldable pub map_values : {V W : Type 0} → (V → W) → map.FinMap key_cmp V → map.FinMap key_cmp W
