@@ -1,4 +1,6 @@
 pub mod KeyLists
 pub mod KeyOrNull
 pub mod Linked
+pub mod Mapped
 pub mod Shown
+pub mod Splice
