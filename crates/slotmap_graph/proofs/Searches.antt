@@ -6,8 +6,7 @@ use Rattle.slotmap.specs.Words.{Key, Content, IsLive, Pairs, IsBeside, get, cont
 use Rattle.slotmap.proofs.Callers.{same_or_other, secondary}
 use Rattle.std.proofs.lemmas.List.{append-nil, drop-append-le}
 use Rattle.slotmap_keylist.specs.KeyLists.{same, times}
-use Rattle.slotmap_keylist.proofs.Counts.{one_itself, one_other, times_first, times_joined, times_there, here_or_behind, none_behind}
-use Rattle.slotmap_keylist.proofs.Splicing.{no_more_than}
+use Rattle.slotmap_keylist.proofs.Counts.{one_itself, one_other, times_first, times_joined, times_there, here_or_behind, none_behind, no_more_than}
 use Rattle.slotmap_graph.specs.Parts.{SeenEdge, Edges, EndsLive, ListsEdges, ends_at, from}
 use Rattle.slotmap_graph.specs.Search.{LeadsBy, Leads, AllLed, HasNext, AreSeen, GoesOn, Finds}
 
@@ -164,4 +163,4 @@ module _ {N E : Type 0} (nodes : Content N) (edges : Edges E) (start : Key) wher
 pub searching_fits : {N E : Type 0} (nodes : Content N) (edges : Edges E) (start : Key) (seen : Pairs (Unit {0})) (found : List Key)
     (at : ℕ) → Searching nodes edges start seen found at → length found ≤ map.len nodes.live
 searching_fits nodes edges start seen found at searching =
-    no_more_than nodes.live found (λ x. listed_once seen found searching.listed x) (λ x more. (searching_found nodes edges start seen found at searching x more).0)
+    no_more_than found nodes.live (λ x. listed_once seen found searching.listed x) (λ x more. (searching_found nodes edges start seen found at searching x more).0)

@@ -8,9 +8,9 @@ use Rattle.slotmap_keylist.specs.Linked.{followed, AreApart}
 use Rattle.slotmap_keylist.specs.Mapped.{map_values, map_content}
 use Rattle.slotmap_keylist.specs.declared.Ends.{Ends}
 use Rattle.slotmap_keylist.specs.declared.Link.{Link}
-use Rattle.slotmap_keylist.proofs.Counts.{is_itself, is_other}
+use Rattle.slotmap_keylist.proofs.Counts.{is_itself, is_other, no_more_than}
 use Rattle.slotmap_keylist.proofs.Mapped.{get-mapped, contains-mapped, mapped-written}
-use Rattle.slotmap_keylist.proofs.Splicing.{no_more_than, followed_along, linked_along}
+use Rattle.slotmap_keylist.proofs.Splicing.{followed_along, linked_along}
 use Rattle.slotmap_graph.specs.declared.Node.{Node}
 use Rattle.slotmap_graph.specs.declared.Edge.{Edge}
 use Rattle.slotmap_graph.specs.declared.links.Direction.{Direction}
@@ -131,7 +131,7 @@ module _ {N E : Type 0} where
   -- a list has no more edges than there are
   pub list_fits : (d : Direction) (nodes : map.FinMap key_cmp (Node N)) (edges : Content (Edge E)) → IsContent true edges → IsThreaded d nodes edges.live → (p : Key) → length (listed d nodes edges.live p) ≤ most
   list_fits d nodes edges well threaded p =
-      let few = no_more_than edges.live (listed d nodes edges.live p) (threaded.apart.once p) (threaded.live p) in
+      let few = no_more_than (listed d nodes edges.live p) edges.live (threaded.apart.once p) (threaded.live p) in
       let limit = well.limit in
       omega arith
 
