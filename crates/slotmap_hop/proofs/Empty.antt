@@ -1,6 +1,6 @@
 -- A map with no key: slot 0 alone.
 use Rattle.std.proofs.Common.{◌≡◌, ◌∷◌, ⊎_elim, ℕ, zero, suc, List, [], refl, arith}
-use Rattle.slotmap_core.proofs.Common.{Detached, Vacant, at_push, IsStacked-sentinel, live-sentinel}
+use Rattle.slotmap_core.proofs.Common.{at_push, IsStacked-sentinel, live-sentinel}
 use Rattle.slotmap_hop.specs.Slots.{Slot, all_links, IsSound}
 use Rattle.slotmap_hop.specs.declared.links.Slot.TheVariants.{Single}
 use Rattle.slotmap_hop.specs.Links.{is_front, NamesApart, links_at, vacant_at, end_at, ListsOnce, NamesEnds}
@@ -23,12 +23,4 @@ module _ (V : Type 0) where
   apart-new (suc x) = tt
 
   pub IsSound-new : IsSound (sentinel_alone V) 0 0
-  IsSound-new =
-      record {
-        linked = record { sentinel = refl; linked = shut (record { listed = listed-new; chain = (refl, refl); ends = ends-new }) apart-new; fits = omega arith };
-        none_detached = λ i v found. ⊎_elim (λ same. absurd (let wrong = same.1 in cc)) (λ other. absurd (let none = other.1 in cc)) (at_push [] (Vacant 1) i (Detached v) found);
-        elems_live = live-sentinel V;
-        stack = [];
-        stacked = IsStacked-sentinel V;
-        counted = refl;
-      }
+  IsSound-new = grind (arith, shut, listed-new, ends-new, apart-new, ⊎_elim, at_push, live-sentinel, IsStacked-sentinel)

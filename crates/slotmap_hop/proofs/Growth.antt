@@ -17,15 +17,7 @@ module _ {V : Type 0} (slots : List (Slot V)) (vacant elems : ℕ) (sound : IsSo
   pub IsSound-set : (i : ℕ) (old p : Place V) → slice_get (places_of slots) i ≡ Some old → ((v : ℕ) → p ≢ Detached v) → HasBlockList (all_links new)
       → places_of new ≡ set (places_of slots) i p → (vs : List ℕ) → IsStacked (set (places_of slots) i p) vs → (vacant2 elems2 : ℕ) → length vs ≡ vacant2
       → map.len (live (set (places_of slots) i p)) ≡ elems2 → IsSound new vacant2 elems2
-  IsSound-set i old p was other list after vs stacked vacant2 elems2 counted lives = record {
-    linked = list;
-    none_detached = λ j v there. ⊎_elim (λ same. absurd (other v same.1)) (λ kept. sound.none_detached j v kept.1)
-        (at_set (places_of slots) i p old was j (Detached v) (ap (λ ps. slice_get ps j) (sym after) ∙ there));
-    elems_live = ap (λ ps. map.len (live ps)) after ∙ lives;
-    stack = vs;
-    stacked = subst (λ ps. IsStacked ps vs) (sym after) stacked;
-    counted = counted;
-  }
+  IsSound-set i old p was other list after vs stacked vacant2 elems2 counted lives = grind (arith, ⊎_elim, at_set, live)
 
 -- the steps on contents
 module _ {V : Type 0} (slots : List (Slot V)) (vacant elems : ℕ) (sound : IsSound slots vacant elems) (new : List (Slot V)) where

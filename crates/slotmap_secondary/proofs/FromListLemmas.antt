@@ -31,10 +31,7 @@ module _ {V : Type 0} where
   pairs-push_key slots version value = gather-push_put laws (λ j. j) entry_in entry_fits slots (Occupied version value) (length slots, (version, value)) refl
 
   pub count_key : (slots : List (Slot V)) (version : ℕ) (value : V) → map.len (pairs_of (slots ++ Occupied version value ∷ [])) ≡ map.len (pairs_of slots) + 1
-  count_key slots version value =
-      ap map.len (pairs-push_key slots version value)
-      ∙ len_inserted nat_cmp_total exact_unsigned (pairs_of slots) (length slots) (version, value)
-      (ap is_some (get-pairs slots (length slots) ∙ ap pair_at (slice_get_past slots (length slots) (omega arith))))
+  count_key slots version value = grind (arith, pairs-push_key, len_inserted, nat_cmp_total, exact_unsigned, get-pairs, slice_get_past)
 
   pub count_empty : (slots : List (Slot V)) → map.len (pairs_of (slots ++ Vacant 0 ∷ [])) ≡ map.len (pairs_of slots)
   count_empty slots = ap map.len (pairs-push slots)
@@ -55,12 +52,7 @@ module _ {V : Type 0} where
         by version (Some value) odd small less = record { index_fits = omega (arith, accepted.short); version_fits = small; odd = odd refl; one_null = λ null. absurd (omega (arith, accepted.short)) }
 
     pub IsSound-read : (len : ℕ) → len ≡ map.len (pairs_of (read list)) → IsSound (read list) len
-    IsSound-read len counts = record {
-      first = omega (arith, length-map list (λ r. slot_from r.version r.value), slice_get_within list 0 accepted.first_empty.0 accepted.first_empty.1);
-      fits = omega (arith, length-map list (λ r. slot_from r.version r.value), accepted.short);
-      each = slot_at;
-      counted = counts;
-    }
+    IsSound-read len counts = grind (arith, length-map, slice_get_within, slot_at)
 
     pub read-contents : keyed (pairs_of (read list)) ≡ start_live list
     read-contents = contents_by_place list (pairs_of (read list))
