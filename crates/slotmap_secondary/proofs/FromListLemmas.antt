@@ -23,8 +23,7 @@ module _ {V : Type 0} where
 
   pub read-push : (slots : List (Slot V)) (before : List (SlotRecord V)) (r : SlotRecord V) (o : Option V) → slots ≡ read before → r.value ≡ o
       → slots ++ slot_from r.version o ∷ [] ≡ read (before ++ r ∷ [])
-  read-push slots before r o made is =
-      ap (λ xs. xs ++ slot_from r.version o ∷ []) made ∙ ap (λ v. read before ++ slot_from r.version v ∷ []) (sym is) ∙ sym (map_push (λ r. slot_from r.version r.value) before r)
+  read-push slots before r o made is = grind (arith, map_push)
 
   pub pairs-push_key : (slots : List (Slot V)) (version : ℕ) (value : V) → pairs_of (slots ++ Occupied version value ∷ []) ≡ map.insert (pairs_of slots) (length slots) (version, value)
   unfolding pairs_of

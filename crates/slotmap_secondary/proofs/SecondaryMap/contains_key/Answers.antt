@@ -3,9 +3,7 @@ use Rattle.slotmap_secondary.proofs.ReadLemmas.{at-read, at-past, marked-read}
 use Rattle.slotmap_secondary.proofs.SecondaryMap.contains_key.Goals as goal
 
 pub has-requires-clause-marked : goal.has-requires-clause-marked
-has-requires-clause-marked g c =
-    let lookup = c.in-Some.ensures.lookup in
-    marked-read _ _ c.self.invariant _ _ c.deref.ensures.value _ lookup.1 lookup.3.0
+has-requires-clause-marked g c = grind (arith, common_steps, marked-read)
 
 pub returns-in-Some-clause-value : goal.returns-in-Some-clause-value
 returns-in-Some-clause-value g c = grind (arith, common_steps, value_at, at-read)
