@@ -9,8 +9,7 @@ module _ {V : Type 0} where
   -- after one of these keys is removed, the others remain
   pub blocks_taken : (now new : HopContent V) (k : Key) (ks : List Key) → Removes now.content k new.content → new.blocks ≡ blocks_without now k
       → blocks_without_all now (k ∷ ks) ≡ blocks_without_all new ks
-  blocks_taken now new k ks removes blocks =
-      λ j. blocks_without_all (record { content = record now.content { next = sym removes.next j }; blocks = sym blocks j }) ks
+  blocks_taken now new k ks removes blocks = grind arith
 
   -- the keys of a map that has this first entry
   pub keys_first : (m n : map.FinMap key_cmp V) (k : Key) (v : V) → map.entries m ≡ (k, v) ∷ map.entries n → map.keys m ≡ k ∷ map.keys n

@@ -103,10 +103,6 @@ module _ {V : Type 0} (slots : List (Slot V)) (reads0 start : ℕ) where
   way_begins can = grind arith
 
   module _ {reads place : ℕ} (way : OnTheWay reads place) where
-    -- another search may begin there
-    pub way_can : CanGoOn slots reads place
-    way_can = record { stands = way.stands; passed = omega (arith, way.passed, way.before) }
-
     -- after all places nothing is left
     pub way_ends : length slots ≤ place → FindsNone slots start
     way_ends past = grind (arith, drop_all, length-places, live_at, slice_get_within)

@@ -63,8 +63,7 @@ module _ {V : Type 0} (slots : List (Slot V)) (vacant elems : ℕ) (sound : IsSo
   elems_positive = omega (arith, len-live-set (places_of slots) i (Live v x) Retired place, sound.elems_live)
 
   pub vacant_below : vacant + 1 < 2 ^ 32
-  vacant_below =
-      omega (arith, total (places_of slots) 1 sound.stacked.sentinel, length-places slots, sound.elems_live, sound.stacked.counted, sound.counted, elems_positive, slots_fit slots vacant elems sound)
+  vacant_below = grind (arith, total, length-places, elems_positive, slots_fit)
 
   pub can_free : CanFree slots i
   can_free = grind (arith, live, place_not_vacant, not_first, live_within, length-all_links, live_slot)
