@@ -100,31 +100,12 @@ module _ {V : Type 0} (slots : List (Slot V)) (reads0 start : ℕ) where
     pub before : reads0 ≤ start
 
   pub way_begins : CanGoOn slots reads0 start → OnTheWay reads0 start
-  way_begins can = record {
-    stands = can.stands;
-    same = refl;
-    none = λ q there from. from;
-    gone = [];
-    still = refl;
-    below = All-nil (λ k. k.index < start);
-    few_vacant = λ vacant. omega arith;
-    few = omega arith;
-    passed = omega arith;
-    begun = omega arith;
-    before = can.passed;
-  }
+  way_begins can = grind arith
 
   module _ {reads place : ℕ} (way : OnTheWay reads place) where
-    -- another search may begin there
-    pub way_can : CanGoOn slots reads place
-    way_can = record { stands = way.stands; passed = omega (arith, way.passed, way.before) }
-
     -- after all places nothing is left
     pub way_ends : length slots ≤ place → FindsNone slots start
-    way_ends past = record {
-      none = way.same ∙ ap (pairs_from place) (drop_all place (places_of slots) (omega (arith, length-places slots)));
-      below = λ q there. (let at = live_at (places_of slots) q there in grind (arith, way.none q there, slice_get_within (places_of slots) q.index, length-places slots));
-    }
+    way_ends past = grind (arith, drop_all, length-places, live_at, slice_get_within)
 
     -- what is left lies ahead
     pub way_inside : 0 < length (pairs_left slots start) → place < length slots
@@ -257,9 +238,4 @@ module _ {V : Type 0} (slots : List (Slot V)) (reads0 start : ℕ) where
 
       pub left_here : value_in s ≡ None → {next : Counted V} → GoesTo new (hop_in new.place s + 1) next
           → IsAt next × (length next.slots - next.place < length now.slots - now.place)
-      left_here none {next} goes =
-          let on = leaves none in
-          let same = goes.slots ∙ read.slots ∙ at.kept in (
-            record { kept = same; way = rw (goes.place, goes.reads, read.place) on.on },
-            rw (same, at.kept, goes.place, read.place) (omega (arith, on.within, on.onward)),
-          )
+      left_here none {next} goes = grind (arith, leaves)

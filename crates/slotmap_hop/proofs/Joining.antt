@@ -5,7 +5,7 @@ use Rattle.slotmap_hop.specs.declared.links.Links.{Links}
 use Rattle.slotmap_hop.specs.declared.links.Links.TheVariants.{Single, Front, Back}
 use Rattle.slotmap_hop.specs.Blocks.{IsBlock, vacated_alone, vacated_before, vacated_after, vacated_between}
 use Rattle.slotmap_hop.specs.Links.{is_vacant, has_next, has_prev, next_in, prev_in, end_in, vacant_at, links_at, next_at, held_at, prev_at, end_at, occurs, list_without, replaced, fronts_of, blocks_of}
-use Rattle.slotmap_hop.specs.Links.{Relinks, Puts, Unlinks, TakesOver, KeepsEnds, HasBlockList, HasBlocks, CanVacate, IsHead}
+use Rattle.slotmap_hop.specs.Links.{Redirects, Puts, Unlinks, TakesOver, KeepsEnds, HasBlockList, HasBlocks, CanVacate, IsHead}
 use Rattle.slotmap_hop.proofs.Chain.{in_removed, next_occurs, prev_occurs, IsChain-removed, IsChain-replaced, IsChain-appended}
 use Rattle.slotmap_hop.proofs.BlockLemmas.{IsBlock-front, begins_at, joined}
 use Rattle.slotmap_hop.proofs.Writes.{links_here, links_other, vacancy_kept, flags_kept, ends_kept, apart_kept, apart_set, within, same_test, other_test}
@@ -37,7 +37,7 @@ module _ {old : List (Option Links)} {i : ℕ} (live : CanVacate old i) where
 
   -- neither neighbour is vacant
   pub joins_alone : (led : List (Option Links)) {last : ℕ} → vacant_at old (i - 1) ≡ false → vacant_at old (i + 1) ≡ false → last ≡ prev_at old 0
-      → Relinks (next_at old) (prev_at old) (next_at led) (prev_at led) last 0 i i → KeepsEnds old led → HasBlocks (set led i (Some (Single 0 last))) (vacated_alone (blocks_of old) i)
+      → Redirects (next_at old) (prev_at old) (next_at led) (prev_at led) last 0 i i → KeepsEnds old led → HasBlocks (set led i (Some (Single 0 last))) (vacated_alone (blocks_of old) i)
   joins_alone led {last} left right at_end leads keeps =
       let linked = shown live.sound.linked in
       let fs = fronts_of old in
@@ -153,7 +153,7 @@ module _ {old : List (Option Links)} {i : ℕ} (live : CanVacate old i) where
     -- only the right neighbour is vacant
     pub joins_before : (led : List (Option Links)) {next back prev : ℕ} → vacant_at old (i - 1) ≡ false
         → next ≡ next_at old (i + 1) → back ≡ end_at old (i + 1) → prev ≡ prev_at old (i + 1)
-        → Relinks (next_at old) (prev_at old) (next_at led) (prev_at led) prev next i i → KeepsEnds old led
+        → Redirects (next_at old) (prev_at old) (next_at led) (prev_at led) prev next i i → KeepsEnds old led
         → HasBlocks (set (set led back (Some (Back i prev))) i (Some (Front next back))) (vacated_before (blocks_of old) i)
     joins_before led {next} {back} {prev} left next_is back_is prev_is leads keeps =
         let linked = shown live.sound.linked in
@@ -201,7 +201,7 @@ module _ {old : List (Option Links)} {i : ℕ} (live : CanVacate old i) where
     -- both neighbours are vacant
     pub joins_between : (led : List (Option Links)) {after back before front prev next : ℕ} → vacant_at old (i - 1) ≡ true
         → after ≡ next_at old (i + 1) → back ≡ end_at old (i + 1) → before ≡ prev_at old (i + 1)
-        → Relinks (next_at old) (prev_at old) (next_at led) (prev_at led) before after after before → KeepsEnds old led
+        → Redirects (next_at old) (prev_at old) (next_at led) (prev_at led) before after after before → KeepsEnds old led
         → front ≡ end_at led (i - 1) → prev ≡ held_at led (i - 1) → next ≡ next_at led front
         → HasBlocks (set (set (set led front (Some (Front next back))) back (Some (Back front prev))) i (Some (Single 0 0))) (vacated_between (blocks_of old) i)
     joins_between led {after} {back} {before} {front} {prev} {next} left after_is back_is before_is joins keeps front_read prev_read next_read =

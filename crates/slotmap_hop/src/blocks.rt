@@ -6,7 +6,7 @@ ghost use Rattle.std.specs.Prelude.{◌≡◌, ◌+◌, ◌-◌, ◌<◌, true, 
 ghost use Rattle.slotmap_core.specs.Words.{Live as LivePlace, Vacant as VacantPlace, Retired as RetiredPlace};
 ghost use Rattle.slotmap_hop.specs.Blocks.{vacated, vacated_alone, vacated_before, vacated_after, vacated_between, shorter};
 ghost use Rattle.slotmap_hop.specs.Links.{vacant_at, has_next, links_at, next_at, prev_at, end_at, CanVacate, HasBlockList, HasBlocks, IsHead, blocks_of};
-ghost use Rattle.slotmap_hop.specs.Links.{Relinks, KeepsEnds};
+ghost use Rattle.slotmap_hop.specs.Links.{Redirects, KeepsEnds};
 ghost use Rattle.slotmap_hop.specs.Slots.{all_links, places_of, value_at, CanFree, Gives, Vacates};
 
 use crate::links::{
@@ -21,7 +21,7 @@ use std::mem;
 fn relink<V>(slots: &mut [Slot<V>], before: u32, after: u32, to: u32, from: u32)
     requires before { has_next (links_at (all_links slots.old) before) ≡ true }
     requires after { IsHead (all_links slots.old) after }
-    ensures links { Relinks (next_at (all_links slots.old)) (prev_at (all_links slots.old)) (next_at (all_links slots.new)) (prev_at (all_links slots.new)) before after to from }
+    ensures links { Redirects (next_at (all_links slots.old)) (prev_at (all_links slots.old)) (next_at (all_links slots.new)) (prev_at (all_links slots.new)) before after to from }
     ensures ends { KeepsEnds (all_links slots.old) (all_links slots.new) }
     ensures places { places_of slots.new ≡ places_of slots.old }
 {

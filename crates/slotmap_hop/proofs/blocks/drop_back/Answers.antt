@@ -1,4 +1,5 @@
-use Rattle.std.proofs.Common.{◌-◌, refl, arith}
+use Rattle.slotmap_core.proofs.Common.{common_steps}
+use Rattle.std.proofs.Common.{◌-◌, arith}
 use Rattle.slotmap_hop.specs.Slots.{all_links}
 use Rattle.slotmap_hop.proofs.Writes.{vacancy_kept}
 use Rattle.slotmap_hop.proofs.Taking.{second_head, front_vacant, taken_block, lost_front, shorter_to_one, shorter_longer}
@@ -15,15 +16,11 @@ name_front-requires g c =
     (block.inside (c.args.back - 1) (omega (arith, block.ordered, c.if-front-back.false)) (omega arith))
 
 pub returns-then-front-back-clause-blocks : goal.returns-then-front-back-clause-blocks
-returns-then-front-back-clause-blocks g c =
-    lost_front c.requires.sound c.requires.first c.requires.read c.requires.positive (all_links c.relink.new.slots) c.if-front-back.true c.next_of-next.ensures
-    c.relink.ensures.links c.relink.ensures.ends
+returns-then-front-back-clause-blocks g c = grind (arith, common_steps, lost_front)
 
 pub returns-then-front-back-2-clause-blocks : goal.returns-then-front-back-2-clause-blocks
 returns-then-front-back-2-clause-blocks g c =
     rw c.set_links.ensures.links (shorter_to_one c.requires.sound c.requires.first c.requires.read c.requires.positive c.if-front-back-2.true c.next_of-next-then-front-back-2.ensures)
 
 pub returns-else-front-back-2-clause-blocks : goal.returns-else-front-back-2-clause-blocks
-returns-else-front-back-2-clause-blocks g c =
-    rw (c.name_front.ensures.links, c.name_back.ensures.links)
-    (shorter_longer c.requires.sound c.requires.first c.requires.read c.requires.positive c.if-front-back.false c.if-front-back-2.false refl)
+returns-else-front-back-2-clause-blocks g c = grind (arith, common_steps, shorter_longer)

@@ -1,4 +1,4 @@
-use Rattle.slotmap_core.proofs.Common.{refl, sym, ◌∙◌}
+use Rattle.slotmap_core.proofs.Common.{refl, sym, ◌∙◌, common_steps, arith}
 use Rattle.slotmap_hop.proofs.HoppingLemmas.{IsAt, way_begins, may_read, finds_here, may_leave, left_here, none_here}
 use Rattle.slotmap_hop.proofs.iter.next_live.Goals.{Start, After-hop}
 use Rattle.slotmap_hop.proofs.iter.next_live.Goals as goal
@@ -10,9 +10,7 @@ second : (g : _) (c : After-hop g) → IsAt c.args.counted.now.slots c.args.coun
 second g c = (left_here _ _ _ (first g (goal.at.After-hop g c).Start) c.read-first.ensures (none_here _ (sym c.is_live.ensures ∙ c.if-is_live.false)) c.hop.ensures).0
 
 pub read-first-requires : goal.read-first-requires
-read-first-requires g c =
-    let may = may_read _ _ _ (first g (goal.at.read-first-requires g c).Start) c.requires.some in
-    record { inside = may.0; room = may.1 }
+read-first-requires g c = grind (arith, common_steps, may_read)
 
 pub returns-then-is_live : goal.returns-then-is_live
 returns-then-is_live g c =
@@ -44,9 +42,7 @@ loop-counted-init g c =
     (left_here _ _ _ (second g (goal.at.loop-counted-init g c).After-hop) c.read-second.ensures (none_here _ (sym c.is_live-2.ensures ∙ c.if-is_live-2.false)) c.hop-2.ensures).0
 
 pub read-slot-requires : goal.read-slot-requires
-read-slot-requires g c =
-    let may = may_read _ _ _ c.loop-counted.invariant c.requires.some in
-    record { inside = may.0; room = may.1 }
+read-slot-requires g c = grind (arith, common_steps, may_read)
 
 pub returns-then-is_live-3 : goal.returns-then-is_live-3
 returns-then-is_live-3 g c =
