@@ -77,9 +77,6 @@ module _ {T : Type 0} where
 
   -- a node leaves its parent: what is under each key then
   module _ (nodes : Nodes T) (k : Key) (scene : IsScene nodes) where
-    not_own_parent : parent_of nodes k ≢ Some k
-    not_own_parent is = no_cycle nodes scene.tree k k is (zero, refl)
-
     left_get : (q : Key) → map.get (without_child nodes (parent_of nodes k) k) q ≡ option_map (forgets k) (map.get nodes q)
     left_get q = by_parent (parent_of nodes k) q (map.get (without_child nodes (parent_of nodes k) k) q ≡ option_map (forgets k) (map.get nodes q))
         (λ is. taken_here nodes k (parent_of nodes k) q is)

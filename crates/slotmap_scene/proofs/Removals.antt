@@ -11,9 +11,10 @@ use Rattle.slotmap_keylist.specs.KeyLists.{same, times, without}
 use Rattle.slotmap_keylist.specs.Linked.{last_or}
 use Rattle.slotmap_keylist.proofs.Linking.{without_split, split_last}
 use Rattle.slotmap_keylist.proofs.Counts.{one_itself, one_other, times_pushed}
-use Rattle.slotmap_scene.specs.Family.{children_in, children_of, IsScene, value_of, with_children_in}
+use Rattle.slotmap_scene.specs.Family.{as_root, children_in, children_of, forgets, IsScene, value_of, with_children_in}
 use Rattle.slotmap_scene.proofs.Climbs.{short, within_up, root_within, has_parent, no_cycle}
-use Rattle.slotmap_scene.proofs.Families.{by_parent, listed_once, listed_never, listed_few, listed_parent, parent_there, make_listed}
+use Rattle.slotmap_scene.proofs.Moved.{scene_removed, within_after}
+use Rattle.slotmap_scene.proofs.Families.{detached_parents, scene_detached, by_parent, listed_once, listed_never, listed_few, listed_parent, parent_there, make_listed}
 
 module _ {T : Type 0} where
   -- what stands while a root is being removed: the walk is at a node, and no list names the nodes that are above it
@@ -314,9 +315,6 @@ module _ {T : Type 0} where
         down_less = subst (λ m. to_do old m child < to_do old now at) (sym taken_is)
             (down_smaller old now (popped last_split.0) scene.tree at child old_here (child_named last_split.0 child last_split.1).1 (popped_len last_split.0))
 
-        pub taken_there : has_node now at
-        taken_there = ap is_some there
-
       -- the node had no children, and was removed
       module _ (empty : n.children ≡ []) where
         pub went_up : (p : Key) → n.parent ≡ Some p → Removing old (map.remove now at) root p
@@ -375,8 +373,26 @@ module _ {T : Type 0} where
         by None is = ap (times k) (ap children_in is)
         by (Some n) is = left_there p k (ap is_some is) apart
 
-    pub scene_without : IsScene new
+    scene_without : IsScene new
     scene_without = record {
       tree = λ k live. (let out = outside_it k live in let up = scene.tree k (sym (ap is_some (others k out)) ∙ live) in (up.0, leads_left up.0 k out up.1));
       listed = make_listed new left_once left_never;
     }
+
+-- a node becomes a root, and is removed with all that is below it
+module _ {T : Type 0} (old mid new : Nodes T) (k : Key) (scene : IsScene old) (live : has_node old k) (is : mid ≡ as_root old k)
+    (gone : (q : Key) → IsWithin mid q k → lacks_node new q) (others : (q : Key) → (IsWithin mid q k → ⊥) → map.get new q ≡ map.get mid q) where
+  pub rooted_scene : IsScene mid
+  rooted_scene = subst IsScene (sym is) (scene_detached old k live scene)
+
+  pub rooted_top : parent_of mid k ≡ None
+  rooted_top = ap (λ m. parent_of m k) is ∙ (detached_parents old k).here
+
+  pub tree_gone : (q : Key) → IsWithin old q k → lacks_node new q
+  tree_gone q w = gone q (subst (λ m. IsWithin m q k) (sym is) (within_after old k q w))
+
+  pub tree_others : (q : Key) → (IsWithin old q k → ⊥) → map.get new q ≡ option_map (forgets k) (map.get old q)
+  tree_others = scene_removed old k scene new (λ q out. others q (λ w. out (subst (λ m. IsWithin m q k) is w)) ∙ ap (λ m. map.get m q) is)
+
+  pub tree_scene : IsScene new
+  tree_scene = scene_without mid new k rooted_scene rooted_top gone others
