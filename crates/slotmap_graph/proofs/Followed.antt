@@ -43,7 +43,7 @@ module _ {E : Type 0} (edges : Edges E) (passed : List Key) (x : Key) (e : SeenE
     found_first ahead rest all so_far next this = ap (find (goes_to edges b)) (sym so_far ∙ ap (λ l. passed ++ l) next) ∙ find-append (goes_to edges b) passed (x ∷ rest)
         ∙ ap (λ o. option_or o (cond (goes_to edges b x) (Some x) (find (goes_to edges b) rest))) before ∙ ap (λ t. cond t (Some x) (find (goes_to edges b) rest)) (at_x ∙ this)
 
-taken : (ks : List Key) (i : ℕ) (x : Key) → i < length ks → x ≡ get_or ks i x → take (i + 1) ks ≡ take i ks ++ x ∷ []
+pub taken : (ks : List Key) (i : ℕ) (x : Key) → i < length ks → x ≡ get_or ks i x → take (i + 1) ks ≡ take i ks ++ x ∷ []
 taken ks i x below is = take_more ks i x below ∙ ap (λ q. take i ks ++ q ∷ []) (sym is)
 
 -- a mark changes nothing in front

@@ -32,7 +32,7 @@ pub last_in : (ks : List Key) (l : Key) → last_or ks None ≡ Some l → 0 < t
 last_in [] l is = absurd (cc)
 last_in (k ∷ ks) l is = last_of k ks l is
 
-cons_not_nil : (b : List Key) (x : Key) (a : List Key) → [] ≡ b ++ x ∷ a → ⊥
+pub cons_not_nil : (b : List Key) (x : Key) (a : List Key) → [] ≡ b ++ x ∷ a → ⊥
 cons_not_nil [] x a at = absurd (cc)
 cons_not_nil (q ∷ b) x a at = absurd (cc)
 
