@@ -37,11 +37,13 @@ ghost use Rattle.std.specs.Borrow.{sem};
 ghost use Rattle.slotmap.specs.Words.{Key as KeyOf, Inserts, IsLive, IsNew, IsSpent, Keeps, KeepsSpent, Leaves, Refuses, RefusesCapacity, MakesDenseRoom, used};
 ghost use Rattle.slotmap.specs.Words.{Appends, ClosesGap, SameOrder, IsEmpty, IsListing, ListsPairs};
 
+mod clone;
 mod components;
 mod join;
 mod kinds;
 mod tables;
 
+pub use clone::{CloneTable, CloneTables};
 pub use components::AttachError;
 pub use join::{With, WithBoth};
 pub use kinds::{First, Fourth, Kind, Second, Then, Third};

@@ -1,15 +1,27 @@
 -- A content without its values, which is one with the same value for each: what each change of a map does to it.
-use Rattle.std.proofs.Common.{◌≡◌, true, Some, None, is_some, refl, sym, ap, ◌∙◌, arith}
+use Rattle.std.proofs.Common.{◌≡◌, true, Option, Some, None, is_some, refl, sym, ap, ◌∙◌, arith}
+use Rattle.std.specs.Option.{option_map}
 use Rattle.std.specs.FinMap as map
-use Rattle.slotmap.specs.Words.{Key, Content, IsContent, IsLive, IsSpent, KeepsSpent, IsNew, Inserts, Removes, Keeps, IsCopy, IsCloneBy, without_values, with_value, LacksRoom, used}
+use Rattle.slotmap.specs.Words.{Key, key_cmp, Content, IsContent, IsLive, IsSpent, KeepsSpent, IsNew, Inserts, Removes, Keeps, IsCopy, IsCloneBy, without_values, with_value, LacksRoom, used}
 use Rattle.slotmap.specs.KeysAlone.{keys_of}
 use Rattle.slotmap.proofs.Callers.{clone_copies, contains-keys_of, len-keys_of, spent_alone, alone_spent, keeps_spent_alone, spent_finds_nothing, inserted_not_spent}
 use Rattle.slotmap_keylist.specs.Mapped.{map_values}
-use Rattle.slotmap_keylist.proofs.Mapped.{mapped-new, mapped-inserts, mapped-removes, mapped-keeps, mapped-clones, mapped-written, mapped-lacks}
+use Rattle.slotmap_keylist.proofs.Mapped.{mapped-new, mapped-inserts, mapped-removes, mapped-keeps, mapped-clones, mapped-written, mapped-lacks, get-mapped, len-mapped, some-mapped, is_mapped}
+
+same_units : (a b : Option (Unit {0})) → is_some a ≡ is_some b → a ≡ b
+same_units None None is = refl
+same_units None (Some y) is = absurd (cc)
+same_units (Some x) None is = absurd (cc)
+same_units (Some x) (Some y) is = refl
 
 module _ {V : Type 0} where
   abbrev none : V → Unit {0}
   none v = tt
+
+  -- maps with the same keys have as many
+  pub len_alike : (a b : map.FinMap key_cmp V) → ((q : Key) → map.contains_key a q ≡ map.contains_key b q) → map.len a ≡ map.len b
+  len_alike a b same = sym (len-mapped none a) ∙ ap map.len (is_mapped none a (map_values none b) (λ q.
+      get-mapped none b q ∙ same_units (option_map none (map.get b q)) (option_map none (map.get a q)) (some-mapped none (map.get b q) ∙ sym (same q) ∙ sym (some-mapped none (map.get a q))))) ∙ len-mapped none b
 
   -- a value that is written under a live key changes no key
   pub alone-written : (c : Content V) (k : Key) (v : V) → IsLive c k → without_values (with_value c k v) ≡ without_values c

@@ -3,5 +3,7 @@ pub mod Counts
 pub mod Following
 pub mod Linking
 pub mod Mapped
+pub mod NotNull
 pub mod Searched
+pub mod Shown
 pub mod Splicing

@@ -32,6 +32,23 @@ pub last_in : (ks : List Key) (l : Key) → last_or ks None ≡ Some l → 0 < t
 last_in [] l is = absurd (cc)
 last_in (k ∷ ks) l is = last_of k ks l is
 
+-- a list with a last key
+pub split_last : (ks : List Key) (l : Key) → last_or ks None ≡ Some l → (rest : List Key) × (ks ≡ rest ++ l ∷ [])
+split_last [] l is = absurd (cc)
+split_last (k ∷ ks) l is = by k ks is
+  where
+    by : (k : Key) (ks : List Key) → last_or ks (Some k) ≡ Some l → (rest : List Key) × (k ∷ ks ≡ rest ++ l ∷ [])
+    by k [] is = ([], ap (λ q. q ∷ []) (same_Some k l is))
+    by k (q ∷ ks) is = let later = by q ks is in (k ∷ later.0, ap (λ xs. k ∷ xs) later.1)
+
+pub none_last : (ks : List Key) → last_or ks None ≡ None → ks ≡ []
+none_last [] is = refl
+none_last (k ∷ ks) is = by k ks is
+  where
+    by : {P : Type 0} (k : Key) (ks : List Key) → last_or ks (Some k) ≡ None → P
+    by k [] is = absurd (cc)
+    by k (q ∷ ks) is = by q ks is
+
 pub cons_not_nil : (b : List Key) (x : Key) (a : List Key) → [] ≡ b ++ x ∷ a → ⊥
 cons_not_nil [] x a at = absurd (cc)
 cons_not_nil (q ∷ b) x a at = absurd (cc)
@@ -88,6 +105,13 @@ module _ {ends : Key → Ends Key} {link : Key → Link Key} {lists : Key → Li
   follow_is p before (k ∷ after) is =
       ap (λ (l : Link Key). k ∷ follow link (length after) l.next) (linked.links_are p before k after is)
       ∙ ap (λ l. k ∷ l) (follow_is p (before ++ k ∷ []) after (is ∙ sym (append_assoc before (k ∷ []) after)))
+
+  -- and so they do to a part of it
+  pub follow_part : (p : Key) (before ks after : List Key) → lists p ≡ before ++ (ks ++ after) → follow link (length ks) (first_or (ks ++ after) None) ≡ ks
+  follow_part p before [] after is = refl
+  follow_part p before (k ∷ ks) after is =
+      ap (λ (l : Link Key). k ∷ follow link (length ks) l.next) (linked.links_are p before k (ks ++ after) is)
+      ∙ ap (λ l. k ∷ l) (follow_part p (before ++ k ∷ []) ks after (is ∙ sym (append_assoc before (k ∷ []) (ks ++ after))))
 
   -- and from the ends of a list, to all of it
   pub followed_is : (p : Key) → followed link (ends p) ≡ lists p

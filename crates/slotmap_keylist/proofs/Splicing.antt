@@ -104,16 +104,3 @@ linked_but linked k none same = record {
   ends_are = linked.ends_are;
   links_are = λ p before x after is. same x (λ e. (let there = ap (times x) is ∙ in_midst before x after in let gone = rw (← e) at (none p) in absurd (omega arith))) ∙ linked.links_are p before x after is;
 }
-
--- distinct live keys are no more than there are
-pub no_more_than : {V : Type 0} (live : map.FinMap key_cmp V) (ks : List Key) → ((x : Key) → times x ks ≤ 1) → ((x : Key) → 0 < times x ks → map.contains_key live x ≡ true) → length ks ≤ map.len live
-no_more_than live [] once there = omega arith
-no_more_than live (k ∷ ks) once there =
-    let first = times_first k k ks in
-    let one = one_itself k in
-    let lives = there k (omega (arith, one)) in
-    let one_less = len_removed keys_total exact_keys live k lives in
-    let rest = no_more_than (map.remove live k) ks
-    (λ x. let split = times_first x k ks in let at_most = once x in omega arith)
-    (λ x more. let split = times_first x k ks in live-remove_other live k x (λ is. (let at_most = once k in let m = rw is at more in omega (arith, m, one))) (there x (omega arith))) in
-    omega arith

@@ -1,4 +1,5 @@
 pub mod KeyLists
+pub mod KeyOrNull
 pub mod Linked
 pub mod Mapped
 pub mod Splice

@@ -6,10 +6,13 @@
 //! them, stand in `specs` and `proofs`.
 #![tactic(auto, using(slotmap::proofs::Callers::keys))]
 
-ghost use Rattle.std.specs.Prelude.{◌≡◌, ◌≤◌, not};
+ghost use Rattle.std.specs.Prelude.{◌≡◌, ◌≤◌, None, not};
 ghost use Rattle.std.specs.List.{count_by, filter};
 
+pub use key_or_null::KeyOrNull;
 use slotmap::{DefaultKey, Key};
+
+mod key_or_null;
 
 /// The two ends of a list of keys that is kept as links, and how many keys it has.
 #[derive(Clone, Copy, Debug, Drop)]
@@ -24,6 +27,41 @@ pub struct Ends<K> {
 pub struct Link<K> {
     pub prev: Option<K>,
     pub next: Option<K>,
+}
+
+impl<K> Ends<K> {
+    /// Returns the ends of a list with no key.
+    ///
+    /// ```
+    /// let ends: Ends<DefaultKey> = Ends::none();
+    /// assert_eq!(rt; ends.len, 0);
+    /// ```
+    pub fn none() -> Self
+        ensures { result ≡ record { first = None; last = None; len = 0 } }
+    {
+        Ends {
+            first: None,
+            last: None,
+            len: 0,
+        }
+    }
+}
+
+impl<K> Link<K> {
+    /// Returns the link of a key with no neighbours.
+    ///
+    /// ```
+    /// let link: Link<DefaultKey> = Link::none();
+    /// assert!(rt; link.next.is_none());
+    /// ```
+    pub fn none() -> Self
+        ensures { result ≡ record { prev = None; next = None } }
+    {
+        Link {
+            prev: None,
+            next: None,
+        }
+    }
 }
 
 /// Takes an item out of a list in which it appears at most once. Those behind it move up.

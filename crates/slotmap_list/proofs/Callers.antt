@@ -1,5 +1,5 @@
 -- What callers of a list cite: which value each cursor has after a call.
-use Rattle.std.proofs.Common.{◌≡◌, ◌≢◌, false, cond, List, [], ◌∷◌, Option, Some, None, IsSome, refl, sym, ap, subst, ◌∙◌}
+use Rattle.std.proofs.Common.{◌≡◌, ◌≢◌, false, cond, List, [], ◌∷◌, Some, None, IsSome, refl, sym, ap, subst, ◌∙◌}
 use Rattle.slotmap.specs.Words.{Key}
 use Rattle.slotmap.proofs.Callers.{keys_total, exact_keys, itself}
 use Rattle.slotmap_list.specs.Sequence.{value_of, put_after, put_before, without}

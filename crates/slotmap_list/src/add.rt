@@ -7,17 +7,17 @@ ghost use Rattle.slotmap_list.specs.Sequence.{value_of, put_after, put_before, I
 ghost use Rattle.slotmap_list.specs.Neighbours.{insert_beside};
 ghost use Rattle.slotmap_list.specs.Refused.{RefusesPlace, RefusesPush};
 
-use crate::links::{Side, add, beside, relink, same};
+use crate::links::{Neighbour, Side, add, beside, relink};
 use crate::{Node, PlaceError, PushError, StableList};
 use slotmap::{DefaultKey, Key};
-use slotmap_keylist::{inner, outer};
+use slotmap_keylist::{KeyOrNull, inner, outer};
 
 impl<K: Key, T: Drop> StableList<K, T> {
     // Puts an element between two neighbours.
     fn put(
         &mut self,
-        prev: Option<DefaultKey>,
-        next: Option<DefaultKey>,
+        prev: Neighbour,
+        next: Neighbour,
         value: T,
     ) -> Result<DefaultKey, PushError<T>>
         requires { IsGap self.old.elements prev next }
@@ -34,18 +34,20 @@ impl<K: Key, T: Drop> StableList<K, T> {
     {
         let node = Node {
             value,
-            prev: same(&prev),
-            next: same(&next),
+            prev: prev.copied(),
+            next: next.copied(),
         };
         let key = add(&mut self.nodes, node)?;
+        let on = KeyOrNull::some(key);
+        let back = on.copied();
         relink(
             &mut self.nodes,
             &mut self.first,
             &mut self.last,
             prev,
             next,
-            Some(key),
-            Some(key),
+            on,
+            back,
         );
         Ok(key)
     }
@@ -66,8 +68,8 @@ impl<K: Key, T: Drop> StableList<K, T> {
         ensures keeps { OnErr result (Keeps self.old.cursors self.new.cursors) }
         ensures gone { KeepsSpent self.old.cursors self.new.cursors }
     {
-        let last = self.last;
-        Ok(outer(self.put(last, None, value)?))
+        let last = self.last.copied();
+        Ok(outer(self.put(last, KeyOrNull::none(), value)?))
     }
 
     /// Adds an element at the front, and returns its cursor.
@@ -86,8 +88,8 @@ impl<K: Key, T: Drop> StableList<K, T> {
         ensures keeps { OnErr result (Keeps self.old.cursors self.new.cursors) }
         ensures gone { KeepsSpent self.old.cursors self.new.cursors }
     {
-        let first = self.first;
-        Ok(outer(self.put(None, first, value)?))
+        let first = self.first.copied();
+        Ok(outer(self.put(KeyOrNull::none(), first, value)?))
     }
 
     // Adds an element on this side of that of a cursor.

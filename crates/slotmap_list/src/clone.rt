@@ -14,8 +14,8 @@ impl<T: Clone> Clone for Node<T> {
     fn clone(&self) -> Result<Self, AllocError> {
         Ok(Node {
             value: self.value.clone()?,
-            prev: self.prev,
-            next: self.next,
+            prev: self.prev.copied(),
+            next: self.next.copied(),
         })
     }
 }
@@ -40,8 +40,8 @@ impl<K: Key, T: Clone> StableList<K, T> {
     {
         Ok(StableList {
             nodes: self.nodes.clone()?,
-            first: self.first,
-            last: self.last,
+            first: self.first.copied(),
+            last: self.last.copied(),
             key_type: PhantomData,
         })
     }

@@ -51,7 +51,7 @@ impl<'a, K: Key, T: Drop> Iterator for Iter<'a, K, T> {
         let cursor = self.first?;
         let node = self.nodes.get(cursor)?;
         self.left -= 1;
-        self.first = node.next;
+        self.first = node.next.get();
         Some((outer(cursor), &node.value))
     }
 
@@ -74,7 +74,7 @@ impl<'a, K: Key, T: Drop> DoubleEndedIterator for Iter<'a, K, T> {
         let cursor = self.last?;
         let node = self.nodes.get(cursor)?;
         self.left -= 1;
-        self.last = node.prev;
+        self.last = node.prev.get();
         Some((outer(cursor), &node.value))
     }
 }

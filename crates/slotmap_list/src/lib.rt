@@ -34,7 +34,7 @@ ghost use Rattle.slotmap.specs.Words.{IsNew, IsSpent, Keeps, KeepsSpent, Refuses
 ghost use Rattle.slotmap_list.specs.Sequence.{value_of, first_or, last_or, key_after, key_before, IsOnce};
 
 use slotmap::{DefaultKey, Key, ReserveError, SlotMap};
-use slotmap_keylist::{inner, outer};
+use slotmap_keylist::{KeyOrNull, inner, outer};
 use std::alloc::{AllocError, Global};
 use std::marker::{Model, PhantomData};
 use std::ops::Index;
@@ -57,15 +57,15 @@ pub use cursor::Cursor;
 pub use drain::Drain;
 pub use into_iter::IntoIter;
 pub use iter::Iter;
-use links::Nodes;
+use links::{Neighbour, Nodes};
 pub use values::{Cursors, Values};
 
 // An element's value, with the keys of its neighbours.
 #[derive(Debug, Drop)]
 struct Node<T> {
     value: T,
-    prev: Option<DefaultKey>,
-    next: Option<DefaultKey>,
+    prev: Neighbour,
+    next: Neighbour,
 }
 
 /// A list whose elements have cursors of the key type `K`.
@@ -75,8 +75,8 @@ struct Node<T> {
 #[derive(Debug, Drop)]
 pub struct StableList<K, T> {
     nodes: Nodes<T>,
-    first: Option<DefaultKey>,
-    last: Option<DefaultKey>,
+    first: Neighbour,
+    last: Neighbour,
     key_type: PhantomData<K>,
 }
 
@@ -182,8 +182,8 @@ impl<K: Key, T: Drop> StableList<K, T> {
     {
         Ok(StableList {
             nodes: SlotMap::with_capacity(alloc, capacity)?,
-            first: None,
-            last: None,
+            first: KeyOrNull::none(),
+            last: KeyOrNull::none(),
             key_type: PhantomData,
         })
     }
@@ -259,14 +259,14 @@ impl<K: Key, T: Drop> StableList<K, T> {
     pub fn first(&self) -> Option<K>
         ensures { option_map K.data_of result ≡ first_or self.now.elements None }
     {
-        Some(outer(self.first?))
+        Some(outer(self.first.get()?))
     }
 
     /// Returns the cursor of the element at the back, or `None` if the list is empty.
     pub fn last(&self) -> Option<K>
         ensures { option_map K.data_of result ≡ last_or self.now.elements None }
     {
-        Some(outer(self.last?))
+        Some(outer(self.last.get()?))
     }
 
     /// Returns the value of a cursor, or `None` if it isn't in the list.
@@ -299,14 +299,14 @@ impl<K: Key, T: Drop> StableList<K, T> {
         ensures value { result ≡ key_after key self.now.elements }
         ensures once { IsOnce self.now.elements }
     {
-        self.nodes.get(key)?.next
+        self.nodes.get(key)?.next.get()
     }
 
     // The key before this one.
     fn before(&self, key: DefaultKey) -> Option<DefaultKey>
         ensures { result ≡ key_before None key self.now.elements }
     {
-        self.nodes.get(key)?.prev
+        self.nodes.get(key)?.prev.get()
     }
 
     /// Returns an iterator over the elements with their cursors, from front to back. It can be
@@ -329,8 +329,8 @@ impl<K: Key, T: Drop> StableList<K, T> {
     {
         Iter {
             nodes: &self.nodes,
-            first: self.first,
-            last: self.last,
+            first: self.first.get(),
+            last: self.last.get(),
             left: self.nodes.len(),
             key_type: PhantomData,
         }

@@ -10,9 +10,13 @@ ghost use Rattle.slotmap_list.specs.Refused.{RefusesPush};
 
 use crate::{Node, PushError};
 use slotmap::{DefaultKey, InsertError, SlotMap};
+use slotmap_keylist::KeyOrNull;
 
 // The nodes under their keys.
 pub(crate) type Nodes<T> = SlotMap<DefaultKey, Node<T>>;
+
+// The key of a neighbour, or none at an end.
+pub(crate) type Neighbour = KeyOrNull<DefaultKey>;
 
 // A side of a node.
 #[derive(Drop)]
@@ -25,16 +29,16 @@ pub(crate) enum Side {
 fn set_link<T: Drop>(
     nodes: &mut Nodes<T>,
     side: Side,
-    end: &mut Option<DefaultKey>,
-    at: Option<DefaultKey>,
-    to: Option<DefaultKey>,
+    end: &mut Neighbour,
+    at: Neighbour,
+    to: Neighbour,
 )
     requires { IfSome at (λ key. IsLive nodes.old key) }
     ensures nodes { nodes.new.live ≡ with_link side nodes.old.live at to }
     ensures keys { without_values nodes.new ≡ without_values nodes.old }
     ensures end { end.new ≡ outer at end.old to }
 {
-    match at {
+    match at.get() {
         Some(key) => match side {
             Side::Before => nodes[key].prev = to,
             Side::After => nodes[key].next = to,
@@ -46,12 +50,12 @@ fn set_link<T: Drop>(
 // Lets the link after `prev` lead on to `on`, and the link before `next` back to `back`.
 pub(crate) fn relink<T: Drop>(
     nodes: &mut Nodes<T>,
-    first: &mut Option<DefaultKey>,
-    last: &mut Option<DefaultKey>,
-    prev: Option<DefaultKey>,
-    next: Option<DefaultKey>,
-    on: Option<DefaultKey>,
-    back: Option<DefaultKey>,
+    first: &mut Neighbour,
+    last: &mut Neighbour,
+    prev: Neighbour,
+    next: Neighbour,
+    on: Neighbour,
+    back: Neighbour,
 )
     requires prev_stands { IfSome prev (λ key. IsLive nodes.old key) }
     requires next_stands { IfSome next (λ key. IsLive nodes.old key) }
@@ -84,21 +88,21 @@ pub(crate) fn beside<T: Drop>(
     nodes: &Nodes<T>,
     side: Side,
     key: DefaultKey,
-) -> Option<(Option<DefaultKey>, Option<DefaultKey>)>
+) -> Option<(Neighbour, Neighbour)>
     ensures { result ≡ option_map (gap_beside side key) (map.get nodes.now.live key) }
 {
     let node = nodes.get(key)?;
     match side {
-        Side::Before => Some((node.prev, Some(key))),
-        Side::After => Some((Some(key), node.next)),
+        Side::Before => Some((node.prev.copied(), KeyOrNull::some(key))),
+        Side::After => Some((KeyOrNull::some(key), node.next.copied())),
     }
 }
 
 // Links the neighbours of a node to each other. The node stays in the map.
 pub(crate) fn unlink<T: Drop>(
     nodes: &mut Nodes<T>,
-    first: &mut Option<DefaultKey>,
-    last: &mut Option<DefaultKey>,
+    first: &mut Neighbour,
+    last: &mut Neighbour,
     key: DefaultKey,
 )
     requires stands { IsLive nodes.old key }
@@ -107,19 +111,19 @@ pub(crate) fn unlink<T: Drop>(
     ensures keys { without_values nodes.new ≡ without_values nodes.old }
 {
     let node = &nodes[key];
-    let prev = same(&node.prev);
-    let next = same(&node.next);
-    relink(nodes, first, last, same(&prev), same(&next), next, prev);
+    let prev = node.prev.copied();
+    let next = node.next.copied();
+    relink(nodes, first, last, prev.copied(), next.copied(), next, prev);
 }
 
 // Links a node that stands in the map between two others.
 pub(crate) fn link<T: Drop>(
     nodes: &mut Nodes<T>,
-    first: &mut Option<DefaultKey>,
-    last: &mut Option<DefaultKey>,
+    first: &mut Neighbour,
+    last: &mut Neighbour,
     key: DefaultKey,
-    prev: Option<DefaultKey>,
-    next: Option<DefaultKey>,
+    prev: Neighbour,
+    next: Neighbour,
 )
     requires stands { IsLive nodes.old key }
     requires prev_stands { IfSome prev (λ other. IsLive nodes.old other) }
@@ -128,14 +132,9 @@ pub(crate) fn link<T: Drop>(
     ensures keys { without_values nodes.new ≡ without_values nodes.old }
 {
     let node = &mut nodes[key];
-    node.prev = same(&prev);
-    node.next = same(&next);
-    relink(nodes, first, last, prev, next, Some(key), Some(key));
-}
-
-// The same link: the prover does not follow a second use of an `Option` of a key.
-pub(crate) fn same(link: &Option<DefaultKey>) -> Option<DefaultKey>
-    ensures { result ≡ link.now }
-{
-    *link
+    node.prev = prev.copied();
+    node.next = next.copied();
+    let on = KeyOrNull::some(key);
+    let back = on.copied();
+    relink(nodes, first, last, prev, next, on, back);
 }

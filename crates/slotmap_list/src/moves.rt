@@ -7,9 +7,9 @@ ghost use Rattle.slotmap_list.specs.Sequence.{value_of, moved_to_front, moved_to
 ghost use Rattle.slotmap_list.specs.Neighbours.{gap_at, is_move, moved_to};
 
 use crate::StableList;
-use crate::links::{Nodes, Side, beside, link, unlink};
+use crate::links::{Neighbour, Nodes, Side, beside, link, unlink};
 use slotmap::{DefaultKey, Key};
-use slotmap_keylist::inner;
+use slotmap_keylist::{KeyOrNull, inner};
 
 // A place in a list: at an end, or on a side of an element.
 #[derive(Drop)]
@@ -22,15 +22,15 @@ enum Place {
 // The neighbours of a place, or `None` if it isn't there.
 fn gap<T: Drop>(
     nodes: &Nodes<T>,
-    first: &Option<DefaultKey>,
-    last: &Option<DefaultKey>,
+    first: &Neighbour,
+    last: &Neighbour,
     place: Place,
-) -> Option<(Option<DefaultKey>, Option<DefaultKey>)>
+) -> Option<(Neighbour, Neighbour)>
     ensures { result ≡ gap_at nodes.now.live first.now last.now place }
 {
     match place {
-        Place::Front => Some((None, *first)),
-        Place::Back => Some((*last, None)),
+        Place::Front => Some((KeyOrNull::none(), first.copied())),
+        Place::Back => Some((last.copied(), KeyOrNull::none())),
         Place::Beside(side, key) => beside(nodes, side, key),
     }
 }

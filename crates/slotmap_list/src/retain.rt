@@ -55,7 +55,7 @@ impl<K: Key, T: Drop> StableList<K, T> {
         ensures for_good { (k : KeyOf) → IsSome (value_of k self.old.elements) → value_of k self.new.elements ≡ None → IsSpent self.new.cursors k }
         ensures gone { KeepsSpent self.old.cursors self.new.cursors }
     {
-        let mut at = self.first;
+        let mut at = self.first.get();
         while let Some(key) = at {
             at = self.after(key);
             let stays = f(outer(key), self.value_mut(key));

@@ -7,7 +7,7 @@ ghost use Rattle.slotmap_list.specs.Sequence.{value_of, without, TakesFront, Tak
 use crate::StableList;
 use crate::links::relink;
 use slotmap::{DefaultKey, Key};
-use slotmap_keylist::{inner, outer};
+use slotmap_keylist::{KeyOrNull, inner, outer};
 
 impl<K: Key, T: Drop> StableList<K, T> {
     /// Removes the element of a cursor, and returns its value, or `None` if the cursor isn't in the
@@ -39,8 +39,8 @@ impl<K: Key, T: Drop> StableList<K, T> {
             &mut self.nodes,
             &mut self.first,
             &mut self.last,
-            node.prev,
-            node.next,
+            node.prev.copied(),
+            node.next.copied(),
             node.next,
             node.prev,
         );
@@ -56,7 +56,7 @@ impl<K: Key, T: Drop> StableList<K, T> {
         ensures gone { KeepsSpent self.old.cursors self.new.cursors }
         ensures empty { IfNone result (self.new ≡ self.old) }
     {
-        let cursor = self.first?;
+        let cursor = self.first.get()?;
         let value = self.take(cursor)?;
         Some((outer(cursor), value))
     }
@@ -70,7 +70,7 @@ impl<K: Key, T: Drop> StableList<K, T> {
         ensures gone { KeepsSpent self.old.cursors self.new.cursors }
         ensures empty { IfNone result (self.new ≡ self.old) }
     {
-        let cursor = self.last?;
+        let cursor = self.last.get()?;
         let value = self.take(cursor)?;
         Some((outer(cursor), value))
     }
@@ -82,7 +82,7 @@ impl<K: Key, T: Drop> StableList<K, T> {
         ensures gone { KeepsSpent self.old.cursors self.new.cursors }
     {
         self.nodes.clear();
-        self.first = None;
-        self.last = None;
+        self.first = KeyOrNull::none();
+        self.last = KeyOrNull::none();
     }
 }

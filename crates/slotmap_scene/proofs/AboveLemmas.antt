@@ -2,9 +2,9 @@
 use Rattle.std.proofs.Common.{◌≡◌, ℕ, zero, suc, ◌<◌, true, false, cond, List, [], ◌∷◌, Option, Some, None, is_some, refl, sym, ap, subst, ◌∙◌, arith}
 use Rattle.std.specs.FinMap as map
 use Rattle.slotmap.specs.Words.{Key}
-use Rattle.slotmap_scene.specs.declared.Node.{Node}
-use Rattle.slotmap_scene.specs.Climb.{Nodes, ClimbsTo, IsTree, has_node, parent_of}
-use Rattle.slotmap_scene.specs.Above.{GoesUp, keys_up, HasRoot, roots_in}
+use Rattle.slotmap_scene.specs.Node.{Nodes}
+use Rattle.slotmap_scene.specs.Climb.{ClimbsTo, IsTree, has_node, parent_of}
+use Rattle.slotmap_scene.specs.Above.{GoesUp, keys_up, HasRoot, roots_by}
 use Rattle.slotmap_scene.proofs.Climbs.{short, leads_live}
 use Rattle.slotmap_scene.proofs.Families.{parent_there}
 
@@ -64,18 +64,10 @@ module _ {T : Type 0} (nodes : Nodes T) where
       by None is = tt
       by (Some p) is = tree p (parent_there nodes tree k p is)
 
-module _ {T : Type 0} where
+module _ {N : Type 0} (parent : N → Option Key) where
   -- the next root among these nodes
-  pub root_first : (nodes rest : List (Key × Node T)) (k : Key) (node : Node T) → nodes ≡ (k, node) ∷ rest → is_some node.parent ≡ false → roots_in nodes ≡ k ∷ roots_in rest
-  root_first nodes rest k node is root = ap roots_in is ∙ by node.parent root
-    where
-      by : (o : Option Key) → is_some o ≡ false → cond (is_some o) (roots_in rest) (k ∷ roots_in rest) ≡ k ∷ roots_in rest
-      by None root = refl
-      by (Some p) root = absurd (cc)
+  pub root_first : (nodes rest : List (Key × N)) (k : Key) (node : N) → nodes ≡ (k, node) ∷ rest → is_some (parent node) ≡ false → roots_by parent nodes ≡ k ∷ roots_by parent rest
+  root_first nodes rest k node is root = ap (roots_by parent) is ∙ ap (λ b. cond b (roots_by parent rest) (k ∷ roots_by parent rest)) root
 
-  pub root_passed : (nodes rest : List (Key × Node T)) (k : Key) (node : Node T) → nodes ≡ (k, node) ∷ rest → is_some node.parent ≡ true → roots_in nodes ≡ roots_in rest
-  root_passed nodes rest k node is below = ap roots_in is ∙ by node.parent below
-    where
-      by : (o : Option Key) → is_some o ≡ true → cond (is_some o) (roots_in rest) (k ∷ roots_in rest) ≡ roots_in rest
-      by None below = absurd (cc)
-      by (Some p) below = refl
+  pub root_passed : (nodes rest : List (Key × N)) (k : Key) (node : N) → nodes ≡ (k, node) ∷ rest → is_some (parent node) ≡ true → roots_by parent nodes ≡ roots_by parent rest
+  root_passed nodes rest k node is below = ap (roots_by parent) is ∙ ap (λ b. cond b (roots_by parent rest) (k ∷ roots_by parent rest)) below

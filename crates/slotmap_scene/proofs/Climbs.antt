@@ -3,8 +3,8 @@ use Rattle.std.proofs.Common.{◌≡◌, ◌≢◌, ℕ, zero, suc, ◌+◌, ◌
 use Rattle.std.specs.FinMap as map
 use Rattle.slotmap.specs.Words.{Key}
 use Rattle.slotmap.proofs.Callers.{get-insert_here, get-insert_other, same_or_other, keys_total, exact_keys, left_in, len_removed, some_entry}
-use Rattle.slotmap_scene.specs.declared.Node.{Node}
-use Rattle.slotmap_scene.specs.Climb.{Nodes, has_node, lacks_node, parent_in, parent_of, ClimbsTo, IsTree, StepsTo, IsWithin}
+use Rattle.slotmap_scene.specs.Node.{Node, Nodes}
+use Rattle.slotmap_scene.specs.Climb.{has_node, lacks_node, parent_in, parent_of, ClimbsTo, IsTree, StepsTo, IsWithin}
 
 module _ {T : Type 0} where
   pub leads_live : (nodes : Nodes T) (n : ℕ) (k : Key) → ClimbsTo nodes n k → has_node nodes k

@@ -1,14 +1,14 @@
 -- What a call that changes one link makes of the parent and the children of each node.
-use Rattle.std.proofs.Common.{◌≡◌, ◌≢◌, ◌⊎◌, ℕ, zero, suc, ◌+◌, ◌≤◌, ◌<◌, true, false, Option, Some, None, List, [], ◌∷◌, ◌++◌, is_some, refl, sym, ap, subst, ◌∙◌, inl, inr, arith}
+use Rattle.std.proofs.Common.{◌≡◌, ◌≢◌, ℕ, zero, suc, ◌+◌, ◌≤◌, ◌<◌, true, false, Option, Some, None, List, is_some, refl, sym, ap, subst, ◌∙◌, inl, inr, arith}
 use Rattle.std.specs.Prelude.{option_map}
 use Rattle.std.specs.FinMap as map
 use Rattle.slotmap.specs.Words.{Key, Content, ClonesEqual, IsCloneOf, IsCloneBy}
-use Rattle.slotmap.proofs.Callers.{get-insert_here, get-insert_other, same_or_other, keys_total, exact_keys, clone_live}
-use Rattle.slotmap_scene.specs.declared.Node.{Node}
-use Rattle.slotmap_scene.specs.Climb.{Nodes, has_node, lacks_node, parent_in, parent_of, ClimbsTo, IsTree, IsWithin, with_parent, with_parent_in}
+use Rattle.slotmap.proofs.Callers.{get-insert_here, get-insert_other, same_or_other, clone_live}
+use Rattle.slotmap_scene.specs.Node.{Node, Nodes}
+use Rattle.slotmap_scene.specs.Climb.{has_node, lacks_node, parent_in, parent_of, ClimbsTo, IsTree, IsWithin, with_parent, with_parent_in}
 use Rattle.slotmap_keylist.specs.KeyLists.{same, times, without}
-use Rattle.slotmap_keylist.proofs.Counts.{one_itself, one_other, times_pushed, times_gone, times_without}
-use Rattle.slotmap_scene.specs.Family.{value_of, is_parent, children_in, children_of, AreListed, IsScene, IsNodeClone, IsNewChild, MayLeave, child, with_children_in, with_child, without_child, as_root, attached}
+use Rattle.slotmap_keylist.proofs.Counts.{one_itself, one_other, times_gone, times_without}
+use Rattle.slotmap_scene.specs.Family.{value_of, is_parent, children_in, children_of, AreListed, IsScene, IsNodeClone, IsNewChild, MayLeave, child, with_children_in, with_value, with_value_in, without_child, as_root, attached_by}
 use Rattle.slotmap_scene.proofs.Climbs.{leads_live, Parents, tree_cut, tree_hung, tree_root, tree_same}
 
 -- who is a parent of whom
@@ -24,13 +24,6 @@ by_parent None p P here other = other (λ e. absurd (cc))
 by_parent (Some q) p P here other = elim (same_or_other q p) [ inl same ↦ here (ap Some same) | inr apart ↦ other (λ e. apart (cc)) ]
 
 module _ {T : Type 0} where
-  -- the same children are written again
-  pub rewritten : (nodes : Nodes T) (p : Key) (node : Node T) → map.get nodes p ≡ Some node → (ks : List Key) → ks ≡ node.children → map.insert nodes p (record node { children = ks }) ≡ nodes
-  rewritten nodes p node there ks same = map.same_map keys_total exact_keys (map.insert nodes p (record node { children = ks })) nodes (λ q. elim (same_or_other q p) [
-    | inl is ↦ rw is (get-insert_here nodes p (record node { children = ks }) ∙ ap (λ l. Some (record node { children = l })) same ∙ sym there)
-    | inr other ↦ get-insert_other nodes p (record node { children = ks }) q other
-  ])
-
   -- a node that gets another parent
   module _ (nodes : Nodes T) (k : Key) (parent : Option Key) where
     pub parented_other : (o : Option (Node T)) (q : Key) → q ≢ k → map.get (with_parent_in nodes k o parent) q ≡ map.get nodes q
@@ -49,7 +42,7 @@ module _ {T : Type 0} where
     kept_some None = refl
     kept_some (Some node) = refl
 
-    parented_children : (q : Key) → children_of (with_parent nodes k parent) q ≡ children_of nodes q
+    pub parented_children : (q : Key) → children_of (with_parent nodes k parent) q ≡ children_of nodes q
     parented_children q = elim (same_or_other q k) [
       | inl same ↦ rw same (ap children_in (parented_here (map.get nodes k) refl) ∙ kept_children (map.get nodes k))
       | inr other ↦ ap children_in (parented_other (map.get nodes k) q other)
@@ -61,14 +54,14 @@ module _ {T : Type 0} where
       | inr other ↦ ap is_some (parented_other (map.get nodes k) q other)
     ]
 
-    parented_others : (q : Key) → q ≢ k → parent_of (with_parent nodes k parent) q ≡ parent_of nodes q
+    pub parented_others : (q : Key) → q ≢ k → parent_of (with_parent nodes k parent) q ≡ parent_of nodes q
     parented_others q other = ap parent_in (parented_other (map.get nodes k) q other)
 
     the_parent : (o : Option (Node T)) → is_some o ≡ true → parent_in (option_map (λ (n : Node T). record n { parent = parent }) o) ≡ parent
     the_parent None is = absurd (cc)
     the_parent (Some node) is = refl
 
-    parented_is : has_node nodes k → parent_of (with_parent nodes k parent) k ≡ parent
+    pub parented_is : has_node nodes k → parent_of (with_parent nodes k parent) k ≡ parent
     parented_is live = ap parent_in (parented_here (map.get nodes k) refl) ∙ the_parent (map.get nodes k) live
 
   no_parent : (nodes : Nodes T) (k : Key) → parent_of (with_parent nodes k None) k ≡ None
@@ -111,7 +104,7 @@ module _ {T : Type 0} where
       | inr other ↦ ap is_some (written_other (map.get nodes p) q other)
     ]
 
-    written_others : (q : Key) → q ≢ p → children_of written q ≡ children_of nodes q
+    pub written_others : (q : Key) → q ≢ p → children_of written q ≡ children_of nodes q
     written_others q other = ap children_in (written_other (map.get nodes p) q other)
 
     the_children : (o : Option (Node T)) → is_some o ≡ true → children_in (option_map (λ (n : Node T). record n { children = f n.children }) o) ≡ f (children_in o)
@@ -151,20 +144,20 @@ module _ {T : Type 0} where
     pub detached_here : (q : Key) → parent_of nodes k ≡ Some q → has_node nodes q → children_of (as_root nodes k) q ≡ without k (children_of nodes q)
     detached_here q is live = parented_children (without_child nodes (parent_of nodes k) k) k None q ∙ left_here (parent_of nodes k) q is live
 
-  -- a root is put behind the children of another node
-  module _ (nodes : Nodes T) (k p : Key) (live : has_node nodes k) where
-    pub attached_parents : Parents nodes (attached nodes k p) k (Some p)
+  -- a root becomes a child of another node
+  module _ (nodes : Nodes T) (k p : Key) (f : List Key → List Key) (live : has_node nodes k) where
+    pub attached_parents : Parents nodes (attached_by nodes k p f) k (Some p)
     attached_parents = record {
-      same_keys = λ q. parented_keys (with_child nodes p k) k (Some p) q ∙ written_keys nodes p (λ ks. ks ++ k ∷ []) q;
-      here = parented_is (with_child nodes p k) k (Some p) (written_keys nodes p (λ ks. ks ++ k ∷ []) k ∙ live);
-      others = λ q other. parented_others (with_child nodes p k) k (Some p) q other ∙ written_parent nodes p (λ ks. ks ++ k ∷ []) q;
+      same_keys = λ q. parented_keys (with_children_in nodes p (map.get nodes p) f) k (Some p) q ∙ written_keys nodes p f q;
+      here = parented_is (with_children_in nodes p (map.get nodes p) f) k (Some p) (written_keys nodes p f k ∙ live);
+      others = λ q other. parented_others (with_children_in nodes p (map.get nodes p) f) k (Some p) q other ∙ written_parent nodes p f q;
     }
 
-    pub attached_others : (q : Key) → q ≢ p → children_of (attached nodes k p) q ≡ children_of nodes q
-    attached_others q other = parented_children (with_child nodes p k) k (Some p) q ∙ written_others nodes p (λ ks. ks ++ k ∷ []) q other
+    pub attached_others : (q : Key) → q ≢ p → children_of (attached_by nodes k p f) q ≡ children_of nodes q
+    attached_others q other = parented_children (with_children_in nodes p (map.get nodes p) f) k (Some p) q ∙ written_others nodes p f q other
 
-    pub attached_here : has_node nodes p → children_of (attached nodes k p) p ≡ children_of nodes p ++ k ∷ []
-    attached_here there = parented_children (with_child nodes p k) k (Some p) p ∙ written_is nodes p (λ ks. ks ++ k ∷ []) there
+    pub attached_here : has_node nodes p → children_of (attached_by nodes k p f) p ≡ f (children_of nodes p)
+    attached_here there = parented_children (with_children_in nodes p (map.get nodes p) f) k (Some p) p ∙ written_is nodes p f there
 
   module _ (nodes : Nodes T) (listed : AreListed nodes) where
     pub listed_once : (p k : Key) → parent_of nodes k ≡ Some p → times k (children_of nodes p) ≡ 1
@@ -211,7 +204,7 @@ module _ {T : Type 0} where
     where
       by : (o : Option Key) → parent_of nodes k ≡ o → MayLeave nodes k o
       by None is = tt
-      by (Some p) is = (parent_there nodes scene.tree k p is, let one = listed_once nodes scene.listed p k is in omega arith)
+      by (Some p) is = let one = listed_once nodes scene.listed p k is in omega arith
 
   pub scene_leaf : (nodes : Nodes T) (k : Key) (v : T) → lacks_node nodes k → IsScene nodes → IsScene (map.insert nodes k (child None v))
   scene_leaf nodes k v fresh scene = record {
@@ -255,37 +248,37 @@ module _ {T : Type 0} where
           (λ is. ap (times k) (detached_here nodes k p is (parent_there nodes scene.tree k p is)) ∙ times_gone k (children_of nodes p))
           (λ apart. ap (times k) (detached_others nodes k p apart) ∙ listed_never nodes scene.listed p k apart)
 
-  pub scene_attached : (nodes : Nodes T) (k p : Key) → has_node nodes k → parent_of nodes k ≡ None → has_node nodes p → (IsWithin nodes p k → ⊥) → IsScene nodes → IsScene (attached nodes k p)
-  scene_attached nodes k p live root there out scene = record {
-    tree = (let up = scene.tree p there in tree_hung nodes (attached nodes k p) k p (attached_parents nodes k p live) live up.0 up.1 out scene.tree);
-    listed = make_listed (attached nodes k p)
+  pub scene_attached : (nodes : Nodes T) (k p : Key) (f : List Key → List Key) → ((x : Key) (ks : List Key) → times x (f ks) ≡ times x ks + same k x) → has_node nodes k → parent_of nodes k ≡ None → has_node nodes p → (IsWithin nodes p k → ⊥) → IsScene nodes → IsScene (attached_by nodes k p f)
+  scene_attached nodes k p f more live root there out scene = record {
+    tree = (let up = scene.tree p there in tree_hung nodes (attached_by nodes k p f) k p (attached_parents nodes k p f live) live up.0 up.1 out scene.tree);
+    listed = make_listed (attached_by nodes k p f)
         (λ q c is. elim (same_or_other c k) [
-          | inl same ↦ (let now = (attached_parents nodes k p live).here in let some = subst (λ x. parent_of (attached nodes k p) x ≡ Some q) same is in
-              let h = sym now ∙ some in let at : p ≡ q = cc in rw same (subst (λ x. times k (children_of (attached nodes k p) x) ≡ 1) at once))
-          | inr other ↦ (let was = sym ((attached_parents nodes k p live).others c other) ∙ is in kept q c other ∙ listed_once nodes scene.listed q c was)
+          | inl same ↦ (let now = (attached_parents nodes k p f live).here in let some = subst (λ x. parent_of (attached_by nodes k p f) x ≡ Some q) same is in
+              let h = sym now ∙ some in let at : p ≡ q = cc in rw same (subst (λ x. times k (children_of (attached_by nodes k p f) x) ≡ 1) at once))
+          | inr other ↦ (let was = sym ((attached_parents nodes k p f live).others c other) ∙ is in kept q c other ∙ listed_once nodes scene.listed q c was)
         ])
         (λ q c apart. elim (same_or_other c k) [
-          | inl same ↦ (let elsewhere : q ≢ p = λ at. apart (rw same ((attached_parents nodes k p live).here ∙ ap Some (sym at))) in
-              rw same (ap (times k) (attached_others nodes k p live q elsewhere) ∙ listed_never nodes scene.listed q k (λ e. (let h = sym root ∙ e in cc))))
-          | inr other ↦ kept q c other ∙ listed_never nodes scene.listed q c (λ was. apart ((attached_parents nodes k p live).others c other ∙ was))
+          | inl same ↦ (let elsewhere : q ≢ p = λ at. apart (rw same ((attached_parents nodes k p f live).here ∙ ap Some (sym at))) in
+              rw same (ap (times k) (attached_others nodes k p f live q elsewhere) ∙ listed_never nodes scene.listed q k (λ e. (let h = sym root ∙ e in cc))))
+          | inr other ↦ kept q c other ∙ listed_never nodes scene.listed q c (λ was. apart ((attached_parents nodes k p f live).others c other ∙ was))
         ]);
   }
     where
-      pushed : (c : Key) → times c (children_of (attached nodes k p) p) ≡ times c (children_of nodes p) + same k c
-      pushed c = ap (times c) (attached_here nodes k p live there) ∙ times_pushed c (children_of nodes p) k
+      pushed : (c : Key) → times c (children_of (attached_by nodes k p f) p) ≡ times c (children_of nodes p) + same k c
+      pushed c = ap (times c) (attached_here nodes k p f live there) ∙ more c (children_of nodes p)
 
-      once : times k (children_of (attached nodes k p) p) ≡ 1
+      once : times k (children_of (attached_by nodes k p f) p) ≡ 1
       once = let sum = pushed k in let one = one_itself k in let none = listed_never nodes scene.listed p k (λ e. (let h = sym root ∙ e in cc)) in omega arith
 
-      kept : (q c : Key) → c ≢ k → times c (children_of (attached nodes k p) q) ≡ times c (children_of nodes q)
+      kept : (q c : Key) → c ≢ k → times c (children_of (attached_by nodes k p f) q) ≡ times c (children_of nodes q)
       kept q c other = elim (same_or_other q p) [
         | inl at ↦ rw at (let sum = pushed c in let none = one_other k c (λ s. other (sym s)) in omega arith)
-        | inr elsewhere ↦ ap (times c) (attached_others nodes k p live q elsewhere)
+        | inr elsewhere ↦ ap (times c) (attached_others nodes k p f live q elsewhere)
       ]
 
 -- each node keeps its own value where parents and lists of children alone change
 module _ {T : Type 0} (nodes : Nodes T) where
-  value_parented : (k : Key) (parent : Option Key) (q : Key) → value_of (with_parent nodes k parent) q ≡ value_of nodes q
+  pub value_parented : (k : Key) (parent : Option Key) (q : Key) → value_of (with_parent nodes k parent) q ≡ value_of nodes q
   value_parented k parent q = elim (same_or_other q k) [
     | inl same ↦ rw same (ap (option_map (λ n. n.value)) (parented_here nodes k parent (map.get nodes k) refl) ∙ kept (map.get nodes k))
     | inr other ↦ ap (option_map (λ n. n.value)) (parented_other nodes k parent (map.get nodes k) q other)
@@ -294,7 +287,7 @@ module _ {T : Type 0} (nodes : Nodes T) where
     kept None = refl
     kept (Some node) = refl
 
-  value_written : (p : Key) (f : List Key → List Key) (q : Key) → value_of (with_children_in nodes p (map.get nodes p) f) q ≡ value_of nodes q
+  pub value_written : (p : Key) (f : List Key → List Key) (q : Key) → value_of (with_children_in nodes p (map.get nodes p) f) q ≡ value_of nodes q
   value_written p f q = elim (same_or_other q p) [
     | inl same ↦ rw same (ap (option_map (λ n. n.value)) (written_here nodes p f (map.get nodes p) refl) ∙ kept (map.get nodes p))
     | inr other ↦ ap (option_map (λ n. n.value)) (written_other nodes p f (map.get nodes p) q other)
@@ -311,8 +304,8 @@ module _ {T : Type 0} (nodes : Nodes T) (k : Key) where
   pub value_detached : (q : Key) → value_of (as_root nodes k) q ≡ value_of nodes q
   value_detached q = value_parented (without_child nodes (parent_of nodes k) k) k None q ∙ value_left nodes (parent_of nodes k) k q
 
-  pub value_attached : (p q : Key) → value_of (attached nodes k p) q ≡ value_of nodes q
-  value_attached p q = value_parented (with_child nodes p k) k (Some p) q ∙ value_written nodes p (λ ks. ks ++ k ∷ []) q
+  pub value_attached : (p : Key) (f : List Key → List Key) (q : Key) → value_of (attached_by nodes k p f) q ≡ value_of nodes q
+  value_attached p f q = value_parented (with_children_in nodes p (map.get nodes p) f) k (Some p) q ∙ value_written nodes p f q
 
 -- a node that came is a new child
 pub new_child : {T : Type 0} (nodes new : Nodes T) (k p : Key) (v : T) (f : List Key → List Key) → has_node nodes p → lacks_node nodes k
@@ -337,7 +330,7 @@ module _ {T : Type 0} (nodes : Nodes T) (k : Key) (n : Node T) (v : T) (there : 
     | inr other ↦ (let same = get-insert_other nodes k (record n { value = v }) q other in (ap parent_in same, ap children_in same))
   ]
 
-  pub scene_valued : IsScene nodes → IsScene (map.insert nodes k (record n { value = v }))
+  scene_valued : IsScene nodes → IsScene (map.insert nodes k (record n { value = v }))
   scene_valued scene = record {
     tree = tree_same nodes (map.insert nodes k (record n { value = v })) (λ q. elim (same_or_other q k) [
       | inl is ↦ rw is (ap is_some (get-insert_here nodes k (record n { value = v })) ∙ sym (ap is_some there))
@@ -346,31 +339,13 @@ module _ {T : Type 0} (nodes : Nodes T) (k : Key) (n : Node T) (v : T) (there : 
     listed = listed_alike nodes (map.insert nodes k (record n { value = v })) (λ q. (valued q).0) (λ q. (valued q).1) scene.listed;
   }
 
--- the children of a node in another order
-module _ {T : Type 0} (nodes : Nodes T) (p : Key) (n : Node T) (there : map.get nodes p ≡ Some n) (ks : List Key) where
-  abbrev reordered : Nodes T
-  reordered = map.insert nodes p (record n { children = ks })
-
-  pub scene_reordered : ((k : Key) → times k ks ≡ times k n.children) → IsScene nodes → IsScene reordered
-  scene_reordered alike scene = record {
-    tree = tree_same nodes reordered (λ q. elim (same_or_other q p) [
-      | inl is ↦ rw is (ap is_some (get-insert_here nodes p (record n { children = ks })) ∙ sym (ap is_some there))
-      | inr other ↦ ap is_some (get-insert_other nodes p (record n { children = ks }) q other)
-    ]) parents scene.tree;
-    listed = λ q k. counts q k ∙ scene.listed q k ∙ ap (λ o. is_parent o q) (sym (parents k));
-  }
-    where
-      parents : (q : Key) → parent_of reordered q ≡ parent_of nodes q
-      parents q = elim (same_or_other q p) [
-        | inl is ↦ rw is (ap parent_in (get-insert_here nodes p (record n { children = ks })) ∙ sym (ap parent_in there))
-        | inr other ↦ ap parent_in (get-insert_other nodes p (record n { children = ks }) q other)
-      ]
-
-      counts : (q k : Key) → times k (children_of reordered q) ≡ times k (children_of nodes q)
-      counts q k = elim (same_or_other q p) [
-        | inl is ↦ rw is (ap (λ o. times k (children_in o)) (get-insert_here nodes p (record n { children = ks })) ∙ alike k ∙ sym (ap (λ o. times k (children_in o)) there))
-        | inr other ↦ ap (λ o. times k (children_in o)) (get-insert_other nodes p (record n { children = ks }) q other)
-      ]
+-- the value is another one, if the node is there
+pub scene_with_value : {T : Type 0} (nodes : Nodes T) (k : Key) (v : T) → IsScene nodes → IsScene (with_value nodes k v)
+scene_with_value {T} nodes k v scene = by (map.get nodes k) refl
+  where
+    by : (o : Option (Node T)) → map.get nodes k ≡ o → IsScene (with_value_in nodes k o v)
+    by None is = scene
+    by (Some n) is = scene_valued nodes k n v is scene
 
 -- a copy has the same trees
 module _ {T : Type 0} (is_clone : T → T → Type 0) where

@@ -1,18 +1,25 @@
--- Which keys leave a scene while nodes are written and removed.
-use Rattle.std.proofs.Common.{◌≢◌, true, ap, inl, arith}
-use Rattle.slotmap.specs.Words.{Key, Content, IsContent, IsLive, Removes, Leaves, with_value, null_key}
-use Rattle.slotmap.proofs.Callers.{leaves_by_removal, leaves_by_write, leaves_in_turn}
+-- Nodes that are written: no key leaves.
+use Rattle.std.proofs.Common.{◌≡◌, ◌&&◌, ◌||◌, Bool, true, false, not, refl, sym, ap, ◌∙◌, inl, inr, arith}
+use Rattle.std.specs.FinMap as map
+use Rattle.std.specs.FinSet as set
+use Rattle.slotmap.specs.Words.{Key, key_cmp, Content, Leaves, is_last}
+use Rattle.slotmap_keylist.proofs.Alone.{len_alike}
 
-module _ {V : Type 0} where
-  -- the null key isn't live
-  pub null_apart : (c : Content V) (k : Key) → IsContent true c → IsLive c k → null_key ≢ k
-  null_apart c k well live same = let within = well.within k (inl (inl live)) in let limit = well.limit in let at = ap (λ q. q.index) same in omega arith
+none_left : (a b : Bool) → b ≡ a → (a && not b) ≡ false
+none_left true b is = ap not is
+none_left false b is = refl
 
-  module _ (old now : Content V) (leaves : Leaves old now) (at : Key) (v : V) (live : IsLive now at) where
-    -- a write takes no key away
-    pub left_written : Leaves old (with_value now at v)
-    left_written = leaves_in_turn old now (with_value now at v) leaves (leaves_by_write now at v live)
-
-    -- and then one key leaves
-    pub left_removed : (new : Content V) → IsContent true (with_value now at v) → IsLive (with_value now at v) at → Removes (with_value now at v) at new → Leaves old new
-    left_removed new well there removes = leaves_in_turn old (with_value now at v) new left_written (leaves_by_removal true (with_value now at v) well at there new removes)
+-- the same keys are there, with other values
+pub leaves_alike : {V : Type 0} (c : Content V) (m : map.FinMap key_cmp V) → ((q : Key) → map.contains_key m q ≡ map.contains_key c.live q) → Leaves c (record c { live = m })
+leaves_alike c m same = record {
+  no_more = λ k live. sym (same k) ∙ live;
+  detached = refl;
+  retired = λ k. stays (set.contains c.retired k) (map.contains_key c.live k) (map.contains_key m k) (is_last k) (same k);
+  next = λ i v. (λ there. inl there, λ either. elim either [ inl there ↦ there | inr left ↦ absurd (let none = none_left (map.contains_key c.live left.0) (map.contains_key m left.0) (same left.0) in let is = left.1 in cc) ]);
+  same_places = (let len = len_alike m c.live same in omega arith);
+  room = (omega arith);
+}
+  where
+    stays : (a b x l : Bool) → x ≡ b → a ≡ (a || (b && not x) && l)
+    stays true b x l is = refl
+    stays false b x l is = sym (ap (λ t. t && l) (none_left b x is))

@@ -3,9 +3,14 @@ pub mod Callers
 pub mod Climbs
 pub mod Descending
 pub mod Families
-pub mod Lasts
 pub mod Leaving
 pub mod Moved
+pub mod Relinked
+pub mod Placing
 pub mod Removals
-pub mod Siblings
+pub mod Showing
+pub mod ShownChanges
+pub mod Shows
+pub mod Walking
+pub mod Weaving
 pub mod Worlds

@@ -1,16 +1,20 @@
 -- How a root is removed with all that is below it: down by the last child, and up from each leaf.
-use Rattle.std.proofs.Common.{◌≡◌, ◌≢◌, ℕ, zero, suc, ◌+◌, ◌-◌, ◌*◌, ◌≤◌, ◌<◌, ◌⊎◌, true, false, Option, Some, None, List, [], ◌∷◌, ◌++◌, is_some, refl, sym, ap, subst, ◌∙◌, inl, inr, arith}
+use Rattle.std.proofs.Common.{◌≡◌, ◌≢◌, ℕ, zero, suc, ◌+◌, ◌-◌, ◌*◌, ◌≤◌, ◌<◌, ◌⊎◌, true, false, Option, Some, None, List, [], ◌∷◌, ◌++◌, is_some, append-nil, refl, sym, ap, subst, ◌∙◌, inl, inr, arith}
 use Rattle.std.specs.Prelude.{option_map}
 use Rattle.std.specs.FinMap as map
 use Rattle.slotmap.specs.Words.{Key}
 use Rattle.slotmap.proofs.Callers.{keys, same_or_other, keys_total, exact_keys, left_in, len_removed, get_after_remove}
-use Rattle.slotmap_scene.specs.declared.Node.{Node}
-use Rattle.slotmap_scene.specs.Climb.{Nodes, has_node, lacks_node, parent_in, parent_of, ClimbsTo, IsTree, StepsTo, IsWithin}
-use Rattle.slotmap_keylist.specs.KeyLists.{same, times}
+use Rattle.slotmap_scene.specs.Node.{Node, Nodes}
+use Rattle.slotmap_scene.specs.Climb.{has_node, lacks_node, parent_in, parent_of, ClimbsTo, IsTree, StepsTo, IsWithin}
+use Rattle.std.proofs.Math.Nat.{eq-zero-or-pos}
+use Rattle.slotmap_keylist.specs.KeyLists.{same, times, without}
+use Rattle.slotmap_keylist.specs.Linked.{last_or}
+use Rattle.slotmap_keylist.proofs.Linking.{without_split, split_last}
 use Rattle.slotmap_keylist.proofs.Counts.{one_itself, one_other, times_pushed}
-use Rattle.slotmap_scene.specs.Family.{children_in, children_of, IsScene, value_of}
+use Rattle.slotmap_scene.specs.Family.{as_root, children_in, children_of, forgets, IsScene, value_of, with_children_in}
 use Rattle.slotmap_scene.proofs.Climbs.{short, within_up, root_within, has_parent, no_cycle}
-use Rattle.slotmap_scene.proofs.Families.{by_parent, listed_once, listed_never, listed_few, listed_parent, parent_there, make_listed}
+use Rattle.slotmap_scene.proofs.Moved.{scene_removed, within_after}
+use Rattle.slotmap_scene.proofs.Families.{detached_parents, scene_detached, by_parent, listed_once, listed_never, listed_few, listed_parent, parent_there, make_listed}
 
 module _ {T : Type 0} where
   -- what stands while a root is being removed: the walk is at a node, and no list names the nodes that are above it
@@ -122,17 +126,6 @@ module _ {T : Type 0} where
 
         popped_len : map.len popped ≡ map.len now
         popped_len = let is : map.contains_key now at ≡ true = ap is_some there in grind (arith, map.len-insert keys_total now at (record n { children = rest }))
-
-        -- nothing was in the list
-        popped_none : n.children ≡ rest ++ [] → popped ≡ now
-        popped_none is = map.same_map keys_total exact_keys popped now (λ q. elim (same_or_other q at) [
-          | inl e ↦ rw e (popped_here ∙ ap (λ l. Some (record n { children = l })) (sym (is ∙ append_nil rest)) ∙ sym there)
-          | inr other ↦ popped_other q other
-        ])
-          where
-            append_nil : (l : List Key) → l ++ [] ≡ l
-            append_nil [] = refl
-            append_nil (y ∷ l) = ap (λ r. y ∷ r) (append_nil l)
 
         module _ (child : Key) (split : n.children ≡ rest ++ child ∷ []) where
           counted : (x : Key) → times x (children_of now at) ≡ times x rest + same child x
@@ -279,7 +272,7 @@ module _ {T : Type 0} where
           at_root : at ≡ root
           at_root = elim (same_or_other at root) [ inl same ↦ same | inr other ↦ absurd (root_within old at root (parent_is ∙ end) other removing.within) ]
 
-          end_value : value_of old root ≡ Some n.value
+          pub end_value : value_of old root ≡ Some n.value
           end_value = ap (λ x. value_of old x) (sym at_root) ∙ ap (option_map (λ (m : Node T). m.value)) (removing.left at n there).1
 
           last_one : (i : ℕ) (k : Key) → StepsTo old i k root → has_node now k → k ≡ at
@@ -288,52 +281,60 @@ module _ {T : Type 0} where
               let q_is = last_one i steps.0 steps.1.1 (removing.above k steps.0 live steps.1.0) in
               absurd (childless k live (steps.1.0 ∙ ap Some q_is))
 
-          end_removed : (k : Key) → IsWithin old k root → lacks_node removed k
+          pub end_removed : (k : Key) → IsWithin old k root → lacks_node removed k
           end_removed k w = elim (map.contains_key removed k) as (λ t. map.contains_key removed k ≡ t → map.contains_key removed k ≡ false) [
             | true ↦ λ is. absurd (let was = was_there k is in was.0 (last_one w.0 k w.1 was.1))
             | false ↦ λ is. is
           ] refl
 
-          end_others : (k : Key) → (IsWithin old k root → ⊥) → map.get removed k ≡ map.get old k
+          pub end_others : (k : Key) → (IsWithin old k root → ⊥) → map.get removed k ≡ map.get old k
           end_others k out = removed_other k (λ here. out (subst (λ x. IsWithin old x root) (sym here) removing.within)) ∙ removing.apart k out
 
       -- it is there before too
       old_here : has_node old at
       old_here = ap is_some (removing.left at n there).1
 
-      pub down_less : (rest : List Key) (child : Key) → n.children ≡ rest ++ child ∷ [] → to_do old (popped rest) child < to_do old now at
-      down_less rest child split = down_smaller old now (popped rest) scene.tree at child old_here (child_named rest child split).1 (popped_len rest)
+      -- the last child is taken out
+      module _ (child : Key) (last : last_or (children_of now at) None ≡ Some child) where
+        last_split : (rest : List Key) × (n.children ≡ rest ++ child ∷ [])
+        last_split = split_last n.children child (sym (ap (λ ks. last_or ks None) kids) ∙ last)
 
-      -- the list was empty, and the leaf was removed
-      module _ (rest : List Key) (empty : n.children ≡ []) (split : n.children ≡ rest ++ []) (new : Nodes T)
-          (gone : new ≡ map.remove (popped rest) at) (leaf : Node T) (taken : Some leaf ≡ map.get (popped rest) at) where
-        new_is : new ≡ map.remove now at
-        new_is = gone ∙ ap (λ m. map.remove m at) (popped_none rest split)
+        abbrev taken : Nodes T
+        taken = with_children_in now at (map.get now at) (without child)
 
-        leaf_is : leaf ≡ n
-        leaf_is = let h = taken ∙ ap (λ m. map.get m at) (popped_none rest split) ∙ there in cc
+        taken_is : taken ≡ popped last_split.0
+        taken_is =
+            let once = subst (λ ks. times child ks ≤ 1) (kids ∙ last_split.1) (removing.once child at) in
+            ap (λ o. with_children_in now at o (without child)) there
+            ∙ ap (λ ks. map.insert now at (record n { children = ks })) (ap (without child) last_split.1 ∙ without_split child last_split.0 [] once ∙ append-nil last_split.0)
 
-        parent_was : (o : Option Key) → leaf.parent ≡ o → n.parent ≡ o
-        parent_was o is = ap (λ (x : Node T). x.parent) (sym leaf_is) ∙ is
+        pub went_down : Removing old taken root child
+        went_down = subst (λ m. Removing old m root child) (sym taken_is) (removing_down last_split.0 child last_split.1)
 
-        pub went_up : (p : Key) → leaf.parent ≡ Some p → Removing old new root p
-        went_up p is = subst (λ m. Removing old m root p) (sym new_is) (removing_up empty p (parent_was (Some p) is))
+        pub down_less : to_do old taken child < to_do old now at
+        down_less = subst (λ m. to_do old m child < to_do old now at) (sym taken_is)
+            (down_smaller old now (popped last_split.0) scene.tree at child old_here (child_named last_split.0 child last_split.1).1 (popped_len last_split.0))
 
-        pub up_less : (p : Key) → leaf.parent ≡ Some p → to_do old new p < to_do old now at
+      -- the node had no children, and was removed
+      module _ (empty : n.children ≡ []) where
+        pub went_up : (p : Key) → n.parent ≡ Some p → Removing old (map.remove now at) root p
+        went_up p is = removing_up empty p is
+
+        pub up_less : (p : Key) → n.parent ≡ Some p → to_do old (map.remove now at) p < to_do old now at
         up_less p is =
-            let up = parent_is ∙ parent_was (Some p) is in
+            let up = parent_is ∙ is in
             let less = len_removed keys_total exact_keys now at removing.here in
-            up_smaller old now new scene.tree at p (parent_there old scene.tree at p up) up (let len_is = ap map.len new_is in omega arith)
+            up_smaller old now (map.remove now at) scene.tree at p (parent_there old scene.tree at p up) up (omega arith)
 
-        module _ (end : leaf.parent ≡ None) where
-          pub ended_value : value_of old root ≡ Some leaf.value
-          ended_value = end_value empty (parent_was None end) ∙ ap (λ (x : Node T). Some x.value) (sym leaf_is)
+  -- a node is there where the walk is; it is in no list
+  pub removing_node : (old now : Nodes T) (root at : Key) → Removing old now root at → (n : Node T) × (map.get now at ≡ Some n)
+  removing_node old now root at removing = at_some now at (map.get now at) refl removing.here
 
-          pub ended_removed : (k : Key) → IsWithin old k root → lacks_node new k
-          ended_removed k w = subst (λ m. lacks_node m k) (sym new_is) (end_removed empty (parent_was None end) k w)
-
-          pub ended_others : (k : Key) → (IsWithin old k root → ⊥) → map.get new k ≡ map.get old k
-          ended_others k out = ap (λ m. map.get m k) new_is ∙ end_others empty (parent_was None end) k out
+  pub removing_alone : (old now : Nodes T) (root at : Key) → Removing old now root at → (p : Key) → times at (children_of now p) ≡ 0
+  removing_alone old now root at removing p = elim (eq-zero-or-pos (times at (children_of now p))) [
+    | inl none ↦ none
+    | inr more ↦ absurd ((removing.named at p more).2 (zero, refl))
+  ]
 
   -- the scene that is left once a root is gone with all that is below it
   module _ (old new : Nodes T) (root : Key) (scene : IsScene old) (top : parent_of old root ≡ None)
@@ -372,8 +373,26 @@ module _ {T : Type 0} where
         by None is = ap (times k) (ap children_in is)
         by (Some n) is = left_there p k (ap is_some is) apart
 
-    pub scene_without : IsScene new
+    scene_without : IsScene new
     scene_without = record {
       tree = λ k live. (let out = outside_it k live in let up = scene.tree k (sym (ap is_some (others k out)) ∙ live) in (up.0, leads_left up.0 k out up.1));
       listed = make_listed new left_once left_never;
     }
+
+-- a node becomes a root, and is removed with all that is below it
+module _ {T : Type 0} (old mid new : Nodes T) (k : Key) (scene : IsScene old) (live : has_node old k) (is : mid ≡ as_root old k)
+    (gone : (q : Key) → IsWithin mid q k → lacks_node new q) (others : (q : Key) → (IsWithin mid q k → ⊥) → map.get new q ≡ map.get mid q) where
+  pub rooted_scene : IsScene mid
+  rooted_scene = subst IsScene (sym is) (scene_detached old k live scene)
+
+  pub rooted_top : parent_of mid k ≡ None
+  rooted_top = ap (λ m. parent_of m k) is ∙ (detached_parents old k).here
+
+  pub tree_gone : (q : Key) → IsWithin old q k → lacks_node new q
+  tree_gone q w = gone q (subst (λ m. IsWithin m q k) (sym is) (within_after old k q w))
+
+  pub tree_others : (q : Key) → (IsWithin old q k → ⊥) → map.get new q ≡ option_map (forgets k) (map.get old q)
+  tree_others = scene_removed old k scene new (λ q out. others q (λ w. out (subst (λ m. IsWithin m q k) is w)) ∙ ap (λ m. map.get m q) is)
+
+  pub tree_scene : IsScene new
+  tree_scene = scene_without mid new k rooted_scene rooted_top gone others

@@ -7,8 +7,8 @@ use Rattle.std.proofs.lemmas.Fn.{FoldsTo-push}
 use Rattle.std.specs.FinMap as map
 use Rattle.slotmap.specs.Words.{Key}
 use Rattle.slotmap.proofs.Callers.{get-insert_here, get-insert_other}
-use Rattle.slotmap_scene.specs.declared.Node.{Node}
-use Rattle.slotmap_scene.specs.Climb.{Nodes, has_node, lacks_node, parent_of, parent_in, ClimbsTo, IsTree, IsWithin}
+use Rattle.slotmap_scene.specs.Node.{Node, Nodes}
+use Rattle.slotmap_scene.specs.Climb.{has_node, lacks_node, parent_of, parent_in, ClimbsTo, IsTree, IsWithin}
 use Rattle.slotmap_scene.specs.Family.{value_of, child, with_child, attached, as_root}
 use Rattle.slotmap_scene.proofs.Families.{parent_there, attached_parents, detached_parents, value_detached, value_attached}
 use Rattle.slotmap_scene.proofs.Moved.{child_attached}
@@ -211,8 +211,8 @@ module _ {T : Type 0} (nodes : Nodes T) (k p : Key) (live : has_node nodes k) (o
   pub world_moved : (under : T → T → T) (v w : T) → value_of nodes k ≡ Some v → IsWorld under nodes p w → IsWorld under moved k (under v w)
   world_moved under v w own world =
       let gone = detached_parents nodes k in
-      let back = attached_parents (as_root nodes k) k p (gone.same_keys k ∙ live) in
-      let value : (q : Key) → value_of moved q ≡ value_of nodes q = λ q. value_attached (as_root nodes k) k p q ∙ value_detached nodes k q in
+      let back = attached_parents (as_root nodes k) k p (λ ks. ks ++ k ∷ []) (gone.same_keys k ∙ live) in
+      let value : (q : Key) → value_of moved q ≡ value_of nodes q = λ q. value_attached (as_root nodes k) k p (λ ks. ks ++ k ∷ []) q ∙ value_detached nodes k q in
       world_below nodes moved k (λ q there other. value q) (λ q there other. back.others q other ∙ gone.others q other) under v p w (value k ∙ own) back.here world out
 
 -- where a node is that is added
@@ -225,12 +225,12 @@ module _ {T : Type 0} (nodes : Nodes T) (k : Key) (v : T) where
 
   pub world_added_child : lacks_node nodes k → (under : T → T → T) (p : Key) (w : T) → IsWorld under nodes p w → IsWorld under (attached added k p) k (under v w)
   world_added_child fresh under p w world =
-      let put = attached_parents added k p (ap is_some (get-insert_here nodes k (child None v))) in
-      world_new nodes (attached added k p) k (λ q there other. value_attached added k p q ∙ ap (option_map (λ n. n.value)) (get-insert_other nodes k (child None v) q other))
-      (λ q there other. put.others q other ∙ ap parent_in (get-insert_other nodes k (child None v) q other)) under v p w (value_attached added k p k ∙ ap (option_map (λ n. n.value)) (get-insert_here nodes k (child None v))) put.here world fresh
+      let put = attached_parents added k p (λ ks. ks ++ k ∷ []) (ap is_some (get-insert_here nodes k (child None v))) in
+      world_new nodes (attached added k p) k (λ q there other. value_attached added k p (λ ks. ks ++ k ∷ []) q ∙ ap (option_map (λ n. n.value)) (get-insert_other nodes k (child None v) q other))
+      (λ q there other. put.others q other ∙ ap parent_in (get-insert_other nodes k (child None v) q other)) under v p w (value_attached added k p (λ ks. ks ++ k ∷ []) k ∙ ap (option_map (λ n. n.value)) (get-insert_here nodes k (child None v))) put.here world fresh
 
   -- the same, by what the clause of a call says that adds a child
   pub world_added_below : lacks_node nodes k → (under : T → T → T) (p : Key) (w : T) → IsWorld under nodes p w → IsWorld under (map.insert (with_child nodes p k) k (child (Some p) v)) k (under v w)
   world_added_below fresh under p w world =
       let apart : k ≢ p = λ same. (let live = subst (has_node nodes) (sym same) (path_live nodes p (world.own ∷ world.above) world.path) in cc) in
-      subst (λ m. IsWorld under m k (under v w)) (sym (child_attached nodes p k v apart)) (world_added_child fresh under p w world)
+      subst (λ m. IsWorld under m k (under v w)) (sym (child_attached nodes p k v (λ ks. ks ++ k ∷ []) apart)) (world_added_child fresh under p w world)

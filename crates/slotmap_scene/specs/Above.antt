@@ -1,8 +1,8 @@
 -- The keys above a node, up to its root, and the roots.
 use Rattle.std.specs.Prelude.{◌≡◌, ℕ, zero, suc, Option, Some, None, List, [], ◌∷◌, ⊤, cond, is_some}
 use Rattle.slotmap.specs.Words.{Key}
-use Rattle.slotmap_scene.specs.declared.Node.{Node}
-use Rattle.slotmap_scene.specs.Climb.{Nodes, ClimbsTo, parent_of}
+use Rattle.slotmap_scene.specs.Node.{Node, Nodes}
+use Rattle.slotmap_scene.specs.Climb.{ClimbsTo, parent_of}
 
 module _ {T : Type 0} where
   -- these keys lead from this one up to its root, and above a root there are none
@@ -23,7 +23,11 @@ module _ {T : Type 0} where
   HasRoot nodes None = ⊤
   HasRoot nodes (Some k) = (n : ℕ) × ClimbsTo nodes n k
 
-  -- the keys of the roots among these nodes
-  abbrev pub roots_in : List (Key × Node T) → List Key
-  roots_in [] = []
-  roots_in (e ∷ es) = cond (is_some e.1.parent) (roots_in es) (e.0 ∷ roots_in es)
+-- the keys of those that have no parent
+abbrev pub roots_by : {N : Type 0} → (N → Option Key) → List (Key × N) → List Key
+roots_by parent [] = []
+roots_by parent (e ∷ es) = cond (is_some (parent e.1)) (roots_by parent es) (e.0 ∷ roots_by parent es)
+
+-- the keys of the roots among these nodes
+abbrev pub roots_in : {T : Type 0} → List (Key × Node T) → List Key
+roots_in nodes = roots_by (λ node. node.parent) nodes

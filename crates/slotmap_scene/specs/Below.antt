@@ -1,7 +1,7 @@
 -- The keys below a node, in the order of the trees.
 use Rattle.std.specs.Prelude.{◌≡◌, List, [], ◌∷◌, ◌++◌}
 use Rattle.slotmap.specs.Words.{Key}
-use Rattle.slotmap_scene.specs.Climb.{Nodes}
+use Rattle.slotmap_scene.specs.Node.{Nodes}
 use Rattle.slotmap_scene.specs.Family.{children_of}
 
 module _ {T : Type 0} where

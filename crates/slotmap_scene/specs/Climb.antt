@@ -1,19 +1,8 @@
 -- The paths from the nodes of a scene up to their roots.
-use Rattle.std.specs.Prelude.{◌≡◌, ℕ, zero, suc, Option, Some, None, List, true, false, refl}
-use Rattle.std.specs.Coded.{Coded, code_by, coded×, coded_list, coded_option}
+use Rattle.std.specs.Prelude.{◌≡◌, ℕ, zero, suc, Option, Some, None, true, false}
 use Rattle.std.specs.FinMap as map
-use Rattle.slotmap.specs.Words.{Key, key_cmp, coded_key}
-use Rattle.slotmap_scene.specs.declared.Node.{Node}
-
--- the node of each key
-abbrev pub Nodes : Type 0 → Type 0
-Nodes T = map.FinMap key_cmp (Node T)
-
--- by which a proof tells two nodes apart
-abbrev pub node_code : {T : Type 0} → Coded T → Coded (Node T)
-node_code {T} t =
-    code_by (T × (Option Key × List Key)) (coded× t (coded× (coded_option coded_key) (coded_list coded_key)))
-    (λ n. (n.value, (n.parent, n.children))) (λ p. record { value = p.0; parent = p.1.0; children = p.1.1 }) (λ _. refl)
+use Rattle.slotmap.specs.Words.{Key}
+use Rattle.slotmap_scene.specs.Node.{Node, Nodes}
 
 module _ {T : Type 0} where
   abbrev pub has_node : Nodes T → Key → Type 0

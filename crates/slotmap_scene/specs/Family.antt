@@ -1,11 +1,11 @@
 -- The children of each node, and how a call changes them.
-use Rattle.std.specs.Prelude.{◌≡◌, ◌≢◌, ℕ, Option, Some, None, List, [], ◌∷◌, ◌++◌, ◌≤◌, ⊤, cond, option_map}
+use Rattle.std.specs.Prelude.{◌≡◌, ◌≢◌, ℕ, Option, Some, None, List, [], ◌∷◌, ◌++◌, ◌<◌, ⊤, cond, option_map}
 use Rattle.std.specs.FinMap as map
 use Rattle.slotmap.specs.Words.{Key}
-use Rattle.slotmap_scene.specs.declared.Node.{Node}
-use Rattle.slotmap_scene.specs.Climb.{Nodes, IsTree, has_node, parent_of, with_parent}
-use Rattle.slotmap_scene.specs.declared.children.Side.{Side}
-use Rattle.slotmap_scene.specs.declared.children.Side.TheVariants.{Before, After}
+use Rattle.slotmap_scene.specs.Node.{Node, Nodes}
+use Rattle.slotmap_scene.specs.Climb.{IsTree, parent_of, with_parent}
+use Rattle.slotmap_scene.specs.declared.tree.Side.{Side}
+use Rattle.slotmap_scene.specs.declared.tree.Side.TheVariants.{Before, After}
 use Rattle.slotmap_keylist.specs.KeyLists.{is_key, same, times, without}
 
 -- 1 if p is the parent, else 0
@@ -26,6 +26,11 @@ placed_after s k (q ∷ qs) = cond (is_key q s) (q ∷ k ∷ qs) (q ∷ placed_a
 abbrev pub placed : Side → Key → Key → List Key → List Key
 placed Before s k ks = placed_before s k ks
 placed After s k ks = placed_after s k ks
+
+-- the two parts of a list that a place on this side of s is between, where these keys are before s and behind it
+abbrev pub beside : Side → List Key → Key → List Key → List Key × List Key
+beside Before before s after = (before, s ∷ after)
+beside After before s after = (before ++ s ∷ [], after)
 
 module _ {T : Type 0} where
   -- the children of a node, if there is one
@@ -100,15 +105,19 @@ module _ {T : Type 0} where
   abbrev pub with_sibling : Side → Nodes T → Key → Key → Nodes T
   with_sibling side nodes s k = with_children_of nodes (parent_of nodes s) (placed side s k)
 
-  -- the parent of k, if it has one, is there, and has k as a child at most once
+  -- the parent of k, if it has one, has k as a child
   abbrev pub MayLeave : Nodes T → Key → Option Key → Type 0
   MayLeave nodes k None = ⊤
-  MayLeave nodes k (Some p) = has_node nodes p × (times k (children_of nodes p) ≤ 1)
+  MayLeave nodes k (Some p) = 0 < times k (children_of nodes p)
 
   -- k is a root, and no node has it as a child
   abbrev pub as_root : Nodes T → Key → Nodes T
   as_root nodes k = with_parent (without_child nodes (parent_of nodes k) k) k None
 
+  -- k, a root until now, is a child of p, which has other children now
+  abbrev pub attached_by : Nodes T → Key → Key → (List Key → List Key) → Nodes T
+  attached_by nodes k p f = with_parent (with_children_in nodes p (map.get nodes p) f) k (Some p)
+
   -- k, a root until now, is the last child of p
   abbrev pub attached : Nodes T → Key → Key → Nodes T
-  attached nodes k p = with_parent (with_child nodes p k) k (Some p)
+  attached nodes k p = attached_by nodes k p (λ ks. ks ++ k ∷ [])

@@ -4,7 +4,8 @@ use Rattle.std.specs.Fn.{Mut, Called, Takes}
 use Rattle.std.specs.Borrow.{Bor}
 use Rattle.std.specs.List.{FoldsTo}
 use Rattle.slotmap.specs.Words.{Key}
-use Rattle.slotmap_scene.specs.Climb.{Nodes, parent_of}
+use Rattle.slotmap_scene.specs.Node.{Nodes}
+use Rattle.slotmap_scene.specs.Climb.{parent_of}
 use Rattle.slotmap_scene.specs.Family.{value_of}
 
 module _ {T : Type 0} where

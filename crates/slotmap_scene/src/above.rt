@@ -6,8 +6,9 @@ ghost use Rattle.std.specs.FinMap as map;
 ghost use Rattle.slotmap_scene.specs.Climb.{parent_of};
 ghost use Rattle.slotmap_scene.specs.Above.{GoesUp, HasRoot, roots_in};
 
-use crate::links::Nodes;
-use crate::{Node, Scene};
+use crate::Scene;
+use crate::family::Nodes;
+use crate::links::LinkedNode;
 use slotmap::{DefaultKey, Key, basic};
 use slotmap_keylist::{inner, outer};
 use std::iter::FusedIterator;
@@ -59,22 +60,22 @@ impl<'a, K: Key, T: Drop> FusedIterator for Ancestors<'a, K, T> {}
 /// A contract sees it as the list of the keys that it will still yield.
 #[derive(Drop)]
 pub struct Roots<'a, K, T> {
-    nodes: basic::Iter<'a, DefaultKey, Node<T>>,
+    nodes: basic::Iter<'a, DefaultKey, LinkedNode<T>>,
     key_type: PhantomData<K>,
 }
 
 impl<'a, K, T> Model for Roots<'a, K, T> {
     ghost use Rattle.std.specs.Prelude.{List};
     ghost use Rattle.slotmap.specs.Words.{Key};
-    ghost use Rattle.slotmap_scene.specs.Above.{roots_in};
+    ghost use Rattle.slotmap_scene.specs.Links.{linked_roots};
 
     ghost Value = { List Key };
 
-    ghost view = { λ it. roots_in it.nodes };
+    ghost view = { λ it. linked_roots it.nodes };
 }
 
 // Whether a node has no parent.
-fn is_root<T>(node: &Node<T>) -> bool
+fn is_root<T>(node: &LinkedNode<T>) -> bool
     ensures { is_some node.now.parent ≡ not result }
 {
     node.parent.is_none()

@@ -1,6 +1,6 @@
 //! The nodes below a node.
 
-ghost use Rattle.std.specs.Prelude.{◌≡◌, ◌≢◌, ◌<◌, ◌≤◌, IfOk, map as list_map};
+ghost use Rattle.std.specs.Prelude.{◌≡◌, ◌≢◌, ◌<◌, ◌≤◌, ◌++◌, IfOk, OnOk, option_to_list, map as list_map};
 ghost use Rattle.std.specs.List.{All};
 ghost use Rattle.slotmap.specs.Words.{Key as KeyOf};
 ghost use Rattle.slotmap_keylist.specs.KeyLists.{times};
@@ -9,20 +9,18 @@ ghost use Rattle.slotmap_scene.specs.Climb.{IsWithin, has_node};
 ghost use Rattle.slotmap_scene.specs.Family.{children_of};
 
 use crate::Scene;
-use crate::children::Children;
-use crate::links::Nodes;
 use slotmap::{DefaultKey, Key};
 use slotmap_keylist::{inner, outer};
 use std::alloc::AllocError;
 
-// The keys of the children of a node, in order. A removed node has none.
-fn child_keys<T: Drop>(nodes: &Nodes<T>, node: DefaultKey) -> &[DefaultKey]
-    ensures { result.now ≡ children_of nodes.now.live node }
+// Puts a key behind the others, if there is one.
+fn push_some(keys: &mut Vec<DefaultKey>, key: Option<DefaultKey>) -> Result<(), AllocError>
+    ensures { OnOk result (keys.new.items ≡ keys.old.items ++ option_to_list key) }
 {
-    match nodes.get(node) {
-        Some(node) => node.children.as_slice(),
-        None => &[],
+    if let Some(key) = key {
+        keys.push(key)?;
     }
+    Ok(())
 }
 
 impl<K: Key, T: Drop> Scene<K, T> {
@@ -50,12 +48,13 @@ impl<K: Key, T: Drop> Scene<K, T> {
         ensures once { IfOk result (λ keys. (k : KeyOf) → times k (list_map K.data_of keys.items) ≤ 1) }
     {
         let mut below = Vec::new(self.alloc);
-        // The keys that are ahead, the next one last.
-        let mut ahead = Children::new(self.alloc);
-        ahead.push_reversed(child_keys(&self.nodes, inner(node)))?;
+        // The keys that are ahead, the next one last. Each stands for its later siblings too.
+        let mut ahead = Vec::new(self.alloc);
+        push_some(&mut ahead, self.nodes.first(inner(node)))?;
         while let Some(key) = ahead.pop() {
             below.push(outer(key))?;
-            ahead.push_reversed(child_keys(&self.nodes, key))?;
+            push_some(&mut ahead, self.nodes.next(key))?;
+            push_some(&mut ahead, self.nodes.first(key))?;
         }
         Ok(below)
     }

@@ -1,14 +1,14 @@
 //! The calls that add a node beside another one.
 
-ghost use Rattle.std.specs.Prelude.{◌≡◌, Some, IfOk, IfErr, OnOk, OnErr, IsSome};
+ghost use Rattle.std.specs.Prelude.{◌≡◌, ◌<◌, Some, IfOk, IfErr, IsOk, OnOk, OnErr, IsSome};
+ghost use Rattle.std.specs.FinMap as map;
 ghost use Rattle.slotmap.specs.Words.{Key as KeyOf, Inserts, IsSpent, Keeps, KeepsSpent};
-ghost use Rattle.slotmap_scene.specs.declared.children.Side.TheVariants.{Before, After};
+ghost use Rattle.slotmap_scene.specs.declared.tree.Side.TheVariants.{Before, After};
 ghost use Rattle.slotmap_scene.specs.Climb.{lacks_node, parent_of};
 ghost use Rattle.slotmap_scene.specs.Family.{IsNewChild, child, children_of, placed, placed_before, placed_after, with_sibling};
 ghost use Rattle.slotmap_scene.specs.Refusals.{RefusesSibling};
 
-use crate::children::Side;
-use crate::links::add_below;
+use crate::tree::Side;
 use crate::{AddError, Scene};
 use slotmap::{DefaultKey, Key};
 use slotmap_keylist::{inner, outer};
@@ -30,22 +30,25 @@ impl<K: Key, T: Drop> Scene<K, T> {
         ensures stale { KeepsSpent self.old self.new }
         ensures parent { OnOk result (IsSome (parent_of self.old.live sibling)) }
         ensures err { IfErr result (RefusesSibling self.old sibling value) }
+        ensures reuses { IsSome (parent_of self.old.live sibling) → 0 < map.len self.old.next → IsOk result }
+        ensures room { IsSome (parent_of self.old.live sibling) → 0 < self.old.room → IsOk result }
         ensures unchanged { OnErr result (Keeps self.old self.new) }
     {
         let Some(parent) = self.parent_key(sibling) else {
             return Err(AddError::Gone(value));
         };
-        let key = add_below(&mut self.nodes, self.alloc, parent, value)?;
-        self.nodes[parent].children.settle_last(side, sibling);
+        let key = self.nodes.insert(value)?;
+        self.nodes.attach_beside(key, side, sibling, parent);
         Ok(key)
     }
 
     /// Adds a node with no children right before another one, among the children of its parent, and
-    /// returns its key, which no node had before.
+    /// returns its key, which no node had before. It takes constant time, unless the map of the nodes
+    /// grows.
     ///
-    /// It fails with `Gone` exactly if the sibling is a root or doesn't exist. If the call fails, the
-    /// error holds the value, and the scene is unchanged. The children of the parent are searched for
-    /// the sibling, and those behind it move up.
+    /// It fails with `Gone` exactly if the sibling is a root or doesn't exist. If a node was removed or
+    /// room was reserved, nothing is allocated, and it fails for no other reason. If the call fails, the
+    /// error holds the value, and the scene is unchanged.
     ///
     /// ```
     /// let mut scene: Scene<DefaultKey, &str> = Scene::new(alloc)?;
@@ -67,17 +70,20 @@ impl<K: Key, T: Drop> Scene<K, T> {
         ensures stale { KeepsSpent self.old self.new }
         ensures parent { OnOk result (IsSome (parent_of self.old.live (K.data_of sibling))) }
         ensures err { IfErr result (RefusesSibling self.old (K.data_of sibling) value) }
+        ensures reuses { IsSome (parent_of self.old.live (K.data_of sibling)) → 0 < map.len self.old.next → IsOk result }
+        ensures room { IsSome (parent_of self.old.live (K.data_of sibling)) → 0 < self.old.room → IsOk result }
         ensures unchanged { OnErr result (Keeps self.old self.new) }
     {
         Ok(outer(self.insert(Side::Before, inner(sibling), value)?))
     }
 
     /// Adds a node with no children right behind another one, among the children of its parent, and
-    /// returns its key, which no node had before.
+    /// returns its key, which no node had before. It takes constant time, unless the map of the nodes
+    /// grows.
     ///
-    /// It fails with `Gone` exactly if the sibling is a root or doesn't exist. If the call fails, the
-    /// error holds the value, and the scene is unchanged. The children of the parent are searched for
-    /// the sibling, and those behind it move up.
+    /// It fails with `Gone` exactly if the sibling is a root or doesn't exist. If a node was removed or
+    /// room was reserved, nothing is allocated, and it fails for no other reason. If the call fails, the
+    /// error holds the value, and the scene is unchanged.
     ///
     /// ```
     /// let mut scene: Scene<DefaultKey, &str> = Scene::new(alloc)?;
@@ -99,6 +105,8 @@ impl<K: Key, T: Drop> Scene<K, T> {
         ensures stale { KeepsSpent self.old self.new }
         ensures parent { OnOk result (IsSome (parent_of self.old.live (K.data_of sibling))) }
         ensures err { IfErr result (RefusesSibling self.old (K.data_of sibling) value) }
+        ensures reuses { IsSome (parent_of self.old.live (K.data_of sibling)) → 0 < map.len self.old.next → IsOk result }
+        ensures room { IsSome (parent_of self.old.live (K.data_of sibling)) → 0 < self.old.room → IsOk result }
         ensures unchanged { OnErr result (Keeps self.old self.new) }
     {
         Ok(outer(self.insert(Side::After, inner(sibling), value)?))

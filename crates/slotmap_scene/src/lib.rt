@@ -7,21 +7,20 @@
 //! - Each node appears exactly once in its parent's list of children, and in no other.
 //! - [`Scene::descendants`] lists the nodes below a node, each once: depth-first, in the order of the
 //!   children.
-//! - [`Scene::reparent`] moves a node with its subtree, as the last child of its new parent. Unless
-//!   memory runs out, it is refused exactly if a node doesn't exist or the move would make a cycle.
+//! - [`Scene::reparent`] moves a node with its subtree, as the last child of its new parent. It is
+//!   refused exactly if a node doesn't exist or the move would make a cycle.
 //! - [`Scene::remove`] removes a node with its subtree, and no other node. Their keys are never used
 //!   again.
 //! - A call that fails changes nothing, and returns what it was given. It uses up no key.
 //!
-//! A call takes constant time, unless a vector grows, with these exceptions:
+//! The children of a node are kept as links between siblings. So only a new node may need memory, and
+//! none if a node was removed or room was reserved.
+//!
+//! A call takes constant time, unless the map of the nodes grows, with these exceptions:
 //!
 //! - [`Scene::depth`] and [`Scene::is_within`] take time linear in the number of nodes above the node,
 //!   and [`Scene::reparent`] in the number of those above the new parent.
-//! - [`Scene::reparent`], [`Scene::make_root`] and [`Scene::remove`] search the children of the node's
-//!   parent from the back, and move up those behind it.
-//! - [`Scene::insert_before`] and [`Scene::insert_after`] search the children of the parent from the
-//!   front, and move up those behind the sibling.
-//! - [`Scene::remove`] also takes time linear in the number of nodes that it removes, and
+//! - [`Scene::remove`] takes time linear in the number of nodes that it removes, and
 //!   [`Scene::descendants`] in the number of those that it lists.
 //! - [`Scene::clear`] and [`Scene::clone`] take time linear in the number of slots.
 //!
@@ -49,11 +48,10 @@ ghost use Rattle.slotmap_keylist.specs.KeyLists.{times};
 ghost use Rattle.slotmap_scene.specs.Climb.{has_node, parent_of};
 ghost use Rattle.slotmap_scene.specs.Family.{children_of, is_parent, value_of};
 
-use crate::children::Children;
-use crate::links::Nodes;
+use crate::family::Nodes;
 pub use above::{Ancestors, Roots};
 pub use iter::ChildKeys;
-use slotmap::{DefaultKey, InsertError, Key, ReserveError, SlotMap};
+use slotmap::{DefaultKey, InsertError, Key, ReserveError};
 use slotmap_keylist::{inner, outer};
 use std::alloc::Global;
 use std::marker::{Model, PhantomData};
@@ -62,22 +60,15 @@ use thiserror::Error;
 
 mod above;
 mod below;
-mod children;
 mod climb;
 mod clone;
+mod family;
 mod insert;
 mod iter;
 mod links;
 mod nodes;
+mod tree;
 pub mod world;
-
-// A node: its value, the key of its parent and those of its children. A root has no parent.
-#[derive(Debug, Drop)]
-struct Node<T> {
-    value: T,
-    parent: Option<DefaultKey>,
-    children: Children,
-}
 
 /// Nodes in trees, under keys of type `K`.
 ///
@@ -93,8 +84,7 @@ pub struct Scene<K, T> {
 
 impl<K, T> Model for Scene<K, T> {
     ghost use Rattle.slotmap.specs.Words.{Content, content_code};
-    ghost use Rattle.slotmap_scene.specs.declared.Node.{Node};
-    ghost use Rattle.slotmap_scene.specs.Climb.{node_code};
+    ghost use Rattle.slotmap_scene.specs.Node.{Node, node_code};
     ghost use Rattle.slotmap_scene.specs.Family.{IsScene};
 
     ghost Value = { Content (Node T) };
@@ -145,9 +135,6 @@ pub enum ReparentError {
     /// The new parent is the node itself, or below it.
     #[error("the new parent is below the node")]
     Cycle,
-    /// The allocation fails.
-    #[error("out of memory")]
-    Memory,
 }
 
 impl<T: Drop> Scene<DefaultKey, T> {
@@ -183,7 +170,7 @@ impl<K: Key, T: Drop> Scene<K, T> {
         ensures room { IfOk result (λ scene. capacity ≤ scene.room) }
         ensures err { IfErr result (RefusesCapacity capacity) }
     {
-        let nodes = SlotMap::with_capacity(alloc, capacity)?;
+        let nodes = Nodes::with_capacity(alloc, capacity)?;
         Ok(Scene {
             alloc,
             nodes,
@@ -191,8 +178,7 @@ impl<K: Key, T: Drop> Scene<K, T> {
         })
     }
 
-    /// Reserves room for `additional` more nodes: to add roots can't fail then. To add a child may still
-    /// need memory for the list of its parent.
+    /// Reserves room for `additional` more nodes: to add so many, roots or children, can't fail then.
     ///
     /// It fails with `TooGreat` if more than 4294967294 nodes would be there, and with `Memory` if
     /// memory runs out. The scene has the same nodes then.
@@ -253,24 +239,18 @@ impl<K: Key, T: Drop> Scene<K, T> {
         ensures* writes_back { sem 𝓛 (lends_value_of K.row T.row self.entry (K.data_of node) result) }
         ensures value { option_copied_mut result ≡ value_of self.old.live (K.data_of node) }
     {
-        match self.nodes.get_mut(inner(node)) {
-            Some(node) => Some(&mut node.value),
-            None => None,
-        }
+        self.nodes.value_mut(inner(node))
     }
 
     /// Returns an iterator over the keys of the children of a node, in order: each node whose parent it
     /// is, once.
     ///
-    /// A removed node has none.
-    pub fn children(&self, node: K) -> ChildKeys<'_, K>
+    /// A removed node has none. It is made in constant time, and each step takes constant time.
+    pub fn children(&self, node: K) -> ChildKeys<'_, K, T>
         ensures value { result ≡ children_of self.now.live (K.data_of node) }
         ensures listed { (k : KeyOf) → times k result ≡ is_parent (parent_of self.now.live k) (K.data_of node) }
     {
-        match self.nodes.get(inner(node)) {
-            Some(node) => ChildKeys::over(node.children.as_slice()),
-            None => ChildKeys::over(&[]),
-        }
+        self.nodes.children(inner(node))
     }
 
     /// Returns the key of the parent of a node, or `None` if the node is a root or doesn't

@@ -1,40 +1,47 @@
-//! Links between nodes: each call changes one link, or one end of it.
+//! A node with its links, and the changes of links: a node comes, is put between two others, or is taken
+//! out.
 
-ghost use Rattle.std.specs.Prelude.{◌≡◌, ◌<◌, ◌++◌, ◌∷◌, [], Some, None, IfOk, IfErr, IsOk, IfSome, OnOk, OnErr, option_map, true};
+ghost use Rattle.std.specs.Prelude.{◌≡◌, ◌<◌, ◌≤◌, IfErr, IfOk, IfSome, IsOk, OnErr, false};
 ghost use Rattle.std.specs.FinMap as map;
-ghost use Rattle.slotmap.specs.Words.{Key as KeyOf, IsContent, IsSpent, KeepsSpent, Inserts, Keeps, Leaves, MayGrow};
-ghost use Rattle.slotmap_scene.specs.Climb.{IsWithin, has_node, lacks_node, parent_of, with_parent};
-ghost use Rattle.slotmap_scene.specs.Family.{IsNewChild, IsScene, child, children_of, value_of, with_child, without_child, MayLeave};
-ghost use Rattle.slotmap_scene.specs.Refusals.{RefusesNode, RefusesBelow};
+ghost use Rattle.slotmap.specs.Words.{Inserts, IsLive, IsSpent, Keeps, KeepsSpent};
+ghost use Rattle.slotmap_scene.specs.Links.{ends_of, leaf, put_between, taken_between, with_next, with_prev};
+ghost use Rattle.slotmap_scene.specs.Refusals.{RefusesNode};
 
-use crate::children::Children;
-use crate::{AddError, Node};
-use slotmap::{DefaultKey, InsertError, Key, SlotMap};
-use std::alloc::{AllocError, Global};
+use slotmap::{DefaultKey, InsertError, SlotMap};
+use slotmap_keylist::{Ends, Link};
 
-// The nodes under their keys.
-pub(crate) type Nodes<T> = SlotMap<DefaultKey, Node<T>>;
+// A node: its value, the key of its parent, the two ends of the list of its children, and its neighbours
+// in such a list. A root has no parent.
+#[derive(Debug, Drop)]
+pub(crate) struct LinkedNode<T> {
+    pub value: T,
+    pub parent: Option<DefaultKey>,
+    pub children: Ends<DefaultKey>,
+    pub siblings: Link<DefaultKey>,
+}
 
-// Adds a node with no children, which no other node has as a child yet.
+// The nodes with their links, under their keys.
+pub(crate) type LinkedNodes<T> = SlotMap<DefaultKey, LinkedNode<T>>;
+
+// Adds a root with no children.
 pub(crate) fn add<T: Drop>(
-    nodes: &mut Nodes<T>,
-    alloc: Global,
-    parent: Option<DefaultKey>,
+    nodes: &mut LinkedNodes<T>,
     value: T,
 ) -> Result<DefaultKey, InsertError<T>>
-    ensures adds { IfOk result (λ key. Inserts nodes.old key (child parent value) nodes.new) }
+    ensures adds { IfOk result (λ key. Inserts nodes.old key (leaf value) nodes.new) }
+    ensures fresh { IfOk result (λ key. map.contains_key nodes.old.live key ≡ false) }
+    ensures unspent { IfOk result (λ key. IsSpent nodes.old key → ⊥) }
+    ensures stale { KeepsSpent nodes.old nodes.new }
     ensures err { IfErr result (RefusesNode nodes.old value) }
     ensures reuses { 0 < map.len nodes.old.next → IsOk result }
     ensures room { 0 < nodes.old.room → IsOk result }
-    ensures fresh { IfOk result (λ key. lacks_node nodes.old.live key) }
-    ensures unspent { IfOk result (λ key. IsSpent nodes.old key → ⊥) }
     ensures unchanged { OnErr result (Keeps nodes.old nodes.new) }
-    ensures stale { KeepsSpent nodes.old nodes.new }
 {
-    let node = Node {
+    let node = LinkedNode {
         value,
-        parent,
-        children: Children::new(alloc),
+        parent: None,
+        children: Ends::none(),
+        siblings: Link::none(),
     };
     match nodes.insert(node) {
         Ok(key) => Ok(key),
@@ -43,105 +50,78 @@ pub(crate) fn add<T: Drop>(
     }
 }
 
-// Puts a node behind the children of another one.
-pub(crate) fn push_child<T: Drop>(
-    nodes: &mut Nodes<T>,
+// Lets a node lead on to another one, or to none. Without a node, it is the start of the list of the
+// parent that does.
+fn set_next<T: Drop>(
+    nodes: &mut LinkedNodes<T>,
     parent: DefaultKey,
-    node: DefaultKey,
-) -> Result<(), AllocError>
-    requires { has_node nodes.old.live parent }
-    ensures ok { OnOk result (nodes.new ≡ record nodes.old { live = with_child nodes.old.live parent node }) }
-    ensures unchanged { OnErr result (nodes.new ≡ nodes.old) }
-    ensures stale { KeepsSpent nodes.old nodes.new }
-    ensures valid { IsContent true nodes.old }
-{
-    nodes[parent].children.push(node)
-}
-
-// Adds a node with no children behind the children of another one.
-//
-// A place in the list is taken first, so that the next key stays the same if memory runs out.
-pub(crate) fn add_below<T: Drop>(
-    nodes: &mut Nodes<T>,
-    alloc: Global,
-    parent: DefaultKey,
-    value: T,
-) -> Result<DefaultKey, AddError<T>>
-    requires { has_node nodes.old.live parent }
-    ensures adds { IfOk result (λ key. Inserts (record nodes.old { live = with_child nodes.old.live parent key }) key (child (Some parent) value) nodes.new) }
-    ensures gains { IfOk result (λ key. IsNewChild nodes.old.live nodes.new.live key parent value (children_of nodes.old.live parent ++ key ∷ [])) }
-    ensures fresh { IfOk result (λ key. lacks_node nodes.old.live key) }
-    ensures unspent { IfOk result (λ key. IsSpent nodes.old key → ⊥) }
-    ensures err { IfErr result (RefusesBelow nodes.old value) }
-    ensures unchanged { OnErr result (Keeps nodes.old nodes.new) }
-    ensures stale { KeepsSpent nodes.old nodes.new }
-{
-    if push_child(nodes, parent, DefaultKey::null()).is_err() {
-        return Err(AddError::Memory(value));
-    }
-    match add(nodes, alloc, Some(parent), value) {
-        Ok(key) => {
-            nodes[parent].children.set_last(key);
-            Ok(key)
-        }
-        Err(error) => {
-            nodes[parent].children.pop();
-            Err(AddError::from(error))
-        }
-    }
-}
-
-// Takes a node from the children of its parent, if it has one.
-pub(crate) fn leave_parent<T: Drop>(nodes: &mut Nodes<T>, node: DefaultKey)
-    requires there { has_node nodes.old.live node }
-    requires parent { MayLeave nodes.old.live node (parent_of nodes.old.live node) }
-    ensures leaves { nodes.new ≡ record nodes.old { live = without_child nodes.old.live (parent_of nodes.old.live node) node } }
-    ensures removes { Leaves nodes.old nodes.new }
-{
-    if let Some(parent) = nodes[node].parent {
-        nodes[parent].children.take_out(node);
-    }
-}
-
-// Lets a node have another parent, or none.
-pub(crate) fn set_parent<T: Drop>(
-    nodes: &mut Nodes<T>,
-    node: DefaultKey,
-    parent: Option<DefaultKey>,
+    node: Option<DefaultKey>,
+    next: Option<DefaultKey>,
 )
-    requires { has_node nodes.old.live node }
-    ensures sets { nodes.new ≡ record nodes.old { live = with_parent nodes.old.live node parent } }
-    ensures removes { Leaves nodes.old nodes.new }
+    requires parent { IsLive nodes.old parent }
+    requires node { IfSome node (IsLive nodes.old) }
+    ensures { nodes.new ≡ record nodes.old { live = with_next nodes.old.live parent node next } }
 {
-    nodes[node].parent = parent;
+    match node {
+        Some(node) => nodes[node].siblings.next = next,
+        None => nodes[parent].children.first = next,
+    }
 }
 
-// Removes a root with all that is below it, and returns its value.
-//
-// It goes down to the last child of each node, which it takes out of the list, as far as a leaf. It
-// removes the leaf, and goes on from the parent.
-pub(crate) fn remove_tree<T: Drop>(nodes: &mut Nodes<T>, root: DefaultKey) -> T
-    requires there { has_node nodes.old.live root }
-    requires root { parent_of nodes.old.live root ≡ None }
-    requires scene { IsScene nodes.old.live }
-    ensures value { value_of nodes.old.live root ≡ Some result }
-    ensures removed { (k : KeyOf) → IsWithin nodes.old.live k root → lacks_node nodes.new.live k }
-    ensures others { (k : KeyOf) → (IsWithin nodes.old.live k root → ⊥) → map.get nodes.new.live k ≡ map.get nodes.old.live k }
-    ensures removes { Leaves nodes.old nodes.new }
+// Lets a node lead back to another one, or to none. Without a node, it is the end of the list of the
+// parent that does.
+fn set_prev<T: Drop>(
+    nodes: &mut LinkedNodes<T>,
+    parent: DefaultKey,
+    node: Option<DefaultKey>,
+    prev: Option<DefaultKey>,
+)
+    requires parent { IsLive nodes.old parent }
+    requires node { IfSome node (IsLive nodes.old) }
+    ensures { nodes.new ≡ record nodes.old { live = with_prev nodes.old.live parent node prev } }
 {
-    let mut at = root;
-    loop {
-        match nodes[at].children.pop() {
-            Some(child) => at = child,
-            None => {
-                let Some(leaf) = nodes.remove(at) else {
-                    unreachable!()
-                };
-                match leaf.parent {
-                    Some(parent) => at = parent,
-                    None => return leaf.value,
-                }
-            }
-        }
+    match node {
+        Some(node) => nodes[node].siblings.prev = prev,
+        None => nodes[parent].children.last = prev,
     }
+}
+
+// Puts a node between two others, in the list of a parent.
+pub(crate) fn put_between<T: Drop>(
+    nodes: &mut LinkedNodes<T>,
+    parent: DefaultKey,
+    node: DefaultKey,
+    siblings: Link<DefaultKey>,
+)
+    requires parent { IsLive nodes.old parent }
+    requires node { IsLive nodes.old node }
+    requires prev { IfSome siblings.prev (IsLive nodes.old) }
+    requires next { IfSome siblings.next (IsLive nodes.old) }
+    requires fits { (ends_of nodes.old.live parent).len ≤ map.len nodes.old.live }
+    ensures { nodes.new ≡ record nodes.old { live = put_between nodes.old.live parent node siblings } }
+{
+    let place = &mut nodes[node];
+    place.parent = Some(parent);
+    place.siblings.prev = siblings.prev;
+    place.siblings.next = siblings.next;
+    set_next(nodes, parent, siblings.prev, Some(node));
+    set_prev(nodes, parent, siblings.next, Some(node));
+    nodes[parent].children.len += 1;
+}
+
+// Takes the node between two others out of the list of a parent: they lead to each other now.
+pub(crate) fn take_between<T: Drop>(
+    nodes: &mut LinkedNodes<T>,
+    parent: DefaultKey,
+    siblings: Link<DefaultKey>,
+)
+    requires parent { IsLive nodes.old parent }
+    requires prev { IfSome siblings.prev (IsLive nodes.old) }
+    requires next { IfSome siblings.next (IsLive nodes.old) }
+    requires some { 0 < (ends_of nodes.old.live parent).len }
+    ensures { nodes.new ≡ record nodes.old { live = taken_between nodes.old.live parent siblings } }
+{
+    set_next(nodes, parent, siblings.prev, siblings.next);
+    set_prev(nodes, parent, siblings.next, siblings.prev);
+    nodes[parent].children.len -= 1;
 }

@@ -7,9 +7,8 @@ ghost use Rattle.slotmap_scene.specs.Climb.{IsWithin, has_node, lacks_node};
 ghost use Rattle.slotmap_scene.specs.Family.{IsNewChild, IsScene, attached, as_root, child, children_of, forgets, value_of, with_child};
 ghost use Rattle.slotmap_scene.specs.Refusals.{RefusesNode, RefusesChild, RefusesParent};
 
-use crate::links::{add, add_below, leave_parent, push_child, remove_tree, set_parent};
 use crate::{AddError, ReparentError, Scene};
-use slotmap::{DefaultKey, InsertError, Key};
+use slotmap::{InsertError, Key};
 use slotmap_keylist::{inner, outer};
 
 impl<K: Key, T: Drop> Scene<K, T> {
@@ -27,16 +26,14 @@ impl<K: Key, T: Drop> Scene<K, T> {
         ensures room { 0 < self.old.room → IsOk result }
         ensures unchanged { OnErr result (Keeps self.old self.new) }
     {
-        match add(&mut self.nodes, self.alloc, None, value) {
-            Ok(key) => Ok(outer(key)),
-            Err(error) => Err(error),
-        }
+        Ok(outer(self.nodes.insert(value)?))
     }
 
     /// Adds a node with no children as the last child of another one, and returns its key, which no node
     /// had before.
     ///
-    /// If the call fails, the error holds the value, and the scene is unchanged.
+    /// If a node was removed or room was reserved, nothing is allocated, and it fails exactly if the
+    /// parent doesn't exist. If the call fails, the error holds the value, and the scene is unchanged.
     pub fn add_child(&mut self, parent: K, value: T) -> Result<K, AddError<T>>
         // The parent has one more child, under a new key.
         ensures adds { IfOk result (λ key. Inserts (record self.old { live = with_child self.old.live (K.data_of parent) (K.data_of key) })
@@ -48,24 +45,25 @@ impl<K: Key, T: Drop> Scene<K, T> {
         ensures stale { KeepsSpent self.old self.new }
         ensures live { OnOk result (has_node self.old.live (K.data_of parent)) }
         ensures err { IfErr result (RefusesChild self.old (K.data_of parent) value) }
+        ensures reuses { has_node self.old.live (K.data_of parent) → 0 < map.len self.old.next → IsOk result }
+        ensures room { has_node self.old.live (K.data_of parent) → 0 < self.old.room → IsOk result }
         ensures unchanged { OnErr result (Keeps self.old self.new) }
     {
         let parent = inner(parent);
         if !self.nodes.contains_key(parent) {
             return Err(AddError::Gone(value));
         }
-        match add_below(&mut self.nodes, self.alloc, parent, value) {
-            Ok(key) => Ok(outer(key)),
-            Err(error) => Err(error),
-        }
+        let key = self.nodes.insert(value)?;
+        self.nodes.attach(key, parent);
+        Ok(outer(key))
     }
 
     /// Makes a node the last child of another one, with its subtree.
     ///
     /// It is the last child even if it was a child of the new parent before.
     ///
-    /// It fails exactly if one of the two doesn't exist, if the new parent is the node or below it, or
-    /// if memory runs out. The scene is then unchanged.
+    /// It fails exactly if one of the two doesn't exist, or if the new parent is the node or below it. The
+    /// scene is then unchanged. It allocates nothing.
     pub fn reparent(&mut self, node: K, parent: K) -> Result<(), ReparentError>
         ensures moved { OnOk result (self.new ≡ record self.old { live = attached (as_root self.old.live (K.data_of node)) (K.data_of node) (K.data_of parent) }) }
         ensures nodes { OnOk result (has_node self.old.live (K.data_of node) × has_node self.old.live (K.data_of parent)) }
@@ -86,19 +84,14 @@ impl<K: Key, T: Drop> Scene<K, T> {
         }
         let node = inner(node);
         let parent = inner(parent);
-        // A place is taken first, so that nothing has changed if memory runs out.
-        if push_child(&mut self.nodes, parent, DefaultKey::null()).is_err() {
-            return Err(ReparentError::Memory);
-        }
-        leave_parent(&mut self.nodes, node);
-        set_parent(&mut self.nodes, node, Some(parent));
-        self.nodes[parent].children.set_last(node);
+        self.nodes.detach(node);
+        self.nodes.attach(node, parent);
         Ok(())
     }
 
     /// Makes a node a root, with its subtree, and returns whether the node exists.
     ///
-    /// It allocates nothing.
+    /// It takes constant time, and allocates nothing.
     pub fn make_root(&mut self, node: K) -> bool
         ensures which { IsTrue result ↔ has_node self.old.live (K.data_of node) }
         ensures new { self.new ≡ record self.old { live = as_root self.old.live (K.data_of node) } }
@@ -108,8 +101,7 @@ impl<K: Key, T: Drop> Scene<K, T> {
         if !self.nodes.contains_key(node) {
             return false;
         }
-        leave_parent(&mut self.nodes, node);
-        set_parent(&mut self.nodes, node, None);
+        self.nodes.detach(node);
         true
     }
 
@@ -130,9 +122,8 @@ impl<K: Key, T: Drop> Scene<K, T> {
         if !self.nodes.contains_key(node) {
             return None;
         }
-        leave_parent(&mut self.nodes, node);
-        set_parent(&mut self.nodes, node, None);
-        Some(remove_tree(&mut self.nodes, node))
+        self.nodes.detach(node);
+        Some(self.nodes.remove_tree(node))
     }
 
     /// Removes all nodes. Their keys are never used again. The room stays.

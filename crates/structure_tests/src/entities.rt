@@ -62,6 +62,16 @@ fn removals(rt: HostRuntime) -> Result<(), Fail> {
 }
 
 #[test]
+fn copies(rt: HostRuntime) -> Result<(), Fail> {
+    let (mut world, a) = one(rt.alloc())?;
+    let copy = world.clone()?;
+    world.despawn(a);
+    assert_eq!(rt; copy.get(a), Some(&1));
+    assert_eq!(rt; copy.component::<Second>(a), Some(&5));
+    Ok(())
+}
+
+#[test]
 fn joins(rt: HostRuntime) -> Result<(), Fail> {
     let (world, a) = one(rt.alloc())?;
     assert_eq!(rt; world.with::<Second>().next(), Some((a, &5)));

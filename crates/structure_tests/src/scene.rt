@@ -78,6 +78,17 @@ fn siblings(rt: HostRuntime) -> Result<(), Fail> {
 }
 
 #[test]
+fn children_from_both_ends(rt: HostRuntime) -> Result<(), Fail> {
+    let (scene, top, first, second) = family(rt.alloc())?;
+    let mut children = scene.children(top);
+    assert_eq!(rt; children.len(), 2);
+    assert_eq!(rt; children.next_back(), Some(second));
+    assert_eq!(rt; children.next(), Some(first));
+    assert_eq!(rt; children.next_back(), None);
+    Ok(())
+}
+
+#[test]
 fn copies(rt: HostRuntime) -> Result<(), Fail> {
     let (mut scene, top, first, _) = family(rt.alloc())?;
     let copy = scene.clone()?;

@@ -5,7 +5,7 @@ use Rattle.slotmap_list.proofs.Chains.{prev_found, prev_absent}
 use Rattle.slotmap_list.proofs.StableList.before.Goals as goal
 
 pub returns : goal.returns
-returns g c = prev_found _ _ _ _ c.args.key _ c.self.invariant (sym (rw c.in_ok-get.was at c.get.ensures.value)) ∙ ap (key_before None c.args.key) (elements_are c.self.view_is)
+returns g c = c.get-2.ensures.value ∙ prev_found _ _ _ _ c.args.key _ c.self.invariant (sym (rw c.in_ok-get.was at c.get.ensures.value)) ∙ ap (key_before None c.args.key) (elements_are c.self.view_is)
 
 pub returns-in_err-get : goal.returns-in_err-get
 returns-in_err-get g c =

@@ -1,12 +1,18 @@
-use Rattle.std.proofs.Common.{true, is_err, ap, sym, ◌∙◌, subst, refl, rules}
+use Rattle.std.proofs.Common.{true, is_err, is_some, ap, sym, ◌∙◌, subst, refl, rules}
 use Rattle.std.specs.Option.{option_map}
 use Rattle.slotmap_list.specs.Sequence.{value_of}
 use Rattle.slotmap_list.specs.Chain.{IsChain}
 use Rattle.slotmap_list.proofs.NodeLists.{elements_are}
 use Rattle.slotmap_list.proofs.Chains.{value_found, put_chain, added_stands, self_chain, chain_is}
-use Rattle.slotmap.proofs.Callers.{spent_insert}
+use Rattle.slotmap.proofs.Callers.{spent_insert, get-insert_here}
 use Rattle.slotmap_keylist.proofs.Alone.{alone-inserts, alone-keeps, gone_stays, new_not_gone}
+use Rattle.slotmap_keylist.proofs.NotNull.{live_not_null-reuses}
 use Rattle.slotmap_list.proofs.StableList.put.Goals as goal
+
+pub some-on-requires : goal.some-on-requires
+some-on-requires g c =
+    let there = get-insert_here c.self.inside.nodes.live c.in_ok-key.key _ in
+    live_not_null-reuses _ c.add.ensures.valid.after c.in_ok-key.key (rw c.in_ok-key.ensures.ok.live (ap is_some there))
 
 pub relink-requires-clause-prev_stands : goal.relink-requires-clause-prev_stands
 relink-requires-clause-prev_stands g c =
@@ -22,7 +28,7 @@ pub invariant_of-self-2 : goal.invariant_of-self-2
 invariant_of-self-2 g c =
     let chain = subst (IsChain c.self.inside.nodes.live c.self.inside.first c.self.inside.last) (elements_are c.self.view_is) c.self.invariant in
     self_chain _ _ _ _ (put_chain _ _ _ _ _ c.args.prev c.args.next _ _ c.args.self.now.elements c.requires c.in_ok-key.key c.args.value chain
-    c.in_ok-key.ensures.fresh (rw (c.same.ensures, c.same-2.ensures) at c.in_ok-key.ensures.ok.live) c.relink.ensures.links)
+    c.in_ok-key.ensures.fresh (rw (c.copied.ensures, c.copied-2.ensures) at c.in_ok-key.ensures.ok.live) (rw (c.copied-back.ensures, c.some-on.ensures) at c.relink.ensures.links))
 
 pub returns-clause-ok : goal.returns-clause-ok
 returns-clause-ok g c =
@@ -34,7 +40,7 @@ returns-clause-ok g c =
         c.requires.1.2,
         c.requires.1.3,
         chain_is _ _ _ _ (put_chain _ _ _ _ _ c.args.prev c.args.next _ _ c.args.self.now.elements c.requires c.in_ok-key.key c.args.value chain
-            c.in_ok-key.ensures.fresh (rw (c.same.ensures, c.same-2.ensures) at c.in_ok-key.ensures.ok.live) c.relink.ensures.links),
+            c.in_ok-key.ensures.fresh (rw (c.copied.ensures, c.copied-2.ensures) at c.in_ok-key.ensures.ok.live) (rw (c.copied-back.ensures, c.some-on.ensures) at c.relink.ensures.links)),
       ),
     )
 

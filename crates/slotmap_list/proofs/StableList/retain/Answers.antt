@@ -5,7 +5,7 @@ use Rattle.slotmap_list.proofs.Visiting.{retaining_start, retaining_stands, reta
 use Rattle.slotmap_list.proofs.StableList.retain.Goals as goal
 
 pub loop-at-init : goal.loop-at-init
-loop-at-init g c = retaining_start g.F.FnMut g.K.Key.data_of c.args.self.now c.args.f _ (c.self.invariant.first_is ∙ ap (λ l. first_or l None) (elements_are c.self.view_is))
+loop-at-init g c = retaining_start g.F.FnMut g.K.Key.data_of c.args.self.now c.args.f _ (c.get-at.ensures.value ∙ c.self.invariant.first_is ∙ ap (λ l. first_or l None) (elements_are c.self.view_is))
 
 pub value_mut-requires : goal.value_mut-requires
 value_mut-requires g c = rw (retaining_stands g.F.FnMut g.K.Key.data_of c.args.self.now c.args.f c.loop-at.self c.in-Some.key c.loop-at.f (rw c.in-Some.is at c.loop-at.invariant) c.after-at.ensures.once) refl

@@ -23,21 +23,21 @@ returns-in_err-node-clause-removed g c =
 
 pub relink-requires-clause-prev_stands : goal.relink-requires-clause-prev_stands
 relink-requires-clause-prev_stands g c =
-    rw c.in_ok-node.ensures.removes.live (removed_stands _ _ _ _ c.args.cursor c.in_ok-node.node c.self.invariant (sym (rw c.in_ok-node.was at c.remove.ensures.value))).0
+    rw (c.copied.ensures, c.in_ok-node.ensures.removes.live) (removed_stands _ _ _ _ c.args.cursor c.in_ok-node.node c.self.invariant (sym (rw c.in_ok-node.was at c.remove.ensures.value))).0
 
 pub relink-requires-clause-next_stands : goal.relink-requires-clause-next_stands
 relink-requires-clause-next_stands g c =
-    rw c.in_ok-node.ensures.removes.live (removed_stands _ _ _ _ c.args.cursor c.in_ok-node.node c.self.invariant (sym (rw c.in_ok-node.was at c.remove.ensures.value))).1
+    rw (c.copied-2.ensures, c.in_ok-node.ensures.removes.live) (removed_stands _ _ _ _ c.args.cursor c.in_ok-node.node c.self.invariant (sym (rw c.in_ok-node.was at c.remove.ensures.value))).1
 
 pub invariant_of-self-2 : goal.invariant_of-self-2
 invariant_of-self-2 g c =
     let found = sym (rw c.in_ok-node.was at c.remove.ensures.value) in
-    self_chain _ _ _ _ (removed_chain _ _ _ _ _ _ _ _ _ c.args.cursor _ c.self.invariant found (elements_are c.self.view_is) c.in_ok-node.ensures.removes.live c.relink.ensures.links)
+    self_chain _ _ _ _ (removed_chain _ _ _ _ _ _ _ _ _ c.args.cursor _ c.self.invariant found (elements_are c.self.view_is) c.in_ok-node.ensures.removes.live (rw (c.copied.ensures, c.copied-2.ensures) at c.relink.ensures.links))
 
 pub returns-clause-removed : goal.returns-clause-removed
 returns-clause-removed g c =
     let found = sym (rw c.in_ok-node.was at c.remove.ensures.value) in
-    chain_is _ _ _ _ (removed_chain _ _ _ _ _ _ _ _ _ c.args.cursor _ c.self.invariant found (elements_are c.self.view_is) c.in_ok-node.ensures.removes.live c.relink.ensures.links)
+    chain_is _ _ _ _ (removed_chain _ _ _ _ _ _ _ _ _ c.args.cursor _ c.self.invariant found (elements_are c.self.view_is) c.in_ok-node.ensures.removes.live (rw (c.copied.ensures, c.copied-2.ensures) at c.relink.ensures.links))
 
 pub returns-clause-absent : goal.returns-clause-absent
 returns-clause-absent g c = rw (returns-clause-removed g c) (absent_removed c.args.self.now.elements c.args.cursor (subst IsOnce (elements_are c.self.view_is) c.self.invariant.once))

@@ -15,7 +15,7 @@ pub returns-clause-links : goal.returns-clause-links
 returns-clause-links g c = record {
   node = c.index_mut-node.result.now;
   found = c.index_mut-node.ensures.value;
-  links = rw (c.same-node.ensures, c.same-node-2.ensures) at c.relink.ensures.links;
+  links = rw (c.copied-node.ensures, c.copied-node-2.ensures, c.copied-back.ensures, c.some-on.ensures) at c.relink.ensures.links;
 }
 
 pub returns-clause-keys : goal.returns-clause-keys

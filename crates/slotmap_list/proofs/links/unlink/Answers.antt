@@ -1,14 +1,14 @@
 use Rattle.slotmap_list.proofs.links.unlink.Goals as goal
 
 pub relink-requires-clause-prev_stands : goal.relink-requires-clause-prev_stands
-relink-requires-clause-prev_stands g c = rw (c.same.ensures, c.same-prev.ensures) (c.requires.linked _ c.index-node.ensures).0
+relink-requires-clause-prev_stands g c = rw (c.copied.ensures, c.copied-prev.ensures) (c.requires.linked _ c.index-node.ensures).0
 
 pub relink-requires-clause-next_stands : goal.relink-requires-clause-next_stands
-relink-requires-clause-next_stands g c = rw (c.same-2.ensures, c.same-next.ensures) (c.requires.linked _ c.index-node.ensures).1
+relink-requires-clause-next_stands g c = rw (c.copied-2.ensures, c.copied-next.ensures) (c.requires.linked _ c.index-node.ensures).1
 
 pub returns-clause-unlinks : goal.returns-clause-unlinks
 returns-clause-unlinks g c = record {
   node = c.index-node.result.now;
   found = c.index-node.ensures;
-  links = rw (c.same.ensures, c.same-2.ensures, c.same-prev.ensures, c.same-next.ensures) at c.relink.ensures.links;
+  links = rw (c.copied.ensures, c.copied-2.ensures, c.copied-prev.ensures, c.copied-next.ensures) at c.relink.ensures.links;
 }

@@ -1,8 +1,10 @@
+use Rattle.slotmap.proofs.Callers.{clone_copies}
+use Rattle.slotmap_scene.specs.Family.{IsNodeClone}
 use Rattle.slotmap_scene.proofs.Families.{scene_copied, nodes_equal}
 use Rattle.slotmap_scene.proofs.Scene.clone.Goals as goal
 
 pub invariant_of-result : goal.invariant_of-result
-invariant_of-result g c = scene_copied g.T.Clone.is_clone c.self.inside.nodes _ c.in_ok-clone.ensures.clones c.self.invariant
+invariant_of-result g c = scene_copied g.T.Clone.is_clone c.self.inside.nodes _ c.in_ok-clone.ensures.cases c.self.invariant
 
 pub returns-clause-copies_if_clones_equal : goal.returns-clause-copies_if_clones_equal
-returns-clause-copies_if_clones_equal g c same = rw (← c.self.view_is) (c.in_ok-clone.ensures.copies_if_clones_equal (nodes_equal g.T.Clone.is_clone same))
+returns-clause-copies_if_clones_equal g c same = rw (← c.self.view_is) (clone_copies (IsNodeClone g.T.Clone.is_clone) c.self.inside.nodes _ c.in_ok-clone.ensures.cases (nodes_equal g.T.Clone.is_clone same))

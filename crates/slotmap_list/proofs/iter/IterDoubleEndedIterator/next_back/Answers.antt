@@ -18,7 +18,7 @@ returns-in_err-node-clause-steps g c =
     let found = ap (map.get c.self.inside.nodes.now.live) (sym name) ∙ there.1.2 in cc)
 
 pub invariant_of-self : goal.invariant_of-self
-invariant_of-self g c = walk_back _ _ _ _ c.self.invariant _ _ (omega (arith, c.if-self-eq0.false)) c.in_ok-cursor.was (sym (rw c.in_ok-node.was at c.get.ensures.value))
+invariant_of-self g c = rw c.get-self-inside.ensures.value (walk_back _ _ _ _ c.self.invariant _ _ (omega (arith, c.if-self-eq0.false)) c.in_ok-cursor.was (sym (rw c.in_ok-node.was at c.get.ensures.value)))
 
 pub returns-clause-steps : goal.returns-clause-steps
 returns-clause-steps g c =

@@ -1,0 +1,100 @@
+//! Copies of a world.
+
+ghost use Rattle.std.specs.Prelude.{◌≡◌, IfOk, ⊤};
+ghost use Rattle.slotmap.specs.Words.{Key as KeyOf, ClonesInOrder, HasClones, IsCloneBy};
+
+use crate::{Table, Tables, World};
+use slotmap::{Key, SecondaryMap, SparseSecondaryMap};
+use std::alloc::AllocError;
+
+/// A table whose components can be cloned.
+pub trait CloneTable<K: Key>: Table<K> {
+    // What a clone of a component may be.
+    ghost is_clone: { Self.Component → Self.Component → Type 0 };
+
+    /// Returns a copy of the table: the same entities, each with a clone of its component. It fails only
+    /// if memory runs out.
+    fn clone_table(&self) -> Result<Self, AllocError>
+        ensures { IfOk result (λ copy. HasClones is_clone (Self.Table.pairs self.now) (Self.Table.pairs copy)) };
+}
+
+impl<K: Key, C: Clone + Drop> CloneTable<K> for SecondaryMap<K, C> {
+    ghost is_clone = { C.is_clone };
+
+    fn clone_table(&self) -> Result<Self, AllocError> {
+        SecondaryMap::clone(self)
+    }
+}
+
+impl<K: Key, C: Clone + Drop> CloneTable<K> for SparseSecondaryMap<K, C> {
+    ghost is_clone = { C.is_clone };
+
+    fn clone_table(&self) -> Result<Self, AllocError> {
+        SparseSecondaryMap::clone(self)
+    }
+}
+
+/// Tables whose components can be cloned.
+pub trait CloneTables<K: Key>: Tables<K> {
+    // What a copy of the tables may be.
+    ghost are_clones: { Self → Self → Type 0 };
+
+    /// Returns a copy of the tables: each entity has clones of its components. It fails only if memory
+    /// runs out.
+    fn clone_tables(&self) -> Result<Self, AllocError>
+        ensures clones { IfOk result (are_clones self.now) }
+        ensures same { IfOk result (λ copy. (q : KeyOf) → Self.Tables.has copy q ≡ Self.Tables.has self.now q) };
+}
+
+impl<K: Key> CloneTables<K> for () {
+    ghost are_clones = { λ _ _. ⊤ };
+
+    fn clone_tables(&self) -> Result<(), AllocError> {
+        Ok(())
+    }
+}
+
+impl<K: Key, A: CloneTable<K>, B: CloneTables<K>> CloneTables<K> for (A, B) {
+    ghost are_clones = { λ tables copy. HasClones A.is_clone (A.Table.pairs tables.0) (A.Table.pairs copy.0) × B.are_clones tables.1 copy.1 };
+
+    fn clone_tables(&self) -> Result<(A, B), AllocError> {
+        let table = self.0.clone_table()?;
+        let others = self.1.clone_tables()?;
+        Ok((table, others))
+    }
+}
+
+impl<K: Key, E: Clone + Drop, T: CloneTables<K>> World<K, E, T> {
+    /// Returns a copy of the world: the same entities under the same keys, with clones of their values
+    /// and components.
+    ///
+    /// Both worlds will return the same new keys. If memory runs out, the call fails, and what was
+    /// copied is dropped. It takes time linear in the number of slots and in the size of the tables.
+    ///
+    /// ```
+    /// let mut world: World<DefaultKey, u8, (SecondaryMap<DefaultKey, u32>, ())> = World::new(alloc)?;
+    /// let hero = world.spawn(1)?;
+    /// world.attach::<First>(hero, 7)?;
+    /// let copy = world.clone()?;
+    /// world.despawn(hero);
+    /// assert_eq!(rt; copy.component::<First>(hero), Some(&7));
+    /// ```
+    pub fn clone(&self) -> Result<Self, AllocError>
+        ensures entities { IfOk result (λ copy. IsCloneBy E.is_clone self.now.entities.content copy.entities.content) }
+        ensures order { IfOk result (λ copy. ClonesInOrder E.is_clone self.now.entities copy.entities) }
+        ensures tables { IfOk result (λ copy. T.are_clones self.now.tables copy.tables) }
+    {
+        let entities = self.entities.clone()?;
+        let tables = self.tables.clone_tables()?;
+        Ok(World { entities, tables })
+    }
+}
+
+impl<K: Key, E: Clone + Drop, T: CloneTables<K>> Clone for World<K, E, T> {
+    ghost is_clone = { λ world copy. IsCloneBy E.is_clone world.entities.content copy.entities.content
+        × ClonesInOrder E.is_clone world.entities copy.entities × T.are_clones world.tables copy.tables };
+
+    fn clone(&self) -> Result<Self, AllocError> {
+        World::clone(self)
+    }
+}
