@@ -8,13 +8,15 @@ use Rattle.slotmap_keylist.specs.declared.Link.{Link}
 use Rattle.slotmap_keylist.specs.KeyLists.{times, without}
 use Rattle.slotmap_keylist.specs.Linked.{ends_of as ends_of_list, link_between, IsLinked}
 use Rattle.slotmap_keylist.proofs.Linking.{in_midst, without_split}
+use Rattle.slotmap_keylist.specs.Changed.{changed, changed_in}
+use Rattle.slotmap_keylist.proofs.Changed.{changed_gives, changed_keeps, changed_other}
 use Rattle.slotmap_scene.specs.declared.links.LinkedNode.{LinkedNode}
 use Rattle.slotmap_scene.specs.Node.{Node, Nodes}
 use Rattle.slotmap_scene.specs.Climb.{parent_in, parent_of, with_parent}
-use Rattle.slotmap_scene.specs.Family.{IsNodeClone, children_in, children_of, value_of, with_children_in, with_value, with_value_in}
-use Rattle.slotmap_scene.specs.Links.{LinkedNodes, ends_in, ends_of, led_to, link_in, link_of, seen, shown, shown_nodes, with_node, put_between, taken_between, IsLinkedClone, IsWoven}
+use Rattle.slotmap_scene.specs.Family.{IsNodeClone, children_in, children_of, value_of, with_children_in, with_value}
+use Rattle.slotmap_scene.specs.Links.{LinkedNodes, ends_in, ends_of, led_to, link_in, link_of, seen, shown, shown_nodes, put_between, taken_between, IsLinkedClone, IsWoven}
 use Rattle.slotmap_scene.proofs.Families.{parented_children, parented_is, parented_others, value_parented, value_written, written_is, written_others, written_parent, written_keys}
-use Rattle.slotmap_scene.proofs.Relinked.{node_other, node_keeps, node_gives, relinked_keeps}
+use Rattle.slotmap_scene.proofs.Relinked.{relinked_keeps}
 use Rattle.slotmap_scene.proofs.Weaving.{led_is, woven_by, led_same, woven_same, with_list, list_at, list_other, put_linked, taken_linked}
 use Rattle.slotmap_scene.proofs.Showing.{above_in, value_in, same_nodes, seen_there, shown_children, shown_get, shown_keys, shown_parent, shown_value}
 
@@ -29,19 +31,19 @@ module _ {T : Type 0} (m : LinkedNodes T) (woven : IsWoven m) where
     listed = with_children_in nodes p (map.get nodes p) (λ _. before ++ k ∷ after)
 
     put_keeps : {X : Type 0} (P : Option (LinkedNode T) → X) → ((n : LinkedNode T) (e : _) (s : _) → P (Some (record n { children = e; siblings = s })) ≡ P (Some n))
-        → (q : Key) → P (map.get (put_between m p k l) q) ≡ P (map.get (with_node m k (λ n. record n { parent = Some p; siblings = l })) q)
-    put_keeps P free q = relinked_keeps (with_node m k (λ n. record n { parent = Some p; siblings = l })) p l (Some k) (Some k) (λ len. len + 1) P free q
+        → (q : Key) → P (map.get (put_between m p k l) q) ≡ P (map.get (changed m k (λ n. record n { parent = Some p; siblings = l })) q)
+    put_keeps P free q = relinked_keeps (changed m k (λ n. record n { parent = Some p; siblings = l })) p l (Some k) (Some k) (λ len. len + 1) P free q
 
     put_values : (q : Key) → value_of (shown_nodes (put_between m p k l)) q ≡ value_of (with_parent listed k (Some p)) q
     put_values q =
-        shown_value (put_between m p k l) q ∙ put_keeps value_in (λ n e s. refl) q ∙ node_keeps m k (λ n. record n { parent = Some p; siblings = l }) value_in (λ n. refl) q
+        shown_value (put_between m p k l) q ∙ put_keeps value_in (λ n e s. refl) q ∙ changed_keeps m k (λ n. record n { parent = Some p; siblings = l }) value_in (λ n. refl) q
         ∙ sym (value_parented listed k (Some p) q ∙ value_written nodes p (λ _. before ++ k ∷ after) q ∙ shown_value m q)
 
     put_parents : (q : Key) → parent_of (shown_nodes (put_between m p k l)) q ≡ parent_of (with_parent listed k (Some p)) q
     put_parents q = shown_parent (put_between m p k l) q ∙ put_keeps above_in (λ n e s. refl) q ∙ elim (same_or_other q k) [
-      | inl is ↦ rw is (node_gives m k (λ n. record n { parent = Some p; siblings = l }) above_in (λ _. Some p) (λ n. refl) live
+      | inl is ↦ rw is (changed_gives m k (λ n. record n { parent = Some p; siblings = l }) above_in (λ _. Some p) (λ n. refl) live
           ∙ sym (parented_is listed k (Some p) (written_keys nodes p (λ _. before ++ k ∷ after) k ∙ shown_keys m k ∙ live)))
-      | inr other ↦ ap above_in (node_other m k (λ n. record n { parent = Some p; siblings = l }) q other)
+      | inr other ↦ ap above_in (changed_other m k (λ n. record n { parent = Some p; siblings = l }) q other)
           ∙ sym (parented_others listed k (Some p) q other ∙ written_parent nodes p (λ _. before ++ k ∷ after) q ∙ shown_parent m q)
     ]
 
@@ -85,10 +87,10 @@ module _ {T : Type 0} (m : LinkedNodes T) (woven : IsWoven m) where
   -- a node has no parent
   module _ (k : Key) (live : map.contains_key m k ≡ true) where
     abbrev rooted : LinkedNodes T
-    rooted = with_node m k (λ n. record n { parent = None })
+    rooted = changed m k (λ n. record n { parent = None })
 
     rooted_keeps : {X : Type 0} (P : Option (LinkedNode T) → X) → ((n : LinkedNode T) → P (Some (record n { parent = None })) ≡ P (Some n)) → (q : Key) → P (map.get rooted q) ≡ P (map.get m q)
-    rooted_keeps P free q = node_keeps m k (λ n. record n { parent = None }) P free q
+    rooted_keeps P free q = changed_keeps m k (λ n. record n { parent = None }) P free q
 
     pub rooted_keys : (q : Key) → map.contains_key rooted q ≡ map.contains_key m q
     rooted_keys q = rooted_keeps is_some (λ n. refl) q
@@ -100,8 +102,8 @@ module _ {T : Type 0} (m : LinkedNodes T) (woven : IsWoven m) where
     rooted_shown = same_nodes (shown_nodes rooted) (with_parent nodes k None)
         (λ q. shown_value rooted q ∙ rooted_keeps value_in (λ n. refl) q ∙ sym (value_parented nodes k None q ∙ shown_value m q))
         (λ q. shown_parent rooted q ∙ elim (same_or_other q k) [
-          | inl is ↦ rw is (node_gives m k (λ n. record n { parent = None }) above_in (λ _. None) (λ n. refl) live ∙ sym (parented_is nodes k None (shown_keys m k ∙ live)))
-          | inr other ↦ ap above_in (node_other m k (λ n. record n { parent = None }) q other) ∙ sym (parented_others nodes k None q other ∙ shown_parent m q)
+          | inl is ↦ rw is (changed_gives m k (λ n. record n { parent = None }) above_in (λ _. None) (λ n. refl) live ∙ sym (parented_is nodes k None (shown_keys m k ∙ live)))
+          | inr other ↦ ap above_in (changed_other m k (λ n. record n { parent = None }) q other) ∙ sym (parented_others nodes k None q other ∙ shown_parent m q)
         ])
         (λ q. shown_children rooted q ∙ led_same m rooted (rooted_keeps ends_in (λ n. refl)) (rooted_keeps link_in (λ n. refl)) woven q ∙ sym (parented_children nodes k None q ∙ shown_children m q))
 
@@ -120,7 +122,7 @@ module _ {T : Type 0} (m : LinkedNodes T) (woven : IsWoven m) where
     valued_woven = woven_same m valued (valued_keeps ends_in refl) (valued_keeps link_in refl) (λ q there. valued_keeps is_some refl q ∙ there) woven
 
     with_value_is : with_value nodes k v ≡ map.insert nodes k (record (seen nodes k n) { value = v })
-    with_value_is = ap (λ o. with_value_in nodes k o v) (seen_there m k n found)
+    with_value_is = ap (λ o. changed_in nodes k o (λ x. record x { value = v })) (seen_there m k n found)
 
     after : {X : Type 0} (P : Option (Node T) → X) → P (Some (record (seen nodes k n) { value = v })) ≡ P (Some (seen nodes k n)) → (q : Key) → P (map.get nodes q) ≡ P (map.get (map.insert nodes k (record (seen nodes k n) { value = v })) q)
     after P free q = elim (same_or_other q k) [

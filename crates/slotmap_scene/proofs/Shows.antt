@@ -7,11 +7,12 @@ use Rattle.slotmap_keylist.specs.declared.Link.{Link}
 use Rattle.slotmap_keylist.specs.KeyLists.{times, without}
 use Rattle.slotmap_keylist.specs.Linked.{first_or, last_or, followed, link_between}
 use Rattle.slotmap_keylist.proofs.Linking.{split_at}
+use Rattle.slotmap_keylist.specs.Changed.{changed, changed_in}
 use Rattle.slotmap_scene.specs.declared.links.LinkedNode.{LinkedNode}
 use Rattle.slotmap_scene.specs.Node.{Node, Nodes}
 use Rattle.slotmap_scene.specs.Climb.{has_node, with_parent}
 use Rattle.slotmap_scene.specs.Family.{child, children_of, with_children_in}
-use Rattle.slotmap_scene.specs.Links.{IsPlace, IsWoven, LinkedNodes, ends_in, ends_of, led_to, link_of, put_between, shown, shown_nodes, taken_between, with_node, with_node_in}
+use Rattle.slotmap_scene.specs.Links.{IsPlace, IsWoven, LinkedNodes, ends_in, ends_of, led_to, link_of, put_between, shown, shown_nodes, taken_between}
 use Rattle.slotmap_scene.proofs.Leaving.{leaves_alike}
 use Rattle.slotmap_scene.proofs.Showing.{nodes_leave, seen_there, shown_children, shown_keys}
 use Rattle.slotmap_scene.proofs.ShownChanges.{put_shown, taken_shown, rooted_keys, rooted_shown, rooted_woven, gone_shown, gone_woven}
@@ -128,8 +129,8 @@ module _ {T : Type 0} (c : Content (LinkedNode T)) (woven : IsWoven c.live) (sel
     abbrev made_root : LinkedNodes T
     made_root = map.insert c.live k (record n { parent = None })
 
-    root_is : with_node c.live k (λ n. record n { parent = None }) ≡ made_root
-    root_is = ap (λ o. with_node_in c.live k o (λ n. record n { parent = None })) found
+    root_is : changed c.live k (λ n. record n { parent = None }) ≡ made_root
+    root_is = ap (λ o. changed_in c.live k o (λ n. record n { parent = None })) found
 
     root_keys : (q : Key) → map.contains_key made_root q ≡ map.contains_key c.live q
     root_keys q = ap (λ x. map.contains_key x q) (sym root_is) ∙ rooted_keys c.live woven k (ap is_some found) q
