@@ -6,15 +6,15 @@ use Rattle.slotmap.specs.Words.{Key, key_cmp, Content, IsCloneBy, IsCloneOf}
 use Rattle.slotmap.proofs.Callers.{keys, get-insert_here, get-insert_other, same_or_other, keys_total, exact_keys, left_in}
 use Rattle.slotmap_keylist.specs.declared.Link.{Link}
 use Rattle.slotmap_keylist.specs.KeyLists.{times, without}
-use Rattle.slotmap_keylist.specs.Linked.{ends_of as ends_of_list, link_between, IsLinked}
+use Rattle.slotmap_keylist.specs.Linked.{followed, ends_of as ends_of_list, link_between, IsLinked}
 use Rattle.slotmap_keylist.proofs.Linking.{in_midst, without_split}
 use Rattle.slotmap_keylist.specs.Changed.{changed, changed_in}
-use Rattle.slotmap_keylist.proofs.Changed.{changed_gives, changed_keeps, changed_other}
+use Rattle.slotmap_keylist.proofs.Changed.{changed_gives, changed_here, changed_keeps, changed_other}
 use Rattle.slotmap_scene.specs.declared.links.LinkedNode.{LinkedNode}
 use Rattle.slotmap_scene.specs.Node.{Node, Nodes}
 use Rattle.slotmap_scene.specs.Climb.{parent_in, parent_of, with_parent}
 use Rattle.slotmap_scene.specs.Family.{IsNodeClone, children_in, children_of, value_of, with_children_in, with_value}
-use Rattle.slotmap_scene.specs.Links.{LinkedNodes, ends_in, ends_of, led_to, link_in, link_of, seen, shown, shown_nodes, put_between, taken_between, IsLinkedClone, IsWoven}
+use Rattle.slotmap_scene.specs.Links.{LinkedNodes, ends_in, ends_of, led_to, link_in, link_of, seen, shown, shown_node, shown_nodes, put_between, taken_between, IsLinkedClone, IsWoven}
 use Rattle.slotmap_scene.proofs.Families.{parented_children, parented_is, parented_others, value_parented, value_written, written_is, written_others, written_parent, written_keys}
 use Rattle.slotmap_scene.proofs.Relinked.{relinked_keeps}
 use Rattle.slotmap_scene.proofs.Weaving.{led_is, woven_by, led_same, woven_same, with_list, list_at, list_other, put_linked, taken_linked}
@@ -84,62 +84,31 @@ module _ {T : Type 0} (m : LinkedNodes T) (woven : IsWoven m) where
         (λ q. shown_value (taken_between m p l) q ∙ taken_keeps value_in (λ n e s. refl) q ∙ sym (value_written nodes p (without k) q ∙ shown_value m q))
         (λ q. shown_parent (taken_between m p l) q ∙ taken_keeps above_in (λ n e s. refl) q ∙ sym (written_parent nodes p (without k) q ∙ shown_parent m q)) taken_children
 
-  -- a node has no parent
-  module _ (k : Key) (live : map.contains_key m k ≡ true) where
-    abbrev rooted : LinkedNodes T
-    rooted = changed m k (λ n. record n { parent = None })
+  -- a node has another value or another parent, and the same links
+  module _ (k : Key) (n : LinkedNode T) (found : map.get m k ≡ Some n) (f : LinkedNode T → LinkedNode T) (g : Node T → Node T)
+      (ends : (x : LinkedNode T) → (f x).children ≡ x.children) (links : (x : LinkedNode T) → (f x).siblings ≡ x.siblings) (shows : (x : LinkedNode T) → shown_node m (f x) ≡ g (shown_node m x)) where
+    own_is : changed m k f ≡ map.insert m k (f n)
+    own_is = ap (λ o. changed_in m k o f) found
 
-    rooted_keeps : {X : Type 0} (P : Option (LinkedNode T) → X) → ((n : LinkedNode T) → P (Some (record n { parent = None })) ≡ P (Some n)) → (q : Key) → P (map.get rooted q) ≡ P (map.get m q)
-    rooted_keeps P free q = changed_keeps m k (λ n. record n { parent = None }) P free q
+    same_link : (q : Key) → link_of (changed m k f) q ≡ link_of m q
+    same_link q = changed_keeps m k f link_in links q
 
-    pub rooted_keys : (q : Key) → map.contains_key rooted q ≡ map.contains_key m q
-    rooted_keys q = rooted_keeps is_some (λ n. refl) q
+    pub own_keys : (q : Key) → map.contains_key (map.insert m k (f n)) q ≡ map.contains_key m q
+    own_keys q = ap (λ x. map.contains_key x q) (sym own_is) ∙ changed_keeps m k f is_some (λ x. refl) q
 
-    pub rooted_woven : IsWoven rooted
-    rooted_woven = woven_same m rooted (rooted_keeps ends_in (λ n. refl)) (rooted_keeps link_in (λ n. refl)) (λ q there. rooted_keys q ∙ there) woven
+    pub own_woven : IsWoven (map.insert m k (f n))
+    own_woven = subst IsWoven own_is (woven_same m (changed m k f) (changed_keeps m k f ends_in ends) same_link (λ q there. changed_keeps m k f is_some (λ x. refl) q ∙ there) woven)
 
-    pub rooted_shown : shown_nodes rooted ≡ with_parent nodes k None
-    rooted_shown = same_nodes (shown_nodes rooted) (with_parent nodes k None)
-        (λ q. shown_value rooted q ∙ rooted_keeps value_in (λ n. refl) q ∙ sym (value_parented nodes k None q ∙ shown_value m q))
-        (λ q. shown_parent rooted q ∙ elim (same_or_other q k) [
-          | inl is ↦ rw is (changed_gives m k (λ n. record n { parent = None }) above_in (λ _. None) (λ n. refl) live ∙ sym (parented_is nodes k None (shown_keys m k ∙ live)))
-          | inr other ↦ ap above_in (changed_other m k (λ n. record n { parent = None }) q other) ∙ sym (parented_others nodes k None q other ∙ shown_parent m q)
+    pub own_shown : shown_nodes (map.insert m k (f n)) ≡ changed nodes k g
+    own_shown = ap shown_nodes (sym own_is) ∙ map.same_map keys_total exact_keys (shown_nodes (changed m k f)) (changed nodes k g) (λ q. shown_get (changed m k f) q
+        ∙ (λ i. option_map (λ (x : LinkedNode T). record { value = x.value; parent = x.parent; children = followed (λ y. same_link y i) x.children }) (map.get (changed m k f) q)) ∙ elim (same_or_other q k) [
+          | inl is ↦ rw is (ap (option_map (shown_node m)) (changed_here m k f) ∙ turned (map.get m k) ∙ ap (option_map g) (sym (shown_get m k)) ∙ sym (changed_here nodes k g))
+          | inr other ↦ ap (option_map (shown_node m)) (changed_other m k f q other) ∙ sym (shown_get m q) ∙ sym (changed_other nodes k g q other)
         ])
-        (λ q. shown_children rooted q ∙ led_same m rooted (rooted_keeps ends_in (λ n. refl)) (rooted_keeps link_in (λ n. refl)) woven q ∙ sym (parented_children nodes k None q ∙ shown_children m q))
-
-  -- a node has another value
-  module _ (k : Key) (n : LinkedNode T) (found : map.get m k ≡ Some n) (v : T) where
-    abbrev valued : LinkedNodes T
-    valued = map.insert m k (record n { value = v })
-
-    valued_keeps : {X : Type 0} (P : Option (LinkedNode T) → X) → P (Some (record n { value = v })) ≡ P (Some n) → (q : Key) → P (map.get valued q) ≡ P (map.get m q)
-    valued_keeps P free q = elim (same_or_other q k) [
-      | inl is ↦ rw is (ap P (get-insert_here m k (record n { value = v })) ∙ free ∙ sym (ap P found))
-      | inr other ↦ ap P (get-insert_other m k (record n { value = v }) q other)
-    ]
-
-    pub valued_woven : IsWoven valued
-    valued_woven = woven_same m valued (valued_keeps ends_in refl) (valued_keeps link_in refl) (λ q there. valued_keeps is_some refl q ∙ there) woven
-
-    with_value_is : with_value nodes k v ≡ map.insert nodes k (record (seen nodes k n) { value = v })
-    with_value_is = ap (λ o. changed_in nodes k o (λ x. record x { value = v })) (seen_there m k n found)
-
-    after : {X : Type 0} (P : Option (Node T) → X) → P (Some (record (seen nodes k n) { value = v })) ≡ P (Some (seen nodes k n)) → (q : Key) → P (map.get nodes q) ≡ P (map.get (map.insert nodes k (record (seen nodes k n) { value = v })) q)
-    after P free q = elim (same_or_other q k) [
-      | inl is ↦ rw is (ap P (seen_there m k n found) ∙ sym (ap P (get-insert_here nodes k (record (seen nodes k n) { value = v })) ∙ free))
-      | inr other ↦ sym (ap P (get-insert_other nodes k (record (seen nodes k n) { value = v }) q other))
-    ]
-
-    pub valued_shown : shown_nodes valued ≡ with_value nodes k v
-    valued_shown = same_nodes (shown_nodes valued) (map.insert nodes k (record (seen nodes k n) { value = v }))
-        (λ q. shown_value valued q ∙ elim (same_or_other q k) [
-          | inl is ↦ rw is (ap value_in (get-insert_here m k (record n { value = v })) ∙ sym (ap (option_map (λ (x : Node T). x.value)) (get-insert_here nodes k (record (seen nodes k n) { value = v }))))
-          | inr other ↦ ap value_in (get-insert_other m k (record n { value = v }) q other) ∙ sym (shown_value m q)
-              ∙ sym (ap (option_map (λ (x : Node T). x.value)) (get-insert_other nodes k (record (seen nodes k n) { value = v }) q other))
-        ])
-        (λ q. shown_parent valued q ∙ valued_keeps above_in refl q ∙ sym (shown_parent m q) ∙ after parent_in refl q)
-        (λ q. shown_children valued q ∙ led_same m valued (valued_keeps ends_in refl) (valued_keeps link_in refl) woven q ∙ sym (shown_children m q) ∙ after children_in refl q)
-        ∙ sym with_value_is
+      where
+        turned : (o : Option (LinkedNode T)) → option_map (shown_node m) (option_map f o) ≡ option_map g (option_map (shown_node m) o)
+        turned None = refl
+        turned (Some x) = ap Some (shows x)
 
   -- a node goes that has no children, and is in no list
   module _ (k : Key) (leaf : led_to m k ≡ []) (none : (q : Key) → times k (led_to m q) ≡ 0) where
