@@ -40,6 +40,12 @@ module _ {T : Type 0} where
     pub shown_get : (q : Key) → map.get (shown_nodes m) q ≡ option_map (shown_node m) (map.get m q)
     shown_get q = get-mapped (shown_node m) m q
 
+    -- where all links are the same, the nodes are shown in the same way
+    pub shown_alike : (new : LinkedNodes T) → ((q : Key) → link_of new q ≡ link_of m q) → (q : Key) → map.get (shown_nodes new) q ≡ option_map (shown_node m) (map.get new q)
+    shown_alike new links q =
+        get-mapped (shown_node new) new q
+        ∙ (λ i. option_map (λ (x : LinkedNode T). record { value = x.value; parent = x.parent; children = followed (λ y. links y i) x.children }) (map.get new q))
+
     pub shown_keys : (q : Key) → map.contains_key (shown_nodes m) q ≡ map.contains_key m q
     shown_keys q = contains-mapped (shown_node m) m q
 
@@ -125,21 +131,11 @@ module _ {T : Type 0} where
         pub came_woven : IsWoven new.live
         came_woven = woven_same c.live new.live (as_before ends_in refl) (as_before link_in refl) came_keys woven
 
-        -- what is shown then
-        after : {X : Type 0} (P : Option (Node T) → X) → P None ≡ P (Some (child None v)) → (q : Key) → P (map.get (shown_nodes c.live) q) ≡ P (map.get (map.insert (shown_nodes c.live) k (child None v)) q)
-        after P same q = elim (same_or_other q k) [
-          | inl is ↦ rw is (sym (none_in P (map.get (shown_nodes c.live) k) (shown_keys c.live k ∙ fresh)) ∙ same ∙ sym (ap P (get-insert_here (shown_nodes c.live) k (child None v))))
-          | inr other ↦ sym (ap P (get-insert_other (shown_nodes c.live) k (child None v) q other))
-        ]
-
         came_live : shown_nodes new.live ≡ map.insert (shown_nodes c.live) k (child None v)
-        came_live = same_nodes (shown_nodes new.live) (map.insert (shown_nodes c.live) k (child None v))
-            (λ q. shown_value new.live q ∙ ap (λ m. value_in (map.get m q)) inserts.live ∙ elim (same_or_other q k) [
-              | inl is ↦ rw is (ap value_in (get-insert_here c.live k (leaf v)) ∙ sym (ap (option_map (λ (n : Node T). n.value)) (get-insert_here (shown_nodes c.live) k (child None v))))
-              | inr other ↦ ap value_in (get-insert_other c.live k (leaf v) q other) ∙ sym (shown_value c.live q) ∙ sym (ap (option_map (λ (n : Node T). n.value)) (get-insert_other (shown_nodes c.live) k (child None v) q other))
-            ])
-            (λ q. shown_parent new.live q ∙ as_before above_in refl q ∙ sym (shown_parent c.live q) ∙ after parent_in refl q)
-            (λ q. shown_children new.live q ∙ led_same c.live new.live (as_before ends_in refl) (as_before link_in refl) woven q ∙ sym (shown_children c.live q) ∙ after children_in refl q)
+        came_live = map.same_map keys_total exact_keys _ _ (λ q. shown_alike c.live new.live (as_before link_in refl) q ∙ ap (λ m. option_map (shown_node c.live) (map.get m q)) inserts.live ∙ elim (same_or_other q k) [
+          | inl is ↦ rw is (ap (option_map (shown_node c.live)) (get-insert_here c.live k (leaf v)) ∙ sym (get-insert_here (shown_nodes c.live) k (child None v)))
+          | inr other ↦ ap (option_map (shown_node c.live)) (get-insert_other c.live k (leaf v) q other) ∙ sym (shown_get c.live q) ∙ sym (get-insert_other (shown_nodes c.live) k (child None v) q other)
+        ])
 
         pub came_inserts : Inserts (shown c) k (child None v) (shown new)
         came_inserts = shown_inserts c new (shown_nodes c.live) (shown_nodes new.live) (shown_keys c.live) (shown_len c.live) (shown_keys new.live) (shown_len new.live) k (leaf v) (child None v) came_live inserts

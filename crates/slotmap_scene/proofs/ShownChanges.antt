@@ -18,7 +18,7 @@ use Rattle.slotmap_scene.specs.Links.{LinkedNodes, ends_in, ends_of, led_to, lin
 use Rattle.slotmap_scene.proofs.Families.{parented_children, parented_is, parented_others, value_parented, value_written, written_is, written_others, written_parent, written_keys}
 use Rattle.slotmap_scene.proofs.Relinked.{relinked_keeps}
 use Rattle.slotmap_scene.proofs.Weaving.{led_is, woven_by, led_same, woven_same, with_list, list_at, list_other, put_linked, taken_linked}
-use Rattle.slotmap_scene.proofs.Showing.{above_in, value_in, same_nodes, seen_there, shown_children, shown_get, shown_keys, shown_parent, shown_value}
+use Rattle.slotmap_scene.proofs.Showing.{shown_alike, above_in, value_in, same_nodes, seen_there, shown_children, shown_get, shown_keys, shown_parent, shown_value}
 
 module _ {T : Type 0} (m : LinkedNodes T) (woven : IsWoven m) where
   abbrev nodes : Nodes T
@@ -100,11 +100,10 @@ module _ {T : Type 0} (m : LinkedNodes T) (woven : IsWoven m) where
     own_woven = subst IsWoven own_is (woven_same m (changed m k f) (changed_keeps m k f ends_in ends) same_link (λ q there. changed_keeps m k f is_some (λ x. refl) q ∙ there) woven)
 
     pub own_shown : shown_nodes (map.insert m k (f n)) ≡ changed nodes k g
-    own_shown = ap shown_nodes (sym own_is) ∙ map.same_map keys_total exact_keys (shown_nodes (changed m k f)) (changed nodes k g) (λ q. shown_get (changed m k f) q
-        ∙ (λ i. option_map (λ (x : LinkedNode T). record { value = x.value; parent = x.parent; children = followed (λ y. same_link y i) x.children }) (map.get (changed m k f) q)) ∙ elim (same_or_other q k) [
-          | inl is ↦ rw is (ap (option_map (shown_node m)) (changed_here m k f) ∙ turned (map.get m k) ∙ ap (option_map g) (sym (shown_get m k)) ∙ sym (changed_here nodes k g))
-          | inr other ↦ ap (option_map (shown_node m)) (changed_other m k f q other) ∙ sym (shown_get m q) ∙ sym (changed_other nodes k g q other)
-        ])
+    own_shown = ap shown_nodes (sym own_is) ∙ map.same_map keys_total exact_keys (shown_nodes (changed m k f)) (changed nodes k g) (λ q. shown_alike m (changed m k f) same_link q ∙ elim (same_or_other q k) [
+      | inl is ↦ rw is (ap (option_map (shown_node m)) (changed_here m k f) ∙ turned (map.get m k) ∙ ap (option_map g) (sym (shown_get m k)) ∙ sym (changed_here nodes k g))
+      | inr other ↦ ap (option_map (shown_node m)) (changed_other m k f q other) ∙ sym (shown_get m q) ∙ sym (changed_other nodes k g q other)
+    ])
       where
         turned : (o : Option (LinkedNode T)) → option_map (shown_node m) (option_map f o) ≡ option_map g (option_map (shown_node m) o)
         turned None = refl
@@ -185,9 +184,9 @@ module _ {T : Type 0} (is_clone : T → T → Type 0) (c copy : Content (LinkedN
   pub copied_woven : IsWoven c.live → IsWoven copy.live
   copied_woven woven = woven_same c.live copy.live (λ q. (alike q).1) (λ q. (alike q).2) (λ q there. (alike q).0 ∙ there) woven
 
-  pub copied_shown : IsWoven c.live → IsCloneBy (IsNodeClone is_clone) (shown c) (shown copy)
-  copied_shown woven = record {
-    live = λ q. live q (map.get c.live q) (map.get copy.live q) refl refl (clones.live q);
+  pub copied_shown : IsCloneBy (IsNodeClone is_clone) (shown c) (shown copy)
+  copied_shown = record {
+    live = λ q. rw (shown_get c.live q, shown_alike c.live copy.live (λ x. (alike x).2) q) (live (map.get c.live q) (map.get copy.live q) (clones.live q));
     detached = clones.detached;
     retired = clones.retired;
     next = clones.next;
@@ -195,12 +194,7 @@ module _ {T : Type 0} (is_clone : T → T → Type 0) (c copy : Content (LinkedN
     stack = clones.stack;
   }
     where
-      led : (q : Key) → led_to copy.live q ≡ led_to c.live q
-      led q = led_same c.live copy.live (λ x. (alike x).1) (λ x. (alike x).2) woven q
-
-      live : (q : Key) (o p : Option (LinkedNode T)) → map.get c.live q ≡ o → map.get copy.live q ≡ p → IsCloneOf (IsLinkedClone is_clone) o p
-          → IsCloneOf (IsNodeClone is_clone) (map.get (shown_nodes c.live) q) (map.get (shown_nodes copy.live) q)
-      live q None p o_is p_is clone = rw (shown_get c.live q, o_is) (shown_get copy.live q ∙ ap (option_map _) (p_is ∙ clone))
-      live q (Some n) None o_is p_is clone = absurd clone
-      live q (Some n) (Some x) o_is p_is clone = rw (seen_there c.live q n o_is, seen_there copy.live q x p_is)
-          (clone.0, clone.1, shown_children copy.live q ∙ led q ∙ sym (shown_children c.live q))
+      live : (o p : Option (LinkedNode T)) → IsCloneOf (IsLinkedClone is_clone) o p → IsCloneOf (IsNodeClone is_clone) (option_map (shown_node c.live) o) (option_map (shown_node c.live) p)
+      live None p clone = ap (option_map (shown_node c.live)) clone
+      live (Some n) None clone = absurd clone
+      live (Some n) (Some x) clone = (clone.0, clone.1, ap (followed (link_of c.live)) clone.2)
