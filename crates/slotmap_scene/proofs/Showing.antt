@@ -52,26 +52,22 @@ module _ {T : Type 0} where
     pub shown_len : map.len (shown_nodes m) ≡ map.len m
     shown_len = len-mapped (shown_node m) m
 
-    pub shown_children : (q : Key) → children_of (shown_nodes m) q ≡ led_to m q
-    shown_children q = ap children_in (shown_get q) ∙ by (map.get m q)
+    -- what is known of a node is known of it where it is shown
+    shown_part : {X : Type 0} (P : Option (Node T) → X) (of : Option (LinkedNode T) → X) → P None ≡ of None → ((n : LinkedNode T) → P (Some (shown_node m n)) ≡ of (Some n)) → (q : Key) → P (map.get (shown_nodes m) q) ≡ of (map.get m q)
+    shown_part P of none some q = ap P (shown_get q) ∙ by (map.get m q)
       where
-        by : (o : Option (LinkedNode T)) → children_in (option_map (shown_node m) o) ≡ followed (link_of m) (ends_in o)
-        by None = refl
-        by (Some n) = refl
+        by : (o : Option (LinkedNode T)) → P (option_map (shown_node m) o) ≡ of o
+        by None = none
+        by (Some n) = some n
+
+    pub shown_children : (q : Key) → children_of (shown_nodes m) q ≡ led_to m q
+    shown_children q = shown_part children_in (λ o. followed (link_of m) (ends_in o)) refl (λ n. refl) q
 
     pub shown_value : (q : Key) → value_of (shown_nodes m) q ≡ value_in (map.get m q)
-    shown_value q = ap (option_map (λ (n : Node T). n.value)) (shown_get q) ∙ by (map.get m q)
-      where
-        by : (o : Option (LinkedNode T)) → option_map (λ (n : Node T). n.value) (option_map (shown_node m) o) ≡ value_in o
-        by None = refl
-        by (Some n) = refl
+    shown_value q = shown_part (option_map (λ (n : Node T). n.value)) value_in refl (λ n. refl) q
 
     pub shown_parent : (q : Key) → parent_of (shown_nodes m) q ≡ above_in (map.get m q)
-    shown_parent q = ap parent_in (shown_get q) ∙ by (map.get m q)
-      where
-        by : (o : Option (LinkedNode T)) → parent_in (option_map (shown_node m) o) ≡ above_in o
-        by None = refl
-        by (Some n) = refl
+    shown_parent q = shown_part parent_in above_in refl (λ n. refl) q
 
     -- a node that is there is shown with its own value and parent
     pub shown_seen : (q : Key) → option_map (seen (shown_nodes m) q) (map.get m q) ≡ map.get (shown_nodes m) q
