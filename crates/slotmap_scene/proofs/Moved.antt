@@ -5,7 +5,6 @@ use Rattle.std.proofs.Common.{Bool, IsTrue, ◌↔◌, false, Result, Ok, Err, I
 use Rattle.std.specs.FinMap as map
 use Rattle.slotmap.specs.Words.{Key, Content, Inserts, Keeps}
 use Rattle.slotmap.proofs.Callers.{get-insert_here, get-insert_other, same_or_other, keys_total, exact_keys, still_in, none_of}
-use Rattle.slotmap_keylist.specs.Changed.{changed}
 use Rattle.slotmap_scene.specs.Node.{Node, Nodes}
 use Rattle.slotmap_scene.specs.Climb.{has_node, lacks_node, parent_in, parent_of, StepsTo, IsWithin}
 use Rattle.slotmap_keylist.specs.KeyLists.{same, times, without}
@@ -13,7 +12,7 @@ use Rattle.slotmap_keylist.proofs.Counts.{times_pushed, without_none}
 use Rattle.slotmap_scene.specs.declared.tree.Side.{Side}
 use Rattle.slotmap_scene.proofs.Placing.{times_placed}
 use Rattle.slotmap_scene.specs.Family.{placed, with_children_of, with_sibling, children_in, children_of, IsNewChild, IsScene, child, forgets, with_children_in, without_child, as_root, attached, attached_by}
-use Rattle.slotmap_scene.proofs.Climbs.{has_parent, no_cycle}
+use Rattle.slotmap_scene.proofs.Climbs.{has_parent}
 use Rattle.slotmap_scene.proofs.Families.{by_parent, listed_once, listed_never, parent_there, parented_here, parented_other, written_here, written_other, new_child}
 use Rattle.slotmap_scene.proofs.Families.{detached_parents, scene_leaf, scene_detached, scene_attached}
 

@@ -16,7 +16,7 @@ use Rattle.slotmap_scene.specs.Climb.{parent_in, parent_of}
 use Rattle.slotmap_scene.specs.Family.{child, children_in, children_of, value_of}
 use Rattle.slotmap_scene.specs.Links.{LinkedNodes, ends_in, leaf, led_to, link_in, link_of, linked_roots, seen, shown, shown_node, shown_nodes, IsWoven}
 use Rattle.slotmap_scene.specs.Refusals.{RefusesNode}
-use Rattle.slotmap_scene.proofs.Weaving.{led_same, woven_same}
+use Rattle.slotmap_scene.proofs.Weaving.{woven_same}
 
 -- nodes with the same values, parents and children are the same
 pub same_nodes : {T : Type 0} (a b : Nodes T) → ((q : Key) → value_of a q ≡ value_of b q) → ((q : Key) → parent_of a q ≡ parent_of b q) → ((q : Key) → children_of a q ≡ children_of b q) → a ≡ b
@@ -86,6 +86,12 @@ module _ {T : Type 0} where
         by : (es : List (Key × LinkedNode T)) → linked_roots es ≡ roots_in (list_map (λ e. (e.0, shown_node m e.1)) es)
         by [] = refl
         by (e ∷ es) = ap (λ l. cond (is_some e.1.parent) l (e.0 ∷ l)) (by es)
+
+  -- a node with the same children is shown as it was
+  pub shown_still : (m new : LinkedNodes T) (q : Key) → led_to new q ≡ led_to m q → map.get new q ≡ map.get m q → map.get (shown_nodes new) q ≡ map.get (shown_nodes m) q
+  shown_still m new q led is =
+      let all = shown_children new q ∙ led ∙ sym (shown_children m q) in
+      sym (shown_seen new q) ∙ (λ i. option_map (λ (n : LinkedNode T). record { value = n.value; parent = n.parent; children = all i }) (is i)) ∙ shown_seen m q
 
   -- what a call does to a content, with the nodes that it shows
   module _ (c : Content (LinkedNode T)) where

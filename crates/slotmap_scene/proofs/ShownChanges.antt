@@ -3,7 +3,7 @@ use Rattle.std.proofs.Common.{◌≡◌, ◌≢◌, ◌+◌, ◌-◌, ◌≤◌,
 use Rattle.std.specs.Option.{option_map}
 use Rattle.std.specs.FinMap as map
 use Rattle.slotmap.specs.Words.{Key, key_cmp, Content, IsCloneBy, IsCloneOf}
-use Rattle.slotmap.proofs.Callers.{keys, get-insert_here, get-insert_other, same_or_other, keys_total, exact_keys, left_in}
+use Rattle.slotmap.proofs.Callers.{keys, same_or_other, keys_total, exact_keys, left_in}
 use Rattle.slotmap_keylist.specs.declared.Link.{Link}
 use Rattle.slotmap_keylist.specs.KeyLists.{times, without}
 use Rattle.slotmap_keylist.specs.Linked.{followed, ends_of as ends_of_list, link_between, IsLinked}
@@ -12,13 +12,13 @@ use Rattle.slotmap_keylist.specs.Changed.{changed, changed_in}
 use Rattle.slotmap_keylist.proofs.Changed.{changed_gives, changed_here, changed_keeps, changed_other}
 use Rattle.slotmap_scene.specs.declared.links.LinkedNode.{LinkedNode}
 use Rattle.slotmap_scene.specs.Node.{Node, Nodes}
-use Rattle.slotmap_scene.specs.Climb.{parent_in, parent_of, with_parent}
-use Rattle.slotmap_scene.specs.Family.{IsNodeClone, children_in, children_of, value_of, with_children_in, with_value}
-use Rattle.slotmap_scene.specs.Links.{LinkedNodes, ends_in, ends_of, led_to, link_in, link_of, seen, shown, shown_node, shown_nodes, put_between, taken_between, IsLinkedClone, IsWoven}
+use Rattle.slotmap_scene.specs.Climb.{parent_of, with_parent}
+use Rattle.slotmap_scene.specs.Family.{IsNodeClone, children_of, value_of, with_children_in}
+use Rattle.slotmap_scene.specs.Links.{LinkedNodes, ends_in, ends_of, led_to, link_in, link_of, shown, shown_node, shown_nodes, put_between, taken_between, IsLinkedClone, IsWoven}
 use Rattle.slotmap_scene.proofs.Families.{parented_children, parented_is, parented_others, value_parented, value_written, written_is, written_others, written_parent, written_keys}
 use Rattle.slotmap_scene.proofs.Relinked.{relinked_keeps}
-use Rattle.slotmap_scene.proofs.Weaving.{led_is, woven_by, led_same, woven_same, with_list, list_at, list_other, put_linked, taken_linked}
-use Rattle.slotmap_scene.proofs.Showing.{shown_alike, above_in, value_in, same_nodes, seen_there, shown_children, shown_get, shown_keys, shown_parent, shown_value}
+use Rattle.slotmap_scene.proofs.Weaving.{led_is, woven_by, woven_same, with_list, list_at, list_other, put_linked, taken_linked}
+use Rattle.slotmap_scene.proofs.Showing.{shown_alike, shown_still, above_in, value_in, same_nodes, shown_children, shown_get, shown_keys, shown_parent, shown_value}
 
 module _ {T : Type 0} (m : LinkedNodes T) (woven : IsWoven m) where
   abbrev nodes : Nodes T
@@ -136,20 +136,11 @@ module _ {T : Type 0} (m : LinkedNodes T) (woven : IsWoven m) where
     gone_woven = woven_by gone (led_to m) gone_linked woven.apart (λ p x more. left_in keys_total exact_keys m k x
         (λ is. (let zero = subst (λ y. times y (led_to m p) ≡ 0) (sym is) (none p) in omega arith)) (woven.live p x more))
 
-    gone_after : {X : Type 0} (P : Option (Node T) → X) (q : Key) (x : X) → (q ≡ k → x ≡ P None) → (q ≢ k → x ≡ P (map.get nodes q)) → x ≡ P (map.get (map.remove nodes k) q)
-    gone_after P q x here other = elim (same_or_other q k) [
-      | inl is ↦ here is ∙ sym (ap (λ y. P (map.get (map.remove nodes k) y)) is ∙ ap P (gone_here nodes))
-      | inr apart ↦ other apart ∙ sym (ap P (gone_other nodes q apart))
-    ]
-
     pub gone_shown : shown_nodes gone ≡ map.remove nodes k
-    gone_shown = same_nodes (shown_nodes gone) (map.remove nodes k)
-        (λ q. gone_after (option_map (λ (n : Node T). n.value)) q (value_of (shown_nodes gone) q)
-        (λ is. shown_value gone q ∙ ap (λ y. value_in (map.get gone y)) is ∙ ap value_in (gone_here m)) (λ other. shown_value gone q ∙ ap value_in (gone_other m q other) ∙ sym (shown_value m q)))
-        (λ q. gone_after parent_in q (parent_of (shown_nodes gone) q)
-        (λ is. shown_parent gone q ∙ ap (λ y. above_in (map.get gone y)) is ∙ ap above_in (gone_here m)) (λ other. shown_parent gone q ∙ ap above_in (gone_other m q other) ∙ sym (shown_parent m q)))
-        (λ q. gone_after children_in q (children_of (shown_nodes gone) q)
-        (λ is. shown_children gone q ∙ led_is gone (led_to m) gone_linked q ∙ ap (led_to m) is ∙ leaf) (λ other. shown_children gone q ∙ led_is gone (led_to m) gone_linked q ∙ sym (shown_children m q)))
+    gone_shown = map.same_map keys_total exact_keys (shown_nodes gone) (map.remove nodes k) (λ q. elim (same_or_other q k) [
+      | inl is ↦ rw is (shown_get gone k ∙ ap (option_map (shown_node gone)) (gone_here m) ∙ sym (gone_here nodes))
+      | inr other ↦ shown_still m gone q (led_is gone (led_to m) gone_linked q) (gone_other m q other) ∙ sym (gone_other nodes q other)
+    ])
 
 -- no node at all
 module _ {T : Type 0} (m : LinkedNodes T) (none : m ≡ map.empty) where

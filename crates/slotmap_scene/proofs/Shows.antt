@@ -7,7 +7,6 @@ use Rattle.slotmap_keylist.specs.declared.Link.{Link}
 use Rattle.slotmap_keylist.specs.KeyLists.{times, without}
 use Rattle.slotmap_keylist.specs.Linked.{first_or, last_or, followed, link_between}
 use Rattle.slotmap_keylist.proofs.Linking.{split_at}
-use Rattle.slotmap_keylist.specs.Changed.{changed, changed_in}
 use Rattle.slotmap_scene.specs.declared.links.LinkedNode.{LinkedNode}
 use Rattle.slotmap_scene.specs.Node.{Node, Nodes}
 use Rattle.slotmap_scene.specs.Climb.{has_node, with_parent}
