@@ -1,3 +1,4 @@
+pub mod Changed
 pub mod KeyLists
 pub mod KeyOrNull
 pub mod Linked

@@ -16,7 +16,7 @@ use Rattle.slotmap_scene.specs.Climb.{parent_in, parent_of}
 use Rattle.slotmap_scene.specs.Family.{child, children_in, children_of, value_of}
 use Rattle.slotmap_scene.specs.Links.{LinkedNodes, ends_in, leaf, led_to, link_in, link_of, linked_roots, seen, shown, shown_node, shown_nodes, IsWoven}
 use Rattle.slotmap_scene.specs.Refusals.{RefusesNode}
-use Rattle.slotmap_scene.proofs.Weaving.{led_same, woven_same}
+use Rattle.slotmap_scene.proofs.Weaving.{woven_same}
 
 -- nodes with the same values, parents and children are the same
 pub same_nodes : {T : Type 0} (a b : Nodes T) → ((q : Key) → value_of a q ≡ value_of b q) → ((q : Key) → parent_of a q ≡ parent_of b q) → ((q : Key) → children_of a q ≡ children_of b q) → a ≡ b
@@ -40,32 +40,34 @@ module _ {T : Type 0} where
     pub shown_get : (q : Key) → map.get (shown_nodes m) q ≡ option_map (shown_node m) (map.get m q)
     shown_get q = get-mapped (shown_node m) m q
 
+    -- where all links are the same, the nodes are shown in the same way
+    pub shown_alike : (new : LinkedNodes T) → ((q : Key) → link_of new q ≡ link_of m q) → (q : Key) → map.get (shown_nodes new) q ≡ option_map (shown_node m) (map.get new q)
+    shown_alike new links q =
+        get-mapped (shown_node new) new q
+        ∙ (λ i. option_map (λ (x : LinkedNode T). record { value = x.value; parent = x.parent; children = followed (λ y. links y i) x.children }) (map.get new q))
+
     pub shown_keys : (q : Key) → map.contains_key (shown_nodes m) q ≡ map.contains_key m q
     shown_keys q = contains-mapped (shown_node m) m q
 
     pub shown_len : map.len (shown_nodes m) ≡ map.len m
     shown_len = len-mapped (shown_node m) m
 
-    pub shown_children : (q : Key) → children_of (shown_nodes m) q ≡ led_to m q
-    shown_children q = ap children_in (shown_get q) ∙ by (map.get m q)
+    -- what is known of a node is known of it where it is shown
+    shown_part : {X : Type 0} (P : Option (Node T) → X) (of : Option (LinkedNode T) → X) → P None ≡ of None → ((n : LinkedNode T) → P (Some (shown_node m n)) ≡ of (Some n)) → (q : Key) → P (map.get (shown_nodes m) q) ≡ of (map.get m q)
+    shown_part P of none some q = ap P (shown_get q) ∙ by (map.get m q)
       where
-        by : (o : Option (LinkedNode T)) → children_in (option_map (shown_node m) o) ≡ followed (link_of m) (ends_in o)
-        by None = refl
-        by (Some n) = refl
+        by : (o : Option (LinkedNode T)) → P (option_map (shown_node m) o) ≡ of o
+        by None = none
+        by (Some n) = some n
+
+    pub shown_children : (q : Key) → children_of (shown_nodes m) q ≡ led_to m q
+    shown_children q = shown_part children_in (λ o. followed (link_of m) (ends_in o)) refl (λ n. refl) q
 
     pub shown_value : (q : Key) → value_of (shown_nodes m) q ≡ value_in (map.get m q)
-    shown_value q = ap (option_map (λ (n : Node T). n.value)) (shown_get q) ∙ by (map.get m q)
-      where
-        by : (o : Option (LinkedNode T)) → option_map (λ (n : Node T). n.value) (option_map (shown_node m) o) ≡ value_in o
-        by None = refl
-        by (Some n) = refl
+    shown_value q = shown_part (option_map (λ (n : Node T). n.value)) value_in refl (λ n. refl) q
 
     pub shown_parent : (q : Key) → parent_of (shown_nodes m) q ≡ above_in (map.get m q)
-    shown_parent q = ap parent_in (shown_get q) ∙ by (map.get m q)
-      where
-        by : (o : Option (LinkedNode T)) → parent_in (option_map (shown_node m) o) ≡ above_in o
-        by None = refl
-        by (Some n) = refl
+    shown_parent q = shown_part parent_in above_in refl (λ n. refl) q
 
     -- a node that is there is shown with its own value and parent
     pub shown_seen : (q : Key) → option_map (seen (shown_nodes m) q) (map.get m q) ≡ map.get (shown_nodes m) q
@@ -84,6 +86,12 @@ module _ {T : Type 0} where
         by : (es : List (Key × LinkedNode T)) → linked_roots es ≡ roots_in (list_map (λ e. (e.0, shown_node m e.1)) es)
         by [] = refl
         by (e ∷ es) = ap (λ l. cond (is_some e.1.parent) l (e.0 ∷ l)) (by es)
+
+  -- a node with the same children is shown as it was
+  pub shown_still : (m new : LinkedNodes T) (q : Key) → led_to new q ≡ led_to m q → map.get new q ≡ map.get m q → map.get (shown_nodes new) q ≡ map.get (shown_nodes m) q
+  shown_still m new q led is =
+      let all = shown_children new q ∙ led ∙ sym (shown_children m q) in
+      sym (shown_seen new q) ∙ (λ i. option_map (λ (n : LinkedNode T). record { value = n.value; parent = n.parent; children = all i }) (is i)) ∙ shown_seen m q
 
   -- what a call does to a content, with the nodes that it shows
   module _ (c : Content (LinkedNode T)) where
@@ -125,21 +133,11 @@ module _ {T : Type 0} where
         pub came_woven : IsWoven new.live
         came_woven = woven_same c.live new.live (as_before ends_in refl) (as_before link_in refl) came_keys woven
 
-        -- what is shown then
-        after : {X : Type 0} (P : Option (Node T) → X) → P None ≡ P (Some (child None v)) → (q : Key) → P (map.get (shown_nodes c.live) q) ≡ P (map.get (map.insert (shown_nodes c.live) k (child None v)) q)
-        after P same q = elim (same_or_other q k) [
-          | inl is ↦ rw is (sym (none_in P (map.get (shown_nodes c.live) k) (shown_keys c.live k ∙ fresh)) ∙ same ∙ sym (ap P (get-insert_here (shown_nodes c.live) k (child None v))))
-          | inr other ↦ sym (ap P (get-insert_other (shown_nodes c.live) k (child None v) q other))
-        ]
-
         came_live : shown_nodes new.live ≡ map.insert (shown_nodes c.live) k (child None v)
-        came_live = same_nodes (shown_nodes new.live) (map.insert (shown_nodes c.live) k (child None v))
-            (λ q. shown_value new.live q ∙ ap (λ m. value_in (map.get m q)) inserts.live ∙ elim (same_or_other q k) [
-              | inl is ↦ rw is (ap value_in (get-insert_here c.live k (leaf v)) ∙ sym (ap (option_map (λ (n : Node T). n.value)) (get-insert_here (shown_nodes c.live) k (child None v))))
-              | inr other ↦ ap value_in (get-insert_other c.live k (leaf v) q other) ∙ sym (shown_value c.live q) ∙ sym (ap (option_map (λ (n : Node T). n.value)) (get-insert_other (shown_nodes c.live) k (child None v) q other))
-            ])
-            (λ q. shown_parent new.live q ∙ as_before above_in refl q ∙ sym (shown_parent c.live q) ∙ after parent_in refl q)
-            (λ q. shown_children new.live q ∙ led_same c.live new.live (as_before ends_in refl) (as_before link_in refl) woven q ∙ sym (shown_children c.live q) ∙ after children_in refl q)
+        came_live = map.same_map keys_total exact_keys _ _ (λ q. shown_alike c.live new.live (as_before link_in refl) q ∙ ap (λ m. option_map (shown_node c.live) (map.get m q)) inserts.live ∙ elim (same_or_other q k) [
+          | inl is ↦ rw is (ap (option_map (shown_node c.live)) (get-insert_here c.live k (leaf v)) ∙ sym (get-insert_here (shown_nodes c.live) k (child None v)))
+          | inr other ↦ ap (option_map (shown_node c.live)) (get-insert_other c.live k (leaf v) q other) ∙ sym (shown_get c.live q) ∙ sym (get-insert_other (shown_nodes c.live) k (child None v) q other)
+        ])
 
         pub came_inserts : Inserts (shown c) k (child None v) (shown new)
         came_inserts = shown_inserts c new (shown_nodes c.live) (shown_nodes new.live) (shown_keys c.live) (shown_len c.live) (shown_keys new.live) (shown_len new.live) k (leaf v) (child None v) came_live inserts

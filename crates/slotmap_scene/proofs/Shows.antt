@@ -11,10 +11,10 @@ use Rattle.slotmap_scene.specs.declared.links.LinkedNode.{LinkedNode}
 use Rattle.slotmap_scene.specs.Node.{Node, Nodes}
 use Rattle.slotmap_scene.specs.Climb.{has_node, with_parent}
 use Rattle.slotmap_scene.specs.Family.{child, children_of, with_children_in}
-use Rattle.slotmap_scene.specs.Links.{IsPlace, IsWoven, LinkedNodes, ends_in, ends_of, led_to, link_of, put_between, shown, shown_nodes, taken_between, with_node, with_node_in}
+use Rattle.slotmap_scene.specs.Links.{IsPlace, IsWoven, LinkedNodes, ends_in, ends_of, led_to, link_of, put_between, shown, shown_nodes, taken_between}
 use Rattle.slotmap_scene.proofs.Leaving.{leaves_alike}
 use Rattle.slotmap_scene.proofs.Showing.{nodes_leave, seen_there, shown_children, shown_keys}
-use Rattle.slotmap_scene.proofs.ShownChanges.{put_shown, taken_shown, rooted_keys, rooted_shown, rooted_woven, gone_shown, gone_woven}
+use Rattle.slotmap_scene.proofs.ShownChanges.{put_shown, taken_shown, own_keys, own_shown, own_woven, gone_shown, gone_woven}
 use Rattle.slotmap_scene.proofs.Weaving.{next_live, prev_live, put_keys, put_woven, taken_keys, taken_woven}
 
 some_of : {A : Type 0} (o : Option A) (P : A → Type 0) → ((x : A) → o ≡ Some x → P x) → IfSome o P
@@ -128,17 +128,15 @@ module _ {T : Type 0} (c : Content (LinkedNode T)) (woven : IsWoven c.live) (sel
     abbrev made_root : LinkedNodes T
     made_root = map.insert c.live k (record n { parent = None })
 
-    root_is : with_node c.live k (λ n. record n { parent = None }) ≡ made_root
-    root_is = ap (λ o. with_node_in c.live k o (λ n. record n { parent = None })) found
-
     root_keys : (q : Key) → map.contains_key made_root q ≡ map.contains_key c.live q
-    root_keys q = ap (λ x. map.contains_key x q) (sym root_is) ∙ rooted_keys c.live woven k (ap is_some found) q
+    root_keys q = own_keys c.live woven k n found (λ x. record x { parent = None }) (λ x. record x { parent = None }) (λ x. refl) (λ x. refl) (λ x. refl) q
 
     pub root_woven : IsWoven made_root
-    root_woven = subst IsWoven root_is (rooted_woven c.live woven k (ap is_some found))
+    root_woven = own_woven c.live woven k n found (λ x. record x { parent = None }) (λ x. record x { parent = None }) (λ x. refl) (λ x. refl) (λ x. refl)
 
     pub root_shows : shown (record c { live = made_root }) ≡ record self { live = with_parent self.live k None }
-    root_shows = now_shows made_root root_keys (record c { live = made_root }) refl (λ n. with_parent n k None) (ap shown_nodes (sym root_is) ∙ rooted_shown c.live woven k (ap is_some found))
+    root_shows = now_shows made_root root_keys (record c { live = made_root }) refl (λ m. with_parent m k None)
+        (own_shown c.live woven k n found (λ x. record x { parent = None }) (λ x. record x { parent = None }) (λ x. refl) (λ x. refl) (λ x. refl))
 
     pub root_leaves : Leaves self (shown (record c { live = made_root }))
     root_leaves = still_leaves made_root root_keys (record c { live = made_root }) refl
