@@ -4,7 +4,7 @@ ghost use Rattle.std.specs.Prelude.{◌≡◌, ◌≢◌, ◌-◌, ◌+◌, ◌<
 ghost use Rattle.std.specs.FinMap as map;
 ghost use Rattle.slotmap.specs.Words.{Key as KeyOf, IsContent, get, contains_key};
 ghost use Rattle.slotmap_keylist.specs.KeyLists.{times};
-ghost use Rattle.slotmap_graph.specs.Order.{Counting, GoesForward, HasCycle, Sorting, edges_out};
+ghost use Rattle.slotmap_graph.specs.TopologicalOrder.{Counting, GoesForward, HasCycle, Sorting, edges_out};
 ghost use Rattle.slotmap_graph.specs.Parts.{PutsAlone, edges_at};
 
 use crate::Graph;

@@ -6,7 +6,7 @@ use Rattle.slotmap.specs.Words.{Key, key_cmp, Content, IsCloneBy, IsCloneOf}
 use Rattle.slotmap.proofs.Callers.{keys, same_or_other, keys_total, exact_keys, left_in}
 use Rattle.slotmap_keylist.specs.declared.Link.{Link}
 use Rattle.slotmap_keylist.specs.KeyLists.{times, without}
-use Rattle.slotmap_keylist.specs.Linked.{followed, ends_of as ends_of_list, link_between, IsLinked}
+use Rattle.slotmap_keylist.specs.Linked.{followed, ends_of as ends_of_list, link_between, AreLinked}
 use Rattle.slotmap_keylist.proofs.Linking.{in_midst, without_split}
 use Rattle.slotmap_keylist.specs.Changed.{changed, changed_in}
 use Rattle.slotmap_keylist.proofs.Changed.{changed_gives, changed_here, changed_keeps, changed_other}
@@ -14,9 +14,9 @@ use Rattle.slotmap_scene.specs.declared.links.LinkedNode.{LinkedNode}
 use Rattle.slotmap_scene.specs.Node.{Node, Nodes}
 use Rattle.slotmap_scene.specs.Climb.{parent_of, with_parent}
 use Rattle.slotmap_scene.specs.Family.{IsNodeClone, children_of, value_of, with_children_in}
-use Rattle.slotmap_scene.specs.Links.{LinkedNodes, ends_in, ends_of, led_to, link_in, link_of, shown, shown_node, shown_nodes, put_between, taken_between, IsLinkedClone, IsWoven}
+use Rattle.slotmap_scene.specs.LinkedNodes.{LinkedNodes, ends_in, ends_of, led_to, link_in, link_of, shown_scene, shown_node, shown_nodes, put_between, taken_between, IsLinkedClone, IsWoven}
 use Rattle.slotmap_scene.proofs.Families.{parented_children, parented_is, parented_others, value_parented, value_written, written_is, written_others, written_parent, written_keys}
-use Rattle.slotmap_scene.proofs.Relinked.{relinked_keeps}
+use Rattle.slotmap_scene.proofs.RelinkedNodes.{relinked_keeps}
 use Rattle.slotmap_scene.proofs.Weaving.{led_is, woven_by, woven_same, with_list, list_at, list_other, put_linked, taken_linked}
 use Rattle.slotmap_scene.proofs.Showing.{shown_alike, shown_still, above_in, value_in, same_nodes, shown_children, shown_get, shown_keys, shown_parent, shown_value}
 
@@ -120,7 +120,7 @@ module _ {T : Type 0} (m : LinkedNodes T) (woven : IsWoven m) where
     gone_other : {V : Type 0} (x : map.FinMap key_cmp V) (q : Key) → q ≢ k → map.get (map.remove x k) q ≡ map.get x q
     gone_other x q other = grind (arith, keys)
 
-    gone_linked : IsLinked (ends_of gone) (link_of gone) (led_to m)
+    gone_linked : AreLinked (ends_of gone) (link_of gone) (led_to m)
     gone_linked = record {
       ends_are = λ p. elim (same_or_other p k) [
         | inl is ↦ rw is (ap ends_in (gone_here m) ∙ ap ends_of_list (sym leaf))
@@ -175,7 +175,7 @@ module _ {T : Type 0} (is_clone : T → T → Type 0) (c copy : Content (LinkedN
   pub copied_woven : IsWoven c.live → IsWoven copy.live
   copied_woven woven = woven_same c.live copy.live (λ q. (alike q).1) (λ q. (alike q).2) (λ q there. (alike q).0 ∙ there) woven
 
-  pub copied_shown : IsCloneBy (IsNodeClone is_clone) (shown c) (shown copy)
+  pub copied_shown : IsCloneBy (IsNodeClone is_clone) (shown_scene c) (shown_scene copy)
   copied_shown = record {
     live = λ q. rw (shown_get c.live q, shown_alike c.live copy.live (λ x. (alike x).2) q) (live (map.get c.live q) (map.get copy.live q) (clones.live q));
     detached = clones.detached;

@@ -6,7 +6,7 @@ use Rattle.slotmap_keylist.specs.KeyLists.{times}
 use Rattle.slotmap_keylist.proofs.Linking.{in_midst}
 use Rattle.slotmap_graph.proofs.Followed.{walked_in, walked_on}
 use Rattle.slotmap_graph.proofs.GraphSteps.{puts_alone}
-use Rattle.slotmap_graph.proofs.Orders.{counting_none, counting_step, key_live, keys_once}
+use Rattle.slotmap_graph.proofs.TopologicalOrders.{counting_none, counting_step, key_live, keys_once}
 use Rattle.slotmap_graph.proofs.Graph.count_all.Goals as goal
 
 pub loop-node-init : goal.loop-node-init

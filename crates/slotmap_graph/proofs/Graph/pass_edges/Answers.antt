@@ -9,12 +9,12 @@ use Rattle.slotmap_keylist.specs.Mapped.{map_values}
 use Rattle.slotmap_keylist.proofs.Counts.{times_there, times_joined}
 use Rattle.slotmap_keylist.proofs.Mapped.{get-mapped}
 use Rattle.slotmap_graph.specs.declared.links.Direction.TheVariants.{Out, Into}
-use Rattle.slotmap_graph.specs.Order.{Sorting, edges_out}
+use Rattle.slotmap_graph.specs.TopologicalOrder.{Sorting, edges_out}
 use Rattle.slotmap_graph.specs.Parts.{ListsEdges, edges_at, from, to}
 use Rattle.slotmap_graph.specs.Threads.{seen_edge}
 use Rattle.slotmap_graph.proofs.Followed.{taken, walked, walked_in, walked_on}
 use Rattle.slotmap_graph.proofs.GraphSteps.{is_lists, walked_edge, walked_live}
-use Rattle.slotmap_graph.proofs.Orders.{can_pass, edges_out_more, found_once, fresh_at, goes_more, next_new, sorting_step}
+use Rattle.slotmap_graph.proofs.TopologicalOrders.{can_pass, edges_out_more, found_once, fresh_at, goes_more, next_new, sorting_step}
 use Rattle.slotmap_graph.proofs.Graph.pass_edges.Goals as goal
 
 pub loop-edge-init : goal.loop-edge-init

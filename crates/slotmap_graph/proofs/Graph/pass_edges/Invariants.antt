@@ -1,5 +1,5 @@
 use Rattle.std.proofs.Common.{◌≡◌, ◌++◌, take, map as list_map}
-use Rattle.slotmap_graph.specs.Order.{Sorting, edges_out}
+use Rattle.slotmap_graph.specs.TopologicalOrder.{Sorting, edges_out}
 use Rattle.slotmap_graph.specs.Parts.{edges_at}
 use Rattle.slotmap_graph.specs.Search.{GoesOn}
 use Rattle.slotmap_graph.proofs.Graph.pass_edges.Given as goal

@@ -5,11 +5,11 @@ use Rattle.std.specs.FinMap as map
 use Rattle.slotmap.specs.Words.{Key}
 use Rattle.slotmap_keylist.proofs.Mapped.{content-mapped, len-mapped}
 use Rattle.slotmap_graph.specs.declared.links.Direction.TheVariants.{Out, Into}
-use Rattle.slotmap_graph.specs.Order.{Sorting, edges_out}
+use Rattle.slotmap_graph.specs.TopologicalOrder.{Sorting, edges_out}
 use Rattle.slotmap_graph.specs.Parts.{EndsLive, ListsEdges, edges_at, from, to}
 use Rattle.slotmap_graph.specs.Threads.{node_value}
 use Rattle.slotmap_graph.proofs.GraphSteps.{is_lists}
-use Rattle.slotmap_graph.proofs.Orders.{all_there, each_once, found_fits, found_once, no_cycle, some_cycle, sorting_start}
+use Rattle.slotmap_graph.proofs.TopologicalOrders.{all_there, each_once, found_fits, found_once, no_cycle, some_cycle, sorting_start}
 use Rattle.slotmap_graph.proofs.Graph.topological_order.Goals as goal
 
 pub count_all-requires-clause-valid : goal.count_all-requires-clause-valid

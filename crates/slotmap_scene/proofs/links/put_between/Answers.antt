@@ -4,8 +4,8 @@ use Rattle.slotmap.specs.Words.{Content}
 use Rattle.slotmap_keylist.specs.Changed.{changed, changed_in}
 use Rattle.slotmap_keylist.proofs.Changed.{changed_keeps}
 use Rattle.slotmap_scene.specs.declared.links.LinkedNode.{LinkedNode}
-use Rattle.slotmap_scene.specs.Links.{ends_in, with_len, with_next, with_prev}
-use Rattle.slotmap_scene.proofs.Relinked.{neighbours_len}
+use Rattle.slotmap_scene.specs.LinkedNodes.{ends_in, with_len, with_next, with_prev}
+use Rattle.slotmap_scene.proofs.RelinkedNodes.{neighbours_len}
 use Rattle.slotmap_scene.proofs.links.put_between.Goals as goal
 
 pub overflow_add-index_mut : goal.overflow_add-index_mut

@@ -6,8 +6,8 @@ use Rattle.slotmap_keylist.specs.declared.Ends.{Ends}
 use Rattle.slotmap_keylist.specs.declared.Link.{Link}
 use Rattle.slotmap_keylist.specs.Changed.{changed}
 use Rattle.slotmap_keylist.specs.KeyLists.{times}
-use Rattle.slotmap_keylist.specs.Linked.{first_or, last_or, link_between, followed, IsLinked, AreApart}
-use Rattle.slotmap_keylist.specs.Shown.{mapped, with_live}
+use Rattle.slotmap_keylist.specs.Linked.{first_or, last_or, link_between, followed, AreLinked, AreApart}
+use Rattle.slotmap_keylist.specs.Mapped.{map_values, with_live}
 use Rattle.slotmap_scene.specs.Node.{Node, Nodes}
 use Rattle.slotmap_scene.specs.Above.{roots_by}
 use Rattle.slotmap_scene.specs.Family.{children_of}
@@ -46,14 +46,14 @@ module _ {T : Type 0} where
   shown_node m node = record { value = node.value; parent = node.parent; children = followed (link_of m) node.children }
 
   abbrev pub shown_nodes : LinkedNodes T → Nodes T
-  shown_nodes m = mapped (shown_node m) m
+  shown_nodes m = map_values (shown_node m) m
 
-  abbrev pub shown : Content (LinkedNode T) → Content (Node T)
-  shown c = with_live c (shown_nodes c.live)
+  abbrev pub shown_scene : Content (LinkedNode T) → Content (Node T)
+  shown_scene c = with_live c (shown_nodes c.live)
 
   -- a node under k, with the children that k has
-  abbrev pub seen : Nodes T → Key → LinkedNode T → Node T
-  seen nodes k node = record { value = node.value; parent = node.parent; children = children_of nodes k }
+  abbrev pub shown_under : Nodes T → Key → LinkedNode T → Node T
+  shown_under nodes k node = record { value = node.value; parent = node.parent; children = children_of nodes k }
 
   -- the keys of the roots among these nodes
   abbrev pub linked_roots : List (Key × LinkedNode T) → List Key
@@ -65,7 +65,7 @@ module _ {T : Type 0} where
 
   -- the links make lists of nodes; each node is in one list at most, and there once
   pub record IsWoven (m : LinkedNodes T) : Type 0 where
-    pub linked : IsLinked (ends_of m) (link_of m) (led_to m)
+    pub linked : AreLinked (ends_of m) (link_of m) (led_to m)
     pub apart : AreApart (led_to m)
     pub live : (p k : Key) → 0 < times k (led_to m p) → map.contains_key m k ≡ true
 

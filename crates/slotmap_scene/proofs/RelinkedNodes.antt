@@ -8,7 +8,7 @@ use Rattle.slotmap_keylist.specs.Linked.{first_or, last_or, link_between, ends_o
 use Rattle.slotmap_keylist.proofs.Linking.{first_or-append, last_or-append}
 use Rattle.slotmap_keylist.proofs.Changed.{changed_gives, changed_keeps, changed_other}
 use Rattle.slotmap_scene.specs.declared.links.LinkedNode.{LinkedNode}
-use Rattle.slotmap_scene.specs.Links.{LinkedNodes, ends_in, ends_of, link_in, link_of, with_next, with_prev, relinked}
+use Rattle.slotmap_scene.specs.LinkedNodes.{LinkedNodes, ends_in, ends_of, link_in, link_of, with_next, with_prev, relinked}
 
 -- a node leads on to another key, or back
 module _ {T : Type 0} (m : LinkedNodes T) (p : Key) where

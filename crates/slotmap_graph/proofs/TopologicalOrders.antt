@@ -15,7 +15,7 @@ use Rattle.slotmap_keylist.proofs.Linking.{cut_at, split_at, in_midst, cons_not_
 use Rattle.slotmap_keylist.proofs.Splicing.{no_more_than}
 use Rattle.slotmap_graph.specs.Parts.{SeenEdge, Edges, ByNode, EndsLive, ListsEdges, edges_at, ends_at, from, to}
 use Rattle.slotmap_graph.specs.Search.{GoesOn, HasEdge, Leads, LeadsBy}
-use Rattle.slotmap_graph.specs.Order.{GoesForward, HasCycle, edges_out, passed_of, Sorting, Counting}
+use Rattle.slotmap_graph.specs.TopologicalOrder.{GoesForward, HasCycle, edges_out, passed_of, Sorting, Counting}
 use Rattle.slotmap_graph.proofs.Adjacent.{listed_edge, edge_listed}
 
 T-true : (b : Bool) → T b → b ≡ true
