@@ -64,7 +64,7 @@ WORDS = {
     'CanReplace AreValuesOf with_values dropped CallsAt': 'several keys or calls of a closure, of each kind of map',
     'Given Step DetachStep StepInsert StepRemove StepDetach StepReattach after_insert after_remove after_detach after_reattach': 'the same of each machine',
     'IsOnce without is_key same times': 'lists of indices or keys: none twice; all but one; how often a key is in one',
-    'Nodes IsChain Unlinks follow': 'nodes or slots that are linked both ways',
+    'Nodes IsChain Unlinks Relinks IsWalk follow with_link with_next with_prev link_in ends_in ends_of first_or last_or': 'what is linked both ways: nodes, slots, or the keys of a list',
 }
 
 

@@ -12,7 +12,7 @@ use Rattle.slotmap.specs.Words.{Key}
 use Rattle.slotmap_keylist.specs.KeyLists.{is_key, times}
 use Rattle.slotmap_keylist.proofs.Counts.{one_itself, times_first, times_joined}
 use Rattle.slotmap_graph.specs.Parts.{SeenEdge, Edges}
-use Rattle.slotmap_graph.specs.Search.{GoesOn, IsBreadthFirst, ends_in, ends_along, goes_to, marked}
+use Rattle.slotmap_graph.specs.Search.{GoesOn, IsBreadthFirst, arrives_at, ends_along, goes_to, marked}
 
 -- a walk along a list: what was passed, and what is ahead
 pub walked_on : (passed ahead rest all : List Key) (x : Key) → passed ++ ahead ≡ all → ahead ≡ x ∷ rest → (passed ++ x ∷ []) ++ rest ≡ all
@@ -34,7 +34,7 @@ module _ {E : Type 0} (edges : Edges E) (passed : List Key) (x : Key) (e : SeenE
 
   module _ (b : Key) (before : find (goes_to edges b) passed ≡ None) where
     at_x : goes_to edges b x ≡ is_key e.to b
-    at_x = ap (ends_in b) there
+    at_x = ap (arrives_at b) there
 
     pub not_found : is_key e.to b ≡ false → find (goes_to edges b) (passed ++ x ∷ []) ≡ None
     not_found other = find-append (goes_to edges b) passed (x ∷ []) ∙ ap (λ o. option_or o (cond (goes_to edges b x) (Some x) None)) before ∙ ap (λ t. cond t (Some x) None) (at_x ∙ other)
@@ -43,7 +43,7 @@ module _ {E : Type 0} (edges : Edges E) (passed : List Key) (x : Key) (e : SeenE
     found_first ahead rest all so_far next this = ap (find (goes_to edges b)) (sym so_far ∙ ap (λ l. passed ++ l) next) ∙ find-append (goes_to edges b) passed (x ∷ rest)
         ∙ ap (λ o. option_or o (cond (goes_to edges b x) (Some x) (find (goes_to edges b) rest))) before ∙ ap (λ t. cond t (Some x) (find (goes_to edges b) rest)) (at_x ∙ this)
 
-taken : (ks : List Key) (i : ℕ) (x : Key) → i < length ks → x ≡ get_or ks i x → take (i + 1) ks ≡ take i ks ++ x ∷ []
+pub taken : (ks : List Key) (i : ℕ) (x : Key) → i < length ks → x ≡ get_or ks i x → take (i + 1) ks ≡ take i ks ++ x ∷ []
 taken ks i x below is = take_more ks i x below ∙ ap (λ q. take i ks ++ q ∷ []) (sym is)
 
 -- a mark changes nothing in front

@@ -7,7 +7,7 @@ use Rattle.slotmap.specs.Words.{Key, key_cmp, Content, IsContent, IsLive, Insert
 use Rattle.slotmap.proofs.Callers.{keys, same_or_other, get-insert_here, get-insert_other, get-put_live, get-put_other, leaves_none, leaves_by_removal, inserted_fresh, none_of}
 use Rattle.slotmap.proofs.Callers.{live-remove_other, live-insert_still}
 use Rattle.slotmap_keylist.specs.KeyLists.{is_key, times, without}
-use Rattle.slotmap_keylist.specs.Linked.{IsLinked, ends_of, followed}
+use Rattle.slotmap_keylist.specs.Linked.{AreLinked, ends_of, followed}
 use Rattle.slotmap_keylist.specs.Mapped.{map_values, map_content}
 use Rattle.slotmap_keylist.proofs.Counts.{is_itself, is_other, times_first, times_gone, one_itself}
 use Rattle.slotmap_keylist.proofs.Linking.{followed_is, in_midst}
@@ -152,7 +152,7 @@ module _ {N E : Type 0} (d : Direction) (nodes nodes' : Content (Node N)) (edges
 
 -- a list of each direction changes
 module _ {N E : Type 0} (n0 n1 n2 : Content (Node N)) (e0 e1 e2 : Content (Edge E)) (p q : Key) (ks ks' : List Key) (out : Rethreads Out n0 e0 p ks n1 e1) (into : Rethreads Into n1 e1 q ks' n2 e2) where
-  both_linked : (d : Direction) → IsLinked (ends_in d n2.live) (link_in d e2.live) (listed d n2.live e2.live)
+  both_linked : (d : Direction) → AreLinked (ends_in d n2.live) (link_in d e2.live) (listed d n2.live e2.live)
   both_linked Out = linked_along into.same_ends into.same_links out.linked
   both_linked Into = into.linked
 
@@ -224,7 +224,7 @@ module _ {N E : Type 0} (nodes n1 n2 : Content (Node N)) (edges e1 e2 e3 : Conte
     | inr other ↦ into.others x other ∙ into_is nodes n1 n2 edges e1 e2 e.from e.to _ _ out into x ∙ sym (unlisted to (map_values seen_edge edges.live) k e there x (listed Into nodes.live edges.live x) (graph.lists Into x) other)
   ]
 
-  last_linked : (d : Direction) → IsLinked (ends_in d n2.live) (link_in d e3.live) (listed d n2.live e2.live)
+  last_linked : (d : Direction) → AreLinked (ends_in d n2.live) (link_in d e3.live) (listed d n2.live e2.live)
   last_linked d = linked_but (both_linked nodes n1 n2 edges e1 e2 e.from e.to _ _ out into d) k (λ x. ap (times k) (taken d x) ∙ times_gone k (listed d nodes.live edges.live x))
       (λ q other. ap (λ m. link_in d m q) is ∙ part_removed (edge_link d) no_link e2.live k q other)
 

@@ -3,6 +3,7 @@ pub mod Callers
 pub mod Copies
 pub mod Followed
 pub mod GraphSteps
+pub mod TopologicalOrders
 pub mod Relinked
 pub mod Searches
 pub mod Thinned

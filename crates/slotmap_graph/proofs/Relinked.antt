@@ -3,7 +3,7 @@ use Rattle.std.proofs.Common.{◌≡◌, ◌≢◌, ◌+◌, ◌-◌, ◌<◌, �
 use Rattle.std.specs.FinMap as map
 use Rattle.slotmap.specs.Words.{Key, Content, with_value}
 use Rattle.slotmap_keylist.specs.KeyLists.{is_key, times, without}
-use Rattle.slotmap_keylist.specs.Linked.{first_or, last_or, ends_of, link_between, IsLinked, IsListed}
+use Rattle.slotmap_keylist.specs.Linked.{first_or, last_or, ends_of, link_between, AreLinked, IsListed}
 use Rattle.slotmap_keylist.specs.Splice.{with_next, with_prev, own}
 use Rattle.slotmap_keylist.specs.declared.Ends.{Ends}
 use Rattle.slotmap_keylist.specs.declared.Link.{Link}
@@ -59,7 +59,7 @@ module _ {N E : Type 0} (d : Direction) (nodes : Content (Node N)) (edges : Cont
       other_ends = λ q other. ends_written d nodes p ends' n there nodes' is q ∙ ap (λ b. cond b ends' (ends_in d nodes.live q)) (is_other q p other);
     }
 
-    rethreads : IsLinked (ends_in d nodes'.live) (link_in d edges'.live) lists_now → Rethreads d nodes edges p ks nodes' edges'
+    rethreads : AreLinked (ends_in d nodes'.live) (link_in d edges'.live) lists_now → Rethreads d nodes edges p ks nodes' edges'
     rethreads linked = record {
       linked = linked_self linked;
       list = followed_is linked p ∙ is_listed.list;

@@ -1,4 +1,5 @@
 pub mod Lends
+pub mod TopologicalOrder
 pub mod Parts
 pub mod Search
 pub mod Threads

@@ -11,13 +11,13 @@ module _ {E : Type 0} where
   abbrev pub ends_along : (SeenEdge E → Key) → Edges E → List Key → List Key
   ends_along end edges ks = filter_map (λ k. option_map end (map.get edges k)) ks
 
-  abbrev pub ends_in : Key → Option (SeenEdge E) → Bool
-  ends_in b None = false
-  ends_in b (Some e) = is_key e.to b
+  abbrev pub arrives_at : Key → Option (SeenEdge E) → Bool
+  arrives_at b None = false
+  arrives_at b (Some e) = is_key e.to b
 
   -- the edge k goes to b
   abbrev pub goes_to : Edges E → Key → Key → Bool
-  goes_to edges b k = ends_in b (map.get edges k)
+  goes_to edges b k = arrives_at b (map.get edges k)
 
 module _ {E : Type 0} (edges : Edges E) where
   -- an edge goes from a to b

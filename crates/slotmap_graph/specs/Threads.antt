@@ -4,7 +4,7 @@ use Rattle.std.specs.Prelude.{◌≡◌, ◌<◌, true, None, List, option_map, 
 use Rattle.std.specs.FinMap as map
 use Rattle.slotmap.specs.Words.{Key, key_cmp, Content}
 use Rattle.slotmap_keylist.specs.KeyLists.{times}
-use Rattle.slotmap_keylist.specs.Linked.{followed, IsLinked, AreApart}
+use Rattle.slotmap_keylist.specs.Linked.{followed, AreLinked, AreApart}
 use Rattle.slotmap_keylist.specs.Mapped.{map_values, map_content}
 use Rattle.slotmap_keylist.specs.declared.Ends.{Ends}
 use Rattle.slotmap_keylist.specs.declared.Link.{Link}
@@ -86,13 +86,13 @@ module _ {N E : Type 0} where
 
   -- the lists of this direction are kept as links, of edges that are there
   pub record IsThreaded (d : Direction) (nodes : map.FinMap key_cmp (Node N)) (edges : map.FinMap key_cmp (Edge E)) : Type 0 where
-    pub linked : IsLinked (ends_in d nodes) (link_in d edges) (listed d nodes edges)
+    pub linked : AreLinked (ends_in d nodes) (link_in d edges) (listed d nodes edges)
     pub apart : AreApart (listed d nodes edges)
     pub live : (p k : Key) → 0 < times k (listed d nodes edges p) → map.contains_key edges k ≡ true
 
   -- the list of one node changed in this direction, and nothing in the other one, no node and no edge
   pub record Rethreads (d : Direction) (nodes : Content (Node N)) (edges : Content (Edge E)) (p : Key) (ks : List Key) (nodes' : Content (Node N)) (edges' : Content (Edge E)) : Type 0 where
-    pub linked : IsLinked (ends_in d nodes'.live) (link_in d edges'.live) (listed d nodes'.live edges'.live)
+    pub linked : AreLinked (ends_in d nodes'.live) (link_in d edges'.live) (listed d nodes'.live edges'.live)
     pub list : listed d nodes'.live edges'.live p ≡ ks
     pub others : (q : Key) → (q ≡ p → ⊥) → listed d nodes'.live edges'.live q ≡ listed d nodes.live edges.live q
     pub seen_nodes : map_content node_value nodes' ≡ map_content node_value nodes
@@ -103,7 +103,7 @@ module _ {N E : Type 0} where
   -- what holds of every graph: each edge joins two live nodes, and is in a list of each
   pub record IsGraph (nodes : Content (Node N)) (edges : map.FinMap key_cmp (Edge E)) : Type 0 where
     pub ends : EndsLive (map_content node_value nodes) (map_values seen_edge edges)
-    pub linked : (d : Direction) → IsLinked (ends_in d nodes.live) (link_in d edges) (listed d nodes.live edges)
+    pub linked : (d : Direction) → AreLinked (ends_in d nodes.live) (link_in d edges) (listed d nodes.live edges)
     pub lists : (d : Direction) (k : Key) → ListsEdges (end d) (map_values seen_edge edges) k (listed d nodes.live edges k)
 
 abbrev pub lists_of : {N E : Type 0} → Direction → Seen N E → ByNode

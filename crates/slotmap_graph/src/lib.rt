@@ -43,6 +43,7 @@ mod clone;
 mod edge_key;
 mod iter;
 mod links;
+mod order;
 mod search;
 
 use crate::links::{Direction, Edges, Nodes, list_ends};

@@ -1,4 +1,5 @@
 pub mod Alone
+pub mod Changed
 pub mod Counts
 pub mod Following
 pub mod Linking

@@ -6,7 +6,7 @@ use Rattle.std.proofs.lemmas.Option.{same_Some}
 use Rattle.slotmap.specs.Words.{Key}
 use Rattle.slotmap.proofs.Callers.{same_or_other}
 use Rattle.slotmap_keylist.specs.KeyLists.{is_key, same, times, without}
-use Rattle.slotmap_keylist.specs.Linked.{first_or, last_or, ends_of, link_between, follow, followed, IsLinked, AreApart, Relinks, IsListed}
+use Rattle.slotmap_keylist.specs.Linked.{first_or, last_or, ends_of, link_between, follow, followed, AreLinked, AreApart, Relinks, IsListed}
 use Rattle.slotmap_keylist.specs.declared.Ends.{Ends}
 use Rattle.slotmap_keylist.specs.declared.Link.{Link}
 use Rattle.slotmap_keylist.proofs.Counts.{is_itself, one_itself, one_other, times_first, times_joined, without_none}
@@ -49,7 +49,7 @@ none_last (k ∷ ks) is = by k ks is
     by k [] is = absurd (cc)
     by k (q ∷ ks) is = by q ks is
 
-cons_not_nil : (b : List Key) (x : Key) (a : List Key) → [] ≡ b ++ x ∷ a → ⊥
+pub cons_not_nil : (b : List Key) (x : Key) (a : List Key) → [] ≡ b ++ x ∷ a → ⊥
 cons_not_nil [] x a at = absurd (cc)
 cons_not_nil (q ∷ b) x a at = absurd (cc)
 
@@ -98,7 +98,7 @@ without_split k before after once =
     ∙ ap (λ l. l ++ without k after) (without_none k before (omega arith)) ∙ ap (λ l. before ++ l) (without_none k after (omega arith))
 
 -- lists that are kept as links
-module _ {ends : Key → Ends Key} {link : Key → Link Key} {lists : Key → List Key} (linked : IsLinked ends link lists) where
+module _ {ends : Key → Ends Key} {link : Key → Link Key} {lists : Key → List Key} (linked : AreLinked ends link lists) where
   -- from a place in a list, the links lead to what is behind it
   pub follow_is : (p : Key) (before after : List Key) → lists p ≡ before ++ after → follow link (length after) (first_or after None) ≡ after
   follow_is p before [] is = refl
@@ -207,7 +207,7 @@ module _ {ends : Key → Ends Key} {link : Key → Link Key} {lists : Key → Li
             let no_k : x ≢ k = λ e. (let h = rw (← e) at (nowhere q other) in omega arith) in
             relinks.others x no_k (not_last x (omega arith)) (not_first x (omega arith)) ∙ linked.links_are q b x a at
 
-        pub linked_now : {ends' : Key → Ends Key} {lists' : Key → List Key} → IsListed lists lists' ends ends' p (before ++ (now ++ after)) → IsLinked ends' link' lists'
+        pub linked_now : {ends' : Key → Ends Key} {lists' : Key → List Key} → IsListed lists lists' ends ends' p (before ++ (now ++ after)) → AreLinked ends' link' lists'
         linked_now {ends'} {lists'} listed = record {
           ends_are = λ q. (elim (same_or_other q p) [
             | inl same ↦ rw same (listed.ends ∙ ap ends_of (sym listed.list))
@@ -222,7 +222,7 @@ module _ {ends : Key → Ends Key} {link : Key → Link Key} {lists : Key → Li
   -- a key that is in no list is put between two parts of one
   pub linked_put : AreApart lists → (p k : Key) (before after : List Key) → lists p ≡ before ++ after → ((q : Key) → times k (lists q) ≡ 0) → {link' : Key → Link Key}
       → link' k ≡ link_between before after → Relinks link link' k before after (Some k) (Some k)
-      → {ends' : Key → Ends Key} {lists' : Key → List Key} → IsListed lists lists' ends ends' p (before ++ k ∷ after) → IsLinked ends' link' lists'
+      → {ends' : Key → Ends Key} {lists' : Key → List Key} → IsListed lists lists' ends ends' p (before ++ k ∷ after) → AreLinked ends' link' lists'
   linked_put apart p k before after is none {link'} own relinks listed =
       let sum = sym (ap (times k) is ∙ times_joined k before after) ∙ none p in
       linked_now apart p k before [] after is (omega arith) (omega arith) (λ q _. none q) (k ∷ []) link' relinks (alone_between own) listed where
@@ -236,7 +236,7 @@ module _ {ends : Key → Ends Key} {link : Key → Link Key} {lists : Key → Li
   -- a key is taken out of a list
   pub linked_taken : AreApart lists → (p k : Key) (before after : List Key) → lists p ≡ before ++ k ∷ after → {link' : Key → Link Key}
       → Relinks link link' k before after (first_or after None) (last_or before None)
-      → {ends' : Key → Ends Key} {lists' : Key → List Key} → IsListed lists lists' ends ends' p (before ++ after) → IsLinked ends' link' lists'
+      → {ends' : Key → Ends Key} {lists' : Key → List Key} → IsListed lists lists' ends ends' p (before ++ after) → AreLinked ends' link' lists'
   linked_taken apart p k before after is {link'} relinks listed =
       let sum = sym (ap (times k) is ∙ in_midst before k after) in
       let once = apart.once p k in

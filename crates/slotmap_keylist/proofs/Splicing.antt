@@ -4,7 +4,7 @@ use Rattle.std.specs.FinMap as map
 use Rattle.slotmap.specs.Words.{Key, key_cmp}
 use Rattle.slotmap.proofs.Callers.{keys_total, exact_keys, len_removed, live-remove_other}
 use Rattle.slotmap_keylist.specs.KeyLists.{same, times}
-use Rattle.slotmap_keylist.specs.Linked.{first_or, last_or, ends_of, followed, IsLinked, Relinks}
+use Rattle.slotmap_keylist.specs.Linked.{first_or, last_or, ends_of, followed, AreLinked, Relinks}
 use Rattle.slotmap_keylist.specs.Splice.{with_next, with_prev, own}
 use Rattle.slotmap_keylist.specs.declared.Ends.{Ends}
 use Rattle.slotmap_keylist.specs.declared.Link.{Link}
@@ -83,7 +83,7 @@ ends_taken before k after e is = λ i. record { first = firsts before (ap (λ (e
     as_many = let n = ap (λ (e : Ends Key). e.len) is in let a = length-append before (k ∷ after) in let b = length-append before after in omega arith
 
 -- lists that are kept as links are those that the links lead to
-pub linked_self : {ends : Key → Ends Key} {link : Key → Link Key} {lists : Key → List Key} → IsLinked ends link lists → IsLinked ends link (λ p. followed link (ends p))
+pub linked_self : {ends : Key → Ends Key} {link : Key → Link Key} {lists : Key → List Key} → AreLinked ends link lists → AreLinked ends link (λ p. followed link (ends p))
 linked_self linked = record {
   ends_are = λ p. linked.ends_are p ∙ ap ends_of (sym (followed_is linked p));
   links_are = λ p before k after is. linked.links_are p before k after (sym (followed_is linked p) ∙ is);
@@ -91,15 +91,15 @@ linked_self linked = record {
 
 -- the same ends and the same links
 module _ {ends ends' : Key → Ends Key} {link link' : Key → Link Key} (same_ends : (q : Key) → ends' q ≡ ends q) (same_links : (q : Key) → link' q ≡ link q) where
-  pub linked_along : IsLinked ends link (λ p. followed link (ends p)) → IsLinked ends' link' (λ p. followed link' (ends' p))
-  linked_along = subst (λ (x : (Key → Ends Key) × (Key → Link Key)). IsLinked x.0 x.1 (λ p. followed x.1 (x.0 p))) (λ i. ((λ q. sym (same_ends q) i), (λ q. sym (same_links q) i)))
+  pub linked_along : AreLinked ends link (λ p. followed link (ends p)) → AreLinked ends' link' (λ p. followed link' (ends' p))
+  linked_along = subst (λ (x : (Key → Ends Key) × (Key → Link Key)). AreLinked x.0 x.1 (λ p. followed x.1 (x.0 p))) (λ i. ((λ q. sym (same_ends q) i), (λ q. sym (same_links q) i)))
 
   pub followed_along : (p : Key) → followed link' (ends' p) ≡ followed link (ends p)
   followed_along p = λ i. followed (λ q. same_links q i) (same_ends p i)
 
 -- the link of a key that is in no list may be any
-pub linked_but : {ends : Key → Ends Key} {link link' : Key → Link Key} {lists : Key → List Key} → IsLinked ends link lists → (k : Key) → ((p : Key) → times k (lists p) ≡ 0)
-    → ((q : Key) → q ≢ k → link' q ≡ link q) → IsLinked ends link' lists
+pub linked_but : {ends : Key → Ends Key} {link link' : Key → Link Key} {lists : Key → List Key} → AreLinked ends link lists → (k : Key) → ((p : Key) → times k (lists p) ≡ 0)
+    → ((q : Key) → q ≢ k → link' q ≡ link q) → AreLinked ends link' lists
 linked_but linked k none same = record {
   ends_are = linked.ends_are;
   links_are = λ p before x after is. same x (λ e. (let there = ap (times x) is ∙ in_midst before x after in let gone = rw (← e) at (none p) in absurd (omega arith))) ∙ linked.links_are p before x after is;

@@ -34,7 +34,7 @@ abbrev pub followed : (Key → Link Key) → Ends Key → List Key
 followed link ends = follow link ends.len ends.first
 
 -- each owner's list has these ends, and each key in it these neighbours
-pub record IsLinked (ends : Key → Ends Key) (link : Key → Link Key) (lists : Key → List Key) : Type 0 where
+pub record AreLinked (ends : Key → Ends Key) (link : Key → Link Key) (lists : Key → List Key) : Type 0 where
   pub ends_are : (p : Key) → ends p ≡ ends_of (lists p)
   pub links_are : (p : Key) (before : List Key) (k : Key) (after : List Key) → lists p ≡ before ++ k ∷ after → link k ≡ link_between before after
 

@@ -4,7 +4,7 @@ pub mod Chains
 pub mod Draining
 pub mod Iterated
 pub mod Looks
-pub mod Mapped
+pub mod ClonedChains
 pub mod Moving
 pub mod NeighbourLemmas
 pub mod NodeLists

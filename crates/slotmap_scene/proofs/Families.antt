@@ -5,10 +5,12 @@ use Rattle.std.specs.FinMap as map
 use Rattle.slotmap.specs.Words.{Key, Content, ClonesEqual, IsCloneOf, IsCloneBy}
 use Rattle.slotmap.proofs.Callers.{get-insert_here, get-insert_other, same_or_other, clone_live}
 use Rattle.slotmap_scene.specs.Node.{Node, Nodes}
-use Rattle.slotmap_scene.specs.Climb.{has_node, lacks_node, parent_in, parent_of, ClimbsTo, IsTree, IsWithin, with_parent, with_parent_in}
+use Rattle.slotmap_scene.specs.Climb.{has_node, lacks_node, parent_in, parent_of, ClimbsTo, IsTree, IsWithin, with_parent}
+use Rattle.slotmap_keylist.specs.Changed.{changed_in}
+use Rattle.slotmap_keylist.proofs.Changed.{changed_gives, changed_here, changed_keeps, changed_other}
 use Rattle.slotmap_keylist.specs.KeyLists.{same, times, without}
 use Rattle.slotmap_keylist.proofs.Counts.{one_itself, one_other, times_gone, times_without}
-use Rattle.slotmap_scene.specs.Family.{value_of, is_parent, children_in, children_of, AreListed, IsScene, IsNodeClone, IsNewChild, MayLeave, child, with_children_in, with_value, with_value_in, without_child, as_root, attached_by}
+use Rattle.slotmap_scene.specs.Family.{value_of, is_parent, children_in, children_of, AreListed, IsScene, IsNodeClone, IsNewChild, MayLeave, child, with_children_in, with_value, without_child, as_root, attached_by}
 use Rattle.slotmap_scene.proofs.Climbs.{leads_live, Parents, tree_cut, tree_hung, tree_root, tree_same}
 
 -- who is a parent of whom
@@ -26,46 +28,32 @@ by_parent (Some q) p P here other = elim (same_or_other q p) [ inl same ↦ here
 module _ {T : Type 0} where
   -- a node that gets another parent
   module _ (nodes : Nodes T) (k : Key) (parent : Option Key) where
-    pub parented_other : (o : Option (Node T)) (q : Key) → q ≢ k → map.get (with_parent_in nodes k o parent) q ≡ map.get nodes q
-    parented_other None q other = refl
-    parented_other (Some node) q other = get-insert_other nodes k (record node { parent = parent }) q other
+    abbrev given : Node T → Node T
+    given n = record n { parent = parent }
 
-    pub parented_here : (o : Option (Node T)) → map.get nodes k ≡ o → map.get (with_parent_in nodes k o parent) k ≡ option_map (λ (n : Node T). record n { parent = parent }) o
-    parented_here None is = is
-    parented_here (Some node) is = get-insert_here nodes k (record node { parent = parent })
+    pub parented_other : (q : Key) → q ≢ k → map.get (with_parent nodes k parent) q ≡ map.get nodes q
+    parented_other q other = changed_other nodes k given q other
 
-    kept_children : (o : Option (Node T)) → children_in (option_map (λ (n : Node T). record n { parent = parent }) o) ≡ children_in o
-    kept_children None = refl
-    kept_children (Some node) = refl
-
-    kept_some : (o : Option (Node T)) → is_some (option_map (λ (n : Node T). record n { parent = parent }) o) ≡ is_some o
-    kept_some None = refl
-    kept_some (Some node) = refl
+    pub parented_here : map.get (with_parent nodes k parent) k ≡ option_map (λ (n : Node T). record n { parent = parent }) (map.get nodes k)
+    parented_here = changed_here nodes k given
 
     pub parented_children : (q : Key) → children_of (with_parent nodes k parent) q ≡ children_of nodes q
-    parented_children q = elim (same_or_other q k) [
-      | inl same ↦ rw same (ap children_in (parented_here (map.get nodes k) refl) ∙ kept_children (map.get nodes k))
-      | inr other ↦ ap children_in (parented_other (map.get nodes k) q other)
-    ]
+    parented_children q = changed_keeps nodes k given children_in (λ n. refl) q
 
     pub parented_keys : (q : Key) → map.contains_key (with_parent nodes k parent) q ≡ map.contains_key nodes q
-    parented_keys q = elim (same_or_other q k) [
-      | inl same ↦ rw same (ap is_some (parented_here (map.get nodes k) refl) ∙ kept_some (map.get nodes k))
-      | inr other ↦ ap is_some (parented_other (map.get nodes k) q other)
-    ]
+    parented_keys q = changed_keeps nodes k given is_some (λ n. refl) q
+
+    pub value_parented : (q : Key) → value_of (with_parent nodes k parent) q ≡ value_of nodes q
+    value_parented q = changed_keeps nodes k given (option_map (λ n. n.value)) (λ n. refl) q
 
     pub parented_others : (q : Key) → q ≢ k → parent_of (with_parent nodes k parent) q ≡ parent_of nodes q
-    parented_others q other = ap parent_in (parented_other (map.get nodes k) q other)
-
-    the_parent : (o : Option (Node T)) → is_some o ≡ true → parent_in (option_map (λ (n : Node T). record n { parent = parent }) o) ≡ parent
-    the_parent None is = absurd (cc)
-    the_parent (Some node) is = refl
+    parented_others q other = ap parent_in (parented_other q other)
 
     pub parented_is : has_node nodes k → parent_of (with_parent nodes k parent) k ≡ parent
-    parented_is live = ap parent_in (parented_here (map.get nodes k) refl) ∙ the_parent (map.get nodes k) live
+    parented_is live = changed_gives nodes k given parent_in (λ _. parent) (λ n. refl) live
 
   no_parent : (nodes : Nodes T) (k : Key) → parent_of (with_parent nodes k None) k ≡ None
-  no_parent nodes k = ap parent_in (parented_here nodes k None (map.get nodes k) refl) ∙ none (map.get nodes k)
+  no_parent nodes k = ap parent_in (parented_here nodes k None) ∙ none (map.get nodes k)
     where
       none : (o : Option (Node T)) → parent_in (option_map (λ (n : Node T). record n { parent = None }) o) ≡ None
       none None = refl
@@ -76,43 +64,29 @@ module _ {T : Type 0} where
     abbrev written : Nodes T
     written = with_children_in nodes p (map.get nodes p) f
 
-    pub written_other : (o : Option (Node T)) (q : Key) → q ≢ p → map.get (with_children_in nodes p o f) q ≡ map.get nodes q
-    written_other None q other = refl
-    written_other (Some node) q other = get-insert_other nodes p (record node { children = f node.children }) q other
+    abbrev filled : Node T → Node T
+    filled n = record n { children = f n.children }
 
-    pub written_here : (o : Option (Node T)) → map.get nodes p ≡ o → map.get (with_children_in nodes p o f) p ≡ option_map (λ (n : Node T). record n { children = f n.children }) o
-    written_here None is = is
-    written_here (Some node) is = get-insert_here nodes p (record node { children = f node.children })
+    pub written_other : (q : Key) → q ≢ p → map.get written q ≡ map.get nodes q
+    written_other q other = changed_other nodes p filled q other
 
-    kept_parent : (o : Option (Node T)) → parent_in (option_map (λ (n : Node T). record n { children = f n.children }) o) ≡ parent_in o
-    kept_parent None = refl
-    kept_parent (Some node) = refl
-
-    kept_there : (o : Option (Node T)) → is_some (option_map (λ (n : Node T). record n { children = f n.children }) o) ≡ is_some o
-    kept_there None = refl
-    kept_there (Some node) = refl
+    pub written_here : map.get written p ≡ option_map (λ (n : Node T). record n { children = f n.children }) (map.get nodes p)
+    written_here = changed_here nodes p filled
 
     pub written_parent : (q : Key) → parent_of written q ≡ parent_of nodes q
-    written_parent q = elim (same_or_other q p) [
-      | inl same ↦ rw same (ap parent_in (written_here (map.get nodes p) refl) ∙ kept_parent (map.get nodes p))
-      | inr other ↦ ap parent_in (written_other (map.get nodes p) q other)
-    ]
+    written_parent q = changed_keeps nodes p filled parent_in (λ n. refl) q
 
     pub written_keys : (q : Key) → map.contains_key written q ≡ map.contains_key nodes q
-    written_keys q = elim (same_or_other q p) [
-      | inl same ↦ rw same (ap is_some (written_here (map.get nodes p) refl) ∙ kept_there (map.get nodes p))
-      | inr other ↦ ap is_some (written_other (map.get nodes p) q other)
-    ]
+    written_keys q = changed_keeps nodes p filled is_some (λ n. refl) q
+
+    pub value_written : (q : Key) → value_of written q ≡ value_of nodes q
+    value_written q = changed_keeps nodes p filled (option_map (λ n. n.value)) (λ n. refl) q
 
     pub written_others : (q : Key) → q ≢ p → children_of written q ≡ children_of nodes q
-    written_others q other = ap children_in (written_other (map.get nodes p) q other)
-
-    the_children : (o : Option (Node T)) → is_some o ≡ true → children_in (option_map (λ (n : Node T). record n { children = f n.children }) o) ≡ f (children_in o)
-    the_children None is = absurd (cc)
-    the_children (Some node) is = refl
+    written_others q other = ap children_in (written_other q other)
 
     pub written_is : has_node nodes p → children_of written p ≡ f (children_of nodes p)
-    written_is live = ap children_in (written_here (map.get nodes p) refl) ∙ the_children (map.get nodes p) live
+    written_is live = changed_gives nodes p filled children_in f (λ n. refl) live
 
   -- a node leaves the children of its parent
   module _ (nodes : Nodes T) (k : Key) where
@@ -278,27 +252,9 @@ module _ {T : Type 0} where
 
 -- each node keeps its own value where parents and lists of children alone change
 module _ {T : Type 0} (nodes : Nodes T) where
-  pub value_parented : (k : Key) (parent : Option Key) (q : Key) → value_of (with_parent nodes k parent) q ≡ value_of nodes q
-  value_parented k parent q = elim (same_or_other q k) [
-    | inl same ↦ rw same (ap (option_map (λ n. n.value)) (parented_here nodes k parent (map.get nodes k) refl) ∙ kept (map.get nodes k))
-    | inr other ↦ ap (option_map (λ n. n.value)) (parented_other nodes k parent (map.get nodes k) q other)
-  ] where
-    kept : (o : Option (Node T)) → option_map (λ n. n.value) (option_map (λ (n : Node T). record n { parent = parent }) o) ≡ option_map (λ n. n.value) o
-    kept None = refl
-    kept (Some node) = refl
-
-  pub value_written : (p : Key) (f : List Key → List Key) (q : Key) → value_of (with_children_in nodes p (map.get nodes p) f) q ≡ value_of nodes q
-  value_written p f q = elim (same_or_other q p) [
-    | inl same ↦ rw same (ap (option_map (λ n. n.value)) (written_here nodes p f (map.get nodes p) refl) ∙ kept (map.get nodes p))
-    | inr other ↦ ap (option_map (λ n. n.value)) (written_other nodes p f (map.get nodes p) q other)
-  ] where
-    kept : (o : Option (Node T)) → option_map (λ n. n.value) (option_map (λ (n : Node T). record n { children = f n.children }) o) ≡ option_map (λ n. n.value) o
-    kept None = refl
-    kept (Some node) = refl
-
   value_left : (o : Option Key) (k q : Key) → value_of (without_child nodes o k) q ≡ value_of nodes q
   value_left None k q = refl
-  value_left (Some p) k q = value_written p (without k) q
+  value_left (Some p) k q = value_written nodes p (without k) q
 
 module _ {T : Type 0} (nodes : Nodes T) (k : Key) where
   pub value_detached : (q : Key) → value_of (as_root nodes k) q ≡ value_of nodes q
@@ -319,7 +275,7 @@ new_child nodes new k p v f there fresh is =
       children_are = ap children_in here ∙ written_is nodes p f there;
       value = ap (option_map (λ n. n.value)) here ∙ value_written nodes p f p;
       parent = ap parent_in here ∙ written_parent nodes p f p;
-      others = λ q other elsewhere. get-insert_other written k (child (Some p) v) q other ∙ written_other nodes p f (map.get nodes p) q elsewhere;
+      others = λ q other elsewhere. get-insert_other written k (child (Some p) v) q other ∙ written_other nodes p f q elsewhere;
     })
 
 -- a value that is written
@@ -343,7 +299,7 @@ module _ {T : Type 0} (nodes : Nodes T) (k : Key) (n : Node T) (v : T) (there : 
 pub scene_with_value : {T : Type 0} (nodes : Nodes T) (k : Key) (v : T) → IsScene nodes → IsScene (with_value nodes k v)
 scene_with_value {T} nodes k v scene = by (map.get nodes k) refl
   where
-    by : (o : Option (Node T)) → map.get nodes k ≡ o → IsScene (with_value_in nodes k o v)
+    by : (o : Option (Node T)) → map.get nodes k ≡ o → IsScene (changed_in nodes k o (λ n. record n { value = v }))
     by None is = scene
     by (Some n) is = scene_valued nodes k n v is scene
 

@@ -12,7 +12,7 @@ use Rattle.slotmap_keylist.proofs.Counts.{times_pushed, without_none}
 use Rattle.slotmap_scene.specs.declared.tree.Side.{Side}
 use Rattle.slotmap_scene.proofs.Placing.{times_placed}
 use Rattle.slotmap_scene.specs.Family.{placed, with_children_of, with_sibling, children_in, children_of, IsNewChild, IsScene, child, forgets, with_children_in, without_child, as_root, attached, attached_by}
-use Rattle.slotmap_scene.proofs.Climbs.{has_parent, no_cycle}
+use Rattle.slotmap_scene.proofs.Climbs.{has_parent}
 use Rattle.slotmap_scene.proofs.Families.{by_parent, listed_once, listed_never, parent_there, parented_here, parented_other, written_here, written_other, new_child}
 use Rattle.slotmap_scene.proofs.Families.{detached_parents, scene_leaf, scene_detached, scene_attached}
 
@@ -69,11 +69,11 @@ module _ {T : Type 0} where
 
   module _ (nodes : Nodes T) (k : Key) where
     taken_here : (o : Option Key) (q : Key) → o ≡ Some q → map.get (without_child nodes o k) q ≡ option_map (forgets k) (map.get nodes q)
-    taken_here o q is = ap (λ x. map.get (without_child nodes x k) q) is ∙ written_here nodes q (without k) (map.get nodes q) refl
+    taken_here o q is = ap (λ x. map.get (without_child nodes x k) q) is ∙ written_here nodes q (without k)
 
     taken_other : (o : Option Key) (q : Key) → o ≢ Some q → map.get (without_child nodes o k) q ≡ map.get nodes q
     taken_other None q other = refl
-    taken_other (Some p) q other = written_other nodes p (without k) (map.get nodes p) q (λ same. other (ap Some (sym same)))
+    taken_other (Some p) q other = written_other nodes p (without k) q (λ same. other (ap Some (sym same)))
 
   -- a node leaves its parent: what is under each key then
   module _ (nodes : Nodes T) (k : Key) (scene : IsScene nodes) where
@@ -84,7 +84,7 @@ module _ {T : Type 0} where
 
     detached_get : (q : Key) → q ≢ k → map.get (as_root nodes k) q ≡ option_map (forgets k) (map.get nodes q)
     detached_get q other =
-        parented_other (without_child nodes (parent_of nodes k) k) k None (map.get (without_child nodes (parent_of nodes k) k) k) q other ∙ left_get q
+        parented_other (without_child nodes (parent_of nodes k) k) k None q other ∙ left_get q
 
     pub scene_removed : (new : Nodes T) → ((q : Key) → (IsWithin (as_root nodes k) q k → ⊥) → map.get new q ≡ map.get (as_root nodes k) q)
         → (q : Key) → (IsWithin nodes q k → ⊥) → map.get new q ≡ option_map (forgets k) (map.get nodes q)
@@ -119,13 +119,13 @@ module _ {T : Type 0} where
     pub child_attached : map.insert written k (child (Some p) v) ≡ attached_by root k p f
     child_attached = map.same_map keys_total exact_keys _ _ (λ q. elim (same_or_other q k) [
       | inl is ↦ rw is (get-insert_here written k (child (Some p) v)
-          ∙ sym (parented_here written_root k (Some p) (map.get written_root k) refl
-          ∙ ap (option_map (λ (n : Node T). record n { parent = Some p })) (written_other root p f (map.get root p) k apart ∙ get-insert_here nodes k (child None v))))
+          ∙ sym (parented_here written_root k (Some p)
+          ∙ ap (option_map (λ (n : Node T). record n { parent = Some p })) (written_other root p f k apart ∙ get-insert_here nodes k (child None v))))
       | inr other ↦ get-insert_other written k (child (Some p) v) q other ∙ elim (same_or_other q p) [
-        | inl at ↦ rw at (written_here nodes p f (map.get nodes p) refl ∙ sym (parented_other written_root k (Some p) (map.get written_root k) p (λ s. apart (sym s))
-            ∙ written_here root p f (map.get root p) refl ∙ ap (option_map (λ (n : Node T). record n { children = f n.children })) (get-insert_other nodes k (child None v) p (λ s. apart (sym s)))))
-        | inr elsewhere ↦ written_other nodes p f (map.get nodes p) q elsewhere ∙ sym (parented_other written_root k (Some p) (map.get written_root k) q other
-            ∙ written_other root p f (map.get root p) q elsewhere ∙ get-insert_other nodes k (child None v) q other)
+        | inl at ↦ rw at (written_here nodes p f ∙ sym (parented_other written_root k (Some p) p (λ s. apart (sym s))
+            ∙ written_here root p f ∙ ap (option_map (λ (n : Node T). record n { children = f n.children })) (get-insert_other nodes k (child None v) p (λ s. apart (sym s)))))
+        | inr elsewhere ↦ written_other nodes p f q elsewhere ∙ sym (parented_other written_root k (Some p) q other
+            ∙ written_other root p f q elsewhere ∙ get-insert_other nodes k (child None v) q other)
       ]
     ])
 

@@ -8,15 +8,16 @@ use Rattle.slotmap.proofs.Callers.{get-insert_here, get-insert_other, same_or_ot
 use Rattle.slotmap.specs.declared.InsertError.{InsertError}
 use Rattle.slotmap.specs.declared.InsertError.TheVariants.{Full, Memory}
 use Rattle.slotmap_keylist.specs.Linked.{followed}
-use Rattle.slotmap_keylist.proofs.Shown.{entries-mapped, get-mapped, contains-mapped, len-mapped, shown_content, shown_keeps_spent, shown_inserts, shown_keeps, shown_leaves, shown_makes_room}
+use Rattle.slotmap_keylist.proofs.Mapped.{entries-mapped, get-mapped, contains-mapped, len-mapped}
+use Rattle.slotmap_keylist.proofs.Shown.{shown_content, shown_keeps_spent, shown_inserts, shown_keeps, shown_leaves, shown_makes_room}
 use Rattle.slotmap_scene.specs.declared.links.LinkedNode.{LinkedNode}
 use Rattle.slotmap_scene.specs.Node.{Node, Nodes}
 use Rattle.slotmap_scene.specs.Above.{roots_in}
 use Rattle.slotmap_scene.specs.Climb.{parent_in, parent_of}
 use Rattle.slotmap_scene.specs.Family.{child, children_in, children_of, value_of}
-use Rattle.slotmap_scene.specs.Links.{LinkedNodes, ends_in, leaf, led_to, link_in, link_of, linked_roots, seen, shown, shown_node, shown_nodes, IsWoven}
+use Rattle.slotmap_scene.specs.LinkedNodes.{LinkedNodes, ends_in, leaf, led_to, link_in, link_of, linked_roots, shown_under, shown_scene, shown_node, shown_nodes, IsWoven}
 use Rattle.slotmap_scene.specs.Refusals.{RefusesNode}
-use Rattle.slotmap_scene.proofs.Weaving.{led_same, woven_same}
+use Rattle.slotmap_scene.proofs.Weaving.{woven_same}
 
 -- nodes with the same values, parents and children are the same
 pub same_nodes : {T : Type 0} (a b : Nodes T) → ((q : Key) → value_of a q ≡ value_of b q) → ((q : Key) → parent_of a q ≡ parent_of b q) → ((q : Key) → children_of a q ≡ children_of b q) → a ≡ b
@@ -40,43 +41,45 @@ module _ {T : Type 0} where
     pub shown_get : (q : Key) → map.get (shown_nodes m) q ≡ option_map (shown_node m) (map.get m q)
     shown_get q = get-mapped (shown_node m) m q
 
+    -- where all links are the same, the nodes are shown in the same way
+    pub shown_alike : (new : LinkedNodes T) → ((q : Key) → link_of new q ≡ link_of m q) → (q : Key) → map.get (shown_nodes new) q ≡ option_map (shown_node m) (map.get new q)
+    shown_alike new links q =
+        get-mapped (shown_node new) new q
+        ∙ (λ i. option_map (λ (x : LinkedNode T). record { value = x.value; parent = x.parent; children = followed (λ y. links y i) x.children }) (map.get new q))
+
     pub shown_keys : (q : Key) → map.contains_key (shown_nodes m) q ≡ map.contains_key m q
     shown_keys q = contains-mapped (shown_node m) m q
 
     pub shown_len : map.len (shown_nodes m) ≡ map.len m
     shown_len = len-mapped (shown_node m) m
 
-    pub shown_children : (q : Key) → children_of (shown_nodes m) q ≡ led_to m q
-    shown_children q = ap children_in (shown_get q) ∙ by (map.get m q)
+    -- what is known of a node is known of it where it is shown
+    shown_part : {X : Type 0} (P : Option (Node T) → X) (of : Option (LinkedNode T) → X) → P None ≡ of None → ((n : LinkedNode T) → P (Some (shown_node m n)) ≡ of (Some n)) → (q : Key) → P (map.get (shown_nodes m) q) ≡ of (map.get m q)
+    shown_part P of none some q = ap P (shown_get q) ∙ by (map.get m q)
       where
-        by : (o : Option (LinkedNode T)) → children_in (option_map (shown_node m) o) ≡ followed (link_of m) (ends_in o)
-        by None = refl
-        by (Some n) = refl
+        by : (o : Option (LinkedNode T)) → P (option_map (shown_node m) o) ≡ of o
+        by None = none
+        by (Some n) = some n
+
+    pub shown_children : (q : Key) → children_of (shown_nodes m) q ≡ led_to m q
+    shown_children q = shown_part children_in (λ o. followed (link_of m) (ends_in o)) refl (λ n. refl) q
 
     pub shown_value : (q : Key) → value_of (shown_nodes m) q ≡ value_in (map.get m q)
-    shown_value q = ap (option_map (λ (n : Node T). n.value)) (shown_get q) ∙ by (map.get m q)
-      where
-        by : (o : Option (LinkedNode T)) → option_map (λ (n : Node T). n.value) (option_map (shown_node m) o) ≡ value_in o
-        by None = refl
-        by (Some n) = refl
+    shown_value q = shown_part (option_map (λ (n : Node T). n.value)) value_in refl (λ n. refl) q
 
     pub shown_parent : (q : Key) → parent_of (shown_nodes m) q ≡ above_in (map.get m q)
-    shown_parent q = ap parent_in (shown_get q) ∙ by (map.get m q)
-      where
-        by : (o : Option (LinkedNode T)) → parent_in (option_map (shown_node m) o) ≡ above_in o
-        by None = refl
-        by (Some n) = refl
+    shown_parent q = shown_part parent_in above_in refl (λ n. refl) q
 
     -- a node that is there is shown with its own value and parent
-    pub shown_seen : (q : Key) → option_map (seen (shown_nodes m) q) (map.get m q) ≡ map.get (shown_nodes m) q
+    pub shown_seen : (q : Key) → option_map (shown_under (shown_nodes m) q) (map.get m q) ≡ map.get (shown_nodes m) q
     shown_seen q = by (map.get m q) refl ∙ sym (shown_get q)
       where
-        by : (o : Option (LinkedNode T)) → map.get m q ≡ o → option_map (seen (shown_nodes m) q) o ≡ option_map (shown_node m) o
+        by : (o : Option (LinkedNode T)) → map.get m q ≡ o → option_map (shown_under (shown_nodes m) q) o ≡ option_map (shown_node m) o
         by None is = refl
         by (Some n) is = ap (λ ks. Some (record { value = n.value; parent = n.parent; children = ks })) (shown_children q ∙ ap (λ o. followed (link_of m) (ends_in o)) is)
 
-    pub seen_there : (q : Key) (n : LinkedNode T) → map.get m q ≡ Some n → map.get (shown_nodes m) q ≡ Some (seen (shown_nodes m) q n)
-    seen_there q n is = sym (ap (option_map (seen (shown_nodes m) q)) (sym is) ∙ shown_seen q)
+    pub seen_there : (q : Key) (n : LinkedNode T) → map.get m q ≡ Some n → map.get (shown_nodes m) q ≡ Some (shown_under (shown_nodes m) q n)
+    seen_there q n is = sym (ap (option_map (shown_under (shown_nodes m) q)) (sym is) ∙ shown_seen q)
 
     pub shown_roots : linked_roots (map.entries m) ≡ roots_in (map.entries (shown_nodes m))
     shown_roots = by (map.entries m) ∙ ap roots_in (sym (entries-mapped (shown_node m) m))
@@ -85,22 +88,28 @@ module _ {T : Type 0} where
         by [] = refl
         by (e ∷ es) = ap (λ l. cond (is_some e.1.parent) l (e.0 ∷ l)) (by es)
 
+  -- a node with the same children is shown as it was
+  pub shown_still : (m new : LinkedNodes T) (q : Key) → led_to new q ≡ led_to m q → map.get new q ≡ map.get m q → map.get (shown_nodes new) q ≡ map.get (shown_nodes m) q
+  shown_still m new q led is =
+      let all = shown_children new q ∙ led ∙ sym (shown_children m q) in
+      sym (shown_seen new q) ∙ (λ i. option_map (λ (n : LinkedNode T). record { value = n.value; parent = n.parent; children = all i }) (is i)) ∙ shown_seen m q
+
   -- what a call does to a content, with the nodes that it shows
   module _ (c : Content (LinkedNode T)) where
-    pub nodes_content : IsContent true c → IsContent true (shown c)
+    pub nodes_content : IsContent true c → IsContent true (shown_scene c)
     nodes_content well = shown_content c (shown_nodes c.live) (shown_keys c.live) (shown_len c.live) true well
 
     module _ (new : Content (LinkedNode T)) where
-      pub nodes_keep_spent : KeepsSpent c new → KeepsSpent (shown c) (shown new)
+      pub nodes_keep_spent : KeepsSpent c new → KeepsSpent (shown_scene c) (shown_scene new)
       nodes_keep_spent keeps = shown_keeps_spent c new (shown_nodes c.live) (shown_nodes new.live) (shown_keys c.live) (shown_len c.live) (shown_keys new.live) (shown_len new.live) keeps
 
-      pub nodes_leave : Leaves c new → Leaves (shown c) (shown new)
+      pub nodes_leave : Leaves c new → Leaves (shown_scene c) (shown_scene new)
       nodes_leave leaves = shown_leaves c new (shown_nodes c.live) (shown_nodes new.live) (shown_keys c.live) (shown_len c.live) (shown_keys new.live) (shown_len new.live) leaves
 
-      pub nodes_keep : Keeps c new → Keeps (shown c) (shown new)
+      pub nodes_keep : Keeps c new → Keeps (shown_scene c) (shown_scene new)
       nodes_keep keeps = shown_keeps c new (shown_nodes c.live) (shown_nodes new.live) (shown_keys c.live) (shown_len c.live) (shown_keys new.live) (shown_len new.live) (ap shown_nodes keeps.live) keeps
 
-      pub nodes_make_room : (n : ℕ) (ok : Type 0) → MakesRoom true c n ok new → MakesRoom true (shown c) n ok (shown new)
+      pub nodes_make_room : (n : ℕ) (ok : Type 0) → MakesRoom true c n ok new → MakesRoom true (shown_scene c) n ok (shown_scene new)
       nodes_make_room n ok makes = shown_makes_room c new (shown_nodes c.live) (shown_nodes new.live) (shown_keys c.live) (shown_len c.live) (shown_keys new.live) (shown_len new.live)
           (ap shown_nodes makes.keeps.live) true n ok makes
 
@@ -125,23 +134,13 @@ module _ {T : Type 0} where
         pub came_woven : IsWoven new.live
         came_woven = woven_same c.live new.live (as_before ends_in refl) (as_before link_in refl) came_keys woven
 
-        -- what is shown then
-        after : {X : Type 0} (P : Option (Node T) → X) → P None ≡ P (Some (child None v)) → (q : Key) → P (map.get (shown_nodes c.live) q) ≡ P (map.get (map.insert (shown_nodes c.live) k (child None v)) q)
-        after P same q = elim (same_or_other q k) [
-          | inl is ↦ rw is (sym (none_in P (map.get (shown_nodes c.live) k) (shown_keys c.live k ∙ fresh)) ∙ same ∙ sym (ap P (get-insert_here (shown_nodes c.live) k (child None v))))
-          | inr other ↦ sym (ap P (get-insert_other (shown_nodes c.live) k (child None v) q other))
-        ]
-
         came_live : shown_nodes new.live ≡ map.insert (shown_nodes c.live) k (child None v)
-        came_live = same_nodes (shown_nodes new.live) (map.insert (shown_nodes c.live) k (child None v))
-            (λ q. shown_value new.live q ∙ ap (λ m. value_in (map.get m q)) inserts.live ∙ elim (same_or_other q k) [
-              | inl is ↦ rw is (ap value_in (get-insert_here c.live k (leaf v)) ∙ sym (ap (option_map (λ (n : Node T). n.value)) (get-insert_here (shown_nodes c.live) k (child None v))))
-              | inr other ↦ ap value_in (get-insert_other c.live k (leaf v) q other) ∙ sym (shown_value c.live q) ∙ sym (ap (option_map (λ (n : Node T). n.value)) (get-insert_other (shown_nodes c.live) k (child None v) q other))
-            ])
-            (λ q. shown_parent new.live q ∙ as_before above_in refl q ∙ sym (shown_parent c.live q) ∙ after parent_in refl q)
-            (λ q. shown_children new.live q ∙ led_same c.live new.live (as_before ends_in refl) (as_before link_in refl) woven q ∙ sym (shown_children c.live q) ∙ after children_in refl q)
+        came_live = map.same_map keys_total exact_keys _ _ (λ q. shown_alike c.live new.live (as_before link_in refl) q ∙ ap (λ m. option_map (shown_node c.live) (map.get m q)) inserts.live ∙ elim (same_or_other q k) [
+          | inl is ↦ rw is (ap (option_map (shown_node c.live)) (get-insert_here c.live k (leaf v)) ∙ sym (get-insert_here (shown_nodes c.live) k (child None v)))
+          | inr other ↦ ap (option_map (shown_node c.live)) (get-insert_other c.live k (leaf v) q other) ∙ sym (shown_get c.live q) ∙ sym (get-insert_other (shown_nodes c.live) k (child None v) q other)
+        ])
 
-        pub came_inserts : Inserts (shown c) k (child None v) (shown new)
+        pub came_inserts : Inserts (shown_scene c) k (child None v) (shown_scene new)
         came_inserts = shown_inserts c new (shown_nodes c.live) (shown_nodes new.live) (shown_keys c.live) (shown_len c.live) (shown_keys new.live) (shown_len new.live) k (leaf v) (child None v) came_live inserts
 
       -- by the clauses of an insert, whatever it returns
@@ -149,18 +148,18 @@ module _ {T : Type 0} where
       added_woven woven v (Ok k) inserts fresh keeps = came_woven woven k v fresh inserts
       added_woven woven v (Err e) inserts fresh keeps = subst IsWoven (sym keeps.live) woven
 
-      pub added_inserts : {E : Type 0} (woven : IsWoven c.live) (v : T) (result : Result Key E) → IfOk result (λ k. Inserts c k (leaf v) new) → IfOk result (λ k. map.contains_key c.live k ≡ false) → IfOk result (λ k. Inserts (shown c) k (child None v) (shown new))
+      pub added_inserts : {E : Type 0} (woven : IsWoven c.live) (v : T) (result : Result Key E) → IfOk result (λ k. Inserts c k (leaf v) new) → IfOk result (λ k. map.contains_key c.live k ≡ false) → IfOk result (λ k. Inserts (shown_scene c) k (child None v) (shown_scene new))
       added_inserts woven v (Ok k) inserts fresh = came_inserts woven k v fresh inserts
       added_inserts woven v (Err e) inserts fresh = tt
 
-      pub added_keeps : {E : Type 0} (result : Result Key E) → OnErr result (Keeps c new) → OnErr result (Keeps (shown c) (shown new))
+      pub added_keeps : {E : Type 0} (result : Result Key E) → OnErr result (Keeps c new) → OnErr result (Keeps (shown_scene c) (shown_scene new))
       added_keeps (Ok k) keeps = tt
       added_keeps (Err e) keeps = nodes_keep keeps
 
-      pub refuses_shown : (v : T) (result : Result Key (InsertError T)) → IfErr result (RefusesNode c v) → IfErr result (RefusesNode (shown c) v)
+      pub refuses_shown : (v : T) (result : Result Key (InsertError T)) → IfErr result (RefusesNode c v) → IfErr result (RefusesNode (shown_scene c) v)
       refuses_shown v (Ok k) refuses = tt
       refuses_shown v (Err e) refuses = by e refuses
         where
-          by : (e : InsertError T) → RefusesNode c v e → RefusesNode (shown c) v e
+          by : (e : InsertError T) → RefusesNode c v e → RefusesNode (shown_scene c) v e
           by (Full back) is = (let same = shown_len c.live in let full = is.0 in omega arith, is.1)
           by (Memory back) is = (record { below_limit = (let same = shown_len c.live in let below = is.0.below_limit in omega arith); no_room = is.0.no_room }, is.1)

@@ -3,20 +3,22 @@ use Rattle.std.proofs.Common.{◌≡◌, ◌≢◌, ◌+◌, ◌-◌, ◌≤◌,
 use Rattle.std.specs.Option.{option_map}
 use Rattle.std.specs.FinMap as map
 use Rattle.slotmap.specs.Words.{Key, key_cmp, Content, IsCloneBy, IsCloneOf}
-use Rattle.slotmap.proofs.Callers.{keys, get-insert_here, get-insert_other, same_or_other, keys_total, exact_keys, left_in}
+use Rattle.slotmap.proofs.Callers.{keys, same_or_other, keys_total, exact_keys, left_in}
 use Rattle.slotmap_keylist.specs.declared.Link.{Link}
 use Rattle.slotmap_keylist.specs.KeyLists.{times, without}
-use Rattle.slotmap_keylist.specs.Linked.{ends_of as ends_of_list, link_between, IsLinked}
+use Rattle.slotmap_keylist.specs.Linked.{followed, ends_of as ends_of_list, link_between, AreLinked}
 use Rattle.slotmap_keylist.proofs.Linking.{in_midst, without_split}
+use Rattle.slotmap_keylist.specs.Changed.{changed, changed_in}
+use Rattle.slotmap_keylist.proofs.Changed.{changed_gives, changed_here, changed_keeps, changed_other}
 use Rattle.slotmap_scene.specs.declared.links.LinkedNode.{LinkedNode}
 use Rattle.slotmap_scene.specs.Node.{Node, Nodes}
-use Rattle.slotmap_scene.specs.Climb.{parent_in, parent_of, with_parent}
-use Rattle.slotmap_scene.specs.Family.{IsNodeClone, children_in, children_of, value_of, with_children_in, with_value, with_value_in}
-use Rattle.slotmap_scene.specs.Links.{LinkedNodes, ends_in, ends_of, led_to, link_in, link_of, seen, shown, shown_nodes, with_node, put_between, taken_between, IsLinkedClone, IsWoven}
+use Rattle.slotmap_scene.specs.Climb.{parent_of, with_parent}
+use Rattle.slotmap_scene.specs.Family.{IsNodeClone, children_of, value_of, with_children_in}
+use Rattle.slotmap_scene.specs.LinkedNodes.{LinkedNodes, ends_in, ends_of, led_to, link_in, link_of, shown_scene, shown_node, shown_nodes, put_between, taken_between, IsLinkedClone, IsWoven}
 use Rattle.slotmap_scene.proofs.Families.{parented_children, parented_is, parented_others, value_parented, value_written, written_is, written_others, written_parent, written_keys}
-use Rattle.slotmap_scene.proofs.Relinked.{node_other, node_keeps, node_gives, relinked_keeps}
-use Rattle.slotmap_scene.proofs.Weaving.{led_is, woven_by, led_same, woven_same, with_list, list_at, list_other, put_linked, taken_linked}
-use Rattle.slotmap_scene.proofs.Showing.{above_in, value_in, same_nodes, seen_there, shown_children, shown_get, shown_keys, shown_parent, shown_value}
+use Rattle.slotmap_scene.proofs.RelinkedNodes.{relinked_keeps}
+use Rattle.slotmap_scene.proofs.Weaving.{led_is, woven_by, woven_same, with_list, list_at, list_other, put_linked, taken_linked}
+use Rattle.slotmap_scene.proofs.Showing.{shown_alike, shown_still, above_in, value_in, same_nodes, shown_children, shown_get, shown_keys, shown_parent, shown_value}
 
 module _ {T : Type 0} (m : LinkedNodes T) (woven : IsWoven m) where
   abbrev nodes : Nodes T
@@ -29,19 +31,19 @@ module _ {T : Type 0} (m : LinkedNodes T) (woven : IsWoven m) where
     listed = with_children_in nodes p (map.get nodes p) (λ _. before ++ k ∷ after)
 
     put_keeps : {X : Type 0} (P : Option (LinkedNode T) → X) → ((n : LinkedNode T) (e : _) (s : _) → P (Some (record n { children = e; siblings = s })) ≡ P (Some n))
-        → (q : Key) → P (map.get (put_between m p k l) q) ≡ P (map.get (with_node m k (λ n. record n { parent = Some p; siblings = l })) q)
-    put_keeps P free q = relinked_keeps (with_node m k (λ n. record n { parent = Some p; siblings = l })) p l (Some k) (Some k) (λ len. len + 1) P free q
+        → (q : Key) → P (map.get (put_between m p k l) q) ≡ P (map.get (changed m k (λ n. record n { parent = Some p; siblings = l })) q)
+    put_keeps P free q = relinked_keeps (changed m k (λ n. record n { parent = Some p; siblings = l })) p l (Some k) (Some k) (λ len. len + 1) P free q
 
     put_values : (q : Key) → value_of (shown_nodes (put_between m p k l)) q ≡ value_of (with_parent listed k (Some p)) q
     put_values q =
-        shown_value (put_between m p k l) q ∙ put_keeps value_in (λ n e s. refl) q ∙ node_keeps m k (λ n. record n { parent = Some p; siblings = l }) value_in (λ n. refl) q
+        shown_value (put_between m p k l) q ∙ put_keeps value_in (λ n e s. refl) q ∙ changed_keeps m k (λ n. record n { parent = Some p; siblings = l }) value_in (λ n. refl) q
         ∙ sym (value_parented listed k (Some p) q ∙ value_written nodes p (λ _. before ++ k ∷ after) q ∙ shown_value m q)
 
     put_parents : (q : Key) → parent_of (shown_nodes (put_between m p k l)) q ≡ parent_of (with_parent listed k (Some p)) q
     put_parents q = shown_parent (put_between m p k l) q ∙ put_keeps above_in (λ n e s. refl) q ∙ elim (same_or_other q k) [
-      | inl is ↦ rw is (node_gives m k (λ n. record n { parent = Some p; siblings = l }) above_in (λ _. Some p) (λ n. refl) live
+      | inl is ↦ rw is (changed_gives m k (λ n. record n { parent = Some p; siblings = l }) above_in (λ _. Some p) (λ n. refl) live
           ∙ sym (parented_is listed k (Some p) (written_keys nodes p (λ _. before ++ k ∷ after) k ∙ shown_keys m k ∙ live)))
-      | inr other ↦ ap above_in (node_other m k (λ n. record n { parent = Some p; siblings = l }) q other)
+      | inr other ↦ ap above_in (changed_other m k (λ n. record n { parent = Some p; siblings = l }) q other)
           ∙ sym (parented_others listed k (Some p) q other ∙ written_parent nodes p (λ _. before ++ k ∷ after) q ∙ shown_parent m q)
     ]
 
@@ -82,62 +84,30 @@ module _ {T : Type 0} (m : LinkedNodes T) (woven : IsWoven m) where
         (λ q. shown_value (taken_between m p l) q ∙ taken_keeps value_in (λ n e s. refl) q ∙ sym (value_written nodes p (without k) q ∙ shown_value m q))
         (λ q. shown_parent (taken_between m p l) q ∙ taken_keeps above_in (λ n e s. refl) q ∙ sym (written_parent nodes p (without k) q ∙ shown_parent m q)) taken_children
 
-  -- a node has no parent
-  module _ (k : Key) (live : map.contains_key m k ≡ true) where
-    abbrev rooted : LinkedNodes T
-    rooted = with_node m k (λ n. record n { parent = None })
+  -- a node has another value or another parent, and the same links
+  module _ (k : Key) (n : LinkedNode T) (found : map.get m k ≡ Some n) (f : LinkedNode T → LinkedNode T) (g : Node T → Node T)
+      (ends : (x : LinkedNode T) → (f x).children ≡ x.children) (links : (x : LinkedNode T) → (f x).siblings ≡ x.siblings) (shows : (x : LinkedNode T) → shown_node m (f x) ≡ g (shown_node m x)) where
+    own_is : changed m k f ≡ map.insert m k (f n)
+    own_is = ap (λ o. changed_in m k o f) found
 
-    rooted_keeps : {X : Type 0} (P : Option (LinkedNode T) → X) → ((n : LinkedNode T) → P (Some (record n { parent = None })) ≡ P (Some n)) → (q : Key) → P (map.get rooted q) ≡ P (map.get m q)
-    rooted_keeps P free q = node_keeps m k (λ n. record n { parent = None }) P free q
+    same_link : (q : Key) → link_of (changed m k f) q ≡ link_of m q
+    same_link q = changed_keeps m k f link_in links q
 
-    pub rooted_keys : (q : Key) → map.contains_key rooted q ≡ map.contains_key m q
-    rooted_keys q = rooted_keeps is_some (λ n. refl) q
+    pub own_keys : (q : Key) → map.contains_key (map.insert m k (f n)) q ≡ map.contains_key m q
+    own_keys q = ap (λ x. map.contains_key x q) (sym own_is) ∙ changed_keeps m k f is_some (λ x. refl) q
 
-    pub rooted_woven : IsWoven rooted
-    rooted_woven = woven_same m rooted (rooted_keeps ends_in (λ n. refl)) (rooted_keeps link_in (λ n. refl)) (λ q there. rooted_keys q ∙ there) woven
+    pub own_woven : IsWoven (map.insert m k (f n))
+    own_woven = subst IsWoven own_is (woven_same m (changed m k f) (changed_keeps m k f ends_in ends) same_link (λ q there. changed_keeps m k f is_some (λ x. refl) q ∙ there) woven)
 
-    pub rooted_shown : shown_nodes rooted ≡ with_parent nodes k None
-    rooted_shown = same_nodes (shown_nodes rooted) (with_parent nodes k None)
-        (λ q. shown_value rooted q ∙ rooted_keeps value_in (λ n. refl) q ∙ sym (value_parented nodes k None q ∙ shown_value m q))
-        (λ q. shown_parent rooted q ∙ elim (same_or_other q k) [
-          | inl is ↦ rw is (node_gives m k (λ n. record n { parent = None }) above_in (λ _. None) (λ n. refl) live ∙ sym (parented_is nodes k None (shown_keys m k ∙ live)))
-          | inr other ↦ ap above_in (node_other m k (λ n. record n { parent = None }) q other) ∙ sym (parented_others nodes k None q other ∙ shown_parent m q)
-        ])
-        (λ q. shown_children rooted q ∙ led_same m rooted (rooted_keeps ends_in (λ n. refl)) (rooted_keeps link_in (λ n. refl)) woven q ∙ sym (parented_children nodes k None q ∙ shown_children m q))
-
-  -- a node has another value
-  module _ (k : Key) (n : LinkedNode T) (found : map.get m k ≡ Some n) (v : T) where
-    abbrev valued : LinkedNodes T
-    valued = map.insert m k (record n { value = v })
-
-    valued_keeps : {X : Type 0} (P : Option (LinkedNode T) → X) → P (Some (record n { value = v })) ≡ P (Some n) → (q : Key) → P (map.get valued q) ≡ P (map.get m q)
-    valued_keeps P free q = elim (same_or_other q k) [
-      | inl is ↦ rw is (ap P (get-insert_here m k (record n { value = v })) ∙ free ∙ sym (ap P found))
-      | inr other ↦ ap P (get-insert_other m k (record n { value = v }) q other)
-    ]
-
-    pub valued_woven : IsWoven valued
-    valued_woven = woven_same m valued (valued_keeps ends_in refl) (valued_keeps link_in refl) (λ q there. valued_keeps is_some refl q ∙ there) woven
-
-    with_value_is : with_value nodes k v ≡ map.insert nodes k (record (seen nodes k n) { value = v })
-    with_value_is = ap (λ o. with_value_in nodes k o v) (seen_there m k n found)
-
-    after : {X : Type 0} (P : Option (Node T) → X) → P (Some (record (seen nodes k n) { value = v })) ≡ P (Some (seen nodes k n)) → (q : Key) → P (map.get nodes q) ≡ P (map.get (map.insert nodes k (record (seen nodes k n) { value = v })) q)
-    after P free q = elim (same_or_other q k) [
-      | inl is ↦ rw is (ap P (seen_there m k n found) ∙ sym (ap P (get-insert_here nodes k (record (seen nodes k n) { value = v })) ∙ free))
-      | inr other ↦ sym (ap P (get-insert_other nodes k (record (seen nodes k n) { value = v }) q other))
-    ]
-
-    pub valued_shown : shown_nodes valued ≡ with_value nodes k v
-    valued_shown = same_nodes (shown_nodes valued) (map.insert nodes k (record (seen nodes k n) { value = v }))
-        (λ q. shown_value valued q ∙ elim (same_or_other q k) [
-          | inl is ↦ rw is (ap value_in (get-insert_here m k (record n { value = v })) ∙ sym (ap (option_map (λ (x : Node T). x.value)) (get-insert_here nodes k (record (seen nodes k n) { value = v }))))
-          | inr other ↦ ap value_in (get-insert_other m k (record n { value = v }) q other) ∙ sym (shown_value m q)
-              ∙ sym (ap (option_map (λ (x : Node T). x.value)) (get-insert_other nodes k (record (seen nodes k n) { value = v }) q other))
-        ])
-        (λ q. shown_parent valued q ∙ valued_keeps above_in refl q ∙ sym (shown_parent m q) ∙ after parent_in refl q)
-        (λ q. shown_children valued q ∙ led_same m valued (valued_keeps ends_in refl) (valued_keeps link_in refl) woven q ∙ sym (shown_children m q) ∙ after children_in refl q)
-        ∙ sym with_value_is
+    pub own_shown : shown_nodes (map.insert m k (f n)) ≡ changed nodes k g
+    own_shown = ap shown_nodes (sym own_is) ∙ map.same_map keys_total exact_keys (shown_nodes (changed m k f)) (changed nodes k g) (λ q. shown_alike m (changed m k f) same_link q ∙ elim (same_or_other q k) [
+      | inl is ↦ rw is (ap (option_map (shown_node m)) (changed_here m k f) ∙ turned (map.get m k) ∙ ap (option_map g) (sym (shown_get m k)) ∙ sym (changed_here nodes k g))
+      | inr other ↦ ap (option_map (shown_node m)) (changed_other m k f q other) ∙ sym (shown_get m q) ∙ sym (changed_other nodes k g q other)
+    ])
+      where
+        turned : (o : Option (LinkedNode T)) → option_map (shown_node m) (option_map f o) ≡ option_map g (option_map (shown_node m) o)
+        turned None = refl
+        turned (Some x) = ap Some (shows x)
 
   -- a node goes that has no children, and is in no list
   module _ (k : Key) (leaf : led_to m k ≡ []) (none : (q : Key) → times k (led_to m q) ≡ 0) where
@@ -150,7 +120,7 @@ module _ {T : Type 0} (m : LinkedNodes T) (woven : IsWoven m) where
     gone_other : {V : Type 0} (x : map.FinMap key_cmp V) (q : Key) → q ≢ k → map.get (map.remove x k) q ≡ map.get x q
     gone_other x q other = grind (arith, keys)
 
-    gone_linked : IsLinked (ends_of gone) (link_of gone) (led_to m)
+    gone_linked : AreLinked (ends_of gone) (link_of gone) (led_to m)
     gone_linked = record {
       ends_are = λ p. elim (same_or_other p k) [
         | inl is ↦ rw is (ap ends_in (gone_here m) ∙ ap ends_of_list (sym leaf))
@@ -166,20 +136,11 @@ module _ {T : Type 0} (m : LinkedNodes T) (woven : IsWoven m) where
     gone_woven = woven_by gone (led_to m) gone_linked woven.apart (λ p x more. left_in keys_total exact_keys m k x
         (λ is. (let zero = subst (λ y. times y (led_to m p) ≡ 0) (sym is) (none p) in omega arith)) (woven.live p x more))
 
-    gone_after : {X : Type 0} (P : Option (Node T) → X) (q : Key) (x : X) → (q ≡ k → x ≡ P None) → (q ≢ k → x ≡ P (map.get nodes q)) → x ≡ P (map.get (map.remove nodes k) q)
-    gone_after P q x here other = elim (same_or_other q k) [
-      | inl is ↦ here is ∙ sym (ap (λ y. P (map.get (map.remove nodes k) y)) is ∙ ap P (gone_here nodes))
-      | inr apart ↦ other apart ∙ sym (ap P (gone_other nodes q apart))
-    ]
-
     pub gone_shown : shown_nodes gone ≡ map.remove nodes k
-    gone_shown = same_nodes (shown_nodes gone) (map.remove nodes k)
-        (λ q. gone_after (option_map (λ (n : Node T). n.value)) q (value_of (shown_nodes gone) q)
-        (λ is. shown_value gone q ∙ ap (λ y. value_in (map.get gone y)) is ∙ ap value_in (gone_here m)) (λ other. shown_value gone q ∙ ap value_in (gone_other m q other) ∙ sym (shown_value m q)))
-        (λ q. gone_after parent_in q (parent_of (shown_nodes gone) q)
-        (λ is. shown_parent gone q ∙ ap (λ y. above_in (map.get gone y)) is ∙ ap above_in (gone_here m)) (λ other. shown_parent gone q ∙ ap above_in (gone_other m q other) ∙ sym (shown_parent m q)))
-        (λ q. gone_after children_in q (children_of (shown_nodes gone) q)
-        (λ is. shown_children gone q ∙ led_is gone (led_to m) gone_linked q ∙ ap (led_to m) is ∙ leaf) (λ other. shown_children gone q ∙ led_is gone (led_to m) gone_linked q ∙ sym (shown_children m q)))
+    gone_shown = map.same_map keys_total exact_keys (shown_nodes gone) (map.remove nodes k) (λ q. elim (same_or_other q k) [
+      | inl is ↦ rw is (shown_get gone k ∙ ap (option_map (shown_node gone)) (gone_here m) ∙ sym (gone_here nodes))
+      | inr other ↦ shown_still m gone q (led_is gone (led_to m) gone_linked q) (gone_other m q other) ∙ sym (gone_other nodes q other)
+    ])
 
 -- no node at all
 module _ {T : Type 0} (m : LinkedNodes T) (none : m ≡ map.empty) where
@@ -214,9 +175,9 @@ module _ {T : Type 0} (is_clone : T → T → Type 0) (c copy : Content (LinkedN
   pub copied_woven : IsWoven c.live → IsWoven copy.live
   copied_woven woven = woven_same c.live copy.live (λ q. (alike q).1) (λ q. (alike q).2) (λ q there. (alike q).0 ∙ there) woven
 
-  pub copied_shown : IsWoven c.live → IsCloneBy (IsNodeClone is_clone) (shown c) (shown copy)
-  copied_shown woven = record {
-    live = λ q. live q (map.get c.live q) (map.get copy.live q) refl refl (clones.live q);
+  pub copied_shown : IsCloneBy (IsNodeClone is_clone) (shown_scene c) (shown_scene copy)
+  copied_shown = record {
+    live = λ q. rw (shown_get c.live q, shown_alike c.live copy.live (λ x. (alike x).2) q) (live (map.get c.live q) (map.get copy.live q) (clones.live q));
     detached = clones.detached;
     retired = clones.retired;
     next = clones.next;
@@ -224,12 +185,7 @@ module _ {T : Type 0} (is_clone : T → T → Type 0) (c copy : Content (LinkedN
     stack = clones.stack;
   }
     where
-      led : (q : Key) → led_to copy.live q ≡ led_to c.live q
-      led q = led_same c.live copy.live (λ x. (alike x).1) (λ x. (alike x).2) woven q
-
-      live : (q : Key) (o p : Option (LinkedNode T)) → map.get c.live q ≡ o → map.get copy.live q ≡ p → IsCloneOf (IsLinkedClone is_clone) o p
-          → IsCloneOf (IsNodeClone is_clone) (map.get (shown_nodes c.live) q) (map.get (shown_nodes copy.live) q)
-      live q None p o_is p_is clone = rw (shown_get c.live q, o_is) (shown_get copy.live q ∙ ap (option_map _) (p_is ∙ clone))
-      live q (Some n) None o_is p_is clone = absurd clone
-      live q (Some n) (Some x) o_is p_is clone = rw (seen_there c.live q n o_is, seen_there copy.live q x p_is)
-          (clone.0, clone.1, shown_children copy.live q ∙ led q ∙ sym (shown_children c.live q))
+      live : (o p : Option (LinkedNode T)) → IsCloneOf (IsLinkedClone is_clone) o p → IsCloneOf (IsNodeClone is_clone) (option_map (shown_node c.live) o) (option_map (shown_node c.live) p)
+      live None p clone = ap (option_map (shown_node c.live)) clone
+      live (Some n) None clone = absurd clone
+      live (Some n) (Some x) clone = (clone.0, clone.1, ap (followed (link_of c.live)) clone.2)

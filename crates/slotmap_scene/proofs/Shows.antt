@@ -11,10 +11,10 @@ use Rattle.slotmap_scene.specs.declared.links.LinkedNode.{LinkedNode}
 use Rattle.slotmap_scene.specs.Node.{Node, Nodes}
 use Rattle.slotmap_scene.specs.Climb.{has_node, with_parent}
 use Rattle.slotmap_scene.specs.Family.{child, children_of, with_children_in}
-use Rattle.slotmap_scene.specs.Links.{IsPlace, IsWoven, LinkedNodes, ends_in, ends_of, led_to, link_of, put_between, shown, shown_nodes, taken_between, with_node, with_node_in}
+use Rattle.slotmap_scene.specs.LinkedNodes.{IsPlace, IsWoven, LinkedNodes, ends_in, ends_of, led_to, link_of, put_between, shown_scene, shown_nodes, taken_between}
 use Rattle.slotmap_scene.proofs.Leaving.{leaves_alike}
 use Rattle.slotmap_scene.proofs.Showing.{nodes_leave, seen_there, shown_children, shown_keys}
-use Rattle.slotmap_scene.proofs.ShownChanges.{put_shown, taken_shown, rooted_keys, rooted_shown, rooted_woven, gone_shown, gone_woven}
+use Rattle.slotmap_scene.proofs.ShownChanges.{put_shown, taken_shown, own_keys, own_shown, own_woven, gone_shown, gone_woven}
 use Rattle.slotmap_scene.proofs.Weaving.{next_live, prev_live, put_keys, put_woven, taken_keys, taken_woven}
 
 some_of : {A : Type 0} (o : Option A) (P : A → Type 0) → ((x : A) → o ≡ Some x → P x) → IfSome o P
@@ -25,7 +25,7 @@ some_len : (ks : List Key) (k : Key) → 0 < times k ks → 0 < length ks
 some_len [] k more = absurd (omega arith)
 some_len (q ∷ ks) k more = omega arith
 
-module _ {T : Type 0} (c : Content (LinkedNode T)) (woven : IsWoven c.live) (self : Content (Node T)) (view : shown c ≡ self) where
+module _ {T : Type 0} (c : Content (LinkedNode T)) (woven : IsWoven c.live) (self : Content (Node T)) (view : shown_scene c ≡ self) where
   children_are : (q : Key) → children_of self.live q ≡ led_to c.live q
   children_are q = ap (λ s. children_of s.live q) (sym view) ∙ shown_children c.live q
 
@@ -53,11 +53,11 @@ module _ {T : Type 0} (c : Content (LinkedNode T)) (woven : IsWoven c.live) (sel
 
   -- what links show that changed under the same keys
   module _ (m : LinkedNodes T) (keys : (q : Key) → map.contains_key m q ≡ map.contains_key c.live q) (new : Content (LinkedNode T)) (made : new ≡ record c { live = m }) where
-    still_leaves : Leaves self (shown new)
-    still_leaves = subst (λ s. Leaves s (shown new)) view (nodes_leave c new (subst (Leaves c) (sym made) (leaves_alike c m keys)))
+    still_leaves : Leaves self (shown_scene new)
+    still_leaves = subst (λ s. Leaves s (shown_scene new)) view (nodes_leave c new (subst (Leaves c) (sym made) (leaves_alike c m keys)))
 
-    now_shows : (f : Nodes T → Nodes T) → shown_nodes m ≡ f (shown_nodes c.live) → shown new ≡ record self { live = f self.live }
-    now_shows f is = ap shown made ∙ ap (λ n. record (shown c) { live = n }) is ∙ ap (λ (s : Content (Node T)). record s { live = f s.live }) view
+    now_shows : (f : Nodes T → Nodes T) → shown_nodes m ≡ f (shown_nodes c.live) → shown_scene new ≡ record self { live = f self.live }
+    now_shows f is = ap shown_scene made ∙ ap (λ n. record (shown_scene c) { live = n }) is ∙ ap (λ (s : Content (Node T)). record s { live = f s.live }) view
 
   -- a node is taken out of the children of p
   module _ (p k : Key) (more : 0 < times k (children_of self.live p)) where
@@ -90,11 +90,11 @@ module _ {T : Type 0} (c : Content (LinkedNode T)) (woven : IsWoven c.live) (sel
         pub take_woven : IsWoven new.live
         take_woven = subst (λ (s : Content (LinkedNode T)). IsWoven s.live) (sym made) (taken_woven c.live woven p k lister_live split.0 split.1 split.2 l place)
 
-        pub take_shows : shown new ≡ record self { live = with_children_in self.live p (map.get self.live p) (without k) }
+        pub take_shows : shown_scene new ≡ record self { live = with_children_in self.live p (map.get self.live p) (without k) }
         take_shows = now_shows (taken_between c.live p l) (taken_keys c.live woven p k lister_live split.0 split.1 split.2 l place) new made
             (λ n. with_children_in n p (map.get n p) (without k)) (taken_shown c.live woven p k lister_live split.0 split.1 split.2 l place)
 
-        pub take_leaves : Leaves self (shown new)
+        pub take_leaves : Leaves self (shown_scene new)
         take_leaves = still_leaves (taken_between c.live p l) (taken_keys c.live woven p k lister_live split.0 split.1 split.2 l place) new made
 
   -- a node that is in no list is put among the children of p
@@ -116,11 +116,11 @@ module _ {T : Type 0} (c : Content (LinkedNode T)) (woven : IsWoven c.live) (sel
       pub put_weaves : IsWoven new.live
       put_weaves = subst (λ (s : Content (LinkedNode T)). IsWoven s.live) (sym made) (put_woven c.live woven p k (live_is k live) (live_is p there) none before after list l place.link)
 
-      pub put_shows : shown new ≡ record self { live = with_parent (with_children_in self.live p (map.get self.live p) (λ _. before ++ k ∷ after)) k (Some p) }
+      pub put_shows : shown_scene new ≡ record self { live = with_parent (with_children_in self.live p (map.get self.live p) (λ _. before ++ k ∷ after)) k (Some p) }
       put_shows = now_shows (put_between c.live p k l) (put_keys c.live woven p k (live_is k live) (live_is p there) none before after list l place.link) new made
           (λ n. with_parent (with_children_in n p (map.get n p) (λ _. before ++ k ∷ after)) k (Some p)) (put_shown c.live woven p k (live_is k live) (live_is p there) none before after list l place.link)
 
-      pub put_leaves : Leaves self (shown new)
+      pub put_leaves : Leaves self (shown_scene new)
       put_leaves = still_leaves (put_between c.live p k l) (put_keys c.live woven p k (live_is k live) (live_is p there) none before after list l place.link) new made
 
   -- a node becomes a root
@@ -128,19 +128,17 @@ module _ {T : Type 0} (c : Content (LinkedNode T)) (woven : IsWoven c.live) (sel
     abbrev made_root : LinkedNodes T
     made_root = map.insert c.live k (record n { parent = None })
 
-    root_is : with_node c.live k (λ n. record n { parent = None }) ≡ made_root
-    root_is = ap (λ o. with_node_in c.live k o (λ n. record n { parent = None })) found
-
     root_keys : (q : Key) → map.contains_key made_root q ≡ map.contains_key c.live q
-    root_keys q = ap (λ x. map.contains_key x q) (sym root_is) ∙ rooted_keys c.live woven k (ap is_some found) q
+    root_keys q = own_keys c.live woven k n found (λ x. record x { parent = None }) (λ x. record x { parent = None }) (λ x. refl) (λ x. refl) (λ x. refl) q
 
     pub root_woven : IsWoven made_root
-    root_woven = subst IsWoven root_is (rooted_woven c.live woven k (ap is_some found))
+    root_woven = own_woven c.live woven k n found (λ x. record x { parent = None }) (λ x. record x { parent = None }) (λ x. refl) (λ x. refl) (λ x. refl)
 
-    pub root_shows : shown (record c { live = made_root }) ≡ record self { live = with_parent self.live k None }
-    root_shows = now_shows made_root root_keys (record c { live = made_root }) refl (λ n. with_parent n k None) (ap shown_nodes (sym root_is) ∙ rooted_shown c.live woven k (ap is_some found))
+    pub root_shows : shown_scene (record c { live = made_root }) ≡ record self { live = with_parent self.live k None }
+    root_shows = now_shows made_root root_keys (record c { live = made_root }) refl (λ m. with_parent m k None)
+        (own_shown c.live woven k n found (λ x. record x { parent = None }) (λ x. record x { parent = None }) (λ x. refl) (λ x. refl) (λ x. refl))
 
-    pub root_leaves : Leaves self (shown (record c { live = made_root }))
+    pub root_leaves : Leaves self (shown_scene (record c { live = made_root }))
     root_leaves = still_leaves made_root root_keys (record c { live = made_root }) refl
 
   -- a node with no children, that is in no list, goes

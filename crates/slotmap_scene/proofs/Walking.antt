@@ -9,7 +9,7 @@ use Rattle.slotmap_keylist.specs.KeyLists.{times}
 use Rattle.slotmap_keylist.specs.Linked.{first_or, last_or, follow, link_between}
 use Rattle.slotmap_keylist.proofs.Linking.{follow_part, in_midst, last_or-append, none_last, split_last}
 use Rattle.slotmap_scene.specs.declared.links.LinkedNode.{LinkedNode}
-use Rattle.slotmap_scene.specs.Links.{IsWalk, IsWoven, LinkedNodes, ends_of, led_to, link_in, link_of}
+use Rattle.slotmap_scene.specs.LinkedNodes.{IsWalk, IsWoven, LinkedNodes, ends_of, led_to, link_in, link_of}
 
 -- all children of a node
 pub walk_children : {T : Type 0} (m : LinkedNodes T) → IsWoven m → (p : Key) → IsWalk m (ends_of m p).len (ends_of m p).first (ends_of m p).last

@@ -6,14 +6,16 @@ use Rattle.slotmap.proofs.Callers.{same_or_other}
 use Rattle.slotmap_keylist.specs.declared.Ends.{Ends}
 use Rattle.slotmap_keylist.specs.declared.Link.{Link}
 use Rattle.slotmap_keylist.specs.KeyLists.{is_key, same, times}
-use Rattle.slotmap_keylist.specs.Linked.{first_or, last_or, link_between, ends_of as ends_of_list, IsLinked, AreApart, Relinks}
+use Rattle.slotmap_keylist.specs.Linked.{first_or, last_or, link_between, ends_of as ends_of_list, AreLinked, AreApart, Relinks}
 use Rattle.slotmap_keylist.proofs.Counts.{is_itself, is_other, one_itself, one_other, times_first, times_joined, no_more_than}
 use Rattle.slotmap_keylist.proofs.Linking.{first_or-append, last_or-append, first_in, last_in, in_midst, followed_is, linked_put, linked_taken}
-use Rattle.slotmap_scene.specs.Links.{LinkedNodes, ends_in, ends_of, led_to, link_in, link_of, with_node, relinked, put_between, taken_between, IsWoven}
-use Rattle.slotmap_scene.proofs.Relinked.{node_other, node_keeps, node_gives, relinked_keeps, relinked_others, relinked_prev, relinked_next, relinked_ends, relinked_here}
+use Rattle.slotmap_keylist.specs.Changed.{changed}
+use Rattle.slotmap_keylist.proofs.Changed.{changed_gives, changed_keeps, changed_other}
+use Rattle.slotmap_scene.specs.LinkedNodes.{LinkedNodes, ends_in, ends_of, led_to, link_in, link_of, relinked, put_between, taken_between, IsWoven}
+use Rattle.slotmap_scene.proofs.RelinkedNodes.{relinked_keeps, relinked_others, relinked_prev, relinked_next, relinked_ends, relinked_here}
 
 -- the lists that the links of nodes make, by what is known of the links
-module _ {T : Type 0} (m : LinkedNodes T) (lists : Key → List Key) (linked : IsLinked (ends_of m) (link_of m) lists) where
+module _ {T : Type 0} (m : LinkedNodes T) (lists : Key → List Key) (linked : AreLinked (ends_of m) (link_of m) lists) where
   pub led_is : (p : Key) → led_to m p ≡ lists p
   led_is p = followed_is linked p
 
@@ -21,14 +23,14 @@ module _ {T : Type 0} (m : LinkedNodes T) (lists : Key → List Key) (linked : I
   woven_by apart live =
       let same : led_to m ≡ lists = λ i p. followed_is linked p i in
       record {
-        linked = subst (IsLinked (ends_of m) (link_of m)) (sym same) linked;
+        linked = subst (AreLinked (ends_of m) (link_of m)) (sym same) linked;
         apart = subst AreApart (sym same) apart;
         live = λ p k more. live p k (subst (λ ks. 0 < times k ks) (followed_is linked p) more);
       }
 
 -- where all links are the same, all lists are
 module _ {T : Type 0} (m new : LinkedNodes T) (ends : (q : Key) → ends_of new q ≡ ends_of m q) (links : (q : Key) → link_of new q ≡ link_of m q) where
-  linked_same : IsWoven m → IsLinked (ends_of new) (link_of new) (led_to m)
+  linked_same : IsWoven m → AreLinked (ends_of new) (link_of new) (led_to m)
   linked_same woven = record {
     ends_are = λ p. ends p ∙ woven.linked.ends_are p;
     links_are = λ p before k after is. links k ∙ woven.linked.links_are p before k after is;
@@ -98,7 +100,7 @@ module _ {T : Type 0} (m : LinkedNodes T) (woven : IsWoven m) (p : Key) where
   module _ (k : Key) (live : map.contains_key m k ≡ true) (there : map.contains_key m p ≡ true) (none : (q : Key) → times k (led_to m q) ≡ 0)
       (before after : List Key) (list : led_to m p ≡ before ++ after) (l : Link Key) (place : l ≡ link_between before after) where
     abbrev own : LinkedNodes T
-    own = with_node m k (λ n. record n { parent = Some p; siblings = l })
+    own = changed m k (λ n. record n { parent = Some p; siblings = l })
 
     abbrev put : LinkedNodes T
     put = put_between m p k l
@@ -116,10 +118,10 @@ module _ {T : Type 0} (m : LinkedNodes T) (woven : IsWoven m) (p : Key) where
     not_next is = absurd (let at = first_in after k is in let zero = absent in omega arith)
 
     own_keys : (x : Key) → map.contains_key own x ≡ map.contains_key m x
-    own_keys x = node_keeps m k (λ n. record n { parent = Some p; siblings = l }) is_some (λ n. refl) x
+    own_keys x = changed_keeps m k (λ n. record n { parent = Some p; siblings = l }) is_some (λ n. refl) x
 
     own_ends : (x : Key) → ends_of own x ≡ ends_of m x
-    own_ends x = node_keeps m k (λ n. record n { parent = Some p; siblings = l }) ends_in (λ n. refl) x
+    own_ends x = changed_keeps m k (λ n. record n { parent = Some p; siblings = l }) ends_in (λ n. refl) x
 
     pub put_keys : (x : Key) → map.contains_key put x ≡ map.contains_key m x
     put_keys x = relinked_keeps own p l (Some k) (Some k) (λ len. len + 1) is_some (λ n e s. refl) x ∙ own_keys x
@@ -127,7 +129,7 @@ module _ {T : Type 0} (m : LinkedNodes T) (woven : IsWoven m) (p : Key) where
     own_link : link_of put k ≡ link_between before after
     own_link =
         relinked_others own p l (Some k) (Some k) (λ len. len + 1) k (λ is. not_prev (sym (ap (λ (s : Link Key). s.prev) place) ∙ is)) (λ is. not_next (sym (ap (λ (s : Link Key). s.next) place) ∙ is))
-        ∙ node_gives m k (λ n. record n { parent = Some p; siblings = l }) link_in (λ s. l) (λ n. refl) live ∙ place
+        ∙ changed_gives m k (λ n. record n { parent = Some p; siblings = l }) link_in (λ s. l) (λ n. refl) live ∙ place
 
     put_ends : ends_of put p ≡ ends_of_list ks
     put_ends =
@@ -143,10 +145,10 @@ module _ {T : Type 0} (m : LinkedNodes T) (woven : IsWoven m) (p : Key) where
         long : length (before ++ ([] ++ after)) + 1 ≡ length ks
         long = let a = length-append before (k ∷ after) in let b = length-append before after in omega arith
 
-    pub put_linked : IsLinked (ends_of put) (link_of put) (with_list ks)
+    pub put_linked : AreLinked (ends_of put) (link_of put) (with_list ks)
     put_linked = linked_put woven.linked woven.apart p k before after list none own_link
         (relinks_now before [] after list own k not_prev not_next own_keys
-        (λ x other. ap link_in (node_other m k (λ n. record n { parent = Some p; siblings = l }) x other)) l place (Some k) (Some k) (λ len. len + 1))
+        (λ x other. ap link_in (changed_other m k (λ n. record n { parent = Some p; siblings = l }) x other)) l place (Some k) (Some k) (λ len. len + 1))
         (record {
           list = list_here ks;
           ends = put_ends;
@@ -225,7 +227,7 @@ module _ {T : Type 0} (m : LinkedNodes T) (woven : IsWoven m) (p : Key) where
         long : length (before ++ (k ∷ [] ++ after)) - 1 ≡ length (before ++ after)
         long = let a = length-append before (k ∷ after) in let b = length-append before after in omega arith
 
-    pub taken_linked : IsLinked (ends_of taken) (link_of taken) (with_list (before ++ after))
+    pub taken_linked : AreLinked (ends_of taken) (link_of taken) (with_list (before ++ after))
     taken_linked = linked_taken woven.linked woven.apart p k before after list
         (subst (λ (s : Link Key). Relinks (link_of m) (link_of taken) k before after s.next s.prev) place
         (relinks_now before (k ∷ []) after list m k not_itself_prev not_itself_next (λ x. refl) (λ x other. refl) l place l.next l.prev (λ len. len - 1)))

@@ -2,6 +2,7 @@
 use Rattle.std.specs.Prelude.{◌≡◌, ℕ, zero, suc, Option, Some, None, true, false}
 use Rattle.std.specs.FinMap as map
 use Rattle.slotmap.specs.Words.{Key}
+use Rattle.slotmap_keylist.specs.Changed.{changed}
 use Rattle.slotmap_scene.specs.Node.{Node, Nodes}
 
 module _ {T : Type 0} where
@@ -37,10 +38,6 @@ module _ {T : Type 0} where
   abbrev pub IsWithin : Nodes T → Key → Key → Type 0
   IsWithin nodes k other = (n : ℕ) × StepsTo nodes n k other
 
-  abbrev pub with_parent_in : Nodes T → Key → Option (Node T) → Option Key → Nodes T
-  with_parent_in nodes k None parent = nodes
-  with_parent_in nodes k (Some node) parent = map.insert nodes k (record node { parent = parent })
-
   -- k has this parent, and nothing else changed
   abbrev pub with_parent : Nodes T → Key → Option Key → Nodes T
-  with_parent nodes k parent = with_parent_in nodes k (map.get nodes k) parent
+  with_parent nodes k parent = changed nodes k (λ n. record n { parent = parent })

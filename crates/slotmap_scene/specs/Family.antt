@@ -6,6 +6,7 @@ use Rattle.slotmap_scene.specs.Node.{Node, Nodes}
 use Rattle.slotmap_scene.specs.Climb.{IsTree, parent_of, with_parent}
 use Rattle.slotmap_scene.specs.declared.tree.Side.{Side}
 use Rattle.slotmap_scene.specs.declared.tree.Side.TheVariants.{Before, After}
+use Rattle.slotmap_keylist.specs.Changed.{changed, changed_in}
 use Rattle.slotmap_keylist.specs.KeyLists.{is_key, same, times, without}
 
 -- 1 if p is the parent, else 0
@@ -28,9 +29,9 @@ placed Before s k ks = placed_before s k ks
 placed After s k ks = placed_after s k ks
 
 -- the two parts of a list that a place on this side of s is between, where these keys are before s and behind it
-abbrev pub beside : Side → List Key → Key → List Key → List Key × List Key
-beside Before before s after = (before, s ∷ after)
-beside After before s after = (before ++ s ∷ [], after)
+abbrev pub around : Side → List Key → Key → List Key → List Key × List Key
+around Before before s after = (before, s ∷ after)
+around After before s after = (before ++ s ∷ [], after)
 
 module _ {T : Type 0} where
   -- the children of a node, if there is one
@@ -71,13 +72,9 @@ module _ {T : Type 0} where
     pub parent : parent_of new p ≡ parent_of old p
     pub others : (q : Key) → q ≢ k → q ≢ p → map.get new q ≡ map.get old q
 
-  abbrev pub with_value_in : Nodes T → Key → Option (Node T) → T → Nodes T
-  with_value_in nodes k None v = nodes
-  with_value_in nodes k (Some node) v = map.insert nodes k (record node { value = v })
-
   -- k has this value, and nothing else changed
   abbrev pub with_value : Nodes T → Key → T → Nodes T
-  with_value nodes k v = with_value_in nodes k (map.get nodes k) v
+  with_value nodes k v = changed nodes k (λ n. record n { value = v })
 
   -- a node that has lost a child
   abbrev pub forgets : Key → Node T → Node T
@@ -85,8 +82,7 @@ module _ {T : Type 0} where
 
   -- the node under p, if there is one, has other children
   abbrev pub with_children_in : Nodes T → Key → Option (Node T) → (List Key → List Key) → Nodes T
-  with_children_in nodes p None f = nodes
-  with_children_in nodes p (Some node) f = map.insert nodes p (record node { children = f node.children })
+  with_children_in nodes p o f = changed_in nodes p o (λ n. record n { children = f n.children })
 
   -- k is put behind the children of p
   abbrev pub with_child : Nodes T → Key → Key → Nodes T

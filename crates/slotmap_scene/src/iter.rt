@@ -3,7 +3,7 @@
 ghost use Rattle.std.specs.Prelude.{◌≡◌, ◌≤◌, length, Some, IfSome, ⊤};
 ghost use Rattle.std.specs.Iterator.{YieldsFirstBy, YieldsLastBy, item_count, at_most, UpTo};
 ghost use Rattle.slotmap_keylist.specs.Linked.{followed};
-ghost use Rattle.slotmap_scene.specs.Links.{IsWalk, link_of};
+ghost use Rattle.slotmap_scene.specs.LinkedNodes.{IsWalk, link_of};
 
 use crate::links::LinkedNodes;
 use slotmap::{DefaultKey, Key};
@@ -32,7 +32,7 @@ impl<'a, K, T> Model for ChildKeys<'a, K, T> {
     ghost use Rattle.std.specs.Prelude.{List};
     ghost use Rattle.slotmap.specs.Words.{Key};
     ghost use Rattle.slotmap_keylist.specs.Linked.{follow};
-    ghost use Rattle.slotmap_scene.specs.Links.{IsWalk, link_of};
+    ghost use Rattle.slotmap_scene.specs.LinkedNodes.{IsWalk, link_of};
 
     ghost Value = { List Key };
 

@@ -4,7 +4,7 @@
 ghost use Rattle.std.specs.Prelude.{◌≡◌, ◌<◌, ◌≤◌, IfErr, IfOk, IfSome, IsOk, OnErr, false};
 ghost use Rattle.std.specs.FinMap as map;
 ghost use Rattle.slotmap.specs.Words.{Inserts, IsLive, IsSpent, Keeps, KeepsSpent};
-ghost use Rattle.slotmap_scene.specs.Links.{ends_of, leaf, put_between, taken_between, with_next, with_prev};
+ghost use Rattle.slotmap_scene.specs.LinkedNodes.{ends_of, leaf, put_between, taken_between, with_next, with_prev};
 ghost use Rattle.slotmap_scene.specs.Refusals.{RefusesNode};
 
 use slotmap::{DefaultKey, InsertError, SlotMap};

@@ -43,6 +43,19 @@ fn searches(rt: HostRuntime) -> Result<(), Fail> {
 }
 
 #[test]
+fn orders(rt: HostRuntime) -> Result<(), Fail> {
+    let alloc = rt.alloc();
+    let (mut graph, a, b, _) = pair(alloc)?;
+    assert!(rt; graph.topological_order(alloc)?.is_some());
+    if let Some(order) = graph.topological_order(alloc)? {
+        assert_eq!(rt; order.as_slice(), [a, b].as_slice());
+    }
+    graph.add_edge(b, a, 6)?;
+    assert!(rt; graph.topological_order(alloc)?.is_none());
+    Ok(())
+}
+
+#[test]
 fn removals(rt: HostRuntime) -> Result<(), Fail> {
     let (mut graph, _, b, edge) = pair(rt.alloc())?;
     assert_eq!(rt; graph.remove_node(b), Some(2));

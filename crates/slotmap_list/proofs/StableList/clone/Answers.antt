@@ -3,7 +3,7 @@ use Rattle.slotmap_keylist.proofs.Alone.{alone-copy}
 use Rattle.slotmap_list.specs.Chain.{IsChain}
 use Rattle.slotmap_list.proofs.NodeLists.{elements_are}
 use Rattle.slotmap_list.proofs.Chains.{chain_is, self_chain}
-use Rattle.slotmap_list.proofs.Mapped.{chain_cloned, are_clones, clones_are_same}
+use Rattle.slotmap_list.proofs.ClonedChains.{chain_cloned, are_clones, clones_are_same}
 use Rattle.slotmap_list.proofs.StableList.clone.Goals as goal
 
 pub invariant_of-result : goal.invariant_of-result

@@ -2,7 +2,7 @@ use Rattle.std.proofs.Common.{sym, ap, subst, ◌∙◌}
 use Rattle.slotmap.specs.Words.{Key}
 use Rattle.slotmap_keylist.specs.declared.Ends.{Ends}
 use Rattle.slotmap_keylist.specs.Linked.{followed}
-use Rattle.slotmap_scene.specs.Links.{IsWalk, ends_in, link_of}
+use Rattle.slotmap_scene.specs.LinkedNodes.{IsWalk, ends_in, link_of}
 use Rattle.slotmap_scene.proofs.Showing.{shown_children}
 use Rattle.slotmap_scene.proofs.Walking.{walk_children}
 use Rattle.slotmap_scene.proofs.family.Nodes.children.Goals as goal

@@ -1,5 +1,5 @@
 use Rattle.std.proofs.Common.{ap, ◌∙◌}
-use Rattle.slotmap_scene.specs.Links.{ends_in}
+use Rattle.slotmap_scene.specs.LinkedNodes.{ends_in}
 use Rattle.slotmap_scene.proofs.Shows.{first_shown}
 use Rattle.slotmap_scene.proofs.family.Nodes.first.Goals as goal
 

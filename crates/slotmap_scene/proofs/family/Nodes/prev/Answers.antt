@@ -1,7 +1,7 @@
 use Rattle.std.proofs.Common.{ap, ◌∙◌}
 use Rattle.slotmap_keylist.specs.declared.Link.{Link}
 use Rattle.slotmap.specs.Words.{Key}
-use Rattle.slotmap_scene.specs.Links.{link_in}
+use Rattle.slotmap_scene.specs.LinkedNodes.{link_in}
 use Rattle.slotmap_scene.proofs.Shows.{link_shown}
 use Rattle.slotmap_scene.proofs.family.Nodes.prev.Goals as goal
 

@@ -1,5 +1,5 @@
 use Rattle.std.proofs.Common.{ap}
-use Rattle.slotmap_scene.specs.Links.{link_in}
+use Rattle.slotmap_scene.specs.LinkedNodes.{link_in}
 use Rattle.slotmap_scene.proofs.Shows.{listed_live, lister_live, lister_some, listed_prev, listed_next, take_woven, take_shows, take_leaves}
 use Rattle.slotmap_scene.proofs.family.Nodes.take_out.Goals as goal
 

@@ -1,6 +1,6 @@
 use Rattle.std.proofs.Common.{◌-◌, [], ◌∷◌, length, length-append, is_some, sym, ap, ◌∙◌, arith}
 use Rattle.slotmap_keylist.specs.Linked.{follow}
-use Rattle.slotmap_scene.specs.Links.{link_of}
+use Rattle.slotmap_scene.specs.LinkedNodes.{link_of}
 use Rattle.slotmap_scene.proofs.Walking.{last_live, last_there, back_is, walk_back}
 use Rattle.slotmap_scene.proofs.iter.ChildKeysDoubleEndedIterator.next_back.Goals as goal
 

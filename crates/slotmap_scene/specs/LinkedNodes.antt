@@ -4,9 +4,10 @@ use Rattle.std.specs.FinMap as map
 use Rattle.slotmap.specs.Words.{Key, key_cmp, Content}
 use Rattle.slotmap_keylist.specs.declared.Ends.{Ends}
 use Rattle.slotmap_keylist.specs.declared.Link.{Link}
+use Rattle.slotmap_keylist.specs.Changed.{changed}
 use Rattle.slotmap_keylist.specs.KeyLists.{times}
-use Rattle.slotmap_keylist.specs.Linked.{first_or, last_or, link_between, followed, IsLinked, AreApart}
-use Rattle.slotmap_keylist.specs.Shown.{mapped, with_live}
+use Rattle.slotmap_keylist.specs.Linked.{first_or, last_or, link_between, followed, AreLinked, AreApart}
+use Rattle.slotmap_keylist.specs.Mapped.{map_values, with_live}
 use Rattle.slotmap_scene.specs.Node.{Node, Nodes}
 use Rattle.slotmap_scene.specs.Above.{roots_by}
 use Rattle.slotmap_scene.specs.Family.{children_of}
@@ -45,14 +46,14 @@ module _ {T : Type 0} where
   shown_node m node = record { value = node.value; parent = node.parent; children = followed (link_of m) node.children }
 
   abbrev pub shown_nodes : LinkedNodes T → Nodes T
-  shown_nodes m = mapped (shown_node m) m
+  shown_nodes m = map_values (shown_node m) m
 
-  abbrev pub shown : Content (LinkedNode T) → Content (Node T)
-  shown c = with_live c (shown_nodes c.live)
+  abbrev pub shown_scene : Content (LinkedNode T) → Content (Node T)
+  shown_scene c = with_live c (shown_nodes c.live)
 
   -- a node under k, with the children that k has
-  abbrev pub seen : Nodes T → Key → LinkedNode T → Node T
-  seen nodes k node = record { value = node.value; parent = node.parent; children = children_of nodes k }
+  abbrev pub shown_under : Nodes T → Key → LinkedNode T → Node T
+  shown_under nodes k node = record { value = node.value; parent = node.parent; children = children_of nodes k }
 
   -- the keys of the roots among these nodes
   abbrev pub linked_roots : List (Key × LinkedNode T) → List Key
@@ -64,30 +65,22 @@ module _ {T : Type 0} where
 
   -- the links make lists of nodes; each node is in one list at most, and there once
   pub record IsWoven (m : LinkedNodes T) : Type 0 where
-    pub linked : IsLinked (ends_of m) (link_of m) (led_to m)
+    pub linked : AreLinked (ends_of m) (link_of m) (led_to m)
     pub apart : AreApart (led_to m)
     pub live : (p k : Key) → 0 < times k (led_to m p) → map.contains_key m k ≡ true
 
-  -- the node under k, if there is one, is changed
-  abbrev pub with_node_in : LinkedNodes T → Key → Option (LinkedNode T) → (LinkedNode T → LinkedNode T) → LinkedNodes T
-  with_node_in m k None f = m
-  with_node_in m k (Some node) f = map.insert m k (f node)
-
-  abbrev pub with_node : LinkedNodes T → Key → (LinkedNode T → LinkedNode T) → LinkedNodes T
-  with_node m k f = with_node_in m k (map.get m k) f
-
   -- a node, or the end of the list of p, leads on to another key, or to none
   abbrev pub with_next : LinkedNodes T → Key → Option Key → Option Key → LinkedNodes T
-  with_next m p None next = with_node m p (λ n. record n { children = record n.children { first = next } })
-  with_next m p (Some k) next = with_node m k (λ n. record n { siblings = record n.siblings { next = next } })
+  with_next m p None next = changed m p (λ n. record n { children = record n.children { first = next } })
+  with_next m p (Some k) next = changed m k (λ n. record n { siblings = record n.siblings { next = next } })
 
   -- the same back
   abbrev pub with_prev : LinkedNodes T → Key → Option Key → Option Key → LinkedNodes T
-  with_prev m p None prev = with_node m p (λ n. record n { children = record n.children { last = prev } })
-  with_prev m p (Some k) prev = with_node m k (λ n. record n { siblings = record n.siblings { prev = prev } })
+  with_prev m p None prev = changed m p (λ n. record n { children = record n.children { last = prev } })
+  with_prev m p (Some k) prev = changed m k (λ n. record n { siblings = record n.siblings { prev = prev } })
 
   abbrev pub with_len : LinkedNodes T → Key → (ℕ → ℕ) → LinkedNodes T
-  with_len m p f = with_node m p (λ n. record n { children = record n.children { len = f n.children.len } })
+  with_len m p f = changed m p (λ n. record n { children = record n.children { len = f n.children.len } })
 
   -- the two neighbours at a place in the list of p lead on and back to these keys now
   abbrev pub relinked : LinkedNodes T → Key → Link Key → Option Key → Option Key → (ℕ → ℕ) → LinkedNodes T
@@ -95,7 +88,7 @@ module _ {T : Type 0} where
 
   -- k is put between two keys of the list of p, and p is its parent
   abbrev pub put_between : LinkedNodes T → Key → Key → Link Key → LinkedNodes T
-  put_between m p k l = relinked (with_node m k (λ n. record n { parent = Some p; siblings = l })) p l (Some k) (Some k) (λ len. len + 1)
+  put_between m p k l = relinked (changed m k (λ n. record n { parent = Some p; siblings = l })) p l (Some k) (Some k) (λ len. len + 1)
 
   -- what is between two keys of the list of p is taken out of it
   abbrev pub taken_between : LinkedNodes T → Key → Link Key → LinkedNodes T

@@ -1,102 +1,65 @@
 -- What a change of links does to the links of each node.
-use Rattle.std.proofs.Common.{◌≡◌, ◌≢◌, ℕ, true, Option, Some, None, List, [], ◌∷◌, ◌++◌, length, is_some, refl, sym, ap, ◌∙◌, inl, inr}
-use Rattle.std.specs.Option.{option_map}
+use Rattle.std.proofs.Common.{◌≡◌, ◌≢◌, ℕ, true, Option, Some, None, List, [], ◌∷◌, ◌++◌, length, is_some, refl, sym, ap, ◌∙◌}
 use Rattle.std.specs.FinMap as map
 use Rattle.slotmap.specs.Words.{Key}
-use Rattle.slotmap.proofs.Callers.{get-insert_here, get-insert_other, same_or_other}
 use Rattle.slotmap_keylist.specs.declared.Ends.{Ends}
 use Rattle.slotmap_keylist.specs.declared.Link.{Link}
 use Rattle.slotmap_keylist.specs.Linked.{first_or, last_or, link_between, ends_of as ends_of_list}
 use Rattle.slotmap_keylist.proofs.Linking.{first_or-append, last_or-append}
+use Rattle.slotmap_keylist.proofs.Changed.{changed_gives, changed_keeps, changed_other}
 use Rattle.slotmap_scene.specs.declared.links.LinkedNode.{LinkedNode}
-use Rattle.slotmap_scene.specs.Links.{LinkedNodes, ends_in, ends_of, link_in, link_of, with_node, with_node_in, with_next, with_prev, relinked}
-
--- one node is changed
-module _ {T : Type 0} (m : LinkedNodes T) (k : Key) (f : LinkedNode T → LinkedNode T) where
-  other_in : (o : Option (LinkedNode T)) (q : Key) → q ≢ k → map.get (with_node_in m k o f) q ≡ map.get m q
-  other_in None q other = refl
-  other_in (Some n) q other = get-insert_other m k (f n) q other
-
-  here_in : (o : Option (LinkedNode T)) → map.get m k ≡ o → map.get (with_node_in m k o f) k ≡ option_map f o
-  here_in None is = is
-  here_in (Some n) is = get-insert_here m k (f n)
-
-  pub node_other : (q : Key) → q ≢ k → map.get (with_node m k f) q ≡ map.get m q
-  node_other q other = other_in (map.get m k) q other
-
-  pub node_here : map.get (with_node m k f) k ≡ option_map f (map.get m k)
-  node_here = here_in (map.get m k) refl
-
-  -- what the change leaves as it is
-  module _ {X : Type 0} (P : Option (LinkedNode T) → X) (same : (n : LinkedNode T) → P (Some (f n)) ≡ P (Some n)) where
-    kept_in : (o : Option (LinkedNode T)) → P (option_map f o) ≡ P o
-    kept_in None = refl
-    kept_in (Some n) = same n
-
-    pub node_keeps : (q : Key) → P (map.get (with_node m k f) q) ≡ P (map.get m q)
-    node_keeps q = elim (same_or_other q k) [
-      | inl is ↦ rw is (ap P node_here ∙ kept_in (map.get m k))
-      | inr other ↦ ap P (node_other q other)
-    ]
-
-  -- and what it makes of a node that is there
-  pub node_gives : {X : Type 0} (P : Option (LinkedNode T) → X) (g : X → X) → ((n : LinkedNode T) → P (Some (f n)) ≡ g (P (Some n))) → map.contains_key m k ≡ true → P (map.get (with_node m k f) k) ≡ g (P (map.get m k))
-  node_gives {X} P g gives live = ap P node_here ∙ by (map.get m k) live
-    where
-      by : (o : Option (LinkedNode T)) → is_some o ≡ true → P (option_map f o) ≡ g (P o)
-      by None is = absurd (cc)
-      by (Some n) is = gives n
+use Rattle.slotmap_scene.specs.LinkedNodes.{LinkedNodes, ends_in, ends_of, link_in, link_of, with_next, with_prev, relinked}
 
 -- a node leads on to another key, or back
 module _ {T : Type 0} (m : LinkedNodes T) (p : Key) where
   -- what is no matter of links
   module _ {X : Type 0} (P : Option (LinkedNode T) → X) (free : (n : LinkedNode T) (e : Ends Key) (l : Link Key) → P (Some (record n { children = e; siblings = l })) ≡ P (Some n)) where
     next_keeps : (a b : Option Key) (q : Key) → P (map.get (with_next m p a b) q) ≡ P (map.get m q)
-    next_keeps None b q = node_keeps m p (λ n. record n { children = record n.children { first = b } }) P (λ n. free n (record n.children { first = b }) n.siblings) q
-    next_keeps (Some k) b q = node_keeps m k (λ n. record n { siblings = record n.siblings { next = b } }) P (λ n. free n n.children (record n.siblings { next = b })) q
+    next_keeps None b q = changed_keeps m p (λ n. record n { children = record n.children { first = b } }) P (λ n. free n (record n.children { first = b }) n.siblings) q
+    next_keeps (Some k) b q = changed_keeps m k (λ n. record n { siblings = record n.siblings { next = b } }) P (λ n. free n n.children (record n.siblings { next = b })) q
 
     prev_keeps : (a b : Option Key) (q : Key) → P (map.get (with_prev m p a b) q) ≡ P (map.get m q)
-    prev_keeps None b q = node_keeps m p (λ n. record n { children = record n.children { last = b } }) P (λ n. free n (record n.children { last = b }) n.siblings) q
-    prev_keeps (Some k) b q = node_keeps m k (λ n. record n { siblings = record n.siblings { prev = b } }) P (λ n. free n n.children (record n.siblings { prev = b })) q
+    prev_keeps None b q = changed_keeps m p (λ n. record n { children = record n.children { last = b } }) P (λ n. free n (record n.children { last = b }) n.siblings) q
+    prev_keeps (Some k) b q = changed_keeps m k (λ n. record n { siblings = record n.siblings { prev = b } }) P (λ n. free n n.children (record n.siblings { prev = b })) q
 
   next_len : (a b : Option Key) (q : Key) → (ends_of (with_next m p a b) q).len ≡ (ends_of m q).len
-  next_len None b q = node_keeps m p (λ n. record n { children = record n.children { first = b } }) (λ o. (ends_in o).len) (λ n. refl) q
-  next_len (Some k) b q = node_keeps m k (λ n. record n { siblings = record n.siblings { next = b } }) (λ o. (ends_in o).len) (λ n. refl) q
+  next_len None b q = changed_keeps m p (λ n. record n { children = record n.children { first = b } }) (λ o. (ends_in o).len) (λ n. refl) q
+  next_len (Some k) b q = changed_keeps m k (λ n. record n { siblings = record n.siblings { next = b } }) (λ o. (ends_in o).len) (λ n. refl) q
 
   prev_len : (a b : Option Key) (q : Key) → (ends_of (with_prev m p a b) q).len ≡ (ends_of m q).len
-  prev_len None b q = node_keeps m p (λ n. record n { children = record n.children { last = b } }) (λ o. (ends_in o).len) (λ n. refl) q
-  prev_len (Some k) b q = node_keeps m k (λ n. record n { siblings = record n.siblings { prev = b } }) (λ o. (ends_in o).len) (λ n. refl) q
+  prev_len None b q = changed_keeps m p (λ n. record n { children = record n.children { last = b } }) (λ o. (ends_in o).len) (λ n. refl) q
+  prev_len (Some k) b q = changed_keeps m k (λ n. record n { siblings = record n.siblings { prev = b } }) (λ o. (ends_in o).len) (λ n. refl) q
 
   next_here : (a b : Option Key) (x : Key) → a ≡ Some x → map.contains_key m x ≡ true → link_of (with_next m p a b) x ≡ record (link_of m x) { next = b }
   next_here a b x is live =
       ap (λ o. link_of (with_next m p o b) x) is
-      ∙ node_gives m x (λ n. record n { siblings = record n.siblings { next = b } }) link_in (λ (l : Link Key). record l { next = b }) (λ n. refl) live
+      ∙ changed_gives m x (λ n. record n { siblings = record n.siblings { next = b } }) link_in (λ (l : Link Key). record l { next = b }) (λ n. refl) live
 
   prev_here : (a b : Option Key) (x : Key) → a ≡ Some x → map.contains_key m x ≡ true → link_of (with_prev m p a b) x ≡ record (link_of m x) { prev = b }
   prev_here a b x is live =
       ap (λ o. link_of (with_prev m p o b) x) is
-      ∙ node_gives m x (λ n. record n { siblings = record n.siblings { prev = b } }) link_in (λ (l : Link Key). record l { prev = b }) (λ n. refl) live
+      ∙ changed_gives m x (λ n. record n { siblings = record n.siblings { prev = b } }) link_in (λ (l : Link Key). record l { prev = b }) (λ n. refl) live
 
   next_other : (a b : Option Key) (x : Key) → a ≢ Some x → link_of (with_next m p a b) x ≡ link_of m x
-  next_other None b x other = node_keeps m p (λ n. record n { children = record n.children { first = b } }) link_in (λ n. refl) x
-  next_other (Some k) b x other = ap link_in (node_other m k (λ n. record n { siblings = record n.siblings { next = b } }) x (λ is. other (ap Some (sym is))))
+  next_other None b x other = changed_keeps m p (λ n. record n { children = record n.children { first = b } }) link_in (λ n. refl) x
+  next_other (Some k) b x other = ap link_in (changed_other m k (λ n. record n { siblings = record n.siblings { next = b } }) x (λ is. other (ap Some (sym is))))
 
   prev_other : (a b : Option Key) (x : Key) → a ≢ Some x → link_of (with_prev m p a b) x ≡ link_of m x
-  prev_other None b x other = node_keeps m p (λ n. record n { children = record n.children { last = b } }) link_in (λ n. refl) x
-  prev_other (Some k) b x other = ap link_in (node_other m k (λ n. record n { siblings = record n.siblings { prev = b } }) x (λ is. other (ap Some (sym is))))
+  prev_other None b x other = changed_keeps m p (λ n. record n { children = record n.children { last = b } }) link_in (λ n. refl) x
+  prev_other (Some k) b x other = ap link_in (changed_other m k (λ n. record n { siblings = record n.siblings { prev = b } }) x (λ is. other (ap Some (sym is))))
 
   next_ends : (a b : Option Key) (q : Key) → q ≢ p → ends_of (with_next m p a b) q ≡ ends_of m q
-  next_ends None b q other = ap ends_in (node_other m p (λ n. record n { children = record n.children { first = b } }) q other)
-  next_ends (Some k) b q other = node_keeps m k (λ n. record n { siblings = record n.siblings { next = b } }) ends_in (λ n. refl) q
+  next_ends None b q other = ap ends_in (changed_other m p (λ n. record n { children = record n.children { first = b } }) q other)
+  next_ends (Some k) b q other = changed_keeps m k (λ n. record n { siblings = record n.siblings { next = b } }) ends_in (λ n. refl) q
 
   prev_ends : (a b : Option Key) (q : Key) → q ≢ p → ends_of (with_prev m p a b) q ≡ ends_of m q
-  prev_ends None b q other = ap ends_in (node_other m p (λ n. record n { children = record n.children { last = b } }) q other)
-  prev_ends (Some k) b q other = node_keeps m k (λ n. record n { siblings = record n.siblings { prev = b } }) ends_in (λ n. refl) q
+  prev_ends None b q other = ap ends_in (changed_other m p (λ n. record n { children = record n.children { last = b } }) q other)
+  prev_ends (Some k) b q other = changed_keeps m k (λ n. record n { siblings = record n.siblings { prev = b } }) ends_in (λ n. refl) q
 
   -- the first key of a list that begins with these, and the last one of a list that ends with those
   first_now : (before : List Key) (b : Option Key) (rest : Option Key) → map.contains_key m p ≡ true → (ends_of m p).first ≡ first_or before rest
       → ends_of (with_next m p (last_or before None) b) p ≡ record (ends_of m p) { first = first_or before b }
-  first_now [] b rest live is = node_gives m p (λ n. record n { children = record n.children { first = b } }) ends_in (λ (e : Ends Key). record e { first = b }) (λ n. refl) live
+  first_now [] b rest live is = changed_gives m p (λ n. record n { children = record n.children { first = b } }) ends_in (λ (e : Ends Key). record e { first = b }) (λ n. refl) live
   first_now (k ∷ ks) b rest live is = by (last_or ks (Some k)) (some_last ks k) ∙ ap (λ o. record (ends_of m p) { first = o }) is
     where
       some_last : (ks : List Key) (k : Key) → is_some (last_or ks (Some k)) ≡ true
@@ -105,13 +68,13 @@ module _ {T : Type 0} (m : LinkedNodes T) (p : Key) where
 
       by : (a : Option Key) → is_some a ≡ true → ends_of (with_next m p a b) p ≡ ends_of m p
       by None is = absurd (cc)
-      by (Some q) is = node_keeps m q (λ n. record n { siblings = record n.siblings { next = b } }) ends_in (λ n. refl) p
+      by (Some q) is = changed_keeps m q (λ n. record n { siblings = record n.siblings { next = b } }) ends_in (λ n. refl) p
 
   last_now : (after : List Key) (b : Option Key) (rest : Option Key) → map.contains_key m p ≡ true → (ends_of m p).last ≡ last_or after rest
       → ends_of (with_prev m p (first_or after None) b) p ≡ record (ends_of m p) { last = last_or after b }
-  last_now [] b rest live is = node_gives m p (λ n. record n { children = record n.children { last = b } }) ends_in (λ (e : Ends Key). record e { last = b }) (λ n. refl) live
+  last_now [] b rest live is = changed_gives m p (λ n. record n { children = record n.children { last = b } }) ends_in (λ (e : Ends Key). record e { last = b }) (λ n. refl) live
   last_now (k ∷ ks) b rest live is =
-      node_keeps m k (λ n. record n { siblings = record n.siblings { prev = b } }) ends_in (λ n. refl) p ∙ ap (λ o. record (ends_of m p) { last = o }) is
+      changed_keeps m k (λ n. record n { siblings = record n.siblings { prev = b } }) ends_in (λ n. refl) p ∙ ap (λ o. record (ends_of m p) { last = o }) is
 
 -- the neighbours at a place lead on and back, and the list is as long as before
 module _ {T : Type 0} (m : LinkedNodes T) (p : Key) (a on b back : Option Key) where
@@ -129,11 +92,11 @@ module _ {T : Type 0} (m : LinkedNodes T) (p : Key) (l : Link Key) (on back : Op
   pub relinked_keeps : {X : Type 0} (P : Option (LinkedNode T) → X) → ((n : LinkedNode T) (e : Ends Key) (s : Link Key) → P (Some (record n { children = e; siblings = s })) ≡ P (Some n))
       → (q : Key) → P (map.get (relinked m p l on back f) q) ≡ P (map.get m q)
   relinked_keeps P free q =
-      node_keeps both_done p (λ n. record n { children = record n.children { len = f n.children.len } }) P (λ n. free n (record n.children { len = f n.children.len }) n.siblings) q
+      changed_keeps both_done p (λ n. record n { children = record n.children { len = f n.children.len } }) P (λ n. free n (record n.children { len = f n.children.len }) n.siblings) q
       ∙ prev_keeps first_done p P free l.next back q ∙ next_keeps m p P free l.prev on q
 
   counted_link : (x : Key) → link_of (relinked m p l on back f) x ≡ link_of both_done x
-  counted_link x = node_keeps both_done p (λ n. record n { children = record n.children { len = f n.children.len } }) link_in (λ n. refl) x
+  counted_link x = changed_keeps both_done p (λ n. record n { children = record n.children { len = f n.children.len } }) link_in (λ n. refl) x
 
   live_then : (x : Key) → map.contains_key m x ≡ true → map.contains_key first_done x ≡ true
   live_then x live = next_keeps m p is_some (λ n e s. refl) l.prev on x ∙ live
@@ -150,7 +113,7 @@ module _ {T : Type 0} (m : LinkedNodes T) (p : Key) (l : Link Key) (on back : Op
 
   pub relinked_ends : (q : Key) → q ≢ p → ends_of (relinked m p l on back f) q ≡ ends_of m q
   relinked_ends q other =
-      ap ends_in (node_other both_done p (λ n. record n { children = record n.children { len = f n.children.len } }) q other)
+      ap ends_in (changed_other both_done p (λ n. record n { children = record n.children { len = f n.children.len } }) q other)
       ∙ prev_ends first_done p l.next back q other ∙ next_ends m p l.prev on q other
 
   -- where the list of p was of these keys, and what is between them goes or comes
@@ -163,7 +126,7 @@ module _ {T : Type 0} (m : LinkedNodes T) (p : Key) (l : Link Key) (on back : Op
       let last_was : (ends_of first_done p).last ≡ last_or after (last_or mid (last_or before None)) =
       ap (λ (e : Ends Key). e.last) front ∙ last_or-append before (mid ++ after) None ∙ last_or-append mid after (last_or before None) in
       let there : map.contains_key both_done p ≡ true = prev_keeps first_done p is_some (λ n e s. refl) l.next back p ∙ live_then p live in
-      node_gives both_done p (λ n. record n { children = record n.children { len = f n.children.len } }) ends_in (λ (e : Ends Key). record e { len = f e.len }) (λ n. refl) there
+      changed_gives both_done p (λ n. record n { children = record n.children { len = f n.children.len } }) ends_in (λ (e : Ends Key). record e { len = f e.len }) (λ n. refl) there
       ∙ ap (λ (e : Ends Key). record e { len = f e.len }) (ap (λ (s : Link Key). ends_of (with_prev first_done p s.next back) p) place
       ∙ last_now first_done p after back (last_or mid (last_or before None)) (live_then p live) last_was
       ∙ ap (λ (e : Ends Key). record e { last = last_or after back }) front)

@@ -1,0 +1,12 @@
+use Rattle.std.proofs.Common.{◌≡◌, ◌++◌, map as list_map}
+use Rattle.std.specs.FinMap as map
+use Rattle.slotmap_graph.specs.TopologicalOrder.{Counting}
+use Rattle.slotmap_graph.proofs.Graph.count_all.Given as goal
+
+abbrev pub invariant-loop-node : goal.invariant-loop-node
+invariant-loop-node g l = record {
+  can_next : (goal.iterator-loop-node g).can_next l.node-iterator;
+  is_finite : (goal.iterator-loop-node g).is_finite l.node-iterator;
+  walked : list_map g.K.Key.data_of l.yielded ++ l.node-iterator ≡ map.keys l.self.nodes.live;
+  counting : Counting l.self.nodes l.self.into l.counts.pairs (list_map g.K.Key.data_of l.found.items) (list_map g.K.Key.data_of l.yielded);
+}

@@ -1,0 +1,15 @@
+use Rattle.std.proofs.Common.{◌≡◌, ◌++◌, take, map as list_map}
+use Rattle.slotmap_graph.specs.TopologicalOrder.{Sorting, edges_out}
+use Rattle.slotmap_graph.specs.Parts.{edges_at}
+use Rattle.slotmap_graph.specs.Search.{GoesOn}
+use Rattle.slotmap_graph.proofs.Graph.pass_edges.Given as goal
+
+abbrev pub invariant-loop-edge : goal.invariant-loop-edge
+invariant-loop-edge g l = record {
+  can_next : (goal.iterator-loop-edge g).can_next l.edge-iterator;
+  is_finite : (goal.iterator-loop-edge g).is_finite l.edge-iterator;
+  walked : l.yielded ++ l.edge-iterator ≡ edges_at l.self.out (g.K.Key.data_of l.fn.node);
+  goes_on : GoesOn (list_map g.K.Key.data_of l.fn.found.items) (list_map g.K.Key.data_of l.found.items);
+  sorting : Sorting l.self.nodes l.self.edges.live l.self.into l.counts.pairs (list_map g.K.Key.data_of l.found.items)
+      (edges_out l.self.out (take l.at (list_map g.K.Key.data_of l.fn.found.items)) ++ l.yielded);
+}

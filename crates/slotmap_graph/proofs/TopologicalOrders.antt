@@ -1,0 +1,505 @@
+-- An order of the nodes in which each edge goes forward: how it is found, and that there is a cycle where there is none.
+use Rattle.std.proofs.Common.{◌≡◌, ◌≢◌, ℕ, zero, suc, ◌+◌, ◌-◌, ◌<◌, ◌≤◌, ◌⊎◌, ⊎_elim, Bool, true, false, Some, T, List, [], ◌∷◌, ◌++◌, length, take, drop, get_or, map as list_map, nat_eq, if◌then◌else◌, is_some, is_lt, ◌&&◌, ◌||◌, refl, sym, ap, subst, ◌∙◌, append-nil, append_assoc, inl, inr, arith}
+use Rattle.std.specs.FinMap as map
+use Rattle.std.specs.List.{list_any}
+use Rattle.std.specs.Ordering.{eq_by_cmp}
+use Rattle.std.proofs.Math.Nat.{eq-zero-or-pos}
+use Rattle.std.proofs.lemmas.List.Sums.{sum_by-take-drop}
+use Rattle.std.proofs.lemmas.Bool.Decides.{nat_tests}
+use Rattle.std.specs.FinMap.Entries.{below_all, is_sorted}
+use Rattle.slotmap.specs.Words.{Key, key_cmp, Content, IsLive, Pairs, get}
+use Rattle.slotmap.proofs.Callers.{same_or_other, keys_total, exact_keys, itself, tied, keys, len_removed, live-remove_other, none_found, beside_empty}
+use Rattle.slotmap_keylist.specs.KeyLists.{same, times}
+use Rattle.slotmap_keylist.proofs.Counts.{one_itself, one_other, times_first, times_pushed, times_joined, behind_split}
+use Rattle.slotmap_keylist.proofs.Linking.{cut_at, split_at, in_midst, cons_not_nil}
+use Rattle.slotmap_keylist.proofs.Splicing.{no_more_than}
+use Rattle.slotmap_graph.specs.Parts.{SeenEdge, Edges, ByNode, EndsLive, ListsEdges, edges_at, ends_at, from, to}
+use Rattle.slotmap_graph.specs.Search.{GoesOn, HasEdge, Leads, LeadsBy}
+use Rattle.slotmap_graph.specs.TopologicalOrder.{GoesForward, HasCycle, edges_out, passed_of, Sorting, Counting}
+use Rattle.slotmap_graph.proofs.Adjacent.{listed_edge, edge_listed}
+
+T-true : (b : Bool) → T b → b ≡ true
+T-true true t = refl
+T-true false t = absurd t
+
+same_turned : (a b : Key) → same a b ≡ same b a
+same_turned a b = elim (same_or_other a b) [
+  | inl is ↦ rw is refl
+  | inr other ↦ one_other a b other ∙ sym (one_other b a (λ e. other (sym e)))
+]
+
+-- one more edge is passed
+passed_more : (passed : List Key) (x : Key) (js : List Key) → passed_of (passed ++ x ∷ []) js ≡ passed_of passed js + times x js
+passed_more passed x [] = refl
+passed_more passed x (j ∷ js) =
+    let rest = passed_more passed x js in
+    let here = times_pushed j passed x in
+    let first = times_first x j js in
+    let turned = same_turned x j in
+    omega arith
+
+passed_none : (js : List Key) → passed_of [] js ≡ 0
+passed_none [] = refl
+passed_none (j ∷ js) = let rest = passed_none js in omega arith
+
+module _ (passed : List Key) (once : (x : Key) → times x passed ≤ 1) where
+  passed_most : (js : List Key) → passed_of passed js ≤ length js
+  passed_most [] = omega arith
+  passed_most (j ∷ js) = let rest = passed_most js in let one = once j in omega arith
+
+  -- not all were passed, if one was not
+  passed_less : (x : Key) (js : List Key) → 0 < times x js → times x passed ≡ 0 → passed_of passed js < length js
+  passed_less x [] more none = absurd (omega arith)
+  passed_less x (j ∷ js) more none = elim (same_or_other j x) [
+    | inl is ↦ (let rest = passed_most js in let gone = ap (λ q. times q passed) is ∙ none in omega arith)
+    | inr other ↦ (let first = times_first x j js in let no = one_other j x other in let rest = passed_less x js (omega arith) none in let one = once j in omega arith)
+  ]
+
+-- a list in order has no key twice
+below_none : {V : Type 0} (k : Key) (es : List (Key × V)) → below_all key_cmp k es ≡ true → times k (list_map (λ e. e.0) es) ≡ 0
+below_none k [] below = refl
+below_none k (e ∷ es) below = elim (is_lt (key_cmp k e.0)) as (λ b. is_lt (key_cmp k e.0) ≡ b → (b && below_all key_cmp k es) ≡ true → times k (list_map (λ e. e.0) (e ∷ es)) ≡ 0) [
+  | true ↦ λ less rest. elim (same_or_other e.0 k) [
+    | inl is ↦ absurd (let tie = itself keys_total exact_keys k in let f = ap (λ q. is_lt (key_cmp k q)) (sym is) in grind arith)
+    | inr other ↦ (let first = times_first k e.0 (list_map (λ e. e.0) es) in let no = one_other e.0 k other in let none = below_none k es rest in omega arith)
+  ]
+  | false ↦ λ less rest. absurd (cc)
+] refl below
+
+sorted_once : {V : Type 0} (es : List (Key × V)) → is_sorted key_cmp es ≡ true → (k : Key) → times k (list_map (λ e. e.0) es) ≤ 1
+sorted_once [] sorted k = omega arith
+sorted_once (e ∷ es) sorted k = elim (below_all key_cmp e.0 es) as (λ b. below_all key_cmp e.0 es ≡ b → (b && is_sorted key_cmp es) ≡ true → times k (list_map (λ e. e.0) (e ∷ es)) ≤ 1) [
+  | true ↦ λ below rest. (
+      let first = times_first k e.0 (list_map (λ e. e.0) es) in
+      let few = sorted_once es rest k in
+      elim (same_or_other e.0 k) [
+        | inl is ↦ (let none = below_none e.0 es below in let gone = ap (λ q. times q (list_map (λ e. e.0) es)) is in let one = ap (λ q. same q k) is ∙ one_itself k in omega arith)
+        | inr other ↦ (let no = one_other e.0 k other in omega arith)
+      ])
+  | false ↦ λ below rest. absurd (cc)
+] refl sorted
+
+test_one : (n : ℕ) → nat_eq n 1 ≡ true → n ≡ 1
+test_one n is = grind (arith, nat_tests)
+
+test_more : (n : ℕ) → 0 < n → nat_eq n 1 ≡ false → nat_eq (n - 1) 0 ≡ false
+test_more n more is = grind (arith, nat_tests)
+
+not_zero : (n : ℕ) → 0 < n → nat_eq n 0 ≡ false
+not_zero n more = grind (arith, nat_tests)
+
+is_zero : (n t : ℕ) → t ≡ (if nat_eq n 0 then 1 else 0) → 0 < t → n ≡ 0
+is_zero n t is more = grind (arith, nat_tests)
+
+-- the keys of a map are those of its entries
+any_there : (ks : List Key) (q : Key) → list_any (eq_by_cmp key_cmp q) ks ≡ true → 0 < times q ks
+any_there [] q is = absurd (cc)
+any_there (k ∷ ks) q is = elim (same_or_other k q) [
+  | inl e ↦ (let first = times_first q k ks in let one = ap (λ p. same p q) e ∙ one_itself q in omega arith)
+  | inr other ↦ (let first = times_first q k ks in
+      let rest = any_there ks q (sym (ap (λ b. b || list_any (eq_by_cmp key_cmp q) ks) (apart q k other)) ∙ is) in omega arith)
+]
+  where
+    apart : (q k : Key) → k ≢ q → eq_by_cmp key_cmp q k ≡ false
+    apart q k other = elim (eq_by_cmp key_cmp q k) as (λ b. eq_by_cmp key_cmp q k ≡ b → eq_by_cmp key_cmp q k ≡ false) [
+      | true ↦ λ tie. absurd (other (sym (tied keys_total exact_keys q k tie)))
+      | false ↦ λ is. is
+    ] refl
+
+there_any : (ks : List Key) (q : Key) → 0 < times q ks → list_any (eq_by_cmp key_cmp q) ks ≡ true
+there_any [] q more = absurd (omega arith)
+there_any (k ∷ ks) q more = elim (same_or_other k q) [
+  | inl e ↦ ap (λ b. b || list_any (eq_by_cmp key_cmp q) ks) (ap (eq_by_cmp key_cmp q) e ∙ itself keys_total exact_keys q)
+  | inr other ↦ (let first = times_first q k ks in let no = one_other k q other in let rest = there_any ks q (omega arith) in grind arith)
+]
+
+module _ {V : Type 0} (live : map.FinMap key_cmp V) where
+  key_there : (q : Key) → map.contains_key live q ≡ true → 0 < times q (map.keys live)
+  key_there q there = any_there (map.keys live) q (sym (map.contains_key-keys live q) ∙ there)
+
+  pub key_live : (q : Key) → 0 < times q (map.keys live) → map.contains_key live q ≡ true
+  key_live q more = map.contains_key-keys live q ∙ there_any (map.keys live) q more
+
+  pub keys_once : (q : Key) → times q (map.keys live) ≤ 1
+  keys_once = sorted_once (map.entries live) (T-true (is_sorted key_cmp (map.entries live)) (map.entries_sorted live))
+
+module _ {N E : Type 0} (nodes : Content N) (edges : Edges E) (into : ByNode) (lists : (k : Key) → ListsEdges to edges k (edges_at into k)) where
+  -- an edge is passed: the count of its end goes down, and its end comes into the list once no edge is left
+  module _ (counts : Pairs ℕ) (found passed : List Key) (sorting : Sorting nodes edges into counts found passed) (x : Key) (e : SeenEdge E) (there : map.get edges x ≡ Some e)
+      (new : times x passed ≡ 0) (start : 0 < times e.from found) (live : IsLive nodes e.to) where
+    in_list : times x (edges_at into e.to) ≡ 1
+    in_list = edge_listed to edges e.to (edges_at into e.to) (lists e.to) x e there refl
+
+    pub some_left : (n : ℕ) → get counts e.to ≡ Some n → 0 < n
+    some_left n is =
+        let entry = sorting.table e.to live in
+        let same_count : entry.0 ≡ n = (let h = entry.1 in cc) in
+        let less = passed_less passed sorting.once x (edges_at into e.to) (omega (arith, in_list)) new in
+        omega (arith, entry.2, same_count, less)
+
+    pub can_pass : (n : ℕ) × (get counts e.to ≡ Some n) × (0 < n)
+    can_pass = let entry = sorting.table e.to live in (entry.0, entry.1, some_left entry.0 entry.1)
+
+    module _ (counts' : Pairs ℕ) (found' : List Key) (counted : (n : ℕ) → get counts e.to ≡ Some n → get counts' e.to ≡ Some (n - 1)) (others : (q : Key) → q ≢ e.to → get counts' q ≡ get counts q)
+        (found_is : (n : ℕ) → get counts e.to ≡ Some n → found' ≡ (if nat_eq n 1 then found ++ e.to ∷ [] else found)) where
+      abbrev count : ℕ
+      count = (sorting.table e.to live).0
+
+      more_left : 0 < count
+      more_left = some_left count (sorting.table e.to live).1
+
+      not_yet : times e.to found ≡ 0
+      not_yet = (sorting.table e.to live).3 ∙ ap (λ b. if b then 1 else 0) (not_zero count more_left)
+
+      -- the end of the edge comes into the list, or the list stays
+      either : ((found' ≡ found ++ e.to ∷ []) × (count ≡ 1)) ⊎ ((found' ≡ found) × (nat_eq (count - 1) 0 ≡ false))
+      either = elim (nat_eq count 1) as (λ b. nat_eq count 1 ≡ b → found' ≡ (if b then found ++ e.to ∷ [] else found) → ((found' ≡ found ++ e.to ∷ []) × (count ≡ 1)) ⊎ ((found' ≡ found) × (nat_eq (count - 1) 0 ≡ false))) [
+        | true ↦ λ one is. inl (is, test_one count one)
+        | false ↦ λ more is. inr (is, test_more count more_left more)
+      ] refl (found_is count (sorting.table e.to live).1)
+
+      others_found : (q : Key) → q ≢ e.to → times q found' ≡ times q found
+      others_found q other = ⊎_elim
+          (λ last. (let sum = ap (times q) last.0 ∙ times_pushed q found e.to in let no = one_other e.to q (λ s. other (sym s)) in omega arith))
+          (λ stays. ap (times q) stays.0) either
+
+      here_found : times e.to found' ≡ (if nat_eq (count - 1) 0 then 1 else 0)
+      here_found = ⊎_elim
+          (λ last. (let sum = ap (times e.to) last.0 ∙ times_pushed e.to found e.to in let one = one_itself e.to in let none = not_yet in
+          let sure : times e.to found' ≡ 1 = omega arith in sure ∙ sym (ap (λ n. if nat_eq (n - 1) 0 then 1 else 0) last.1)))
+          (λ stays. ap (times e.to) stays.0 ∙ not_yet ∙ sym (ap (λ b. if b then 1 else 0) stays.1)) either
+
+      kept_found : (q : Key) → 0 < times q found → 0 < times q found'
+      kept_found q more = elim (same_or_other q e.to) [
+        | inl is ↦ absurd (let none = ap (λ k. times k found) is ∙ not_yet in omega arith)
+        | inr other ↦ (let same_times = others_found q other in omega arith)
+      ]
+
+      once_pushed : (q : Key) → times q (passed ++ x ∷ []) ≤ 1
+      once_pushed q = elim (same_or_other q x) [
+        | inl is ↦ (let sum = times_pushed q passed x in let none = ap (λ k. times k passed) is ∙ new in let one = ap (same x) is ∙ one_itself x in omega arith)
+        | inr other ↦ (let sum = times_pushed q passed x in let no = one_other x q (λ s. other (sym s)) in let few = sorting.once q in omega arith)
+      ]
+
+      -- each edge to a node that comes into the list was passed
+      all_passed : count ≡ 1 → (j : Key) → 0 < times j (edges_at into e.to) → 0 < times j (passed ++ x ∷ [])
+      all_passed one j there_too = elim (eq-zero-or-pos (times j (passed ++ x ∷ []))) [
+        | inl none ↦ absurd (
+            let less = passed_less (passed ++ x ∷ []) once_pushed j (edges_at into e.to) there_too none in
+            let sum = passed_more passed x (edges_at into e.to) in
+            let entry = (sorting.table e.to live).2 in
+            let mine = in_list in
+            omega (arith, less, sum, entry, mine, one))
+        | inr more ↦ more
+      ]
+
+      began_now : (k : Key) (d : SeenEdge E) → map.get edges k ≡ Some d → 0 < times k (passed ++ x ∷ []) → 0 < times d.from found
+      began_now k d at more = elim (same_or_other k x) [
+        | inl is ↦ (let one : d ≡ e = (let h = sym (ap (map.get edges) (sym is) ∙ at) ∙ there in cc) in rw one start)
+        | inr other ↦ sorting.began k d at (let sum = times_pushed k passed x in let no = one_other x k (λ s. other (sym s)) in omega arith)
+      ]
+
+      forward_now : GoesForward edges found'
+      forward_now k d before after at split = ⊎_elim
+          (λ last. elim (cut_at found (e.to ∷ []) before d.to after (sym last.0 ∙ split)) [
+            | inl old ↦ sorting.forward k d before old.0 at old.1
+            | inr end ↦ at_end last.1 end.0 end.1 end.2
+          ])
+          (λ stays. sorting.forward k d before after at (sym stays.0 ∙ split)) either
+        where
+          at_end : count ≡ 1 → (m : List Key) → before ≡ found ++ m → e.to ∷ [] ≡ m ++ d.to ∷ after → 0 < times d.from before
+          at_end one [] is last =
+              let same_end : d.to ≡ e.to = (cc) in
+              let mine = edge_listed to edges e.to (edges_at into e.to) (lists e.to) k d at same_end in
+              let from_found = began_now k d at (all_passed one k (omega (arith, mine))) in
+              let sum = ap (times d.from) is ∙ times_joined d.from found [] in
+              omega arith
+          at_end one (q ∷ m) is last = absurd (cons_not_nil m d.to after (cc))
+
+      table_now : (y : Key) → IsLive nodes y → (n : ℕ) × (get counts' y ≡ Some n) × (n + passed_of (passed ++ x ∷ []) (edges_at into y) ≡ length (edges_at into y)) × (times y found' ≡ (if nat_eq n 0 then 1 else 0))
+      table_now y y_live = elim (same_or_other y e.to) [
+        | inl is ↦ rw is here
+        | inr other ↦ (
+            let entry = sorting.table y y_live in
+            let none = lists y x ∙ ap (ends_at to y) there ∙ one_other e.to y (λ s. other (sym s)) in
+            let sum = passed_more passed x (edges_at into y) in
+            (entry.0, others y other ∙ entry.1, omega (arith, entry.2, none, sum), others_found y other ∙ entry.3))
+      ]
+        where
+          here : (n : ℕ) × (get counts' e.to ≡ Some n) × (n + passed_of (passed ++ x ∷ []) (edges_at into e.to) ≡ length (edges_at into e.to)) × (times e.to found' ≡ (if nat_eq n 0 then 1 else 0))
+          here =
+              let entry = sorting.table e.to live in
+              let sum = passed_more passed x (edges_at into e.to) in
+              let mine = in_list in
+              let more = more_left in
+              (count - 1, counted count entry.1, omega (arith, entry.2, sum, mine, more), here_found)
+
+      live_now : (y : Key) → 0 < times y found' → IsLive nodes y
+      live_now y more = elim (same_or_other y e.to) [
+        | inl is ↦ rw is live
+        | inr other ↦ sorting.live y (let same_times = others_found y other in omega arith)
+      ]
+
+      pub sorting_step : Sorting nodes edges into counts' found' (passed ++ x ∷ [])
+      sorting_step = record {
+        table = table_now;
+        live = live_now;
+        forward = forward_now;
+        began = λ k d at more. kept_found d.from (began_now k d at more);
+        once = once_pushed;
+      }
+
+  -- all nodes were counted
+  pub sorting_start : (counts : Pairs ℕ) (found : List Key) → Counting nodes into counts found (map.keys nodes.live) → Sorting nodes edges into counts found []
+  sorting_start counts found counting = record {
+    table = λ y live. (
+        let entry = counting.table y (key_there nodes.live y live) in
+        let none = passed_none (edges_at into y) in
+        (length (edges_at into y), entry.0, omega arith, entry.1));
+    live = λ y more. key_live nodes.live y (elim (eq-zero-or-pos (times y (map.keys nodes.live))) [
+      | inl none ↦ absurd (let gone = counting.others y none in omega arith)
+      | inr there ↦ there
+    ]);
+    forward = λ k e before after at split. absurd (
+        let there : 0 < times e.to found = (let sum = ap (times e.to) split ∙ in_midst before e.to after in omega arith) in
+        let listed = edge_listed to edges e.to (edges_at into e.to) (lists e.to) k e at refl in
+        elim (eq-zero-or-pos (times e.to (map.keys nodes.live))) [
+          | inl none ↦ (let gone = counting.others e.to none in omega arith)
+          | inr known ↦ (
+              let entry = counting.table e.to known in
+              let empty : length (edges_at into e.to) ≡ 0 = is_zero (length (edges_at into e.to)) (times e.to found) entry.1 there in
+              none_in k (edges_at into e.to) empty listed)
+        ]);
+    began = λ x e at more. absurd (omega arith);
+    once = λ x. omega arith;
+  }
+    where
+      none_in : (k : Key) (js : List Key) → length js ≡ 0 → times k js ≡ 1 → ⊥
+      none_in k [] empty one = absurd (omega arith)
+      none_in k (j ∷ js) empty one = absurd (omega arith)
+
+-- each node is found once
+module _ {N E : Type 0} (nodes : Content N) (edges : Edges E) (into : ByNode) (counts : Pairs ℕ) (found passed : List Key) (sorting : Sorting nodes edges into counts found passed) where
+  pub found_once : (x : Key) → times x found ≤ 1
+  found_once x = elim (eq-zero-or-pos (times x found)) [
+    | inl none ↦ omega arith
+    | inr more ↦ few (sorting.table x (sorting.live x more)).0 (sorting.table x (sorting.live x more)).3
+  ]
+    where
+      few : (n : ℕ) → times x found ≡ (if nat_eq n 0 then 1 else 0) → times x found ≤ 1
+      few n is = grind (arith, nat_tests)
+
+  pub found_fits : length found ≤ map.len nodes.live
+  found_fits = no_more_than nodes.live found found_once sorting.live
+
+-- the outgoing edges of some nodes
+module _ {E : Type 0} (edges : Edges E) (out : ByNode) (lists : (k : Key) → ListsEdges from edges k (edges_at out k)) where
+  pub out_times : (ks : List Key) (x : Key) (e : SeenEdge E) → map.get edges x ≡ Some e → times x (edges_out out ks) ≡ times e.from ks
+  out_times [] x e there = refl
+  out_times (k ∷ ks) x e there =
+      let sum = times_joined x (edges_at out k) (edges_out out ks) in
+      let here = lists k x ∙ ap (ends_at from k) there in
+      let rest = out_times ks x e there in
+      let first = times_first e.from k ks in
+      let turned = same_turned e.from k in
+      omega arith
+
+  -- an edge that was not passed is the next one of a node whose edges were not passed before
+  pub next_new : (done passed rest : List Key) (a x : Key) (e : SeenEdge E) → map.get edges x ≡ Some e → e.from ≡ a → times a done ≡ 0 → passed ++ x ∷ rest ≡ edges_at out a
+      → times x (edges_out out done ++ passed) ≡ 0
+  next_new done passed rest a x e there at none split =
+      let before = out_times done x e there ∙ ap (λ q. times q done) at ∙ none in
+      let one = lists a x ∙ ap (ends_at from a) there ∙ ap (λ q. same q a) at ∙ one_itself a in
+      let twice = ap (times x) split in
+      let sum = times_joined x (edges_out out done) passed in
+      let inner = in_midst passed x rest in
+      omega arith
+
+pub edges_out_more : (out : ByNode) (ks : List Key) (a : Key) → edges_out out (ks ++ a ∷ []) ≡ edges_out out ks ++ edges_at out a
+edges_out_more out [] a = append-nil (edges_at out a)
+edges_out_more out (k ∷ ks) a = ap (λ l. edges_at out k ++ l) (edges_out_more out ks a) ∙ sym (append_assoc (edges_at out k) (edges_out out ks) (edges_at out a))
+
+-- as many keys as there are, each of them live, are all of them
+covers : {V : Type 0} (live : map.FinMap key_cmp V) (ks : List Key) → ((x : Key) → map.contains_key live x ≡ true → 0 < times x ks) → map.len live ≤ length ks
+covers {V} live [] all = let none = none_found live (λ k v there. absurd (let more = all k (ap is_some there) in omega arith)) in let zero_len = ap map.len none ∙ map.len-empty key_cmp V in omega arith
+covers live (k ∷ ks) all =
+    let rest = covers (map.remove live k) ks (λ x there. (elim (same_or_other x k) [
+      | inl is ↦ absurd (let gone : map.contains_key (map.remove live k) k ≡ false = grind (arith, keys) in let f = ap (map.contains_key (map.remove live k)) is in cc)
+      | inr other ↦ (let still : map.contains_key live x ≡ true = grind (arith, keys) in
+          let more = all x still in let first = times_first x k ks in let no = one_other k x (λ s. other (sym s)) in omega arith)
+    ])) in
+    elim (map.contains_key live k) as (λ b. map.contains_key live k ≡ b → map.len live ≤ length (k ∷ ks)) [
+      | true ↦ λ there. (let less = len_removed keys_total exact_keys live k there in omega arith)
+      | false ↦ λ gone. (let same_len : map.len (map.remove live k) ≡ map.len live = map.len-remove keys_total live k ∙ ap (λ b. if b then map.len live - 1 else map.len live) gone in omega arith)
+    ] refl
+
+pub all_there : {V : Type 0} (live : map.FinMap key_cmp V) (ks : List Key) → ((x : Key) → times x ks ≤ 1) → ((x : Key) → 0 < times x ks → map.contains_key live x ≡ true) → length ks ≡ map.len live
+    → (x : Key) → map.contains_key live x ≡ true → 0 < times x ks
+all_there live ks once there many x x_live = elim (eq-zero-or-pos (times x ks)) [
+  | inl none ↦ absurd (
+      let few = no_more_than (map.remove live x) ks once (λ q more. live-remove_other live x q (λ is. (let gone = ap (λ k. times k ks) is ∙ none in omega arith)) (there q more)) in
+      let less = len_removed keys_total exact_keys live x x_live in
+      omega arith)
+  | inr more ↦ more
+]
+
+-- one of these keys isn't in a list, or all are
+find_missing : (ks found : List Key) → ((k : Key) × (0 < times k ks) × (times k found ≡ 0)) ⊎ ((k : Key) → 0 < times k ks → 0 < times k found)
+find_missing [] found = inr (λ k more. absurd (omega arith))
+find_missing (k ∷ ks) found = elim (eq-zero-or-pos (times k found)) [
+  | inl none ↦ inl (k, (let first = times_first k k ks in let one = one_itself k in omega arith), none)
+  | inr there ↦ elim (find_missing ks found) [
+    | inl some ↦ inl (some.0, (let first = times_first some.0 k ks in let more = some.1 in omega arith), some.2)
+    | inr all ↦ inr (λ q more. (elim (same_or_other k q) [
+      | inl is ↦ rw (← is) there
+      | inr other ↦ all q (let first = times_first q k ks in let no = one_other k q other in omega arith)
+    ]))
+  ]
+]
+
+-- an edge that was not passed
+some_unpassed : (passed js : List Key) → passed_of passed js < length js → (j : Key) × (0 < times j js) × (times j passed ≡ 0)
+some_unpassed passed [] less = absurd (omega arith)
+some_unpassed passed (j ∷ js) less = elim (eq-zero-or-pos (times j passed)) [
+  | inl none ↦ (j, (let first = times_first j j js in let one = one_itself j in omega arith), none)
+  | inr there ↦ (let later = some_unpassed passed js (omega arith) in (later.0, (let first = times_first later.0 j js in let more = later.1 in omega arith), later.2))
+]
+
+leads_from : {E : Type 0} (edges : Edges E) (y h x : Key) → HasEdge edges y h → (n : ℕ) → LeadsBy edges n h x → LeadsBy edges (suc n) y x
+leads_from edges y h x join zero is = (y, refl, rw (← is) join)
+leads_from edges y h x join (suc n) path = (path.0, leads_from edges y h path.0 join n path.1, path.2)
+
+-- all edges of the nodes that were found were passed
+module _ {N E : Type 0} (nodes : Content N) (edges : Edges E) (out into : ByNode) (ends : EndsLive nodes edges) (out_lists : (k : Key) → ListsEdges from edges k (edges_at out k))
+    (into_lists : (k : Key) → ListsEdges to edges k (edges_at into k)) (counts : Pairs ℕ) (found : List Key) (sorting : Sorting nodes edges into counts found (edges_out out found)) where
+  -- a node that was not found has an edge from another one
+  before : (y : Key) → IsLive nodes y → times y found ≡ 0 → (p : Key) × HasEdge edges p y × IsLive nodes p × (times p found ≡ 0)
+  before y live missing =
+      let entry = sorting.table y live in
+      let left : 0 < entry.0 = not_found_left entry.0 entry.3 in
+      let some = some_unpassed (edges_out out found) (edges_at into y) (omega (arith, entry.2, left)) in
+      let e = listed_edge to edges y (edges_at into y) (into_lists y) some.0 some.1 in
+      (e.0.from, (some.0, e.0, e.1, refl, e.2), (ends some.0 e.0 e.1).0, sym (out_times edges out out_lists found some.0 e.0 e.1) ∙ some.2)
+    where
+      not_found_left : (n : ℕ) → times y found ≡ (if nat_eq n 0 then 1 else 0) → 0 < n
+      not_found_left n is = grind (arith, nat_tests)
+
+  -- back from node to node, until one comes again
+  climb : (fuel : ℕ) (ks : List Key) (head : Key) → IsLive nodes head → times head found ≡ 0 → ((x : Key) → times x ks ≤ 1) → ((x : Key) → 0 < times x ks → IsLive nodes x × Leads edges head x)
+      → map.len nodes.live < length ks + fuel → HasCycle edges
+  climb zero ks head live missing once led enough = absurd (let few = no_more_than nodes.live ks once (λ x more. (led x more).0) in omega arith)
+  climb (suc fuel) ks head live missing once led enough =
+      let p = before head live missing in
+      elim (eq-zero-or-pos (times p.0 ks)) [
+        | inr again ↦ (p.0, head, p.1, (led p.0 again).1)
+        | inl new ↦ climb fuel (p.0 ∷ ks) p.0 p.2 p.3
+            (λ x. (elim (same_or_other p.0 x) [
+              | inl is ↦ (let first = times_first x p.0 ks in let one = ap (λ q. same q x) is ∙ one_itself x in let none = ap (λ q. times q ks) (sym is) ∙ new in omega arith)
+              | inr other ↦ (let first = times_first x p.0 ks in let no = one_other p.0 x other in let few = once x in omega arith)
+            ]))
+            (λ x more. (elim (same_or_other p.0 x) [
+              | inl is ↦ rw (← is) (p.2, (zero, refl))
+              | inr other ↦ (let old = led x (let first = times_first x p.0 ks in let no = one_other p.0 x other in omega arith) in (old.0, (suc old.1.0, leads_from edges p.0 head x p.1 old.1.0 old.1.1)))
+            ]))
+            (omega arith)
+      ]
+
+  pub some_cycle : (length found ≡ map.len nodes.live → ⊥) → HasCycle edges
+  some_cycle differ = elim (find_missing (map.keys nodes.live) found) [
+    | inl some ↦ climb (map.len nodes.live + 1) [] some.0 (key_live nodes.live some.0 some.1) some.2 (λ x. omega arith) (λ x more. absurd (omega arith)) (omega arith)
+    | inr all ↦ absurd (differ (
+        let many = covers nodes.live found (λ x live. all x (key_there nodes.live x live)) in
+        let few = found_fits nodes edges into counts found (edges_out out found) sorting in
+        omega arith))
+  ]
+
+  pub each_once : length found ≡ map.len nodes.live → (x : Key) → times x found ≡ (if map.contains_key nodes.live x then 1 else 0)
+  each_once many x = elim (map.contains_key nodes.live x) as (λ b. map.contains_key nodes.live x ≡ b → times x found ≡ (if b then 1 else 0)) [
+    | true ↦ λ live. (let more = all_there nodes.live found (found_once nodes edges into counts found (edges_out out found) sorting) sorting.live many x live in let few = found_once nodes edges into counts found (edges_out out found) sorting x in omega arith)
+    | false ↦ λ gone. (elim (eq-zero-or-pos (times x found)) [ inl none ↦ none | inr more ↦ absurd (let live = sorting.live x more in cc) ])
+  ] refl
+
+-- what leads to a node of an order is before it
+module _ {E : Type 0} (edges : Edges E) (ks : List Key) (forward : GoesForward edges ks) where
+  led_before : (n : ℕ) (x y : Key) (before after : List Key) → ks ≡ before ++ y ∷ after → LeadsBy edges n x y → (x ≡ y) ⊎ (0 < times x before)
+  led_before zero x y before after split is = inl is
+  led_before (suc n) x y before after split path =
+      let e = path.2 in
+      let there : 0 < times path.0 before = rw (← e.3) (forward e.0 e.1 before after e.2 (split ∙ ap (λ q. before ++ q ∷ after) (sym e.4))) in
+      let inner = split_at path.0 before there in
+      let whole : ks ≡ inner.0 ++ path.0 ∷ (inner.1 ++ y ∷ after) = split ∙ ap (λ l. l ++ y ∷ after) inner.2 ∙ append_assoc inner.0 (path.0 ∷ inner.1) (y ∷ after) in
+      elim (led_before n x path.0 inner.0 (inner.1 ++ y ∷ after) whole path.1) [
+        | inl is ↦ inr (rw is there)
+        | inr more ↦ inr (let sum = ap (times x) inner.2 ∙ times_joined x inner.0 (path.0 ∷ inner.1) in omega arith)
+      ]
+
+  -- so there is no cycle of nodes that are in it, each once
+  pub no_cycle : ((x : Key) → times x ks ≤ 1) → ((a b : Key) → HasEdge edges a b → 0 < times b ks) → HasCycle edges → ⊥
+  no_cycle once there cycle =
+      let a = cycle.0 in
+      let b = cycle.1 in
+      let e = cycle.2 in
+      let split = split_at b ks (there a b e) in
+      let first : 0 < times a split.0 = subst (λ q. 0 < times q split.0) e.3 (forward e.0 e.1 split.0 split.1 e.2 (split.2 ∙ ap (λ q. split.0 ++ q ∷ split.1) (sym e.4))) in
+      let inner = split_at a split.0 first in
+      let whole : ks ≡ inner.0 ++ a ∷ (inner.1 ++ b ∷ split.1) = split.2 ∙ ap (λ l. l ++ b ∷ split.1) inner.2 ∙ append_assoc inner.0 (a ∷ inner.1) (b ∷ split.1) in
+      let few = once b in
+      let sum = ap (times b) split.2 ∙ in_midst split.0 b split.1 in
+      let part = ap (times b) inner.2 ∙ times_joined b inner.0 (a ∷ inner.1) in
+      elim (led_before cycle.3.0 b a inner.0 (inner.1 ++ b ∷ split.1) whole cycle.3.1) [
+        | inl is ↦ (let back = ap (λ q. times q split.0) is in omega arith)
+        | inr more ↦ omega arith
+      ]
+
+-- a key that is in a list once isn't before its place
+pub fresh_at : (ks : List Key) (i : ℕ) (k : Key) → i < length ks → k ≡ get_or ks i k → times k ks ≤ 1 → times k (take i ks) ≡ 0
+fresh_at ks i k below is once =
+    let sum : times k (take i ks) + times k (drop i ks) ≡ times k ks = sum_by-take-drop (λ q. same q k) ks i in
+    let split = ap (times k) (behind_split ks i k below is) ∙ times_first k k (drop (i + 1) ks) in
+    let one = one_itself k in
+    omega arith
+
+pub goes_more : (b : Bool) (old found found' : List Key) (y : Key) → found' ≡ (if b then found ++ y ∷ [] else found) → GoesOn old found → GoesOn old found'
+goes_more true old found found' y is goes = (goes.0 ++ y ∷ [], is ∙ ap (λ l. l ++ y ∷ []) goes.1 ∙ append_assoc old goes.0 (y ∷ []))
+goes_more false old found found' y is goes = (goes.0, is ∙ goes.1)
+
+-- one more node is counted
+module _ {N : Type 0} (nodes : Content N) (into : ByNode) (counts counts' : Pairs ℕ) (found found' done : List Key) (counting : Counting nodes into counts found done) (y : Key) (live : IsLive nodes y)
+    (new : times y done ≡ 0) (here : get counts' y ≡ Some (length (edges_at into y))) (others : (q : Key) → q ≢ y → get counts' q ≡ get counts q)
+    (found_is : found' ≡ (if nat_eq (length (edges_at into y)) 0 then found ++ y ∷ [] else found)) where
+  count_others : (q : Key) → q ≢ y → times q found' ≡ times q found
+  count_others q other = elim (nat_eq (length (edges_at into y)) 0) as (λ b. found' ≡ (if b then found ++ y ∷ [] else found) → times q found' ≡ times q found) [
+    | true ↦ λ is. (let sum = ap (times q) is ∙ times_pushed q found y in let no = one_other y q (λ s. other (sym s)) in omega arith)
+    | false ↦ λ is. ap (times q) is
+  ] found_is
+
+  count_here : times y found' ≡ (if nat_eq (length (edges_at into y)) 0 then 1 else 0)
+  count_here = elim (nat_eq (length (edges_at into y)) 0) as (λ b. found' ≡ (if b then found ++ y ∷ [] else found) → times y found' ≡ (if b then 1 else 0)) [
+    | true ↦ λ is. (let sum = ap (times y) is ∙ times_pushed y found y in let one = one_itself y in let none = counting.others y new in omega arith)
+    | false ↦ λ is. ap (times y) is ∙ counting.others y new
+  ] found_is
+
+  pub counting_step : Counting nodes into counts' found' (done ++ y ∷ [])
+  counting_step = record {
+    beside = λ q there. elim (same_or_other q y) [
+      | inl is ↦ rw is live
+      | inr other ↦ counting.beside q (ap is_some (sym (others q other)) ∙ there)
+    ];
+    table = λ q more. elim (same_or_other q y) [
+      | inl is ↦ rw is (here, count_here)
+      | inr other ↦ (
+          let entry = counting.table q (let sum = times_pushed q done y in let no = one_other y q (λ s. other (sym s)) in omega arith) in
+          (others q other ∙ entry.0, count_others q other ∙ entry.1))
+    ];
+    others = λ q none. elim (same_or_other q y) [
+      | inl is ↦ absurd (let sum = times_pushed q done y in let one = ap (same y) is ∙ one_itself y in omega arith)
+      | inr other ↦ count_others q other ∙ counting.others q (let sum = times_pushed q done y in omega arith)
+    ];
+  }
+
+pub counting_none : {N : Type 0} (nodes : Content N) (into : ByNode) (counts : Pairs ℕ) (found : List Key) → counts ≡ map.empty → found ≡ [] → Counting nodes into counts found []
+counting_none nodes into counts found none empty = record {
+  beside = beside_empty nodes counts none;
+  table = λ y more. absurd (omega arith);
+  others = λ y no. ap (times y) empty;
+}
