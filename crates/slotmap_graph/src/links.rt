@@ -98,17 +98,17 @@ pub(crate) fn list_ends<K: Key, N: Drop>(
     }
 }
 
-// The edge after this one.
-pub(crate) fn next_of<E: Drop>(
+// The link of an edge, or that of an edge in no list if it doesn't exist.
+pub(crate) fn link_of<E: Drop>(
     edges: &Edges<E>,
     direction: Direction,
     key: EdgeKey,
-) -> Option<EdgeKey>
-    ensures { result ≡ (link_in direction edges.now.live key).next }
+) -> Link<EdgeKey>
+    ensures { result ≡ link_in direction edges.now.live key }
 {
     match edges.get(key) {
-        Some(edge) => edge.link(direction).next,
-        None => None,
+        Some(edge) => edge.link(direction),
+        None => no_link(),
     }
 }
 
