@@ -4,7 +4,7 @@ ghost use Rattle.std.specs.Prelude.{◌≡◌, ◌<◌, ◌++◌, [], ◌∷◌,
 ghost use Rattle.slotmap.specs.Words.{Key as KeyOf, IsContent, IsLive};
 ghost use Rattle.slotmap_keylist.specs.KeyLists.{is_key, times, without};
 ghost use Rattle.slotmap_keylist.specs.Splice.{own, with_next, with_prev};
-ghost use Rattle.slotmap_graph.specs.Threads.{no_ends as empty_ends, no_link as empty_link, IsThreaded, KeepsEdges, Rethreads, ends_in, edge_link, link_in, listed, node_ends, with_ends, with_link};
+ghost use Rattle.slotmap_graph.specs.Threads.{IsThreaded, KeepsEdges, Rethreads, ends_in, edge_link, link_in, listed, node_ends, with_ends, with_link};
 
 use crate::{Edge, EdgeKey, Node};
 use slotmap::{Key, SlotMap};
@@ -20,27 +20,6 @@ pub(crate) enum Direction {
 pub(crate) type Nodes<K, N> = SlotMap<K, Node<N>>;
 
 pub(crate) type Edges<E> = SlotMap<EdgeKey, Edge<E>>;
-
-// The ends of an empty list.
-pub(crate) fn no_ends() -> Ends<EdgeKey>
-    ensures { result ≡ empty_ends }
-{
-    Ends {
-        first: None,
-        last: None,
-        len: 0,
-    }
-}
-
-// The link of an edge in no list.
-pub(crate) fn no_link() -> Link<EdgeKey>
-    ensures { result ≡ empty_link }
-{
-    Link {
-        prev: None,
-        next: None,
-    }
-}
 
 impl<N> Node<N> {
     // The ends of one of its two lists.
@@ -94,7 +73,7 @@ pub(crate) fn list_ends<K: Key, N: Drop>(
 {
     match nodes.get(node) {
         Some(node) => node.ends(direction),
-        None => no_ends(),
+        None => Ends::none(),
     }
 }
 
@@ -108,7 +87,7 @@ pub(crate) fn link_of<E: Drop>(
 {
     match edges.get(key) {
         Some(edge) => edge.link(direction),
-        None => no_link(),
+        None => Link::none(),
     }
 }
 
