@@ -10,9 +10,8 @@ use Rattle.std.specs.FinMap.Entries.{below_all, is_sorted}
 use Rattle.slotmap.specs.Words.{Key, key_cmp, Content, IsLive, Pairs, get}
 use Rattle.slotmap.proofs.Callers.{same_or_other, keys_total, exact_keys, itself, tied, keys, len_removed, live-remove_other, none_found, beside_empty}
 use Rattle.slotmap_keylist.specs.KeyLists.{same, times}
-use Rattle.slotmap_keylist.proofs.Counts.{one_itself, one_other, times_first, times_pushed, times_joined, behind_split}
+use Rattle.slotmap_keylist.proofs.Counts.{one_itself, one_other, times_first, times_pushed, times_joined, behind_split, no_more_than}
 use Rattle.slotmap_keylist.proofs.Linking.{cut_at, split_at, in_midst, cons_not_nil}
-use Rattle.slotmap_keylist.proofs.Splicing.{no_more_than}
 use Rattle.slotmap_graph.specs.Parts.{SeenEdge, Edges, ByNode, EndsLive, ListsEdges, edges_at, ends_at, from, to}
 use Rattle.slotmap_graph.specs.Search.{GoesOn, HasEdge, Leads, LeadsBy}
 use Rattle.slotmap_graph.specs.TopologicalOrder.{GoesForward, HasCycle, edges_out, passed_of, Sorting, Counting}
@@ -290,7 +289,7 @@ module _ {N E : Type 0} (nodes : Content N) (edges : Edges E) (into : ByNode) (c
       few n is = grind (arith, nat_tests)
 
   pub found_fits : length found ≤ map.len nodes.live
-  found_fits = no_more_than nodes.live found found_once sorting.live
+  found_fits = no_more_than found nodes.live found_once sorting.live
 
 -- the outgoing edges of some nodes
 module _ {E : Type 0} (edges : Edges E) (out : ByNode) (lists : (k : Key) → ListsEdges from edges k (edges_at out k)) where
@@ -337,7 +336,7 @@ pub all_there : {V : Type 0} (live : map.FinMap key_cmp V) (ks : List Key) → (
     → (x : Key) → map.contains_key live x ≡ true → 0 < times x ks
 all_there live ks once there many x x_live = elim (eq-zero-or-pos (times x ks)) [
   | inl none ↦ absurd (
-      let few = no_more_than (map.remove live x) ks once (λ q more. live-remove_other live x q (λ is. (let gone = ap (λ k. times k ks) is ∙ none in omega arith)) (there q more)) in
+      let few = no_more_than ks (map.remove live x) once (λ q more. live-remove_other live x q (λ is. (let gone = ap (λ k. times k ks) is ∙ none in omega arith)) (there q more)) in
       let less = len_removed keys_total exact_keys live x x_live in
       omega arith)
   | inr more ↦ more
@@ -387,7 +386,7 @@ module _ {N E : Type 0} (nodes : Content N) (edges : Edges E) (out into : ByNode
   -- back from node to node, until one comes again
   climb : (fuel : ℕ) (ks : List Key) (head : Key) → IsLive nodes head → times head found ≡ 0 → ((x : Key) → times x ks ≤ 1) → ((x : Key) → 0 < times x ks → IsLive nodes x × Leads edges head x)
       → map.len nodes.live < length ks + fuel → HasCycle edges
-  climb zero ks head live missing once led enough = absurd (let few = no_more_than nodes.live ks once (λ x more. (led x more).0) in omega arith)
+  climb zero ks head live missing once led enough = absurd (let few = no_more_than ks nodes.live once (λ x more. (led x more).0) in omega arith)
   climb (suc fuel) ks head live missing once led enough =
       let p = before head live missing in
       elim (eq-zero-or-pos (times p.0 ks)) [

@@ -2,7 +2,7 @@
 use Rattle.std.proofs.Common.{◌≡◌, ℕ, suc, ◌-◌, ◌<◌, ◌⊎◌, Option, Some, None, List, [], ◌∷◌, ◌++◌, length, inl, inr, refl, sym, ap, ◌∙◌, arith, append_assoc, append-nil, length-append}
 use Rattle.std.proofs.lemmas.Option.{same_Some}
 use Rattle.slotmap.specs.Words.{Key}
-use Rattle.slotmap_keylist.specs.Linked.{first_or, last_or, link_between, follow, IsLinked}
+use Rattle.slotmap_keylist.specs.Linked.{first_or, last_or, link_between, follow, AreLinked}
 use Rattle.slotmap_keylist.specs.Segment.{IsSegment}
 use Rattle.slotmap_keylist.specs.declared.Ends.{Ends}
 use Rattle.slotmap_keylist.specs.declared.Link.{Link}
@@ -24,7 +24,7 @@ follow_ahead link before (k ∷ ks) after links =
     ∙ ap (λ l. k ∷ l) (follow_ahead link (before ++ k ∷ []) ks after (λ b x a is. links b x a (sym (append_assoc before (k ∷ []) (ks ++ after)) ∙ is)))
 
 -- the whole list is left at the beginning
-pub segment_start : {ends : Key → Ends Key} {link : Key → Link Key} {lists : Key → List Key} → IsLinked ends link lists → (p : Key) → IsSegment link (ends p).len (ends p).first (ends p).last
+pub segment_start : {ends : Key → Ends Key} {link : Key → Link Key} {lists : Key → List Key} → AreLinked ends link lists → (p : Key) → IsSegment link (ends p).len (ends p).first (ends p).last
 segment_start {lists = lists} linked p = record {
   before = [];
   ahead = lists p;
