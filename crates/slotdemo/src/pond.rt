@@ -30,7 +30,7 @@ pub struct Pond {
 
 // The stone after this one.
 fn next_stone(stones: &Stones, from: NodeKey) -> Option<NodeKey> {
-    let edge = *stones.edges_from(from).first()?;
+    let edge = stones.edges_from(from).next()?;
     let (_, to) = stones.edge_ends(edge)?;
     Some(to)
 }

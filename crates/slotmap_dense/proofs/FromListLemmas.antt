@@ -28,10 +28,7 @@ module _ {V : Type 0} (records : List (SlotRecord V)) (made : SlotRecord V) wher
 
 -- the index of a live key is the position of a record
 listed_before : {V : Type 0} (records : List (SlotRecord V)) (q : Key) → map.contains_key (start_live records) q ≡ true → q.index < length records
-listed_before records q there =
-    let value = some_is (map.get (start_live records) q) there in
-    let at = live_in records q value.0 value.1 in
-    slice_get_within records q.index at.0 at.1
+listed_before records q there = grind (arith, some_is, start_live, live_in, slice_get_within)
 
 -- what a record says but for its value
 abbrev shape : {V : Type 0} → SlotRecord V → ℕ × Bool
@@ -51,14 +48,7 @@ unfolding start_live
 nothing V = refl
 
 pub AreSplit-start : (V : Type 0) → AreSplit {V = V} [] [] [] []
-AreSplit-start V = record {
-  alike = refl;
-  packed = rw (nothing ℕ) IsPacked-none;
-  lives = sym (nothing V);
-  same_length = refl;
-  fewer = omega arith;
-  ascending = rw (nothing V, entries_none);
-}
+AreSplit-start V = grind (arith, nothing, IsPacked-none, entries_none)
 
 module _ {V : Type 0} (records : List (SlotRecord V)) (positions : List (SlotRecord ℕ)) (keys : List Key) (values : List V) (split : AreSplit records positions keys values) where
   pub same_places : length positions ≡ length records
@@ -92,16 +82,7 @@ module _ {V : Type 0} (records : List (SlotRecord V)) (positions : List (SlotRec
 
   -- a record without a value
   pub AreSplit-none : (made : SlotRecord V) → made.value ≡ None → AreSplit (records ++ made ∷ []) (positions ++ record { value = None; version = made.version } ∷ []) keys values
-  AreSplit-none made none =
-      let p : SlotRecord ℕ = record { value = None; version = made.version } in
-      record {
-        alike = more made p (grind arith);
-        packed = rw (contents-none positions p refl) split.packed;
-        lives = rw (contents-none records made none) split.lives;
-        same_length = split.same_length;
-        fewer = omega (arith, length_push records made, split.fewer);
-        ascending = rw (contents-none records made none) split.ascending;
-      }
+  AreSplit-none made none = grind (arith, more, contents-none, length_push)
 
 -- what is collected from two lists that look the same
 gather-alike : {V E M : Type 0} (empty : M) (put : M → E → M) (entry : ℕ → SlotRecord V → Option E) (entry_of : ℕ → SlotRecord ℕ → Option E)

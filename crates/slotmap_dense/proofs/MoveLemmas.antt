@@ -23,11 +23,7 @@ kept_not_live c k well kept = none_of (map.get c.live k) (false_of (map.contains
 -- k is appended to the list, at the position that the slots have for it
 module _ {V : Type 0} (slots : Content ℕ) (keys : List Key) (values : List V) (sound : IsSound slots keys values) (new : Content ℕ) (k : Key) (v : V) (none : map.get slots.live k ≡ None) where
   pub IsSound-appended : new.live ≡ map.insert slots.live k (length keys) → IsContent true new → IsSound new (keys ++ k ∷ []) (values ++ v ∷ [])
-  IsSound-appended live well = record {
-    well = well;
-    packed = rw live (IsPacked-push slots.live keys sound.packed k none);
-    same_length = omega (arith, length_push values v, length_push keys k, sound.same_length);
-  }
+  IsSound-appended live well = grind (arith, IsPacked-push, length_push)
 
   module _ (before after : ℕ) (more : before ≤ after) where
     pub inserts-dense : Inserts slots k (length keys) new → Inserts (dense_of slots keys values before).content k v (dense_of new (keys ++ k ∷ []) (values ++ v ∷ []) after).content
@@ -46,11 +42,7 @@ module _ {V : Type 0} (slots : Content ℕ) (keys : List Key) (values : List V) 
   live-left = rest-closed slots.live new.live keys values sound.packed sound.same_length k v i at closed 0 (omega arith)
 
   pub IsSound-closed : IsContent true new → IsSound new (swap_remove keys i k) (swap_remove values i v)
-  IsSound-closed well = record {
-    well = well;
-    packed = closed;
-    same_length = omega (arith, inside, length-swap_remove keys i k inside, length-swap_remove values i v, sound.same_length);
-  }
+  IsSound-closed well = grind (arith, inside, length-swap_remove)
 
   pub removes-dense : (spare : ℕ) → Removes slots k left → new ≡ record left { live = new.live }
       → Removes (dense_of slots keys values spare).content k (dense_of new (swap_remove keys i k) (swap_remove values i v) spare).content

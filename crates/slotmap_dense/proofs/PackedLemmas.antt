@@ -115,11 +115,7 @@ module _ (positions : map.FinMap key_cmp ℕ) (keys : List Key) (packed : IsPack
 
 -- no key has a position
 pub IsPacked-none : IsPacked map.empty []
-IsPacked-none = record {
-  counted = sym (map.len-empty key_cmp ℕ);
-  names = λ i k there. absurd (cc);
-  stands = λ k i at. let wrong = sym at ∙ map.get-empty key_cmp k in absurd (cc);
-}
+IsPacked-none = grind (arith, map.len-empty, map.get-empty)
 
 -- the last key has moved into the gap
 module _ (positions : map.FinMap key_cmp ℕ) (keys : List Key) (i : ℕ) (gapped : IsGapped positions keys i) (d : Key) where

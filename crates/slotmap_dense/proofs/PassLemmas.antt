@@ -111,15 +111,7 @@ module _ {F K V : Type 0} (g : Mut F (K × (MutBor V × Unit {0})) (Bool × (Mut
       pub so_far : SoFar data_of old visits s.position s.held
 
     pub Going-start : IsDense old → Going (stage 0 old first)
-    Going-start well = record {
-      well = well;
-      leaves = Leaves-refl old.content;
-      capacity = refl;
-      visits = [];
-      calls = refl;
-      visited = subst (λ rest. Visits data_of old.content.live [] rest old.content.live) (sym (rest-start old well)) (Visits-start data_of old.content.live);
-      so_far = SoFar-start data_of old;
-    }
+    Going-start well = grind (arith, Leaves-refl, rest-start, Visits-start, SoFar-start)
 
     -- a call writes a value, and the pair isn't to come any more
     module _ (s t : Stage F (Dense V)) (x : Visit K V) (going : Going s) (calls : Calls (packed_order data_of) g s x t) where
@@ -202,9 +194,7 @@ module _ {F K V : Type 0} (g : Mut F (K × (MutBor V × Unit {0})) (Bool × (Mut
 
     -- its pair is at the position
     pub Rejected-stands : (t : Stage F (Dense V)) (rejected : Rejected t) → slice_get t.held.keys t.position ≡ Some (data_of rejected.rejects.visit.key)
-    Rejected-stands t rejected =
-        let one = rejected.rejects in
-        ap (λ d. slice_get d.keys t.position) one.calls.written ∙ ap (slice_get rejected.last.held.keys) (rejected_at rejected.last t one) ∙ one.calls.shows.0.stands
+    Rejected-stands t rejected = grind (arith, rejected_at)
 
     module _ (s t : Stage F (Dense V)) (going : Going s) (passes : Passes (packed_order data_of) g s t) where
       last_going : Going passes.last

@@ -25,10 +25,7 @@ module _ {K V : Type 0} (data_of : K → Key) where
     one_more xs end rest = rw append_assoc (so_far.packs (x ∷ xs) end (stood, rest))
 
     pub SoFar-kept : x.stays ≡ true → new.keys ≡ now.keys → new.content.stack ≡ now.content.stack → SoFar old (visits ++ x ∷ []) (position + 1) new
-    SoFar-kept stays keys stack = record {
-      packs = λ xs end rest. one_more xs end (rw stays (rw keys at rest));
-      stack = rw (stack, dropped_push visits x, stays, append-nil) so_far.stack;
-    }
+    SoFar-kept stays keys stack = grind (arith, one_more, dropped_push, append-nil)
 
     pub SoFar-dropped : x.stays ≡ false → new.keys ≡ swap_remove now.keys position (data_of x.key)
         → new.content.stack ≡ option_map (λ stack. pushed stack (data_of x.key)) now.content.stack → SoFar old (visits ++ x ∷ []) position new

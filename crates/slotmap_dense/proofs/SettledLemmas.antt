@@ -1,12 +1,12 @@
 -- What the calls know of the slots and the vectors by what the map holds.
 use Rattle.std.specs.FinMap as map
-use Rattle.std.proofs.Common.{◌≡◌, ◌+◌, ◌<◌, ◌≤◌, ◌∷◌, ◌++◌, swap_remove, ℕ, [], min, true, List, Some, None, length, take, drop, slice_get, get_or, option_map}
+use Rattle.std.proofs.Common.{◌≡◌, ◌+◌, ◌<◌, ◌≤◌, ◌∷◌, ◌++◌, swap_remove, ℕ, [], min, true, List, Some, None, length, slice_get, get_or, option_map}
 use Rattle.slotmap_core.specs.Words.{Vec}
 use Rattle.slotmap_core.proofs.Common.{with_items, Key, Content, IsContent, used, MakesRoom as SlotsMakeRoom, Keeps, Inserts, Removes, Detaches, Reattaches}
 use Rattle.slotmap_core.proofs.Common.{map as list_map, vec_capacity, vec_len, refl, sym, ap, subst, ◌∙◌, arith, length-map, length_push, map-append}
 use Rattle.slotmap_core.proofs.Common.{slice_get_within, slice_get_read, slice_get-map, slice_get_push, keys_total, exact_keys, remove_absent}
 use Rattle.slotmap_dense.specs.declared.DenseSlotMap.TheInside.{Inside}
-use Rattle.slotmap_dense.specs.Dense.{Dense, IsDense, ClosesGap, refilled, with_values_in}
+use Rattle.slotmap_dense.specs.Dense.{Dense, IsDense, ClosesGap, with_values_in}
 use Rattle.slotmap_dense.specs.Call.{StaysDense, GrowsDense, MakesDenseRoom}
 use Rattle.slotmap_dense.specs.Rest.{rest_of, LeavesFrom}
 use Rattle.slotmap_dense.specs.Packed.{IsPacked, IsSound, dense_of, live_of, at_position}
@@ -62,15 +62,11 @@ module _ {K V : Type 0} (data_of : K → Key) (m : Inside K V) {now : Dense V} (
     pub inside : i < length m.values.items
 
   pub present : (k : Key) (i : ℕ) → map.get m.slots.live k ≡ Some i → Present k i
-  present k i named =
-      let all = value_there _ _ sound.packed m.values.items sound.same_length k i named in
-      record { value = all.0; there = all.1; gives = found k ∙ ap (at_position m.values.items) named ∙ all.1; inside = slice_get_within m.values.items i all.0 all.1 }
+  present k i named = grind (arith, value_there, found, slice_get_within)
 
   -- other values in the same vector
   pub lent : (ws : List V) → held data_of m.slots m.keys (with_items m.values ws) ≡ with_values_in now ws
-  lent ws =
-      let fill : take m.values.len (ws ++ drop (length ws) m.values.items) ≡ refilled m.values.items ws = ap (λ n. take n (ws ++ drop (length ws) m.values.items)) m.values.ok.0 in
-      rw (← view) (λ j. dense_of m.slots (list_map data_of m.keys.items) (fill j) (min (vec_capacity m.keys) (vec_capacity m.values)))
+  lent ws = grind arith
 
   -- a call that changes nothing
   pub unchanged : StaysDense now (held data_of m.slots m.keys m.values)
@@ -89,32 +85,15 @@ module _ {K V : Type 0} (data_of : K → Key) (m : Inside K V) {now : Dense V} (
     -- a call that succeeded, with one pair more
     pub may-grow : (refused : Type 0) → (refused → ⊥) → IsSound slots' (list_map data_of keys'.items) values'.items → m.slots.capacity ≤ slots'.capacity
         → vec_capacity m.keys ≤ vec_capacity keys' → vec_capacity m.values ≤ vec_capacity values' → GrowsDense now refused new
-    may-grow refused never sound' slots_more keys_more values_more = record {
-      before = well_formed;
-      after = dense_valid data_of slots' keys' values' sound';
-      capacity = rw (← view) (omega arith);
-      unchanged = λ is. absurd (never is);
-      same_order = λ is. absurd (never is);
-    }
+    may-grow refused never sound' slots_more keys_more values_more = grind (arith, well_formed, dense_valid, unchanged)
 
     keeps : Keeps m.slots slots' → keys'.items ≡ m.keys.items → values'.items ≡ m.values.items → now.content.room ≤ new.content.room → Keeps now.content new.content
-    keeps same keys_same values_same more =
-        let live : new.content.live ≡ (held data_of m.slots m.keys m.values).content.live = λ j. live_of (list_map data_of (keys_same j)) (values_same j) in
-        grind (arith, ap (λ d. d.content) view)
+    keeps same keys_same values_same more = grind arith
 
     -- a call that failed: the vectors may have more room, and nothing else changed
     pub refused-grow : (refused : Type 0) → slots' ≡ m.slots → keys'.items ≡ m.keys.items → values'.items ≡ m.values.items
         → vec_capacity m.keys ≤ vec_capacity keys' → vec_capacity m.values ≤ vec_capacity values' → GrowsDense now refused new
-    refused-grow refused slots_same keys_same values_same keys_more values_more =
-        let same = ap (λ d. d.content) view in
-        let long = ap (λ xs. length (list_map data_of xs)) keys_same in
-        record {
-          before = well_formed;
-          after = dense_valid data_of slots' keys' values' (rw (slots_same, keys_same, values_same) sound);
-          capacity = rw (← view, slots_same) (omega arith);
-          unchanged = λ _. keeps (rw slots_same (search arith)) keys_same values_same (rw (← view, slots_same) (omega arith));
-          same_order = λ _. rw (← view) (record { keys = ap (list_map data_of) keys_same; values = values_same });
-        }
+    refused-grow refused slots_same keys_same values_same keys_more values_more = grind (arith, well_formed, dense_valid, unchanged, keeps)
 
     -- the pair of k was taken out of position i, and the last pair moved there; so the slots, with k removed or detached, changed for that one
     pub record Closed (k : Key) (i : ℕ) (v : V) (left : Content ℕ) : Type 0 where

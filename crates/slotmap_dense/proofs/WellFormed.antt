@@ -1,20 +1,17 @@
 -- A dense map is well formed between calls.
 use Rattle.std.specs.FinMap as map
-use Rattle.std.proofs.Common.{◌≡◌, ◌-◌, ◌≤◌, zip, ℕ, min, true, false, [], Some, List, length, set, refl, sym, ◌∙◌, arith}
+use Rattle.std.proofs.Common.{◌≡◌, ◌-◌, ◌≤◌, zip, ℕ, min, true, false, [], Some, List, length, set, refl, ◌∙◌, arith}
 use Rattle.slotmap_core.proofs.Common.{Key, Content, IsContent, IsLive, keys_total, exact_keys, tied, IsContent-with_value, get_inserted, get_other, WriteLaws}
 use Rattle.slotmap_core.proofs.Common.{length-zip}
 use Rattle.slotmap_dense.proofs.SwapRemoveLemmas.{find-beside, length-put_beside}
 use Rattle.slotmap_dense.specs.Dense.{Dense, IsDense, value_of, with_value_of, put_beside}
-use Rattle.slotmap_dense.specs.Packed.{IsSound, dense_of, live_of, over}
+use Rattle.slotmap_dense.specs.Packed.{IsSound, dense_of, live_of}
 use Rattle.slotmap_dense.proofs.PackedLemmas.{contains-packed, len-live, listed, live-written, put-there, IsPacked-none}
 use Rattle.slotmap_dense.proofs.OverLemmas.{SameKeys, IsContent-over}
 
 module _ {V : Type 0} (slots : Content ℕ) (keys : List Key) (values : List V) (sound : IsSound slots keys values) where
   pub same_keys : SameKeys (live_of keys values) slots.live
-  same_keys = record {
-    each = contains-packed slots.live keys sound.packed values sound.same_length;
-    all = len-live slots.live keys sound.packed values sound.same_length ∙ sound.packed.counted;
-  }
+  same_keys = grind (arith, contains-packed, len-live)
 
   pub dense_well : (spare : ℕ) → length keys ≤ spare → IsDense (dense_of slots keys values spare)
   dense_well spare holds = record {
@@ -27,10 +24,7 @@ module _ {V : Type 0} (slots : Content ℕ) (keys : List Key) (values : List V) 
 
   -- another value is written at the position of a live key
   pub dense-written : (spare : ℕ) (k : Key) (i : ℕ) (v : V) → map.get slots.live k ≡ Some i → dense_of slots keys (set values i v) spare ≡ with_value_of (dense_of slots keys values spare) k v
-  dense-written spare k i v at =
-      let live = live-written slots.live keys sound.packed values sound.same_length k i v at in
-      let beside = put-there slots.live keys sound.packed values k i v at in
-      λ j. record { content = over slots (live j) (min slots.room (spare - length keys)) (min slots.capacity spare); keys = keys; values = sym beside j }
+  dense-written spare k i v at = grind (arith, live-written, put-there)
 
 -- an empty map
 pub IsSound-new : (V : Type 0) (slots : Content ℕ) → IsContent true slots → slots.live ≡ map.empty → IsSound {V = V} slots [] []
@@ -69,7 +63,4 @@ IsSound-other slots more keys values ws sound well same long = record { well = w
 
 -- a value written under a live key is found there, and no other value changes
 pub dense_written : {V : Type 0} → WriteLaws {M = Dense V} {V = V} value_of with_value_of
-dense_written = record {
-  here = λ d k v. get_inserted keys_total exact_keys d.content.live k v;
-  elsewhere = λ d k q v there other. get_other keys_total exact_keys d.content.live k v q (λ same. other (sym same));
-}
+dense_written = grind (arith, get_inserted, keys_total, exact_keys, get_other)

@@ -12,7 +12,7 @@
 //! let a = map.insert(1)?;
 //! let b = map.insert(2)?;
 //! ```
-#![tactic(auto)]
+#![tactic(auto, using(crate::proofs::SettledLemmas::dense_valid))]
 
 ghost use Rattle.std.specs.FinMap as map;
 ghost use Rattle.std.specs.Prelude.{◌≡◌, ◌+◌, ◌≤◌, ◌↔◌, [], Some, IsTrue, IfOk, IfErr, IsOk, OnOk, true, vec_len, vec_capacity};

@@ -1,20 +1,19 @@
 -- The lists of the edges of each node: what a change of the edges asks of them.
-use Rattle.std.proofs.Common.{Result, Ok, Err, OnOk, IsOk, is_ok, ◌≡◌, ◌≢◌, ℕ, ◌+◌, ◌<◌, ◌≤◌, Some, None, Option, if◌then◌else◌, List, [], ◌∷◌, ◌++◌}
+use Rattle.std.proofs.Common.{◌≡◌, ◌≢◌, ◌<◌, ◌≤◌, Some, None, Option, List, [], ◌∷◌, ◌++◌}
 use Rattle.std.proofs.Common.{refl, sym, ap, ◌∙◌, inl, inr, arith}
 use Rattle.std.specs.FinMap as map
 use Rattle.slotmap.specs.Words.{Key}
 use Rattle.slotmap.proofs.Callers.{get-insert_here, get-insert_other, same_or_other, keys}
 use Rattle.slotmap_keylist.specs.KeyLists.{same, times, without}
 use Rattle.slotmap_keylist.proofs.Counts.{one_itself, one_other, times_pushed, times_first, times_gone, times_without, without_none}
-use Rattle.slotmap_graph.specs.declared.Edge.{Edge}
-use Rattle.slotmap_graph.specs.Parts.{Edges, ends_at, ListsEdges}
+use Rattle.slotmap_graph.specs.Parts.{SeenEdge, Edges, ends_at, ListsEdges}
 
-module _ {E : Type 0} (end : Edge E → Key) (edges : Edges E) where
+module _ {E : Type 0} (end : SeenEdge E → Key) (edges : Edges E) where
   -- a key is in a list at most once
   pub listed_once : (k : Key) (ks : List Key) → ListsEdges end edges k ks → (x : Key) → times x ks ≤ 1
   listed_once k ks lists x = by (map.get edges x) (lists x)
     where
-      by : (o : Option (Edge E)) → times x ks ≡ ends_at end k o → times x ks ≤ 1
+      by : (o : Option (SeenEdge E)) → times x ks ≡ ends_at end k o → times x ks ≤ 1
       by None is = omega arith
       by (Some e) is = elim (same_or_other (end e) k) [
         | inl at ↦ (let one = ap (λ t. same t k) at ∙ one_itself k in omega arith)
@@ -25,7 +24,7 @@ module _ {E : Type 0} (end : Edge E → Key) (edges : Edges E) where
   pub absent_unlisted : (x : Key) → map.get edges x ≡ None → (k : Key) (ks : List Key) → ListsEdges end edges k ks → without x ks ≡ ks
   absent_unlisted x none k ks lists = without_none x ks (lists x ∙ ap (ends_at end k) none)
 
-  module _ (x : Key) (e : Edge E) where
+  module _ (x : Key) (e : SeenEdge E) where
     at_inserted : (k : Key) → ends_at end k (map.get (map.insert edges x e) x) ≡ same (end e) k
     at_inserted k = ap (ends_at end k) (get-insert_here edges x e)
 
@@ -56,7 +55,7 @@ module _ {E : Type 0} (end : Edge E → Key) (edges : Edges E) where
         ]
 
     -- an edge gets another value
-    pub lists_written : (d : Edge E) → map.get edges x ≡ Some d → end e ≡ end d → (k : Key) (ks : List Key) → ListsEdges end edges k ks → ListsEdges end (map.insert edges x e) k ks
+    pub lists_written : (d : SeenEdge E) → map.get edges x ≡ Some d → end e ≡ end d → (k : Key) (ks : List Key) → ListsEdges end edges k ks → ListsEdges end (map.insert edges x e) k ks
     lists_written d there same_end k ks lists y = elim (same_or_other y x) [
       | inl is ↦ lists y ∙ ap (λ q. ends_at end k (map.get edges q)) is ∙ ap (ends_at end k) there ∙ ap (λ q. same q k) (sym same_end) ∙ sym (ap (λ q. ends_at end k (map.get (map.insert edges x e) q)) is ∙ at_inserted k)
       | inr other ↦ lists y ∙ sym (beside_inserted k y other)
@@ -82,8 +81,8 @@ module _ {E : Type 0} (end : Edge E → Key) (edges : Edges E) where
 
   module _ (k : Key) where
     -- what a list has is an edge whose end is the node
-    some_listed : (x : Key) → 0 < ends_at end k (map.get edges x) → (e : Edge E) × (map.get edges x ≡ Some e) × (end e ≡ k)
-    some_listed x more = elim (map.get edges x) as (λ o. map.get edges x ≡ o → 0 < ends_at end k o → (e : Edge E) × (map.get edges x ≡ Some e) × (end e ≡ k)) [
+    some_listed : (x : Key) → 0 < ends_at end k (map.get edges x) → (e : SeenEdge E) × (map.get edges x ≡ Some e) × (end e ≡ k)
+    some_listed x more = elim (map.get edges x) as (λ o. map.get edges x ≡ o → 0 < ends_at end k o → (e : SeenEdge E) × (map.get edges x ≡ Some e) × (end e ≡ k)) [
       | None ↦ λ is less. absurd (omega arith)
       | Some e ↦ λ is less. elim (same_or_other (end e) k) [
         | inl at ↦ (e, is, at)
@@ -92,26 +91,18 @@ module _ {E : Type 0} (end : Edge E → Key) (edges : Edges E) where
     ] refl more
 
     module _ (ks : List Key) (lists : ListsEdges end edges k ks) where
-      pub listed_edge : (x : Key) → 0 < times x ks → (e : Edge E) × (map.get edges x ≡ Some e) × (end e ≡ k)
+      pub listed_edge : (x : Key) → 0 < times x ks → (e : SeenEdge E) × (map.get edges x ≡ Some e) × (end e ≡ k)
       listed_edge x more = some_listed x (let is = lists x in omega arith)
 
       -- and each such edge is in it
-      edge_listed : (x : Key) (e : Edge E) → map.get edges x ≡ Some e → end e ≡ k → times x ks ≡ 1
+      pub edge_listed : (x : Key) (e : SeenEdge E) → map.get edges x ≡ Some e → end e ≡ k → times x ks ≡ 1
       edge_listed x e there at = lists x ∙ ap (ends_at end k) there ∙ ap (λ q. same q k) at ∙ one_itself k
 
     -- if the list is empty, no edge has that end, and the other way round
-    pub none_listed : (ks : List Key) → ListsEdges end edges k ks → ks ≡ [] → (x : Key) (e : Edge E) → map.get edges x ≡ Some e → end e ≢ k
+    pub none_listed : (ks : List Key) → ListsEdges end edges k ks → ks ≡ [] → (x : Key) (e : SeenEdge E) → map.get edges x ≡ Some e → end e ≢ k
     none_listed ks lists empty x e there at = let one = edge_listed ks lists x e there at in let none = ap (times x) empty in absurd (omega arith)
 
-    pub nothing_listed : (ks : List Key) → ListsEdges end edges k ks → ((x : Key) (e : Edge E) → map.get edges x ≡ Some e → end e ≢ k) → ks ≡ []
+    pub nothing_listed : (ks : List Key) → ListsEdges end edges k ks → ((x : Key) (e : SeenEdge E) → map.get edges x ≡ Some e → end e ≢ k) → ks ≡ []
     nothing_listed [] lists none = refl
     nothing_listed (x ∷ rest) lists none =
         absurd (let found = listed_edge (x ∷ rest) lists x (let first = times_first x x rest in let one = one_itself x in omega arith) in none x found.0 found.1 found.2)
-
-pub ok_less : {X E : Type 0} (r : Result X E) (n m : ℕ) → OnOk r (n + 1 ≤ m) → OnOk r (n < m)
-ok_less (Ok x) n m is = omega arith
-ok_less (Err e) n m is = tt
-
-pub ok_pushed : {X E : Type 0} (r : Result X E) (items ys zs : List Key) → IsOk r → items ≡ (if is_ok r then ys else zs) → items ≡ ys
-ok_pushed (Ok x) items ys zs ok is = is
-ok_pushed (Err e) items ys zs ok is = absurd (cc)

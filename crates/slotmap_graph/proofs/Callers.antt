@@ -1,5 +1,5 @@
 -- What callers of a graph cite: the nodes that a search didn't find.
-use Rattle.std.proofs.Common.{◌≡◌, ℕ, zero, suc, ◌+◌, ◌<◌, ◌≤◌, false, List, [], ◌∷◌, length, get_or, map, if◌then◌else◌, refl, ap, arith}
+use Rattle.std.proofs.Common.{◌≡◌, ℕ, suc, ◌<◌, ◌≤◌, false, List, [], ◌∷◌, length, get_or, map, if◌then◌else◌, refl, ap, arith}
 use Rattle.slotmap.specs.Words.{Key}
 use Rattle.slotmap_keylist.specs.KeyLists.{is_key, same, times}
 use Rattle.slotmap_keylist.proofs.Counts.{times_first}

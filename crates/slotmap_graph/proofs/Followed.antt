@@ -1,43 +1,50 @@
 -- The ends of the edges of a list, one after the other.
-use Rattle.std.proofs.Common.{◌≡◌, ℕ, ◌+◌, ◌<◌, ◌≤◌, true, false, cond, Some, None, List, [], ◌∷◌, ◌++◌, length, get_or, take, drop, option_map, refl, sym, ap, ◌∙◌, arith, append-nil}
+use Rattle.std.proofs.Common.{◌≡◌, ℕ, ◌+◌, ◌<◌, ◌≤◌, true, false, cond, Some, None, List, [], ◌∷◌, ◌++◌, length, get_or, take, option_map, refl, sym, ap, ◌∙◌, arith, append-nil, append_assoc}
 use Rattle.std.specs.Prelude.{nat_eq}
 use Rattle.std.specs.Option.{option_or}
 use Rattle.std.specs.List.{cons_option, find, fold}
 use Rattle.std.specs.FinMap as map
-use Rattle.std.proofs.lemmas.List.{take_more, take_all, take-append-drop, take-append-le}
+use Rattle.std.proofs.lemmas.List.{take_more, take_all, take-append-le}
 use Rattle.std.proofs.lemmas.List.Elements.{filter_map-append}
 use Rattle.std.proofs.lemmas.List.Folds.{find-append}
 use Rattle.std.proofs.lemmas.List.Sums.{fold-append}
 use Rattle.slotmap.specs.Words.{Key}
 use Rattle.slotmap_keylist.specs.KeyLists.{is_key, times}
-use Rattle.slotmap_keylist.proofs.Counts.{behind_split}
-use Rattle.slotmap_graph.specs.declared.Edge.{Edge}
-use Rattle.slotmap_graph.specs.Parts.{Edges}
-use Rattle.slotmap_graph.specs.Search.{GoesOn, IsBreadthFirst, ends_in, ends_of, goes_to, marked}
+use Rattle.slotmap_keylist.proofs.Counts.{one_itself, times_first, times_joined}
+use Rattle.slotmap_graph.specs.Parts.{SeenEdge, Edges}
+use Rattle.slotmap_graph.specs.Search.{GoesOn, IsBreadthFirst, ends_in, ends_along, goes_to, marked}
 
-taken : (ks : List Key) (i : ℕ) (x : Key) → i < length ks → x ≡ get_or ks i x → take (i + 1) ks ≡ take i ks ++ x ∷ []
-taken ks i x below is = take_more ks i x below ∙ ap (λ q. take i ks ++ q ∷ []) (sym is)
+-- a walk along a list: what was passed, and what is ahead
+pub walked_on : (passed ahead rest all : List Key) (x : Key) → passed ++ ahead ≡ all → ahead ≡ x ∷ rest → (passed ++ x ∷ []) ++ rest ≡ all
+walked_on passed ahead rest all x so_far next = append_assoc passed (x ∷ []) rest ∙ ap (λ l. passed ++ l) (sym next) ∙ so_far
 
-module _ {E : Type 0} (end : Edge E → Key) (edges : Edges E) (ks : List Key) (i : ℕ) (x : Key) (below : i < length ks) (is : x ≡ get_or ks i x) where
-  pub followed : (e : Edge E) → map.get edges x ≡ Some e → ends_of end edges (take (i + 1) ks) ≡ ends_of end edges (take i ks) ++ end e ∷ []
-  followed e there = ap (ends_of end edges) (taken ks i x below is) ∙ filter_map-append (λ k. option_map end (map.get edges k)) (take i ks) (x ∷ [])
-      ∙ ap (λ o. ends_of end edges (take i ks) ++ cons_option (option_map end o) []) there
+pub walked_in : (passed ahead rest all : List Key) (x : Key) → passed ++ ahead ≡ all → ahead ≡ x ∷ rest → 0 < times x all
+walked_in passed ahead rest all x so_far next =
+    let sum = sym (times_joined x passed (x ∷ rest)) ∙ ap (times x) (ap (λ l. passed ++ l) (sym next) ∙ so_far) in
+    let first = times_first x x rest in
+    let one = one_itself x in
+    omega arith
 
-module _ {E : Type 0} (edges : Edges E) (b : Key) (ks : List Key) (i : ℕ) where
-  module _ (x : Key) (below : i < length ks) (is : x ≡ get_or ks i x) (e : Edge E) (there : map.get edges x ≡ Some e) (before : find (goes_to edges b) (take i ks) ≡ None) where
+pub walked : (passed ahead all : List Key) → passed ++ ahead ≡ all → ahead ≡ [] → passed ≡ all
+walked passed ahead all so_far none = sym (append-nil passed) ∙ ap (λ l. passed ++ l) (sym none) ∙ so_far
+
+module _ {E : Type 0} (edges : Edges E) (passed : List Key) (x : Key) (e : SeenEdge E) (there : map.get edges x ≡ Some e) where
+  pub one_more : (end : SeenEdge E → Key) → ends_along end edges (passed ++ x ∷ []) ≡ ends_along end edges passed ++ end e ∷ []
+  one_more end = filter_map-append (λ k. option_map end (map.get edges k)) passed (x ∷ []) ∙ ap (λ o. ends_along end edges passed ++ cons_option (option_map end o) []) there
+
+  module _ (b : Key) (before : find (goes_to edges b) passed ≡ None) where
     at_x : goes_to edges b x ≡ is_key e.to b
     at_x = ap (ends_in b) there
 
-    pub not_found : is_key e.to b ≡ false → find (goes_to edges b) (take (i + 1) ks) ≡ None
-    not_found other = ap (find (goes_to edges b)) (taken ks i x below is) ∙ find-append (goes_to edges b) (take i ks) (x ∷ [])
-        ∙ ap (λ o. option_or o (cond (goes_to edges b x) (Some x) None)) before ∙ ap (λ t. cond t (Some x) None) (at_x ∙ other)
+    pub not_found : is_key e.to b ≡ false → find (goes_to edges b) (passed ++ x ∷ []) ≡ None
+    not_found other = find-append (goes_to edges b) passed (x ∷ []) ∙ ap (λ o. option_or o (cond (goes_to edges b x) (Some x) None)) before ∙ ap (λ t. cond t (Some x) None) (at_x ∙ other)
 
-    pub found_first : is_key e.to b ≡ true → find (goes_to edges b) ks ≡ Some x
-    found_first this = ap (find (goes_to edges b)) (sym (take-append-drop i ks) ∙ ap (λ l. take i ks ++ l) (behind_split ks i x below is)) ∙ find-append (goes_to edges b) (take i ks) (x ∷ drop (i + 1) ks)
-        ∙ ap (λ o. option_or o (cond (goes_to edges b x) (Some x) (find (goes_to edges b) (drop (i + 1) ks)))) before ∙ ap (λ t. cond t (Some x) (find (goes_to edges b) (drop (i + 1) ks))) (at_x ∙ this)
+    pub found_first : (ahead rest all : List Key) → passed ++ ahead ≡ all → ahead ≡ x ∷ rest → is_key e.to b ≡ true → find (goes_to edges b) all ≡ Some x
+    found_first ahead rest all so_far next this = ap (find (goes_to edges b)) (sym so_far ∙ ap (λ l. passed ++ l) next) ∙ find-append (goes_to edges b) passed (x ∷ rest)
+        ∙ ap (λ o. option_or o (cond (goes_to edges b x) (Some x) (find (goes_to edges b) rest))) before ∙ ap (λ t. cond t (Some x) (find (goes_to edges b) rest)) (at_x ∙ this)
 
-  pub none_found : length ks ≤ i → find (goes_to edges b) (take i ks) ≡ None → find (goes_to edges b) ks ≡ None
-  none_found past none = ap (find (goes_to edges b)) (sym (take_all i ks past)) ∙ none
+taken : (ks : List Key) (i : ℕ) (x : Key) → i < length ks → x ≡ get_or ks i x → take (i + 1) ks ≡ take i ks ++ x ∷ []
+taken ks i x below is = take_more ks i x below ∙ ap (λ q. take i ks ++ q ∷ []) (sym is)
 
 -- a mark changes nothing in front
 marked_behind : (ks : List Key) (k : Key) → GoesOn ks (marked ks k)

@@ -1,8 +1,9 @@
 pub mod Adjacent
-pub mod ByNode
 pub mod Callers
 pub mod Copies
 pub mod Followed
 pub mod GraphSteps
+pub mod Relinked
 pub mod Searches
 pub mod Thinned
+pub mod Threaded

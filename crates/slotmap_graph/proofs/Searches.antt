@@ -2,13 +2,12 @@
 use Rattle.std.proofs.Common.{◌≡◌, ◌≢◌, ℕ, zero, suc, ◌+◌, ◌<◌, ◌≤◌, ◌⊎◌, ⊎_elim, Bool, true, false, Some, None, List, [], ◌∷◌, ◌++◌, length, get_or}
 use Rattle.std.proofs.Common.{drop, append_assoc, if◌then◌else◌, is_some, refl, sym, ap, ◌∙◌, inl, inr, arith}
 use Rattle.std.specs.FinMap as map
-use Rattle.slotmap.specs.Words.{Key, key_cmp, Content, IsLive, Pairs, IsBeside, get, contains_key}
-use Rattle.slotmap.proofs.Callers.{same_or_other, live-remove_other, len_removed, keys_total, exact_keys, secondary}
+use Rattle.slotmap.specs.Words.{Key, Content, IsLive, Pairs, IsBeside, get, contains_key}
+use Rattle.slotmap.proofs.Callers.{same_or_other, secondary}
 use Rattle.std.proofs.lemmas.List.{append-nil, drop-append-le}
-use Rattle.slotmap_graph.specs.declared.Edge.{Edge}
 use Rattle.slotmap_keylist.specs.KeyLists.{same, times}
-use Rattle.slotmap_keylist.proofs.Counts.{one_itself, times_first, times_joined, times_there, here_or_behind, none_behind}
-use Rattle.slotmap_graph.specs.Parts.{Edges, EndsLive, ListsEdges, ends_at, from}
+use Rattle.slotmap_keylist.proofs.Counts.{one_itself, one_other, times_first, times_joined, times_there, here_or_behind, none_behind, no_more_than}
+use Rattle.slotmap_graph.specs.Parts.{SeenEdge, Edges, EndsLive, ListsEdges, ends_at, from}
 use Rattle.slotmap_graph.specs.Search.{LeadsBy, Leads, AllLed, HasNext, AreSeen, GoesOn, Finds}
 
 module _ (seen : Pairs (Unit {0})) (found : List Key) (listed : AreSeen seen found) (x : Key) where
@@ -30,31 +29,32 @@ module _ (seen : Pairs (Unit {0})) (found : List Key) (listed : AreSeen seen fou
     | false ↦ λ is. (let none = unseen_unlisted is in omega arith)
   ] refl
 
--- the edges of a node whose ends aren't among the nodes found are in the list from i on
-abbrev pub Pending : {E : Type 0} → Edges E → Key → List Key → ℕ → Pairs (Unit {0}) → Type 0
-Pending {E} edges node ks i seen = (k : Key) (e : Edge E) → map.get edges k ≡ Some e → e.from ≡ node → (0 < times k (drop i ks)) ⊎ (contains_key seen e.to ≡ true)
+-- the edges of a node whose ends aren't among the nodes found are in this list
+abbrev pub Pending : {E : Type 0} → Edges E → Key → List Key → Pairs (Unit {0}) → Type 0
+Pending {E} edges node ks seen = (k : Key) (e : SeenEdge E) → map.get edges k ≡ Some e → e.from ≡ node → (0 < times k ks) ⊎ (contains_key seen e.to ≡ true)
 
-module _ {E : Type 0} (edges : Edges E) (node : Key) (ks : List Key) where
-  pub pending_start : (seen : Pairs (Unit {0})) → ListsEdges from edges node ks → Pending edges node ks 0 seen
-  pending_start seen lists k e there at =
+module _ {E : Type 0} (edges : Edges E) (node : Key) where
+  pub pending_start : (ks : List Key) (seen : Pairs (Unit {0})) → ListsEdges from edges node ks → Pending edges node ks seen
+  pending_start ks seen lists k e there at =
       inl (let one : ends_at from node (Some e) ≡ 1 = ap (λ q. same q node) at ∙ one_itself node in let is = lists k ∙ ap (ends_at from node) there ∙ one in omega arith)
 
-  pub pending_step : (i : ℕ) (x : Key) (e : Edge E) (seen new : Pairs (Unit {0})) → i < length ks → x ≡ get_or ks i x → map.get edges x ≡ Some e → contains_key new e.to ≡ true
-      → ((q : Key) → contains_key seen q ≡ true → contains_key new q ≡ true) → Pending edges node ks i seen → Pending edges node ks (i + 1) new
-  pending_step i x e seen new below is there marked kept pending k d found at = ⊎_elim
-      (λ more. ⊎_elim
-      (λ (one : k ≡ x). inr (let same_edge : e ≡ d = (let f = rw one at found in cc) in rw (← same_edge) marked))
-      (λ behind. inl behind) (here_or_behind ks i x k below is more))
-      (λ had. inr (kept d.to had)) (pending k d found at)
+  pub pending_step : (ks rest : List Key) (x : Key) (e : SeenEdge E) (seen new : Pairs (Unit {0})) → ks ≡ x ∷ rest → map.get edges x ≡ Some e → contains_key new e.to ≡ true
+      → ((q : Key) → contains_key seen q ≡ true → contains_key new q ≡ true) → Pending edges node ks seen → Pending edges node rest new
+  pending_step ks rest x e seen new next there marked kept pending k d found at = elim (same_or_other k x) [
+    | inl is ↦ inr (let same_edge : e ≡ d = (let f = rw is at found in cc) in rw (← same_edge) marked)
+    | inr other ↦ ⊎_elim
+        (λ more. inl (let none = one_other x k (λ s. other (sym s)) in let split = ap (times k) next ∙ times_first k x rest in omega arith))
+        (λ had. inr (kept d.to had)) (pending k d found at)
+  ]
 
-  pub pending_end : (i : ℕ) (seen : Pairs (Unit {0})) → length ks ≤ i → Pending edges node ks i seen → HasNext edges node seen
-  pending_end i seen past pending b join = ⊎_elim (λ more. absurd (none_behind ks i join.0 past more)) (λ had. rw (← join.4) had) (pending join.0 join.1 join.2 join.3)
+  pub pending_end : (ks : List Key) (seen : Pairs (Unit {0})) → ks ≡ [] → Pending edges node ks seen → HasNext edges node seen
+  pending_end ks seen past pending b join = ⊎_elim (λ more. absurd (let none = ap (times join.0) past in omega arith)) (λ had. rw (← join.4) had) (pending join.0 join.1 join.2 join.3)
 
 module _ {N E : Type 0} (nodes : Content N) (edges : Edges E) (a : Key) (seen : Pairs (Unit {0})) (found : List Key) where
   pub finds_start : AreSeen seen found → IsBeside nodes seen → Finds nodes edges a seen found seen found
   finds_start listed live = record { listed = listed; live = live; behind = ([], sym (append-nil found)); kept = λ x there. there; led = λ start leads all. all }
 
-  pub finds_step : (mid : Pairs (Unit {0})) (half : List Key) → Finds nodes edges a seen found mid half → EndsLive nodes edges → (k : Key) (e : Edge E) → map.get edges k ≡ Some e → e.from ≡ a
+  pub finds_step : (mid : Pairs (Unit {0})) (half : List Key) → Finds nodes edges a seen found mid half → EndsLive nodes edges → (k : Key) (e : SeenEdge E) → map.get edges k ≡ Some e → e.from ≡ a
       → (new : Pairs (Unit {0})) (now : List Key) → AreSeen new now → GoesOn half now → contains_key new e.to ≡ true → ((q : Key) → q ≢ e.to → get new q ≡ get mid q)
       → Finds nodes edges a seen found new now
   finds_step mid half finds ends k e there at new now listed behind marked others = record {
@@ -159,21 +159,8 @@ module _ {N E : Type 0} (nodes : Content N) (edges : Edges E) (start : Key) wher
     pub searching_found : (x : Key) → 0 < times x found → IsLive nodes x × Leads edges start x
     searching_found x more = let had = listed_seen seen found searching.listed x more in (searching.live x had, searching.led x had)
 
--- distinct live keys are no more than there are
-no_more_than : {V : Type 0} (live : map.FinMap key_cmp V) (ks : List Key) → ((x : Key) → times x ks ≤ 1) → ((x : Key) → 0 < times x ks → map.contains_key live x ≡ true) → length ks ≤ map.len live
-no_more_than live [] once there = omega arith
-no_more_than live (k ∷ ks) once there =
-    let first = times_first k k ks in
-    let one = one_itself k in
-    let lives = there k (omega (arith, one)) in
-    let one_less = len_removed keys_total exact_keys live k lives in
-    let rest = no_more_than (map.remove live k) ks
-    (λ x. let split = times_first x k ks in let at_most = once x in omega arith)
-    (λ x more. let split = times_first x k ks in live-remove_other live k x (λ is. (let at_most = once k in let m = rw is at more in omega (arith, m, one))) (there x (omega arith))) in
-    omega arith
-
 -- a search found no more nodes than there are
 pub searching_fits : {N E : Type 0} (nodes : Content N) (edges : Edges E) (start : Key) (seen : Pairs (Unit {0})) (found : List Key)
     (at : ℕ) → Searching nodes edges start seen found at → length found ≤ map.len nodes.live
 searching_fits nodes edges start seen found at searching =
-    no_more_than nodes.live found (λ x. listed_once seen found searching.listed x) (λ x more. (searching_found nodes edges start seen found at searching x more).0)
+    no_more_than found nodes.live (λ x. listed_once seen found searching.listed x) (λ x more. (searching_found nodes edges start seen found at searching x more).0)

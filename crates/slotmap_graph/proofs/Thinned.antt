@@ -5,30 +5,29 @@ use Rattle.std.specs.List.{filter}
 use Rattle.std.specs.FinMap as map
 use Rattle.slotmap.specs.Words.{Key, Content, IsSpent, KeepsSpent}
 use Rattle.slotmap.proofs.Callers.{keys, same_or_other}
-use Rattle.slotmap_graph.specs.declared.Edge.{Edge}
 use Rattle.slotmap_keylist.specs.KeyLists.{is_key, without}
 use Rattle.slotmap_keylist.proofs.Counts.{is_other, filter_less, filter_all}
-use Rattle.slotmap_graph.specs.Parts.{Edges, touches, avoids, ListsEdges}
+use Rattle.slotmap_graph.specs.Parts.{SeenEdge, Edges, touches, avoids, ListsEdges}
 use Rattle.slotmap_graph.proofs.Adjacent.{listed_edge}
 
 -- this edge touched the node, and is gone for good
-pub record IsTaken {E : Type 0} (node : Key) (old now : Content (Edge E)) (k : Key) : Type 0 where
-  pub edge : Edge E
+pub record IsTaken {E : Type 0} (node : Key) (old now : Content (SeenEdge E)) (k : Key) : Type 0 where
+  pub edge : SeenEdge E
   pub was : map.get old.live k ≡ Some edge
   pub touched : touches node edge ≡ true
   pub gone : map.get now.live k ≡ None
   pub for_good : IsSpent now k
 
-pub record Thinned {E : Type 0} (node : Key) (old now : Content (Edge E)) : Type 0 where
+pub record Thinned {E : Type 0} (node : Key) (old now : Content (SeenEdge E)) : Type 0 where
   pub each : (k : Key) → (map.get now.live k ≡ map.get old.live k) ⊎ IsTaken node old now k
   pub keeps : KeepsSpent old now
 
-module _ {E : Type 0} (node : Key) (old now : Content (Edge E)) where
+module _ {E : Type 0} (node : Key) (old now : Content (SeenEdge E)) where
   pub thinned_start : now ≡ old → Thinned node old now
   thinned_start is = rw is (record { each = λ k. inl refl; keeps = λ k spent. spent })
 
   module _ (thinned : Thinned node old now) where
-    pub thinned_step : (new : Content (Edge E)) (x : Key) (e : Edge E) → map.get now.live x ≡ Some e → touches node e ≡ true → new.live ≡ map.remove now.live x
+    pub thinned_step : (new : Content (SeenEdge E)) (x : Key) (e : SeenEdge E) → map.get now.live x ≡ Some e → touches node e ≡ true → new.live ≡ map.remove now.live x
         → IsSpent new x → KeepsSpent now new → Thinned node old new
     thinned_step new x e there touched is spent keeps = record {
       each = λ k. elim (same_or_other k x) [
@@ -49,20 +48,20 @@ module _ {E : Type 0} (node : Key) (old now : Content (Edge E)) where
         elsewhere k other (inl same) = inl (stays k other ∙ same)
         elsewhere k other (inr t) = inr (record { edge = t.edge; was = t.was; touched = t.touched; gone = stays k other ∙ t.gone; for_good = keeps k t.for_good })
 
-    module _ (none : (k : Key) (e : Edge E) → map.get now.live k ≡ Some e → touches node e ≡ false) where
-      abbrev kept : Option (Edge E) → Option (Edge E)
+    module _ (none : (k : Key) (e : SeenEdge E) → map.get now.live k ≡ Some e → touches node e ≡ false) where
+      abbrev kept : Option (SeenEdge E) → Option (SeenEdge E)
       kept o = option_and_then (λ e. cond (avoids node e) (Some e) None) o
 
-      kept_touched : (e : Edge E) → touches node e ≡ true → kept (Some e) ≡ None
+      kept_touched : (e : SeenEdge E) → touches node e ≡ true → kept (Some e) ≡ None
       kept_touched e t = ap (λ b. cond (not b) (Some e) None) t
 
-      kept_untouched : (e : Edge E) → touches node e ≡ false → kept (Some e) ≡ Some e
+      kept_untouched : (e : SeenEdge E) → touches node e ≡ false → kept (Some e) ≡ Some e
       kept_untouched e t = ap (λ b. cond (not b) (Some e) None) t
 
       pub thinned_end : (k : Key) → map.get now.live k ≡ option_and_then (λ e. cond (avoids node e) (Some e) None) (map.get old.live k)
       thinned_end k = by (thinned.each k)
         where
-          same_kept : (o : Option (Edge E)) → map.get now.live k ≡ o → o ≡ kept o
+          same_kept : (o : Option (SeenEdge E)) → map.get now.live k ≡ o → o ≡ kept o
           same_kept None is = refl
           same_kept (Some e) is = sym (kept_untouched e (none k e is))
 
@@ -70,15 +69,15 @@ module _ {E : Type 0} (node : Key) (old now : Content (Edge E)) where
           by (inl same) = rw (← same) (same_kept (map.get now.live k) refl)
           by (inr t) = t.gone ∙ sym (ap kept t.was ∙ kept_touched t.edge t.touched)
 
-      pub thinned_spent : (k : Key) (e : Edge E) → map.get old.live k ≡ Some e → touches node e ≡ true → IsSpent now k
+      pub thinned_spent : (k : Key) (e : SeenEdge E) → map.get old.live k ≡ Some e → touches node e ≡ true → IsSpent now k
       thinned_spent k e was touched = ⊎_elim (λ same. absurd (let f = none k e (same ∙ was) in cc)) (λ (t : IsTaken node old now k). t.for_good) (thinned.each k)
 
 -- what is left touches the node no more
 pub none_left : {E : Type 0} (node : Key) (old now : Edges E) → ((k : Key) → map.get now k ≡ option_and_then (λ e. cond (avoids node e) (Some e) None) (map.get old k))
-    → (k : Key) (e : Edge E) → map.get now k ≡ Some e → touches node e ≡ false
+    → (k : Key) (e : SeenEdge E) → map.get now k ≡ Some e → touches node e ≡ false
 none_left {E} node old now each k e found = by (map.get old k) (sym found ∙ each k)
   where
-    by : (o : Option (Edge E)) → Some e ≡ option_and_then (λ e. cond (avoids node e) (Some e) None) o → touches node e ≡ false
+    by : (o : Option (SeenEdge E)) → Some e ≡ option_and_then (λ e. cond (avoids node e) (Some e) None) o → touches node e ≡ false
     by None is = absurd (cc)
     by (Some d) is = at (touches node d) refl
       where
@@ -104,5 +103,5 @@ module _ {E : Type 0} (edges : Edges E) (first now : List Key) (so_far : filter 
         | inr other ↦ ap not (is_other q x other)
       ]
 
-  pub thin_end : (end : Edge E → Key) (k : Key) → ListsEdges end edges k now → now ≡ filter (map.contains_key edges) first
+  pub thin_end : (end : SeenEdge E → Key) (k : Key) → ListsEdges end edges k now → now ≡ filter (map.contains_key edges) first
   thin_end end k lists = sym (so_far ∙ filter_all (map.contains_key edges) now (λ x more. ap is_some (listed_edge end edges k now lists x more).1))

@@ -1,3 +1,4 @@
 pub mod Lends
 pub mod Parts
 pub mod Search
+pub mod Threads

@@ -1,19 +1,23 @@
 -- A graph as its users see it.
-use Rattle.std.specs.Prelude.{◌≡◌, ℕ, ◌<◌, ◌≤◌, ◌⊎◌, Option, Some, None, Bool, not, ◌||◌, refl, List, [], ◌∷◌, map as list_map, MatchOption, unwrap_or, vec_len, vec_capacity, cond, ◌++◌}
-use Rattle.std.specs.declared.vec.Vec.{Vec}
+use Rattle.std.specs.Prelude.{◌≡◌, ℕ, ◌<◌, ◌≤◌, ◌⊎◌, Option, Some, None, Bool, not, ◌||◌, refl, List, [], ◌∷◌, unwrap_or, cond, ◌++◌}
 use Rattle.std.specs.FinMap as map
 use Rattle.std.specs.Coded.{Coded, code_by, coded×, coded_list}
-use Rattle.slotmap.specs.Words.{Key, key_cmp, coded_key, Content, content_code, with_value, IsLive, Pairs, IsBeside, get, put, used, most}
+use Rattle.slotmap.specs.Words.{Key, key_cmp, coded_key, Content, content_code, with_value, IsLive, LacksRoom, Pairs, get, put, used, most}
 use Rattle.slotmap.specs.declared.ReserveError.{ReserveError}
 use Rattle.slotmap.specs.declared.ReserveError.TheVariants as reserve
 use Rattle.slotmap_keylist.specs.KeyLists.{is_key, same, times}
-use Rattle.slotmap_graph.specs.declared.Edge.{Edge}
 use Rattle.slotmap_graph.specs.declared.EdgeError.{EdgeError}
 use Rattle.slotmap_graph.specs.declared.EdgeError.TheVariants.{Gone, Full, Memory}
 
+-- an edge: where it begins and ends, and its value
+pub record SeenEdge (E : Type 0) : Type 0 where
+  pub from : Key
+  pub to : Key
+  pub value : E
+
 -- the edge of each key
 abbrev pub Edges : Type 0 → Type 0
-Edges E = map.FinMap key_cmp (Edge E)
+Edges E = map.FinMap key_cmp (SeenEdge E)
 
 -- for each node the keys of its edges, by one of their ends, those added first in front
 abbrev pub ByNode : Type 0
@@ -21,12 +25,12 @@ ByNode = map.FinMap key_cmp (List Key)
 
 pub record Seen (N E : Type 0) : Type 0 where
   pub nodes : Content N
-  pub edges : Content (Edge E)
+  pub edges : Content (SeenEdge E)
   -- the outgoing edges of each node, and its incoming ones
   pub out : ByNode
   pub into : ByNode
 
-abbrev pub edge_code : {E : Type 0} → Coded E → Coded (Edge E)
+abbrev pub edge_code : {E : Type 0} → Coded E → Coded (SeenEdge E)
 edge_code {E} e =
     code_by (Key × (Key × E)) (coded× coded_key (coded× coded_key e)) (λ e. (e.from, (e.to, e.value))) (λ p. record { from = p.0; to = p.1.0; value = p.1.1 }) (λ _. refl)
 
@@ -36,7 +40,7 @@ by_node_code = map.code coded_key (coded_list coded_key)
 -- by which a proof tells two graphs apart
 abbrev pub seen_code : {N E : Type 0} → Coded N → Coded E → Coded (Seen N E)
 seen_code {N} {E} n e =
-    code_by (Content N × (Content (Edge E) × (ByNode × ByNode))) (coded× (content_code n) (coded× (content_code (edge_code e)) (coded× by_node_code by_node_code)))
+    code_by (Content N × (Content (SeenEdge E) × (ByNode × ByNode))) (coded× (content_code n) (coded× (content_code (edge_code e)) (coded× by_node_code by_node_code)))
     (λ s. (s.nodes, (s.edges, (s.out, s.into)))) (λ p. record { nodes = p.0; edges = p.1.0; out = p.1.1.0; into = p.1.1.1 }) (λ _. refl)
 
 -- the edges of a node; one that doesn't exist has none
@@ -44,48 +48,48 @@ abbrev pub edges_at : ByNode → Key → List Key
 edges_at lists k = unwrap_or (map.get lists k) []
 
 module _ {E : Type 0} where
-  abbrev pub from : Edge E → Key
+  abbrev pub from : SeenEdge E → Key
   from e = e.from
 
-  abbrev pub to : Edge E → Key
+  abbrev pub to : SeenEdge E → Key
   to e = e.to
 
-  abbrev pub ends : Edge E → Key × Key
+  abbrev pub ends : SeenEdge E → Key × Key
   ends e = (e.from, e.to)
 
-  abbrev pub value : Edge E → E
+  abbrev pub value : SeenEdge E → E
   value e = e.value
 
   -- the edge touches the node
-  abbrev pub touches : Key → Edge E → Bool
+  abbrev pub touches : Key → SeenEdge E → Bool
   touches k e = is_key e.from k || is_key e.to k
 
   -- the copy of an edge joins the same nodes, and has a clone of its value
-  abbrev pub clones_edge : (E → E → Type 0) → Edge E → Edge E → Type 0
+  abbrev pub clones_edge : (E → E → Type 0) → SeenEdge E → SeenEdge E → Type 0
   clones_edge is_clone e copy = (copy.from ≡ e.from) × (copy.to ≡ e.to) × is_clone e.value copy.value
 
-  abbrev pub avoids : Key → Edge E → Bool
+  abbrev pub avoids : Key → SeenEdge E → Bool
   avoids k e = not (touches k e)
 
   -- each edge goes from a live node to a live node
   abbrev pub EndsLive : {N : Type 0} → Content N → Edges E → Type 0
-  EndsLive nodes edges = (k : Key) (e : Edge E) → map.get edges k ≡ Some e → IsLive nodes e.from × IsLive nodes e.to
+  EndsLive nodes edges = (k : Key) (e : SeenEdge E) → map.get edges k ≡ Some e → IsLive nodes e.from × IsLive nodes e.to
 
   -- 1 if an edge is there whose end is the node, and else 0
-  abbrev pub ends_at : (Edge E → Key) → Key → Option (Edge E) → ℕ
+  abbrev pub ends_at : (SeenEdge E → Key) → Key → Option (SeenEdge E) → ℕ
   ends_at end k None = 0
   ends_at end k (Some e) = same (end e) k
 
   -- the list has the key of each edge whose end is k, once, and nothing else
-  abbrev pub ListsEdges : (Edge E → Key) → Edges E → Key → List Key → Type 0
+  abbrev pub ListsEdges : (SeenEdge E → Key) → Edges E → Key → List Key → Type 0
   ListsEdges end edges k ks = (x : Key) → times x ks ≡ ends_at end k (map.get edges x)
 
   -- the edge k has another value; if there is none, nothing changes
-  abbrev pub with_edge_in : Content (Edge E) → Key → E → Option (Edge E) → Content (Edge E)
+  abbrev pub with_edge_in : Content (SeenEdge E) → Key → E → Option (SeenEdge E) → Content (SeenEdge E)
   with_edge_in edges k v None = edges
   with_edge_in edges k v (Some e) = with_value edges k (record e { value = v })
 
-  abbrev pub with_edge : Content (Edge E) → Key → E → Content (Edge E)
+  abbrev pub with_edge : Content (SeenEdge E) → Key → E → Content (SeenEdge E)
   with_edge edges k v = with_edge_in edges k v (map.get edges.live k)
 
 -- the data of two keys
@@ -100,57 +104,22 @@ PutsBehind old node x new = (k : Key) → edges_at new k ≡ cond (is_key k node
 abbrev pub SameEdges : ByNode → ByNode → Type 0
 SameEdges old new = (k : Key) → edges_at new k ≡ edges_at old k
 
-module _ {Z : Type 0} where
-  -- the list of a node, which is empty if there is none
-  abbrev pub list_in : Option (Vec Key Z) → List Key
-  list_in None = []
-  list_in (Some v) = v.items
-
-  abbrev pub listed : Pairs (Vec Key Z) → Key → List Key
-  listed lists k = list_in (get lists k)
-
-  -- a list for each live node
-  unfoldable pub by_node : {N : Type 0} → Content N → Pairs (Vec Key Z) → ByNode
-  by_node nodes lists = map.from_entries (list_map (λ k. (k, listed lists k)) (map.keys nodes.live))
-
-  -- each node's list has the edges whose end it is
-  abbrev pub IsAdjacency : {E : Type 0} → (Edge E → Key) → Edges E → Pairs (Vec Key Z) → Type 0
-  IsAdjacency end edges lists = (k : Key) → ListsEdges end edges k (listed lists k)
-
-  -- there is a list, with room for one more
-  abbrev pub HasRoom : Pairs (Vec Key Z) → Key → Type 0
-  HasRoom lists k = MatchOption (get lists k) ⊥ (λ v. vec_len v < vec_capacity v)
-
-  -- the list of k has the same edges, and nothing else changed
-  pub record IsRoomed (old : Pairs (Vec Key Z)) (k : Key) (new : Pairs (Vec Key Z)) : Type 0 where
-    pub same : listed new k ≡ listed old k
-    pub others : (q : Key) → (q ≡ k → ⊥) → get new q ≡ get old q
-
--- what holds of every graph: each edge joins two live nodes, and is in the lists of both
-pub record IsGraph {N E Z : Type 0} (nodes : Content N) (edges : Edges E) (out into : Pairs (Vec Key Z)) : Type 0 where
-  pub ends : EndsLive nodes edges
-  pub out_lists : IsAdjacency from edges out
-  pub into_lists : IsAdjacency to edges into
-  -- only live nodes have lists
-  pub out_beside : IsBeside nodes out
-  pub into_beside : IsBeside nodes into
-
 -- a put under the key changes what it finds, and nothing under any other key
 pub record PutsAlone {V : Type 0} (m : Pairs V) (k : Key) : Type 0 where
   pub here : (v : V) → get (put m k v) k ≡ Some v
   pub others : (v : V) (q : Key) → (q ≡ k → ⊥) → get (put m k v) q ≡ get m q
 
--- `Gone` if and only if one of the two nodes isn't live, `Full` only where a map can hold no more edges; the error holds the value
-abbrev pub RefusesEdge : {N E : Type 0} → Content N → Content (Edge E) → Key → Key → E → EdgeError E → Type 0
-RefusesEdge nodes edges from to e (Gone back) = ((IsLive nodes from × IsLive nodes to) → ⊥) × (back ≡ e)
-RefusesEdge nodes edges from to e (Full back) = IsLive nodes from × IsLive nodes to × (used edges ≡ most) × (back ≡ e)
-RefusesEdge nodes edges from to e (Memory back) = IsLive nodes from × IsLive nodes to × (back ≡ e)
-
--- the same for an edge whose nodes are live
-abbrev pub RefusesLiveEdge : {E : Type 0} → Content (Edge E) → E → EdgeError E → Type 0
+-- an edge whose nodes are live isn't added: `Full` if and only if the limit is reached, else `Memory`, where no room was promised
+abbrev pub RefusesLiveEdge : {V E : Type 0} → Content V → E → EdgeError E → Type 0
 RefusesLiveEdge edges e (Gone back) = ⊥
 RefusesLiveEdge edges e (Full back) = (used edges ≡ most) × (back ≡ e)
-RefusesLiveEdge edges e (Memory back) = back ≡ e
+RefusesLiveEdge edges e (Memory back) = LacksRoom edges × (back ≡ e)
+
+-- the same, or `Gone` if and only if one of the two nodes isn't live; the error holds the value
+abbrev pub RefusesEdge : {N E : Type 0} → Content N → Content (SeenEdge E) → Key → Key → E → EdgeError E → Type 0
+RefusesEdge nodes edges from to e (Gone back) = ((IsLive nodes from × IsLive nodes to) → ⊥) × (back ≡ e)
+RefusesEdge nodes edges from to e (Full back) = IsLive nodes from × IsLive nodes to × (used edges ≡ most) × (back ≡ e)
+RefusesEdge nodes edges from to e (Memory back) = IsLive nodes from × IsLive nodes to × LacksRoom edges × (back ≡ e)
 
 -- `TooGreat` only if more nodes or more edges are asked for than a map can hold
 abbrev pub RefusesEither : ℕ → ℕ → ReserveError → Type 0

@@ -4,15 +4,14 @@ use Rattle.std.specs.List.{filter_map, fold}
 use Rattle.std.specs.FinMap as map
 use Rattle.slotmap.specs.Words.{Key, Content, IsBeside, Pairs, contains_key}
 use Rattle.slotmap_keylist.specs.KeyLists.{is_key, times}
-use Rattle.slotmap_graph.specs.declared.Edge.{Edge}
-use Rattle.slotmap_graph.specs.Parts.{Edges}
+use Rattle.slotmap_graph.specs.Parts.{SeenEdge, Edges}
 
 module _ {E : Type 0} where
   -- where the edges of a list begin, or end
-  abbrev pub ends_of : (Edge E → Key) → Edges E → List Key → List Key
-  ends_of end edges ks = filter_map (λ k. option_map end (map.get edges k)) ks
+  abbrev pub ends_along : (SeenEdge E → Key) → Edges E → List Key → List Key
+  ends_along end edges ks = filter_map (λ k. option_map end (map.get edges k)) ks
 
-  abbrev pub ends_in : Key → Option (Edge E) → Bool
+  abbrev pub ends_in : Key → Option (SeenEdge E) → Bool
   ends_in b None = false
   ends_in b (Some e) = is_key e.to b
 
@@ -23,7 +22,7 @@ module _ {E : Type 0} where
 module _ {E : Type 0} (edges : Edges E) where
   -- an edge goes from a to b
   abbrev pub HasEdge : Key → Key → Type 0
-  HasEdge a b = (k : Key) × (e : Edge E) × (map.get edges k ≡ Some e) × (e.from ≡ a) × (e.to ≡ b)
+  HasEdge a b = (k : Key) × (e : SeenEdge E) × (map.get edges k ≡ Some e) × (e.from ≡ a) × (e.to ≡ b)
 
   -- a path of so many edges goes from a to b
   abbrev pub LeadsBy : ℕ → Key → Key → Type 0

@@ -1,34 +1,77 @@
 //! The calls that add and remove nodes and edges.
 
-ghost use Rattle.std.specs.Prelude.{◌≡◌, ◌<◌, ◌++◌, ◌∷◌, [], Some, None, IfOk, OnOk, IfErr, OnErr, IsOk, OnSome, IfSome, IfNone, option_map, true, false, cond};
+ghost use Rattle.std.specs.Prelude.{◌≡◌, ◌<◌, ◌++◌, ◌∷◌, [], Some, None, IfOk, OnOk, IfErr, OnErr, IsOk, IsErr, OnSome, IfSome, IfNone, option_map, true, false, cond};
 ghost use Rattle.std.specs.Option.{option_and_then};
 ghost use Rattle.std.specs.List.{filter};
 ghost use Rattle.std.specs.FinMap as map;
-ghost use Rattle.slotmap.specs.Words.{Key as KeyOf, Inserts, Removes, Keeps, Leaves, IsLive, IsSpent, KeepsSpent, Refuses};
+ghost use Rattle.slotmap.specs.Words.{Key as KeyOf, Inserts, Removes, Keeps, Leaves, IsLive, IsSpent, KeepsSpent, MayGrow, Refuses, StaysValid};
 ghost use Rattle.slotmap_keylist.specs.KeyLists.{without};
-ghost use Rattle.slotmap_graph.specs.declared.Edge.{Edge as SeenEdge};
-ghost use Rattle.slotmap_graph.specs.Parts.{avoids, touches, from, to, value, edges_at, ListsEdges, PutsBehind, SameEdges, RefusesEdge, RefusesLiveEdge};
+ghost use Rattle.slotmap_graph.specs.Parts.{SeenEdge, avoids, touches, from, to, value, edges_at, ListsEdges, PutsBehind, SameEdges, RefusesEdge, RefusesLiveEdge};
+ghost use Rattle.slotmap_keylist.specs.Mapped.{map_content};
+ghost use Rattle.slotmap_graph.specs.declared.links.Direction.{Direction as ToOrFrom};
+ghost use Rattle.slotmap_graph.specs.Threads.{no_link as empty_link, ends_in, node_value, seen_edge};
 
-use crate::lists::{last, link, make_rooms, unlink};
-use crate::{Edge, EdgeError, EdgeKey, Graph};
-use slotmap::{DefaultKey, InsertError, Key, SlotMap};
+use crate::links::{Direction, Edges, Nodes, link_last, no_ends, no_link, unlink};
+use crate::{Edge, EdgeError, EdgeKey, Graph, Node};
+use slotmap::{DefaultKey, InsertError, Key};
 use slotmap_keylist::inner;
 
-// Adds an edge to the map of edges.
+// Adds a node with no edge to the map of nodes.
+fn insert_node<K: Key, N: Drop>(nodes: &mut Nodes<K, N>, value: N) -> Result<K, InsertError<N>>
+    ensures adds { IfOk result (λ key. Inserts (map_content node_value nodes.old) (K.data_of key) value (map_content node_value nodes.new)) }
+    ensures err { IfErr result (Refuses (map_content node_value nodes.old) value) }
+    ensures reuses { 0 < map.len nodes.old.next → IsOk result }
+    ensures room { 0 < nodes.old.room → IsOk result }
+    ensures valid { MayGrow true (map_content node_value nodes.old) (IsErr result) (map_content node_value nodes.new) }
+    ensures ends { (d : ToOrFrom) (k : KeyOf) → ends_in d nodes.new.live k ≡ ends_in d nodes.old.live k }
+{
+    let node = Node {
+        value,
+        out: no_ends(),
+        into: no_ends(),
+    };
+    match nodes.insert(node) {
+        Ok(key) => Ok(key),
+        Err(InsertError::Full(node)) => Err(InsertError::Full(node.value)),
+        Err(InsertError::Memory(node)) => Err(InsertError::Memory(node.value)),
+    }
+}
+
+// Removes a node from the map of nodes.
+fn take_node<K: Key, N: Drop>(nodes: &mut Nodes<K, N>, node: K) -> Option<N>
+    ensures value { result ≡ map.get (map_content node_value nodes.old).live (K.data_of node) }
+    ensures live { nodes.new.live ≡ map.remove nodes.old.live (K.data_of node) }
+    ensures removes { OnSome result (Removes (map_content node_value nodes.old) (K.data_of node) (map_content node_value nodes.new)) }
+    ensures unchanged { IfNone result (map_content node_value nodes.new ≡ map_content node_value nodes.old) }
+    ensures valid { StaysValid true (map_content node_value nodes.old) (map_content node_value nodes.new) }
+{
+    Some(nodes.remove(node)?.value)
+}
+
+// Adds an edge that is in no list to the map of edges.
 fn insert_edge<E: Drop>(
-    edges: &mut SlotMap<EdgeKey, Edge<E>>,
+    edges: &mut Edges<E>,
     from: DefaultKey,
     to: DefaultKey,
     value: E,
 ) -> Result<EdgeKey, EdgeError<E>>
-    ensures adds { IfOk result (λ key. Inserts edges.old key (record { from = from; to = to; value = value }) edges.new) }
+    ensures adds { IfOk result (λ key. Inserts (map_content seen_edge edges.old) key (record { from = from; to = to; value = value }) (map_content seen_edge edges.new)) }
     ensures fresh { IfOk result (λ key. map.get edges.old.live key ≡ None) }
-    ensures unspent { IfOk result (λ key. IsSpent edges.old key → ⊥) }
-    ensures err { IfErr result (RefusesLiveEdge edges.old value) }
-    ensures unchanged { OnErr result (Keeps edges.old edges.new) }
-    ensures gone { KeepsSpent edges.old edges.new }
+    ensures unlinked { IfOk result (λ key. edges.new.live ≡ map.insert edges.old.live key (record { from = from; to = to; value = value; out = empty_link; into = empty_link })) }
+    ensures err { IfErr result (RefusesLiveEdge (map_content seen_edge edges.old) value) }
+    ensures same { OnErr result (edges.new.live ≡ edges.old.live) }
+    ensures reuses { 0 < map.len edges.old.next → IsOk result }
+    ensures room { 0 < edges.old.room → IsOk result }
+    ensures valid { MayGrow true (map_content seen_edge edges.old) (IsErr result) (map_content seen_edge edges.new) }
 {
-    match edges.insert(Edge { from, to, value }) {
+    let edge = Edge {
+        from,
+        to,
+        value,
+        out: no_link(),
+        into: no_link(),
+    };
+    match edges.insert(edge) {
         Ok(key) => Ok(key),
         Err(InsertError::Full(edge)) => Err(EdgeError::Full(edge.value)),
         Err(InsertError::Memory(edge)) => Err(EdgeError::Memory(edge.value)),
@@ -62,21 +105,21 @@ impl<K: Key, N: Drop, E: Drop> Graph<K, N, E> {
         ensures room { 0 < self.old.nodes.room → IsOk result }
         ensures unchanged { OnErr result (Keeps self.old.nodes self.new.nodes) }
     {
-        self.nodes.insert(node)
+        insert_node(&mut self.nodes, node)
     }
 
     /// Adds an edge from one node to another, and returns its key, which no edge had before.
     ///
-    /// It is the last of the outgoing edges of the one, and of the incoming edges of the other. Memory
-    /// is allocated before anything changes. If the call fails, the error holds the value, and the graph
-    /// is unchanged.
+    /// It is the last of the outgoing edges of the one, and of the incoming edges of the other. If an
+    /// edge was removed or room was reserved, nothing is allocated. If the call fails, the error holds
+    /// the value, and the graph is unchanged.
     ///
     /// ```
     /// let mut graph: Graph<NodeKey, &str, u64> = Graph::new(alloc)?;
     /// let a = graph.add_node("a")?;
     /// let b = graph.add_node("b")?;
     /// let edge = graph.add_edge(a, b, 5)?;
-    /// assert_eq!(rt; graph.edges_to(b), [edge].as_slice());
+    /// assert_eq!(rt; graph.edges_to(b).next(), Some(edge));
     /// graph.remove_node(b);
     /// assert!(rt; matches!(graph.add_edge(a, b, 6), Err(EdgeError::Gone(6))));
     /// ```
@@ -91,6 +134,8 @@ impl<K: Key, N: Drop, E: Drop> Graph<K, N, E> {
 
         // Why the call failed, and what that leaves.
         ensures err { IfErr result (RefusesEdge self.old.nodes self.old.edges (K.data_of from) (K.data_of to) edge) }
+        ensures reuses { IsLive self.old.nodes (K.data_of from) → IsLive self.old.nodes (K.data_of to) → 0 < map.len self.old.edges.next → IsOk result }
+        ensures room { IsLive self.old.nodes (K.data_of from) → IsLive self.old.nodes (K.data_of to) → 0 < self.old.edges.room → IsOk result }
         ensures unchanged { OnErr result (Keeps self.old.edges self.new.edges × SameEdges self.old.out self.new.out × SameEdges self.old.into self.new.into) }
 
         // All else is as before.
@@ -100,19 +145,14 @@ impl<K: Key, N: Drop, E: Drop> Graph<K, N, E> {
         if !self.nodes.contains_key(from) || !self.nodes.contains_key(to) {
             return Err(EdgeError::Gone(edge));
         }
-        let from = inner(from);
-        let to = inner(to);
-        if make_rooms(self.alloc, &mut self.out, from, &mut self.into, to).is_err() {
-            return Err(EdgeError::Memory(edge));
-        }
-        let key = insert_edge(&mut self.edges, from, to, edge)?;
-        link(&mut self.out, from, key);
-        link(&mut self.into, to, key);
+        let key = insert_edge(&mut self.edges, inner(from), inner(to), edge)?;
+        link_last(&mut self.nodes, &mut self.edges, Direction::Out, from, key);
+        link_last(&mut self.nodes, &mut self.edges, Direction::Into, to, key);
         Ok(key)
     }
 
     /// Removes an edge, and returns its value, or `None` if it doesn't exist. Its key is never used
-    /// again.
+    /// again. Constant time.
     ///
     /// ```
     /// let mut graph: Graph<NodeKey, &str, u64> = Graph::new(alloc)?;
@@ -133,22 +173,23 @@ impl<K: Key, N: Drop, E: Drop> Graph<K, N, E> {
         ensures nodes { self.new.nodes ≡ self.old.nodes }
         ensures gone { KeepsSpent self.old.edges self.new.edges }
     {
-        let removed = self.edges.remove(edge)?;
-        unlink(&mut self.out, removed.from, edge);
-        unlink(&mut self.into, removed.to, edge);
-        Some(removed.value)
+        let (from, to) = self.edge_ends(edge)?;
+        unlink(&mut self.nodes, &mut self.edges, Direction::Out, from, edge);
+        unlink(&mut self.nodes, &mut self.edges, Direction::Into, to, edge);
+        Some(self.edges.remove(edge)?.value)
     }
 
     // An edge from a node or to it, or `None` if there is none.
-    fn edge_at(&self, node: DefaultKey) -> Option<EdgeKey>
-        ensures some { IfSome result (λ key. (e : SeenEdge E) × (map.get self.now.edges.live key ≡ Some e) × (touches node e ≡ true)) }
-        ensures none { IfNone result ((k : KeyOf) (e : SeenEdge E) → map.get self.now.edges.live k ≡ Some e → touches node e ≡ false) }
+    fn edge_at(&self, node: K) -> Option<EdgeKey>
+        ensures some { IfSome result (λ key. (e : SeenEdge E) × (map.get self.now.edges.live key ≡ Some e) × (touches (K.data_of node) e ≡ true)) }
+        ensures none { IfNone result ((k : KeyOf) (e : SeenEdge E) → map.get self.now.edges.live k ≡ Some e → touches (K.data_of node) e ≡ false) }
         ensures out { (k : KeyOf) → ListsEdges from self.now.edges.live k (edges_at self.now.out k) }
         ensures into { (k : KeyOf) → ListsEdges to self.now.edges.live k (edges_at self.now.into k) }
     {
-        match last(&self.out, node) {
+        let _ = &self.nodes;
+        match self.edges_from(node).next() {
             Some(edge) => Some(edge),
-            None => last(&self.into, node),
+            None => self.edges_to(node).next(),
         }
     }
 
@@ -171,7 +212,6 @@ impl<K: Key, N: Drop, E: Drop> Graph<K, N, E> {
         ensures nodes { self.new.nodes ≡ self.old.nodes }
         ensures gone { KeepsSpent self.old.edges self.new.edges }
     {
-        let node = inner(node);
         while let Some(edge) = self.edge_at(node) {
             self.remove_edge(edge);
         }
@@ -208,9 +248,7 @@ impl<K: Key, N: Drop, E: Drop> Graph<K, N, E> {
         ensures into { (k : KeyOf) → edges_at self.new.into k ≡ filter (map.contains_key self.new.edges.live) (edges_at self.old.into k) }
     {
         self.remove_edges_of(node);
-        self.out.remove(inner(node));
-        self.into.remove(inner(node));
-        self.nodes.remove(node)
+        take_node(&mut self.nodes, node)
     }
 
     /// Removes all nodes and all edges. Their keys are never used again. The room stays.
@@ -233,7 +271,5 @@ impl<K: Key, N: Drop, E: Drop> Graph<K, N, E> {
     {
         self.nodes.clear();
         self.edges.clear();
-        self.out.clear();
-        self.into.clear();
     }
 }

@@ -3,19 +3,34 @@
 ghost use Rattle.std.specs.Prelude.{◌≡◌, IfOk};
 ghost use Rattle.slotmap.specs.Words.{ClonesEqual, IsCloneBy, IsCopy};
 ghost use Rattle.slotmap_graph.specs.Parts.{SameEdges, clones_edge};
+ghost use Rattle.slotmap_graph.specs.Threads.{copies_edge, copies_node};
 
-use crate::{Edge, Graph};
+use crate::{Edge, Graph, Node};
 use slotmap::Key;
 use std::alloc::AllocError;
 
+impl<N: Clone> Clone for Node<N> {
+    ghost is_clone = { copies_node N.is_clone };
+
+    fn clone(&self) -> Result<Self, AllocError> {
+        Ok(Node {
+            value: self.value.clone()?,
+            out: self.out,
+            into: self.into,
+        })
+    }
+}
+
 impl<E: Clone> Clone for Edge<E> {
-    ghost is_clone = { clones_edge E.is_clone };
+    ghost is_clone = { copies_edge E.is_clone };
 
     fn clone(&self) -> Result<Self, AllocError> {
         Ok(Edge {
             from: self.from,
             to: self.to,
             value: self.value.clone()?,
+            out: self.out,
+            into: self.into,
         })
     }
 }
@@ -25,7 +40,7 @@ impl<K: Key, N: Clone, E: Clone> Graph<K, N, E> {
     ///
     /// The edges of each node are listed in the same order, and both graphs will return the same new
     /// keys. If memory runs out, the call fails, and what was copied is dropped. It takes time linear in
-    /// the number of slots and edges.
+    /// the number of slots.
     ///
     /// ```
     /// let mut graph: Graph<NodeKey, &str, u64> = Graph::new(alloc)?;
@@ -33,7 +48,7 @@ impl<K: Key, N: Clone, E: Clone> Graph<K, N, E> {
     /// let edge = graph.add_edge(a, a, 5)?;
     /// let copy = graph.clone()?;
     /// graph.remove_node(a);
-    /// assert_eq!(rt; copy.edges_from(a), [edge].as_slice());
+    /// assert_eq!(rt; copy.edges_from(a).next(), Some(edge));
     /// ```
     pub fn clone(&self) -> Result<Self, AllocError>
         ensures nodes { IfOk result (λ copy. IsCloneBy N.is_clone self.now.nodes copy.nodes) }
@@ -47,15 +62,7 @@ impl<K: Key, N: Clone, E: Clone> Graph<K, N, E> {
     {
         let nodes = self.nodes.clone()?;
         let edges = self.edges.clone()?;
-        let out = self.out.clone()?;
-        let into = self.into.clone()?;
-        Ok(Graph {
-            alloc: self.alloc,
-            nodes,
-            edges,
-            out,
-            into,
-        })
+        Ok(Graph { nodes, edges })
     }
 }
 

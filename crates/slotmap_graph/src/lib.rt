@@ -9,27 +9,26 @@
 //! - The edges of a node are listed in the order in which they were added.
 //! - A call that fails changes nothing, and returns the value.
 //!
-//! Each node has a list of its outgoing edges, and one of its incoming edges. So a call
-//! takes constant time, unless a vector grows, with these exceptions:
+//! Each node has a list of its outgoing edges, and one of its incoming edges. They are links between
+//! the edges: there are two maps, one of nodes and one of edges, and nothing else is allocated. So a
+//! call takes constant time, unless a map grows, with these exceptions:
 //!
 //! - [`Graph::neighbours`] and [`Graph::find_edge`] take time linear in the number of edges from the
 //!   node.
-//! - [`Graph::remove_edge`] searches two lists from the back, the outgoing edges of its first node and
-//!   the incoming edges of its second. Edges that were added last are found first.
-//! - [`Graph::remove_node`] looks for each of the node's edges in one other list.
+//! - [`Graph::remove_node`] takes time linear in the number of the node's edges.
 //!
 //! ```
 //! let mut graph: Graph<NodeKey, &str, u64> = Graph::new(alloc)?;
 //! let a = graph.add_node("a")?;
 //! let b = graph.add_node("b")?;
 //! let edge = graph.add_edge(a, b, 5)?;
-//! assert_eq!(rt; graph.edges_from(a), [edge].as_slice());
+//! assert_eq!(rt; graph.edges_from(a).next(), Some(edge));
 //! assert_eq!(rt; graph.neighbours(alloc, a)?.as_slice(), [b].as_slice());
 //! graph.remove_node(b);
 //! assert!(rt; graph.edge(edge).is_none());
-//! assert!(rt; graph.edges_from(a).is_empty());
+//! assert_eq!(rt; graph.out_degree(a), 0);
 //! ```
-#![tactic(auto, using(slotmap::proofs::Callers::keys))]
+#![tactic(auto, using(slotmap::proofs::Callers::keys, slotmap_keylist::proofs::Mapped::mapped))]
 
 ghost use Rattle.std.specs.Prelude.{◌≡◌, ◌+◌, ◌≤◌, Some, None, IfOk, IfErr, IsOk, IfSome, length, option_copied, option_map, map as list_map, true};
 ghost use Rattle.std.specs.FinMap as map;
@@ -37,30 +36,44 @@ ghost use Rattle.std.specs.Borrow.{sem};
 ghost use Rattle.std.specs.Option.{option_copied_mut};
 ghost use Rattle.slotmap.specs.Words.{IsNew, IsLive, MakesRoom, RefusesCapacity, used};
 ghost use Rattle.slotmap_graph.specs.Parts.{both, edges_at, ends, from, to, value, ListsEdges, RefusesEither, SameEdges};
+ghost use Rattle.slotmap_graph.specs.Threads.{end, lists_of};
 
 mod change;
 mod clone;
 mod edge_key;
-mod lists;
+mod iter;
+mod links;
 mod search;
 
-use crate::lists::{Lists, list_of};
+use crate::links::{Direction, Edges, Nodes, list_ends};
 pub use edge_key::EdgeKey;
+pub use iter::EdgesAt;
 use slotmap::basic::Keys;
-use slotmap::{DefaultKey, Key, NodeKey, ReserveError, SecondaryMap, SlotMap};
-use slotmap_keylist::{inner, outer};
+use slotmap::{DefaultKey, Key, NodeKey, ReserveError, SlotMap};
+use slotmap_keylist::{Ends, Link, outer};
 use std::alloc::Global;
 use std::fmt;
 use std::marker::{Model, PhantomData};
 use std::ops::Index;
 use thiserror::Error;
 
-/// An edge from one node to another, or to itself, with its value.
-#[derive(Debug, Drop)]
+/// A node with its value, and the ends of the lists of its edges.
+#[derive(Drop)]
+pub struct Node<N> {
+    value: N,
+    out: Ends<EdgeKey>,
+    into: Ends<EdgeKey>,
+}
+
+/// An edge from one node to another, or to itself, with its value, and its neighbours in the lists of
+/// the two nodes.
+#[derive(Drop)]
 pub struct Edge<E> {
     from: DefaultKey,
     to: DefaultKey,
     value: E,
+    out: Link<EdgeKey>,
+    into: Link<EdgeKey>,
 }
 
 /// Nodes with values of type `N` under keys of type `K`, and edges between them with values of type
@@ -71,24 +84,28 @@ pub struct Edge<E> {
 /// by which `edges_at` has the edges of a node in their order.
 #[derive(Drop)]
 pub struct Graph<K, N, E> {
-    alloc: Global,
-    nodes: SlotMap<K, N>,
-    edges: SlotMap<EdgeKey, Edge<E>>,
-    // The edges from each node, and those to it.
-    out: Lists,
-    into: Lists,
+    nodes: Nodes<K, N>,
+    edges: Edges<E>,
 }
 
 impl<K, N, E> Model for Graph<K, N, E> {
-    ghost use Rattle.slotmap_graph.specs.Parts.{Seen, seen_code, IsGraph, by_node};
+    ghost use Rattle.slotmap_keylist.specs.Mapped.{map_content};
+    ghost use Rattle.slotmap_graph.specs.Parts.{Seen, seen_code};
+    ghost use Rattle.slotmap_graph.specs.declared.links.Direction.TheVariants.{Out, Into};
+    ghost use Rattle.slotmap_graph.specs.Threads.{IsGraph, by_node, node_value, seen_edge};
 
     ghost Value = { Seen N E };
 
     ghost coded = { seen_code N.code E.code };
 
-    ghost view = { λ g. record { nodes = g.nodes; edges = g.edges; out = by_node g.nodes g.out.pairs; into = by_node g.nodes g.into.pairs } };
+    ghost view = { λ g. record {
+      nodes = map_content node_value g.nodes;
+      edges = map_content seen_edge g.edges;
+      out = by_node Out g.nodes.live g.edges.live;
+      into = by_node Into g.nodes.live g.edges.live;
+    } };
 
-    ghost invariant = { λ g. IsGraph g.nodes g.edges.live g.out.pairs g.into.pairs };
+    ghost invariant = { λ g. IsGraph g.nodes g.edges.live };
 }
 
 /// An edge was not added. The graph is unchanged, and the error holds the edge's value.
@@ -155,15 +172,7 @@ impl<K: Key, N: Drop, E: Drop> Graph<K, N, E> {
     {
         let nodes = SlotMap::with_capacity_and_key(alloc, nodes)?;
         let edges = SlotMap::with_capacity_and_key(alloc, edges)?;
-        let out = SecondaryMap::new(alloc)?;
-        let into = SecondaryMap::new(alloc)?;
-        Ok(Graph {
-            alloc,
-            nodes,
-            edges,
-            out,
-            into,
-        })
+        Ok(Graph { nodes, edges })
     }
 
     /// Reserves room for `additional` more nodes: to add them can't fail then.
@@ -187,8 +196,7 @@ impl<K: Key, N: Drop, E: Drop> Graph<K, N, E> {
         self.nodes.reserve(additional)
     }
 
-    /// Reserves room for `additional` more edges. To add one may still need memory for the lists of its
-    /// two nodes.
+    /// Reserves room for `additional` more edges: to add them can't fail then, if their nodes exist.
     ///
     /// It fails with `TooGreat` if more than 4294967294 edges would be there, and with `Memory` if
     /// memory runs out. The graph has the same edges then.
@@ -251,7 +259,7 @@ impl<K: Key, N: Drop, E: Drop> Graph<K, N, E> {
     /// assert_eq!(rt; nodes.next(), Some(b));
     /// assert_eq!(rt; nodes.next(), None);
     /// ```
-    pub fn nodes(&self) -> Keys<'_, K, N>
+    pub fn nodes(&self) -> Keys<'_, K, Node<N>>
         ensures { result ≡ map.keys self.now.nodes.live }
     {
         self.nodes.keys()
@@ -279,7 +287,7 @@ impl<K: Key, N: Drop, E: Drop> Graph<K, N, E> {
     pub fn node(&self, node: K) -> Option<&N>
         ensures { option_copied result ≡ map.get self.now.nodes.live (K.data_of node) }
     {
-        self.nodes.get(node)
+        Some(&self.nodes.get(node)?.value)
     }
 
     /// Returns a mutable reference to the value of a node, or `None` if the node doesn't exist, in
@@ -298,7 +306,7 @@ impl<K: Key, N: Drop, E: Drop> Graph<K, N, E> {
         ensures value { option_copied_mut result ≡ map.get self.old.nodes.live (K.data_of node) }
     {
         match self.nodes.get_mut(node) {
-            Some(value) => Some(value),
+            Some(node) => Some(&mut node.value),
             None => None,
         }
     }
@@ -350,24 +358,60 @@ impl<K: Key, N: Drop, E: Drop> Graph<K, N, E> {
         Some((outer(edge.from), outer(edge.to)))
     }
 
-    /// Returns the keys of a node's outgoing edges, each once, in the order in which they were added.
-    ///
-    /// Constant time. A removed node has none.
-    pub fn edges_from(&self, node: K) -> &[EdgeKey]
-        ensures in_order { result.now ≡ edges_at self.now.out (K.data_of node) }
-        ensures listed { ListsEdges from self.now.edges.live (K.data_of node) result.now }
+    // The edges of a node in one of its lists.
+    fn edges_of(&self, direction: Direction, node: K) -> EdgesAt<'_, E>
+        ensures in_order { result ≡ edges_at (lists_of direction self.now) (K.data_of node) }
+        ensures listed { ListsEdges (end direction) self.now.edges.live (K.data_of node) result }
     {
-        list_of(&self.out, inner(node))
+        let ends = list_ends(&self.nodes, direction, node);
+        EdgesAt {
+            edges: &self.edges,
+            direction,
+            next: ends.first,
+            left: ends.len,
+        }
     }
 
-    /// Returns the keys of a node's incoming edges, each once, in the order in which they were added.
+    /// Returns an iterator over the keys of a node's outgoing edges, each once, in the order in which
+    /// they were added.
     ///
     /// Constant time. A removed node has none.
-    pub fn edges_to(&self, node: K) -> &[EdgeKey]
-        ensures in_order { result.now ≡ edges_at self.now.into (K.data_of node) }
-        ensures listed { ListsEdges to self.now.edges.live (K.data_of node) result.now }
+    ///
+    /// ```
+    /// let mut graph: Graph<NodeKey, &str, u64> = Graph::new(alloc)?;
+    /// let a = graph.add_node("a")?;
+    /// let first = graph.add_edge(a, a, 5)?;
+    /// let second = graph.add_edge(a, a, 6)?;
+    /// let mut edges = graph.edges_from(a);
+    /// assert_eq!(rt; edges.next(), Some(first));
+    /// assert_eq!(rt; edges.next(), Some(second));
+    /// assert_eq!(rt; edges.next(), None);
+    /// ```
+    pub fn edges_from(&self, node: K) -> EdgesAt<'_, E>
+        ensures in_order { result ≡ edges_at self.now.out (K.data_of node) }
+        ensures listed { ListsEdges from self.now.edges.live (K.data_of node) result }
     {
-        list_of(&self.into, inner(node))
+        self.edges_of(Direction::Out, node)
+    }
+
+    /// Returns an iterator over the keys of a node's incoming edges, each once, in the order in which
+    /// they were added.
+    ///
+    /// Constant time. A removed node has none.
+    ///
+    /// ```
+    /// let mut graph: Graph<NodeKey, &str, u64> = Graph::new(alloc)?;
+    /// let a = graph.add_node("a")?;
+    /// let b = graph.add_node("b")?;
+    /// let edge = graph.add_edge(a, b, 5)?;
+    /// assert_eq!(rt; graph.edges_to(b).next(), Some(edge));
+    /// assert_eq!(rt; graph.edges_to(a).len(), 0);
+    /// ```
+    pub fn edges_to(&self, node: K) -> EdgesAt<'_, E>
+        ensures in_order { result ≡ edges_at self.now.into (K.data_of node) }
+        ensures listed { ListsEdges to self.now.edges.live (K.data_of node) result }
+    {
+        self.edges_of(Direction::Into, node)
     }
 
     /// Returns how many edges go out of a node, in constant time.
@@ -394,7 +438,23 @@ impl<K: Key, N: Drop, E: Drop> Index<K> for Graph<K, N, E> {
     ghost index_gives = { λ graph node value. map.get graph.nodes.live (K.data_of node) ≡ Some value };
 
     fn index(&self, node: K) -> &N {
-        &self.nodes[node]
+        &self.nodes[node].value
+    }
+}
+
+impl<N: fmt::Debug> fmt::Debug for Node<N> {
+    fn fmt<W: fmt::Write>(&self, f: &mut fmt::Formatter<W>) -> fmt::Result {
+        self.value.fmt(f)
+    }
+}
+
+impl<E: fmt::Debug> fmt::Debug for Edge<E> {
+    fn fmt<W: fmt::Write>(&self, f: &mut fmt::Formatter<W>) -> fmt::Result {
+        f.debug_struct("Edge")
+            .field("from", &self.from)
+            .field("to", &self.to)
+            .field("value", &self.value)
+            .finish()
     }
 }
 

@@ -6,7 +6,7 @@ ghost use Rattle.std.specs.FinMap as map;
 ghost use Rattle.slotmap.specs.Words.{Key as KeyOf, IsBeside, IsContent, IsLive, get, contains_key};
 ghost use Rattle.slotmap_keylist.specs.KeyLists.{times};
 ghost use Rattle.slotmap_graph.specs.Parts.{PutsAlone, edges_at, to};
-ghost use Rattle.slotmap_graph.specs.Search.{AreSeen, Finds, HasNext, IsBreadthFirst, Leads, ends_of, goes_to, marked};
+ghost use Rattle.slotmap_graph.specs.Search.{AreSeen, Finds, HasNext, IsBreadthFirst, Leads, ends_along, goes_to, marked};
 
 use crate::{EdgeKey, Graph};
 use slotmap::{Key, SecondaryMap};
@@ -60,11 +60,11 @@ impl<K: Key, N: Drop, E: Drop> Graph<K, N, E> {
     /// assert_eq!(rt; graph.neighbours(alloc, a)?.as_slice(), [b, a].as_slice());
     /// ```
     pub fn neighbours(&self, alloc: Global, node: K) -> Result<Vec<K>, AllocError>
-        ensures { IfOk result (λ found. list_map K.data_of found.items ≡ ends_of to self.now.edges.live (edges_at self.now.out (K.data_of node))) }
+        ensures { IfOk result (λ found. list_map K.data_of found.items ≡ ends_along to self.now.edges.live (edges_at self.now.out (K.data_of node))) }
     {
         let mut found = Vec::new(alloc);
         for edge in self.edges_from(node) {
-            found.push(outer(self.edges[*edge].to))?;
+            found.push(outer(self.edges[edge].to))?;
         }
         Ok(found)
     }
@@ -85,8 +85,8 @@ impl<K: Key, N: Drop, E: Drop> Graph<K, N, E> {
     {
         let to = inner(to);
         for edge in self.edges_from(from) {
-            if self.edges[*edge].to == to {
-                return Some(*edge);
+            if self.edges[edge].to == to {
+                return Some(edge);
             }
         }
         None
@@ -105,10 +105,10 @@ impl<K: Key, N: Drop, E: Drop> Graph<K, N, E> {
         ensures finds { OnOk result (Finds self.now.nodes self.now.edges.live (K.data_of node) seen.old.pairs (list_map K.data_of found.old.items) seen.new.pairs (list_map K.data_of found.new.items)) }
         ensures next { OnOk result (HasNext self.now.edges.live (K.data_of node) seen.new.pairs) }
         ensures order { OnOk result (list_map K.data_of found.new.items
-            ≡ fold marked (list_map K.data_of found.old.items) (ends_of to self.now.edges.live (edges_at self.now.out (K.data_of node)))) }
+            ≡ fold marked (list_map K.data_of found.old.items) (ends_along to self.now.edges.live (edges_at self.now.out (K.data_of node)))) }
     {
         for edge in self.edges_from(node) {
-            mark(found, seen, outer(self.edges[*edge].to))?;
+            mark(found, seen, outer(self.edges[edge].to))?;
         }
         Ok(())
     }
@@ -137,7 +137,7 @@ impl<K: Key, N: Drop, E: Drop> Graph<K, N, E> {
         ensures live { IfOk result (λ found. (x : KeyOf) → 0 < times x (list_map K.data_of found.items)
             → IsLive self.now.nodes (K.data_of from) × IsLive self.now.nodes x) }
         ensures in_order { IfOk result (λ found. IsLive self.now.nodes (K.data_of from)
-            → IsBreadthFirst (λ k. ends_of to self.now.edges.live (edges_at self.now.out k)) (K.data_of from) (list_map K.data_of found.items)) }
+            → IsBreadthFirst (λ k. ends_along to self.now.edges.live (edges_at self.now.out k)) (K.data_of from) (list_map K.data_of found.items)) }
     {
         let mut found = Vec::new(alloc);
         if !self.nodes.contains_key(from) {

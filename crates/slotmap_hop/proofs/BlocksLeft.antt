@@ -9,8 +9,7 @@ module _ {V : Type 0} where
   -- after one of these keys is removed, the others remain
   pub blocks_taken : (now new : HopContent V) (k : Key) (ks : List Key) → Removes now.content k new.content → new.blocks ≡ blocks_without now k
       → blocks_without_all now (k ∷ ks) ≡ blocks_without_all new ks
-  blocks_taken now new k ks removes blocks =
-      λ j. blocks_without_all (record { content = record now.content { next = sym removes.next j }; blocks = sym blocks j }) ks
+  blocks_taken now new k ks removes blocks = grind arith
 
   -- the keys of a map that has this first entry
   pub keys_first : (m n : map.FinMap key_cmp V) (k : Key) (v : V) → map.entries m ≡ (k, v) ∷ map.entries n → map.keys m ≡ k ∷ map.keys n
@@ -45,21 +44,10 @@ module _ {K V : Type 0} (data_of : K → Key) where
 
     -- the entry stays, and no block changes
     pub InOrder-kept : (new : HopContent V) → x.stays ≡ true → new.content.next ≡ now.content.next → new.blocks ≡ now.blocks → InOrder old (visits ++ x ∷ []) ((data_of x.key).index + 1) new
-    InOrder-kept new stays next blocks = record {
-      ascending = next_seen;
-      blocks = λ ks.
-          rw (dropped_push visits x, stays, append-nil) (so_far.blocks ks ∙ λ j. blocks_without_all (record { content = record now.content { next = sym next j }; blocks = sym blocks j }) ks);
-    }
+    InOrder-kept new stays next blocks = grind (arith, next_seen, dropped_push, append-nil)
 
     -- the key is removed
     pub InOrder-dropped : (written new : HopContent V) → x.stays ≡ false → written.content.next ≡ now.content.next → written.blocks ≡ now.blocks
         → Removes written.content (data_of x.key) new.content → new.blocks ≡ blocks_without written (data_of x.key)
         → InOrder old (visits ++ x ∷ []) ((data_of x.key).index + 1) new
-    InOrder-dropped written new stays next same removes blocks = record {
-      ascending = next_seen;
-      blocks = λ ks.
-          rw (dropped_push visits x, stays, append_assoc)
-          (so_far.blocks (data_of x.key ∷ ks)
-          ∙ (λ j. blocks_without_all (record { content = record now.content { next = sym next j }; blocks = sym same j }) (data_of x.key ∷ ks))
-          ∙ blocks_taken written new (data_of x.key) ks removes blocks);
-    }
+    InOrder-dropped written new stays next same removes blocks = grind (arith, next_seen, dropped_push, append_assoc, blocks_taken)

@@ -1,6 +1,6 @@
 -- Slots with clones of the values of others: the same places and blocks, and clones of the values.
 use Rattle.std.specs.FinMap as map
-use Rattle.std.proofs.Common.{◌≡◌, ◌+◌, ◌∷◌, ℕ, zero, suc, true, List, [], drop, slice_get, Some, refl, sym, ap, subst, ◌∙◌, arith}
+use Rattle.std.proofs.Common.{◌≡◌, ◌+◌, ◌∷◌, ℕ, true, List, [], drop, slice_get, Some, refl, sym, ap, subst, ◌∙◌, arith}
 use Rattle.slotmap_core.proofs.Common.{same_from_all_zip, ClonesEqual, AreClones, IsCloneBy, IsPlaceClone, ArePlaceClones, Place, Live, Detached, Vacant}
 use Rattle.slotmap_core.proofs.Common.{Retired as RetiredPlace, live, keys_total, exact_keys, zip_length, zip_drop, same_len, clone_is_some, detached-clones}
 use Rattle.slotmap_core.proofs.Common.{retired-clones, next-clones, live-clones, length-clones, cloned_at, vacant_there, IsStacked-clones}
@@ -25,15 +25,10 @@ module _ {V : Type 0} (is_clone : V → V → Type 0) where
   place_cloned (Retired version unused nowhere) copy is = rw is (retired_same version)
     where
       retired_same : (version : ℕ) → IsPlaceClone is_clone (retired_place version) (retired_place version)
-      retired_same zero = refl
-      retired_same (suc version) = refl
+      retired_same version = grind arith
 
   same_slot : ClonesEqual is_clone → (s copy : Slot V) → IsSlotClone is_clone s copy → copy ≡ s
-  same_slot equal (Occupied version value) copy is = is.1 ∙ ap (Occupied version) (equal value is.0 is.2)
-  same_slot equal (Single version next prev) copy is = is
-  same_slot equal (Front version next back) copy is = is
-  same_slot equal (Back version front prev) copy is = is
-  same_slot equal (Retired version unused nowhere) copy is = is
+  same_slot equal slot copy is = grind arith
 
   pub all_links-cloned : (slots copies : List (Slot V)) → AreSlotClones is_clone slots copies → all_links copies ≡ all_links slots
   all_links-cloned [] [] zip = refl

@@ -1,6 +1,6 @@
 -- A map with no key: slot 0 alone.
-use Rattle.std.proofs.Common.{◌≡◌, ◌∷◌, ⊎_elim, ℕ, zero, suc, List, [], refl, arith}
-use Rattle.slotmap_core.proofs.Common.{Detached, Vacant, at_push, IsStacked-sentinel, live-sentinel}
+use Rattle.std.proofs.Common.{◌∷◌, ⊎_elim, ℕ, List, [], arith}
+use Rattle.slotmap_core.proofs.Common.{at_push, IsStacked-sentinel, live-sentinel}
 use Rattle.slotmap_hop.specs.Slots.{Slot, all_links, IsSound}
 use Rattle.slotmap_hop.specs.declared.links.Slot.TheVariants.{Single}
 use Rattle.slotmap_hop.specs.Links.{is_front, NamesApart, links_at, vacant_at, end_at, ListsOnce, NamesEnds}
@@ -11,24 +11,13 @@ sentinel_alone V = Single 0 0 0 ∷ []
 
 module _ (V : Type 0) where
   listed-new : ListsOnce (is_front (vacant_at (all_links (sentinel_alone V)))) []
-  listed-new zero = refl
-  listed-new (suc x) = grind arith
+  listed-new x = grind arith
 
   ends-new : NamesEnds (vacant_at (all_links (sentinel_alone V))) (end_at (all_links (sentinel_alone V)))
-  ends-new zero is = (record { begins = λ left e. absurd (omega arith); ordered = omega arith; inside = λ x low high. let same : x ≡ 0 = omega arith in rw same; ends = refl }, refl)
-  ends-new (suc x) is = absurd (cc)
+  ends-new x is = grind arith
 
   apart-new : (x : ℕ) → NamesApart x (links_at (all_links (sentinel_alone V)) x)
-  apart-new zero = tt
-  apart-new (suc x) = tt
+  apart-new x = grind arith
 
   pub IsSound-new : IsSound (sentinel_alone V) 0 0
-  IsSound-new =
-      record {
-        linked = record { sentinel = refl; linked = shut (record { listed = listed-new; chain = (refl, refl); ends = ends-new }) apart-new; fits = omega arith };
-        none_detached = λ i v found. ⊎_elim (λ same. absurd (let wrong = same.1 in cc)) (λ other. absurd (let none = other.1 in cc)) (at_push [] (Vacant 1) i (Detached v) found);
-        elems_live = live-sentinel V;
-        stack = [];
-        stacked = IsStacked-sentinel V;
-        counted = refl;
-      }
+  IsSound-new = grind (arith, shut, listed-new, ends-new, apart-new, ⊎_elim, at_push, live-sentinel, IsStacked-sentinel)

@@ -4,7 +4,7 @@ use Rattle.std.specs.FinMap as map
 use Rattle.std.proofs.Common.{◌≡◌, ◌+◌, ◌%◌, ◌^◌, ◌<◌, ◌≤◌, ◌∷◌, ◌++◌, ℕ, Bool, true, false, cond, List, [], length, set, take, append-nil, append_assoc, None}
 use Rattle.slotmap_core.proofs.Common.{add-one, slice_get, Some, refl, sym, ap, subst, ◌∙◌, arith, eqb, map as list_map, set-append_seam, nat_tests}
 use Rattle.slotmap_core.proofs.Common.{nil_from_length, length_push, length-map, map_push, take_all, slice_get-map, is_vacant_version, vacant_slot}
-use Rattle.slotmap_core.proofs.Common.{place_of_record, start_places, start_stack, StartsFrom, Detached, Vacant, live, IsConsistent, Accepts, AllFitBelow}
+use Rattle.slotmap_core.proofs.Common.{place_of_record, start_places, start_stack, StartsFrom, Vacant, live, IsConsistent, Accepts, AllFitBelow}
 use Rattle.slotmap_core.proofs.Common.{IsStacked, Writes, record_of, records_of, vacant_split, vacant_is, slot_vacant, slice_get_push, len-live-push, odd_of}
 use Rattle.slotmap_core.proofs.Common.{even_where, vacant_place, length-start_places, start_places-push, start_place_at, start_stack-push}
 use Rattle.slotmap_core.proofs.Common.{IsStacked-start_places, writes-places, starts-stack, next_consistent}
@@ -97,14 +97,7 @@ module _ {V : Type 0} (read : List (SlotRecord V)) (slots : List (Slot V)) (vaca
     more : (new : List (Slot V)) (vacant2 : ℕ) → HasBlockList (all_links new) → Ascend 1 (blocks_of (all_links new)).others (length slots + 1)
         → places_of new ≡ places_of slots ++ place_of_record slot ∷ [] → length (start_stack (read ++ slot ∷ [])) ≡ vacant2
         → AreRead (read ++ slot ∷ []) new vacant2 (elems + slot.version % 2)
-    more new vacant2 list ascends pushed counted = record {
-      ascending =
-          (let size : length new ≡ length slots + 1 = omega (arith, length-places new, length-places slots, ap length pushed, length_push (places_of slots) (place_of_record slot)) in rw size ascends);
-      places = pushed ∙ ap (λ ps. ps ++ place_of_record slot ∷ []) are.places ∙ sym (start_places-push read slot positive);
-      list = list;
-      counted = counted;
-      elems_live = ap (λ ps. map.len (live ps)) pushed ∙ grind (arith, len-live-push (places_of slots) (place_of_record slot), odd_of slot consistent, even_where slot consistent);
-    }
+    more new vacant2 list ascends pushed counted = grind (arith, length-places, length_push, place_of_record, start_places-push, live, len-live-push, odd_of, even_where)
 
     -- a vacant place joins the blocks
     pub AreRead-vacant : (new : List (Slot V)) → is_vacant_version slot.version ≡ true → HasBlockList (all_links new)
@@ -138,14 +131,7 @@ module _ {V : Type 0} (read : List (SlotRecord V)) (slots : List (Slot V)) (vaca
     stacked = subst (λ ps. IsStacked ps (start_stack read)) (sym are.places) (IsStacked-start_places read limit small accepted versions_fit)
 
     pub IsSound-read : IsSound slots vacant elems
-    IsSound-read = record {
-      linked = are.list;
-      none_detached = λ i v found. (let at = ap (λ ps. slice_get ps i) (sym are.places) ∙ found in grind (arith, stacked.sentinel, start_place_at read i (Detached v)));
-      elems_live = are.elems_live;
-      stack = start_stack read;
-      stacked = stacked;
-      counted = are.counted;
-    }
+    IsSound-read = grind (arith, stacked, start_place_at, start_stack)
 
     pub starts-read : (c : ℕ) → StartsFrom read (hop_content slots c).content
     starts-read c =
@@ -180,10 +166,7 @@ module _ {V : Type 0} (list passed rest : List (SlotRecord V)) (left : ℕ) (slo
 
   -- no record is left
   pub reading_all : left ≡ 0 → AreRead list slots vacant elems
-  reading_all none =
-      let empty : rest ≡ [] = nil_from_length rest (sym reading.left_is ∙ none) in
-      let all : reading.first ∷ passed ≡ list = ap (λ xs. reading.first ∷ xs) (sym (append-nil passed)) ∙ ap (λ xs. reading.first ∷ passed ++ xs) (sym empty) ∙ reading.all in
-      rw all at reading.read
+  reading_all none = grind (arith, nil_from_length, append-nil)
 
   module _ (slot : SlotRecord V) (rest2 : List (SlotRecord V)) (left2 : ℕ) (is : rest ≡ slot ∷ rest2) (less : left2 + 1 ≡ left) where
     whole : (reading.first ∷ passed) ++ slot ∷ rest2 ≡ list

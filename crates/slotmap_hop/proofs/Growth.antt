@@ -1,10 +1,10 @@
 -- What an insert makes of sound slots, and what stays when one place changes.
 use Rattle.std.specs.FinMap as map
-use Rattle.std.proofs.Common.{◌≡◌, ◌≢◌, ◌+◌, ◌-◌, ◌^◌, ◌<◌, ◌≤◌, ◌∷◌, ◌++◌, ⊎_elim, ℕ, List, [], length, set, slice_get, Some, None, sym, ap, subst, ◌∙◌, arith}
+use Rattle.std.proofs.Common.{◌≡◌, ◌≢◌, ◌+◌, ◌-◌, ◌^◌, ◌<◌, ◌≤◌, ◌∷◌, ◌++◌, ⊎_elim, ℕ, List, [], length, set, slice_get, Some, sym, ap, subst, ◌∙◌, arith}
 use Rattle.slotmap_core.proofs.Common.{map-append, Key, most, Removes, Inserts, Place, Live, Detached, Vacant, live, left_by, content_of_places, used_places}
 use Rattle.slotmap_core.proofs.Common.{filled, IsVersion, IsStacked, key, len-live-set, len-live-push, IsStacked-filled, IsStacked-pushed, removes, inserts}
 use Rattle.slotmap_core.proofs.Common.{at_set, at_push}
-use Rattle.slotmap_hop.specs.Slots.{Slot, Occupied, version_in, links_in, place_in, all_links, places_of, next_place, offer_at, holding, hop_content, IsSound}
+use Rattle.slotmap_hop.specs.Slots.{Slot, Occupied, version_in, place_in, all_links, places_of, next_place, offer_at, holding, hop_content, IsSound}
 use Rattle.slotmap_hop.specs.Blocks.{shorter}
 use Rattle.slotmap_hop.specs.Links.{list_without, blocks_of, HasBlockList}
 use Rattle.slotmap_hop.proofs.SlotReads.{length-all_links, length-places}
@@ -17,15 +17,7 @@ module _ {V : Type 0} (slots : List (Slot V)) (vacant elems : ℕ) (sound : IsSo
   pub IsSound-set : (i : ℕ) (old p : Place V) → slice_get (places_of slots) i ≡ Some old → ((v : ℕ) → p ≢ Detached v) → HasBlockList (all_links new)
       → places_of new ≡ set (places_of slots) i p → (vs : List ℕ) → IsStacked (set (places_of slots) i p) vs → (vacant2 elems2 : ℕ) → length vs ≡ vacant2
       → map.len (live (set (places_of slots) i p)) ≡ elems2 → IsSound new vacant2 elems2
-  IsSound-set i old p was other list after vs stacked vacant2 elems2 counted lives = record {
-    linked = list;
-    none_detached = λ j v there. ⊎_elim (λ same. absurd (other v same.1)) (λ kept. sound.none_detached j v kept.1)
-        (at_set (places_of slots) i p old was j (Detached v) (ap (λ ps. slice_get ps j) (sym after) ∙ there));
-    elems_live = ap (λ ps. map.len (live ps)) after ∙ lives;
-    stack = vs;
-    stacked = subst (λ ps. IsStacked ps vs) (sym after) stacked;
-    counted = counted;
-  }
+  IsSound-set i old p was other list after vs stacked vacant2 elems2 counted lives = grind (arith, ⊎_elim, at_set, live)
 
 -- the steps on contents
 module _ {V : Type 0} (slots : List (Slot V)) (vacant elems : ℕ) (sound : IsSound slots vacant elems) (new : List (Slot V)) where
@@ -75,9 +67,7 @@ module _ {V : Type 0} (slots : List (Slot V)) (vacant elems : ℕ) (sound : IsSo
   places-pushed w = map-append (λ (s : Slot V). place_in s) slots (Occupied 1 w ∷ [])
 
   pub blocks-pushed : (w : V) → length slots + 1 < 2 ^ 32 → next_place slots ≡ 0 → HasBlockList (all_links (pushed_slots w)) × (blocks_of (all_links (pushed_slots w)) ≡ shorter (blocks_of (all_links slots)))
-  blocks-pushed w fits none =
-      let same : all_links (pushed_slots w) ≡ all_links slots ++ None ∷ [] = map-append (λ (s : Slot V). links_in s) slots (Occupied 1 w ∷ []) in
-      rw same (HasBlockList-pushed (all_links slots) sound.linked (omega (arith, length-all_links slots)), blocks_pushed (all_links slots) sound.linked ∙ shorter_none (all_links slots) sound.linked none)
+  blocks-pushed w fits none = grind (arith, map-append, HasBlockList-pushed, length-all_links, blocks_pushed, shorter_none)
 
   pub sound-pushed : (w : V) → length slots + 1 < 2 ^ 32 → next_place slots ≡ 0 → IsSound (pushed_slots w) vacant (elems + 1)
   sound-pushed w fits none =

@@ -1,7 +1,7 @@
 -- A search for the next live place skips a block of vacant places in one step.
 use Rattle.std.proofs.lemmas.List.{append_assoc, length-append}
 use Rattle.std.specs.FinMap as map
-use Rattle.std.proofs.Common.{◌≡◌, ◌≢◌, ◌+◌, ◌-◌, ◌<◌, ◌≤◌, ◌^◌, ◌∷◌, ◌++◌, ℕ, zero, suc, true, false, List, [], length, drop, slice_get, Some, None}
+use Rattle.std.proofs.Common.{◌≡◌, ◌≢◌, ◌+◌, ◌-◌, ◌*◌, ◌<◌, ◌≤◌, ◌^◌, ◌∷◌, ◌++◌, ℕ, zero, suc, true, false, List, [], length, drop, slice_get, Some, None}
 use Rattle.slotmap_core.proofs.Common.{is_some, refl, sym, ap, ◌∙◌, arith, slice_get_within, get_or_from_slice_get, drop_more, drop_all, All-nil, All-cons}
 use Rattle.slotmap_core.proofs.Common.{All-push, All-weaker, All, Key, last_version, Place, Live, Detached, Vacant, Retired as RetiredPlace, live, live_entry}
 use Rattle.slotmap_core.proofs.Common.{retired_entry, gather, HasVersion, live_at, key, get-live_at}
@@ -9,7 +9,7 @@ use Rattle.slotmap_hop.specs.Slots.{Slot, value_in, links_in, hop_in, place_in, 
 use Rattle.slotmap_hop.specs.declared.links.Slot.TheVariants.{Occupied, Single, Front, Back, Retired}
 use Rattle.slotmap_hop.specs.Blocks.{Begins, IsBlock}
 use Rattle.slotmap_hop.specs.Links.{is_vacant, end_in, NamesApart, vacant_at, links_at, end_at}
-use Rattle.slotmap_hop.specs.Iter.{pairs_left, retired_left, StandsAt, CanGoOn, FindsNone, FindsSlot, ReadsOnTheWay, OnTheWay}
+use Rattle.slotmap_hop.specs.Iter.{pairs_left, retired_left, StandsAt, CanGoOn, FindsNone, FindsSlot, ReadsOnTheWay, Counted, IsRead, GoesTo}
 use Rattle.slotmap_hop.proofs.BlockLemmas.{clash, begins_after, front_here}
 use Rattle.slotmap_hop.proofs.Circle.{shown}
 use Rattle.slotmap_hop.proofs.SlotReads.{length-places, slot_within, place_at, slot_cases, occupied}
@@ -77,42 +77,35 @@ module _ {V : Type 0} (slots : List (Slot V)) where
 -- a vacant slot is left at the end of its block
 hop_to_back : {V : Type 0} (place : ℕ) (s : Slot V) → is_vacant (links_in s) ≡ true → NamesApart place (links_in s) → place ≤ end_in place (links_in s)
     → hop_in place s ≡ end_in place (links_in s)
-hop_to_back place (Occupied version value) vacant apart ordered = absurd (cc)
-hop_to_back place (Single version next prev) vacant apart ordered = refl
-hop_to_back place (Front version next back) vacant apart ordered = refl
-hop_to_back place (Back version front prev) vacant apart ordered = absurd (omega arith)
-hop_to_back place (Retired version unused nowhere) vacant apart ordered = absurd (cc)
+hop_to_back place s vacant apart ordered = grind arith
 
 pub none_here : {V : Type 0} (s : Slot V) → is_some (value_in s) ≡ false → value_in s ≡ None
 none_here s is = grind arith
 
 module _ {V : Type 0} (slots : List (Slot V)) (reads0 start : ℕ) where
-  pub way_begins : CanGoOn slots reads0 start → OnTheWay slots reads0 start reads0 start
-  way_begins can = record {
-    stands = can.stands;
-    same = refl;
-    none = λ q there from. from;
-    gone = [];
-    still = refl;
-    below = All-nil (λ k. k.index < start);
-    few_vacant = λ vacant. omega arith;
-    few = omega arith;
-    passed = omega arith;
-    begun = omega arith;
-    before = can.passed;
-  }
+  -- a search for the first live slot that began at `start`, with this number of reads, has come to a place: it passed no live
+  -- key
+  pub record OnTheWay (reads place : ℕ) : Type 0 where
+    pub stands : StandsAt slots place
+    pub same : pairs_left slots start ≡ pairs_left slots place
+    pub none : (q : Key) → map.contains_key (live (places_of slots)) q ≡ true → start ≤ q.index → place ≤ q.index
+    -- the retired places on the way
+    pub gone : List Key
+    pub still : retired_left slots start ≡ gone ++ retired_left slots place
+    pub below : All (λ k. k.index < place) gone
+    pub few_vacant : vacant_at (all_links slots) place ≡ true → reads ≤ reads0 + 2 * length gone
+    pub few : reads ≤ reads0 + 2 * length gone + 1
+    pub passed : reads + start ≤ reads0 + place
+    pub begun : reads0 ≤ reads
+    pub before : reads0 ≤ start
 
-  module _ {reads place : ℕ} (way : OnTheWay slots reads0 start reads place) where
-    -- another search may begin there
-    pub way_can : CanGoOn slots reads place
-    way_can = record { stands = way.stands; passed = omega (arith, way.passed, way.before) }
+  pub way_begins : CanGoOn slots reads0 start → OnTheWay reads0 start
+  way_begins can = grind arith
 
+  module _ {reads place : ℕ} (way : OnTheWay reads place) where
     -- after all places nothing is left
     pub way_ends : length slots ≤ place → FindsNone slots start
-    way_ends past = record {
-      none = way.same ∙ ap (pairs_from place) (drop_all place (places_of slots) (omega (arith, length-places slots)));
-      below = λ q there. (let at = live_at (places_of slots) q there in grind (arith, way.none q there, slice_get_within (places_of slots) q.index, length-places slots));
-    }
+    way_ends past = grind (arith, drop_all, length-places, live_at, slice_get_within)
 
     -- what is left lies ahead
     pub way_inside : 0 < length (pairs_left slots start) → place < length slots
@@ -123,12 +116,12 @@ module _ {V : Type 0} (slots : List (Slot V)) (reads0 start : ℕ) where
 
   -- a block that begins at a place is skipped in one step
   pub record Hops (reads place back : ℕ) : Type 0 where
-    pub on : OnTheWay slots reads0 start reads (back + 1)
+    pub on : OnTheWay reads (back + 1)
     pub within : back < length slots
     pub onward : place ≤ back
 
   -- a search that has come to this place reads the slot there
-  module _ {reads place : ℕ} {s : Slot V} (way : OnTheWay slots reads0 start reads place) (found : slice_get slots place ≡ Some s) where
+  module _ {reads place : ℕ} {s : Slot V} (way : OnTheWay reads place) (found : slice_get slots place ≡ Some s) where
     way_hops : is_vacant (links_in s) ≡ true → Hops (reads + 1) place (hop_in place s)
     way_hops vacant =
         let v = vacant_at (all_links slots) in
@@ -220,3 +213,29 @@ module _ {V : Type 0} (slots : List (Slot V)) (reads0 start : ℕ) where
             passed = omega (arith, way.passed);
           },
         )
+
+  -- a walk from there is now at a place
+  pub record IsAt (now : Counted V) : Type 0 where
+    pub kept : now.slots ≡ slots
+    pub way : OnTheWay now.reads now.place
+
+  module _ {now : Counted V} (at : IsAt now) where
+    pub may_read : 0 < length (pairs_left slots start) → (now.place < length now.slots) × (now.reads + 1 < 2 ^ 64)
+    may_read some = let inside = way_inside at.way some in (rw at.kept inside, way_room at.way inside)
+
+    module _ {new : Counted V} {s : Slot V} (read : IsRead now s new) where
+      pub finds_here : is_some (value_in s) ≡ true
+          → FindsSlot slots start new.place s × (new.slots ≡ slots) × ReadsOnTheWay slots reads0 start new.reads new.place
+      finds_here live =
+          let finds = way_finds at.way (rw at.kept at read.value) live in
+          rw (read.place, read.reads) (finds.0, read.slots ∙ at.kept, finds.1)
+
+      leaves : value_in s ≡ None → Hops new.reads now.place (hop_in now.place s)
+      leaves none = rw read.reads (way_on at.way (rw at.kept at read.value) none)
+
+      pub may_leave : value_in s ≡ None → hop_in new.place s < length new.slots
+      may_leave none = rw (read.place, read.slots, at.kept) (leaves none).within
+
+      pub left_here : value_in s ≡ None → {next : Counted V} → GoesTo new (hop_in new.place s + 1) next
+          → IsAt next × (length next.slots - next.place < length now.slots - now.place)
+      left_here none {next} goes = grind (arith, leaves)

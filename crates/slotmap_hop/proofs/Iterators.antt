@@ -40,12 +40,7 @@ module _ {V : Type 0} {slots : List (Slot V)} {reads place left : ℕ} (iterates
 
   module _ {found version : ℕ} {value : V} {reads' : ℕ} (finds : FindsLive slots place found version value) (way : ReadsOnTheWay slots reads place reads' found) where
     pub iter_on : IsIter slots reads' (found + 1) (left - 1)
-    iter_on = record {
-      stands = stands_on slots place (found + 1) iterates.stands
-          (λ _. begins_after (vacant_at (all_links slots)) found (place_not_vacant slots found (Live version value) finds.there (λ n e. absurd (cc))));
-      counted = omega (arith, iterates.counted, ap length finds.first);
-      passed = omega (arith, way.passed, iterates.passed);
-    }
+    iter_on = grind (arith, stands_on, begins_after, place_not_vacant)
 
     -- the value that was found is moved out
     module _ (new : List (Slot V)) (same : all_links new ≡ all_links slots) (after : places_of new ≡ set (places_of slots) found Retired) where
@@ -95,13 +90,4 @@ module _ {V : Type 0} (slots : List (Slot V)) (vacant elems : ℕ) (sound : IsSo
       subst (ListsRetired (hop_content slots c)) (past_block slots 0 (end_at (all_links slots) 0) first_place).1 (record { all = listed.0; once = listed.1 })
 
   pub iter_starts : IsIter slots 0 (end_at (all_links slots) 0 + 1) elems
-  iter_starts = record {
-    stands = record {
-      vacant = vacant;
-      elems = elems;
-      sound = sound;
-      at_front = λ here. clash (vacant_at (all_links slots)) (end_at (all_links slots) 0 + 1) here first_place.ends;
-    };
-    counted = sym sound.elems_live ∙ map.len-entries (live (places_of slots)) ∙ ap length (sym pairs-start);
-    passed = omega arith;
-  }
+  iter_starts = grind (arith, clash, first_place, map.len-entries, live, pairs-start)

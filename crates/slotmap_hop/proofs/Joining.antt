@@ -5,7 +5,7 @@ use Rattle.slotmap_hop.specs.declared.links.Links.{Links}
 use Rattle.slotmap_hop.specs.declared.links.Links.TheVariants.{Single, Front, Back}
 use Rattle.slotmap_hop.specs.Blocks.{IsBlock, vacated_alone, vacated_before, vacated_after, vacated_between}
 use Rattle.slotmap_hop.specs.Links.{is_vacant, has_next, has_prev, next_in, prev_in, end_in, vacant_at, links_at, next_at, held_at, prev_at, end_at, occurs, list_without, replaced, fronts_of, blocks_of}
-use Rattle.slotmap_hop.specs.Links.{LeadsTo, Joins, Puts, Unlinks, TakesOver, KeepsEnds, HasBlocks, CanVacate, IsHead}
+use Rattle.slotmap_hop.specs.Links.{Redirects, Puts, Unlinks, TakesOver, KeepsEnds, HasBlockList, HasBlocks, CanVacate, IsHead}
 use Rattle.slotmap_hop.proofs.Chain.{in_removed, next_occurs, prev_occurs, IsChain-removed, IsChain-replaced, IsChain-appended}
 use Rattle.slotmap_hop.proofs.BlockLemmas.{IsBlock-front, begins_at, joined}
 use Rattle.slotmap_hop.proofs.Writes.{links_here, links_other, vacancy_kept, flags_kept, ends_kept, apart_kept, apart_set, within, same_test, other_test}
@@ -14,26 +14,30 @@ use Rattle.slotmap_hop.proofs.Views.{blocks_replaced, blocks_removed, blocks_app
 use Rattle.slotmap_hop.proofs.Circle.{shown, head_on, held_on, leads_at, tails_at}
 use Rattle.slotmap_hop.proofs.Vacating.{zero_in_circle, in_circle_differs, absent, right_block, not_back, right_front, left_block, new_vacates, puts_between, grown, ends_stay}
 
+-- the last block of the list
+module _ {es : List (Option Links)} (list : HasBlockList es) where
+  pub zero_head : IsHead es 0
+  zero_head = head_on list.linked 0 (zero_in_circle (fronts_of es))
+
+  pub zero_tails : has_prev (links_at es (end_at es 0)) ≡ true
+  zero_tails = zero_head.ends
+
+  pub last_is : held_at es (end_at es 0) ≡ prev_at es 0
+  last_is = sym (held_on list.linked 0 (zero_in_circle (fronts_of es)))
+
+  last_on : 1 ≤ occurs (0 ∷ fronts_of es) (prev_at es 0)
+  last_on = prev_occurs (next_at es) (prev_at es) 0 (fronts_of es) 0 (shown list.linked).chain (zero_in_circle (fronts_of es))
+
+  pub last_leads : has_next (links_at es (held_at es (end_at es 0))) ≡ true
+  last_leads = ap (λ x. has_next (links_at es x)) last_is ∙ (head_on list.linked (prev_at es 0) last_on).leads
+
 module _ {old : List (Option Links)} {i : ℕ} (live : CanVacate old i) where
-  -- the last block of the list
-  pub head_zero : IsHead old 0
-  head_zero = head_on live.sound.linked 0 (zero_in_circle (fronts_of old))
-
-  pub last_is : {last : ℕ} → last ≡ held_at old (end_at old 0) → last ≡ prev_at old 0
-  last_is is = is ∙ sym (held_on live.sound.linked 0 (zero_in_circle (fronts_of old)))
-
-  last_on : 1 ≤ occurs (0 ∷ fronts_of old) (prev_at old 0)
-  last_on = prev_occurs (next_at old) (prev_at old) 0 (fronts_of old) 0 (shown live.sound.linked).chain (zero_in_circle (fronts_of old))
-
-  pub last_leads : has_next (links_at old (prev_at old 0)) ≡ true
-  last_leads = (head_on live.sound.linked (prev_at old 0) last_on).leads
-
   slot_inside : (es : List (Option Links)) → map is_vacant es ≡ map is_vacant old → i < length es
   slot_inside es same = omega (arith, live.inside, ap length same, length-map es is_vacant, length-map old is_vacant)
 
   -- neither neighbour is vacant
   pub joins_alone : (led : List (Option Links)) {last : ℕ} → vacant_at old (i - 1) ≡ false → vacant_at old (i + 1) ≡ false → last ≡ prev_at old 0
-      → LeadsTo (next_at old) (prev_at old) (next_at led) (prev_at led) last 0 i → KeepsEnds old led → HasBlocks (set led i (Some (Single 0 last))) (vacated_alone (blocks_of old) i)
+      → Redirects (next_at old) (prev_at old) (next_at led) (prev_at led) last 0 i i → KeepsEnds old led → HasBlocks (set led i (Some (Single 0 last))) (vacated_alone (blocks_of old) i)
   joins_alone led {last} left right at_end leads keeps =
       let linked = shown live.sound.linked in
       let fs = fronts_of old in
@@ -50,7 +54,7 @@ module _ {old : List (Option Links)} {i : ℕ} (live : CanVacate old i) where
       let names : end_at new i ≡ i = ap (end_in i) here in
       let nexts = λ (x : ℕ). cond (eqb x i) 0 (next_at led x) in
       let prevs = λ (x : ℕ). cond (eqb x i) last (prev_at led x) in
-      let between = puts_between leads (rw at_end (apart (prev_at old 0) last_on)) (λ e. omega (arith, live.positive)) in
+      let between = puts_between leads (rw at_end (apart (prev_at old 0) (last_on live.sound))) (λ e. omega (arith, live.positive)) in
       let puts : Puts (next_at old) (prev_at old) nexts prevs (prev_at old 0) 0 i = rw (← at_end) between in
       grown new live keeps grows same (fs ++ i ∷ []) (vacated_alone (blocks_of old) i) nexts prevs flags
       (λ j. record {
@@ -108,8 +112,8 @@ module _ {old : List (Option Links)} {i : ℕ} (live : CanVacate old i) where
     pub left_tails : has_prev (links_at old (i - 1)) ≡ true
     left_tails = tails_at live.sound.linked (i - 1) left (left_block live left).0.ordered
 
-    pub front_leads : {front : ℕ} → front ≡ end_at old (i - 1) → has_next (links_at old front) ≡ true
-    front_leads is = rw is (leads_at live.sound.linked (end_at old (i - 1)) (IsBlock-front (vacant_at old) (end_at old (i - 1)) (i - 1) (left_block live left).0))
+    pub front_leads : has_next (links_at old (end_at old (i - 1))) ≡ true
+    front_leads = leads_at live.sound.linked (end_at old (i - 1)) (IsBlock-front (vacant_at old) (end_at old (i - 1)) (i - 1) (left_block live left).0)
 
     pub front_ready : {front : ℕ} → front ≡ end_at old (i - 1) → vacant_at old front ≡ true
     front_ready is = let block = (left_block live left).0 in rw is (block.inside _ (omega arith) block.ordered)
@@ -119,14 +123,17 @@ module _ {old : List (Option Links)} {i : ℕ} (live : CanVacate old i) where
     right_on : 1 ≤ occurs (0 ∷ fronts_of old) (i + 1)
     right_on = omega (arith, right_front live right)
 
-    pub right_head : IsHead old (i + 1)
+    right_head : IsHead old (i + 1)
     right_head = head_on live.sound.linked (i + 1) right_on
+
+    pub right_leads : has_next (links_at old (i + 1)) ≡ true
+    right_leads = right_head.leads
+
+    pub back_tails : has_prev (links_at old (end_at old (i + 1))) ≡ true
+    back_tails = right_head.ends
 
     pub prev_is : {back prev : ℕ} → back ≡ end_at old (i + 1) → prev ≡ held_at old back → prev ≡ prev_at old (i + 1)
     prev_is back_is is = is ∙ ap (held_at old) back_is ∙ sym (held_on live.sound.linked (i + 1) right_on)
-
-    pub back_tails : {back : ℕ} → back ≡ end_at old (i + 1) → has_prev (links_at old back) ≡ true
-    back_tails is = rw is right_head.ends
 
     pub back_ready : {back : ℕ} → back ≡ end_at old (i + 1) → vacant_at old back ≡ true
     back_ready is = let block = right_block live right in rw is (block.inside _ block.ordered (omega arith))
@@ -137,8 +144,8 @@ module _ {old : List (Option Links)} {i : ℕ} (live : CanVacate old i) where
     after_on : 1 ≤ occurs (0 ∷ fronts_of old) (next_at old (i + 1))
     after_on = next_occurs (next_at old) (prev_at old) 0 (fronts_of old) (i + 1) (shown live.sound.linked).chain right_on
 
-    pub before_leads : has_next (links_at old (prev_at old (i + 1))) ≡ true
-    before_leads = (head_on live.sound.linked _ before_on).leads
+    pub before_leads : has_next (links_at old (held_at old (end_at old (i + 1)))) ≡ true
+    before_leads = ap (λ x. has_next (links_at old x)) (prev_is {back = end_at old (i + 1)} refl refl) ∙ (head_on live.sound.linked _ before_on).leads
 
     pub after_head : IsHead old (next_at old (i + 1))
     after_head = head_on live.sound.linked _ after_on
@@ -146,7 +153,7 @@ module _ {old : List (Option Links)} {i : ℕ} (live : CanVacate old i) where
     -- only the right neighbour is vacant
     pub joins_before : (led : List (Option Links)) {next back prev : ℕ} → vacant_at old (i - 1) ≡ false
         → next ≡ next_at old (i + 1) → back ≡ end_at old (i + 1) → prev ≡ prev_at old (i + 1)
-        → LeadsTo (next_at old) (prev_at old) (next_at led) (prev_at led) prev next i → KeepsEnds old led
+        → Redirects (next_at old) (prev_at old) (next_at led) (prev_at led) prev next i i → KeepsEnds old led
         → HasBlocks (set (set led back (Some (Back i prev))) i (Some (Front next back))) (vacated_before (blocks_of old) i)
     joins_before led {next} {back} {prev} left next_is back_is prev_is leads keeps =
         let linked = shown live.sound.linked in
@@ -194,7 +201,7 @@ module _ {old : List (Option Links)} {i : ℕ} (live : CanVacate old i) where
     -- both neighbours are vacant
     pub joins_between : (led : List (Option Links)) {after back before front prev next : ℕ} → vacant_at old (i - 1) ≡ true
         → after ≡ next_at old (i + 1) → back ≡ end_at old (i + 1) → before ≡ prev_at old (i + 1)
-        → Joins (next_at old) (prev_at old) (next_at led) (prev_at led) before after → KeepsEnds old led
+        → Redirects (next_at old) (prev_at old) (next_at led) (prev_at led) before after after before → KeepsEnds old led
         → front ≡ end_at led (i - 1) → prev ≡ held_at led (i - 1) → next ≡ next_at led front
         → HasBlocks (set (set (set led front (Some (Front next back))) back (Some (Back front prev))) i (Some (Single 0 0))) (vacated_between (blocks_of old) i)
     joins_between led {after} {back} {before} {front} {prev} {next} left after_is back_is before_is joins keeps front_read prev_read next_read =
@@ -247,3 +254,6 @@ module _ {old : List (Option Links)} {i : ℕ} (live : CanVacate old i) where
         (apart_set named i own inside tt
         (apart_set longer back last (within longer back back_vacant) (omega arith)
         (apart_set led front first (within led front front_vacant) (omega arith) (apart_kept keeps live.sound.linked.apart)))))
+
+-- what may be read and written before a slot joins the blocks
+pub ruleset ready = (zero_tails, last_leads, left_tails, front_leads, right_leads, back_tails, before_leads)

@@ -36,18 +36,7 @@ pub record Present {V : Type 0} (slots : List (Slot V)) (lives : map.FinMap key_
 
 pub present : {V : Type 0} (slots : List (Slot V)) (lives : map.FinMap key_cmp V) → live (places_of slots) ≡ lives → (k : Key) (i v : ℕ) → i ≡ k.index → v ≡ k.version
     → map.contains_key lives k ≡ true → Present slots lives k i v
-present slots lives all k i v at of holds =
-    let there = live_at (places_of slots) k (ap (λ m. map.contains_key m k) all ∙ holds) in
-    let place : slice_get (places_of slots) i ≡ Some (Live v there.0) = ap (slice_get (places_of slots)) at ∙ there.1 ∙ ap (λ u. Some (Live u there.0)) (sym of) in
-    let slot = live_slot slots i v there.0 place in
-    record {
-      value = there.0;
-      found = slot.1;
-      within = slot.0;
-      place = place;
-      key_is_at = let here_i = sym at in let here_v = sym of in λ j. record { index = here_i j; version = here_v j };
-      gives = ap (λ m. map.get m k) (sym all) ∙ get-live_at (places_of slots) k i there.0 (sym at) (place ∙ ap (λ u. Some (Live u there.0)) of);
-    }
+present slots lives all k i v at of holds = grind (arith, live_at, live_slot, get-live_at)
 
 -- what is read at its index
 module _ {V : Type 0} {slots : List (Slot V)} {lives : map.FinMap key_cmp V} {k : Key} {i v : ℕ} (found : Present slots lives k i v) (read : Slot V) (is_read : read ≡ get_or slots i read) where
@@ -74,20 +63,10 @@ module _ {V : Type 0} (slots : List (Slot V)) (vacant elems : ℕ) (sound : IsSo
   elems_positive = omega (arith, len-live-set (places_of slots) i (Live v x) Retired place, sound.elems_live)
 
   pub vacant_below : vacant + 1 < 2 ^ 32
-  vacant_below =
-      omega (arith, total (places_of slots) 1 sound.stacked.sentinel, length-places slots, sound.elems_live, sound.stacked.counted, sound.counted, elems_positive, slots_fit slots vacant elems sound)
+  vacant_below = grind (arith, total, length-places, elems_positive, slots_fit)
 
   pub can_free : CanFree slots i
-  can_free = record {
-    vacate = record {
-      sound = sound.linked;
-      live = place_not_vacant slots i (Live v x) place (λ n e. absurd (cc));
-      positive = not_first (places_of slots) sound.stack sound.stacked i (Live v x) place (λ n e. absurd (cc));
-      inside = omega (arith, live_within, length-all_links slots);
-    };
-    inside = live_within;
-    live = ap (λ o. is_some (option_and_then value_in o)) (live_slot slots i v x place).1;
-  }
+  can_free = grind (arith, live, place_not_vacant, not_first, live_within, length-all_links, live_slot)
 
   -- the value that was taken out
   pub value_is : (y : V) → value_at slots i ≡ Some y → Some x ≡ Some y

@@ -27,8 +27,7 @@ module _ {F K V : Type 0} (g : Mut F (K × (MutBor V × Unit {0})) (Bool × (Mut
 
   retaining_at : (now : HopContent V) (i : ℕ) (next : Option ℕ) (f' : F) → IsNextPlace now.content i next
       → ((found : Option K) → IsNextLive data_of now.content i found → Retaining now found f') → RetainingAt now next f'
-  retaining_at now i None f' comes so_far = so_far None comes
-  retaining_at now i (Some place) f' comes so_far = (comes.0, λ k is_live at. so_far (Some k) (is_live, omega (arith, comes.1, at), λ q there from. omega (arith, comes.2 q there from, at)))
+  retaining_at now i next f' comes so_far = grind arith
 
   retaining_starts : (next : Option K) → IsHopContent old → IsNextLive data_of old.content 0 next → Retaining old next f
   retaining_starts next well comes = record {

@@ -1,7 +1,7 @@
 -- Room for more keys.
-use Rattle.std.proofs.Common.{◌≡◌, ◌+◌, ◌-◌, ◌<◌, ◌≤◌, ◌^◌, ℕ, min, List, length, refl, ap, sym, subst, arith}
+use Rattle.std.proofs.Common.{◌≡◌, ◌+◌, ◌-◌, ◌<◌, ◌≤◌, ◌^◌, ℕ, min, List, length, refl, subst, arith}
 use Rattle.slotmap_core.proofs.Common.{used, most, Keeps, used_places, room_had}
-use Rattle.slotmap_hop.specs.Slots.{Slot, places_of, hop_content, IsSound}
+use Rattle.slotmap_hop.specs.Slots.{Slot, hop_content, IsSound}
 use Rattle.slotmap_hop.specs.HopContent.{HopContent, IsHopContent, MakesHopRoom}
 use Rattle.slotmap_hop.proofs.SlotLemmas.{valid, taken_slots, slots_fit}
 
@@ -36,13 +36,4 @@ module _ {V : Type 0} (slots : List (Slot V)) (vacant elems : ℕ) (sound : IsSo
 
     -- the request succeeded
     pub grown_granted : ok → used now.content + n ≤ most → used now.content + n + 1 ≤ more → MakesHopRoom now n ok (hop_content slots (more - 1))
-    grown_granted granted few enough =
-        let same : used now.content ≡ used_places (places_of slots) = ap (λ m. used m.content) (sym view) in
-        let room : n ≤ (hop_content slots (more - 1)).content.room = omega arith in
-        let keeps = kept in
-        let capacity : now.content.capacity ≤ more - 1 = rw (← view) (omega arith) in
-        let blocks = ap (λ m. m.blocks) view in
-        let before = hop_valid in
-        let after = grown_valid in
-        let fits = grown_valid.valid.capacity_fits in
-        grind arith
+    grown_granted granted few enough = grind (arith, used_places, kept, hop_valid, grown_valid)

@@ -32,6 +32,19 @@ pub record Counted (V : Type 0) : Type 0 where
   pub place : ℕ
   pub reads : ℕ
 
+-- the slot at a place is read
+pub record IsRead {V : Type 0} (old : Counted V) (slot : Slot V) (new : Counted V) : Type 0 where
+  pub value : slice_get old.slots old.place ≡ Some slot
+  pub slots : new.slots ≡ old.slots
+  pub place : new.place ≡ old.place
+  pub reads : new.reads ≡ old.reads + 1
+
+-- another place follows
+pub record GoesTo {V : Type 0} (old : Counted V) (to : ℕ) (new : Counted V) : Type 0 where
+  pub slots : new.slots ≡ old.slots
+  pub place : new.place ≡ to
+  pub reads : new.reads ≡ old.reads
+
 -- a step that yields the item of this index reads one or two slots, and at most two more for each retired place that it passes
 pub record ReadsFew {A : Type 0} (index : ℕ) (old new : HopIter A) : Type 0 where
   pub some : old.reads + 1 ≤ new.reads
@@ -119,24 +132,3 @@ module _ {V : Type 0} where
     pub some : reads + 1 ≤ reads'
     pub few : reads' + 2 * length (retired_left slots (found + 1)) ≤ reads + 2 * length (retired_left slots place) + 2
     pub passed : reads' + place ≤ reads + found + 1
-
-  -- a search for the first live slot that began at `start`, with this number of reads, has come to a place: it passed no live
-  -- key
-  pub record OnTheWay (slots : List (Slot V)) (reads0 start reads place : ℕ) : Type 0 where
-    pub stands : StandsAt slots place
-    pub same : pairs_left slots start ≡ pairs_left slots place
-    pub none : (q : Key) → map.contains_key (live (places_of slots)) q ≡ true → start ≤ q.index → place ≤ q.index
-    -- the retired places on the way
-    pub gone : List Key
-    pub still : retired_left slots start ≡ gone ++ retired_left slots place
-    pub below : All (λ k. k.index < place) gone
-    pub few_vacant : vacant_at (all_links slots) place ≡ true → reads ≤ reads0 + 2 * length gone
-    pub few : reads ≤ reads0 + 2 * length gone + 1
-    pub passed : reads + start ≤ reads0 + place
-    pub begun : reads0 ≤ reads
-    pub before : reads0 ≤ start
-
-  -- a search that was at one place has found this slot, and so has each search that came there
-  abbrev pub FindsFarther : Counted V → Counted V → Slot V → Type 0
-  FindsFarther old new slot = (reads0 start : ℕ) → OnTheWay old.slots reads0 start old.reads old.place
-      → FindsSlot old.slots start new.place slot × ReadsOnTheWay old.slots reads0 start new.reads new.place

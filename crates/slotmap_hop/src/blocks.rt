@@ -1,10 +1,12 @@
 //! The blocks that the vacant slots of a map form: how a slot joins them, and how one is taken.
 
+#![tactic(auto, using(crate::proofs::Joining::ready, crate::proofs::Taking::first))]
+
 ghost use Rattle.std.specs.Prelude.{◌≡◌, ◌+◌, ◌-◌, ◌<◌, true, false, length, Some, None, IsSome, slice_set};
 ghost use Rattle.slotmap_core.specs.Words.{Live as LivePlace, Vacant as VacantPlace, Retired as RetiredPlace};
 ghost use Rattle.slotmap_hop.specs.Blocks.{vacated, vacated_alone, vacated_before, vacated_after, vacated_between, shorter};
 ghost use Rattle.slotmap_hop.specs.Links.{vacant_at, has_next, links_at, next_at, prev_at, end_at, CanVacate, HasBlockList, HasBlocks, IsHead, blocks_of};
-ghost use Rattle.slotmap_hop.specs.Links.{Joins, LeadsTo, KeepsEnds};
+ghost use Rattle.slotmap_hop.specs.Links.{Redirects, KeepsEnds};
 ghost use Rattle.slotmap_hop.specs.Slots.{all_links, places_of, value_at, CanFree, Gives, Vacates};
 
 use crate::links::{
@@ -14,32 +16,18 @@ use crate::links::{
 use slotmap_core::sure::rule_out;
 use std::mem;
 
-// Makes one block follow another in the circular list; these are their fronts.
+// Makes the block at `before` lead on to one place, and the block at `after` lead back to another.
 #[inline(always)]
-fn join_blocks<V>(slots: &mut [Slot<V>], before: u32, after: u32)
+fn relink<V>(slots: &mut [Slot<V>], before: u32, after: u32, to: u32, from: u32)
     requires before { has_next (links_at (all_links slots.old) before) ≡ true }
     requires after { IsHead (all_links slots.old) after }
-    ensures links { Joins (next_at (all_links slots.old)) (prev_at (all_links slots.old)) (next_at (all_links slots.new)) (prev_at (all_links slots.new)) before after }
+    ensures links { Redirects (next_at (all_links slots.old)) (prev_at (all_links slots.old)) (next_at (all_links slots.new)) (prev_at (all_links slots.new)) before after to from }
     ensures ends { KeepsEnds (all_links slots.old) (all_links slots.new) }
     ensures places { places_of slots.new ≡ places_of slots.old }
 {
     let back = back_of(slots, after);
-    set_prev(slots, back, before);
-    set_next(slots, before, after);
-}
-
-// Makes two blocks of the circular list lead to this place, which will be between them.
-#[inline(always)]
-fn lead_to<V>(slots: &mut [Slot<V>], before: u32, after: u32, place: u32)
-    requires before { has_next (links_at (all_links slots.old) before) ≡ true }
-    requires after { IsHead (all_links slots.old) after }
-    ensures links { LeadsTo (next_at (all_links slots.old)) (prev_at (all_links slots.old)) (next_at (all_links slots.new)) (prev_at (all_links slots.new)) before after place }
-    ensures ends { KeepsEnds (all_links slots.old) (all_links slots.new) }
-    ensures places { places_of slots.new ≡ places_of slots.old }
-{
-    let back = back_of(slots, after);
-    set_prev(slots, back, place);
-    set_next(slots, before, place);
+    set_prev(slots, back, from);
+    set_next(slots, before, to);
 }
 
 // The next four functions make the links of vacant slots ready for one more, which isn't vacant yet:
@@ -57,7 +45,7 @@ fn start_block<V>(slots: &mut [Slot<V>], place: u32) -> Links
 {
     let back = back_of(slots, 0);
     let last = prev_of(slots, back);
-    lead_to(slots, last, 0, place);
+    relink(slots, last, 0, place, place);
     Links::Single {
         next: 0,
         prev: last,
@@ -91,7 +79,7 @@ fn grow_left<V: Drop>(slots: &mut [Slot<V>], place: u32) -> Links
     let next = next_of(slots, place + 1);
     let back = back_of(slots, place + 1);
     let prev = prev_of(slots, back);
-    lead_to(slots, prev, next, place);
+    relink(slots, prev, next, place, place);
     name_front(slots, back, place, prev);
     Links::Front { next, back }
 }
@@ -109,7 +97,7 @@ fn merge<V: Drop>(slots: &mut [Slot<V>], place: u32) -> Links
     let after = next_of(slots, place + 1);
     let back = back_of(slots, place + 1);
     let before = prev_of(slots, back);
-    join_blocks(slots, before, after);
+    relink(slots, before, after, after, before);
 
     // The front and the link are read only now, since the two blocks may be neighbours in the list too.
     let front = front_of(slots, place - 1);
@@ -221,7 +209,7 @@ fn drop_back<V: Drop>(slots: &mut [Slot<V>], front: u32, back: u32)
     if front == back {
         // Slot 0 is before the first block.
         let next = next_of(slots, front);
-        join_blocks(slots, 0, next);
+        relink(slots, 0, next, next, 0);
     } else if front == back - 1 {
         let next = next_of(slots, front);
         set_links(slots, front, Links::Single { next, prev: 0 });

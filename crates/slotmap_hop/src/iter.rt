@@ -4,7 +4,7 @@ ghost use Rattle.std.specs.FinMap as map;
 ghost use Rattle.std.specs.Prelude.{◌≡◌, ◌<◌, ◌≤◌, [], length, Some, IfSome, IfNone, ⊤};
 ghost use Rattle.slotmap_core.specs.Words.{YieldsFirstBy, item_count, at_most, UpTo, IsListing, IsKeyListing, IsValueListing};
 ghost use Rattle.slotmap_hop.specs.HopContent.{IsHopContent};
-ghost use Rattle.slotmap_hop.specs.Iter.{pairs_left, CanGoOn, FindsSlot, FindsFarther, StepsOn, ReadsOnTheWay, CountsReads, CountsReadsSomewhere, ListsRetired, StartsIter};
+ghost use Rattle.slotmap_hop.specs.Iter.{pairs_left, CanGoOn, FindsSlot, StepsOn, ReadsOnTheWay, CountsReads, CountsReadsSomewhere, ListsRetired, StartsIter};
 
 use crate::HopSlotMap;
 use crate::counted::CountedSlots;
@@ -65,24 +65,11 @@ pub(crate) fn next_live<'a, V>(counted: &mut CountedSlots<'a, V>) -> (usize, &'a
     if second.is_live() {
         return (counted.place(), second);
     }
-    // A retired slot.
     counted.hop(second);
-    let slot = find_farther(counted);
-    (counted.place(), slot)
-}
-
-// The same, one slot after the other.
-#[inline(always)]
-fn find_farther<'a, V>(counted: &mut CountedSlots<'a, V>) -> &'a Slot<V>
-    requires can { CanGoOn counted.old.slots counted.old.reads counted.old.place }
-    requires some { 0 < length (pairs_left counted.old.slots counted.old.place) }
-    ensures found { FindsFarther counted.old counted.new result.now }
-    ensures slots { counted.new.slots ≡ counted.old.slots }
-{
     loop {
         let slot = counted.read();
         if slot.is_live() {
-            return slot;
+            return (counted.place(), slot);
         }
         counted.hop(slot);
     }

@@ -2,4 +2,6 @@ pub mod Changed
 pub mod KeyLists
 pub mod KeyOrNull
 pub mod Linked
+pub mod Mapped
 pub mod Shown
+pub mod Splice

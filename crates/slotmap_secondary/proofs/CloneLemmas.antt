@@ -1,6 +1,6 @@
 -- What the clones of slots hold.
 use Rattle.std.specs.FinMap as map
-use Rattle.std.proofs.Common.{◌≡◌, ◌+◌, ◌∷◌, ℕ, zero, suc, List, [], length, slice_get, refl, sym, ap, ◌∙◌, arith}
+use Rattle.std.proofs.Common.{◌≡◌, ◌+◌, ◌∷◌, ℕ, zero, suc, List, [], length, slice_get, refl, sym, ◌∙◌, arith}
 use Rattle.slotmap_core.proofs.Common.{AllZip, ClonesEqual, AreClones, HasClones, same_from_all_zip, zip_length, zip_left, IsPairClone, HasClones-by_index}
 use Rattle.slotmap_secondary.specs.Slots.{Slot, Vacant, Occupied, pair_in, pair_at, pairs_of, IsSlotAt, IsSound, IsSlotClone}
 use Rattle.slotmap_secondary.specs.Iter.{pairs_from}
@@ -10,8 +10,7 @@ use Rattle.slotmap_secondary.proofs.IterLemmas.{len-pairs}
 module _ {V : Type 0} (is_clone : V → V → Type 0) where
   -- slot by slot
   pair_cloned : (s copy : Slot V) → IsSlotClone is_clone s copy → IsPairClone is_clone (pair_in s) (pair_in copy)
-  pair_cloned (Vacant version) copy is = ap pair_in is
-  pair_cloned (Occupied version value) copy is = rw is.1 (refl, is.2)
+  pair_cloned slot copy is = grind arith
 
   at_cloned : (slots copies : List (Slot V)) → AllZip (IsSlotClone is_clone) slots copies → (i : ℕ) → IsPairClone is_clone (pair_at (slice_get slots i)) (pair_at (slice_get copies i))
   at_cloned [] [] zip i = refl
@@ -21,8 +20,7 @@ module _ {V : Type 0} (is_clone : V → V → Type 0) where
   at_cloned (s ∷ slots) (copy ∷ copies) zip (suc i) = at_cloned slots copies zip.1 i
 
   slot_at_cloned : (i : ℕ) (s copy : Slot V) → IsSlotClone is_clone s copy → IsSlotAt i s → IsSlotAt i copy
-  slot_at_cloned i (Vacant version) copy is at = rw is at
-  slot_at_cloned i (Occupied version value) copy is at = rw is.1 at
+  slot_at_cloned i slot copy is at = grind arith
 
   -- the keys of the slots, the first of index i, each with a clone of its value
   pairs_cloned : (i : ℕ) (slots copies : List (Slot V)) → AllZip (IsSlotClone is_clone) slots copies → AreClones is_clone (pairs_from i slots) (pairs_from i copies)

@@ -23,18 +23,14 @@ module _ {V : Type 0} where
 
   pub read-push : (slots : List (Slot V)) (before : List (SlotRecord V)) (r : SlotRecord V) (o : Option V) → slots ≡ read before → r.value ≡ o
       → slots ++ slot_from r.version o ∷ [] ≡ read (before ++ r ∷ [])
-  read-push slots before r o made is =
-      ap (λ xs. xs ++ slot_from r.version o ∷ []) made ∙ ap (λ v. read before ++ slot_from r.version v ∷ []) (sym is) ∙ sym (map_push (λ r. slot_from r.version r.value) before r)
+  read-push slots before r o made is = grind (arith, map_push)
 
   pub pairs-push_key : (slots : List (Slot V)) (version : ℕ) (value : V) → pairs_of (slots ++ Occupied version value ∷ []) ≡ map.insert (pairs_of slots) (length slots) (version, value)
   unfolding pairs_of
   pairs-push_key slots version value = gather-push_put laws (λ j. j) entry_in entry_fits slots (Occupied version value) (length slots, (version, value)) refl
 
   pub count_key : (slots : List (Slot V)) (version : ℕ) (value : V) → map.len (pairs_of (slots ++ Occupied version value ∷ [])) ≡ map.len (pairs_of slots) + 1
-  count_key slots version value =
-      ap map.len (pairs-push_key slots version value)
-      ∙ len_inserted nat_cmp_total exact_unsigned (pairs_of slots) (length slots) (version, value)
-      (ap is_some (get-pairs slots (length slots) ∙ ap pair_at (slice_get_past slots (length slots) (omega arith))))
+  count_key slots version value = grind (arith, pairs-push_key, len_inserted, nat_cmp_total, exact_unsigned, get-pairs, slice_get_past)
 
   pub count_empty : (slots : List (Slot V)) → map.len (pairs_of (slots ++ Vacant 0 ∷ [])) ≡ map.len (pairs_of slots)
   count_empty slots = ap map.len (pairs-push slots)
@@ -55,12 +51,7 @@ module _ {V : Type 0} where
         by version (Some value) odd small less = record { index_fits = omega (arith, accepted.short); version_fits = small; odd = odd refl; one_null = λ null. absurd (omega (arith, accepted.short)) }
 
     pub IsSound-read : (len : ℕ) → len ≡ map.len (pairs_of (read list)) → IsSound (read list) len
-    IsSound-read len counts = record {
-      first = omega (arith, length-map list (λ r. slot_from r.version r.value), slice_get_within list 0 accepted.first_empty.0 accepted.first_empty.1);
-      fits = omega (arith, length-map list (λ r. slot_from r.version r.value), accepted.short);
-      each = slot_at;
-      counted = counts;
-    }
+    IsSound-read len counts = grind (arith, length-map, slice_get_within, slot_at)
 
     pub read-contents : keyed (pairs_of (read list)) ≡ start_live list
     read-contents = contents_by_place list (pairs_of (read list))

@@ -59,11 +59,7 @@ module _ {V : Type 0} where
       grind (arith, each 0 s refl, keys-from (i + 1) rest (λ j s there. let shift : i + suc j ≡ i + 1 + j = omega arith in rw (← shift) (each (suc j) s there)))
 
   pub IsIter-start : (slots : List (Slot V)) (len : ℕ) → IsSound slots len → IsIter slots 0 len
-  IsIter-start slots len sound = record {
-    counted = sound.counted ∙ len-pairs slots;
-    fits = omega (arith, sound.fits);
-    keys = keys-from 0 slots (λ j s there. let same : 0 + j ≡ j = omega arith in rw same (sound.each j s there));
-  }
+  IsIter-start slots len sound = grind (arith, len-pairs, keys-from)
 
   pub counted-values : (slots : List (Slot V)) (len : ℕ) → IsSound slots len → len ≡ length (values_in slots)
   counted-values slots len sound = (IsIter-start slots len sound).counted ∙ sym (length-map (pairs_from 0 slots) (λ pair. pair.1)) ∙ ap length (sym (values-pairs 0 slots))

@@ -17,7 +17,7 @@
 //! let mut map: SecondaryMap<DefaultKey, u64> = SecondaryMap::new(alloc)?;
 //! map.insert(a, 1)?;
 //! ```
-#![tactic(auto)]
+#![tactic(auto, using(crate::proofs::WellFormed::view_valid))]
 
 ghost use Rattle.std.specs.FinMap as map;
 ghost use Rattle.std.specs.Prelude.{◌≡◌, ◌≤◌, ◌+◌, ◌↔◌, IsTrue, IfOk, OnOk, IfErr};

@@ -16,13 +16,7 @@ use Rattle.slotmap_slots.proofs.SettledLemmas.{settled_valid, settled_places, se
 module _ {P : Type 0} (c new : Content P) (odds : Odds) (of : KnowsLiveKeys c odds) where
   -- the same keys are live from the loop's index on
   odds_kept : places new ≡ places c → ((k : Key) → odds.index ≤ k.index → IsLive new k ↔ IsLive c k) → KnowsLiveKeys new odds
-  odds_kept all same = record {
-    versions = of.versions;
-    all = omega (arith, of.all, all);
-    live = λ k is_live from. of.live k ((same k from).0 is_live) from;
-    odd = λ i from odd. let found = of.odd i from odd in (found.0, (same found.0 (omega (arith, from, found.2))).1 found.1, found.2);
-    ahead = of.ahead;
-  }
+  odds_kept all same = grind arith
 
   -- a key that the loop has passed is removed
   pub odds_removed : IsContent true c → (k : Key) → IsLive c k → k.index < odds.index → Removes c k new → KnowsLiveKeys new odds
@@ -74,10 +68,7 @@ module _ {P : Type 0} {slots : List (Slot P)} {fits head aside count : ℕ} (set
   }
 
   same_odd : (x y : ℕ) → (x % 2 ≡ 1 → y % 2 ≡ 1) → (y % 2 ≡ 1 → x % 2 ≡ 1) → x % 2 ≡ y % 2
-  same_odd x y to back = elim (dec_lt 0 (x % 2)) [
-    | yes p ↦ omega (arith, to (omega arith))
-    | no p ↦ (elim (dec_lt 0 (y % 2)) [ yes q ↦ omega (arith, back (omega arith)) | no q ↦ omega arith ])
-  ]
+  same_odd x y to back = grind (arith, dec_lt)
 
   pub settled_ahead : (odds : Odds) → KnowsLiveKeys now odds → IsAhead (versions_of slots) odds.run odds.end odds.index odds.bits
   settled_ahead odds of = ahead_same of.versions (versions_of slots) odds.run odds.end odds.index odds.bits of.ahead (omega (arith, of.all, versions-length slots, settled_places settled view)) (λ i from.

@@ -1,6 +1,6 @@
 -- Chunks of versions, whose odd ones are bits.
 -- For this crate alone.
-use Rattle.std.proofs.Common.{◌≡◌, ◌≢◌, ◌+◌, ◌-◌, ◌*◌, ◌/◌, ◌%◌, ◌^◌, ◌<◌, ◌≤◌, ℕ, zero, suc, List, cond, eqb, length, get_or, slice_get, Some, refl, sym, ap}
+use Rattle.std.proofs.Common.{◌≡◌, ◌≢◌, ◌+◌, ◌-◌, ◌*◌, ◌/◌, ◌%◌, ◌^◌, ◌<◌, ◌≤◌, ℕ, zero, suc, List, cond, eqb, length, get_or, slice_get, Some, sym, ap}
 use Rattle.slotmap_core.proofs.Common.{bit_at, ◌∙◌, arith, w64, bit_and, bit_or, min, max, subst, bit_at-zero, bit_at-suc, bit_at_lowest, bit_at_and}
 use Rattle.slotmap_core.proofs.Common.{bit_at_set_same, bit_at_set_other, bit_at_ones, get_or_from_slice_get, slice_get_within, found_within}
 use native.Mathlib.Decide.{dec_lt}
@@ -11,9 +11,7 @@ use Rattle.slotmap_slots.specs.Odds.{AreOdd, AllOdd, IsRun, IsFound, HasOdds, Is
 
 -- ---- a lane
 not_zero : (r : ℕ) → r < 2 → 1 - cond {A = ℕ} (eqb r 0) 1 0 ≡ r
-not_zero zero h = refl
-not_zero (suc zero) h = refl
-not_zero (suc (suc r)) h = absurd (omega arith)
+not_zero r h = grind arith
 
 pub odd_lane : (x : ℕ) → 1 - cond {A = ℕ} (eqb (bit_and x 1) 0) 1 0 ≡ x % 2
 odd_lane x = ap (λ r. 1 - cond (eqb r 0) 1 0) (and_mask x 1) ∙ not_zero (x % 2) (omega arith)
@@ -26,23 +24,12 @@ pub record Below (versions : List ℕ) (at lane bits : ℕ) : Type 0 where
 module _ (versions : List ℕ) (at lane bits : ℕ) (below : Below versions at lane bits) where
   pub below_odd : lane < 64 → get_or versions (at + lane) 0 % 2 ≡ 1 → Below versions at (lane + 1) (bit_or bits (1 * 2 ^ lane % 2 ^ 64))
   below_odd within odd = record {
-    set = λ k l. elim (dec_lt k lane) [
-      | yes p ↦ bit_at_set_other w64 bits lane within k (λ e. omega arith) ∙ below.set k p
-      | no p ↦ (let e : lane ≡ k = omega arith in ap (bit_at (bit_or bits (1 * 2 ^ lane % 2 ^ 64))) (sym e) ∙ bit_at_set_same w64 bits lane within ∙ sym odd ∙ ap (λ j. get_or versions (at + j) 0 % 2) e)
-    ];
+    set = λ k l. grind (arith, bit_at_set_other w64 bits lane within k, bit_at_set_same w64 bits lane within, below.set k);
     clear = λ k l. bit_at_set_other w64 bits lane within k (λ e. omega arith) ∙ below.clear k (omega arith);
   }
 
   pub below_even : (get_or versions (at + lane) 0 % 2 ≡ 1 → ⊥) → Below versions at (lane + 1) bits
-  below_even even = record {
-    set = λ k l. elim (dec_lt k lane) [
-      | yes p ↦ below.set k p
-      | no p ↦ (let e : lane ≡ k = omega arith in
-          let z : get_or versions (at + lane) 0 % 2 ≡ 0 = omega (arith, even) in
-          below.clear k (omega arith) ∙ sym z ∙ ap (λ j. get_or versions (at + j) 0 % 2) e)
-    ];
-    clear = λ k l. below.clear k (omega arith);
-  }
+  below_even even = grind arith
 
 -- ---- the lowest bit
 half_same : (n : ℕ) → n % 2 ≡ 1 → (n - 1) / 2 ≡ n / 2
@@ -52,7 +39,7 @@ half_less : (n : ℕ) → n % 2 ≡ 0 → 0 < n → (n - 1) / 2 ≡ n / 2 - 1
 half_less n even some = omega arith
 
 has_bit : (n k : ℕ) → bit_at n k ≡ 1 → 0 < n
-has_bit n k set = elim (dec_lt 0 n) [ yes p ↦ p | no p ↦ absurd (let none : n ≡ 0 = omega arith in let e : ◌≡◌ {A = ℕ} 1 0 = sym set ∙ ap (λ m. bit_at m k) none ∙ bit_at-zero k in omega arith) ]
+has_bit n k set = grind (arith, bit_at-zero k)
 
 -- One less than a number with this lowest bit: the bit is clear, and all above it are the same
 pub record OneLess (n lane : ℕ) : Type 0 where
@@ -86,28 +73,14 @@ one_less n (suc lane) set below =
 -- a number and one less have no bits in common up to the lowest, and all above it
 without_one : (n lane : ℕ) → n < 2 ^ 64 → bit_at n lane ≡ 1 → ((k : ℕ) → k < lane → bit_at n k ≡ 0)
     → (k : ℕ) → bit_at (bit_and n ((n + (2 ^ 64 - 1)) % 2 ^ 64)) k ≡ min (bit_at n k) (bit_at (n - 1) k)
-without_one n lane fits set below k =
-    let less : (n + (2 ^ 64 - 1)) % 2 ^ 64 ≡ n - 1 = omega (arith, has_bit n lane set, fits) in
-    bit_at_and n _ k ∙ ap (λ m. min (bit_at n k) (bit_at m k)) less
-
-min_none : (x : ℕ) → min x 0 ≡ 0
-min_none x = omega arith
-
-min_both : (x y : ℕ) → y ≡ x → min x y ≡ x
-min_both x y same = omega (arith, same)
-
-min_first : (x y : ℕ) → x ≡ 0 → min x y ≡ x
-min_first x y none = omega (arith, none)
+without_one n lane fits set below k = grind (arith, has_bit, bit_at_and)
 
 module _ (n lane : ℕ) (fits : n < 2 ^ 64) (set : bit_at n lane ≡ 1) (below : (k : ℕ) → k < lane → bit_at n k ≡ 0) where
   pub lowest_gone : bit_at (bit_and n ((n + (2 ^ 64 - 1)) % 2 ^ 64)) lane ≡ 0
-  lowest_gone = without_one n lane fits set below lane ∙ ap (min (bit_at n lane)) (one_less n lane set below).clear ∙ min_none _
+  lowest_gone = omega (arith, without_one n lane fits set below lane, (one_less n lane set below).clear)
 
   pub others_kept : (k : ℕ) → k ≢ lane → bit_at (bit_and n ((n + (2 ^ 64 - 1)) % 2 ^ 64)) k ≡ bit_at n k
-  others_kept k apart = without_one n lane fits set below k ∙ elim (dec_lt k lane) [
-    | yes p ↦ min_first _ _ (below k p)
-    | no p ↦ min_both _ _ ((one_less n lane set below).above k (omega arith))
-  ]
+  others_kept k apart = grind (arith, without_one n lane fits set below k, below k, (one_less n lane set below).above k)
 
 -- ---- the next odd version
 -- only a version that is there is odd
@@ -135,28 +108,10 @@ module _ (versions : List ℕ) (end index bits : ℕ) (has : HasOdds versions en
       within = odd_within versions found there
 
       pub odds_next : IsNextOdd versions index found
-      odds_next = record {
-        on = omega (arith, odds_on);
-        within = omega (arith, within);
-        passed = λ i v from to at. elim (dec_lt (i + 64) end) [
-          | yes p ↦ has.before i v from p at
-          | no p ↦ even_at i v from (omega arith) (omega arith) at (λ k e. below k (omega arith))
-        ];
-        odd = λ v at. ap (λ x. x % 2) (sym (get_or_from_slice_get versions found v 0 at)) ∙ there;
-      }
+      odds_next = grind (arith, odds_on, within, even_at, get_or_from_slice_get, there)
 
       pub odds_step : (rest : ℕ) → bit_at rest lane ≡ 0 → ((k : ℕ) → k < 64 → k ≢ lane → bit_at rest k ≡ bit_at bits k) → HasOdds versions end (found + 1) rest
-      odds_step rest gone kept = record {
-        within = omega (arith, within);
-        at = has.at;
-        upto = omega arith;
-        before = λ i v from to at. absurd (omega arith);
-        odd = λ i k l e on. kept k l (λ same. omega arith) ∙ has.odd i k l e (omega (arith, odds_on));
-        passed = λ k l. elim (dec_lt k lane) [
-          | yes p ↦ kept k (omega arith) (λ e. omega arith) ∙ below k p
-          | no p ↦ (let e : lane ≡ k = omega arith in ap (bit_at rest) (sym e) ∙ gone)
-        ];
-      }
+      odds_step rest gone kept = grind (arith, within, odds_on)
 
 -- no version is left in a chunk of which no bit is left
 pub none_left : (versions : List ℕ) (end index bits : ℕ) → HasOdds versions end index bits → bits ≡ 0 → AllEven versions index end
@@ -174,14 +129,7 @@ next_from versions i j found on even next = record { on = omega (arith, next.on)
 
 -- ---- the next chunk
 pub odds_start : (versions : List ℕ) (i : ℕ) → i ≤ length versions → HasOdds versions i i 0
-odds_start versions i within = record {
-  within = within;
-  at = omega arith;
-  upto = omega arith;
-  before = λ j v on below at. absurd (omega arith);
-  odd = λ j k l e on. absurd (omega arith);
-  passed = λ k l. bit_at-zero k;
-}
+odds_start versions i within = grind (arith, bit_at-zero)
 
 module _ (versions : List ℕ) (end index start : ℕ) (has : HasOdds versions end index 0) (from : index ≤ start) (to : start ≤ end)
     (next bits : ℕ) (found : IsFound versions start next bits) where
@@ -216,53 +164,28 @@ even_chunk versions end bits odd none i v from below at =
 -- ---- what is ahead of a loop
 -- before the first step: the first version is even, the sentinel's
 pub ahead_start : (versions : List ℕ) → 0 < length versions → get_or versions 0 0 % 2 ≡ 0 → IsAhead versions 0 1 0 0
-ahead_start versions some even = record {
-  odd = λ i from to. absurd (omega arith);
-  behind = record {
-    within = omega arith;
-    at = omega arith;
-    upto = omega arith;
-    before = λ i v on below at. absurd (omega arith);
-    odd = λ i k l e on. bit_at-zero k ∙ sym even ∙ ap (λ j. get_or versions j 0 % 2) (let first : 0 ≡ i = omega arith in first);
-    passed = λ k l. bit_at-zero k;
-  };
-}
+ahead_start versions some even = grind (arith, within, bit_at-zero)
 
 -- behind a run
 pub ahead_behind : (versions : List ℕ) (run end index bits : ℕ) → run ≤ index → HasOdds versions end index bits → IsAhead versions run end index bits
-ahead_behind versions run end index bits past has = record {
-  odd = λ j from to. absurd (omega arith);
-  behind = subst (λ m. HasOdds versions end m bits) (let same : index ≡ max index run = omega (arith, past) in same) has;
-}
+ahead_behind versions run end index bits past has = grind arith
 
 module _ (versions : List ℕ) (run end index bits : ℕ) (ahead : IsAhead versions run end index bits) where
   pub behind_run : run ≤ index → HasOdds versions end index bits
   behind_run past = subst (λ m. HasOdds versions end m bits) (let same : max index run ≡ index = omega (arith, past) in same) ahead.behind
 
   run_next : index < run → IsNextOdd versions index index
-  run_next before = record {
-    on = omega arith;
-    within = omega (arith, odd_within versions index (ahead.odd index (omega arith) before));
-    passed = λ i v from below at. absurd (omega arith);
-    odd = λ v at. ap (λ x. x % 2) (sym (get_or_from_slice_get versions index v 0 at)) ∙ ahead.odd index (omega arith) before;
-  }
+  run_next before = grind (arith, within, odd_within, get_or_from_slice_get)
 
   run_step : index < run → IsAhead versions run end (index + 1) bits
-  run_step before = record {
-    odd = λ i from to. ahead.odd i (omega arith) to;
-    behind = subst (λ m. HasOdds versions end m bits) (let same : max index run ≡ max (index + 1) run = omega (arith, before) in same) ahead.behind;
-  }
+  run_step before = grind arith
 
 pub AllOdd-on : (versions : List ℕ) (start end : ℕ) → AllOdd versions start end → get_or versions end 0 % 2 ≡ 1 → AllOdd versions start (end + 1)
 AllOdd-on versions start end odd one i from to = elim (dec_lt i end) [ yes p ↦ odd i from p | no p ↦ ap (λ j. get_or versions j 0 % 2) (let same : i ≡ end = omega arith in same) ∙ one ]
 
 -- at a run that begins at the index
 ahead_run : (versions : List ℕ) (run index : ℕ) → index < run → AllOdd versions index run → IsAhead versions run run index 0
-ahead_run versions run index some odd = record {
-  odd = odd;
-  behind = subst (λ m. HasOdds versions run m 0) (let same : run ≡ max index run = omega (arith, some) in same)
-      (odds_start versions run (omega (arith, odd_within versions (run - 1) (odd (run - 1) (omega arith) (omega arith)))));
-}
+ahead_run versions run index some odd = grind (arith, odds_start, odd_within)
 
 module _ (versions : List ℕ) (at start end : ℕ) (run : IsRun versions at start end) where
   at_run : IsAhead versions end end start 0
@@ -294,14 +217,4 @@ module _ (versions other : List ℕ) (run end index bits : ℕ) (ahead : IsAhead
       ap (λ x. x % 2) (sym (get_or_from_slice_get other i v 0 at)) ∙ same i from ∙ ap (λ x. x % 2) (get_or_from_slice_get versions i there.0 0 there.1) ∙ even there.0 there.1
 
   pub ahead_same : IsAhead other run end index bits
-  ahead_same = record {
-    odd = λ i from to. same i from ∙ ahead.odd i from to;
-    behind = record {
-      within = omega (arith, ahead.behind.within, all);
-      at = omega (arith, ahead.behind.at, all);
-      upto = ahead.behind.upto;
-      before = λ i v from below at. even_too i v (omega (arith, from)) (λ w read. ahead.behind.before i w from below read) at;
-      odd = λ i k l e from. ahead.behind.odd i k l e from ∙ sym (same i (omega (arith, from)));
-      passed = ahead.behind.passed;
-    };
-  }
+  ahead_same = grind (arith, within, even_too)

@@ -1,7 +1,7 @@
 -- Slots with clones of the payloads of others: they are as sound, and hold clones of what those hold.
 -- For this crate alone.
 use Rattle.std.specs.FinMap as map
-use Rattle.std.proofs.Common.{◌≡◌, ◌+◌, ◌-◌, ◌≤◌, ◌∷◌, ℕ, List, [], length, slice_get, Option, None, Some, option_map, refl, sym, ap, ◌∙◌, arith}
+use Rattle.std.proofs.Common.{◌≡◌, ◌+◌, ◌-◌, ◌≤◌, ◌∷◌, ℕ, List, [], length, Option, None, Some, refl, sym, ap, ◌∙◌, arith}
 use Rattle.slotmap_core.proofs.Common.{AllZip, IsCloneOf, Content, IsCloneBy, IsPlaceClone, ArePlaceClones, live, content_of_places, keys_total, exact_keys}
 use Rattle.slotmap_core.proofs.Common.{mapped, zip_length, zip_left, zip_right, zip_self, same_len, clone_is_some, live-clones, IsStacked-clones}
 use Rattle.slotmap_core.proofs.Common.{content-clones}
@@ -59,10 +59,7 @@ module _ {P : Type 0} (is_clone : P → P → Type 0) (ss ts : List (Slot P)) (a
   slots-length = zip_length (IsSlotClone is_clone) ss ts all
 
   same_usage : (i : ℕ) (l : Use) → usage_at ss i ≡ Some l → usage_at ts i ≡ Some l
-  same_usage i l found =
-      let s = mapped (λ s. s.usage) (slice_get ss i) l found in
-      let t = zip_right (IsSlotClone is_clone) ss ts all i s.0 s.1 in
-      ap (option_map (λ s. s.usage)) t.1 ∙ ap Some (t.2.usage ∙ s.2)
+  same_usage i l found = grind (arith, mapped, zip_right)
 
   same_list : (is : List ℕ) (head : ℕ) → IsFreeList ss is head → IsFreeList ts is head
   same_list [] head linked = linked

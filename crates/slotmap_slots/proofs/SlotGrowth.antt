@@ -17,14 +17,7 @@ module _ {P : Type 0} where
   sentinel = empty 0 (Free 0) ∷ []
 
   pub IsSound-sentinel : IsSound sentinel 0 0 0
-  IsSound-sentinel = record {
-    each = grind arith;
-    stack = [];
-    linked = refl;
-    counted = refl;
-    live_counted = live-sentinel P;
-    stacked = IsStacked-sentinel P;
-  }
+  IsSound-sentinel = grind (arith, live-sentinel, IsStacked-sentinel)
 
   -- one more slot at the end
   pub each-push : (slots : List (Slot P)) (s : Slot P) → ((i : ℕ) (t : Slot P) → slice_get slots i ≡ Some t → IsSlot t) → IsSlot s

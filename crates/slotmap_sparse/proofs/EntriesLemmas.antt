@@ -77,10 +77,7 @@ module _ {V : Type 0} where
 
   -- there is memory for as many further keys as the hash map has spare entries
   spare_room : {S : Type 0} (m : HashMap ℕ (ℕ × V) S) (c : Content V) → content_of m ≡ c → IsSound m.entries → room c ≡ spare m
-  spare_room m c is sound =
-      let memory : hash_map_len m + spare m ≡ c.capacity = ap (λ (x : Content V). x.capacity) is in
-      let long = same_len m.entries c.pairs (ap (λ (x : Content V). x.pairs) is) sound in
-      omega (arith, memory, long)
+  spare_room m c is sound = grind (arith, same_len)
 
   -- so with no fewer spare entries there is memory for no fewer keys
   pub more_room : {S : Type 0} (m n : HashMap ℕ (ℕ × V) S) (c : Content V) → content_of m ≡ c → IsSound m.entries → IsSound n.entries → spare m ≤ spare n → room c ≤ room (content_of n)
@@ -125,11 +122,7 @@ module _ {V : Type 0} where
     IsSound-through = IsSound-written m.entries n.entries sound written.4 i p (p.0, w) (get-pairs m.entries i ∙ stood) refl put_there
 
     pub content-through : (c : Content V) → content_of m ≡ c → contains_key c.pairs k ≡ true → content_of n ≡ with_value c k w
-    content-through c is stands =
-        let there = stands_at m c is k i at (Some p) stood in
-        let version : p.0 ≡ k.version = same_version c.pairs k stands p there in
-        let memory : hash_map_len n + spare n ≡ c.capacity = (λ j. written.2 j + written.6 j) ∙ ap (λ (x : Content V). x.capacity) is in
-        λ j. record { pairs = (put_there ∙ (λ l. map.insert (is l).pairs (at l) (version l, w))) j; capacity = memory j }
+    content-through c is stands = grind (arith, stands_at, same_version, put_there)
 
   -- what a reference leaves if nothing was written through it
   module _ {S : Type 0} (m n : HashMap ℕ (ℕ × V) S) (sound : IsSound m.entries) (i : ℕ) (p : ℕ × V) (stood : lookup (nat_eq i) m.entries ≡ Some p)
@@ -167,9 +160,7 @@ module _ {V : Type 0} where
     IsSound-over = record { unique = written.4; keys = subst (λ (x : Pairs V). IsSecondary x) (sym pairs_over) (IsSecondary-put c.pairs k v valid key) }
 
     pub content_over : content_of n ≡ record c { pairs = put c.pairs k v }
-    content_over =
-        let memory : hash_map_len n + spare n ≡ c.capacity = (λ j. written.2 j + written.6 j) ∙ ap (λ (x : Content V). x.capacity) is in
-        λ j. record { pairs = pairs_over j; capacity = memory j }
+    content_over = grind (arith, pairs_over)
 
 pub some_lent : {A : Type 0} (o : Option (MutBor A)) (p : Option A) → option_copied_mut o ≡ p → is_some p ≡ true → is_some o ≡ true
 some_lent o p is h = grind arith

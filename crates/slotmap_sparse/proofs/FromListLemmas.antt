@@ -1,7 +1,7 @@
 -- How many slots a map is written as, and what a map holds that reads a list slot by slot.
 use Rattle.std.specs.FinMap as map
 use Rattle.std.specs.FinSet as set
-use Rattle.std.proofs.Common.{◌≡◌, ◌+◌, ◌-◌, ◌<◌, ◌≤◌, ◌^◌, ◌⊎◌, ◌∷◌, ◌++◌, ℕ, inl, inr, true, List, [], length, slice_get, None, is_some, eq-eqb, refl, sym}
+use Rattle.std.proofs.Common.{◌≡◌, ◌+◌, ◌-◌, ◌<◌, ◌≤◌, ◌^◌, ◌⊎◌, ◌∷◌, ◌++◌, ℕ, inl, inr, true, List, [], length, slice_get, None, is_some, eq-eqb, refl}
 use Rattle.slotmap_core.proofs.Common.{nat_cmp_total, Key, key_cmp, IsKeyListing, Pairs, contains_key, keyed, slot_pair, ap, subst, ◌∙◌, arith, exact_unsigned}
 use Rattle.slotmap_core.proofs.Common.{slice_get_past, keys_total, exact_keys, tied, untied, contains-keyed, index_stands, get_here, some_is, item_after_insert}
 use Rattle.slotmap_core.proofs.Common.{item_inserted, item_still, slice_get_push, slice_get_push_other}
@@ -18,13 +18,7 @@ module _ {V : Type 0} where
     pub last : (count ≡ 1) ⊎ (map.contains_key m (count - 1) ≡ true)
 
   pub Counts-start : (m : Pairs V) (keys : List Key) → IsKeyListing (keyed m) keys → Counts m keys 1
-  Counts-start m keys listing = record {
-    covered = λ k has. inr (listing.all k ∙ contains-keyed m k ∙ has);
-    there = λ k in_list. sym (contains-keyed m k) ∙ sym (listing.all k) ∙ in_list;
-    one = omega arith;
-    fits = omega arith;
-    last = inl refl;
-  }
+  Counts-start m keys listing = grind (arith, contains-keyed)
 
   module _ (m : Pairs V) (k : Key) (rest : List Key) (count : ℕ) (before : Counts m (k ∷ rest) count) where
     later : (more : ℕ) → count ≤ more → k.index < more → (q : Key) → contains_key m q ≡ true → (q.index < more) ⊎ (set.contains (set.from_list {R = key_cmp} rest) q ≡ true)

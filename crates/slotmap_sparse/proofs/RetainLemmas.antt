@@ -129,7 +129,4 @@ module _ {F K V : Type 0} (g : Mut F (K × (MutBor V × Unit {0})) (Bool × (Mut
   pub shown_at : (i j : ℕ) (p p' q q' : ℕ × V) (b : Bool) (f f' : F) → j ≡ i → p' ≡ p → q' ≡ q
       → ((key : K) × (data_of key ≡ key_from j p'.0) × CallsAt g f (record { key = key; before = p'.1; after = q'.1; stays = b }) f') → q'.0 ≡ p'.0
       → (q.0 ≡ p.0) × ((key : K) × (data_of key ≡ key_from i p.0) × CallsAt g f (record { key = key; before = p.1; after = q.1; stays = b }) f')
-  shown_at i j p p' q q' b f f' at before after call version =
-      subst (λ (s : ℕ × ((ℕ × V) × (ℕ × V))). (s.1.1.0 ≡ s.1.0.0)
-      × ((key : K) × (data_of key ≡ key_from s.0 s.1.0.0) × CallsAt g f (record { key = key; before = s.1.0.1; after = s.1.1.1; stays = b }) f'))
-      (λ l. (at l, (before l, after l))) (version, call)
+  shown_at i j p p' q q' b f f' at before after call version = grind (arith, key_from)

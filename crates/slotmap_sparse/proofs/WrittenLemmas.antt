@@ -1,6 +1,6 @@
 -- The list that a map is written as, with clones of its values.
 use Rattle.std.specs.FinMap as map
-use Rattle.std.proofs.Common.{true≢false, ◌≡◌, ◌≢◌, ◌-◌, ◌<◌, ◌≤◌, ◌∷◌, ◌++◌, inl, inr, ℕ, cond, true, false, nat_eq, eqb-true, eq-eqb, ne_eqb, List, [], None}
+use Rattle.std.proofs.Common.{◌≡◌, ◌-◌, ◌<◌, ◌≤◌, ◌∷◌, ◌++◌, ℕ, cond, true, false, nat_eq, eqb-true, eq-eqb, ne_eqb, List, [], None}
 use Rattle.slotmap_core.proofs.Common.{nat_cmp_total, unsigned_tied, ClonesEqual, IsCloneOf, start_live, Key, Pairs, IsSecondary, get, keyed, record_of_pair}
 use Rattle.slotmap_core.proofs.Common.{length, slice_get, Option, Some, refl, sym, ap, subst, ◌∙◌, nat_cmp, arith, length_push, slice_get_push}
 use Rattle.slotmap_core.proofs.Common.{slice_get_push_other, get-keyed, none_of, some_is, IsPairClone, HasClones-by_index, contents_written}
@@ -27,10 +27,7 @@ module _ {V : Type 0} (is_clone : V → V → Type 0) (m : Pairs V) where
   module _ (slots : List (SlotRecord V)) (before : Copies slots) (slot : SlotRecord V) where
     -- the next index, and those before it
     at_next : (P : ℕ → Type 0) → ((i : ℕ) → i < length slots → P i) → P (length slots) → (i : ℕ) → i < length (slots ++ slot ∷ []) → P i
-    at_next P below here i less = elim (nat_eq i (length slots)) as (λ b. nat_eq i (length slots) ≡ b → P i) [
-      | true ↦ λ t. subst P (sym (eqb-true i (length slots) t)) here
-      | false ↦ λ f. let other : i ≢ length slots = λ same. true≢false (sym (eq-eqb i (length slots) same) ∙ f) in below i (omega (arith, other, less, length_push slots slot))
-    ] refl
+    at_next P below here i less = grind (arith, eqb-true, eq-eqb, length_push)
 
     module _ (o : Option (ℕ × V)) (copy : Pairs V) (here : map.get copy (length slots) ≡ o) (others : (i : ℕ) → nat_eq i (length slots) ≡ false → map.get copy i ≡ map.get before.copy i)
         (is : slot ≡ record_of_pair o) (clone : IsPairClone is_clone (map.get m (length slots)) o) where
@@ -63,10 +60,7 @@ module _ {V : Type 0} (is_clone : V → V → Type 0) (m : Pairs V) where
   -- the records reach up to the largest index
   module _ (slots : List (SlotRecord V)) (done : Copies slots) (reaches : ReachesLargest m (length slots)) where
     each_index : (i : ℕ) → IsPairClone is_clone (map.get m i) (map.get done.copy i)
-    each_index i = elim (map.contains_key m i) as (λ b. map.contains_key m i ≡ b → IsPairClone is_clone (map.get m i) (map.get done.copy i)) [
-      | true ↦ λ there. done.clones i (reaches.within i there)
-      | false ↦ λ none. grind (arith, none_of, done.clones i, done.above i)
-    ] refl
+    each_index i = grind (arith, none_of)
 
     copied_there : (i : ℕ) → map.contains_key m i ≡ true → map.contains_key done.copy i ≡ true
     copied_there i there = grind (arith, each_index i, some_is)
@@ -75,14 +69,7 @@ module _ {V : Type 0} (is_clone : V → V → Type 0) (m : Pairs V) where
     copy_within i there = grind (arith, done.above i, some_is)
 
     writes_copy : Writes done.copy slots
-    writes_copy = record {
-      all = record {
-        within = copy_within;
-        one = reaches.one;
-        last = elim reaches.last [ inl one ↦ inl one | inr there ↦ inr (copied_there (length slots - 1) there) ];
-      };
-      each = done.each;
-    }
+    writes_copy = grind (arith, copy_within, copied_there)
 
     pub writes_clones : IsSecondary m → WritesClones is_clone m slots
     writes_clones valid = record {

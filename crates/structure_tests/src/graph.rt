@@ -26,7 +26,8 @@ fn values(rt: HostRuntime) -> Result<(), Fail> {
 #[test]
 fn lists(rt: HostRuntime) -> Result<(), Fail> {
     let (graph, a, b, edge) = pair(rt.alloc())?;
-    assert_eq!(rt; graph.edges_from(a), [edge].as_slice());
+    assert_eq!(rt; graph.edges_from(a).next(), Some(edge));
+    assert_eq!(rt; graph.edges_to(b).len(), 1);
     assert_eq!(rt; graph.in_degree(b), 1);
     assert_eq!(rt; graph.find_edge(a, b), Some(edge));
     Ok(())
@@ -69,7 +70,7 @@ fn copies(rt: HostRuntime) -> Result<(), Fail> {
     let copy = graph.clone()?;
     graph.remove_node(b);
     assert_eq!(rt; copy.node(b), Some(&2));
-    assert_eq!(rt; copy.edges_from(a), [edge].as_slice());
+    assert_eq!(rt; copy.edges_from(a).next(), Some(edge));
     Ok(())
 }
 

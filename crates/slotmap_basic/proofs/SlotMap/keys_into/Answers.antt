@@ -1,6 +1,6 @@
 use Rattle.std.specs.FinMap as map
 use Rattle.std.proofs.Common.{◌≡◌, ◌∷◌, ◌++◌, [], length, map as list_map, sym, ap, ◌∙◌, append_assoc, append-nil, arith}
-use Rattle.slotmap_core.proofs.Common.{map-append, some_is, from_index, from_index-start, from_index-end, entries_none, next_entry}
+use Rattle.slotmap_core.proofs.Common.{map-append, some_is, from_index, from_index-start, from_index-end, entries_none, next_entry, common_steps}
 use Rattle.slotmap_basic.proofs.SlotMap.keys_into.Goals as goal
 
 pub loop-key-init : goal.loop-key-init
@@ -39,8 +39,4 @@ loop-key-preserved g c =
     }
 
 pub returns-clause-ok : goal.returns-clause-ok
-returns-clause-ok g c =
-    let at = c.loop-key in
-    let m = c.args.self.now.live in
-    let none = ap (λ n. map.keys n) (from_index-end at.odds.index m c.in_default.ensures.none) ∙ ap (λ es. list_map (λ e. e.0) es) entries_none in
-    (at.invariant.keys, at.invariant.pushed, sym (at.invariant.listed ∙ ap (λ ks. list_map g.K.Key.data_of at.invariant.keys ++ ks) none ∙ append-nil (list_map g.K.Key.data_of at.invariant.keys)))
+returns-clause-ok g c = grind (arith, common_steps, from_index-end, entries_none, append-nil)

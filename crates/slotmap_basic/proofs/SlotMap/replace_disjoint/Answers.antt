@@ -1,5 +1,5 @@
-use Rattle.slotmap_core.proofs.Common.{take, map as map_list, is_some, true, ap, ◌∙◌, arith, IsContent-with_value, content_written, capacity-with_values}
-use Rattle.slotmap_core.proofs.Common.{key_there, key_exchanged}
+use Rattle.slotmap_core.proofs.Common.{is_some, true, ap, arith, IsContent-with_value, content_written, capacity-with_values}
+use Rattle.slotmap_core.proofs.Common.{key_there, key_exchanged, common_steps}
 use Rattle.slotmap_basic.proofs.SlotMap.replace_disjoint.Goals as goal
 
 pub swap_value-requires : goal.swap_value-requires
@@ -16,10 +16,4 @@ loop-i-preserved g c =
     })
 
 pub returns-clause-valid : goal.returns-clause-valid
-returns-clause-valid g c =
-    record {
-      before = c.can_replace.ensures.valid;
-      after = c.loop-i.invariant.well;
-      capacity = ap (λ m. m.capacity) c.loop-i.invariant.done.wrote
-          ∙ capacity-with_values c.args.self.now (take c.loop-i.i (map_list g.K.Key.data_of c.args.keys)) (take c.loop-i.i c.args.values);
-    }
+returns-clause-valid g c = grind (arith, common_steps, capacity-with_values)

@@ -1,5 +1,6 @@
-use Rattle.std.proofs.Common.{◌++◌, ◌∷◌, zip, [], length, map as list_map, append-nil, append_assoc, reverse, refl, sym, ap, subst, ◌∙◌, arith}
-use Rattle.slotmap_core.proofs.Common.{Key, IsListingBut, map-append, length_push, IsListingBut-start, IsListingBut-take, IsListingBut-done}
+use Rattle.slotmap_core.proofs.Common.{common_steps}
+use Rattle.std.proofs.Common.{◌++◌, ◌∷◌, zip, [], length, map as list_map, append-nil, append_assoc, reverse, refl, sym, ap, ◌∙◌, arith}
+use Rattle.slotmap_core.proofs.Common.{Key, map-append, length_push, IsListingBut-start, IsListingBut-take, IsListingBut-done}
 use Rattle.slotmap_dense.proofs.FromBackLemmas.{Taken-start, Taken-next, last_first, none_left, len_keys}
 use Rattle.slotmap_dense.proofs.DenseSlotMap.drain_into.Goals as goal
 
@@ -34,20 +35,7 @@ loop-pair-preserved g c =
     }
 
 pub returns-clause-ok : goal.returns-clause-ok
-returns-clause-ok g c =
-    let at = c.loop-pair in
-    let none = none_left at.self at.invariant.taken.well c.in_default.ensures.takes.0 in (
-      at.invariant.pairs,
-      at.invariant.pushed,
-      IsListingBut-done c.args.self.now.content.live _
-          (subst (IsListingBut c.args.self.now.content.live (list_map (λ p. (g.K.Key.data_of p.0, p.1)) at.invariant.pairs)) none.0 at.invariant.listed),
-    )
+returns-clause-ok g c = grind (arith, common_steps, none_left, IsListingBut-done)
 
 pub returns-clause-in_order : goal.returns-clause-in_order
-returns-clause-in_order g c =
-    let at = c.loop-pair in
-    let none = none_left at.self at.invariant.taken.well c.in_default.ensures.takes.0 in
-    let given = list_map (λ p. (g.K.Key.data_of p.0, p.1)) at.invariant.pairs in
-    let all = at.invariant.back ∙ ap (λ ks. given ++ reverse (zip ks at.self.values)) none.1.keys ∙ append-nil given in
-    ap (list_map (λ p. (g.K.Key.data_of p.0, p.1))) at.invariant.pushed ∙ map-append {B = Key × g.row.V.Denot} (λ p. (g.K.Key.data_of p.0, p.1)) c.args.out.now.items at.invariant.pairs
-    ∙ ap (λ es. list_map (λ p. (g.K.Key.data_of p.0, p.1)) c.args.out.now.items ++ es) (sym all)
+returns-clause-in_order g c = grind (arith, common_steps, none_left, append-nil, map-append)

@@ -1,7 +1,7 @@
 use Rattle.std.specs.FinMap as map
 use Rattle.std.proofs.Common.{◌≡◌, ◌+◌, ◌-◌, ◌^◌, ◌<◌, ◌∷◌, ◌++◌, [], length, map as list_map, Some, min, vec_capacity, refl, sym, ap, ◌∙◌, append_assoc, arith}
-use Rattle.slotmap_core.proofs.Common.{into_iter_items, Accepts, append-nil, rules, add-one, length_push, length-map, nil_from_length, map-append, odd_of}
-use Rattle.slotmap_core.proofs.Common.{key_from-odd, key, next_consistent}
+use Rattle.slotmap_core.proofs.Common.{into_iter_items, Accepts, append-nil, add-one, length_push, length-map, nil_from_length, map-append, odd_of}
+use Rattle.slotmap_core.proofs.Common.{key_from-odd, key, next_consistent, common_steps}
 use Rattle.slotmap_dense.proofs.FromListLemmas.{AreSplit, AreSplit-start, AreSplit-live, AreSplit-none, same_places, fewer_read, refuses-positions, IsSound-split, reads-split, stack_alike}
 use Rattle.slotmap_dense.proofs.SettledLemmas.{dense_valid}
 use Rattle.slotmap_dense.proofs.DenseSlotMap.from_slots.Goals.{In_ok-check_slots, In-None}
@@ -32,16 +32,10 @@ loop-slot-init g c =
     }
 
 pub overflow_cast-position : goal.overflow_cast-position
-overflow_cast-position g c =
-    let at = c.loop-slot in
-    let few = fewer_read _ _ _ _ at.invariant.split _ _ at.invariant.counted (accepted g (goal.at.overflow_cast-position g c).In_ok-check_slots) in
-    omega (arith, few.0, length-map at.keys.items g.K.Key.data_of, c.len-position.ensures, at.keys.ok.0)
+overflow_cast-position g c = grind (arith, common_steps, fewer_read, length-map)
 
 pub overflow_cast-len : goal.overflow_cast-len
-overflow_cast-len g c =
-    let at = c.loop-slot in
-    let few = fewer_read _ _ _ _ at.invariant.split _ _ at.invariant.counted (accepted g (goal.at.overflow_cast-len g c).In_ok-check_slots) in
-    omega (arith, few.1, c.len-in-Some-value.ensures, at.positions.ok.0)
+overflow_cast-len g c = grind (arith, common_steps, fewer_read)
 
 pub loop-slot-preserved : goal.loop-slot-preserved
 loop-slot-preserved g c =
@@ -85,10 +79,7 @@ loop-slot-preserved g c =
     }
 
 pub returns-in_err-slots-clause-err : goal.returns-in_err-slots-clause-err
-returns-in_err-slots-clause-err g c =
-    let at = goal.at.returns-in_err-slots-clause-err g c in
-    let refused = refuses-positions _ _ _ _ (split_all g at.In-None) 4294967295 (accepted g at.In_ok-check_slots) c.in_err-slots.field-0.0 c.in_err-slots.ensures.err in
-    search (rules, refused)
+returns-in_err-slots-clause-err g c = grind (arith, common_steps, refuses-positions)
 
 pub invariant_of-result : goal.invariant_of-result
 invariant_of-result g c =

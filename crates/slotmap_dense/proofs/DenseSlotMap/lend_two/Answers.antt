@@ -1,5 +1,5 @@
 use Rattle.slotmap_core.proofs.Common.{length, slice_get, map as list_map, sym, ap, ◌∙◌, arith, same_Some}
-use Rattle.slotmap_dense.proofs.SettledLemmas.{well_formed, contains, present}
+use Rattle.slotmap_dense.proofs.SettledLemmas.{contains, present}
 use Rattle.slotmap_dense.proofs.DenseSlotMap.lend_two.Goals as goal
 
 pub get_unchecked-requires : goal.get_unchecked-requires
@@ -36,6 +36,3 @@ returns-clause-second g c =
     let found = present _ c.self.inside c.self.view_is c.self.invariant c.data-2.result _ c.get_unchecked-2.ensures.value in
     let values = ap (λ d. d.values) c.self.view_is ∙ sym c.values_as_mut_slice.ensures.value in
     rw (← c.data-2.ensures.value) (found.gives ∙ sym found.there ∙ ap (λ xs. slice_get xs c.get_unchecked-2.result.now) values ∙ c.two_of.ensures.second)
-
-pub returns-clause-valid : goal.returns-clause-valid
-returns-clause-valid g c = well_formed _ c.self.inside c.self.view_is c.self.invariant

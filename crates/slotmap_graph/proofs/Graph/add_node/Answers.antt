@@ -1,19 +1,17 @@
 use Rattle.std.proofs.Common.{true, refl}
-use Rattle.slotmap.proofs.Callers.{spent_insert}
-use Rattle.slotmap_graph.proofs.ByNode.{same_edges}
-use Rattle.slotmap_graph.proofs.GraphSteps.{node_inserted}
+use Rattle.slotmap.proofs.Callers.{insert_still, spent_insert}
+use Rattle.slotmap_graph.proofs.GraphSteps.{graph_beside, seen_along}
+use Rattle.slotmap_graph.specs.declared.links.Direction.TheVariants.{Out, Into}
 use Rattle.slotmap_graph.proofs.Graph.add_node.Goals as goal
 
 pub invariant_of-self : goal.invariant_of-self
-invariant_of-self g c = node_inserted _ _ _ _ c.self.invariant _ _ _ _ c.insert.ensures.ok c.insert.ensures.valid.unchanged
-
-pub returns-clause-gone : goal.returns-clause-gone
-returns-clause-gone g c = rw (← c.self.view_is) (spent_insert _ _ true _ c.insert.ensures.valid _ _ c.insert.ensures.ok)
+invariant_of-self g c = graph_beside c.self.inside.nodes c.self.inside.edges.live c.self.invariant c.insert_node.new.nodes (insert_still _ g.K.Key.data_of c.args.node _ c.insert_node.result c.insert_node.ensures.adds c.insert_node.ensures.valid.unchanged) c.insert_node.ensures.ends
 
 pub returns-clause-out : goal.returns-clause-out
-returns-clause-out g c = rw (← c.self.view_is) (same_edges c.self.inside.nodes c.insert.new.self c.self.inside.out.pairs c.self.inside.out.pairs c.self.invariant.out_beside
-    (node_inserted _ _ _ _ c.self.invariant _ _ _ _ c.insert.ensures.ok c.insert.ensures.valid.unchanged).out_beside (λ k. refl))
+returns-clause-out g c = rw (← c.self.view_is) (seen_along Out _ _ _ _ (c.insert_node.ensures.ends Out) (λ q. refl))
 
 pub returns-clause-into : goal.returns-clause-into
-returns-clause-into g c = rw (← c.self.view_is) (same_edges c.self.inside.nodes c.insert.new.self c.self.inside.into.pairs c.self.inside.into.pairs c.self.invariant.into_beside
-    (node_inserted _ _ _ _ c.self.invariant _ _ _ _ c.insert.ensures.ok c.insert.ensures.valid.unchanged).into_beside (λ k. refl))
+returns-clause-into g c = rw (← c.self.view_is) (seen_along Into _ _ _ _ (c.insert_node.ensures.ends Into) (λ q. refl))
+
+pub returns-clause-gone : goal.returns-clause-gone
+returns-clause-gone g c = rw (← c.self.view_is) (spent_insert _ _ true _ c.insert_node.ensures.valid _ _ c.insert_node.ensures.adds)

@@ -1,23 +1,26 @@
-use Rattle.slotmap_graph.proofs.GraphSteps.{out_touches, into_found, into_none, out_is, into_is}
+use Rattle.slotmap_graph.specs.declared.links.Direction.TheVariants.{Out, Into}
+use Rattle.slotmap_graph.proofs.GraphSteps.{out_touches, first_there, into_found, into_none, is_lists}
 use Rattle.slotmap_graph.proofs.Graph.edge_at.Goals as goal
 
 pub returns-in-Some-clause-some : goal.returns-in-Some-clause-some
-returns-in-Some-clause-some g c = rw (← c.self.view_is) (out_touches _ _ _ _ c.self.invariant c.args.node c.in-Some.edge c.in-Some.ensures.some)
+returns-in-Some-clause-some g c =
+    out_touches c.args.self.now.edges.live (g.K.Key.data_of c.args.node) c.edges_from.result c.edges_from.ensures.listed c.in-Some.edge (first_there c.edges_from.result c.in-Some.edge c.next.new.self c.in-Some.ensures.steps)
 
 pub returns-in-Some-clause-out : goal.returns-in-Some-clause-out
-returns-in-Some-clause-out g c = rw (← c.self.view_is) (out_is _ _ _ _ c.self.invariant)
+returns-in-Some-clause-out g c = rw (← c.self.view_is) (is_lists _ _ c.self.invariant Out)
 
 pub returns-in-Some-clause-into : goal.returns-in-Some-clause-into
-returns-in-Some-clause-into g c = rw (← c.self.view_is) (into_is _ _ _ _ c.self.invariant)
+returns-in-Some-clause-into g c = rw (← c.self.view_is) (is_lists _ _ c.self.invariant Into)
 
 pub returns-in-None-clause-some : goal.returns-in-None-clause-some
-returns-in-None-clause-some g c = rw (← c.self.view_is) (into_found _ _ _ _ c.self.invariant c.args.node _ c.last-in-None.ensures.some)
+returns-in-None-clause-some g c = into_found c.args.self.now.edges.live (g.K.Key.data_of c.args.node) c.edges_to.result c.next-in-None.new.self c.edges_to.ensures.listed c.next-in-None.result c.next-in-None.ensures.steps
 
 pub returns-in-None-clause-none : goal.returns-in-None-clause-none
-returns-in-None-clause-none g c = rw (← c.self.view_is) (into_none _ _ _ _ c.self.invariant c.args.node _ c.in-None.ensures.none c.last-in-None.ensures.none)
+returns-in-None-clause-none g c =
+    into_none c.args.self.now.edges.live (g.K.Key.data_of c.args.node) c.edges_from.result c.edges_to.result c.next-in-None.new.self c.edges_from.ensures.listed c.in-None.ensures.steps.0 c.edges_to.ensures.listed c.next-in-None.result c.next-in-None.ensures.steps
 
 pub returns-in-None-clause-out : goal.returns-in-None-clause-out
-returns-in-None-clause-out g c = rw (← c.self.view_is) (out_is _ _ _ _ c.self.invariant)
+returns-in-None-clause-out g c = rw (← c.self.view_is) (is_lists _ _ c.self.invariant Out)
 
 pub returns-in-None-clause-into : goal.returns-in-None-clause-into
-returns-in-None-clause-into g c = rw (← c.self.view_is) (into_is _ _ _ _ c.self.invariant)
+returns-in-None-clause-into g c = rw (← c.self.view_is) (is_lists _ _ c.self.invariant Into)

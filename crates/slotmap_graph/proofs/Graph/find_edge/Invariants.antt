@@ -1,7 +1,13 @@
-use Rattle.std.proofs.Common.{◌≡◌, None, take}
+use Rattle.std.proofs.Common.{◌≡◌, ◌++◌, None}
 use Rattle.std.specs.List.{find}
+use Rattle.slotmap_graph.specs.Parts.{edges_at}
 use Rattle.slotmap_graph.specs.Search.{goes_to}
 use Rattle.slotmap_graph.proofs.Graph.find_edge.Given as goal
 
 abbrev pub invariant-loop-edge : goal.invariant-loop-edge
-invariant-loop-edge g l = find (goes_to l.self.edges.live l.to) (take l.edge-index l.edge-items) ≡ None
+invariant-loop-edge g l = record {
+  can_next : (goal.iterator-loop-edge g).can_next l.edge-iterator;
+  is_finite : (goal.iterator-loop-edge g).is_finite l.edge-iterator;
+  walked : l.yielded ++ l.edge-iterator ≡ edges_at l.self.out (g.K.Key.data_of l.fn.from);
+  none : find (goes_to l.self.edges.live l.to) l.yielded ≡ None;
+}

@@ -1,13 +1,16 @@
-use Rattle.std.proofs.Common.{◌≡◌, take, map as list_map}
+use Rattle.std.proofs.Common.{◌≡◌, ◌++◌, map as list_map}
 use Rattle.std.specs.List.{fold}
-use Rattle.slotmap_graph.specs.Parts.{to}
-use Rattle.slotmap_graph.specs.Search.{Finds, ends_of, marked}
+use Rattle.slotmap_graph.specs.Parts.{edges_at, to}
+use Rattle.slotmap_graph.specs.Search.{Finds, ends_along, marked}
 use Rattle.slotmap_graph.proofs.Searches.{Pending}
 use Rattle.slotmap_graph.proofs.Graph.mark_neighbours.Given as goal
 
 abbrev pub invariant-loop-edge : goal.invariant-loop-edge
 invariant-loop-edge g l = record {
+  can_next : (goal.iterator-loop-edge g).can_next l.edge-iterator;
+  is_finite : (goal.iterator-loop-edge g).is_finite l.edge-iterator;
+  walked : l.yielded ++ l.edge-iterator ≡ edges_at l.self.out (g.K.Key.data_of l.fn.node);
   finds : Finds l.self.nodes l.self.edges.live (g.K.Key.data_of l.fn.node) l.fn.seen.pairs (list_map g.K.Key.data_of l.fn.found.items) l.seen.pairs (list_map g.K.Key.data_of l.found.items);
-  pending : Pending l.self.edges.live (g.K.Key.data_of l.fn.node) l.edge-items l.edge-index l.seen.pairs;
-  order : list_map g.K.Key.data_of l.found.items ≡ fold marked (list_map g.K.Key.data_of l.fn.found.items) (ends_of to l.self.edges.live (take l.edge-index l.edge-items));
+  pending : Pending l.self.edges.live (g.K.Key.data_of l.fn.node) l.edge-iterator l.seen.pairs;
+  order : list_map g.K.Key.data_of l.found.items ≡ fold marked (list_map g.K.Key.data_of l.fn.found.items) (ends_along to l.self.edges.live l.yielded);
 }

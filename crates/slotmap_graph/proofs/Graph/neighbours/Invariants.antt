@@ -1,7 +1,12 @@
-use Rattle.std.proofs.Common.{◌≡◌, take, map as list_map}
-use Rattle.slotmap_graph.specs.Parts.{to}
-use Rattle.slotmap_graph.specs.Search.{ends_of}
+use Rattle.std.proofs.Common.{◌≡◌, ◌++◌, map as list_map}
+use Rattle.slotmap_graph.specs.Parts.{edges_at, to}
+use Rattle.slotmap_graph.specs.Search.{ends_along}
 use Rattle.slotmap_graph.proofs.Graph.neighbours.Given as goal
 
 abbrev pub invariant-loop-edge : goal.invariant-loop-edge
-invariant-loop-edge g l = list_map g.K.Key.data_of l.found.items ≡ ends_of to l.self.edges.live (take l.edge-index l.edge-items)
+invariant-loop-edge g l = record {
+  can_next : (goal.iterator-loop-edge g).can_next l.edge-iterator;
+  is_finite : (goal.iterator-loop-edge g).is_finite l.edge-iterator;
+  walked : l.yielded ++ l.edge-iterator ≡ edges_at l.self.out (g.K.Key.data_of l.fn.node);
+  found : list_map g.K.Key.data_of l.found.items ≡ ends_along to l.self.edges.live l.yielded;
+}

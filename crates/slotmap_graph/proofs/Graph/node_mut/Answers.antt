@@ -1,23 +1,29 @@
-use Rattle.std.proofs.Common.{is_some, sym, ap, ◌∙◌}
-use Rattle.slotmap.specs.Words.{IsLive, with_value}
+use Rattle.std.proofs.Common.{sym, ap, ◌∙◌}
+use Rattle.std.specs.Option.{option_map}
+use Rattle.slotmap.specs.Words.{with_value}
 use Rattle.slotmap.proofs.Callers.{same_lent}
+use Rattle.slotmap_keylist.specs.Mapped.{map_content}
+use Rattle.slotmap_keylist.proofs.Mapped.{get-mapped, mapped-with}
+use Rattle.slotmap_graph.specs.declared.links.Direction.TheVariants.{Out, Into}
 use Rattle.slotmap_graph.specs.Parts.{Seen}
-use Rattle.slotmap_graph.proofs.GraphSteps.{node_written}
-use Rattle.slotmap_graph.proofs.ByNode.{by_node_written}
+use Rattle.slotmap_graph.specs.Threads.{node_value, seen_edge}
+use Rattle.slotmap_graph.proofs.GraphSteps.{node_written, written_lists}
 use Rattle.slotmap_graph.proofs.Graph.node_mut.Goals as goal
 
 pub invariant_of-self-lent : goal.invariant_of-self-lent
-invariant_of-self-lent g c = λ w. node_written _ _ _ _ c.self.invariant (g.K.Key.data_of c.args.node) w
+invariant_of-self-lent g c = node_written _ _ c.self.invariant (g.K.Key.data_of c.args.node) c.in-Some.node.now (sym c.in-Some.ensures.value)
 
 pub returns-in-Some : goal.returns-in-Some
 returns-in-Some g c =
     let k = g.K.Key.data_of c.args.node in
-    let live : IsLive c.self.inside.nodes k = ap is_some (sym c.in-Some.ensures.value) in (
+    let n = c.in-Some.node.now in
+    let nodes = c.self.inside.nodes in
+    let edges = c.self.inside.edges in (
       same_lent _ _ _ (λ w. (λ i. record {
-        nodes = with_value c.self.inside.nodes k w;
-        edges = c.self.inside.edges;
-        out = by_node_written c.self.inside.nodes c.self.inside.out.pairs k w live i;
-        into = by_node_written c.self.inside.nodes c.self.inside.into.pairs k w live i;
+        nodes = mapped-with node_value nodes nodes k (record n { value = w }) i;
+        edges = map_content seen_edge edges;
+        out = written_lists nodes edges.live c.self.invariant k n (sym c.in-Some.ensures.value) w Out i;
+        into = written_lists nodes edges.live c.self.invariant k n (sym c.in-Some.ensures.value) w Into i;
       }) ∙ ap (λ (s : Seen g.row.N.Denot g.row.E.Denot). record s { nodes = with_value s.nodes k w }) c.self.view_is),
-      record { writes_back = tt; value = rw (← c.self.view_is) c.in-Some.ensures.value },
+      record { writes_back = tt; value = rw (← c.self.view_is) (ap (option_map node_value) c.in-Some.ensures.value ∙ sym (get-mapped node_value nodes.live k)) },
     )

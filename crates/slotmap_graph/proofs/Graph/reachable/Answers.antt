@@ -1,10 +1,12 @@
-use Rattle.std.proofs.Common.{◌≡◌, ◌<◌, ◌≤◌, length, get_or, sym, ap, ◌∙◌, arith}
+use Rattle.std.proofs.Common.{◌≡◌, ◌<◌, ◌≤◌, length, get_or, true, sym, ap, ◌∙◌, arith}
 use Rattle.std.proofs.Common.{map as list_map}
 use Rattle.std.proofs.lemmas.List.{get_or-map, length-map}
 use Rattle.slotmap.specs.Words.{IsLive}
 use Rattle.slotmap.proofs.Callers.{beside_empty}
+use Rattle.slotmap_keylist.proofs.Mapped.{content-mapped, live-mapped}
 use Rattle.slotmap_graph.specs.Parts.{edges_at, to}
-use Rattle.slotmap_graph.specs.Search.{ends_of, marked}
+use Rattle.slotmap_graph.specs.Search.{ends_along, marked}
+use Rattle.slotmap_graph.specs.Threads.{node_value}
 use Rattle.slotmap_graph.proofs.GraphSteps.{puts_alone}
 use Rattle.slotmap_graph.proofs.Followed.{order_step, order_end}
 use Rattle.slotmap_graph.proofs.Searches.{are_none, listed_once, searching_start, searching_step, searching_all, searching_found, searching_fits}
@@ -21,12 +23,15 @@ mark-requires-clause-listed g c = are_none c.in_ok-seen.seen.pairs _ c.in_ok-see
 pub loop-at-init : goal.loop-at-init
 loop-at-init g c =
     let from = g.K.Key.data_of c.args.from in
-    let live : IsLive c.args.self.now.nodes from = rw (← c.self.view_is) (sym c.contains_key.ensures.value ∙ c.if-not-contains_key.false) in
+    let live : IsLive c.args.self.now.nodes from = rw (← c.self.view_is) (live-mapped node_value c.self.inside.nodes from (sym c.contains_key.ensures.value ∙ c.if-not-contains_key.false)) in
     record {
       searching = searching_start c.args.self.now.nodes c.args.self.now.edges.live from c.in_ok-seen.seen.pairs c.mark.new.seen.pairs (list_map g.K.Key.data_of c.mark.new.found.items)
           c.in_ok-seen.ensures live c.in_ok-mark.ensures.listed c.in_ok-mark.ensures.there c.mark.ensures.others;
       order = c.in_ok-mark.ensures.marks ∙ ap (λ l. marked (list_map g.K.Key.data_of l) from) c.new-found.ensures.items;
     }
+
+pub mark_neighbours-requires-clause-valid : goal.mark_neighbours-requires-clause-valid
+mark_neighbours-requires-clause-valid g c = rw (← c.self.view_is) (content-mapped node_value c.self.inside.nodes true c.contains_key.ensures.valid)
 
 pub mark_neighbours-requires-clause-listed : goal.mark_neighbours-requires-clause-listed
 mark_neighbours-requires-clause-listed g c = c.loop-at.invariant.searching.listed
@@ -56,7 +61,7 @@ loop-at-preserved g c =
     record {
       searching = searching_step nodes edges from c.loop-at.seen.pairs keys c.loop-at.at c.loop-at.invariant.searching node below is
           c.mark_neighbours.new.seen.pairs _ finds c.in_ok-mark_neighbours.ensures.next;
-      order = order_step (λ k. ends_of to edges (edges_at c.args.self.now.out k)) from keys c.loop-at.at c.loop-at.invariant.order node below is _ finds.behind c.in_ok-mark_neighbours.ensures.order;
+      order = order_step (λ k. ends_along to edges (edges_at c.args.self.now.out k)) from keys c.loop-at.at c.loop-at.invariant.order node below is _ finds.behind c.in_ok-mark_neighbours.ensures.order;
     }
 
 pub returns-clause-once : goal.returns-clause-once
@@ -75,7 +80,7 @@ returns-clause-reachable_is_found g c x live leads =
 
 pub returns-clause-live : goal.returns-clause-live
 returns-clause-live g c x more = (
-  rw (← c.self.view_is) (sym c.contains_key.ensures.value ∙ c.if-not-contains_key.false),
+  rw (← c.self.view_is) (live-mapped node_value c.self.inside.nodes (g.K.Key.data_of c.args.from) (sym c.contains_key.ensures.value ∙ c.if-not-contains_key.false)),
   (searching_found c.args.self.now.nodes c.args.self.now.edges.live (g.K.Key.data_of c.args.from) c.loop-at.seen.pairs _ c.loop-at.at c.loop-at.invariant.searching x more).0,
 )
 
@@ -84,4 +89,4 @@ returns-clause-in_order g c live =
     let keys = list_map g.K.Key.data_of c.loop-at.found.items in
     let long : length keys ≡ length c.loop-at.found.items = length-map c.loop-at.found.items g.K.Key.data_of in
     let past : length keys ≤ c.loop-at.at = omega (arith, c.loop-at.found.ok.0, long) in
-    order_end (λ k. ends_of to c.args.self.now.edges.live (edges_at c.args.self.now.out k)) (g.K.Key.data_of c.args.from) keys c.loop-at.at c.loop-at.invariant.order past
+    order_end (λ k. ends_along to c.args.self.now.edges.live (edges_at c.args.self.now.out k)) (g.K.Key.data_of c.args.from) keys c.loop-at.at c.loop-at.invariant.order past

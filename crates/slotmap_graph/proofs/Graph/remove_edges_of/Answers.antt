@@ -6,7 +6,7 @@ use Rattle.slotmap_graph.proofs.Thinned.{thinned_start, thinned_step, thinned_en
 use Rattle.slotmap_graph.proofs.Graph.remove_edges_of.Goals as goal
 
 pub loop-edge-init : goal.loop-edge-init
-loop-edge-init g c = record { thinned = thinned_start c.inner-node.result c.args.self.now.edges c.args.self.now.edges refl; leaves = leaves_none c.args.self.now.edges; nodes = refl; out = λ k. refl; into = λ k. refl }
+loop-edge-init g c = record { thinned = thinned_start (g.K.Key.data_of c.args.node) c.args.self.now.edges c.args.self.now.edges refl; leaves = leaves_none c.args.self.now.edges; nodes = refl; out = λ k. refl; into = λ k. refl }
 
 pub loop-edge-smaller : goal.loop-edge-smaller
 loop-edge-smaller g c =
@@ -20,7 +20,7 @@ loop-edge-preserved-in-Some g c =
     let now = c.loop-edge.self.edges.live in
     let so_far = c.loop-edge.invariant in
     record {
-      thinned = thinned_step c.inner-node.result c.args.self.now.edges c.loop-edge.self.edges so_far.thinned c.remove_edge.new.self.edges c.in-Some.edge there.0
+      thinned = thinned_step (g.K.Key.data_of c.args.node) c.args.self.now.edges c.loop-edge.self.edges so_far.thinned c.remove_edge.new.self.edges c.in-Some.edge there.0
           there.1 there.2 c.remove_edge.ensures.live spent c.remove_edge.ensures.gone;
       leaves = leaves_in_turn c.args.self.now.edges c.loop-edge.self.edges c.remove_edge.new.self.edges so_far.leaves c.remove_edge.ensures.leaves;
       nodes = c.remove_edge.ensures.nodes ∙ so_far.nodes;
@@ -29,10 +29,10 @@ loop-edge-preserved-in-Some g c =
     }
 
 pub returns-clause-edges : goal.returns-clause-edges
-returns-clause-edges g c = rw (← c.inner-node.ensures) (thinned_end c.inner-node.result c.args.self.now.edges c.loop-edge.self.edges c.loop-edge.invariant.thinned c.in_default.ensures.none)
+returns-clause-edges g c = thinned_end (g.K.Key.data_of c.args.node) c.args.self.now.edges c.loop-edge.self.edges c.loop-edge.invariant.thinned c.in_default.ensures.none
 
 pub returns-clause-for_good : goal.returns-clause-for_good
-returns-clause-for_good g c = rw (← c.inner-node.ensures) (thinned_spent c.inner-node.result c.args.self.now.edges c.loop-edge.self.edges c.loop-edge.invariant.thinned c.in_default.ensures.none)
+returns-clause-for_good g c = thinned_spent (g.K.Key.data_of c.args.node) c.args.self.now.edges c.loop-edge.self.edges c.loop-edge.invariant.thinned c.in_default.ensures.none
 
 pub returns-clause-out : goal.returns-clause-out
 returns-clause-out g c k = thin_end c.loop-edge.self.edges.live (edges_at c.args.self.now.out k) (edges_at c.loop-edge.self.out k) (c.loop-edge.invariant.out k) from k (c.in_default.ensures.out k)

@@ -8,7 +8,7 @@ use Rattle.slotmap_graph.proofs.Graph.remove_edges_of.Given as goal
 
 abbrev pub invariant-loop-edge : goal.invariant-loop-edge
 invariant-loop-edge g l = record {
-  thinned : Thinned l.node l.fn.self.edges l.self.edges;
+  thinned : Thinned (g.K.Key.data_of l.node) l.fn.self.edges l.self.edges;
   leaves : Leaves l.fn.self.edges l.self.edges;
   nodes : l.self.nodes ≡ l.fn.self.nodes;
   out : (k : Key) → filter (map.contains_key l.self.edges.live) (edges_at l.fn.self.out k) ≡ filter (map.contains_key l.self.edges.live) (edges_at l.self.out k);

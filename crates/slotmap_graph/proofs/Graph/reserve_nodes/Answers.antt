@@ -1,15 +1,18 @@
-use Rattle.std.proofs.Common.{refl}
-use Rattle.slotmap_graph.proofs.ByNode.{same_edges}
-use Rattle.slotmap_graph.proofs.GraphSteps.{graph_beside}
+use Rattle.std.proofs.Common.{refl, ap}
+use Rattle.slotmap_keylist.proofs.Mapped.{mapped-room}
+use Rattle.slotmap_graph.specs.Threads.{ends_in, node_value}
+use Rattle.slotmap_graph.proofs.GraphSteps.{graph_beside, seen_along}
+use Rattle.slotmap_graph.specs.declared.links.Direction.TheVariants.{Out, Into}
 use Rattle.slotmap_graph.proofs.Graph.reserve_nodes.Goals as goal
 
 pub invariant_of-self : goal.invariant_of-self
-invariant_of-self g c = graph_beside _ _ _ _ c.self.invariant c.reserve.new.self (λ q live. rw c.reserve.ensures.makes_room.keeps.live live)
+invariant_of-self g c = graph_beside _ _ c.self.invariant c.reserve.new.self (λ q live. rw c.reserve.ensures.makes_room.keeps.live live) (λ d q. ap (λ m. ends_in d m q) c.reserve.ensures.makes_room.keeps.live)
+
+pub returns-clause-makes_room : goal.returns-clause-makes_room
+returns-clause-makes_room g c = rw (← c.self.view_is) (mapped-room node_value _ _ _ _ c.reserve.ensures.makes_room)
 
 pub returns-clause-out : goal.returns-clause-out
-returns-clause-out g c = rw (← c.self.view_is) (same_edges c.self.inside.nodes c.reserve.new.self c.self.inside.out.pairs c.self.inside.out.pairs c.self.invariant.out_beside
-    (graph_beside _ _ _ _ c.self.invariant c.reserve.new.self (λ q live. rw c.reserve.ensures.makes_room.keeps.live live)).out_beside (λ k. refl))
+returns-clause-out g c = rw (← c.self.view_is) (seen_along Out _ _ _ _ (λ q. ap (λ m. ends_in Out m q) c.reserve.ensures.makes_room.keeps.live) (λ q. refl))
 
 pub returns-clause-into : goal.returns-clause-into
-returns-clause-into g c = rw (← c.self.view_is) (same_edges c.self.inside.nodes c.reserve.new.self c.self.inside.into.pairs c.self.inside.into.pairs c.self.invariant.into_beside
-    (graph_beside _ _ _ _ c.self.invariant c.reserve.new.self (λ q live. rw c.reserve.ensures.makes_room.keeps.live live)).into_beside (λ k. refl))
+returns-clause-into g c = rw (← c.self.view_is) (seen_along Into _ _ _ _ (λ q. ap (λ m. ends_in Into m q) c.reserve.ensures.makes_room.keeps.live) (λ q. refl))

@@ -1,12 +1,15 @@
-use Rattle.std.proofs.Common.{true}
-use Rattle.slotmap.proofs.Callers.{spent_insert}
+use Rattle.slotmap_keylist.proofs.Mapped.{mapped-inserts, mapped-grow}
+use Rattle.slotmap_graph.specs.Threads.{seen_edge}
 use Rattle.slotmap_graph.proofs.change.insert_edge.Goals as goal
 
-pub returns-in-Ok-clause-gone : goal.returns-in-Ok-clause-gone
-returns-in-Ok-clause-gone g c = spent_insert _ _ true _ c.insert.ensures.valid _ _ c.insert.ensures.ok
+pub returns-in-Ok-clause-adds : goal.returns-in-Ok-clause-adds
+returns-in-Ok-clause-adds g c = mapped-inserts seen_edge _ _ _ _ c.in-Ok.ensures.ok
 
-pub returns-in-Err-Full-clause-gone : goal.returns-in-Err-Full-clause-gone
-returns-in-Err-Full-clause-gone g c = spent_insert _ _ true _ c.insert.ensures.valid _ _ c.insert.ensures.ok
+pub returns-in-Ok-clause-valid : goal.returns-in-Ok-clause-valid
+returns-in-Ok-clause-valid g c = mapped-grow seen_edge _ _ _ c.in-Ok.ensures.valid
 
-pub returns-in-Err-Memory-clause-gone : goal.returns-in-Err-Memory-clause-gone
-returns-in-Err-Memory-clause-gone g c = spent_insert _ _ true _ c.insert.ensures.valid _ _ c.insert.ensures.ok
+pub returns-in-Err-Full-clause-valid : goal.returns-in-Err-Full-clause-valid
+returns-in-Err-Full-clause-valid g c = mapped-grow seen_edge _ _ _ c.in-Err-Full.ensures.valid
+
+pub returns-in-Err-Memory-clause-valid : goal.returns-in-Err-Memory-clause-valid
+returns-in-Err-Memory-clause-valid g c = mapped-grow seen_edge _ _ _ c.in-Err-Memory.ensures.valid

@@ -1,6 +1,6 @@
 use Rattle.std.specs.FinMap as map
 use Rattle.std.proofs.Common.{◌∷◌, ◌++◌, [], map as list_map, refl, sym, ap, ◌∙◌, append_assoc, append-nil, arith}
-use Rattle.slotmap_core.proofs.Common.{map-append, keys_total, exact_keys, some_entry, len_removed, entries_none}
+use Rattle.slotmap_core.proofs.Common.{map-append, keys_total, exact_keys, some_entry, len_removed, entries_none, common_steps}
 use Rattle.slotmap_hop.proofs.Sweeping.{clearing_starts, clearing_removed, clearing_ends, clearing_blocks}
 use Rattle.slotmap_hop.proofs.HopSlotMap.drain_into.Goals as goal
 
@@ -14,9 +14,7 @@ loop-next-init g c = record {
 }
 
 pub push_reserved-requires : goal.push_reserved-requires
-push_reserved-requires g c =
-    let clearing = rw c.in-Some.is at c.loop-next.invariant.clearing in
-    omega (arith, c.loop-next.invariant.room, some_entry keys_total exact_keys c.loop-next.self.content.live (g.K.Key.data_of c.in-Some.key) clearing.sweep.comes.0)
+push_reserved-requires g c = grind (arith, common_steps, some_entry, keys_total, exact_keys)
 
 pub loop-next-preserved : goal.loop-next-preserved
 loop-next-preserved g c =

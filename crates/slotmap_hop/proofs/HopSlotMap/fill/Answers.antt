@@ -1,5 +1,5 @@
 use Rattle.std.proofs.Common.{◌≡◌, ◌+◌, ap, sym, ◌∙◌, arith}
-use Rattle.slotmap_core.proofs.Common.{key}
+use Rattle.slotmap_core.proofs.Common.{key, common_steps}
 use Rattle.slotmap_hop.specs.Slots.{all_links, next_place}
 use Rattle.slotmap_hop.proofs.SlotLemmas.{valid}
 use Rattle.slotmap_hop.proofs.Growth.{some_offered, sound-pushed, blocks-pushed, inserts-pushed}
@@ -50,9 +50,7 @@ back : (g : _) (c : After-back_of-back g) → c.back_of-back.result ≡ next_pla
 back g c = read_back _ _ _ (ap all_links c.as_slice.ensures.value) (ap all_links c.as_slice-2.ensures.value) c.next_of-front.ensures c.back_of-back.ensures
 
 pub index-requires : goal.index-requires
-index-requires g c =
-    let back = back g (goal.at.index-requires g c).After-back_of-back in
-    omega (arith, back_within c.self.inside c.self.view_is c.self.invariant c.if-self-eq0.false back, c.self.inside.slots.ok.0)
+index-requires g c = grind (arith, common_steps, back_within)
 
 pub exact-requires : goal.exact-requires
 exact-requires g c =

@@ -1,3 +1,4 @@
+use Rattle.slotmap_core.proofs.Common.{arith, common_steps}
 use Rattle.std.proofs.Common.{◌-◌, vec_capacity, sym, subst}
 use Rattle.slotmap_hop.specs.HopContent.{MayStand}
 use Rattle.slotmap_hop.proofs.Sweeping.{look_begins, place_comes}
@@ -9,6 +10,4 @@ find_live-requires g c =
     (look_begins _ _ _ c.self.invariant _ (vec_capacity c.self.inside.slots - 1) (subst (λ m. MayStand m.content c.args.start) (sym c.self.view_is) c.requires))
 
 pub returns-clause-comes : goal.returns-clause-comes
-returns-clause-comes g c =
-    rw (← c.self.view_is)
-    (place_comes c.self.inside.slots.items (vec_capacity c.self.inside.slots - 1) c.args.start _ (rw c.as_slice.ensures.value at c.find_live.ensures.found) (rw c.as_slice.ensures.value at c.find_live.ensures.none))
+returns-clause-comes g c = grind (arith, common_steps, place_comes)

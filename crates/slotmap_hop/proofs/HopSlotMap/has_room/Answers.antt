@@ -1,11 +1,9 @@
-use Rattle.slotmap_core.proofs.Common.{arith, ltb-true}
+use Rattle.slotmap_core.proofs.Common.{arith, ltb-true, common_steps}
 use Rattle.slotmap_hop.proofs.RoomLemmas.{vacant_room, spare_room}
 use Rattle.slotmap_hop.proofs.HopSlotMap.has_room.Goals as goal
 
 pub returns-then-self-gt0-clause-room : goal.returns-then-self-gt0-clause-room
-returns-then-self-gt0-clause-room g c = λ _.
-    let slots = c.self.inside.slots in
-    omega (arith, vacant_room _ _ _ c.self.invariant _ (omega (arith, slots.ok.0, slots.ok.1)) c.self.view_is)
+returns-then-self-gt0-clause-room g c = grind (arith, common_steps, vacant_room)
 
 pub returns-else-self-gt0-clause-room : goal.returns-else-self-gt0-clause-room
 returns-else-self-gt0-clause-room g c = λ less.

@@ -1,5 +1,5 @@
 use Rattle.std.proofs.Common.{◌+◌, ◌-◌, Some, vec_capacity, refl, is_some, sym, ap, subst, ◌∙◌, arith}
-use Rattle.slotmap_core.proofs.Common.{Live, key, get-live_at}
+use Rattle.slotmap_core.proofs.Common.{Live, key, get-live_at, common_steps}
 use Rattle.slotmap_hop.specs.HopContent.{MayStand}
 use Rattle.slotmap_hop.specs.Slots.{version_in}
 use Rattle.slotmap_hop.specs.Iter.{FindsSlot}
@@ -10,9 +10,7 @@ use Rattle.slotmap_hop.proofs.HopSlotMap.live_after.Goals.{After-next_live-place
 use Rattle.slotmap_hop.proofs.HopSlotMap.live_after.Goals as goal
 
 pub new-counted-requires : goal.new-counted-requires
-new-counted-requires g c =
-    let first = rw (← c.self.view_is) at c.requires.first in
-    rw (c.as_slice.ensures.value, c.idx.ensures.value, c.data.ensures.value) (key_within c.self.inside.slots.items _ first.0)
+new-counted-requires g c = grind (arith, common_steps, key_within)
 
 pub next_live-place-requires : goal.next_live-place-requires
 next_live-place-requires g c =

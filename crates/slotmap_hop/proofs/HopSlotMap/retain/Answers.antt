@@ -1,4 +1,4 @@
-use Rattle.slotmap_core.proofs.Common.{Some, ◌∙◌, same_live, CallsAt-called}
+use Rattle.slotmap_core.proofs.Common.{Some, same_live, CallsAt-called, common_steps, arith}
 use Rattle.slotmap_hop.proofs.Retaining.{Retaining, RetainingAt, retaining_starts_at, retaining_may_come, retaining_kept_at, retaining_dropped_at, retaining_ends}
 use Rattle.slotmap_hop.proofs.HopSlotMap.retain.Goals.{In-Some, After-key_at-key}
 use Rattle.slotmap_hop.proofs.HopSlotMap.retain.Goals as goal
@@ -16,14 +16,10 @@ so_far : (g : _) (c : After-key_at-key g) → Retaining g.F.FnMut g.K.Key.data_o
 so_far g c = (at_place g (goal.at.After-key_at-key g c).In-Some).1 c.key_at-key.result c.key_at-key.ensures.live c.key_at-key.ensures.index
 
 pub f-stays-requires : goal.f-stays-requires
-f-stays-requires g c =
-    let comes = retaining_may_come _ _ _ _ _ _ _ (so_far g (goal.at.f-stays-requires g c).After-key_at-key) in
-    c.requires.at c.loop-next.f c.key_at-key.result _ comes.0 (comes.1 ∙ c.get_unchecked_mut.ensures.value)
+f-stays-requires g c = grind (arith, common_steps, retaining_may_come)
 
 pub take_live-requires : goal.take_live-requires
-take_live-requires g c =
-    let key = g.K.Key.data_of c.key_at-key.result in
-    same_live c.loop-next.self.content key c.f-stays.new.arg3 c.key_at-key.ensures.live key ∙ c.key_at-key.ensures.live
+take_live-requires g c = grind (arith, common_steps, same_live)
 
 pub loop-next-preserved-then-not-stays : goal.loop-next-preserved-then-not-stays
 loop-next-preserved-then-not-stays g c =

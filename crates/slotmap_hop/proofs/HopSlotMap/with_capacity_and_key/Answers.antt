@@ -1,4 +1,4 @@
-use Rattle.slotmap_core.proofs.Common.{arith, refl, sentinel_alone, used_places-sentinel}
+use Rattle.slotmap_core.proofs.Common.{arith, refl, sentinel_alone, used_places-sentinel, common_steps}
 use Rattle.slotmap_hop.proofs.Empty.{IsSound-new}
 use Rattle.slotmap_hop.proofs.SlotLemmas.{valid}
 use Rattle.slotmap_hop.proofs.HopSlotMap.with_capacity_and_key.Goals as goal
@@ -15,9 +15,7 @@ pub returns-clause-blocks : goal.returns-clause-blocks
 returns-clause-blocks g c = rw (c.push_reserved.ensures.items, c.in_ok-slots.ensures.items, c.sentinel.ensures) (refl, refl)
 
 pub returns-clause-room : goal.returns-clause-room
-returns-clause-room g c =
-    rw (c.push_reserved.ensures.items, c.in_ok-slots.ensures.items, c.sentinel.ensures)
-    (omega (arith, used_places-sentinel g.row.V.Denot, c.push_reserved.ensures.capacity, c.in_ok-slots.ensures.capacity, c.if-capacity-gt-MOST_KEYS.false))
+returns-clause-room g c = grind (arith, common_steps, used_places-sentinel)
 
 pub returns-clause-valid : goal.returns-clause-valid
 returns-clause-valid g c = let made = c.push_reserved.new.self in valid _ _ _ (invariant_of-result g c) _ (omega (arith, made.ok.0, made.ok.1))

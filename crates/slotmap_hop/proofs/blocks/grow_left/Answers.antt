@@ -2,33 +2,21 @@ use Rattle.std.proofs.Common.{◌≡◌, ◌+◌}
 use Rattle.slotmap_hop.specs.Links.{prev_at}
 use Rattle.slotmap_hop.specs.Slots.{all_links}
 use Rattle.slotmap_hop.proofs.Writes.{flags_kept}
-use Rattle.slotmap_hop.proofs.Joining.{right_head, back_tails, back_ready, prev_is, before_leads, after_head, joins_before}
+use Rattle.slotmap_hop.proofs.Joining.{back_ready, prev_is, after_head, joins_before}
 use Rattle.slotmap_hop.proofs.blocks.grow_left.Goals as goal
 use Rattle.slotmap_hop.proofs.blocks.grow_left.Goals.{After-prev_of-prev}
 
 prev : (g : _) (c : After-prev_of-prev g) → c.prev_of-prev.result ≡ prev_at (all_links c.args.slots.now) (c.args.place + 1)
 prev g c = prev_is c.requires.can c.requires.right c.back_of-back.ensures c.prev_of-prev.ensures
 
-pub next_of-next-requires : goal.next_of-next-requires
-next_of-next-requires g c = (right_head c.requires.can c.requires.right).leads
-
-pub back_of-back-requires : goal.back_of-back-requires
-back_of-back-requires g c = (right_head c.requires.can c.requires.right).leads
-
-pub prev_of-prev-requires : goal.prev_of-prev-requires
-prev_of-prev-requires g c = back_tails c.requires.can c.requires.right c.back_of-back.ensures
-
-pub lead_to-requires-clause-before : goal.lead_to-requires-clause-before
-lead_to-requires-clause-before g c = rw (prev g (goal.at.lead_to-requires-clause-before g c).After-prev_of-prev) (before_leads c.requires.can c.requires.right)
-
-pub lead_to-requires-clause-after : goal.lead_to-requires-clause-after
-lead_to-requires-clause-after g c = rw c.next_of-next.ensures (after_head c.requires.can c.requires.right)
+pub relink-requires-clause-after : goal.relink-requires-clause-after
+relink-requires-clause-after g c = rw c.next_of-next.ensures (after_head c.requires.can c.requires.right)
 
 pub name_front-requires : goal.name_front-requires
-name_front-requires g c = rw (flags_kept c.lead_to.ensures.ends) (back_ready c.requires.can c.requires.right c.back_of-back.ensures)
+name_front-requires g c = rw (flags_kept c.relink.ensures.ends) (back_ready c.requires.can c.requires.right c.back_of-back.ensures)
 
 pub returns-clause-blocks : goal.returns-clause-blocks
 returns-clause-blocks g c =
     rw c.name_front.ensures.links
-    (joins_before c.requires.can c.requires.right (all_links c.lead_to.new.slots) c.requires.left c.next_of-next.ensures c.back_of-back.ensures
-    (prev g (goal.at.returns-clause-blocks g c).After-prev_of-prev) c.lead_to.ensures.links c.lead_to.ensures.ends)
+    (joins_before c.requires.can c.requires.right (all_links c.relink.new.slots) c.requires.left c.next_of-next.ensures c.back_of-back.ensures
+    (prev g (goal.at.returns-clause-blocks g c).After-prev_of-prev) c.relink.ensures.links c.relink.ensures.ends)

@@ -1,15 +1,6 @@
 use Rattle.slotmap_core.proofs.Common.{refl}
-use Rattle.slotmap_hop.proofs.Joining.{left_tails, front_leads, joins_after}
+use Rattle.slotmap_hop.proofs.Joining.{joins_after}
 use Rattle.slotmap_hop.proofs.blocks.grow_right.Goals as goal
-
-pub front_of-front-requires : goal.front_of-front-requires
-front_of-front-requires g c = left_tails c.requires.can c.requires.left
-
-pub prev_of-prev-requires : goal.prev_of-prev-requires
-prev_of-prev-requires g c = left_tails c.requires.can c.requires.left
-
-pub name_back-requires : goal.name_back-requires
-name_back-requires g c = front_leads c.requires.can c.requires.left c.front_of-front.ensures
 
 pub returns-clause-blocks : goal.returns-clause-blocks
 returns-clause-blocks g c = rw c.name_back.ensures.links (joins_after c.requires.can c.requires.left c.requires.right c.front_of-front.ensures c.prev_of-prev.ensures refl)

@@ -2,7 +2,7 @@ use Rattle.std.proofs.Common.{◌≡◌, ◌+◌, ◌-◌, true, refl, ◌∙◌
 use Rattle.slotmap_hop.specs.Links.{vacant_at, prev_at, end_at}
 use Rattle.slotmap_hop.specs.Slots.{all_links}
 use Rattle.slotmap_hop.proofs.Writes.{ends_kept, flags_kept, leads_kept, tails_kept, vacancy_kept}
-use Rattle.slotmap_hop.proofs.Joining.{left_tails, front_leads, front_ready, right_head, back_tails, back_ready, prev_is, before_leads, after_head, joins_between}
+use Rattle.slotmap_hop.proofs.Joining.{left_tails, front_leads, front_ready, back_ready, prev_is, after_head, joins_between}
 use Rattle.slotmap_hop.proofs.blocks.merge.Goals as goal
 use Rattle.slotmap_hop.proofs.blocks.merge.Goals.{After-prev_of-before, After-front_of-front}
 
@@ -10,44 +10,32 @@ before : (g : _) (c : After-prev_of-before g) → c.prev_of-before.result ≡ pr
 before g c = prev_is c.requires.can c.requires.right c.back_of-back.ensures c.prev_of-before.ensures
 
 front : (g : _) (c : After-front_of-front g) → c.front_of-front.result ≡ end_at (all_links c.args.slots.now) (c.args.place - 1)
-front g c = c.front_of-front.ensures ∙ ends_kept c.join_blocks.ensures.ends (c.args.place - 1)
+front g c = c.front_of-front.ensures ∙ ends_kept c.relink.ensures.ends (c.args.place - 1)
 
-front_there : (g : _) (c : After-front_of-front g) → vacant_at (all_links c.join_blocks.new.slots) c.front_of-front.result ≡ true
-front_there g c = rw (flags_kept c.join_blocks.ensures.ends) (front_ready c.requires.can c.requires.left (front g c))
+front_there : (g : _) (c : After-front_of-front g) → vacant_at (all_links c.relink.new.slots) c.front_of-front.result ≡ true
+front_there g c = rw (flags_kept c.relink.ensures.ends) (front_ready c.requires.can c.requires.left (front g c))
 
-pub next_of-after-requires : goal.next_of-after-requires
-next_of-after-requires g c = (right_head c.requires.can c.requires.right).leads
-
-pub back_of-back-requires : goal.back_of-back-requires
-back_of-back-requires g c = (right_head c.requires.can c.requires.right).leads
-
-pub prev_of-before-requires : goal.prev_of-before-requires
-prev_of-before-requires g c = back_tails c.requires.can c.requires.right c.back_of-back.ensures
-
-pub join_blocks-requires-clause-before : goal.join_blocks-requires-clause-before
-join_blocks-requires-clause-before g c = rw (before g (goal.at.join_blocks-requires-clause-before g c).After-prev_of-before) (before_leads c.requires.can c.requires.right)
-
-pub join_blocks-requires-clause-after : goal.join_blocks-requires-clause-after
-join_blocks-requires-clause-after g c = rw c.next_of-after.ensures (after_head c.requires.can c.requires.right)
+pub relink-requires-clause-after : goal.relink-requires-clause-after
+relink-requires-clause-after g c = rw c.next_of-after.ensures (after_head c.requires.can c.requires.right)
 
 pub front_of-front-requires : goal.front_of-front-requires
-front_of-front-requires g c = rw (tails_kept c.join_blocks.ensures.ends (c.args.place - 1)) (left_tails c.requires.can c.requires.left)
+front_of-front-requires g c = rw (tails_kept c.relink.ensures.ends (c.args.place - 1)) (left_tails c.requires.can c.requires.left)
 
 pub prev_of-prev-requires : goal.prev_of-prev-requires
-prev_of-prev-requires g c = rw (tails_kept c.join_blocks.ensures.ends (c.args.place - 1)) (left_tails c.requires.can c.requires.left)
+prev_of-prev-requires g c = rw (tails_kept c.relink.ensures.ends (c.args.place - 1)) (left_tails c.requires.can c.requires.left)
 
 pub name_back-requires : goal.name_back-requires
 name_back-requires g c =
-    leads_kept c.join_blocks.ensures.ends c.front_of-front.result ∙ front_leads c.requires.can c.requires.left (front g (goal.at.name_back-requires g c).After-front_of-front)
+    leads_kept c.relink.ensures.ends c.front_of-front.result ∙ rw (front g (goal.at.name_back-requires g c).After-front_of-front) (front_leads c.requires.can c.requires.left)
 
 pub name_front-requires : goal.name_front-requires
 name_front-requires g c =
     let there = front_there g (goal.at.name_front-requires g c).After-front_of-front in
-    rw (c.name_back.ensures.links, vacancy_kept _ c.front_of-front.result _ there, flags_kept c.join_blocks.ensures.ends) (back_ready c.requires.can c.requires.right c.back_of-back.ensures)
+    rw (c.name_back.ensures.links, vacancy_kept _ c.front_of-front.result _ there, flags_kept c.relink.ensures.ends) (back_ready c.requires.can c.requires.right c.back_of-back.ensures)
 
 pub returns-clause-blocks : goal.returns-clause-blocks
 returns-clause-blocks g c =
     rw (c.name_front.ensures.links, c.name_back.ensures.links)
-    (joins_between c.requires.can c.requires.right (all_links c.join_blocks.new.slots) c.requires.left c.next_of-after.ensures c.back_of-back.ensures
-    (before g (goal.at.returns-clause-blocks g c).After-prev_of-before) c.join_blocks.ensures.links c.join_blocks.ensures.ends
+    (joins_between c.requires.can c.requires.right (all_links c.relink.new.slots) c.requires.left c.next_of-after.ensures c.back_of-back.ensures
+    (before g (goal.at.returns-clause-blocks g c).After-prev_of-before) c.relink.ensures.links c.relink.ensures.ends
     c.front_of-front.ensures c.prev_of-prev.ensures refl)

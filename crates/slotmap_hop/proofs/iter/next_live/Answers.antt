@@ -1,75 +1,63 @@
-use Rattle.std.proofs.Common.{◌≡◌}
-use Rattle.slotmap_core.proofs.Common.{refl, sym, ◌∙◌}
-use Rattle.slotmap_hop.proofs.HoppingLemmas.{way_begins, way_can, way_room, way_inside, way_on, way_finds, none_here}
-use Rattle.slotmap_hop.specs.Iter.{OnTheWay}
-use Rattle.slotmap_hop.proofs.iter.next_live.Goals.{After-hop, After-hop-2}
+use Rattle.slotmap_core.proofs.Common.{refl, sym, ◌∙◌, common_steps, arith}
+use Rattle.slotmap_hop.proofs.HoppingLemmas.{IsAt, way_begins, may_read, finds_here, may_leave, left_here, none_here}
+use Rattle.slotmap_hop.proofs.iter.next_live.Goals.{Start, After-hop}
 use Rattle.slotmap_hop.proofs.iter.next_live.Goals as goal
 
+first : (g : _) (c : Start g) → IsAt c.args.counted.now.slots c.args.counted.now.reads c.args.counted.now.place c.args.counted.now
+first g c = record { kept = refl; way = way_begins _ _ _ c.requires.can }
+
+second : (g : _) (c : After-hop g) → IsAt c.args.counted.now.slots c.args.counted.now.reads c.args.counted.now.place c.hop.new.self
+second g c = (left_here _ _ _ (first g (goal.at.After-hop g c).Start) c.read-first.ensures (none_here _ (sym c.is_live.ensures ∙ c.if-is_live.false)) c.hop.ensures).0
+
 pub read-first-requires : goal.read-first-requires
-read-first-requires g c =
-    let way = way_begins _ _ _ c.requires.can in
-    let inside = way_inside _ _ _ way c.requires.some in
-    record { inside = inside; room = way_room _ _ _ way inside }
+read-first-requires g c = grind (arith, common_steps, may_read)
 
 pub returns-then-is_live : goal.returns-then-is_live
 returns-then-is_live g c =
-    let read = c.read-first.ensures in
-    let finds = way_finds _ _ _ (way_begins _ _ _ c.requires.can) read.value (sym c.is_live.ensures ∙ c.if-is_live.true) in
-    rw c.place.ensures (record { found = rw read.place finds.0; slots = read.slots; place = refl; reads = rw (read.place, read.reads) finds.1 })
+    let finds = finds_here _ _ _ (first g (goal.at.returns-then-is_live g c).Start) c.read-first.ensures (sym c.is_live.ensures ∙ c.if-is_live.true) in
+    rw c.place.ensures (record { found = finds.0; slots = finds.1; place = refl; reads = finds.2 })
 
 pub hop-requires : goal.hop-requires
 hop-requires g c =
-    let read = c.read-first.ensures in
     let none = none_here _ (sym c.is_live.ensures ∙ c.if-is_live.false) in
-    record { not_live = none; inside = rw (read.place, read.slots) (way_on _ _ _ (way_begins _ _ _ c.requires.can) read.value none).within }
-
--- after the first slot
-hopped : (g : _) (c : After-hop g) → OnTheWay c.args.counted.now.slots c.args.counted.now.reads c.args.counted.now.place c.hop.new.self.reads c.hop.new.self.place
-hopped g c =
-    let read = c.read-first.ensures in
-    rw (c.hop.ensures.place, c.hop.ensures.reads, read.place, read.reads)
-    (way_on _ _ _ (way_begins _ _ _ c.requires.can) read.value (none_here _ (sym c.is_live.ensures ∙ c.if-is_live.false))).on
+    record { not_live = none; inside = may_leave _ _ _ (first g (goal.at.hop-requires g c).Start) c.read-first.ensures none }
 
 pub read-second-requires : goal.read-second-requires
 read-second-requires g c =
-    let way = hopped g (goal.at.read-second-requires g c).After-hop in
-    let inside = way_inside _ _ _ way c.requires.some in
-    record { inside = rw (c.hop.ensures.slots, c.read-first.ensures.slots) inside; room = way_room _ _ _ way inside }
+    let may = may_read _ _ _ (second g (goal.at.read-second-requires g c).After-hop) c.requires.some in
+    record { inside = may.0; room = may.1 }
 
 pub returns-then-is_live-2 : goal.returns-then-is_live-2
 returns-then-is_live-2 g c =
-    let read = c.read-second.ensures in
-    let kept = c.hop.ensures.slots ∙ c.read-first.ensures.slots in
-    let finds = way_finds _ _ _ (hopped g (goal.at.returns-then-is_live-2 g c).After-hop) (rw kept at read.value) (sym c.is_live-2.ensures ∙ c.if-is_live-2.true) in
-    rw c.place-then-is_live-2.ensures (record { found = rw read.place finds.0; slots = read.slots ∙ kept; place = refl; reads = rw (read.place, read.reads) finds.1 })
+    let finds = finds_here _ _ _ (second g (goal.at.returns-then-is_live-2 g c).After-hop) c.read-second.ensures (sym c.is_live-2.ensures ∙ c.if-is_live-2.true) in
+    rw c.place-then-is_live-2.ensures (record { found = finds.0; slots = finds.1; place = refl; reads = finds.2 })
 
 pub hop-requires-2 : goal.hop-requires-2
 hop-requires-2 g c =
-    let read = c.read-second.ensures in
-    let kept = c.hop.ensures.slots ∙ c.read-first.ensures.slots in
     let none = none_here _ (sym c.is_live-2.ensures ∙ c.if-is_live-2.false) in
-    record { not_live = none; inside = rw (read.place, read.slots, kept) (way_on _ _ _ (hopped g (goal.at.hop-requires-2 g c).After-hop) (rw kept at read.value) none).within }
+    record { not_live = none; inside = may_leave _ _ _ (second g (goal.at.hop-requires-2 g c).After-hop) c.read-second.ensures none }
 
--- and after the second one
-hopped_twice : (g : _) (c : After-hop-2 g) → (c.hop-2.new.self.slots ≡ c.args.counted.now.slots)
-    × OnTheWay c.args.counted.now.slots c.args.counted.now.reads c.args.counted.now.place c.hop-2.new.self.reads c.hop-2.new.self.place
-hopped_twice g c =
-    let read = c.read-second.ensures in
-    let kept = c.hop.ensures.slots ∙ c.read-first.ensures.slots in
-    let on = way_on _ _ _ (hopped g (goal.at.After-hop-2 g c).After-hop) (rw kept at read.value) (none_here _ (sym c.is_live-2.ensures ∙ c.if-is_live-2.false)) in
-    (c.hop-2.ensures.slots ∙ read.slots ∙ kept, rw (c.hop-2.ensures.place, c.hop-2.ensures.reads, read.place, read.reads) on.on)
+pub loop-counted-init : goal.loop-counted-init
+loop-counted-init g c =
+    (left_here _ _ _ (second g (goal.at.loop-counted-init g c).After-hop) c.read-second.ensures (none_here _ (sym c.is_live-2.ensures ∙ c.if-is_live-2.false)) c.hop-2.ensures).0
 
-pub find_farther-slot-requires : goal.find_farther-slot-requires
-find_farther-slot-requires g c =
-    let twice = hopped_twice g (goal.at.find_farther-slot-requires g c).After-hop-2 in
-    rw twice.0 (record { can = way_can _ _ _ twice.1; some = rw (← twice.1.same) c.requires.some })
+pub read-slot-requires : goal.read-slot-requires
+read-slot-requires g c = grind (arith, common_steps, may_read)
 
-pub returns-clause-found : goal.returns-clause-found
-returns-clause-found g c =
-    let twice = hopped_twice g (goal.at.returns-clause-found g c).After-hop-2 in
-    rw c.place-2.ensures (rw twice.0 at c.find_farther-slot.ensures.found _ _ twice.1).0
+pub returns-then-is_live-3 : goal.returns-then-is_live-3
+returns-then-is_live-3 g c =
+    let finds = finds_here _ _ _ c.loop-counted.invariant c.read-slot.ensures (sym c.is_live-in-loop-counted.ensures ∙ c.if-is_live-3.true) in
+    rw c.place-then-is_live-3.ensures (record { found = finds.0; slots = finds.1; place = refl; reads = finds.2 })
 
-pub returns-clause-reads : goal.returns-clause-reads
-returns-clause-reads g c =
-    let twice = hopped_twice g (goal.at.returns-clause-reads g c).After-hop-2 in
-    rw c.place-2.ensures (rw twice.0 at c.find_farther-slot.ensures.found _ _ twice.1).1
+pub hop-requires-in-loop-counted : goal.hop-requires-in-loop-counted
+hop-requires-in-loop-counted g c =
+    let none = none_here _ (sym c.is_live-in-loop-counted.ensures ∙ c.if-is_live-3.false) in
+    record { not_live = none; inside = may_leave _ _ _ c.loop-counted.invariant c.read-slot.ensures none }
+
+pub loop-counted-smaller : goal.loop-counted-smaller
+loop-counted-smaller g c =
+    (left_here _ _ _ c.loop-counted.invariant c.read-slot.ensures (none_here _ (sym c.is_live-in-loop-counted.ensures ∙ c.if-is_live-3.false)) c.hop-in-loop-counted.ensures).1
+
+pub loop-counted-preserved : goal.loop-counted-preserved
+loop-counted-preserved g c =
+    (left_here _ _ _ c.loop-counted.invariant c.read-slot.ensures (none_here _ (sym c.is_live-in-loop-counted.ensures ∙ c.if-is_live-3.false)) c.hop-in-loop-counted.ensures).0

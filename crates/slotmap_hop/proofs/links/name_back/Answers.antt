@@ -1,4 +1,4 @@
-use Rattle.slotmap_core.proofs.Common.{refl, set-get_or}
+use Rattle.slotmap_core.proofs.Common.{refl, set-get_or, common_steps, arith}
 use Rattle.slotmap_hop.specs.Slots.{all_links}
 use Rattle.slotmap_hop.proofs.Writes.{leads_vacant}
 use Rattle.slotmap_hop.proofs.SlotReads.{leads_within, back_named, places_kept}
@@ -15,6 +15,4 @@ pub returns-in-Front-clause-places : goal.returns-in-Front-clause-places
 returns-in-Front-clause-places g c = places_kept c.args.slots.now c.args.front c.index-slots-front.result _ _ c.in-Front.is refl
 
 pub returns-in_default-clause-links : goal.returns-in_default-clause-links
-returns-in_default-clause-links g c =
-    let links = rw c.next_of-next.ensures at c.set_links.ensures.links in
-    rw (set-get_or c.args.slots.now c.args.front c.index-slots-front.result) at links
+returns-in_default-clause-links g c = grind (arith, common_steps, set-get_or)

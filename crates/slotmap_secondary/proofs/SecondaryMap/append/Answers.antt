@@ -1,3 +1,4 @@
+use Rattle.slotmap_core.proofs.Common.{common_steps}
 use Rattle.std.proofs.Common.{◌≡◌, length, sym, ap, ◌∙◌, arith}
 use Rattle.slotmap_secondary.proofs.SlotLemmas.{count, valid}
 use Rattle.slotmap_secondary.proofs.PutAfterLastLemmas.{IsSound-append, content-append}
@@ -7,12 +8,7 @@ pub overflow_add-self : goal.overflow_add-self
 overflow_add-self g c = omega (arith, count c.self.inside.slots.items, c.self.invariant.counted, c.self.invariant.fits)
 
 pub invariant_of-self : goal.invariant_of-self
-invariant_of-self g c =
-    let slots = c.self.inside.slots.items in
-    let at : c.data.result.index ≡ length slots = ap (λ k. k.index) c.data.ensures.value ∙ c.requires.next ∙ sym (ap (λ m. m.places) c.self.view_is) in
-    rw (c.push_reserved.ensures.items, c.version-version.ensures.value)
-    (IsSound-append slots _ c.self.invariant _ c.args.value at c.data.ensures.valid
-    (omega (arith, ap (λ k. k.index) c.data.ensures.value, c.requires.below)))
+invariant_of-self g c = grind (arith, common_steps, IsSound-append)
 
 pub returns-clause-appends : goal.returns-clause-appends
 returns-clause-appends g c =

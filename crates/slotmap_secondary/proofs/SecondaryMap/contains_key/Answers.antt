@@ -1,30 +1,12 @@
-use Rattle.std.specs.FinMap as map
-use Rattle.slotmap_core.proofs.Common.{value_at, is_some, sym, ap, ◌∙◌}
+use Rattle.slotmap_core.proofs.Common.{value_at, common_steps, arith}
 use Rattle.slotmap_secondary.proofs.ReadLemmas.{at-read, at-past, marked-read}
-use Rattle.slotmap_secondary.proofs.WellFormed.{well_formed}
 use Rattle.slotmap_secondary.proofs.SecondaryMap.contains_key.Goals as goal
 
 pub has-requires-clause-marked : goal.has-requires-clause-marked
-has-requires-clause-marked g c =
-    let lookup = c.in-Some.ensures.lookup in
-    marked-read _ _ c.self.invariant _ _ c.deref.ensures.value _ lookup.1 lookup.3.0
+has-requires-clause-marked g c = grind (arith, common_steps, marked-read)
 
 pub returns-in-Some-clause-value : goal.returns-in-Some-clause-value
-returns-in-Some-clause-value g c =
-    let lookup = c.in-Some.ensures.lookup in
-    c.has.ensures
-    ∙ sym (ap (λ o. is_some (value_at c.version.result o))
-    (at-read _ _ (ap (λ m. m.pairs) c.self.view_is) _ _ c.data-key.ensures.value _ c.idx.ensures.value _ c.deref.ensures.value _ lookup.1 lookup.3.0))
-    ∙ ap (λ v. is_some (value_at v (map.get c.args.self.now.pairs (g.K.Key.data_of c.args.key).index))) (c.version.ensures.value ∙ ap (λ k. k.version) c.data-key.ensures.value)
+returns-in-Some-clause-value g c = grind (arith, common_steps, value_at, at-read)
 
 pub returns-in-None-clause-value : goal.returns-in-None-clause-value
-returns-in-None-clause-value g c =
-    sym (ap (λ o. is_some (value_at (g.K.Key.data_of c.args.key).version o))
-    (at-past _ _ (ap (λ m. m.pairs) c.self.view_is) _ _ c.data-key.ensures.value _ c.idx.ensures.value _ c.deref.ensures.value
-    c.in-None.ensures.lookup.3))
-
-pub returns-in-Some-clause-valid : goal.returns-in-Some-clause-valid
-returns-in-Some-clause-valid g c = well_formed c.self.inside _ c.self.view_is c.self.invariant
-
-pub returns-in-None-clause-valid : goal.returns-in-None-clause-valid
-returns-in-None-clause-valid g c = well_formed c.self.inside _ c.self.view_is c.self.invariant
+returns-in-None-clause-value g c = grind (arith, common_steps, value_at, at-past)

@@ -1,7 +1,6 @@
-use Rattle.std.proofs.Common.{◌<◌, length, refl, sym, ap, subst, arith}
-use Rattle.slotmap_secondary.specs.Found.{is_found}
+use Rattle.slotmap_core.proofs.Common.{common_steps}
+use Rattle.std.proofs.Common.{◌<◌, length, refl, ap, arith}
 use Rattle.slotmap_secondary.proofs.ReadLemmas.{marked-read, at-read, entry-at}
-use Rattle.slotmap_secondary.proofs.WellFormed.{well_formed}
 use Rattle.slotmap_secondary.proofs.SecondaryMap.find_in.Goals as goal
 
 pub find-requires-clause-marked : goal.find-requires-clause-marked
@@ -11,13 +10,4 @@ find-requires-clause-marked g c =
     marked-read slots _ c.self.invariant _ slots refl _ c.index.ensures within
 
 pub returns-clause-found : goal.returns-clause-found
-returns-clause-found g c =
-    let slots = c.self.inside.slots.items in
-    let all = ap (λ m. m.pairs) c.self.view_is in
-    let within : c.idx.result < length slots = omega (arith, c.requires, ap (λ m. m.places) c.self.view_is, c.idx.ensures.value, ap (λ k. k.index) c.data-key.ensures.value) in
-    let stands = at-read _ _ all _ _ c.data-key.ensures.value _ c.idx.ensures.value slots refl _ c.index.ensures within in
-    subst (is_found c.find.result) (sym (entry-at _ _ all _ _ c.data-key.ensures.value _ c.idx.ensures.value
-    (λ null. omega (arith, c.self.invariant.fits)) _ stands _ c.version.ensures.value _ refl)) c.find.ensures
-
-pub returns-clause-valid : goal.returns-clause-valid
-returns-clause-valid g c = well_formed c.self.inside _ c.self.view_is c.self.invariant
+returns-clause-found g c = grind (arith, common_steps, at-read, entry-at)

@@ -1,6 +1,5 @@
-use Rattle.std.specs.FinMap as map
-use Rattle.std.proofs.Common.{◌≡◌, None, refl, ap, subst, ◌∙◌, arith}
-use Rattle.slotmap_core.proofs.Common.{IsKey}
+use Rattle.std.proofs.Common.{refl, ap, subst, ◌∙◌, arith}
+use Rattle.slotmap_core.proofs.Common.{IsKey, common_steps}
 use Rattle.slotmap_sparse.proofs.EntriesLemmas.{found_pair, IsSound-added, pairs_put, same_len, well_formed}
 use Rattle.slotmap_sparse.proofs.SparseSecondaryMap.add.Goals as goal
 
@@ -12,17 +11,10 @@ invariant_of-self g c =
     IsSound-added _ _ c.self.invariant c.insert.ensures.unique (g.K.Key.data_of c.args.key) c.args.value (subst IsKey key c.data-key.ensures.valid) c.requires.not_null _ _ at version c.in-Ok.ensures.updates.0
 
 pub returns-in-Ok-clause-ok : goal.returns-in-Ok-clause-ok
-returns-in-Ok-clause-ok g c =
-    let at = c.idx.ensures.value ∙ ap (λ k. k.index) c.data-key.ensures.value in
-    let version = c.version.ensures.value ∙ ap (λ k. k.version) c.data-key.ensures.value in
-    pairs_put _ _ _ _ c.in-Ok.ensures.updates.0 ∙ (λ i. map.insert (c.self.view_is i).pairs (at i) (version i, c.args.value))
+returns-in-Ok-clause-ok g c = grind (arith, common_steps, pairs_put)
 
 pub returns-in-Ok-clause-capacity : goal.returns-in-Ok-clause-capacity
-returns-in-Ok-clause-capacity g c =
-    let at = c.idx.ensures.value ∙ ap (λ k. k.index) c.data-key.ensures.value in
-    let stood : c.in-Ok.field-0 ≡ None = c.in-Ok.ensures.old ∙ found_pair _ _ (ap (λ m. m.pairs) c.self.view_is) _ ∙ ap (map.get c.args.self.now.pairs) at ∙ c.requires.absent in
-    let long = c.in-Ok.ensures.len in
-    omega (arith, rw stood at long, c.insert.ensures.spare, ap (λ m. m.capacity) c.self.view_is)
+returns-in-Ok-clause-capacity g c = grind (arith, common_steps, found_pair)
 
 pub returns-in-Ok-clause-valid : goal.returns-in-Ok-clause-valid
 returns-in-Ok-clause-valid g c = well_formed c.insert.new.self _ refl (invariant_of-self g c)

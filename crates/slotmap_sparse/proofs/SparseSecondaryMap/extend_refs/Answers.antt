@@ -1,11 +1,8 @@
-use Rattle.slotmap_core.proofs.Common.{rules, AllPut-push_shown, ExtendsBy-stopped}
+use Rattle.slotmap_core.proofs.Common.{AllPut-push_shown, ExtendsBy-stopped, common_steps, arith}
 use Rattle.slotmap_sparse.proofs.SparseSecondaryMap.extend_refs.Goals as goal
 
 pub loop-key-preserved : goal.loop-key-preserved
-loop-key-preserved g c =
-    let at = c.loop-key in
-    let more = AllPut-push_shown g.K.Key.data_of c.args.self.now.pairs at.yielded at.self.pairs c.in-Some.key c.in-Some.value c.insert.new.self.pairs at.invariant.2.put c.in_default.ensures.ok in
-    search rules
+loop-key-preserved g c = grind (arith, common_steps, AllPut-push_shown)
 
 pub returns-in-Err-clause-extends : goal.returns-in-Err-clause-extends
 returns-in-Err-clause-extends g c =

@@ -1,13 +1,10 @@
 use Rattle.std.specs.FinMap as map
-use Rattle.slotmap_core.proofs.Common.{option_copied_mut, refl, sym, ap, ◌∙◌, index_stands, get_stands}
+use Rattle.slotmap_core.proofs.Common.{option_copied_mut, refl, sym, ap, ◌∙◌, index_stands, get_stands, common_steps, arith}
 use Rattle.slotmap_sparse.proofs.EntriesLemmas.{some_lent, well_formed, found_pair, IsSound-through, content-through}
 use Rattle.slotmap_sparse.proofs.SparseSecondaryMap.get_unchecked_mut.Goals as goal
 
 pub unwrap-requires : goal.unwrap-requires
-unwrap-requires g c =
-    let at = c.idx-index.ensures.value ∙ ap (λ k. k.index) c.data.ensures.value in
-    let found = found_pair _ _ (ap (λ x. x.pairs) c.self.view_is) _ ∙ ap (map.get c.args.self.now.pairs) at in
-    some_lent _ _ (c.get_mut.ensures.value ∙ found) (index_stands _ _ c.requires)
+unwrap-requires g c = grind (arith, common_steps, found_pair, some_lent, index_stands)
 
 pub invariant_of-self-lent : goal.invariant_of-self-lent
 invariant_of-self-lent g c w =

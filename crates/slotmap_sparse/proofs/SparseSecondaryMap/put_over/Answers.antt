@@ -1,5 +1,5 @@
 use Rattle.std.specs.FinMap as map
-use Rattle.slotmap_core.proofs.Common.{WritesThrough, option_copied_mut, IsKey, value_at, nat_eq, refl, sym, ap, subst, ◌∙◌}
+use Rattle.slotmap_core.proofs.Common.{WritesThrough, option_copied_mut, IsKey, value_at, nat_eq, refl, sym, ap, subst, ◌∙◌, common_steps, arith}
 use Rattle.slotmap_sparse.specs.Content.{IsContent}
 use Rattle.slotmap_sparse.specs.Entries.{content_of}
 use Rattle.slotmap_sparse.specs.Found.{put_over}
@@ -27,12 +27,7 @@ invariant_of-self-2 g c =
     (sym c.get_mut.ensures.value ∙ ap option_copied_mut c.in-Some.is) written
 
 pub returns-clause-value : goal.returns-clause-value
-returns-clause-value g c =
-    let key = c.data-key.ensures.value in
-    let at = c.idx.ensures.value ∙ ap (λ k. k.index) key in
-    let version = c.version.ensures.value ∙ ap (λ k. k.version) key in
-    let stood = sym (sym c.get_mut.ensures.value ∙ ap option_copied_mut c.in-Some.is) ∙ found_pair _ _ (ap (λ m. m.pairs) c.self.view_is) _ ∙ ap (map.get c.args.self.now.pairs) at in
-    c.replace.ensures.value ∙ (λ i. value_at (version i) (stood i))
+returns-clause-value g c = grind (arith, common_steps, option_copied_mut, found_pair, value_at)
 
 pub returns-clause-ok : goal.returns-clause-ok
 returns-clause-ok g c =

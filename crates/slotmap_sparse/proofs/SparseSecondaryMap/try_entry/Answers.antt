@@ -1,5 +1,5 @@
 use Rattle.std.proofs.Common.{◌≡◌, ℕ, Bool, true, false, Option, None, Some, is_some, refl, sym, ap, ◌∙◌, arith}
-use Rattle.slotmap_core.proofs.Common.{get}
+use Rattle.slotmap_core.proofs.Common.{get, common_steps}
 use Rattle.slotmap_sparse.proofs.EntryLemmas.{vacant_nothing, leaves_outdated, in_place_outdated, leaves_empty}
 use Rattle.slotmap_sparse.proofs.SparseSecondaryMap.try_entry.Goals as goal
 
@@ -32,26 +32,4 @@ returns g c =
     )
 
 pub returns-in-Empty : goal.returns-in-Empty
-returns-in-Empty g c =
-    let m = c.args.self.now.pairs in
-    let k = g.K.Key.data_of c.args.key in
-    let valid = c.find.ensures.valid.keys in
-    let found = c.in-Empty.ensures.found in (
-      (refl, λ w. refl, tt),
-      record {
-        which = found.0;
-        ok = record {
-          same_map = refl;
-          key = refl;
-          pairs = leaves_empty m valid k found.0 found.1;
-          room = omega arith;
-          occupied = λ there. refl;
-          empty = λ none. refl;
-          value = sym (vacant_nothing m valid k found.0);
-          in_place = found;
-        };
-        err = tt;
-        unchanged = tt;
-        was_valid = c.find.ensures.valid;
-      },
-    )
+returns-in-Empty g c = grind (arith, common_steps, leaves_empty, vacant_nothing)

@@ -1,13 +1,11 @@
 use Rattle.std.specs.FinMap as map
-use Rattle.slotmap_core.proofs.Common.{refl, ap, arith, keys_total, exact_keys, len_removed, Empties-first}
+use Rattle.slotmap_core.proofs.Common.{refl, ap, arith, keys_total, exact_keys, len_removed, Empties-first, common_steps}
 use Rattle.slotmap_hop.specs.HopContent.{IsHopContent, IsNextLive}
 use Rattle.slotmap_hop.proofs.Sweeping.{clearing_starts, clearing_removed, after_above, next_is_least, clearing_ends}
 use Rattle.slotmap_hop.proofs.drain.DrainIterator.next.Goals as goal
 
 pub returns-in_default-clause-steps : goal.returns-in_default-clause-steps
-returns-in_default-clause-steps g c =
-    let now = c.args.self.now.map.now in
-    ((clearing_ends g.K.Key.data_of now now (clearing_starts g.K.Key.data_of now _ c.requires.0 (rw c.in_default.is at c.requires.1)), refl), (refl, λ end empties. empties), c.requires, tt)
+returns-in_default-clause-steps g c = grind (arith, common_steps, clearing_ends, clearing_starts)
 
 -- the key that came next was the first one, and is removed
 pub returns : goal.returns

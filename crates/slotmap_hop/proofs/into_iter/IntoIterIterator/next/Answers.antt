@@ -1,5 +1,5 @@
 use Rattle.std.proofs.Common.{◌≡◌, ◌+◌, ◌-◌, ◌∷◌, sym, ap, refl, ◌∙◌, arith}
-use Rattle.slotmap_core.proofs.Common.{with_items, with_items_is, same_Some, key}
+use Rattle.slotmap_core.proofs.Common.{with_items, with_items_is, same_Some, key, common_steps}
 use Rattle.slotmap_hop.specs.Slots.{version_in}
 use Rattle.slotmap_hop.specs.Iter.{pairs_left, IsIter, FindsSlot}
 use Rattle.slotmap_hop.proofs.SlotLemmas.{same_length}
@@ -9,9 +9,7 @@ use Rattle.slotmap_hop.proofs.into_iter.IntoIterIterator.next.Goals.{After-next_
 use Rattle.slotmap_hop.proofs.into_iter.IntoIterIterator.next.Goals as goal
 
 pub next_live-place-requires : goal.next_live-place-requires
-next_live-place-requires g c =
-    rw (c.new-counted.ensures.slots, c.new-counted.ensures.place, c.as_slice.ensures.value, c.new-counted.ensures.reads)
-    (record { can = can_go_on c.self.invariant; some = omega (arith, c.self.invariant.counted, c.if-self-eq0.false) })
+next_live-place-requires g c = grind (arith, common_steps, can_go_on)
 
 found : (g : _) (c : After-next_live-place g) → FindsSlot c.self.inside.slots.items c.self.inside.place c.next_live-place.result.0 c.next_live-place.result.1.now
 found g c = rw (c.new-counted.ensures.slots, c.new-counted.ensures.place, c.as_slice.ensures.value) at c.next_live-place.ensures.found

@@ -1,3 +1,4 @@
+use Rattle.slotmap_core.proofs.Common.{common_steps}
 use Rattle.std.proofs.Common.{◌≡◌, ◌+◌, ◌-◌, max, refl, subst, arith}
 use Rattle.slotmap_slots.specs.Odds.{HasOdds, IsRun}
 use Rattle.slotmap_slots.proofs.OddsLemmas.{odds_start, odds_refill, odds_last, full_run}
@@ -7,12 +8,7 @@ pub returns-then-at-versions : goal.returns-then-at-versions
 returns-then-at-versions c = record { none = λ is i v from below read. absurd (omega (arith, c.if-at-versions.true)); run = λ is. absurd (omega arith); chunk = λ some rest. absurd (some refl) }
 
 pub returns-then-run-at : goal.returns-then-run-at
-returns-then-run-at c = record {
-  none = λ is. absurd (omega arith);
-  run = λ is. subst (λ i. IsRun c.args.versions.now c.args.at i c.near_run-run.result) (let here : c.args.at ≡ max c.near_run-run.result (c.args.at + 64) - 64 = omega (arith, c.near_run-run.ensures.near) in here)
-      (record { on = omega arith; some = c.if-run-at.true; passed = λ i v from below read. absurd (omega arith); odd = c.near_run-run.ensures.odd });
-  chunk = λ some rest. absurd (rest refl);
-}
+returns-then-run-at c = grind (arith, common_steps)
 
 pub returns : goal.returns
 returns c =

@@ -1,12 +1,9 @@
-use Rattle.slotmap_core.proofs.Common.{bind, contains_key, refl, ap, ◌∙◌, arith, in_own, bind_twice, lent_is}
+use Rattle.slotmap_core.proofs.Common.{bind, contains_key, refl, ap, ◌∙◌, arith, in_own, bind_twice, lent_is, common_steps}
 use Rattle.slotmap_sparse.proofs.EntriesLemmas.{of_ok}
 use Rattle.slotmap_sparse.proofs.entry.VacantEntry.insert_with.Goals as goal
 
 pub get_unchecked_mut-requires : goal.get_unchecked_mut-requires
-get_unchecked_mut-requires g c =
-    let k = g.K.Key.data_of c.args.self.key in
-    let v = c.f.result in
-    ap (λ m. contains_key m k) (of_ok _ _ _ c.unwrap.ensures c.add.ensures.ok) ∙ in_own c.make_room.new.self.pairs k v
+get_unchecked_mut-requires g c = grind (arith, common_steps, contains_key, of_ok, in_own)
 
 pub returns : goal.returns
 returns g c =

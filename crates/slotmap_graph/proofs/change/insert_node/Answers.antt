@@ -1,0 +1,19 @@
+use Rattle.slotmap_keylist.proofs.Mapped.{mapped-inserts, mapped-grow}
+use Rattle.slotmap_graph.specs.Threads.{node_value}
+use Rattle.slotmap_graph.proofs.GraphSteps.{inserted_ends}
+use Rattle.slotmap_graph.proofs.change.insert_node.Goals as goal
+
+pub returns-in-Ok-clause-adds : goal.returns-in-Ok-clause-adds
+returns-in-Ok-clause-adds g c = mapped-inserts node_value _ _ _ _ c.in-Ok.ensures.ok
+
+pub returns-in-Ok-clause-valid : goal.returns-in-Ok-clause-valid
+returns-in-Ok-clause-valid g c = mapped-grow node_value _ _ _ c.in-Ok.ensures.valid
+
+pub returns-in-Ok-clause-ends : goal.returns-in-Ok-clause-ends
+returns-in-Ok-clause-ends g c = inserted_ends c.args.nodes.now c.insert.new.self g.K.Key.data_of _ c.no_ends.ensures c.no_ends-2.ensures _ c.insert.ensures.valid.before c.insert.ensures.ok c.insert.ensures.valid.unchanged
+
+pub returns-in-Err-Full-clause-valid : goal.returns-in-Err-Full-clause-valid
+returns-in-Err-Full-clause-valid g c = mapped-grow node_value _ _ _ c.in-Err-Full.ensures.valid
+
+pub returns-in-Err-Memory-clause-valid : goal.returns-in-Err-Memory-clause-valid
+returns-in-Err-Memory-clause-valid g c = mapped-grow node_value _ _ _ c.in-Err-Memory.ensures.valid

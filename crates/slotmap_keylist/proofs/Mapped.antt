@@ -1,0 +1,255 @@
+-- A map, or a content, with another value for each of its values: what each change of a map does to it.
+use Rattle.std.proofs.Common.{◌≡◌, ◌&&◌, ◌||◌, ◌⊎◌, ⊎_elim, ℕ, T, Bool, true, false, cond, not, is_lt, Option, Some, None, OnSome, IfNone, is_some, List, [], ◌∷◌, length, map as list_map, refl, sym, ap, ◌∙◌, subst, inl, inr, arith}
+use Rattle.std.specs.Option.{option_map}
+use Rattle.std.specs.Ordering.{eq_by_cmp}
+use Rattle.std.specs.FinMap as map
+use Rattle.std.specs.FinSet as set
+use Rattle.std.specs.FinMap.Entries.{find, below_all, is_sorted}
+use Rattle.std.proofs.lemmas.List.{length-map}
+use Rattle.slotmap.specs.Words.{Key, key_cmp, is_last, Content, IsContent, IsRetired, Stands, IsLive, IsSpent, KeepsSpent, IsNew, Inserts, Removes, Keeps, Leaves, MakesRoom, MayGrow, StaysValid, IsCloneOf, IsCloneBy, with_value, LacksRoom, used, places}
+use Rattle.slotmap.proofs.Callers.{keys_total, exact_keys, same_or_other, get-insert_here, get-insert_other}
+use Rattle.slotmap_keylist.specs.Mapped.{map_values, map_content}
+
+module _ {V W : Type 0} (f : V → W) where
+  abbrev changed : Key × V → Key × W
+  changed e = (e.0, f e.1)
+
+  below-changed : (k : Key) (es : List (Key × V)) → below_all key_cmp k (list_map changed es) ≡ below_all key_cmp k es
+  below-changed k [] = refl
+  below-changed k (e ∷ es) = ap (λ b. is_lt (key_cmp k e.0) && b) (below-changed k es)
+
+  sorted-changed : (es : List (Key × V)) → is_sorted key_cmp (list_map changed es) ≡ is_sorted key_cmp es
+  sorted-changed [] = refl
+  sorted-changed (e ∷ es) = ap (λ b. b && is_sorted key_cmp (list_map changed es)) (below-changed e.0 es) ∙ ap (λ b. below_all key_cmp e.0 es && b) (sorted-changed es)
+
+  find-changed : (k : Key) (es : List (Key × V)) → find key_cmp k (list_map changed es) ≡ option_map f (find key_cmp k es)
+  find-changed k [] = refl
+  find-changed k (e ∷ es) = elim (eq_by_cmp key_cmp k e.0) as (λ b. cond b (Some (f e.1)) (find key_cmp k (list_map changed es)) ≡ option_map f (cond b (Some e.1) (find key_cmp k es))) [
+    | true ↦ refl
+    | false ↦ find-changed k es
+  ]
+
+  keys-changed : (es : List (Key × V)) → list_map (λ (e : Key × W). e.0) (list_map changed es) ≡ list_map (λ (e : Key × V). e.0) es
+  keys-changed [] = refl
+  keys-changed (e ∷ es) = ap (λ ks. e.0 ∷ ks) (keys-changed es)
+
+  pub some-mapped : (o : Option V) → is_some (option_map f o) ≡ is_some o
+  some-mapped None = refl
+  some-mapped (Some v) = refl
+
+  module _ (m : map.FinMap key_cmp V) where
+    entries-mapped : map.entries (map_values f m) ≡ list_map changed (map.entries m)
+    unfolding map_values
+    entries-mapped = map.entries-from_sorted key_cmp (list_map changed (map.entries m)) (subst T (sym (sorted-changed (map.entries m))) (map.entries_sorted m))
+
+    pub get-mapped : (k : Key) → map.get (map_values f m) k ≡ option_map f (map.get m k)
+    get-mapped k = map.get-entries (map_values f m) k ∙ ap (find key_cmp k) entries-mapped ∙ find-changed k (map.entries m) ∙ ap (option_map f) (sym (map.get-entries m k))
+
+    pub contains-mapped : (k : Key) → map.contains_key (map_values f m) k ≡ map.contains_key m k
+    contains-mapped k = ap is_some (get-mapped k) ∙ some-mapped (map.get m k)
+
+    pub len-mapped : map.len (map_values f m) ≡ map.len m
+    len-mapped = map.len-entries (map_values f m) ∙ ap length entries-mapped ∙ length-map (map.entries m) changed ∙ sym (map.len-entries m)
+
+    pub keys-mapped : map.keys (map_values f m) ≡ map.keys m
+    keys-mapped = ap (list_map (λ (e : Key × W). e.0)) entries-mapped ∙ keys-changed (map.entries m)
+
+    -- a map that finds the same is the same
+    pub is_mapped : (w : map.FinMap key_cmp W) → ((q : Key) → map.get w q ≡ option_map f (map.get m q)) → map_values f m ≡ w
+    is_mapped w same = map.same_map keys_total exact_keys _ _ (λ q. get-mapped q ∙ sym (same q))
+
+  at_branch : (b : Bool) (o p : Option V) → cond b (option_map f o) (option_map f p) ≡ option_map f (cond b o p)
+  at_branch true o p = refl
+  at_branch false o p = refl
+
+  pub mapped-insert : (m : map.FinMap key_cmp V) (k : Key) (v : V) → map_values f (map.insert m k v) ≡ map.insert (map_values f m) k (f v)
+  mapped-insert m k v = is_mapped (map.insert m k v) _ (λ q. map.get-insert keys_total (map_values f m) k (f v) q
+      ∙ ap (cond (eq_by_cmp key_cmp q k) (Some (f v))) (get-mapped m q) ∙ at_branch (eq_by_cmp key_cmp q k) (Some v) (map.get m q) ∙ ap (option_map f) (sym (map.get-insert keys_total m k v q)))
+
+  pub mapped-remove : (m : map.FinMap key_cmp V) (k : Key) → map_values f (map.remove m k) ≡ map.remove (map_values f m) k
+  mapped-remove m k = is_mapped (map.remove m k) _ (λ q. map.get-remove keys_total (map_values f m) k q
+      ∙ ap (cond (eq_by_cmp key_cmp q k) None) (get-mapped m q) ∙ at_branch (eq_by_cmp key_cmp q k) None (map.get m q) ∙ ap (option_map f) (sym (map.get-remove keys_total m k q)))
+
+  pub mapped-empty : map_values f map.empty ≡ map.empty
+  mapped-empty = is_mapped map.empty map.empty (λ q. map.get-empty {X = W} key_cmp q ∙ sym (ap (option_map f) (map.get-empty {X = V} key_cmp q)))
+
+  module _ (c : Content V) where
+    pub used-mapped : used (map_content f c) ≡ used c
+    used-mapped = let same = len-mapped c.live in omega arith
+
+    same_places : places (map_content f c) ≡ places c
+    same_places = let same = len-mapped c.live in omega arith
+
+    pub live-mapped : (k : Key) → IsLive c k → IsLive (map_content f c) k
+    live-mapped k live = contains-mapped c.live k ∙ live
+
+    pub mapped-live : (k : Key) → IsLive (map_content f c) k → IsLive c k
+    mapped-live k live = sym (contains-mapped c.live k) ∙ live
+
+    -- a key is spent exactly where it is spent with the other values
+    pub spent-mapped : (k : Key) → IsSpent c k → IsSpent (map_content f c) k
+    spent-mapped k spent = record {
+      within = omega (arith, same_places, spent.within);
+      vacant = spent.vacant;
+      stands = λ u there at. spent.stands u (elim there [ inl h ↦ inl (mapped-live u h) | inr h ↦ inr h ]) at;
+    }
+
+    pub mapped-spent : (k : Key) → IsSpent (map_content f c) k → IsSpent c k
+    mapped-spent k spent = record {
+      within = omega (arith, same_places, spent.within);
+      vacant = spent.vacant;
+      stands = λ u there at. spent.stands u (elim there [ inl h ↦ inl (live-mapped u h) | inr h ↦ inr h ]) at;
+    }
+
+    pub mapped-lacks : LacksRoom c → LacksRoom (map_content f c)
+    mapped-lacks lacks = record { below_limit = (let same = used-mapped in let below = lacks.below_limit in omega arith); no_room = lacks.no_room }
+
+    pub mapped-new : IsNew c → IsNew (map_content f c)
+    mapped-new new = record { live = ap (map_values f) new.live ∙ mapped-empty; detached = new.detached; retired = new.retired; next = new.next }
+
+    content_uses : (k : Key) → Stands (map_content f c) k ⊎ IsRetired c k → Stands c k ⊎ IsRetired c k
+    content_uses k = ⊎_elim (λ stands. ⊎_elim (λ (live : IsLive (map_content f c) k). inl (inl (mapped-live k live))) (λ detached. inl (inr detached)) stands) (λ retired. inr retired)
+
+    -- a content with other values is one
+    pub content-mapped : (reuses : Bool) → IsContent reuses c → IsContent reuses (map_content f c)
+    content-mapped reuses well =
+        let same = same_places in
+        let as_many = used-mapped in
+        let long = len-mapped c.live in
+        record {
+          keys = λ k uses. well.keys k (content_uses k uses);
+          vacancies = well.vacancies;
+          had_keys = well.had_keys;
+          last = well.last;
+          within = λ k uses. (let at = well.within k (content_uses k uses) in (at.0, omega (arith, at.1)));
+          vacant = λ i there. (let at = well.vacant i there in (at.0, omega (arith, at.1)));
+          apart = λ a b uses_a uses_b. well.apart a b (content_uses a uses_a) (content_uses b uses_b);
+          not_live_and_detached = λ k live. well.not_live_and_detached k (mapped-live k live);
+          not_standing_and_retired = λ k stands retired. well.not_standing_and_retired k (⊎_elim (λ (live : IsLive (map_content f c) k). inl (mapped-live k live)) (λ detached. inr detached) stands) retired;
+          not_used_and_vacant = λ k uses. well.not_used_and_vacant k (content_uses k uses);
+          limit = (let limit = well.limit in omega arith);
+          offers = λ below. rw same_places (well.offers (omega arith));
+          stacked = λ stack is. (let s = well.stacked stack is in record { lists = s.lists; once = s.once; top = λ below. s.top (omega arith) });
+          room_fits = (let fits = well.room_fits in omega arith);
+          reused = well.reused;
+          capacity_fits = (let fits = well.capacity_fits in omega arith);
+        }
+
+  module _ (old new : Content V) where
+    pub keeps_spent-mapped : KeepsSpent old new → KeepsSpent (map_content f old) (map_content f new)
+    keeps_spent-mapped keeps k spent = spent-mapped new k (keeps k (mapped-spent old k spent))
+
+    pub mapped-inserts : (k : Key) (v : V) → Inserts old k v new → Inserts (map_content f old) k (f v) (map_content f new)
+    mapped-inserts k v inserts = record {
+      offered = inserts.offered;
+      below_limit = (let below = inserts.below_limit in let same = used-mapped old in omega arith);
+      live = ap (map_values f) inserts.live ∙ mapped-insert old.live k v;
+      detached = inserts.detached;
+      retired = inserts.retired;
+      next = inserts.next;
+      stack = inserts.stack;
+      room = inserts.room;
+    }
+
+    pub mapped-removes : (k : Key) → Removes old k new → Removes (map_content f old) k (map_content f new)
+    mapped-removes k removes = record {
+      live = ap (map_values f) removes.live ∙ mapped-remove old.live k;
+      detached = removes.detached;
+      retired = removes.retired;
+      next = removes.next;
+      stack = removes.stack;
+      room = removes.room;
+    }
+
+    pub mapped-keeps : Keeps old new → Keeps (map_content f old) (map_content f new)
+    mapped-keeps keeps = record {
+      live = ap (map_values f) keeps.live;
+      detached = keeps.detached;
+      retired = keeps.retired;
+      next = keeps.next;
+      offer = keeps.offer;
+      stack = keeps.stack;
+      room = keeps.room;
+    }
+
+    pub mapped-grow : (refused : Type 0) → MayGrow true old refused new → MayGrow true (map_content f old) refused (map_content f new)
+    mapped-grow refused valid = record {
+      before = content-mapped old true valid.before;
+      after = content-mapped new true valid.after;
+      capacity = valid.capacity;
+      unchanged = λ no. mapped-keeps (valid.unchanged no);
+    }
+
+    pub mapped-stays : StaysValid true old new → StaysValid true (map_content f old) (map_content f new)
+    mapped-stays valid = record { before = content-mapped old true valid.before; after = content-mapped new true valid.after; capacity = valid.capacity }
+
+    -- a removal, whatever it returns
+    pub mapped-removal : (k : Key) (answer : Option V) → OnSome answer (Removes old k new) → OnSome (option_map f answer) (Removes (map_content f old) k (map_content f new))
+    mapped-removal k None removes = tt
+    mapped-removal k (Some v) removes = mapped-removes k removes
+
+    pub mapped-unchanged : (answer : Option V) → IfNone answer (new ≡ old) → IfNone (option_map f answer) (map_content f new ≡ map_content f old)
+    mapped-unchanged None is = ap (map_content f) is
+    mapped-unchanged (Some v) is = tt
+
+    same_left : (k : Key) → (map.contains_key (map_values f old.live) k && not (map.contains_key (map_values f new.live) k))
+        ≡ (map.contains_key old.live k && not (map.contains_key new.live k))
+    same_left k = ap (λ b. b && not (map.contains_key (map_values f new.live) k)) (contains-mapped old.live k) ∙ ap (λ b. map.contains_key old.live k && not b) (contains-mapped new.live k)
+
+    pub mapped-leaves : Leaves old new → Leaves (map_content f old) (map_content f new)
+    mapped-leaves leaves = record {
+      no_more = λ k live. live-mapped old k (leaves.no_more k (mapped-live new k live));
+      detached = leaves.detached;
+      retired = λ k. leaves.retired k ∙ ap (λ b. set.contains old.retired k || b && is_last k) (sym (same_left k));
+      next = λ i v. (
+        (λ there. ⊎_elim (λ (was : map.get old.next i ≡ Some v). inl was) (λ left. inr (left.0, same_left left.0 ∙ left.1, left.2, left.3, left.4)) ((leaves.next i v).0 there)),
+        (λ there. (leaves.next i v).1 (⊎_elim (λ (was : map.get old.next i ≡ Some v). inl was) (λ left. inr (left.0, sym (same_left left.0) ∙ left.1, left.2, left.3, left.4)) there)),
+      );
+      same_places = same_places new ∙ leaves.same_places ∙ sym (same_places old);
+      room = leaves.room;
+    }
+
+    pub mapped-room : (n : ℕ) (ok : Type 0) → MakesRoom true old n ok new → MakesRoom true (map_content f old) n ok (map_content f new)
+    mapped-room n ok makes = record {
+      before = content-mapped old true makes.before;
+      after = content-mapped new true makes.after;
+      fits = λ yes. (let same = used-mapped old in let fits = makes.fits yes in omega arith);
+      room = makes.room;
+      live_and_more = λ yes. (let same = len-mapped old.live in let fits = makes.live_and_more yes in omega arith);
+      succeeds = makes.succeeds;
+      had_room = λ fits. ap (map_content f) (makes.had_room fits);
+      keeps = mapped-keeps makes.keeps;
+      capacity = makes.capacity;
+    }
+
+    -- a write, seen through f
+    pub mapped-with : (k : Key) (v : V) → map_content f (with_value old k v) ≡ with_value (map_content f old) k (f v)
+    mapped-with k v = ap (λ (m : map.FinMap key_cmp W). record (map_content f old) { live = m }) (mapped-insert old.live k v)
+
+    -- a write that changes nothing of what f sees
+    pub mapped-written : (k : Key) (v was : V) → map.get old.live k ≡ Some was → f v ≡ f was → new ≡ with_value old k v → map_content f new ≡ map_content f old
+    mapped-written k v was there same is = ap (map_content f) is ∙ ap (λ (m : map.FinMap key_cmp W). record (map_content f old) { live = m }) (is_mapped (map.insert old.live k v) (map_values f old.live) (λ q.
+        elim (same_or_other q k) [
+          | inl at ↦ rw at (get-mapped old.live k ∙ ap (option_map f) there ∙ ap Some (sym same) ∙ sym (ap (option_map f) (get-insert_here old.live k v)))
+          | inr other ↦ get-mapped old.live q ∙ sym (ap (option_map f) (get-insert_other old.live k v q other))
+        ]))
+
+  -- clones of values, and of what f makes of them
+  pub mapped-clones : (is_clone : V → V → Type 0) (clones : W → W → Type 0) → ((v w : V) → is_clone v w → clones (f v) (f w)) → (old new : Content V)
+      → IsCloneBy is_clone old new → IsCloneBy clones (map_content f old) (map_content f new)
+  mapped-clones is_clone clones so old new are = record {
+    live = λ k. rw (get-mapped old.live k, get-mapped new.live k) (by (map.get old.live k) (map.get new.live k) (are.live k));
+    detached = are.detached;
+    retired = are.retired;
+    next = are.next;
+    offer = are.offer;
+    stack = are.stack;
+  }
+    where
+      by : (o p : Option V) → IsCloneOf is_clone o p → IsCloneOf clones (option_map f o) (option_map f p)
+      by None p is = ap (option_map f) is
+      by (Some v) None is = is
+      by (Some v) (Some w) is = so v w is
+
+-- what is found, and how much, where each value is another
+pub ruleset mapped = (get-mapped, contains-mapped, len-mapped, keys-mapped)
