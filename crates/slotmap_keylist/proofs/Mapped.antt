@@ -9,6 +9,7 @@ use Rattle.std.proofs.lemmas.List.{length-map}
 use Rattle.slotmap.specs.Words.{Key, key_cmp, is_last, Content, IsContent, IsRetired, Stands, IsLive, IsSpent, KeepsSpent, IsNew, Inserts, Removes, Keeps, Leaves, MakesRoom, MayGrow, StaysValid, IsCloneOf, IsCloneBy, with_value, LacksRoom, used, places}
 use Rattle.slotmap.proofs.Callers.{keys_total, exact_keys, same_or_other, get-insert_here, get-insert_other}
 use Rattle.slotmap_keylist.specs.Mapped.{map_values, map_content}
+use Rattle.slotmap_keylist.proofs.Shown.{shown_content, shown_inserts, shown_keeps, shown_leaves, shown_makes_room, shown_removes, shown_spent, spent_shown}
 
 module _ {V W : Type 0} (f : V → W) where
   abbrev changed : Key × V → Key × W
@@ -38,7 +39,7 @@ module _ {V W : Type 0} (f : V → W) where
   some-mapped (Some v) = refl
 
   module _ (m : map.FinMap key_cmp V) where
-    entries-mapped : map.entries (map_values f m) ≡ list_map changed (map.entries m)
+    pub entries-mapped : map.entries (map_values f m) ≡ list_map changed (map.entries m)
     unfolding map_values
     entries-mapped = map.entries-from_sorted key_cmp (list_map changed (map.entries m)) (subst T (sym (sorted-changed (map.entries m))) (map.entries_sorted m))
 
@@ -77,9 +78,6 @@ module _ {V W : Type 0} (f : V → W) where
     pub used-mapped : used (map_content f c) ≡ used c
     used-mapped = let same = len-mapped c.live in omega arith
 
-    same_places : places (map_content f c) ≡ places c
-    same_places = let same = len-mapped c.live in omega arith
-
     pub live-mapped : (k : Key) → IsLive c k → IsLive (map_content f c) k
     live-mapped k live = contains-mapped c.live k ∙ live
 
@@ -88,18 +86,10 @@ module _ {V W : Type 0} (f : V → W) where
 
     -- a key is spent exactly where it is spent with the other values
     pub spent-mapped : (k : Key) → IsSpent c k → IsSpent (map_content f c) k
-    spent-mapped k spent = record {
-      within = omega (arith, same_places, spent.within);
-      vacant = spent.vacant;
-      stands = λ u there at. spent.stands u (elim there [ inl h ↦ inl (mapped-live u h) | inr h ↦ inr h ]) at;
-    }
+    spent-mapped k spent = shown_spent c (map_values f c.live) (contains-mapped c.live) (len-mapped c.live) k spent
 
     pub mapped-spent : (k : Key) → IsSpent (map_content f c) k → IsSpent c k
-    mapped-spent k spent = record {
-      within = omega (arith, same_places, spent.within);
-      vacant = spent.vacant;
-      stands = λ u there at. spent.stands u (elim there [ inl h ↦ inl (live-mapped u h) | inr h ↦ inr h ]) at;
-    }
+    mapped-spent k spent = spent_shown c (map_values f c.live) (contains-mapped c.live) (len-mapped c.live) k spent
 
     pub mapped-lacks : LacksRoom c → LacksRoom (map_content f c)
     mapped-lacks lacks = record { below_limit = (let same = used-mapped in let below = lacks.below_limit in omega arith); no_room = lacks.no_room }
@@ -107,70 +97,25 @@ module _ {V W : Type 0} (f : V → W) where
     pub mapped-new : IsNew c → IsNew (map_content f c)
     mapped-new new = record { live = ap (map_values f) new.live ∙ mapped-empty; detached = new.detached; retired = new.retired; next = new.next }
 
-    content_uses : (k : Key) → Stands (map_content f c) k ⊎ IsRetired c k → Stands c k ⊎ IsRetired c k
-    content_uses k = ⊎_elim (λ stands. ⊎_elim (λ (live : IsLive (map_content f c) k). inl (inl (mapped-live k live))) (λ detached. inl (inr detached)) stands) (λ retired. inr retired)
-
     -- a content with other values is one
     pub content-mapped : (reuses : Bool) → IsContent reuses c → IsContent reuses (map_content f c)
-    content-mapped reuses well =
-        let same = same_places in
-        let as_many = used-mapped in
-        let long = len-mapped c.live in
-        record {
-          keys = λ k uses. well.keys k (content_uses k uses);
-          vacancies = well.vacancies;
-          had_keys = well.had_keys;
-          last = well.last;
-          within = λ k uses. (let at = well.within k (content_uses k uses) in (at.0, omega (arith, at.1)));
-          vacant = λ i there. (let at = well.vacant i there in (at.0, omega (arith, at.1)));
-          apart = λ a b uses_a uses_b. well.apart a b (content_uses a uses_a) (content_uses b uses_b);
-          not_live_and_detached = λ k live. well.not_live_and_detached k (mapped-live k live);
-          not_standing_and_retired = λ k stands retired. well.not_standing_and_retired k (⊎_elim (λ (live : IsLive (map_content f c) k). inl (mapped-live k live)) (λ detached. inr detached) stands) retired;
-          not_used_and_vacant = λ k uses. well.not_used_and_vacant k (content_uses k uses);
-          limit = (let limit = well.limit in omega arith);
-          offers = λ below. rw same_places (well.offers (omega arith));
-          stacked = λ stack is. (let s = well.stacked stack is in record { lists = s.lists; once = s.once; top = λ below. s.top (omega arith) });
-          room_fits = (let fits = well.room_fits in omega arith);
-          reused = well.reused;
-          capacity_fits = (let fits = well.capacity_fits in omega arith);
-        }
+    content-mapped reuses well = shown_content c (map_values f c.live) (contains-mapped c.live) (len-mapped c.live) reuses well
 
   module _ (old new : Content V) where
     pub keeps_spent-mapped : KeepsSpent old new → KeepsSpent (map_content f old) (map_content f new)
     keeps_spent-mapped keeps k spent = spent-mapped new k (keeps k (mapped-spent old k spent))
 
     pub mapped-inserts : (k : Key) (v : V) → Inserts old k v new → Inserts (map_content f old) k (f v) (map_content f new)
-    mapped-inserts k v inserts = record {
-      offered = inserts.offered;
-      below_limit = (let below = inserts.below_limit in let same = used-mapped old in omega arith);
-      live = ap (map_values f) inserts.live ∙ mapped-insert old.live k v;
-      detached = inserts.detached;
-      retired = inserts.retired;
-      next = inserts.next;
-      stack = inserts.stack;
-      room = inserts.room;
-    }
+    mapped-inserts k v inserts = shown_inserts old new (map_values f old.live) (map_values f new.live) (contains-mapped old.live) (len-mapped old.live) (contains-mapped new.live) (len-mapped new.live)
+        k v (f v) (ap (map_values f) inserts.live ∙ mapped-insert old.live k v) inserts
 
     pub mapped-removes : (k : Key) → Removes old k new → Removes (map_content f old) k (map_content f new)
-    mapped-removes k removes = record {
-      live = ap (map_values f) removes.live ∙ mapped-remove old.live k;
-      detached = removes.detached;
-      retired = removes.retired;
-      next = removes.next;
-      stack = removes.stack;
-      room = removes.room;
-    }
+    mapped-removes k removes = shown_removes old new (map_values f old.live) (map_values f new.live) (contains-mapped old.live) (len-mapped old.live) (contains-mapped new.live) (len-mapped new.live)
+        k (ap (map_values f) removes.live ∙ mapped-remove old.live k) removes
 
     pub mapped-keeps : Keeps old new → Keeps (map_content f old) (map_content f new)
-    mapped-keeps keeps = record {
-      live = ap (map_values f) keeps.live;
-      detached = keeps.detached;
-      retired = keeps.retired;
-      next = keeps.next;
-      offer = keeps.offer;
-      stack = keeps.stack;
-      room = keeps.room;
-    }
+    mapped-keeps keeps = shown_keeps old new (map_values f old.live) (map_values f new.live) (contains-mapped old.live) (len-mapped old.live) (contains-mapped new.live) (len-mapped new.live)
+        (ap (map_values f) keeps.live) keeps
 
     pub mapped-grow : (refused : Type 0) → MayGrow true old refused new → MayGrow true (map_content f old) refused (map_content f new)
     mapped-grow refused valid = record {
@@ -192,35 +137,12 @@ module _ {V W : Type 0} (f : V → W) where
     mapped-unchanged None is = ap (map_content f) is
     mapped-unchanged (Some v) is = tt
 
-    same_left : (k : Key) → (map.contains_key (map_values f old.live) k && not (map.contains_key (map_values f new.live) k))
-        ≡ (map.contains_key old.live k && not (map.contains_key new.live k))
-    same_left k = ap (λ b. b && not (map.contains_key (map_values f new.live) k)) (contains-mapped old.live k) ∙ ap (λ b. map.contains_key old.live k && not b) (contains-mapped new.live k)
-
     pub mapped-leaves : Leaves old new → Leaves (map_content f old) (map_content f new)
-    mapped-leaves leaves = record {
-      no_more = λ k live. live-mapped old k (leaves.no_more k (mapped-live new k live));
-      detached = leaves.detached;
-      retired = λ k. leaves.retired k ∙ ap (λ b. set.contains old.retired k || b && is_last k) (sym (same_left k));
-      next = λ i v. (
-        (λ there. ⊎_elim (λ (was : map.get old.next i ≡ Some v). inl was) (λ left. inr (left.0, same_left left.0 ∙ left.1, left.2, left.3, left.4)) ((leaves.next i v).0 there)),
-        (λ there. (leaves.next i v).1 (⊎_elim (λ (was : map.get old.next i ≡ Some v). inl was) (λ left. inr (left.0, sym (same_left left.0) ∙ left.1, left.2, left.3, left.4)) there)),
-      );
-      same_places = same_places new ∙ leaves.same_places ∙ sym (same_places old);
-      room = leaves.room;
-    }
+    mapped-leaves leaves = shown_leaves old new (map_values f old.live) (map_values f new.live) (contains-mapped old.live) (len-mapped old.live) (contains-mapped new.live) (len-mapped new.live) leaves
 
     pub mapped-room : (n : ℕ) (ok : Type 0) → MakesRoom true old n ok new → MakesRoom true (map_content f old) n ok (map_content f new)
-    mapped-room n ok makes = record {
-      before = content-mapped old true makes.before;
-      after = content-mapped new true makes.after;
-      fits = λ yes. (let same = used-mapped old in let fits = makes.fits yes in omega arith);
-      room = makes.room;
-      live_and_more = λ yes. (let same = len-mapped old.live in let fits = makes.live_and_more yes in omega arith);
-      succeeds = makes.succeeds;
-      had_room = λ fits. ap (map_content f) (makes.had_room fits);
-      keeps = mapped-keeps makes.keeps;
-      capacity = makes.capacity;
-    }
+    mapped-room n ok makes = shown_makes_room old new (map_values f old.live) (map_values f new.live) (contains-mapped old.live) (len-mapped old.live) (contains-mapped new.live) (len-mapped new.live)
+        (ap (map_values f) makes.keeps.live) true n ok makes
 
     -- a write, seen through f
     pub mapped-with : (k : Key) (v : V) → map_content f (with_value old k v) ≡ with_value (map_content f old) k (f v)

@@ -7,48 +7,7 @@ use Rattle.std.specs.FinMap.Entries.{below_all}
 use Rattle.std.specs.FinSet as set
 use Rattle.std.proofs.lemmas.List.{length-map}
 use Rattle.slotmap.specs.Words.{Key, key_cmp, Content, IsContent, IsSpent, KeepsSpent, Stands, IsRetired, Inserts, Removes, Keeps, Leaves, MakesRoom, is_last}
-use Rattle.slotmap_keylist.specs.Shown.{mapped, with_live}
-
-module _ {V W : Type 0} (g : V → W) where
-  abbrev entry_mapped : Key × V → Key × W
-  entry_mapped e = (e.0, g e.1)
-
-  below-mapped : (k : Key) (es : List (Key × V)) → below_all key_cmp k (list_map entry_mapped es) ≡ below_all key_cmp k es
-  below-mapped k [] = refl
-  below-mapped k (e ∷ es) = ap (λ b. is_lt (key_cmp k e.0) && b) (below-mapped k es)
-
-  sorted-mapped : (es : List (Key × V)) → map.is_sorted key_cmp (list_map entry_mapped es) ≡ map.is_sorted key_cmp es
-  sorted-mapped [] = refl
-  sorted-mapped (e ∷ es) = ap (λ b. b && map.is_sorted key_cmp (list_map entry_mapped es)) (below-mapped e.0 es) ∙ ap (λ b. below_all key_cmp e.0 es && b) (sorted-mapped es)
-
-  find-mapped : (q : Key) (es : List (Key × V)) → map.find key_cmp q (list_map entry_mapped es) ≡ option_map g (map.find key_cmp q es)
-  find-mapped q [] = refl
-  find-mapped q (e ∷ es) = elim (eq_by_cmp key_cmp q e.0) as (λ b. cond b (Some (g e.1)) (map.find key_cmp q (list_map entry_mapped es)) ≡ option_map g (cond b (Some e.1) (map.find key_cmp q es))) [
-    | true ↦ refl
-    | false ↦ find-mapped q es
-  ]
-
-  some-mapped : (o : Option V) → is_some (option_map g o) ≡ is_some o
-  some-mapped None = refl
-  some-mapped (Some v) = refl
-
-  module _ (m : map.FinMap key_cmp V) where
-    sorted : T (map.is_sorted key_cmp (list_map entry_mapped (map.entries m)))
-    sorted = subst T (sym (sorted-mapped (map.entries m))) (map.entries_sorted m)
-
-    pub entries-mapped : map.entries (mapped g m) ≡ list_map (λ (e : Key × V). (e.0, g e.1)) (map.entries m)
-    unfolding mapped
-    entries-mapped = map.entries-from_sorted key_cmp (list_map entry_mapped (map.entries m)) sorted
-
-    pub get-mapped : (q : Key) → map.get (mapped g m) q ≡ option_map g (map.get m q)
-    unfolding mapped
-    get-mapped q = map.get-from_sorted key_cmp (list_map entry_mapped (map.entries m)) q sorted ∙ find-mapped q (map.entries m) ∙ ap (option_map g) (sym (map.get-entries m q))
-
-    pub contains-mapped : (q : Key) → map.contains_key (mapped g m) q ≡ map.contains_key m q
-    contains-mapped q = ap is_some (get-mapped q) ∙ some-mapped (map.get m q)
-
-    pub len-mapped : map.len (mapped g m) ≡ map.len m
-    len-mapped = map.len-entries (mapped g m) ∙ ap length entries-mapped ∙ length-map (map.entries m) entry_mapped ∙ sym (map.len-entries m)
+use Rattle.slotmap_keylist.specs.Shown.{with_live}
 
 -- a content with other live values under the same keys
 module _ {V W : Type 0} (c : Content V) (m : map.FinMap key_cmp W) (same : (q : Key) → map.contains_key m q ≡ map.contains_key c.live q) (len : map.len m ≡ map.len c.live) where

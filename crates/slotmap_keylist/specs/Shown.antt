@@ -1,13 +1,8 @@
 -- A content whose values are shown as others: for a type whose model makes its values of what a map holds.
-use Rattle.std.specs.Prelude.{map as list_map}
 use Rattle.std.specs.FinMap as map
 use Rattle.slotmap.specs.Words.{key_cmp, Content}
 
 module _ {V W : Type 0} where
-  -- the same keys, each with what is made of its value
-  unfoldable pub mapped : (V → W) → map.FinMap key_cmp V → map.FinMap key_cmp W
-  mapped g m = map.from_sorted (list_map (λ e. (e.0, g e.1)) (map.entries m))
-
   -- the same content with other live values
   abbrev pub with_live : Content V → map.FinMap key_cmp W → Content W
   with_live c live = record {

@@ -8,7 +8,8 @@ use Rattle.slotmap.proofs.Callers.{get-insert_here, get-insert_other, same_or_ot
 use Rattle.slotmap.specs.declared.InsertError.{InsertError}
 use Rattle.slotmap.specs.declared.InsertError.TheVariants.{Full, Memory}
 use Rattle.slotmap_keylist.specs.Linked.{followed}
-use Rattle.slotmap_keylist.proofs.Shown.{entries-mapped, get-mapped, contains-mapped, len-mapped, shown_content, shown_keeps_spent, shown_inserts, shown_keeps, shown_leaves, shown_makes_room}
+use Rattle.slotmap_keylist.proofs.Mapped.{entries-mapped, get-mapped, contains-mapped, len-mapped}
+use Rattle.slotmap_keylist.proofs.Shown.{shown_content, shown_keeps_spent, shown_inserts, shown_keeps, shown_leaves, shown_makes_room}
 use Rattle.slotmap_scene.specs.declared.links.LinkedNode.{LinkedNode}
 use Rattle.slotmap_scene.specs.Node.{Node, Nodes}
 use Rattle.slotmap_scene.specs.Above.{roots_in}

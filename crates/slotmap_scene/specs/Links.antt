@@ -7,7 +7,8 @@ use Rattle.slotmap_keylist.specs.declared.Link.{Link}
 use Rattle.slotmap_keylist.specs.Changed.{changed}
 use Rattle.slotmap_keylist.specs.KeyLists.{times}
 use Rattle.slotmap_keylist.specs.Linked.{first_or, last_or, link_between, followed, IsLinked, AreApart}
-use Rattle.slotmap_keylist.specs.Shown.{mapped, with_live}
+use Rattle.slotmap_keylist.specs.Mapped.{map_values}
+use Rattle.slotmap_keylist.specs.Shown.{with_live}
 use Rattle.slotmap_scene.specs.Node.{Node, Nodes}
 use Rattle.slotmap_scene.specs.Above.{roots_by}
 use Rattle.slotmap_scene.specs.Family.{children_of}
@@ -46,7 +47,7 @@ module _ {T : Type 0} where
   shown_node m node = record { value = node.value; parent = node.parent; children = followed (link_of m) node.children }
 
   abbrev pub shown_nodes : LinkedNodes T → Nodes T
-  shown_nodes m = mapped (shown_node m) m
+  shown_nodes m = map_values (shown_node m) m
 
   abbrev pub shown : Content (LinkedNode T) → Content (Node T)
   shown c = with_live c (shown_nodes c.live)
