@@ -5,7 +5,7 @@ pub mod Descending
 pub mod Families
 pub mod Leaving
 pub mod Moved
-pub mod Relinked
+pub mod Neighbours
 pub mod Placing
 pub mod Removals
 pub mod Showing

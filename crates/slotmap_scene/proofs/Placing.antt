@@ -11,8 +11,8 @@ use Rattle.slotmap_scene.specs.Node.{Node, Nodes}
 use Rattle.slotmap_scene.specs.declared.tree.Side.{Side}
 use Rattle.slotmap_scene.specs.declared.tree.Side.TheVariants.{Before, After}
 use Rattle.slotmap_scene.specs.Climb.{with_parent}
-use Rattle.slotmap_scene.specs.Family.{attached_by, beside, children_in, children_of, placed, placed_before, placed_after, with_children_in}
-use Rattle.slotmap_scene.specs.Links.{IsPlace}
+use Rattle.slotmap_scene.specs.Family.{attached_by, parts_beside, children_in, children_of, placed, placed_before, placed_after, with_children_in}
+use Rattle.slotmap_scene.specs.Woven.{IsPlace}
 
 module _ (s k x : Key) where
   times_before : (ks : List Key) → times x (placed_before s k ks) ≡ times x ks + same k x
@@ -52,11 +52,11 @@ module _ (s k : Key) where
       let first = times_first s q b in
       ap (λ t. cond t (q ∷ k ∷ (b ++ s ∷ a)) (q ∷ placed_after s k (b ++ s ∷ a))) (not_first q b none) ∙ ap (λ l. q ∷ l) (after_is b a (omega arith))
 
-  pub placed_is : (side : Side) (b a : List Key) → times s b ≡ 0 → (beside side b s a).0 ++ k ∷ (beside side b s a).1 ≡ placed side s k (b ++ s ∷ a)
+  pub placed_is : (side : Side) (b a : List Key) → times s b ≡ 0 → (parts_beside side b s a).0 ++ k ∷ (parts_beside side b s a).1 ≡ placed side s k (b ++ s ∷ a)
   placed_is Before b a none = sym (before_is b a none)
   placed_is After b a none = append_assoc b (s ∷ []) (k ∷ a) ∙ sym (after_is b a none)
 
-pub beside_list : (side : Side) (b : List Key) (s : Key) (a : List Key) → b ++ s ∷ a ≡ (beside side b s a).0 ++ (beside side b s a).1
+pub beside_list : (side : Side) (b : List Key) (s : Key) (a : List Key) → b ++ s ∷ a ≡ (parts_beside side b s a).0 ++ (parts_beside side b s a).1
 beside_list Before b s a = refl
 beside_list After b s a = sym (append_assoc b (s ∷ []) a)
 
@@ -79,11 +79,11 @@ module _ {T : Type 0} (old new : Content (Node T)) (k p : Key) (l : Link Key) (p
   attached_last place = attached_at (λ ks. ks ++ k ∷ []) (children_of old.live p) [] place refl
 
   -- beside one of them
-  pub attached_side : (side : Side) (s : Key) (b a : List Key) → children_of old.live p ≡ b ++ s ∷ a → times s (children_of old.live p) ≡ 1 → IsPlace old.live p l (beside side b s a).0 (beside side b s a).1
+  pub attached_side : (side : Side) (s : Key) (b a : List Key) → children_of old.live p ≡ b ++ s ∷ a → times s (children_of old.live p) ≡ 1 → IsPlace old.live p l (parts_beside side b s a).0 (parts_beside side b s a).1
       → new ≡ record old { live = attached_by old.live k p (placed side s k) }
   attached_side side s b a is once place =
       let none : times s b ≡ 0 = (let sum = sym once ∙ ap (times s) is ∙ in_midst b s a in omega arith) in
-      attached_at (placed side s k) (beside side b s a).0 (beside side b s a).1 place (placed_is s k side b a none ∙ ap (placed side s k) (sym is))
+      attached_at (placed side s k) (parts_beside side b s a).0 (parts_beside side b s a).1 place (placed_is s k side b a none ∙ ap (placed side s k) (sym is))
 
 module _ {T : Type 0} (nodes : Nodes T) (p : Key) where
   -- the place behind all children
@@ -91,5 +91,5 @@ module _ {T : Type 0} (nodes : Nodes T) (p : Key) where
   last_place l is = record { list = sym (append-nil (children_of nodes p)); link = ap (λ o. record { prev = o; next = None }) is }
 
   -- and the one beside a child
-  pub side_place : (side : Side) (s : Key) (b a : List Key) (l : Link Key) → children_of nodes p ≡ b ++ s ∷ a → l ≡ link_between (beside side b s a).0 (beside side b s a).1 → IsPlace nodes p l (beside side b s a).0 (beside side b s a).1
+  pub side_place : (side : Side) (s : Key) (b a : List Key) (l : Link Key) → children_of nodes p ≡ b ++ s ∷ a → l ≡ link_between (parts_beside side b s a).0 (parts_beside side b s a).1 → IsPlace nodes p l (parts_beside side b s a).0 (parts_beside side b s a).1
   side_place side s b a l is link = record { list = is ∙ beside_list side b s a; link = link }

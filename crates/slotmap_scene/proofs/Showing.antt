@@ -15,7 +15,7 @@ use Rattle.slotmap_scene.specs.Node.{Node, Nodes}
 use Rattle.slotmap_scene.specs.Above.{roots_in}
 use Rattle.slotmap_scene.specs.Climb.{parent_in, parent_of}
 use Rattle.slotmap_scene.specs.Family.{child, children_in, children_of, value_of}
-use Rattle.slotmap_scene.specs.Links.{LinkedNodes, ends_in, leaf, led_to, link_in, link_of, linked_roots, seen, shown, shown_node, shown_nodes, IsWoven}
+use Rattle.slotmap_scene.specs.Woven.{LinkedNodes, ends_at, leaf, led_to, link_at, link_under, linked_roots, node_seen, nodes_shown, shown_node, shown_nodes, IsWoven}
 use Rattle.slotmap_scene.specs.Refusals.{RefusesNode}
 use Rattle.slotmap_scene.proofs.Weaving.{woven_same}
 
@@ -42,7 +42,7 @@ module _ {T : Type 0} where
     shown_get q = get-mapped (shown_node m) m q
 
     -- where all links are the same, the nodes are shown in the same way
-    pub shown_alike : (new : LinkedNodes T) → ((q : Key) → link_of new q ≡ link_of m q) → (q : Key) → map.get (shown_nodes new) q ≡ option_map (shown_node m) (map.get new q)
+    pub shown_alike : (new : LinkedNodes T) → ((q : Key) → link_under new q ≡ link_under m q) → (q : Key) → map.get (shown_nodes new) q ≡ option_map (shown_node m) (map.get new q)
     shown_alike new links q =
         get-mapped (shown_node new) new q
         ∙ (λ i. option_map (λ (x : LinkedNode T). record { value = x.value; parent = x.parent; children = followed (λ y. links y i) x.children }) (map.get new q))
@@ -62,7 +62,7 @@ module _ {T : Type 0} where
         by (Some n) = some n
 
     pub shown_children : (q : Key) → children_of (shown_nodes m) q ≡ led_to m q
-    shown_children q = shown_part children_in (λ o. followed (link_of m) (ends_in o)) refl (λ n. refl) q
+    shown_children q = shown_part children_in (λ o. followed (link_under m) (ends_at o)) refl (λ n. refl) q
 
     pub shown_value : (q : Key) → value_of (shown_nodes m) q ≡ value_in (map.get m q)
     shown_value q = shown_part (option_map (λ (n : Node T). n.value)) value_in refl (λ n. refl) q
@@ -71,15 +71,15 @@ module _ {T : Type 0} where
     shown_parent q = shown_part parent_in above_in refl (λ n. refl) q
 
     -- a node that is there is shown with its own value and parent
-    pub shown_seen : (q : Key) → option_map (seen (shown_nodes m) q) (map.get m q) ≡ map.get (shown_nodes m) q
+    pub shown_seen : (q : Key) → option_map (node_seen (shown_nodes m) q) (map.get m q) ≡ map.get (shown_nodes m) q
     shown_seen q = by (map.get m q) refl ∙ sym (shown_get q)
       where
-        by : (o : Option (LinkedNode T)) → map.get m q ≡ o → option_map (seen (shown_nodes m) q) o ≡ option_map (shown_node m) o
+        by : (o : Option (LinkedNode T)) → map.get m q ≡ o → option_map (node_seen (shown_nodes m) q) o ≡ option_map (shown_node m) o
         by None is = refl
-        by (Some n) is = ap (λ ks. Some (record { value = n.value; parent = n.parent; children = ks })) (shown_children q ∙ ap (λ o. followed (link_of m) (ends_in o)) is)
+        by (Some n) is = ap (λ ks. Some (record { value = n.value; parent = n.parent; children = ks })) (shown_children q ∙ ap (λ o. followed (link_under m) (ends_at o)) is)
 
-    pub seen_there : (q : Key) (n : LinkedNode T) → map.get m q ≡ Some n → map.get (shown_nodes m) q ≡ Some (seen (shown_nodes m) q n)
-    seen_there q n is = sym (ap (option_map (seen (shown_nodes m) q)) (sym is) ∙ shown_seen q)
+    pub seen_there : (q : Key) (n : LinkedNode T) → map.get m q ≡ Some n → map.get (shown_nodes m) q ≡ Some (node_seen (shown_nodes m) q n)
+    seen_there q n is = sym (ap (option_map (node_seen (shown_nodes m) q)) (sym is) ∙ shown_seen q)
 
     pub shown_roots : linked_roots (map.entries m) ≡ roots_in (map.entries (shown_nodes m))
     shown_roots = by (map.entries m) ∙ ap roots_in (sym (entries-mapped (shown_node m) m))
@@ -96,20 +96,20 @@ module _ {T : Type 0} where
 
   -- what a call does to a content, with the nodes that it shows
   module _ (c : Content (LinkedNode T)) where
-    pub nodes_content : IsContent true c → IsContent true (shown c)
+    pub nodes_content : IsContent true c → IsContent true (nodes_shown c)
     nodes_content well = shown_content c (shown_nodes c.live) (shown_keys c.live) (shown_len c.live) true well
 
     module _ (new : Content (LinkedNode T)) where
-      pub nodes_keep_spent : KeepsSpent c new → KeepsSpent (shown c) (shown new)
+      pub nodes_keep_spent : KeepsSpent c new → KeepsSpent (nodes_shown c) (nodes_shown new)
       nodes_keep_spent keeps = shown_keeps_spent c new (shown_nodes c.live) (shown_nodes new.live) (shown_keys c.live) (shown_len c.live) (shown_keys new.live) (shown_len new.live) keeps
 
-      pub nodes_leave : Leaves c new → Leaves (shown c) (shown new)
+      pub nodes_leave : Leaves c new → Leaves (nodes_shown c) (nodes_shown new)
       nodes_leave leaves = shown_leaves c new (shown_nodes c.live) (shown_nodes new.live) (shown_keys c.live) (shown_len c.live) (shown_keys new.live) (shown_len new.live) leaves
 
-      pub nodes_keep : Keeps c new → Keeps (shown c) (shown new)
+      pub nodes_keep : Keeps c new → Keeps (nodes_shown c) (nodes_shown new)
       nodes_keep keeps = shown_keeps c new (shown_nodes c.live) (shown_nodes new.live) (shown_keys c.live) (shown_len c.live) (shown_keys new.live) (shown_len new.live) (ap shown_nodes keeps.live) keeps
 
-      pub nodes_make_room : (n : ℕ) (ok : Type 0) → MakesRoom true c n ok new → MakesRoom true (shown c) n ok (shown new)
+      pub nodes_make_room : (n : ℕ) (ok : Type 0) → MakesRoom true c n ok new → MakesRoom true (nodes_shown c) n ok (nodes_shown new)
       nodes_make_room n ok makes = shown_makes_room c new (shown_nodes c.live) (shown_nodes new.live) (shown_keys c.live) (shown_len c.live) (shown_keys new.live) (shown_len new.live)
           (ap shown_nodes makes.keeps.live) true n ok makes
 
@@ -132,15 +132,15 @@ module _ {T : Type 0} where
         ]
 
         pub came_woven : IsWoven new.live
-        came_woven = woven_same c.live new.live (as_before ends_in refl) (as_before link_in refl) came_keys woven
+        came_woven = woven_same c.live new.live (as_before ends_at refl) (as_before link_at refl) came_keys woven
 
         came_live : shown_nodes new.live ≡ map.insert (shown_nodes c.live) k (child None v)
-        came_live = map.same_map keys_total exact_keys _ _ (λ q. shown_alike c.live new.live (as_before link_in refl) q ∙ ap (λ m. option_map (shown_node c.live) (map.get m q)) inserts.live ∙ elim (same_or_other q k) [
+        came_live = map.same_map keys_total exact_keys _ _ (λ q. shown_alike c.live new.live (as_before link_at refl) q ∙ ap (λ m. option_map (shown_node c.live) (map.get m q)) inserts.live ∙ elim (same_or_other q k) [
           | inl is ↦ rw is (ap (option_map (shown_node c.live)) (get-insert_here c.live k (leaf v)) ∙ sym (get-insert_here (shown_nodes c.live) k (child None v)))
           | inr other ↦ ap (option_map (shown_node c.live)) (get-insert_other c.live k (leaf v) q other) ∙ sym (shown_get c.live q) ∙ sym (get-insert_other (shown_nodes c.live) k (child None v) q other)
         ])
 
-        pub came_inserts : Inserts (shown c) k (child None v) (shown new)
+        pub came_inserts : Inserts (nodes_shown c) k (child None v) (nodes_shown new)
         came_inserts = shown_inserts c new (shown_nodes c.live) (shown_nodes new.live) (shown_keys c.live) (shown_len c.live) (shown_keys new.live) (shown_len new.live) k (leaf v) (child None v) came_live inserts
 
       -- by the clauses of an insert, whatever it returns
@@ -148,18 +148,18 @@ module _ {T : Type 0} where
       added_woven woven v (Ok k) inserts fresh keeps = came_woven woven k v fresh inserts
       added_woven woven v (Err e) inserts fresh keeps = subst IsWoven (sym keeps.live) woven
 
-      pub added_inserts : {E : Type 0} (woven : IsWoven c.live) (v : T) (result : Result Key E) → IfOk result (λ k. Inserts c k (leaf v) new) → IfOk result (λ k. map.contains_key c.live k ≡ false) → IfOk result (λ k. Inserts (shown c) k (child None v) (shown new))
+      pub added_inserts : {E : Type 0} (woven : IsWoven c.live) (v : T) (result : Result Key E) → IfOk result (λ k. Inserts c k (leaf v) new) → IfOk result (λ k. map.contains_key c.live k ≡ false) → IfOk result (λ k. Inserts (nodes_shown c) k (child None v) (nodes_shown new))
       added_inserts woven v (Ok k) inserts fresh = came_inserts woven k v fresh inserts
       added_inserts woven v (Err e) inserts fresh = tt
 
-      pub added_keeps : {E : Type 0} (result : Result Key E) → OnErr result (Keeps c new) → OnErr result (Keeps (shown c) (shown new))
+      pub added_keeps : {E : Type 0} (result : Result Key E) → OnErr result (Keeps c new) → OnErr result (Keeps (nodes_shown c) (nodes_shown new))
       added_keeps (Ok k) keeps = tt
       added_keeps (Err e) keeps = nodes_keep keeps
 
-      pub refuses_shown : (v : T) (result : Result Key (InsertError T)) → IfErr result (RefusesNode c v) → IfErr result (RefusesNode (shown c) v)
+      pub refuses_shown : (v : T) (result : Result Key (InsertError T)) → IfErr result (RefusesNode c v) → IfErr result (RefusesNode (nodes_shown c) v)
       refuses_shown v (Ok k) refuses = tt
       refuses_shown v (Err e) refuses = by e refuses
         where
-          by : (e : InsertError T) → RefusesNode c v e → RefusesNode (shown c) v e
+          by : (e : InsertError T) → RefusesNode c v e → RefusesNode (nodes_shown c) v e
           by (Full back) is = (let same = shown_len c.live in let full = is.0 in omega arith, is.1)
           by (Memory back) is = (record { below_limit = (let same = shown_len c.live in let below = is.0.below_limit in omega arith); no_room = is.0.no_room }, is.1)

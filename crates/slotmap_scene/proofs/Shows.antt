@@ -11,7 +11,7 @@ use Rattle.slotmap_scene.specs.declared.links.LinkedNode.{LinkedNode}
 use Rattle.slotmap_scene.specs.Node.{Node, Nodes}
 use Rattle.slotmap_scene.specs.Climb.{has_node, with_parent}
 use Rattle.slotmap_scene.specs.Family.{child, children_of, with_children_in}
-use Rattle.slotmap_scene.specs.Links.{IsPlace, IsWoven, LinkedNodes, ends_in, ends_of, led_to, link_of, put_between, shown, shown_nodes, taken_between}
+use Rattle.slotmap_scene.specs.Woven.{IsPlace, IsWoven, LinkedNodes, ends_at, ends_under, led_to, link_under, put_between, nodes_shown, shown_nodes, taken_between}
 use Rattle.slotmap_scene.proofs.Leaving.{leaves_alike}
 use Rattle.slotmap_scene.proofs.Showing.{nodes_leave, seen_there, shown_children, shown_keys}
 use Rattle.slotmap_scene.proofs.ShownChanges.{put_shown, taken_shown, own_keys, own_shown, own_woven, gone_shown, gone_woven}
@@ -25,7 +25,7 @@ some_len : (ks : List Key) (k : Key) → 0 < times k ks → 0 < length ks
 some_len [] k more = absurd (omega arith)
 some_len (q ∷ ks) k more = omega arith
 
-module _ {T : Type 0} (c : Content (LinkedNode T)) (woven : IsWoven c.live) (self : Content (Node T)) (view : shown c ≡ self) where
+module _ {T : Type 0} (c : Content (LinkedNode T)) (woven : IsWoven c.live) (self : Content (Node T)) (view : nodes_shown c ≡ self) where
   children_are : (q : Key) → children_of self.live q ≡ led_to c.live q
   children_are q = ap (λ s. children_of s.live q) (sym view) ∙ shown_children c.live q
 
@@ -36,28 +36,28 @@ module _ {T : Type 0} (c : Content (LinkedNode T)) (woven : IsWoven c.live) (sel
   lister : (p k : Key) → 0 < times k (led_to c.live p) → IsLive c p
   lister p k more = by (map.get c.live p) more
     where
-      by : (o : Option (LinkedNode T)) → 0 < times k (followed (link_of c.live) (ends_in o)) → is_some o ≡ true
+      by : (o : Option (LinkedNode T)) → 0 < times k (followed (link_under c.live) (ends_at o)) → is_some o ≡ true
       by None some = absurd (omega arith)
       by (Some n) some = refl
 
   -- the ends of the children of a node
-  pub first_shown : (p : Key) → (ends_of c.live p).first ≡ first_or (children_of self.live p) None
+  pub first_shown : (p : Key) → (ends_under c.live p).first ≡ first_or (children_of self.live p) None
   first_shown p = ap (λ (e : Ends Key). e.first) (woven.linked.ends_are p) ∙ ap (λ ks. first_or ks None) (sym (children_are p))
 
-  pub last_shown : (p : Key) → (ends_of c.live p).last ≡ last_or (children_of self.live p) None
+  pub last_shown : (p : Key) → (ends_under c.live p).last ≡ last_or (children_of self.live p) None
   last_shown p = ap (λ (e : Ends Key). e.last) (woven.linked.ends_are p) ∙ ap (λ ks. last_or ks None) (sym (children_are p))
 
   -- and the neighbours of a child
-  pub link_shown : (p k : Key) (before after : List Key) → children_of self.live p ≡ before ++ k ∷ after → link_of c.live k ≡ link_between before after
+  pub link_shown : (p k : Key) (before after : List Key) → children_of self.live p ≡ before ++ k ∷ after → link_under c.live k ≡ link_between before after
   link_shown p k before after is = woven.linked.links_are p before k after (sym (children_are p) ∙ is)
 
   -- what links show that changed under the same keys
   module _ (m : LinkedNodes T) (keys : (q : Key) → map.contains_key m q ≡ map.contains_key c.live q) (new : Content (LinkedNode T)) (made : new ≡ record c { live = m }) where
-    still_leaves : Leaves self (shown new)
-    still_leaves = subst (λ s. Leaves s (shown new)) view (nodes_leave c new (subst (Leaves c) (sym made) (leaves_alike c m keys)))
+    still_leaves : Leaves self (nodes_shown new)
+    still_leaves = subst (λ s. Leaves s (nodes_shown new)) view (nodes_leave c new (subst (Leaves c) (sym made) (leaves_alike c m keys)))
 
-    now_shows : (f : Nodes T → Nodes T) → shown_nodes m ≡ f (shown_nodes c.live) → shown new ≡ record self { live = f self.live }
-    now_shows f is = ap shown made ∙ ap (λ n. record (shown c) { live = n }) is ∙ ap (λ (s : Content (Node T)). record s { live = f s.live }) view
+    now_shows : (f : Nodes T → Nodes T) → shown_nodes m ≡ f (shown_nodes c.live) → nodes_shown new ≡ record self { live = f self.live }
+    now_shows f is = ap nodes_shown made ∙ ap (λ n. record (nodes_shown c) { live = n }) is ∙ ap (λ (s : Content (Node T)). record s { live = f s.live }) view
 
   -- a node is taken out of the children of p
   module _ (p k : Key) (more : 0 < times k (children_of self.live p)) where
@@ -73,10 +73,10 @@ module _ {T : Type 0} (c : Content (LinkedNode T)) (woven : IsWoven c.live) (sel
     pub lister_live : IsLive c p
     lister_live = lister p k in_list
 
-    pub lister_some : 0 < (ends_of c.live p).len
+    pub lister_some : 0 < (ends_under c.live p).len
     lister_some = let long = ap (λ (e : Ends Key). e.len) (woven.linked.ends_are p) in let some = some_len (led_to c.live p) k in_list in omega arith
 
-    module _ (l : Link Key) (own : link_of c.live k ≡ l) where
+    module _ (l : Link Key) (own : link_under c.live k ≡ l) where
       place : l ≡ link_between split.0 split.1
       place = sym own ∙ woven.linked.links_are p split.0 k split.1 split.2
 
@@ -90,11 +90,11 @@ module _ {T : Type 0} (c : Content (LinkedNode T)) (woven : IsWoven c.live) (sel
         pub take_woven : IsWoven new.live
         take_woven = subst (λ (s : Content (LinkedNode T)). IsWoven s.live) (sym made) (taken_woven c.live woven p k lister_live split.0 split.1 split.2 l place)
 
-        pub take_shows : shown new ≡ record self { live = with_children_in self.live p (map.get self.live p) (without k) }
+        pub take_shows : nodes_shown new ≡ record self { live = with_children_in self.live p (map.get self.live p) (without k) }
         take_shows = now_shows (taken_between c.live p l) (taken_keys c.live woven p k lister_live split.0 split.1 split.2 l place) new made
             (λ n. with_children_in n p (map.get n p) (without k)) (taken_shown c.live woven p k lister_live split.0 split.1 split.2 l place)
 
-        pub take_leaves : Leaves self (shown new)
+        pub take_leaves : Leaves self (nodes_shown new)
         take_leaves = still_leaves (taken_between c.live p l) (taken_keys c.live woven p k lister_live split.0 split.1 split.2 l place) new made
 
   -- a node that is in no list is put among the children of p
@@ -116,11 +116,11 @@ module _ {T : Type 0} (c : Content (LinkedNode T)) (woven : IsWoven c.live) (sel
       pub put_weaves : IsWoven new.live
       put_weaves = subst (λ (s : Content (LinkedNode T)). IsWoven s.live) (sym made) (put_woven c.live woven p k (live_is k live) (live_is p there) none before after list l place.link)
 
-      pub put_shows : shown new ≡ record self { live = with_parent (with_children_in self.live p (map.get self.live p) (λ _. before ++ k ∷ after)) k (Some p) }
+      pub put_shows : nodes_shown new ≡ record self { live = with_parent (with_children_in self.live p (map.get self.live p) (λ _. before ++ k ∷ after)) k (Some p) }
       put_shows = now_shows (put_between c.live p k l) (put_keys c.live woven p k (live_is k live) (live_is p there) none before after list l place.link) new made
           (λ n. with_parent (with_children_in n p (map.get n p) (λ _. before ++ k ∷ after)) k (Some p)) (put_shown c.live woven p k (live_is k live) (live_is p there) none before after list l place.link)
 
-      pub put_leaves : Leaves self (shown new)
+      pub put_leaves : Leaves self (nodes_shown new)
       put_leaves = still_leaves (put_between c.live p k l) (put_keys c.live woven p k (live_is k live) (live_is p there) none before after list l place.link) new made
 
   -- a node becomes a root
@@ -134,11 +134,11 @@ module _ {T : Type 0} (c : Content (LinkedNode T)) (woven : IsWoven c.live) (sel
     pub root_woven : IsWoven made_root
     root_woven = own_woven c.live woven k n found (λ x. record x { parent = None }) (λ x. record x { parent = None }) (λ x. refl) (λ x. refl) (λ x. refl)
 
-    pub root_shows : shown (record c { live = made_root }) ≡ record self { live = with_parent self.live k None }
+    pub root_shows : nodes_shown (record c { live = made_root }) ≡ record self { live = with_parent self.live k None }
     root_shows = now_shows made_root root_keys (record c { live = made_root }) refl (λ m. with_parent m k None)
         (own_shown c.live woven k n found (λ x. record x { parent = None }) (λ x. record x { parent = None }) (λ x. refl) (λ x. refl) (λ x. refl))
 
-    pub root_leaves : Leaves self (shown (record c { live = made_root }))
+    pub root_leaves : Leaves self (nodes_shown (record c { live = made_root }))
     root_leaves = still_leaves made_root root_keys (record c { live = made_root }) refl
 
   -- a node with no children, that is in no list, goes

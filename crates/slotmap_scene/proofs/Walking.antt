@@ -9,10 +9,10 @@ use Rattle.slotmap_keylist.specs.KeyLists.{times}
 use Rattle.slotmap_keylist.specs.Linked.{first_or, last_or, follow, link_between}
 use Rattle.slotmap_keylist.proofs.Linking.{follow_part, in_midst, last_or-append, none_last, split_last}
 use Rattle.slotmap_scene.specs.declared.links.LinkedNode.{LinkedNode}
-use Rattle.slotmap_scene.specs.Links.{IsWalk, IsWoven, LinkedNodes, ends_of, led_to, link_in, link_of}
+use Rattle.slotmap_scene.specs.Woven.{IsPart, IsWoven, LinkedNodes, ends_under, led_to, link_at, link_under}
 
 -- all children of a node
-pub walk_children : {T : Type 0} (m : LinkedNodes T) → IsWoven m → (p : Key) → IsWalk m (ends_of m p).len (ends_of m p).first (ends_of m p).last
+pub walk_children : {T : Type 0} (m : LinkedNodes T) → IsWoven m → (p : Key) → IsPart m (ends_under m p).len (ends_under m p).first (ends_under m p).last
 walk_children m woven p = record {
   woven = woven;
   owner = p;
@@ -25,14 +25,14 @@ walk_children m woven p = record {
   ends = ap (λ (e : Ends Key). e.last) (woven.linked.ends_are p);
 }
 
-module _ {T : Type 0} (m : LinkedNodes T) (left : ℕ) (first last : Option Key) (walk : IsWalk m left first last) where
+module _ {T : Type 0} (m : LinkedNodes T) (left : ℕ) (first last : Option Key) (walk : IsPart m left first last) where
   -- the keys that are left
-  pub walk_keys : follow (link_of m) left first ≡ walk.keys
+  pub walk_keys : follow (link_under m) left first ≡ walk.keys
   walk_keys =
-      ap (λ n. follow (link_of m) n first) (sym walk.long) ∙ ap (follow (link_of m) (length walk.keys)) walk.begins
+      ap (λ n. follow (link_under m) n first) (sym walk.long) ∙ ap (follow (link_under m) (length walk.keys)) walk.begins
       ∙ follow_part walk.woven.linked walk.owner walk.before walk.keys walk.after walk.list
 
-  pub walk_long : left ≡ length (follow (link_of m) left first)
+  pub walk_long : left ≡ length (follow (link_under m) left first)
   walk_long = sym (ap length walk_keys ∙ walk.long)
 
   -- one of them, with its node
@@ -41,7 +41,7 @@ module _ {T : Type 0} (m : LinkedNodes T) (left : ℕ) (first last : Option Key)
     its_live = walk.woven.live walk.owner k (let sum = ap (times k) list ∙ in_midst before k after in omega arith)
 
     its_link : (n : LinkedNode T) → map.get m k ≡ Some n → n.siblings ≡ link_between before after
-    its_link n found = sym (ap link_in found) ∙ walk.woven.linked.links_are walk.owner before k after list
+    its_link n found = sym (ap link_at found) ∙ walk.woven.linked.links_are walk.owner before k after list
 
   -- there is a last key, as long as one is left
   pub last_there : (left ≡ 0 → ⊥) → last ≡ None → ⊥
@@ -74,7 +74,7 @@ module _ {T : Type 0} (m : LinkedNodes T) (left : ℕ) (first last : Option Key)
         link : n.siblings ≡ link_between walk.before (first_key.0 ++ walk.after)
         link = its_link walk.before k (first_key.0 ++ walk.after) first_list n found
 
-        pub walk_next : IsWalk m (left - 1) n.siblings.next last
+        pub walk_next : IsPart m (left - 1) n.siblings.next last
         walk_next = record {
           woven = walk.woven;
           owner = walk.owner;
@@ -103,7 +103,7 @@ module _ {T : Type 0} (m : LinkedNodes T) (left : ℕ) (first last : Option Key)
       pub last_live : map.contains_key m k ≡ true
       last_live = its_live (walk.before ++ last_key.0) k walk.after last_list
 
-      pub walk_back : (n : LinkedNode T) → map.get m k ≡ Some n → IsWalk m (left - 1) first n.siblings.prev
+      pub walk_back : (n : LinkedNode T) → map.get m k ≡ Some n → IsPart m (left - 1) first n.siblings.prev
       walk_back n found = record {
         woven = walk.woven;
         owner = walk.owner;
@@ -117,14 +117,14 @@ module _ {T : Type 0} (m : LinkedNodes T) (left : ℕ) (first last : Option Key)
       }
 
 -- what is left by a step
-module _ {T : Type 0} (m : LinkedNodes T) (left : ℕ) (first last : Option Key) (walk : IsWalk m left first last) (some : left ≡ 0 → ⊥) (k : Key) (n : LinkedNode T) (found : map.get m k ≡ Some n) where
-  pub next_is : first ≡ Some k → follow (link_of m) left first ≡ k ∷ follow (link_of m) (left - 1) n.siblings.next
+module _ {T : Type 0} (m : LinkedNodes T) (left : ℕ) (first last : Option Key) (walk : IsPart m left first last) (some : left ≡ 0 → ⊥) (k : Key) (n : LinkedNode T) (found : map.get m k ≡ Some n) where
+  pub next_is : first ≡ Some k → follow (link_under m) left first ≡ k ∷ follow (link_under m) (left - 1) n.siblings.next
   unfolding walk_next
   next_is is =
       walk_keys m left first last walk ∙ (first_key m left first last walk some k is).1
       ∙ ap (λ ks. k ∷ ks) (sym (walk_keys m (left - 1) n.siblings.next last (walk_next m left first last walk some k is n found)))
 
-  pub back_is : last ≡ Some k → follow (link_of m) left first ≡ follow (link_of m) (left - 1) first ++ k ∷ []
+  pub back_is : last ≡ Some k → follow (link_under m) left first ≡ follow (link_under m) (left - 1) first ++ k ∷ []
   unfolding walk_back
   back_is is =
       walk_keys m left first last walk ∙ (last_key m left first last walk some k is).1

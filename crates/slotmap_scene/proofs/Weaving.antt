@@ -11,11 +11,11 @@ use Rattle.slotmap_keylist.proofs.Counts.{is_itself, is_other, one_itself, one_o
 use Rattle.slotmap_keylist.proofs.Linking.{first_or-append, last_or-append, first_in, last_in, in_midst, followed_is, linked_put, linked_taken}
 use Rattle.slotmap_keylist.specs.Changed.{changed}
 use Rattle.slotmap_keylist.proofs.Changed.{changed_gives, changed_keeps, changed_other}
-use Rattle.slotmap_scene.specs.Links.{LinkedNodes, ends_in, ends_of, led_to, link_in, link_of, relinked, put_between, taken_between, IsWoven}
-use Rattle.slotmap_scene.proofs.Relinked.{relinked_keeps, relinked_others, relinked_prev, relinked_next, relinked_ends, relinked_here}
+use Rattle.slotmap_scene.specs.Woven.{LinkedNodes, ends_at, ends_under, led_to, link_at, link_under, relinked, put_between, taken_between, IsWoven}
+use Rattle.slotmap_scene.proofs.Neighbours.{relinked_keeps, relinked_others, relinked_prev, relinked_next, relinked_ends, relinked_here}
 
 -- the lists that the links of nodes make, by what is known of the links
-module _ {T : Type 0} (m : LinkedNodes T) (lists : Key → List Key) (linked : IsLinked (ends_of m) (link_of m) lists) where
+module _ {T : Type 0} (m : LinkedNodes T) (lists : Key → List Key) (linked : IsLinked (ends_under m) (link_under m) lists) where
   pub led_is : (p : Key) → led_to m p ≡ lists p
   led_is p = followed_is linked p
 
@@ -23,14 +23,14 @@ module _ {T : Type 0} (m : LinkedNodes T) (lists : Key → List Key) (linked : I
   woven_by apart live =
       let same : led_to m ≡ lists = λ i p. followed_is linked p i in
       record {
-        linked = subst (IsLinked (ends_of m) (link_of m)) (sym same) linked;
+        linked = subst (IsLinked (ends_under m) (link_under m)) (sym same) linked;
         apart = subst AreApart (sym same) apart;
         live = λ p k more. live p k (subst (λ ks. 0 < times k ks) (followed_is linked p) more);
       }
 
 -- where all links are the same, all lists are
-module _ {T : Type 0} (m new : LinkedNodes T) (ends : (q : Key) → ends_of new q ≡ ends_of m q) (links : (q : Key) → link_of new q ≡ link_of m q) where
-  linked_same : IsWoven m → IsLinked (ends_of new) (link_of new) (led_to m)
+module _ {T : Type 0} (m new : LinkedNodes T) (ends : (q : Key) → ends_under new q ≡ ends_under m q) (links : (q : Key) → link_under new q ≡ link_under m q) where
+  linked_same : IsWoven m → IsLinked (ends_under new) (link_under new) (led_to m)
   linked_same woven = record {
     ends_are = λ p. ends p ∙ woven.linked.ends_are p;
     links_are = λ p before k after is. links k ∙ woven.linked.links_are p before k after is;
@@ -57,7 +57,7 @@ module _ {T : Type 0} (m : LinkedNodes T) (woven : IsWoven m) (p : Key) where
   list_at ks q is = ap (with_list ks) is ∙ list_here ks
 
   -- a list is no longer than there are nodes
-  pub led_short : (ends_of m p).len ≤ map.len m
+  pub led_short : (ends_under m p).len ≤ map.len m
   led_short =
       let long = ap (λ (e : Ends Key). e.len) (woven.linked.ends_are p) in
       let few = no_more_than (led_to m p) m (woven.apart.once p) (woven.live p) in
@@ -79,7 +79,7 @@ module _ {T : Type 0} (m : LinkedNodes T) (woven : IsWoven m) (p : Key) where
 
     -- their links, where they lead on and back to other keys, in nodes with the same links but for that of k
     module _ (then : LinkedNodes T) (k : Key) (not_prev : last_or before None ≢ Some k) (not_next : first_or after None ≢ Some k)
-        (keys : (x : Key) → map.contains_key then x ≡ map.contains_key m x) (links : (x : Key) → x ≢ k → link_of then x ≡ link_of m x)
+        (keys : (x : Key) → map.contains_key then x ≡ map.contains_key m x) (links : (x : Key) → x ≢ k → link_under then x ≡ link_under m x)
         (l : Link Key) (place : l ≡ link_between before after) (on back : Option Key) (f : ℕ → ℕ) where
       is_prev : l.prev ≡ last_or before None
       is_prev = ap (λ (s : Link Key). s.prev) place
@@ -87,7 +87,7 @@ module _ {T : Type 0} (m : LinkedNodes T) (woven : IsWoven m) (p : Key) where
       is_next : l.next ≡ first_or after None
       is_next = ap (λ (s : Link Key). s.next) place
 
-      pub relinks_now : Relinks (link_of m) (link_of (relinked then p l on back f)) k before after on back
+      pub relinks_now : Relinks (link_under m) (link_under (relinked then p l on back f)) k before after on back
       relinks_now = record {
         prev = λ x is. relinked_prev then p l on back f x (is_prev ∙ is) (λ next. not_both x is (sym is_next ∙ next)) (keys x ∙ prev_live x is)
             ∙ ap (λ (s : Link Key). record s { next = on }) (links x (λ at. not_prev (is ∙ ap Some at)));
@@ -120,18 +120,18 @@ module _ {T : Type 0} (m : LinkedNodes T) (woven : IsWoven m) (p : Key) where
     own_keys : (x : Key) → map.contains_key own x ≡ map.contains_key m x
     own_keys x = changed_keeps m k (λ n. record n { parent = Some p; siblings = l }) is_some (λ n. refl) x
 
-    own_ends : (x : Key) → ends_of own x ≡ ends_of m x
-    own_ends x = changed_keeps m k (λ n. record n { parent = Some p; siblings = l }) ends_in (λ n. refl) x
+    own_ends : (x : Key) → ends_under own x ≡ ends_under m x
+    own_ends x = changed_keeps m k (λ n. record n { parent = Some p; siblings = l }) ends_at (λ n. refl) x
 
     pub put_keys : (x : Key) → map.contains_key put x ≡ map.contains_key m x
     put_keys x = relinked_keeps own p l (Some k) (Some k) (λ len. len + 1) is_some (λ n e s. refl) x ∙ own_keys x
 
-    own_link : link_of put k ≡ link_between before after
+    own_link : link_under put k ≡ link_between before after
     own_link =
         relinked_others own p l (Some k) (Some k) (λ len. len + 1) k (λ is. not_prev (sym (ap (λ (s : Link Key). s.prev) place) ∙ is)) (λ is. not_next (sym (ap (λ (s : Link Key). s.next) place) ∙ is))
-        ∙ changed_gives m k (λ n. record n { parent = Some p; siblings = l }) link_in (λ s. l) (λ n. refl) live ∙ place
+        ∙ changed_gives m k (λ n. record n { parent = Some p; siblings = l }) link_at (λ s. l) (λ n. refl) live ∙ place
 
-    put_ends : ends_of put p ≡ ends_of_list ks
+    put_ends : ends_under put p ≡ ends_of_list ks
     put_ends =
         relinked_here own p l (Some k) (Some k) (λ len. len + 1) before [] after place (own_keys p ∙ there) (own_ends p ∙ woven.linked.ends_are p ∙ ap ends_of_list list)
         ∙ (λ i. record { first = first i; last = last i; len = long i })
@@ -145,10 +145,10 @@ module _ {T : Type 0} (m : LinkedNodes T) (woven : IsWoven m) (p : Key) where
         long : length (before ++ ([] ++ after)) + 1 ≡ length ks
         long = let a = length-append before (k ∷ after) in let b = length-append before after in omega arith
 
-    pub put_linked : IsLinked (ends_of put) (link_of put) (with_list ks)
+    pub put_linked : IsLinked (ends_under put) (link_under put) (with_list ks)
     put_linked = linked_put woven.linked woven.apart p k before after list none own_link
         (relinks_now before [] after list own k not_prev not_next own_keys
-        (λ x other. ap link_in (changed_other m k (λ n. record n { parent = Some p; siblings = l }) x other)) l place (Some k) (Some k) (λ len. len + 1))
+        (λ x other. ap link_at (changed_other m k (λ n. record n { parent = Some p; siblings = l }) x other)) l place (Some k) (Some k) (λ len. len + 1))
         (record {
           list = list_here ks;
           ends = put_ends;
@@ -213,7 +213,7 @@ module _ {T : Type 0} (m : LinkedNodes T) (woven : IsWoven m) (p : Key) where
     pub not_itself_next : first_or after None ≢ Some k
     not_itself_next is = absurd (let at = first_in after k is in let sum = count_k in let once = woven.apart.once p k in omega arith)
 
-    taken_ends : ends_of taken p ≡ ends_of_list (before ++ after)
+    taken_ends : ends_under taken p ≡ ends_of_list (before ++ after)
     taken_ends =
         relinked_here m p l l.next l.prev (λ len. len - 1) before (k ∷ []) after place there (woven.linked.ends_are p ∙ ap ends_of_list list)
         ∙ (λ i. record { first = first i; last = last i; len = long i })
@@ -227,9 +227,9 @@ module _ {T : Type 0} (m : LinkedNodes T) (woven : IsWoven m) (p : Key) where
         long : length (before ++ (k ∷ [] ++ after)) - 1 ≡ length (before ++ after)
         long = let a = length-append before (k ∷ after) in let b = length-append before after in omega arith
 
-    pub taken_linked : IsLinked (ends_of taken) (link_of taken) (with_list (before ++ after))
+    pub taken_linked : IsLinked (ends_under taken) (link_under taken) (with_list (before ++ after))
     taken_linked = linked_taken woven.linked woven.apart p k before after list
-        (subst (λ (s : Link Key). Relinks (link_of m) (link_of taken) k before after s.next s.prev) place
+        (subst (λ (s : Link Key). Relinks (link_under m) (link_under taken) k before after s.next s.prev) place
         (relinks_now before (k ∷ []) after list m k not_itself_prev not_itself_next (λ x. refl) (λ x other. refl) l place l.next l.prev (λ len. len - 1)))
         (record {
           list = list_here (before ++ after);

@@ -29,9 +29,9 @@ placed Before s k ks = placed_before s k ks
 placed After s k ks = placed_after s k ks
 
 -- the two parts of a list that a place on this side of s is between, where these keys are before s and behind it
-abbrev pub beside : Side → List Key → Key → List Key → List Key × List Key
-beside Before before s after = (before, s ∷ after)
-beside After before s after = (before ++ s ∷ [], after)
+abbrev pub parts_beside : Side → List Key → Key → List Key → List Key × List Key
+parts_beside Before before s after = (before, s ∷ after)
+parts_beside After before s after = (before ++ s ∷ [], after)
 
 module _ {T : Type 0} where
   -- the children of a node, if there is one

@@ -3,8 +3,8 @@ pub mod Below
 pub mod Climb
 pub mod Family
 pub mod Lends
-pub mod Links
 pub mod Node
 pub mod Offset
 pub mod Refusals
 pub mod WorldValue
+pub mod Woven

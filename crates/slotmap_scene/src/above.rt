@@ -67,7 +67,7 @@ pub struct Roots<'a, K, T> {
 impl<'a, K, T> Model for Roots<'a, K, T> {
     ghost use Rattle.std.specs.Prelude.{List};
     ghost use Rattle.slotmap.specs.Words.{Key};
-    ghost use Rattle.slotmap_scene.specs.Links.{linked_roots};
+    ghost use Rattle.slotmap_scene.specs.Woven.{linked_roots};
 
     ghost Value = { List Key };
 

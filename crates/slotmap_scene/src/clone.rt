@@ -3,7 +3,7 @@
 ghost use Rattle.std.specs.Prelude.{◌≡◌, IfOk};
 ghost use Rattle.slotmap.specs.Words.{ClonesEqual, IsCloneBy, IsCopy};
 ghost use Rattle.slotmap_scene.specs.Family.{IsNodeClone};
-ghost use Rattle.slotmap_scene.specs.Links.{IsLinkedClone};
+ghost use Rattle.slotmap_scene.specs.Woven.{IsLinkedClone};
 
 use crate::Scene;
 use crate::family::Nodes;

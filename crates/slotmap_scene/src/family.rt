@@ -10,7 +10,7 @@ ghost use Rattle.slotmap_keylist.specs.Linked.{first_or, last_or};
 ghost use Rattle.slotmap_scene.specs.Above.{roots_in};
 ghost use Rattle.slotmap_scene.specs.Climb.{has_node, lacks_node, parent_of, with_parent};
 ghost use Rattle.slotmap_scene.specs.Family.{child, children_of, value_of, with_children_in};
-ghost use Rattle.slotmap_scene.specs.Links.{IsPlace, linked_roots, seen};
+ghost use Rattle.slotmap_scene.specs.Woven.{IsPlace, linked_roots, node_seen};
 ghost use Rattle.slotmap_scene.specs.Refusals.{RefusesNode};
 
 use crate::iter::ChildKeys;
@@ -34,9 +34,9 @@ impl<T> Model for Nodes<T> {
 
     ghost coded = { content_code (node_code T.code) };
 
-    ghost use Rattle.slotmap_scene.specs.Links.{IsWoven, shown};
+    ghost use Rattle.slotmap_scene.specs.Woven.{IsWoven, nodes_shown};
 
-    ghost view = { λ nodes. shown nodes.map };
+    ghost view = { λ nodes. nodes_shown nodes.map };
 
     ghost invariant = { λ nodes. IsWoven nodes.map.live };
 }
@@ -81,7 +81,7 @@ impl<T: Drop> Nodes<T> {
 
     // A node, if there is one.
     pub fn get(&self, node: DefaultKey) -> Option<&LinkedNode<T>>
-        ensures value { option_map (seen self.now.live node) (option_copied result) ≡ map.get self.now.live node }
+        ensures value { option_map (node_seen self.now.live node) (option_copied result) ≡ map.get self.now.live node }
     {
         self.map.get(node)
     }
@@ -218,7 +218,7 @@ impl<T: Drop> Index<DefaultKey> for Nodes<T> {
 
     ghost can_index = { λ nodes node. has_node nodes.live node };
 
-    ghost index_gives = { λ nodes key node. map.get nodes.live key ≡ Some (seen nodes.live key node) };
+    ghost index_gives = { λ nodes key node. map.get nodes.live key ≡ Some (node_seen nodes.live key node) };
 
     fn index(&self, node: DefaultKey) -> &LinkedNode<T> {
         &self.map[node]

@@ -3,7 +3,7 @@
 ghost use Rattle.std.specs.Prelude.{◌≡◌, ◌≤◌, length, Some, IfSome, ⊤};
 ghost use Rattle.std.specs.Iterator.{YieldsFirstBy, YieldsLastBy, item_count, at_most, UpTo};
 ghost use Rattle.slotmap_keylist.specs.Linked.{followed};
-ghost use Rattle.slotmap_scene.specs.Links.{IsWalk, link_of};
+ghost use Rattle.slotmap_scene.specs.Woven.{IsPart, link_under};
 
 use crate::links::LinkedNodes;
 use slotmap::{DefaultKey, Key};
@@ -32,20 +32,20 @@ impl<'a, K, T> Model for ChildKeys<'a, K, T> {
     ghost use Rattle.std.specs.Prelude.{List};
     ghost use Rattle.slotmap.specs.Words.{Key};
     ghost use Rattle.slotmap_keylist.specs.Linked.{follow};
-    ghost use Rattle.slotmap_scene.specs.Links.{IsWalk, link_of};
+    ghost use Rattle.slotmap_scene.specs.Woven.{IsPart, link_under};
 
     ghost Value = { List Key };
 
-    ghost view = { λ it. follow (link_of it.nodes.now.live) it.left it.first };
+    ghost view = { λ it. follow (link_under it.nodes.now.live) it.left it.first };
 
-    ghost invariant = { λ it. IsWalk it.nodes.now.live it.left it.first it.last };
+    ghost invariant = { λ it. IsPart it.nodes.now.live it.left it.first it.last };
 }
 
 impl<'a, K, T> ChildKeys<'a, K, T> {
     // The keys of a list with these ends.
     pub(crate) fn between(nodes: &'a LinkedNodes<T>, ends: Ends<DefaultKey>) -> ChildKeys<'a, K, T>
-        requires { IsWalk nodes.now.live ends.len ends.first ends.last }
-        ensures { result ≡ followed (link_of nodes.now.live) ends }
+        requires { IsPart nodes.now.live ends.len ends.first ends.last }
+        ensures { result ≡ followed (link_under nodes.now.live) ends }
     {
         ChildKeys {
             nodes,

@@ -4,7 +4,7 @@
 ghost use Rattle.std.specs.Prelude.{◌≡◌, ◌<◌, ◌≤◌, IfErr, IfOk, IfSome, IsOk, OnErr, false};
 ghost use Rattle.std.specs.FinMap as map;
 ghost use Rattle.slotmap.specs.Words.{Inserts, IsLive, IsSpent, Keeps, KeepsSpent};
-ghost use Rattle.slotmap_scene.specs.Links.{ends_of, leaf, put_between, taken_between, with_next, with_prev};
+ghost use Rattle.slotmap_scene.specs.Woven.{ends_under, leaf, put_between, taken_between, leading_on, leading_back};
 ghost use Rattle.slotmap_scene.specs.Refusals.{RefusesNode};
 
 use slotmap::{DefaultKey, InsertError, SlotMap};
@@ -60,7 +60,7 @@ fn set_next<T: Drop>(
 )
     requires parent { IsLive nodes.old parent }
     requires node { IfSome node (IsLive nodes.old) }
-    ensures { nodes.new ≡ record nodes.old { live = with_next nodes.old.live parent node next } }
+    ensures { nodes.new ≡ record nodes.old { live = leading_on nodes.old.live parent node next } }
 {
     match node {
         Some(node) => nodes[node].siblings.next = next,
@@ -78,7 +78,7 @@ fn set_prev<T: Drop>(
 )
     requires parent { IsLive nodes.old parent }
     requires node { IfSome node (IsLive nodes.old) }
-    ensures { nodes.new ≡ record nodes.old { live = with_prev nodes.old.live parent node prev } }
+    ensures { nodes.new ≡ record nodes.old { live = leading_back nodes.old.live parent node prev } }
 {
     match node {
         Some(node) => nodes[node].siblings.prev = prev,
@@ -97,7 +97,7 @@ pub(crate) fn put_between<T: Drop>(
     requires node { IsLive nodes.old node }
     requires prev { IfSome siblings.prev (IsLive nodes.old) }
     requires next { IfSome siblings.next (IsLive nodes.old) }
-    requires fits { (ends_of nodes.old.live parent).len ≤ map.len nodes.old.live }
+    requires fits { (ends_under nodes.old.live parent).len ≤ map.len nodes.old.live }
     ensures { nodes.new ≡ record nodes.old { live = put_between nodes.old.live parent node siblings } }
 {
     let place = &mut nodes[node];
@@ -118,7 +118,7 @@ pub(crate) fn take_between<T: Drop>(
     requires parent { IsLive nodes.old parent }
     requires prev { IfSome siblings.prev (IsLive nodes.old) }
     requires next { IfSome siblings.next (IsLive nodes.old) }
-    requires some { 0 < (ends_of nodes.old.live parent).len }
+    requires some { 0 < (ends_under nodes.old.live parent).len }
     ensures { nodes.new ≡ record nodes.old { live = taken_between nodes.old.live parent siblings } }
 {
     set_next(nodes, parent, siblings.prev, siblings.next);

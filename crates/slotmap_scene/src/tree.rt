@@ -6,7 +6,7 @@ ghost use Rattle.slotmap.specs.Words.{Key as KeyOf, Leaves};
 ghost use Rattle.slotmap_keylist.specs.KeyLists.{times};
 ghost use Rattle.slotmap_keylist.specs.Linked.{link_between};
 ghost use Rattle.slotmap_scene.specs.Climb.{IsWithin, has_node, lacks_node, parent_of};
-ghost use Rattle.slotmap_scene.specs.Family.{IsScene, MayLeave, as_root, attached, attached_by, beside, children_of, placed, value_of};
+ghost use Rattle.slotmap_scene.specs.Family.{IsScene, MayLeave, as_root, attached, attached_by, parts_beside, children_of, placed, value_of};
 
 use crate::family::Nodes;
 use slotmap::DefaultKey;
@@ -35,7 +35,7 @@ impl<T: Drop> Nodes<T> {
     // The neighbours of a place beside a node, among its siblings.
     fn place_beside(&self, side: Side, sibling: DefaultKey) -> Link<DefaultKey>
         ensures { (p : KeyOf) (before after : List KeyOf) → children_of self.now.live p ≡ before ++ sibling ∷ after
-            → result ≡ link_between (beside side before sibling after).0 (beside side before sibling after).1 }
+            → result ≡ link_between (parts_beside side before sibling after).0 (parts_beside side before sibling after).1 }
     {
         match side {
             Side::Before => Link {

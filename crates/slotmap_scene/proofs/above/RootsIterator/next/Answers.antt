@@ -1,5 +1,5 @@
 use Rattle.std.proofs.Common.{not, sym, ap, ◌∙◌, length, arith}
-use Rattle.slotmap_scene.specs.Links.{linked_roots}
+use Rattle.slotmap_scene.specs.Woven.{linked_roots}
 use Rattle.slotmap_scene.specs.declared.links.LinkedNode.{LinkedNode}
 use Rattle.slotmap_scene.proofs.AboveLemmas.{root_first, root_passed}
 use Rattle.slotmap_scene.proofs.above.RootsIterator.next.Goals as goal

@@ -1,5 +1,5 @@
 use Rattle.std.proofs.Common.{◌≡◌, length}
-use Rattle.slotmap_scene.specs.Links.{linked_roots}
+use Rattle.slotmap_scene.specs.Woven.{linked_roots}
 use Rattle.slotmap_scene.proofs.above.RootsIterator.next.Given as goal
 
 abbrev pub invariant-loop-entry : goal.invariant-loop-entry

@@ -1,6 +1,6 @@
 use Rattle.std.proofs.Common.{arith}
 use Rattle.slotmap_keylist.proofs.Linking.{split_at}
-use Rattle.slotmap_scene.specs.Family.{beside, children_of}
+use Rattle.slotmap_scene.specs.Family.{parts_beside, children_of}
 use Rattle.slotmap_scene.proofs.Placing.{attached_side, side_place}
 use Rattle.slotmap_scene.proofs.family.Nodes.attach_beside.Goals as goal
 
@@ -8,8 +8,8 @@ pub put_between-requires-clause-place : goal.put_between-requires-clause-place
 put_between-requires-clause-place g c =
     let nodes = c.args.self.now.live in
     let parts = split_at c.args.sibling (children_of nodes c.args.parent) (let once = c.requires.sibling in omega arith) in (
-      (beside c.args.side parts.0 c.args.sibling parts.1).0,
-      (beside c.args.side parts.0 c.args.sibling parts.1).1,
+      (parts_beside c.args.side parts.0 c.args.sibling parts.1).0,
+      (parts_beside c.args.side parts.0 c.args.sibling parts.1).1,
       side_place nodes c.args.parent c.args.side c.args.sibling parts.0 parts.1 c.place_beside-siblings.result parts.2 (c.place_beside-siblings.ensures c.args.parent parts.0 parts.1 parts.2),
     )
 

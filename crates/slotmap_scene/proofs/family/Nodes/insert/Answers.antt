@@ -1,7 +1,7 @@
 use Rattle.std.proofs.Common.{◌∙◌}
 use Rattle.std.proofs.lemmas.Result.{IfOk-weaker}
 use Rattle.slotmap_keylist.proofs.Shown.{spent_shown}
-use Rattle.slotmap_scene.specs.Links.{shown_nodes}
+use Rattle.slotmap_scene.specs.Woven.{shown_nodes}
 use Rattle.slotmap_scene.proofs.Showing.{added_inserts, added_keeps, added_woven, nodes_keep_spent, refuses_shown, shown_keys, shown_len}
 use Rattle.slotmap_scene.proofs.family.Nodes.insert.Goals as goal
 

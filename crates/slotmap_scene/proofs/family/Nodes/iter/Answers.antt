@@ -1,5 +1,5 @@
 use Rattle.std.proofs.Common.{ap, ◌∙◌}
-use Rattle.slotmap_scene.specs.Links.{linked_roots}
+use Rattle.slotmap_scene.specs.Woven.{linked_roots}
 use Rattle.slotmap_scene.proofs.Showing.{shown_roots}
 use Rattle.slotmap_scene.proofs.family.Nodes.iter.Goals as goal
 

@@ -3,7 +3,7 @@ use Rattle.slotmap.specs.Words.{Content}
 use Rattle.slotmap.proofs.Callers.{same_lent, same_unlent}
 use Rattle.slotmap_scene.specs.Node.{Node}
 use Rattle.slotmap_scene.specs.Family.{with_value}
-use Rattle.slotmap_scene.specs.Links.{shown}
+use Rattle.slotmap_scene.specs.Woven.{nodes_shown}
 use Rattle.slotmap_scene.proofs.Showing.{shown_value, value_in}
 use Rattle.slotmap_scene.proofs.ShownChanges.{own_woven, own_shown}
 use Rattle.slotmap_scene.proofs.family.Nodes.value_mut.Goals as goal
@@ -15,7 +15,7 @@ pub returns-in-Some : goal.returns-in-Some
 returns-in-Some g c =
     let old = c.self.inside.map in
     let k = c.args.node in (
-      same_lent _ _ _ (λ w. ap (λ x. record (shown old) { live = x }) (own_shown old.live c.self.invariant k c.in-Some.node.now (sym c.in-Some.ensures.value) (λ x. record x { value = w }) (λ x. record x { value = w }) (λ x. refl) (λ x. refl) (λ x. refl))
+      same_lent _ _ _ (λ w. ap (λ x. record (nodes_shown old) { live = x }) (own_shown old.live c.self.invariant k c.in-Some.node.now (sym c.in-Some.ensures.value) (λ x. record x { value = w }) (λ x. record x { value = w }) (λ x. refl) (λ x. refl) (λ x. refl))
           ∙ ap (λ (s : Content (Node g.row.T.Denot)). record s { live = with_value s.live k w }) c.self.view_is),
       record { writes_back = tt; value = rw (← c.self.view_is) (ap value_in c.in-Some.ensures.value ∙ sym (shown_value old.live k)) },
     )

@@ -1,6 +1,6 @@
 use Rattle.std.proofs.Common.{◌-◌, [], ◌∷◌, length, length-append, is_some, sym, ap, ◌∙◌, arith}
 use Rattle.slotmap_keylist.specs.Linked.{follow}
-use Rattle.slotmap_scene.specs.Links.{link_of}
+use Rattle.slotmap_scene.specs.Woven.{link_under}
 use Rattle.slotmap_scene.proofs.Walking.{last_live, last_there, back_is, walk_back}
 use Rattle.slotmap_scene.proofs.iter.ChildKeysDoubleEndedIterator.next_back.Goals as goal
 
@@ -21,5 +21,5 @@ returns-clause-steps g c = rw c.outer.ensures (sym c.self.view_is ∙ back_is c.
 
 pub returns-clause-goes : goal.returns-clause-goes
 returns-clause-goes g c =
-    let long = ap length (returns-clause-steps g c) ∙ length-append (follow (link_of c.self.inside.nodes.now.live) (c.self.inside.left - 1) c.self.inside.first) (g.K.Key.data_of c.outer.result ∷ []) in
+    let long = ap length (returns-clause-steps g c) ∙ length-append (follow (link_under c.self.inside.nodes.now.live) (c.self.inside.left - 1) c.self.inside.first) (g.K.Key.data_of c.outer.result ∷ []) in
     record { on = λ _. (tt, tt, omega (arith, long)); keeps = tt; rests = λ _. tt }

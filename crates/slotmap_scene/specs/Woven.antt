@@ -19,24 +19,24 @@ abbrev pub LinkedNodes : Type 0 → Type 0
 LinkedNodes T = map.FinMap key_cmp (LinkedNode T)
 
 module _ {T : Type 0} where
-  abbrev pub ends_in : Option (LinkedNode T) → Ends Key
-  ends_in None = record { first = None; last = None; len = 0 }
-  ends_in (Some node) = node.children
+  abbrev pub ends_at : Option (LinkedNode T) → Ends Key
+  ends_at None = record { first = None; last = None; len = 0 }
+  ends_at (Some node) = node.children
 
-  abbrev pub link_in : Option (LinkedNode T) → Link Key
-  link_in None = record { prev = None; next = None }
-  link_in (Some node) = node.siblings
+  abbrev pub link_at : Option (LinkedNode T) → Link Key
+  link_at None = record { prev = None; next = None }
+  link_at (Some node) = node.siblings
 
   -- the ends of the children of each key, and the neighbours of each
-  abbrev pub ends_of : LinkedNodes T → Key → Ends Key
-  ends_of m k = ends_in (map.get m k)
+  abbrev pub ends_under : LinkedNodes T → Key → Ends Key
+  ends_under m k = ends_at (map.get m k)
 
-  abbrev pub link_of : LinkedNodes T → Key → Link Key
-  link_of m k = link_in (map.get m k)
+  abbrev pub link_under : LinkedNodes T → Key → Link Key
+  link_under m k = link_at (map.get m k)
 
   -- the children of each key, as its links lead to them
   abbrev pub led_to : LinkedNodes T → Key → List Key
-  led_to m k = followed (link_of m) (ends_of m k)
+  led_to m k = followed (link_under m) (ends_under m k)
 
   -- a node with no parent, no children and no siblings
   abbrev pub leaf : T → LinkedNode T
@@ -44,17 +44,17 @@ module _ {T : Type 0} where
 
   -- the nodes with the children that the links lead to, in place of the links
   abbrev pub shown_node : LinkedNodes T → LinkedNode T → Node T
-  shown_node m node = record { value = node.value; parent = node.parent; children = followed (link_of m) node.children }
+  shown_node m node = record { value = node.value; parent = node.parent; children = followed (link_under m) node.children }
 
   abbrev pub shown_nodes : LinkedNodes T → Nodes T
   shown_nodes m = map_values (shown_node m) m
 
-  abbrev pub shown : Content (LinkedNode T) → Content (Node T)
-  shown c = with_live c (shown_nodes c.live)
+  abbrev pub nodes_shown : Content (LinkedNode T) → Content (Node T)
+  nodes_shown c = with_live c (shown_nodes c.live)
 
   -- a node under k, with the children that k has
-  abbrev pub seen : Nodes T → Key → LinkedNode T → Node T
-  seen nodes k node = record { value = node.value; parent = node.parent; children = children_of nodes k }
+  abbrev pub node_seen : Nodes T → Key → LinkedNode T → Node T
+  node_seen nodes k node = record { value = node.value; parent = node.parent; children = children_of nodes k }
 
   -- the keys of the roots among these nodes
   abbrev pub linked_roots : List (Key × LinkedNode T) → List Key
@@ -66,26 +66,26 @@ module _ {T : Type 0} where
 
   -- the links make lists of nodes; each node is in one list at most, and there once
   pub record IsWoven (m : LinkedNodes T) : Type 0 where
-    pub linked : IsLinked (ends_of m) (link_of m) (led_to m)
+    pub linked : IsLinked (ends_under m) (link_under m) (led_to m)
     pub apart : AreApart (led_to m)
     pub live : (p k : Key) → 0 < times k (led_to m p) → map.contains_key m k ≡ true
 
   -- a node, or the end of the list of p, leads on to another key, or to none
-  abbrev pub with_next : LinkedNodes T → Key → Option Key → Option Key → LinkedNodes T
-  with_next m p None next = changed m p (λ n. record n { children = record n.children { first = next } })
-  with_next m p (Some k) next = changed m k (λ n. record n { siblings = record n.siblings { next = next } })
+  abbrev pub leading_on : LinkedNodes T → Key → Option Key → Option Key → LinkedNodes T
+  leading_on m p None next = changed m p (λ n. record n { children = record n.children { first = next } })
+  leading_on m p (Some k) next = changed m k (λ n. record n { siblings = record n.siblings { next = next } })
 
   -- the same back
-  abbrev pub with_prev : LinkedNodes T → Key → Option Key → Option Key → LinkedNodes T
-  with_prev m p None prev = changed m p (λ n. record n { children = record n.children { last = prev } })
-  with_prev m p (Some k) prev = changed m k (λ n. record n { siblings = record n.siblings { prev = prev } })
+  abbrev pub leading_back : LinkedNodes T → Key → Option Key → Option Key → LinkedNodes T
+  leading_back m p None prev = changed m p (λ n. record n { children = record n.children { last = prev } })
+  leading_back m p (Some k) prev = changed m k (λ n. record n { siblings = record n.siblings { prev = prev } })
 
   abbrev pub with_len : LinkedNodes T → Key → (ℕ → ℕ) → LinkedNodes T
   with_len m p f = changed m p (λ n. record n { children = record n.children { len = f n.children.len } })
 
   -- the two neighbours at a place in the list of p lead on and back to these keys now
   abbrev pub relinked : LinkedNodes T → Key → Link Key → Option Key → Option Key → (ℕ → ℕ) → LinkedNodes T
-  relinked m p l on back f = with_len (with_prev (with_next m p l.prev on) p l.next back) p f
+  relinked m p l on back f = with_len (leading_back (leading_on m p l.prev on) p l.next back) p f
 
   -- k is put between two keys of the list of p, and p is its parent
   abbrev pub put_between : LinkedNodes T → Key → Key → Link Key → LinkedNodes T
@@ -101,7 +101,7 @@ module _ {T : Type 0} where
     pub link : l ≡ link_between before after
 
   -- a walk along a part of the list of a node: so many keys of it are left, and the links of its neighbours lead on from `first` and back from `last`
-  pub record IsWalk (m : LinkedNodes T) (left : ℕ) (first last : Option Key) : Type 0 where
+  pub record IsPart (m : LinkedNodes T) (left : ℕ) (first last : Option Key) : Type 0 where
     pub woven : IsWoven m
     pub owner : Key
     pub before : List Key
