@@ -8,7 +8,7 @@ use Rattle.slotmap_keylist.specs.Linked.{first_or, last_or, link_between, ends_o
 use Rattle.slotmap_keylist.proofs.Linking.{first_or-append, last_or-append}
 use Rattle.slotmap_keylist.proofs.Changed.{changed_gives, changed_keeps, changed_other}
 use Rattle.slotmap_scene.specs.declared.links.LinkedNode.{LinkedNode}
-use Rattle.slotmap_scene.specs.Woven.{LinkedNodes, ends_at, ends_under, link_at, link_under, leading_on, leading_back, relinked}
+use Rattle.slotmap_scene.specs.Woven.{LinkedNodes, child_ends, ends_under, link_at, link_under, leading_on, leading_back, relinked}
 
 -- a node leads on to another key, or back
 module _ {T : Type 0} (m : LinkedNodes T) (p : Key) where
@@ -23,12 +23,12 @@ module _ {T : Type 0} (m : LinkedNodes T) (p : Key) where
     prev_keeps (Some k) b q = changed_keeps m k (λ n. record n { siblings = record n.siblings { prev = b } }) P (λ n. free n n.children (record n.siblings { prev = b })) q
 
   next_len : (a b : Option Key) (q : Key) → (ends_under (leading_on m p a b) q).len ≡ (ends_under m q).len
-  next_len None b q = changed_keeps m p (λ n. record n { children = record n.children { first = b } }) (λ o. (ends_at o).len) (λ n. refl) q
-  next_len (Some k) b q = changed_keeps m k (λ n. record n { siblings = record n.siblings { next = b } }) (λ o. (ends_at o).len) (λ n. refl) q
+  next_len None b q = changed_keeps m p (λ n. record n { children = record n.children { first = b } }) (λ o. (child_ends o).len) (λ n. refl) q
+  next_len (Some k) b q = changed_keeps m k (λ n. record n { siblings = record n.siblings { next = b } }) (λ o. (child_ends o).len) (λ n. refl) q
 
   prev_len : (a b : Option Key) (q : Key) → (ends_under (leading_back m p a b) q).len ≡ (ends_under m q).len
-  prev_len None b q = changed_keeps m p (λ n. record n { children = record n.children { last = b } }) (λ o. (ends_at o).len) (λ n. refl) q
-  prev_len (Some k) b q = changed_keeps m k (λ n. record n { siblings = record n.siblings { prev = b } }) (λ o. (ends_at o).len) (λ n. refl) q
+  prev_len None b q = changed_keeps m p (λ n. record n { children = record n.children { last = b } }) (λ o. (child_ends o).len) (λ n. refl) q
+  prev_len (Some k) b q = changed_keeps m k (λ n. record n { siblings = record n.siblings { prev = b } }) (λ o. (child_ends o).len) (λ n. refl) q
 
   next_here : (a b : Option Key) (x : Key) → a ≡ Some x → map.contains_key m x ≡ true → link_under (leading_on m p a b) x ≡ record (link_under m x) { next = b }
   next_here a b x is live =
@@ -49,17 +49,17 @@ module _ {T : Type 0} (m : LinkedNodes T) (p : Key) where
   prev_other (Some k) b x other = ap link_at (changed_other m k (λ n. record n { siblings = record n.siblings { prev = b } }) x (λ is. other (ap Some (sym is))))
 
   next_ends : (a b : Option Key) (q : Key) → q ≢ p → ends_under (leading_on m p a b) q ≡ ends_under m q
-  next_ends None b q other = ap ends_at (changed_other m p (λ n. record n { children = record n.children { first = b } }) q other)
-  next_ends (Some k) b q other = changed_keeps m k (λ n. record n { siblings = record n.siblings { next = b } }) ends_at (λ n. refl) q
+  next_ends None b q other = ap child_ends (changed_other m p (λ n. record n { children = record n.children { first = b } }) q other)
+  next_ends (Some k) b q other = changed_keeps m k (λ n. record n { siblings = record n.siblings { next = b } }) child_ends (λ n. refl) q
 
   prev_ends : (a b : Option Key) (q : Key) → q ≢ p → ends_under (leading_back m p a b) q ≡ ends_under m q
-  prev_ends None b q other = ap ends_at (changed_other m p (λ n. record n { children = record n.children { last = b } }) q other)
-  prev_ends (Some k) b q other = changed_keeps m k (λ n. record n { siblings = record n.siblings { prev = b } }) ends_at (λ n. refl) q
+  prev_ends None b q other = ap child_ends (changed_other m p (λ n. record n { children = record n.children { last = b } }) q other)
+  prev_ends (Some k) b q other = changed_keeps m k (λ n. record n { siblings = record n.siblings { prev = b } }) child_ends (λ n. refl) q
 
   -- the first key of a list that begins with these, and the last one of a list that ends with those
   first_now : (before : List Key) (b : Option Key) (rest : Option Key) → map.contains_key m p ≡ true → (ends_under m p).first ≡ first_or before rest
       → ends_under (leading_on m p (last_or before None) b) p ≡ record (ends_under m p) { first = first_or before b }
-  first_now [] b rest live is = changed_gives m p (λ n. record n { children = record n.children { first = b } }) ends_at (λ (e : Ends Key). record e { first = b }) (λ n. refl) live
+  first_now [] b rest live is = changed_gives m p (λ n. record n { children = record n.children { first = b } }) child_ends (λ (e : Ends Key). record e { first = b }) (λ n. refl) live
   first_now (k ∷ ks) b rest live is = by (last_or ks (Some k)) (some_last ks k) ∙ ap (λ o. record (ends_under m p) { first = o }) is
     where
       some_last : (ks : List Key) (k : Key) → is_some (last_or ks (Some k)) ≡ true
@@ -68,18 +68,18 @@ module _ {T : Type 0} (m : LinkedNodes T) (p : Key) where
 
       by : (a : Option Key) → is_some a ≡ true → ends_under (leading_on m p a b) p ≡ ends_under m p
       by None is = absurd (cc)
-      by (Some q) is = changed_keeps m q (λ n. record n { siblings = record n.siblings { next = b } }) ends_at (λ n. refl) p
+      by (Some q) is = changed_keeps m q (λ n. record n { siblings = record n.siblings { next = b } }) child_ends (λ n. refl) p
 
   last_now : (after : List Key) (b : Option Key) (rest : Option Key) → map.contains_key m p ≡ true → (ends_under m p).last ≡ last_or after rest
       → ends_under (leading_back m p (first_or after None) b) p ≡ record (ends_under m p) { last = last_or after b }
-  last_now [] b rest live is = changed_gives m p (λ n. record n { children = record n.children { last = b } }) ends_at (λ (e : Ends Key). record e { last = b }) (λ n. refl) live
+  last_now [] b rest live is = changed_gives m p (λ n. record n { children = record n.children { last = b } }) child_ends (λ (e : Ends Key). record e { last = b }) (λ n. refl) live
   last_now (k ∷ ks) b rest live is =
-      changed_keeps m k (λ n. record n { siblings = record n.siblings { prev = b } }) ends_at (λ n. refl) p ∙ ap (λ o. record (ends_under m p) { last = o }) is
+      changed_keeps m k (λ n. record n { siblings = record n.siblings { prev = b } }) child_ends (λ n. refl) p ∙ ap (λ o. record (ends_under m p) { last = o }) is
 
 -- the neighbours at a place lead on and back, and the list is as long as before
 module _ {T : Type 0} (m : LinkedNodes T) (p : Key) (a on b back : Option Key) where
   pub neighbours_len : (n : LinkedNode T) → map.get (leading_back (leading_on m p a on) p b back) p ≡ Some n → n.children.len ≡ (ends_under m p).len
-  neighbours_len n is = sym (ap (λ o. (ends_at o).len) is) ∙ prev_len (leading_on m p a on) p b back p ∙ next_len m p a on p
+  neighbours_len n is = sym (ap (λ o. (child_ends o).len) is) ∙ prev_len (leading_on m p a on) p b back p ∙ next_len m p a on p
 
 -- the neighbours at a place lead on and back to other keys
 module _ {T : Type 0} (m : LinkedNodes T) (p : Key) (l : Link Key) (on back : Option Key) (f : ℕ → ℕ) where
@@ -113,7 +113,7 @@ module _ {T : Type 0} (m : LinkedNodes T) (p : Key) (l : Link Key) (on back : Op
 
   pub relinked_ends : (q : Key) → q ≢ p → ends_under (relinked m p l on back f) q ≡ ends_under m q
   relinked_ends q other =
-      ap ends_at (changed_other both_done p (λ n. record n { children = record n.children { len = f n.children.len } }) q other)
+      ap child_ends (changed_other both_done p (λ n. record n { children = record n.children { len = f n.children.len } }) q other)
       ∙ prev_ends first_done p l.next back q other ∙ next_ends m p l.prev on q other
 
   -- where the list of p was of these keys, and what is between them goes or comes
@@ -126,7 +126,7 @@ module _ {T : Type 0} (m : LinkedNodes T) (p : Key) (l : Link Key) (on back : Op
       let last_was : (ends_under first_done p).last ≡ last_or after (last_or mid (last_or before None)) =
       ap (λ (e : Ends Key). e.last) front ∙ last_or-append before (mid ++ after) None ∙ last_or-append mid after (last_or before None) in
       let there : map.contains_key both_done p ≡ true = prev_keeps first_done p is_some (λ n e s. refl) l.next back p ∙ live_then p live in
-      changed_gives both_done p (λ n. record n { children = record n.children { len = f n.children.len } }) ends_at (λ (e : Ends Key). record e { len = f e.len }) (λ n. refl) there
+      changed_gives both_done p (λ n. record n { children = record n.children { len = f n.children.len } }) child_ends (λ (e : Ends Key). record e { len = f e.len }) (λ n. refl) there
       ∙ ap (λ (e : Ends Key). record e { len = f e.len }) (ap (λ (s : Link Key). ends_under (leading_back first_done p s.next back) p) place
       ∙ last_now first_done p after back (last_or mid (last_or before None)) (live_then p live) last_was
       ∙ ap (λ (e : Ends Key). record e { last = last_or after back }) front)

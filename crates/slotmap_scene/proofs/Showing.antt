@@ -15,7 +15,7 @@ use Rattle.slotmap_scene.specs.Node.{Node, Nodes}
 use Rattle.slotmap_scene.specs.Above.{roots_in}
 use Rattle.slotmap_scene.specs.Climb.{parent_in, parent_of}
 use Rattle.slotmap_scene.specs.Family.{child, children_in, children_of, value_of}
-use Rattle.slotmap_scene.specs.Woven.{LinkedNodes, ends_at, leaf, led_to, link_at, link_under, linked_roots, node_seen, nodes_shown, shown_node, shown_nodes, IsWoven}
+use Rattle.slotmap_scene.specs.Woven.{LinkedNodes, child_ends, leaf, led_to, link_at, link_under, linked_roots, node_seen, nodes_shown, shown_node, shown_nodes, IsWoven}
 use Rattle.slotmap_scene.specs.Refusals.{RefusesNode}
 use Rattle.slotmap_scene.proofs.Weaving.{woven_same}
 
@@ -62,7 +62,7 @@ module _ {T : Type 0} where
         by (Some n) = some n
 
     pub shown_children : (q : Key) → children_of (shown_nodes m) q ≡ led_to m q
-    shown_children q = shown_part children_in (λ o. followed (link_under m) (ends_at o)) refl (λ n. refl) q
+    shown_children q = shown_part children_in (λ o. followed (link_under m) (child_ends o)) refl (λ n. refl) q
 
     pub shown_value : (q : Key) → value_of (shown_nodes m) q ≡ value_in (map.get m q)
     shown_value q = shown_part (option_map (λ (n : Node T). n.value)) value_in refl (λ n. refl) q
@@ -76,7 +76,7 @@ module _ {T : Type 0} where
       where
         by : (o : Option (LinkedNode T)) → map.get m q ≡ o → option_map (node_seen (shown_nodes m) q) o ≡ option_map (shown_node m) o
         by None is = refl
-        by (Some n) is = ap (λ ks. Some (record { value = n.value; parent = n.parent; children = ks })) (shown_children q ∙ ap (λ o. followed (link_under m) (ends_at o)) is)
+        by (Some n) is = ap (λ ks. Some (record { value = n.value; parent = n.parent; children = ks })) (shown_children q ∙ ap (λ o. followed (link_under m) (child_ends o)) is)
 
     pub seen_there : (q : Key) (n : LinkedNode T) → map.get m q ≡ Some n → map.get (shown_nodes m) q ≡ Some (node_seen (shown_nodes m) q n)
     seen_there q n is = sym (ap (option_map (node_seen (shown_nodes m) q)) (sym is) ∙ shown_seen q)
@@ -132,7 +132,7 @@ module _ {T : Type 0} where
         ]
 
         pub came_woven : IsWoven new.live
-        came_woven = woven_same c.live new.live (as_before ends_at refl) (as_before link_at refl) came_keys woven
+        came_woven = woven_same c.live new.live (as_before child_ends refl) (as_before link_at refl) came_keys woven
 
         came_live : shown_nodes new.live ≡ map.insert (shown_nodes c.live) k (child None v)
         came_live = map.same_map keys_total exact_keys _ _ (λ q. shown_alike c.live new.live (as_before link_at refl) q ∙ ap (λ m. option_map (shown_node c.live) (map.get m q)) inserts.live ∙ elim (same_or_other q k) [

@@ -14,7 +14,7 @@ use Rattle.slotmap_scene.specs.declared.links.LinkedNode.{LinkedNode}
 use Rattle.slotmap_scene.specs.Node.{Node, Nodes}
 use Rattle.slotmap_scene.specs.Climb.{parent_of, with_parent}
 use Rattle.slotmap_scene.specs.Family.{IsNodeClone, children_of, value_of, with_children_in}
-use Rattle.slotmap_scene.specs.Woven.{LinkedNodes, ends_at, ends_under, led_to, link_at, link_under, nodes_shown, shown_node, shown_nodes, put_between, taken_between, IsLinkedClone, IsWoven}
+use Rattle.slotmap_scene.specs.Woven.{LinkedNodes, child_ends, ends_under, led_to, link_at, link_under, nodes_shown, shown_node, shown_nodes, put_between, taken_between, IsLinkedClone, IsWoven}
 use Rattle.slotmap_scene.proofs.Families.{parented_children, parented_is, parented_others, value_parented, value_written, written_is, written_others, written_parent, written_keys}
 use Rattle.slotmap_scene.proofs.Neighbours.{relinked_keeps}
 use Rattle.slotmap_scene.proofs.Weaving.{led_is, woven_by, woven_same, with_list, list_at, list_other, put_linked, taken_linked}
@@ -97,7 +97,7 @@ module _ {T : Type 0} (m : LinkedNodes T) (woven : IsWoven m) where
     own_keys q = ap (λ x. map.contains_key x q) (sym own_is) ∙ changed_keeps m k f is_some (λ x. refl) q
 
     pub own_woven : IsWoven (map.insert m k (f n))
-    own_woven = subst IsWoven own_is (woven_same m (changed m k f) (changed_keeps m k f ends_at ends) same_link (λ q there. changed_keeps m k f is_some (λ x. refl) q ∙ there) woven)
+    own_woven = subst IsWoven own_is (woven_same m (changed m k f) (changed_keeps m k f child_ends ends) same_link (λ q there. changed_keeps m k f is_some (λ x. refl) q ∙ there) woven)
 
     pub own_shown : shown_nodes (map.insert m k (f n)) ≡ changed nodes k g
     own_shown = ap shown_nodes (sym own_is) ∙ map.same_map keys_total exact_keys (shown_nodes (changed m k f)) (changed nodes k g) (λ q. shown_alike m (changed m k f) same_link q ∙ elim (same_or_other q k) [
@@ -123,8 +123,8 @@ module _ {T : Type 0} (m : LinkedNodes T) (woven : IsWoven m) where
     gone_linked : IsLinked (ends_under gone) (link_under gone) (led_to m)
     gone_linked = record {
       ends_are = λ p. elim (same_or_other p k) [
-        | inl is ↦ rw is (ap ends_at (gone_here m) ∙ ap ends_of_list (sym leaf))
-        | inr other ↦ ap ends_at (gone_other m p other) ∙ woven.linked.ends_are p
+        | inl is ↦ rw is (ap child_ends (gone_here m) ∙ ap ends_of_list (sym leaf))
+        | inr other ↦ ap child_ends (gone_other m p other) ∙ woven.linked.ends_are p
       ];
       links_are = λ p before x after is. elim (same_or_other x k) [
         | inl same ↦ absurd (let sum = ap (times x) is ∙ in_midst before x after in let zero = subst (λ y. times y (led_to m p) ≡ 0) (sym same) (none p) in omega arith)
@@ -153,7 +153,7 @@ module _ {T : Type 0} (m : LinkedNodes T) (none : m ≡ map.empty) where
 
   pub woven_none : IsWoven m
   woven_none = woven_by m (λ p. [])
-      (record { ends_are = λ p. ap ends_at (none_there p); links_are = λ p before k after is. absurd (no_split before k after is) })
+      (record { ends_are = λ p. ap child_ends (none_there p); links_are = λ p before k after is. absurd (no_split before k after is) })
       (record { once = λ p k. omega arith; alone = λ p q k more. absurd (omega arith) }) (λ p k more. absurd (omega arith))
 
   pub shown_none : shown_nodes m ≡ map.empty
@@ -162,13 +162,13 @@ module _ {T : Type 0} (m : LinkedNodes T) (none : m ≡ map.empty) where
 -- a copy has the same links
 module _ {T : Type 0} (is_clone : T → T → Type 0) (c copy : Content (LinkedNode T)) (clones : IsCloneBy (IsLinkedClone is_clone) c copy) where
   abbrev Alike : Option (LinkedNode T) → Option (LinkedNode T) → Type 0
-  Alike o p = (is_some p ≡ is_some o) × (ends_at p ≡ ends_at o) × (link_at p ≡ link_at o)
+  Alike o p = (is_some p ≡ is_some o) × (child_ends p ≡ child_ends o) × (link_at p ≡ link_at o)
 
   alike : (q : Key) → Alike (map.get c.live q) (map.get copy.live q)
   alike q = by (map.get c.live q) (map.get copy.live q) (clones.live q)
     where
       by : (o p : Option (LinkedNode T)) → IsCloneOf (IsLinkedClone is_clone) o p → Alike o p
-      by None p is = (ap is_some is, ap ends_at is, ap link_at is)
+      by None p is = (ap is_some is, ap child_ends is, ap link_at is)
       by (Some n) None is = absurd is
       by (Some n) (Some x) is = (refl, is.2, is.3)
 

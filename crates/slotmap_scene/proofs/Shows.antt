@@ -11,7 +11,7 @@ use Rattle.slotmap_scene.specs.declared.links.LinkedNode.{LinkedNode}
 use Rattle.slotmap_scene.specs.Node.{Node, Nodes}
 use Rattle.slotmap_scene.specs.Climb.{has_node, with_parent}
 use Rattle.slotmap_scene.specs.Family.{child, children_of, with_children_in}
-use Rattle.slotmap_scene.specs.Woven.{IsPlace, IsWoven, LinkedNodes, ends_at, ends_under, led_to, link_under, put_between, nodes_shown, shown_nodes, taken_between}
+use Rattle.slotmap_scene.specs.Woven.{IsPlace, IsWoven, LinkedNodes, child_ends, ends_under, led_to, link_under, put_between, nodes_shown, shown_nodes, taken_between}
 use Rattle.slotmap_scene.proofs.Leaving.{leaves_alike}
 use Rattle.slotmap_scene.proofs.Showing.{nodes_leave, seen_there, shown_children, shown_keys}
 use Rattle.slotmap_scene.proofs.ShownChanges.{put_shown, taken_shown, own_keys, own_shown, own_woven, gone_shown, gone_woven}
@@ -36,7 +36,7 @@ module _ {T : Type 0} (c : Content (LinkedNode T)) (woven : IsWoven c.live) (sel
   lister : (p k : Key) → 0 < times k (led_to c.live p) → IsLive c p
   lister p k more = by (map.get c.live p) more
     where
-      by : (o : Option (LinkedNode T)) → 0 < times k (followed (link_under c.live) (ends_at o)) → is_some o ≡ true
+      by : (o : Option (LinkedNode T)) → 0 < times k (followed (link_under c.live) (child_ends o)) → is_some o ≡ true
       by None some = absurd (omega arith)
       by (Some n) some = refl
 

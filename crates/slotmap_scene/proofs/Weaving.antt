@@ -11,7 +11,7 @@ use Rattle.slotmap_keylist.proofs.Counts.{is_itself, is_other, one_itself, one_o
 use Rattle.slotmap_keylist.proofs.Linking.{first_or-append, last_or-append, first_in, last_in, in_midst, followed_is, linked_put, linked_taken}
 use Rattle.slotmap_keylist.specs.Changed.{changed}
 use Rattle.slotmap_keylist.proofs.Changed.{changed_gives, changed_keeps, changed_other}
-use Rattle.slotmap_scene.specs.Woven.{LinkedNodes, ends_at, ends_under, led_to, link_at, link_under, relinked, put_between, taken_between, IsWoven}
+use Rattle.slotmap_scene.specs.Woven.{LinkedNodes, child_ends, ends_under, led_to, link_at, link_under, relinked, put_between, taken_between, IsWoven}
 use Rattle.slotmap_scene.proofs.Neighbours.{relinked_keeps, relinked_others, relinked_prev, relinked_next, relinked_ends, relinked_here}
 
 -- the lists that the links of nodes make, by what is known of the links
@@ -121,7 +121,7 @@ module _ {T : Type 0} (m : LinkedNodes T) (woven : IsWoven m) (p : Key) where
     own_keys x = changed_keeps m k (λ n. record n { parent = Some p; siblings = l }) is_some (λ n. refl) x
 
     own_ends : (x : Key) → ends_under own x ≡ ends_under m x
-    own_ends x = changed_keeps m k (λ n. record n { parent = Some p; siblings = l }) ends_at (λ n. refl) x
+    own_ends x = changed_keeps m k (λ n. record n { parent = Some p; siblings = l }) child_ends (λ n. refl) x
 
     pub put_keys : (x : Key) → map.contains_key put x ≡ map.contains_key m x
     put_keys x = relinked_keeps own p l (Some k) (Some k) (λ len. len + 1) is_some (λ n e s. refl) x ∙ own_keys x

@@ -19,9 +19,9 @@ abbrev pub LinkedNodes : Type 0 → Type 0
 LinkedNodes T = map.FinMap key_cmp (LinkedNode T)
 
 module _ {T : Type 0} where
-  abbrev pub ends_at : Option (LinkedNode T) → Ends Key
-  ends_at None = record { first = None; last = None; len = 0 }
-  ends_at (Some node) = node.children
+  abbrev pub child_ends : Option (LinkedNode T) → Ends Key
+  child_ends None = record { first = None; last = None; len = 0 }
+  child_ends (Some node) = node.children
 
   abbrev pub link_at : Option (LinkedNode T) → Link Key
   link_at None = record { prev = None; next = None }
@@ -29,7 +29,7 @@ module _ {T : Type 0} where
 
   -- the ends of the children of each key, and the neighbours of each
   abbrev pub ends_under : LinkedNodes T → Key → Ends Key
-  ends_under m k = ends_at (map.get m k)
+  ends_under m k = child_ends (map.get m k)
 
   abbrev pub link_under : LinkedNodes T → Key → Link Key
   link_under m k = link_at (map.get m k)

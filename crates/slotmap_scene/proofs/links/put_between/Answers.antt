@@ -4,7 +4,7 @@ use Rattle.slotmap.specs.Words.{Content}
 use Rattle.slotmap_keylist.specs.Changed.{changed, changed_in}
 use Rattle.slotmap_keylist.proofs.Changed.{changed_keeps}
 use Rattle.slotmap_scene.specs.declared.links.LinkedNode.{LinkedNode}
-use Rattle.slotmap_scene.specs.Woven.{ends_at, with_len, leading_on, leading_back}
+use Rattle.slotmap_scene.specs.Woven.{child_ends, with_len, leading_on, leading_back}
 use Rattle.slotmap_scene.proofs.Neighbours.{neighbours_len}
 use Rattle.slotmap_scene.proofs.links.put_between.Goals as goal
 
@@ -18,7 +18,7 @@ overflow_add-index_mut g c =
     let own = sym (ap (λ o. changed_in old.live k o put) c.index_mut-place.ensures.value) in
     let linked = ap (λ s. s.live) c.set_prev.ensures ∙ ap (λ s. leading_back s.live p l.next (Some k)) c.set_next.ensures ∙ ap (λ m. leading_back (leading_on m p l.prev (Some k)) p l.next (Some k)) own in
     let same = neighbours_len (changed old.live k put) p l.prev (Some k) l.next (Some k) c.index_mut.result.now (sym (ap (λ m. map.get m p) linked) ∙ c.index_mut.ensures.value) in
-    let kept = changed_keeps old.live k put (λ o. (ends_at o).len) (λ n. refl) p in
+    let kept = changed_keeps old.live k put (λ o. (child_ends o).len) (λ n. refl) p in
     let fits = c.requires.fits in
     let limit = c.index_mut-place.ensures.valid.limit in
     omega arith
