@@ -1,9 +1,10 @@
 -- The ends of the edges of a list, one after the other.
-use Rattle.std.proofs.Common.{◌≡◌, ℕ, ◌+◌, ◌<◌, ◌≤◌, true, false, cond, Some, None, List, [], ◌∷◌, ◌++◌, length, get_or, take, option_map, refl, sym, ap, ◌∙◌, arith, append-nil, append_assoc}
+use Rattle.std.proofs.Common.{◌≡◌, ℕ, ◌+◌, ◌<◌, ◌≤◌, true, false, cond, Option, Some, None, is_some, List, [], ◌∷◌, ◌++◌, length, get_or, take, option_map, refl, sym, ap, ◌∙◌, arith, append-nil, append_assoc}
 use Rattle.std.specs.Prelude.{nat_eq}
 use Rattle.std.specs.Option.{option_or}
 use Rattle.std.specs.List.{cons_option, find, fold}
 use Rattle.std.specs.FinMap as map
+use Rattle.std.proofs.lemmas.Option.{same_Some}
 use Rattle.std.proofs.lemmas.List.{take_more, take_all, take-append-le}
 use Rattle.std.proofs.lemmas.List.Elements.{filter_map-append}
 use Rattle.std.proofs.lemmas.List.Folds.{find-append}
@@ -11,8 +12,9 @@ use Rattle.std.proofs.lemmas.List.Sums.{fold-append}
 use Rattle.slotmap.specs.Words.{Key}
 use Rattle.slotmap_keylist.specs.KeyLists.{is_key, times}
 use Rattle.slotmap_keylist.proofs.Counts.{one_itself, times_first, times_joined}
-use Rattle.slotmap_graph.specs.Parts.{SeenEdge, Edges}
-use Rattle.slotmap_graph.specs.Search.{GoesOn, IsBreadthFirst, arrives_at, ends_along, goes_to, marked}
+use Rattle.slotmap_graph.specs.Parts.{SeenEdge, Edges, ListsEdges, from, to}
+use Rattle.slotmap_graph.specs.Search.{GoesOn, HasEdge, IsBreadthFirst, arrives_at, ends_along, goes_to, marked}
+use Rattle.slotmap_graph.proofs.Adjacent.{listed_edge}
 
 -- a walk along a list: what was passed, and what is ahead
 pub walked_on : (passed ahead rest all : List Key) (x : Key) → passed ++ ahead ≡ all → ahead ≡ x ∷ rest → (passed ++ x ∷ []) ++ rest ≡ all
@@ -28,18 +30,38 @@ walked_in passed ahead rest all x so_far next =
 pub walked : (passed ahead all : List Key) → passed ++ ahead ≡ all → ahead ≡ [] → passed ≡ all
 walked passed ahead all so_far none = sym (append-nil passed) ∙ ap (λ l. passed ++ l) (sym none) ∙ so_far
 
-module _ {E : Type 0} (edges : Edges E) (passed : List Key) (x : Key) (e : SeenEdge E) (there : map.get edges x ≡ Some e) where
-  pub one_more : (end : SeenEdge E → Key) → ends_along end edges (passed ++ x ∷ []) ≡ ends_along end edges passed ++ end e ∷ []
-  one_more end = filter_map-append (λ k. option_map end (map.get edges k)) passed (x ∷ []) ∙ ap (λ o. ends_along end edges passed ++ cons_option (option_map end o) []) there
+-- the next edge of a walk along the edges of a node
+module _ {E : Type 0} (edges : Edges E) (node : Key) (all : List Key) (lists : ListsEdges from edges node all) (passed ahead rest : List Key) (x : Key) (so_far : passed ++ ahead ≡ all) (next : ahead ≡ x ∷ rest) where
+  next_edge : (e : SeenEdge E) × (map.get edges x ≡ Some e) × (e.from ≡ node)
+  next_edge = listed_edge from edges node all lists x (walked_in passed ahead rest all x so_far next)
 
-  module _ (b : Key) (before : find (goes_to edges b) passed ≡ None) where
-    at_x : goes_to edges b x ≡ is_key e.to b
-    at_x = ap (arrives_at b) there
+  pub next_live : map.contains_key edges x ≡ true
+  next_live = ap is_some next_edge.1
 
-    pub not_found : is_key e.to b ≡ false → find (goes_to edges b) (passed ++ x ∷ []) ≡ None
+  pub next_seen : (b : Key) → option_map to (map.get edges x) ≡ Some b → (v : E) × (map.get edges x ≡ Some (record { from = node; to = b; value = v }))
+  next_seen b arrives =
+      let to_is = same_Some next_edge.0.to b (ap (option_map to) (sym next_edge.1) ∙ arrives) in
+      (next_edge.0.value, next_edge.1 ∙ (λ i. Some (record { from = next_edge.2 i; to = to_is i; value = next_edge.0.value })))
+
+  pub next_joins : (b : Key) → option_map to (map.get edges x) ≡ Some b → HasEdge edges node b
+  next_joins b arrives = let seen = next_seen b arrives in (x, record { from = node; to = b; value = seen.0 }, seen.1, refl, refl)
+
+module _ {E : Type 0} (edges : Edges E) (passed : List Key) (x : Key) where
+  pub one_more : (end : SeenEdge E → Key) (b : Key) → option_map end (map.get edges x) ≡ Some b → ends_along end edges (passed ++ x ∷ []) ≡ ends_along end edges passed ++ b ∷ []
+  one_more end b is = filter_map-append (λ k. option_map end (map.get edges k)) passed (x ∷ []) ∙ ap (λ o. ends_along end edges passed ++ cons_option o []) is
+
+  module _ (a b : Key) (arrives : option_map to (map.get edges x) ≡ Some a) (before : find (goes_to edges b) passed ≡ None) where
+    at_x : goes_to edges b x ≡ is_key a b
+    at_x = by (map.get edges x) arrives
+      where
+        by : (o : Option (SeenEdge E)) → option_map to o ≡ Some a → arrives_at b o ≡ is_key a b
+        by None is = absurd (cc)
+        by (Some e) is = ap (λ k. is_key k b) (same_Some _ _ is)
+
+    pub not_found : is_key a b ≡ false → find (goes_to edges b) (passed ++ x ∷ []) ≡ None
     not_found other = find-append (goes_to edges b) passed (x ∷ []) ∙ ap (λ o. option_or o (cond (goes_to edges b x) (Some x) None)) before ∙ ap (λ t. cond t (Some x) None) (at_x ∙ other)
 
-    pub found_first : (ahead rest all : List Key) → passed ++ ahead ≡ all → ahead ≡ x ∷ rest → is_key e.to b ≡ true → find (goes_to edges b) all ≡ Some x
+    pub found_first : (ahead rest all : List Key) → passed ++ ahead ≡ all → ahead ≡ x ∷ rest → is_key a b ≡ true → find (goes_to edges b) all ≡ Some x
     found_first ahead rest all so_far next this = ap (find (goes_to edges b)) (sym so_far ∙ ap (λ l. passed ++ l) next) ∙ find-append (goes_to edges b) passed (x ∷ rest)
         ∙ ap (λ o. option_or o (cond (goes_to edges b x) (Some x) (find (goes_to edges b) rest))) before ∙ ap (λ t. cond t (Some x) (find (goes_to edges b) rest)) (at_x ∙ this)
 

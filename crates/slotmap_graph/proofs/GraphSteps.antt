@@ -17,7 +17,7 @@ use Rattle.slotmap_graph.specs.declared.Node.{Node}
 use Rattle.slotmap_graph.specs.declared.Edge.{Edge}
 use Rattle.slotmap_graph.specs.declared.links.Direction.{Direction}
 use Rattle.slotmap_graph.specs.declared.links.Direction.TheVariants.{Out, Into}
-use Rattle.slotmap_graph.specs.Parts.{SeenEdge, Edges, ends, EndsLive, PutsBehind, ListsEdges, PutsAlone, SameEdges, edges_at, ends_at, from, to, touches}
+use Rattle.slotmap_graph.specs.Parts.{SeenEdge, Edges, ends, EndsLive, IsJoined, PutsBehind, ListsEdges, PutsAlone, SameEdges, edges_at, ends_at, from, to, touches}
 use Rattle.slotmap_graph.specs.Threads.{turned, node_value, node_ends, ends_in, no_ends, seen_edge, edge_link, link_in, no_link, end, listed, by_node, IsThreaded, Rethreads, IsGraph}
 use Rattle.slotmap_graph.proofs.Adjacent.{lists_added, lists_removed, lists_written, listed_edge, none_listed, nothing_listed, unlisted, absent_unlisted}
 use Rattle.slotmap_graph.proofs.Threaded.{part_kept, part_new, part_removed, part_gone, at_node, threaded_along, threads}
@@ -270,6 +270,11 @@ module _ {N E : Type 0} (nodes : Content (Node N)) (edges : map.FinMap key_cmp (
 
     pub walked_live : map.contains_key edges x ≡ true
     walked_live = sym (contains-mapped seen_edge edges x) ∙ ap is_some walked_edge.1
+
+-- every graph is joined
+pub graph_joined : {N E : Type 0} (nodes : Content (Node N)) (edges : Content (Edge E)) → IsGraph nodes edges.live
+    → IsJoined (record { nodes = map_content node_value nodes; edges = map_content seen_edge edges; out = by_node Out nodes.live edges.live; into = by_node Into nodes.live edges.live })
+graph_joined nodes edges graph = record { ends = graph.ends; out = is_lists nodes edges.live graph Out; into = is_lists nodes edges.live graph Into }
 
 -- the ends of an edge that is looked up
 pub ends_found : {E : Type 0} (o : Option (SeenEdge E)) (p q : Key) → Some (p, q) ≡ option_map ends o → (v : E) × (o ≡ Some (record { from = p; to = q; value = v }))

@@ -1,10 +1,12 @@
 pub mod Adjacent
 pub mod Callers
 pub mod Copies
+pub mod Counted
 pub mod Followed
 pub mod GraphSteps
-pub mod TopologicalOrders
+pub mod MapKeys
 pub mod Relinked
 pub mod Searches
 pub mod Thinned
 pub mod Threaded
+pub mod TopologicalOrders

@@ -1,14 +1,15 @@
 -- A search from a node, along the edges.
 use Rattle.std.proofs.Common.{◌≡◌, ◌≢◌, ℕ, zero, suc, ◌+◌, ◌<◌, ◌≤◌, ◌⊎◌, ⊎_elim, Bool, true, false, Some, None, List, [], ◌∷◌, ◌++◌, length, get_or}
-use Rattle.std.proofs.Common.{drop, append_assoc, if◌then◌else◌, is_some, refl, sym, ap, ◌∙◌, inl, inr, arith}
+use Rattle.std.proofs.Common.{drop, append_assoc, if◌then◌else◌, is_some, option_map, refl, sym, ap, ◌∙◌, inl, inr, arith}
 use Rattle.std.specs.FinMap as map
 use Rattle.slotmap.specs.Words.{Key, Content, IsLive, Pairs, IsBeside, get, contains_key}
 use Rattle.slotmap.proofs.Callers.{same_or_other, secondary}
 use Rattle.std.proofs.lemmas.List.{append-nil, drop-append-le}
+use Rattle.std.proofs.lemmas.Option.{same_Some}
 use Rattle.slotmap_keylist.specs.KeyLists.{same, times}
 use Rattle.slotmap_keylist.proofs.Counts.{one_itself, one_other, times_first, times_joined, times_there, here_or_behind, none_behind, no_more_than}
-use Rattle.slotmap_graph.specs.Parts.{SeenEdge, Edges, EndsLive, ListsEdges, ends_at, from}
-use Rattle.slotmap_graph.specs.Search.{LeadsBy, Leads, AllLed, HasNext, AreSeen, GoesOn, Finds}
+use Rattle.slotmap_graph.specs.Parts.{SeenEdge, Edges, ListsEdges, ends_at, from, to}
+use Rattle.slotmap_graph.specs.Search.{HasEdge, LeadsBy, Leads, AllLed, HasNext, AreSeen, GoesOn, Finds}
 
 module _ (seen : Pairs (Unit {0})) (found : List Key) (listed : AreSeen seen found) (x : Key) where
   seen_listed : contains_key seen x ≡ true → times x found ≡ 1
@@ -29,6 +30,13 @@ module _ (seen : Pairs (Unit {0})) (found : List Key) (listed : AreSeen seen fou
     | false ↦ λ is. (let none = unseen_unlisted is in omega arith)
   ] refl
 
+-- a mark keeps those that were marked
+pub marked_keeps : (mid new : Pairs (Unit {0})) (k : Key) → contains_key new k ≡ true → ((q : Key) → q ≢ k → get new q ≡ get mid q) → (q : Key) → contains_key mid q ≡ true → contains_key new q ≡ true
+marked_keeps mid new k marked others q had = elim (same_or_other q k) [
+  | inl is ↦ rw is marked
+  | inr other ↦ ap is_some (others q other) ∙ had
+]
+
 -- the edges of a node whose ends aren't among the nodes found are in this list
 abbrev pub Pending : {E : Type 0} → Edges E → Key → List Key → Pairs (Unit {0}) → Type 0
 Pending {E} edges node ks seen = (k : Key) (e : SeenEdge E) → map.get edges k ≡ Some e → e.from ≡ node → (0 < times k ks) ⊎ (contains_key seen e.to ≡ true)
@@ -38,10 +46,10 @@ module _ {E : Type 0} (edges : Edges E) (node : Key) where
   pending_start ks seen lists k e there at =
       inl (let one : ends_at from node (Some e) ≡ 1 = ap (λ q. same q node) at ∙ one_itself node in let is = lists k ∙ ap (ends_at from node) there ∙ one in omega arith)
 
-  pub pending_step : (ks rest : List Key) (x : Key) (e : SeenEdge E) (seen new : Pairs (Unit {0})) → ks ≡ x ∷ rest → map.get edges x ≡ Some e → contains_key new e.to ≡ true
+  pub pending_step : (ks rest : List Key) (x b : Key) (seen new : Pairs (Unit {0})) → ks ≡ x ∷ rest → option_map to (map.get edges x) ≡ Some b → contains_key new b ≡ true
       → ((q : Key) → contains_key seen q ≡ true → contains_key new q ≡ true) → Pending edges node ks seen → Pending edges node rest new
-  pending_step ks rest x e seen new next there marked kept pending k d found at = elim (same_or_other k x) [
-    | inl is ↦ inr (let same_edge : e ≡ d = (let f = rw is at found in cc) in rw (← same_edge) marked)
+  pending_step ks rest x b seen new next arrives marked kept pending k d found at = elim (same_or_other k x) [
+    | inl is ↦ inr (rw (same_Some d.to b (ap (option_map to) (sym found) ∙ ap (λ q. option_map to (map.get edges q)) is ∙ arrives)) marked)
     | inr other ↦ ⊎_elim
         (λ more. inl (let none = one_other x k (λ s. other (sym s)) in let split = ap (times k) next ∙ times_first k x rest in omega arith))
         (λ had. inr (kept d.to had)) (pending k d found at)
@@ -54,35 +62,25 @@ module _ {N E : Type 0} (nodes : Content N) (edges : Edges E) (a : Key) (seen : 
   pub finds_start : AreSeen seen found → IsBeside nodes seen → Finds nodes edges a seen found seen found
   finds_start listed live = record { listed = listed; live = live; behind = ([], sym (append-nil found)); kept = λ x there. there; led = λ start leads all. all }
 
-  pub finds_step : (mid : Pairs (Unit {0})) (half : List Key) → Finds nodes edges a seen found mid half → EndsLive nodes edges → (k : Key) (e : SeenEdge E) → map.get edges k ≡ Some e → e.from ≡ a
-      → (new : Pairs (Unit {0})) (now : List Key) → AreSeen new now → GoesOn half now → contains_key new e.to ≡ true → ((q : Key) → q ≢ e.to → get new q ≡ get mid q)
+  pub finds_step : (mid : Pairs (Unit {0})) (half : List Key) → Finds nodes edges a seen found mid half → (b : Key) → IsLive nodes b → HasEdge edges a b
+      → (new : Pairs (Unit {0})) (now : List Key) → AreSeen new now → GoesOn half now → contains_key new b ≡ true → ((q : Key) → q ≢ b → get new q ≡ get mid q)
       → Finds nodes edges a seen found new now
-  finds_step mid half finds ends k e there at new now listed behind marked others = record {
+  finds_step mid half finds b live join new now listed behind marked others = record {
     listed = listed;
-    live = λ q had. elim (same_or_other q e.to) [
-      | inl is ↦ rw is ((ends k e there).1)
+    live = λ q had. elim (same_or_other q b) [
+      | inl is ↦ rw is live
       | inr other ↦ finds.live q (ap is_some (sym (others q other)) ∙ had)
     ];
     behind = (finds.behind.0 ++ behind.0, behind.1 ∙ ap (λ q. q ++ behind.0) finds.behind.1 ∙ append_assoc found finds.behind.0 behind.0);
     kept = λ q had. kept q (finds.kept q had);
-    led = λ start leads all q had. elim (same_or_other q e.to) [
-      | inl is ↦ rw is (suc leads.0, (a, leads.1, (k, e, there, at, refl)))
+    led = λ start leads all q had. elim (same_or_other q b) [
+      | inl is ↦ rw is (suc leads.0, (a, leads.1, join))
       | inr other ↦ finds.led start leads all q (ap is_some (sym (others q other)) ∙ had)
     ];
   }
     where
       kept : (q : Key) → contains_key mid q ≡ true → contains_key new q ≡ true
-      kept q had = elim (same_or_other q e.to) [
-        | inl is ↦ rw is marked
-        | inr other ↦ ap is_some (others q other) ∙ had
-      ]
-
--- a mark keeps those that were marked
-pub marked_keeps : (mid new : Pairs (Unit {0})) (k : Key) → contains_key new k ≡ true → ((q : Key) → q ≢ k → get new q ≡ get mid q) → (q : Key) → contains_key mid q ≡ true → contains_key new q ≡ true
-marked_keeps mid new k marked others q had = elim (same_or_other q k) [
-  | inl is ↦ rw is marked
-  | inr other ↦ ap is_some (others q other) ∙ had
-]
+      kept = marked_keeps mid new b marked others
 
 pub are_none : (seen : Pairs (Unit {0})) (found : List Key) → seen ≡ map.empty → found ≡ [] → AreSeen seen found
 are_none seen found empty none x = let gone : get seen x ≡ None = rw empty (grind (arith, secondary)) in ap (times x) none ∙ sym (ap (λ o. if is_some o then 1 else 0) gone)

@@ -1,25 +1,21 @@
 -- An order of the nodes in which each edge goes forward: how it is found, and that there is a cycle where there is none.
-use Rattle.std.proofs.Common.{◌≡◌, ◌≢◌, ℕ, zero, suc, ◌+◌, ◌-◌, ◌<◌, ◌≤◌, ◌⊎◌, ⊎_elim, Bool, true, false, Some, T, List, [], ◌∷◌, ◌++◌, length, take, drop, get_or, map as list_map, nat_eq, if◌then◌else◌, is_some, is_lt, ◌&&◌, ◌||◌, refl, sym, ap, subst, ◌∙◌, append-nil, append_assoc, inl, inr, arith}
+use Rattle.std.proofs.Common.{◌≡◌, ◌≢◌, ℕ, zero, suc, ◌+◌, ◌-◌, ◌<◌, ◌≤◌, ◌⊎◌, ⊎_elim, Bool, true, false, Some, List, [], ◌∷◌, ◌++◌, length, take, drop, get_or, nat_eq, if◌then◌else◌, option_map, refl, sym, ap, subst, ◌∙◌, append-nil, append_assoc, inl, inr, arith}
 use Rattle.std.specs.FinMap as map
-use Rattle.std.specs.List.{list_any}
-use Rattle.std.specs.Ordering.{eq_by_cmp}
 use Rattle.std.proofs.Math.Nat.{eq-zero-or-pos}
+use Rattle.std.proofs.lemmas.List.{take-append-le, take_all}
 use Rattle.std.proofs.lemmas.List.Sums.{sum_by-take-drop}
 use Rattle.std.proofs.lemmas.Bool.Decides.{nat_tests}
-use Rattle.std.specs.FinMap.Entries.{below_all, is_sorted}
-use Rattle.slotmap.specs.Words.{Key, key_cmp, Content, IsLive, Pairs, get}
-use Rattle.slotmap.proofs.Callers.{same_or_other, keys_total, exact_keys, itself, tied, keys, len_removed, live-remove_other, none_found, beside_empty}
+use Rattle.slotmap.specs.Words.{Key, IsLive, Pairs, get}
+use Rattle.slotmap.proofs.Callers.{same_or_other}
 use Rattle.slotmap_keylist.specs.KeyLists.{same, times}
-use Rattle.slotmap_keylist.proofs.Counts.{one_itself, one_other, times_first, times_pushed, times_joined, behind_split, no_more_than}
+use Rattle.slotmap_keylist.proofs.Counts.{one_itself, one_other, times_first, times_there, times_pushed, times_joined, behind_split, no_more_than}
 use Rattle.slotmap_keylist.proofs.Linking.{cut_at, split_at, in_midst, cons_not_nil}
-use Rattle.slotmap_graph.specs.Parts.{SeenEdge, Edges, ByNode, EndsLive, ListsEdges, edges_at, ends_at, from, to}
+use Rattle.slotmap_graph.specs.Parts.{Seen, SeenEdge, Edges, ByNode, IsJoined, edges_at, ends_at, from, to}
 use Rattle.slotmap_graph.specs.Search.{GoesOn, HasEdge, Leads, LeadsBy}
 use Rattle.slotmap_graph.specs.TopologicalOrder.{GoesForward, HasCycle, edges_out, passed_of, Sorting, Counting}
 use Rattle.slotmap_graph.proofs.Adjacent.{listed_edge, edge_listed}
-
-T-true : (b : Bool) → T b → b ≡ true
-T-true true t = refl
-T-true false t = absurd t
+use Rattle.slotmap_graph.proofs.Followed.{next_seen, taken}
+use Rattle.slotmap_graph.proofs.MapKeys.{all_there, covers, find_missing, key_live, key_there}
 
 same_turned : (a b : Key) → same a b ≡ same b a
 same_turned a b = elim (same_or_other a b) [
@@ -54,30 +50,6 @@ module _ (passed : List Key) (once : (x : Key) → times x passed ≤ 1) where
     | inr other ↦ (let first = times_first x j js in let no = one_other j x other in let rest = passed_less x js (omega arith) none in let one = once j in omega arith)
   ]
 
--- a list in order has no key twice
-below_none : {V : Type 0} (k : Key) (es : List (Key × V)) → below_all key_cmp k es ≡ true → times k (list_map (λ e. e.0) es) ≡ 0
-below_none k [] below = refl
-below_none k (e ∷ es) below = elim (is_lt (key_cmp k e.0)) as (λ b. is_lt (key_cmp k e.0) ≡ b → (b && below_all key_cmp k es) ≡ true → times k (list_map (λ e. e.0) (e ∷ es)) ≡ 0) [
-  | true ↦ λ less rest. elim (same_or_other e.0 k) [
-    | inl is ↦ absurd (let tie = itself keys_total exact_keys k in let f = ap (λ q. is_lt (key_cmp k q)) (sym is) in grind arith)
-    | inr other ↦ (let first = times_first k e.0 (list_map (λ e. e.0) es) in let no = one_other e.0 k other in let none = below_none k es rest in omega arith)
-  ]
-  | false ↦ λ less rest. absurd (cc)
-] refl below
-
-sorted_once : {V : Type 0} (es : List (Key × V)) → is_sorted key_cmp es ≡ true → (k : Key) → times k (list_map (λ e. e.0) es) ≤ 1
-sorted_once [] sorted k = omega arith
-sorted_once (e ∷ es) sorted k = elim (below_all key_cmp e.0 es) as (λ b. below_all key_cmp e.0 es ≡ b → (b && is_sorted key_cmp es) ≡ true → times k (list_map (λ e. e.0) (e ∷ es)) ≤ 1) [
-  | true ↦ λ below rest. (
-      let first = times_first k e.0 (list_map (λ e. e.0) es) in
-      let few = sorted_once es rest k in
-      elim (same_or_other e.0 k) [
-        | inl is ↦ (let none = below_none e.0 es below in let gone = ap (λ q. times q (list_map (λ e. e.0) es)) is in let one = ap (λ q. same q k) is ∙ one_itself k in omega arith)
-        | inr other ↦ (let no = one_other e.0 k other in omega arith)
-      ])
-  | false ↦ λ below rest. absurd (cc)
-] refl sorted
-
 test_one : (n : ℕ) → nat_eq n 1 ≡ true → n ≡ 1
 test_one n is = grind (arith, nat_tests)
 
@@ -90,53 +62,21 @@ not_zero n more = grind (arith, nat_tests)
 is_zero : (n t : ℕ) → t ≡ (if nat_eq n 0 then 1 else 0) → 0 < t → n ≡ 0
 is_zero n t is more = grind (arith, nat_tests)
 
--- the keys of a map are those of its entries
-any_there : (ks : List Key) (q : Key) → list_any (eq_by_cmp key_cmp q) ks ≡ true → 0 < times q ks
-any_there [] q is = absurd (cc)
-any_there (k ∷ ks) q is = elim (same_or_other k q) [
-  | inl e ↦ (let first = times_first q k ks in let one = ap (λ p. same p q) e ∙ one_itself q in omega arith)
-  | inr other ↦ (let first = times_first q k ks in
-      let rest = any_there ks q (sym (ap (λ b. b || list_any (eq_by_cmp key_cmp q) ks) (apart q k other)) ∙ is) in omega arith)
-]
-  where
-    apart : (q k : Key) → k ≢ q → eq_by_cmp key_cmp q k ≡ false
-    apart q k other = elim (eq_by_cmp key_cmp q k) as (λ b. eq_by_cmp key_cmp q k ≡ b → eq_by_cmp key_cmp q k ≡ false) [
-      | true ↦ λ tie. absurd (other (sym (tied keys_total exact_keys q k tie)))
-      | false ↦ λ is. is
-    ] refl
-
-there_any : (ks : List Key) (q : Key) → 0 < times q ks → list_any (eq_by_cmp key_cmp q) ks ≡ true
-there_any [] q more = absurd (omega arith)
-there_any (k ∷ ks) q more = elim (same_or_other k q) [
-  | inl e ↦ ap (λ b. b || list_any (eq_by_cmp key_cmp q) ks) (ap (eq_by_cmp key_cmp q) e ∙ itself keys_total exact_keys q)
-  | inr other ↦ (let first = times_first q k ks in let no = one_other k q other in let rest = there_any ks q (omega arith) in grind arith)
-]
-
-module _ {V : Type 0} (live : map.FinMap key_cmp V) where
-  key_there : (q : Key) → map.contains_key live q ≡ true → 0 < times q (map.keys live)
-  key_there q there = any_there (map.keys live) q (sym (map.contains_key-keys live q) ∙ there)
-
-  pub key_live : (q : Key) → 0 < times q (map.keys live) → map.contains_key live q ≡ true
-  key_live q more = map.contains_key-keys live q ∙ there_any (map.keys live) q more
-
-  pub keys_once : (q : Key) → times q (map.keys live) ≤ 1
-  keys_once = sorted_once (map.entries live) (T-true (is_sorted key_cmp (map.entries live)) (map.entries_sorted live))
-
-module _ {N E : Type 0} (nodes : Content N) (edges : Edges E) (into : ByNode) (lists : (k : Key) → ListsEdges to edges k (edges_at into k)) where
+module _ {N E : Type 0} (s : Seen N E) (joined : IsJoined s) where
   -- an edge is passed: the count of its end goes down, and its end comes into the list once no edge is left
-  module _ (counts : Pairs ℕ) (found passed : List Key) (sorting : Sorting nodes edges into counts found passed) (x : Key) (e : SeenEdge E) (there : map.get edges x ≡ Some e)
-      (new : times x passed ≡ 0) (start : 0 < times e.from found) (live : IsLive nodes e.to) where
-    in_list : times x (edges_at into e.to) ≡ 1
-    in_list = edge_listed to edges e.to (edges_at into e.to) (lists e.to) x e there refl
+  module _ (counts : Pairs ℕ) (found passed : List Key) (sorting : Sorting s counts found passed) (x : Key) (e : SeenEdge E) (there : map.get s.edges.live x ≡ Some e)
+      (new : times x passed ≡ 0) (start : 0 < times e.from found) (live : IsLive s.nodes e.to) where
+    in_list : times x (edges_at s.into e.to) ≡ 1
+    in_list = edge_listed to s.edges.live e.to (edges_at s.into e.to) (joined.into e.to) x e there refl
 
-    pub some_left : (n : ℕ) → get counts e.to ≡ Some n → 0 < n
+    some_left : (n : ℕ) → get counts e.to ≡ Some n → 0 < n
     some_left n is =
         let entry = sorting.table e.to live in
         let same_count : entry.0 ≡ n = (let h = entry.1 in cc) in
-        let less = passed_less passed sorting.once x (edges_at into e.to) (omega (arith, in_list)) new in
+        let less = passed_less passed sorting.once x (edges_at s.into e.to) (omega (arith, in_list)) new in
         omega (arith, entry.2, same_count, less)
 
-    pub can_pass : (n : ℕ) × (get counts e.to ≡ Some n) × (0 < n)
+    can_pass : (n : ℕ) × (get counts e.to ≡ Some n) × (0 < n)
     can_pass = let entry = sorting.table e.to live in (entry.0, entry.1, some_left entry.0 entry.1)
 
     module _ (counts' : Pairs ℕ) (found' : List Key) (counted : (n : ℕ) → get counts e.to ≡ Some n → get counts' e.to ≡ Some (n - 1)) (others : (q : Key) → q ≢ e.to → get counts' q ≡ get counts q)
@@ -181,24 +121,24 @@ module _ {N E : Type 0} (nodes : Content N) (edges : Edges E) (into : ByNode) (l
       ]
 
       -- each edge to a node that comes into the list was passed
-      all_passed : count ≡ 1 → (j : Key) → 0 < times j (edges_at into e.to) → 0 < times j (passed ++ x ∷ [])
+      all_passed : count ≡ 1 → (j : Key) → 0 < times j (edges_at s.into e.to) → 0 < times j (passed ++ x ∷ [])
       all_passed one j there_too = elim (eq-zero-or-pos (times j (passed ++ x ∷ []))) [
         | inl none ↦ absurd (
-            let less = passed_less (passed ++ x ∷ []) once_pushed j (edges_at into e.to) there_too none in
-            let sum = passed_more passed x (edges_at into e.to) in
+            let less = passed_less (passed ++ x ∷ []) once_pushed j (edges_at s.into e.to) there_too none in
+            let sum = passed_more passed x (edges_at s.into e.to) in
             let entry = (sorting.table e.to live).2 in
             let mine = in_list in
             omega (arith, less, sum, entry, mine, one))
         | inr more ↦ more
       ]
 
-      began_now : (k : Key) (d : SeenEdge E) → map.get edges k ≡ Some d → 0 < times k (passed ++ x ∷ []) → 0 < times d.from found
+      began_now : (k : Key) (d : SeenEdge E) → map.get s.edges.live k ≡ Some d → 0 < times k (passed ++ x ∷ []) → 0 < times d.from found
       began_now k d at more = elim (same_or_other k x) [
-        | inl is ↦ (let one : d ≡ e = (let h = sym (ap (map.get edges) (sym is) ∙ at) ∙ there in cc) in rw one start)
+        | inl is ↦ (let one : d ≡ e = (let h = sym (ap (map.get s.edges.live) (sym is) ∙ at) ∙ there in cc) in rw one start)
         | inr other ↦ sorting.began k d at (let sum = times_pushed k passed x in let no = one_other x k (λ s. other (sym s)) in omega arith)
       ]
 
-      forward_now : GoesForward edges found'
+      forward_now : GoesForward s.edges.live found'
       forward_now k d before after at split = ⊎_elim
           (λ last. elim (cut_at found (e.to ∷ []) before d.to after (sym last.0 ∙ split)) [
             | inl old ↦ sorting.forward k d before old.0 at old.1
@@ -209,37 +149,37 @@ module _ {N E : Type 0} (nodes : Content N) (edges : Edges E) (into : ByNode) (l
           at_end : count ≡ 1 → (m : List Key) → before ≡ found ++ m → e.to ∷ [] ≡ m ++ d.to ∷ after → 0 < times d.from before
           at_end one [] is last =
               let same_end : d.to ≡ e.to = (cc) in
-              let mine = edge_listed to edges e.to (edges_at into e.to) (lists e.to) k d at same_end in
+              let mine = edge_listed to s.edges.live e.to (edges_at s.into e.to) (joined.into e.to) k d at same_end in
               let from_found = began_now k d at (all_passed one k (omega (arith, mine))) in
               let sum = ap (times d.from) is ∙ times_joined d.from found [] in
               omega arith
           at_end one (q ∷ m) is last = absurd (cons_not_nil m d.to after (cc))
 
-      table_now : (y : Key) → IsLive nodes y → (n : ℕ) × (get counts' y ≡ Some n) × (n + passed_of (passed ++ x ∷ []) (edges_at into y) ≡ length (edges_at into y)) × (times y found' ≡ (if nat_eq n 0 then 1 else 0))
+      table_now : (y : Key) → IsLive s.nodes y → (n : ℕ) × (get counts' y ≡ Some n) × (n + passed_of (passed ++ x ∷ []) (edges_at s.into y) ≡ length (edges_at s.into y)) × (times y found' ≡ (if nat_eq n 0 then 1 else 0))
       table_now y y_live = elim (same_or_other y e.to) [
         | inl is ↦ rw is here
         | inr other ↦ (
             let entry = sorting.table y y_live in
-            let none = lists y x ∙ ap (ends_at to y) there ∙ one_other e.to y (λ s. other (sym s)) in
-            let sum = passed_more passed x (edges_at into y) in
+            let none = joined.into y x ∙ ap (ends_at to y) there ∙ one_other e.to y (λ s. other (sym s)) in
+            let sum = passed_more passed x (edges_at s.into y) in
             (entry.0, others y other ∙ entry.1, omega (arith, entry.2, none, sum), others_found y other ∙ entry.3))
       ]
         where
-          here : (n : ℕ) × (get counts' e.to ≡ Some n) × (n + passed_of (passed ++ x ∷ []) (edges_at into e.to) ≡ length (edges_at into e.to)) × (times e.to found' ≡ (if nat_eq n 0 then 1 else 0))
+          here : (n : ℕ) × (get counts' e.to ≡ Some n) × (n + passed_of (passed ++ x ∷ []) (edges_at s.into e.to) ≡ length (edges_at s.into e.to)) × (times e.to found' ≡ (if nat_eq n 0 then 1 else 0))
           here =
               let entry = sorting.table e.to live in
-              let sum = passed_more passed x (edges_at into e.to) in
+              let sum = passed_more passed x (edges_at s.into e.to) in
               let mine = in_list in
               let more = more_left in
               (count - 1, counted count entry.1, omega (arith, entry.2, sum, mine, more), here_found)
 
-      live_now : (y : Key) → 0 < times y found' → IsLive nodes y
+      live_now : (y : Key) → 0 < times y found' → IsLive s.nodes y
       live_now y more = elim (same_or_other y e.to) [
         | inl is ↦ rw is live
         | inr other ↦ sorting.live y (let same_times = others_found y other in omega arith)
       ]
 
-      pub sorting_step : Sorting nodes edges into counts' found' (passed ++ x ∷ [])
+      sorting_step : Sorting s counts' found' (passed ++ x ∷ [])
       sorting_step = record {
         table = table_now;
         live = live_now;
@@ -249,25 +189,25 @@ module _ {N E : Type 0} (nodes : Content N) (edges : Edges E) (into : ByNode) (l
       }
 
   -- all nodes were counted
-  pub sorting_start : (counts : Pairs ℕ) (found : List Key) → Counting nodes into counts found (map.keys nodes.live) → Sorting nodes edges into counts found []
+  pub sorting_start : (counts : Pairs ℕ) (found : List Key) → Counting s counts found (map.keys s.nodes.live) → Sorting s counts found []
   sorting_start counts found counting = record {
     table = λ y live. (
-        let entry = counting.table y (key_there nodes.live y live) in
-        let none = passed_none (edges_at into y) in
-        (length (edges_at into y), entry.0, omega arith, entry.1));
-    live = λ y more. key_live nodes.live y (elim (eq-zero-or-pos (times y (map.keys nodes.live))) [
+        let entry = counting.table y (key_there s.nodes.live y live) in
+        let none = passed_none (edges_at s.into y) in
+        (length (edges_at s.into y), entry.0, omega arith, entry.1));
+    live = λ y more. key_live s.nodes.live y (elim (eq-zero-or-pos (times y (map.keys s.nodes.live))) [
       | inl none ↦ absurd (let gone = counting.others y none in omega arith)
       | inr there ↦ there
     ]);
     forward = λ k e before after at split. absurd (
         let there : 0 < times e.to found = (let sum = ap (times e.to) split ∙ in_midst before e.to after in omega arith) in
-        let listed = edge_listed to edges e.to (edges_at into e.to) (lists e.to) k e at refl in
-        elim (eq-zero-or-pos (times e.to (map.keys nodes.live))) [
+        let listed = edge_listed to s.edges.live e.to (edges_at s.into e.to) (joined.into e.to) k e at refl in
+        elim (eq-zero-or-pos (times e.to (map.keys s.nodes.live))) [
           | inl none ↦ (let gone = counting.others e.to none in omega arith)
           | inr known ↦ (
               let entry = counting.table e.to known in
-              let empty : length (edges_at into e.to) ≡ 0 = is_zero (length (edges_at into e.to)) (times e.to found) entry.1 there in
-              none_in k (edges_at into e.to) empty listed)
+              let empty : length (edges_at s.into e.to) ≡ 0 = is_zero (length (edges_at s.into e.to)) (times e.to found) entry.1 there in
+              none_in k (edges_at s.into e.to) empty listed)
         ]);
     began = λ x e at more. absurd (omega arith);
     once = λ x. omega arith;
@@ -278,7 +218,7 @@ module _ {N E : Type 0} (nodes : Content N) (edges : Edges E) (into : ByNode) (l
       none_in k (j ∷ js) empty one = absurd (omega arith)
 
 -- each node is found once
-module _ {N E : Type 0} (nodes : Content N) (edges : Edges E) (into : ByNode) (counts : Pairs ℕ) (found passed : List Key) (sorting : Sorting nodes edges into counts found passed) where
+module _ {N E : Type 0} (s : Seen N E) (counts : Pairs ℕ) (found passed : List Key) (sorting : Sorting s counts found passed) where
   pub found_once : (x : Key) → times x found ≤ 1
   found_once x = elim (eq-zero-or-pos (times x found)) [
     | inl none ↦ omega arith
@@ -288,73 +228,35 @@ module _ {N E : Type 0} (nodes : Content N) (edges : Edges E) (into : ByNode) (c
       few : (n : ℕ) → times x found ≡ (if nat_eq n 0 then 1 else 0) → times x found ≤ 1
       few n is = grind (arith, nat_tests)
 
-  pub found_fits : length found ≤ map.len nodes.live
-  found_fits = no_more_than found nodes.live found_once sorting.live
+  pub found_fits : length found ≤ map.len s.nodes.live
+  found_fits = no_more_than found s.nodes.live found_once sorting.live
 
 -- the outgoing edges of some nodes
-module _ {E : Type 0} (edges : Edges E) (out : ByNode) (lists : (k : Key) → ListsEdges from edges k (edges_at out k)) where
-  pub out_times : (ks : List Key) (x : Key) (e : SeenEdge E) → map.get edges x ≡ Some e → times x (edges_out out ks) ≡ times e.from ks
+module _ {N E : Type 0} (s : Seen N E) (joined : IsJoined s) where
+  pub out_times : (ks : List Key) (x : Key) (e : SeenEdge E) → map.get s.edges.live x ≡ Some e → times x (edges_out s.out ks) ≡ times e.from ks
   out_times [] x e there = refl
   out_times (k ∷ ks) x e there =
-      let sum = times_joined x (edges_at out k) (edges_out out ks) in
-      let here = lists k x ∙ ap (ends_at from k) there in
+      let sum = times_joined x (edges_at s.out k) (edges_out s.out ks) in
+      let here = joined.out k x ∙ ap (ends_at from k) there in
       let rest = out_times ks x e there in
       let first = times_first e.from k ks in
       let turned = same_turned e.from k in
       omega arith
 
   -- an edge that was not passed is the next one of a node whose edges were not passed before
-  pub next_new : (done passed rest : List Key) (a x : Key) (e : SeenEdge E) → map.get edges x ≡ Some e → e.from ≡ a → times a done ≡ 0 → passed ++ x ∷ rest ≡ edges_at out a
-      → times x (edges_out out done ++ passed) ≡ 0
+  next_new : (done passed rest : List Key) (a x : Key) (e : SeenEdge E) → map.get s.edges.live x ≡ Some e → e.from ≡ a → times a done ≡ 0 → passed ++ x ∷ rest ≡ edges_at s.out a
+      → times x (edges_out s.out done ++ passed) ≡ 0
   next_new done passed rest a x e there at none split =
       let before = out_times done x e there ∙ ap (λ q. times q done) at ∙ none in
-      let one = lists a x ∙ ap (ends_at from a) there ∙ ap (λ q. same q a) at ∙ one_itself a in
+      let one = joined.out a x ∙ ap (ends_at from a) there ∙ ap (λ q. same q a) at ∙ one_itself a in
       let twice = ap (times x) split in
-      let sum = times_joined x (edges_out out done) passed in
+      let sum = times_joined x (edges_out s.out done) passed in
       let inner = in_midst passed x rest in
       omega arith
 
-pub edges_out_more : (out : ByNode) (ks : List Key) (a : Key) → edges_out out (ks ++ a ∷ []) ≡ edges_out out ks ++ edges_at out a
+edges_out_more : (out : ByNode) (ks : List Key) (a : Key) → edges_out out (ks ++ a ∷ []) ≡ edges_out out ks ++ edges_at out a
 edges_out_more out [] a = append-nil (edges_at out a)
 edges_out_more out (k ∷ ks) a = ap (λ l. edges_at out k ++ l) (edges_out_more out ks a) ∙ sym (append_assoc (edges_at out k) (edges_out out ks) (edges_at out a))
-
--- as many keys as there are, each of them live, are all of them
-covers : {V : Type 0} (live : map.FinMap key_cmp V) (ks : List Key) → ((x : Key) → map.contains_key live x ≡ true → 0 < times x ks) → map.len live ≤ length ks
-covers {V} live [] all = let none = none_found live (λ k v there. absurd (let more = all k (ap is_some there) in omega arith)) in let zero_len = ap map.len none ∙ map.len-empty key_cmp V in omega arith
-covers live (k ∷ ks) all =
-    let rest = covers (map.remove live k) ks (λ x there. (elim (same_or_other x k) [
-      | inl is ↦ absurd (let gone : map.contains_key (map.remove live k) k ≡ false = grind (arith, keys) in let f = ap (map.contains_key (map.remove live k)) is in cc)
-      | inr other ↦ (let still : map.contains_key live x ≡ true = grind (arith, keys) in
-          let more = all x still in let first = times_first x k ks in let no = one_other k x (λ s. other (sym s)) in omega arith)
-    ])) in
-    elim (map.contains_key live k) as (λ b. map.contains_key live k ≡ b → map.len live ≤ length (k ∷ ks)) [
-      | true ↦ λ there. (let less = len_removed keys_total exact_keys live k there in omega arith)
-      | false ↦ λ gone. (let same_len : map.len (map.remove live k) ≡ map.len live = map.len-remove keys_total live k ∙ ap (λ b. if b then map.len live - 1 else map.len live) gone in omega arith)
-    ] refl
-
-pub all_there : {V : Type 0} (live : map.FinMap key_cmp V) (ks : List Key) → ((x : Key) → times x ks ≤ 1) → ((x : Key) → 0 < times x ks → map.contains_key live x ≡ true) → length ks ≡ map.len live
-    → (x : Key) → map.contains_key live x ≡ true → 0 < times x ks
-all_there live ks once there many x x_live = elim (eq-zero-or-pos (times x ks)) [
-  | inl none ↦ absurd (
-      let few = no_more_than ks (map.remove live x) once (λ q more. live-remove_other live x q (λ is. (let gone = ap (λ k. times k ks) is ∙ none in omega arith)) (there q more)) in
-      let less = len_removed keys_total exact_keys live x x_live in
-      omega arith)
-  | inr more ↦ more
-]
-
--- one of these keys isn't in a list, or all are
-find_missing : (ks found : List Key) → ((k : Key) × (0 < times k ks) × (times k found ≡ 0)) ⊎ ((k : Key) → 0 < times k ks → 0 < times k found)
-find_missing [] found = inr (λ k more. absurd (omega arith))
-find_missing (k ∷ ks) found = elim (eq-zero-or-pos (times k found)) [
-  | inl none ↦ inl (k, (let first = times_first k k ks in let one = one_itself k in omega arith), none)
-  | inr there ↦ elim (find_missing ks found) [
-    | inl some ↦ inl (some.0, (let first = times_first some.0 k ks in let more = some.1 in omega arith), some.2)
-    | inr all ↦ inr (λ q more. (elim (same_or_other k q) [
-      | inl is ↦ rw (← is) there
-      | inr other ↦ all q (let first = times_first q k ks in let no = one_other k q other in omega arith)
-    ]))
-  ]
-]
 
 -- an edge that was not passed
 some_unpassed : (passed js : List Key) → passed_of passed js < length js → (j : Key) × (0 < times j js) × (times j passed ≡ 0)
@@ -369,24 +271,23 @@ leads_from edges y h x join zero is = (y, refl, rw (← is) join)
 leads_from edges y h x join (suc n) path = (path.0, leads_from edges y h path.0 join n path.1, path.2)
 
 -- all edges of the nodes that were found were passed
-module _ {N E : Type 0} (nodes : Content N) (edges : Edges E) (out into : ByNode) (ends : EndsLive nodes edges) (out_lists : (k : Key) → ListsEdges from edges k (edges_at out k))
-    (into_lists : (k : Key) → ListsEdges to edges k (edges_at into k)) (counts : Pairs ℕ) (found : List Key) (sorting : Sorting nodes edges into counts found (edges_out out found)) where
+module _ {N E : Type 0} (s : Seen N E) (joined : IsJoined s) (counts : Pairs ℕ) (found : List Key) (sorting : Sorting s counts found (edges_out s.out found)) where
   -- a node that was not found has an edge from another one
-  before : (y : Key) → IsLive nodes y → times y found ≡ 0 → (p : Key) × HasEdge edges p y × IsLive nodes p × (times p found ≡ 0)
+  before : (y : Key) → IsLive s.nodes y → times y found ≡ 0 → (p : Key) × HasEdge s.edges.live p y × IsLive s.nodes p × (times p found ≡ 0)
   before y live missing =
       let entry = sorting.table y live in
       let left : 0 < entry.0 = not_found_left entry.0 entry.3 in
-      let some = some_unpassed (edges_out out found) (edges_at into y) (omega (arith, entry.2, left)) in
-      let e = listed_edge to edges y (edges_at into y) (into_lists y) some.0 some.1 in
-      (e.0.from, (some.0, e.0, e.1, refl, e.2), (ends some.0 e.0 e.1).0, sym (out_times edges out out_lists found some.0 e.0 e.1) ∙ some.2)
+      let some = some_unpassed (edges_out s.out found) (edges_at s.into y) (omega (arith, entry.2, left)) in
+      let e = listed_edge to s.edges.live y (edges_at s.into y) (joined.into y) some.0 some.1 in
+      (e.0.from, (some.0, e.0, e.1, refl, e.2), (joined.ends some.0 e.0 e.1).0, sym (out_times s joined found some.0 e.0 e.1) ∙ some.2)
     where
       not_found_left : (n : ℕ) → times y found ≡ (if nat_eq n 0 then 1 else 0) → 0 < n
       not_found_left n is = grind (arith, nat_tests)
 
   -- back from node to node, until one comes again
-  climb : (fuel : ℕ) (ks : List Key) (head : Key) → IsLive nodes head → times head found ≡ 0 → ((x : Key) → times x ks ≤ 1) → ((x : Key) → 0 < times x ks → IsLive nodes x × Leads edges head x)
-      → map.len nodes.live < length ks + fuel → HasCycle edges
-  climb zero ks head live missing once led enough = absurd (let few = no_more_than ks nodes.live once (λ x more. (led x more).0) in omega arith)
+  climb : (fuel : ℕ) (ks : List Key) (head : Key) → IsLive s.nodes head → times head found ≡ 0 → ((x : Key) → times x ks ≤ 1) → ((x : Key) → 0 < times x ks → IsLive s.nodes x × Leads s.edges.live head x)
+      → map.len s.nodes.live < length ks + fuel → HasCycle s.edges.live
+  climb zero ks head live missing once led enough = absurd (let few = no_more_than ks s.nodes.live once (λ x more. (led x more).0) in omega arith)
   climb (suc fuel) ks head live missing once led enough =
       let p = before head live missing in
       elim (eq-zero-or-pos (times p.0 ks)) [
@@ -398,23 +299,23 @@ module _ {N E : Type 0} (nodes : Content N) (edges : Edges E) (out into : ByNode
             ]))
             (λ x more. (elim (same_or_other p.0 x) [
               | inl is ↦ rw (← is) (p.2, (zero, refl))
-              | inr other ↦ (let old = led x (let first = times_first x p.0 ks in let no = one_other p.0 x other in omega arith) in (old.0, (suc old.1.0, leads_from edges p.0 head x p.1 old.1.0 old.1.1)))
+              | inr other ↦ (let old = led x (let first = times_first x p.0 ks in let no = one_other p.0 x other in omega arith) in (old.0, (suc old.1.0, leads_from s.edges.live p.0 head x p.1 old.1.0 old.1.1)))
             ]))
             (omega arith)
       ]
 
-  pub some_cycle : (length found ≡ map.len nodes.live → ⊥) → HasCycle edges
-  some_cycle differ = elim (find_missing (map.keys nodes.live) found) [
-    | inl some ↦ climb (map.len nodes.live + 1) [] some.0 (key_live nodes.live some.0 some.1) some.2 (λ x. omega arith) (λ x more. absurd (omega arith)) (omega arith)
+  some_cycle : (length found ≡ map.len s.nodes.live → ⊥) → HasCycle s.edges.live
+  some_cycle differ = elim (find_missing (map.keys s.nodes.live) found) [
+    | inl some ↦ climb (map.len s.nodes.live + 1) [] some.0 (key_live s.nodes.live some.0 some.1) some.2 (λ x. omega arith) (λ x more. absurd (omega arith)) (omega arith)
     | inr all ↦ absurd (differ (
-        let many = covers nodes.live found (λ x live. all x (key_there nodes.live x live)) in
-        let few = found_fits nodes edges into counts found (edges_out out found) sorting in
+        let many = covers s.nodes.live found (λ x live. all x (key_there s.nodes.live x live)) in
+        let few = found_fits s counts found (edges_out s.out found) sorting in
         omega arith))
   ]
 
-  pub each_once : length found ≡ map.len nodes.live → (x : Key) → times x found ≡ (if map.contains_key nodes.live x then 1 else 0)
-  each_once many x = elim (map.contains_key nodes.live x) as (λ b. map.contains_key nodes.live x ≡ b → times x found ≡ (if b then 1 else 0)) [
-    | true ↦ λ live. (let more = all_there nodes.live found (found_once nodes edges into counts found (edges_out out found) sorting) sorting.live many x live in let few = found_once nodes edges into counts found (edges_out out found) sorting x in omega arith)
+  each_once : length found ≡ map.len s.nodes.live → (x : Key) → times x found ≡ (if map.contains_key s.nodes.live x then 1 else 0)
+  each_once many x = elim (map.contains_key s.nodes.live x) as (λ b. map.contains_key s.nodes.live x ≡ b → times x found ≡ (if b then 1 else 0)) [
+    | true ↦ λ live. (let more = all_there s.nodes.live found (found_once s counts found (edges_out s.out found) sorting) sorting.live many x live in let few = found_once s counts found (edges_out s.out found) sorting x in omega arith)
     | false ↦ λ gone. (elim (eq-zero-or-pos (times x found)) [ inl none ↦ none | inr more ↦ absurd (let live = sorting.live x more in cc) ])
   ] refl
 
@@ -433,7 +334,7 @@ module _ {E : Type 0} (edges : Edges E) (ks : List Key) (forward : GoesForward e
       ]
 
   -- so there is no cycle of nodes that are in it, each once
-  pub no_cycle : ((x : Key) → times x ks ≤ 1) → ((a b : Key) → HasEdge edges a b → 0 < times b ks) → HasCycle edges → ⊥
+  no_cycle : ((x : Key) → times x ks ≤ 1) → ((a b : Key) → HasEdge edges a b → 0 < times b ks) → HasCycle edges → ⊥
   no_cycle once there cycle =
       let a = cycle.0 in
       let b = cycle.1 in
@@ -451,54 +352,62 @@ module _ {E : Type 0} (edges : Edges E) (ks : List Key) (forward : GoesForward e
       ]
 
 -- a key that is in a list once isn't before its place
-pub fresh_at : (ks : List Key) (i : ℕ) (k : Key) → i < length ks → k ≡ get_or ks i k → times k ks ≤ 1 → times k (take i ks) ≡ 0
+fresh_at : (ks : List Key) (i : ℕ) (k : Key) → i < length ks → k ≡ get_or ks i k → times k ks ≤ 1 → times k (take i ks) ≡ 0
 fresh_at ks i k below is once =
     let sum : times k (take i ks) + times k (drop i ks) ≡ times k ks = sum_by-take-drop (λ q. same q k) ks i in
     let split = ap (times k) (behind_split ks i k below is) ∙ times_first k k (drop (i + 1) ks) in
     let one = one_itself k in
     omega arith
 
-pub goes_more : (b : Bool) (old found found' : List Key) (y : Key) → found' ≡ (if b then found ++ y ∷ [] else found) → GoesOn old found → GoesOn old found'
+goes_more : (b : Bool) (old found found' : List Key) (y : Key) → found' ≡ (if b then found ++ y ∷ [] else found) → GoesOn old found → GoesOn old found'
 goes_more true old found found' y is goes = (goes.0 ++ y ∷ [], is ∙ ap (λ l. l ++ y ∷ []) goes.1 ∙ append_assoc old goes.0 (y ∷ []))
 goes_more false old found found' y is goes = (goes.0, is ∙ goes.1)
 
--- one more node is counted
-module _ {N : Type 0} (nodes : Content N) (into : ByNode) (counts counts' : Pairs ℕ) (found found' done : List Key) (counting : Counting nodes into counts found done) (y : Key) (live : IsLive nodes y)
-    (new : times y done ≡ 0) (here : get counts' y ≡ Some (length (edges_at into y))) (others : (q : Key) → q ≢ y → get counts' q ≡ get counts q)
-    (found_is : found' ≡ (if nat_eq (length (edges_at into y)) 0 then found ++ y ∷ [] else found)) where
-  count_others : (q : Key) → q ≢ y → times q found' ≡ times q found
-  count_others q other = elim (nat_eq (length (edges_at into y)) 0) as (λ b. found' ≡ (if b then found ++ y ∷ [] else found) → times q found' ≡ times q found) [
-    | true ↦ λ is. (let sum = ap (times q) is ∙ times_pushed q found y in let no = one_other y q (λ s. other (sym s)) in omega arith)
-    | false ↦ λ is. ap (times q) is
-  ] found_is
+-- the next edge of a node of the list goes to b
+module _ {N E : Type 0} (s : Seen N E) (joined : IsJoined s) (old : List Key) (at : ℕ) (a : Key) (within : at < length old) (is : a ≡ get_or old at a) (once : times a old ≤ 1)
+    (counts : Pairs ℕ) (found yielded ahead rest : List Key) (x b : Key) (goes : GoesOn old found) (sorting : Sorting s counts found (edges_out s.out (take at old) ++ yielded))
+    (so_far : yielded ++ ahead ≡ edges_at s.out a) (next : ahead ≡ x ∷ rest) (arrives : option_map to (map.get s.edges.live x) ≡ Some b) (live : IsLive s.nodes b) where
+  this : (v : E) × (map.get s.edges.live x ≡ Some (record { from = a; to = b; value = v }))
+  this = next_seen s.edges.live a (edges_at s.out a) (joined.out a) yielded ahead rest x so_far next b arrives
 
-  count_here : times y found' ≡ (if nat_eq (length (edges_at into y)) 0 then 1 else 0)
-  count_here = elim (nat_eq (length (edges_at into y)) 0) as (λ b. found' ≡ (if b then found ++ y ∷ [] else found) → times y found' ≡ (if b then 1 else 0)) [
-    | true ↦ λ is. (let sum = ap (times y) is ∙ times_pushed y found y in let one = one_itself y in let none = counting.others y new in omega arith)
-    | false ↦ λ is. ap (times y) is ∙ counting.others y new
-  ] found_is
+  new : times x (edges_out s.out (take at old) ++ yielded) ≡ 0
+  new = next_new s joined (take at old) yielded rest a x _ this.1 refl (fresh_at old at a within is once) (ap (λ l. yielded ++ l) (sym next) ∙ so_far)
 
-  pub counting_step : Counting nodes into counts' found' (done ++ y ∷ [])
-  counting_step = record {
-    beside = λ q there. elim (same_or_other q y) [
-      | inl is ↦ rw is live
-      | inr other ↦ counting.beside q (ap is_some (sym (others q other)) ∙ there)
-    ];
-    table = λ q more. elim (same_or_other q y) [
-      | inl is ↦ rw is (here, count_here)
-      | inr other ↦ (
-          let entry = counting.table q (let sum = times_pushed q done y in let no = one_other y q (λ s. other (sym s)) in omega arith) in
-          (others q other ∙ entry.0, count_others q other ∙ entry.1))
-    ];
-    others = λ q none. elim (same_or_other q y) [
-      | inl is ↦ absurd (let sum = times_pushed q done y in let one = ap (same y) is ∙ one_itself y in omega arith)
-      | inr other ↦ count_others q other ∙ counting.others q (let sum = times_pushed q done y in omega arith)
-    ];
-  }
+  start : 0 < times a found
+  start = let first = times_there old at a within is in let sum = ap (times a) goes.1 ∙ times_joined a old goes.0 in omega (arith, first, sum)
 
-pub counting_none : {N : Type 0} (nodes : Content N) (into : ByNode) (counts : Pairs ℕ) (found : List Key) → counts ≡ map.empty → found ≡ [] → Counting nodes into counts found []
-counting_none nodes into counts found none empty = record {
-  beside = beside_empty nodes counts none;
-  table = λ y more. absurd (omega arith);
-  others = λ y no. ap (times y) empty;
-}
+  pub next_can_pass : (n : ℕ) × (get counts b ≡ Some n) × (0 < n)
+  next_can_pass = can_pass s joined counts found _ sorting x _ this.1 new start live
+
+  pub next_passed : (counts' : Pairs ℕ) (found' : List Key) → ((n : ℕ) → get counts b ≡ Some n → get counts' b ≡ Some (n - 1)) → ((q : Key) → q ≢ b → get counts' q ≡ get counts q)
+      → ((n : ℕ) → get counts b ≡ Some n → found' ≡ (if nat_eq n 1 then found ++ b ∷ [] else found))
+      → GoesOn old found' × Sorting s counts' found' (edges_out s.out (take at old) ++ (yielded ++ x ∷ []))
+  next_passed counts' found' counted others found_is =
+      let can = next_can_pass in (
+        goes_more (nat_eq can.0 1) old found found' b (found_is can.0 can.1) goes,
+        rw (← append_assoc (edges_out s.out (take at old)) yielded (x ∷ [])) (sorting_step s joined counts found _ sorting x _ this.1 new start live counts' found' counted others found_is),
+      )
+
+-- all edges of the node were passed
+pub pass_end : {N E : Type 0} (s : Seen N E) (old : List Key) (at : ℕ) (a : Key) → at < length old → a ≡ get_or old at a → (counts : Pairs ℕ) (found yielded : List Key) → GoesOn old found → yielded ≡ edges_at s.out a
+    → Sorting s counts found (edges_out s.out (take at old) ++ yielded) → Sorting s counts found (edges_out s.out (take (at + 1) found))
+pass_end s old at a within is counts found yielded goes all sorting =
+    let front : take (at + 1) found ≡ take at old ++ a ∷ [] = ap (take (at + 1)) goes.1 ∙ take-append-le (at + 1) old goes.0 (omega (arith, within)) ∙ taken old at a within is in
+    let passed : edges_out s.out (take at old) ++ yielded ≡ edges_out s.out (take (at + 1) found) =
+    ap (λ l. edges_out s.out (take at old) ++ l) all ∙ sym (edges_out_more s.out (take at old) a) ∙ ap (edges_out s.out) (sym front) in
+    subst (Sorting s counts found) passed sorting
+
+-- the end of the list was reached: it has all nodes, or there is a cycle
+module _ {N E : Type 0} (s : Seen N E) (joined : IsJoined s) (counts : Pairs ℕ) (found : List Key) (at : ℕ) (past : length found ≤ at) (sorting : Sorting s counts found (edges_out s.out (take at found))) where
+  ended : Sorting s counts found (edges_out s.out found)
+  ended = subst (λ l. Sorting s counts found (edges_out s.out l)) (take_all at found past) sorting
+
+  pub ordered : length found ≡ map.len s.nodes.live
+      → ((x : Key) → times x found ≡ (if map.contains_key s.nodes.live x then 1 else 0)) × GoesForward s.edges.live found × (HasCycle s.edges.live → ⊥)
+  ordered many =
+      let once = found_once s counts found (edges_out s.out found) ended in
+      let there : (a b : Key) → HasEdge s.edges.live a b → 0 < times b found = λ a b join. all_there s.nodes.live found once ended.live many b (subst (λ q. map.contains_key s.nodes.live q ≡ true) join.4 (joined.ends join.0 join.1 join.2).1) in
+      (each_once s joined counts found ended many, ended.forward, no_cycle s.edges.live found ended.forward once there)
+
+  pub cyclic : (length found ≡ map.len s.nodes.live → ⊥) → HasCycle s.edges.live
+  cyclic = some_cycle s joined counts found ended

@@ -92,6 +92,12 @@ module _ {E : Type 0} where
   abbrev pub with_edge : Content (SeenEdge E) → Key → E → Content (SeenEdge E)
   with_edge edges k v = with_edge_in edges k v (map.get edges.live k)
 
+-- what holds of every graph: each edge joins two live nodes, and is listed at both
+pub record IsJoined {N E : Type 0} (s : Seen N E) : Type 0 where
+  pub ends : EndsLive s.nodes s.edges.live
+  pub out : (k : Key) → ListsEdges from s.edges.live k (edges_at s.out k)
+  pub into : (k : Key) → ListsEdges to s.edges.live k (edges_at s.into k)
+
 -- the data of two keys
 abbrev pub both : {K : Type 0} → (K → Key) → K × K → Key × Key
 both data_of ks = (data_of ks.0, data_of ks.1)

@@ -1,9 +1,9 @@
 -- An order of the nodes in which each edge goes forward.
 use Rattle.std.specs.Prelude.{◌≡◌, ℕ, ◌+◌, ◌<◌, ◌≤◌, Some, List, [], ◌∷◌, ◌++◌, length, nat_eq, if◌then◌else◌}
 use Rattle.std.specs.FinMap as map
-use Rattle.slotmap.specs.Words.{Key, Content, IsBeside, IsLive, Pairs, get}
+use Rattle.slotmap.specs.Words.{Key, IsBeside, IsLive, Pairs, get}
 use Rattle.slotmap_keylist.specs.KeyLists.{times}
-use Rattle.slotmap_graph.specs.Parts.{SeenEdge, Edges, ByNode, edges_at}
+use Rattle.slotmap_graph.specs.Parts.{Seen, SeenEdge, Edges, ByNode, edges_at}
 use Rattle.slotmap_graph.specs.Search.{HasEdge, Leads}
 
 module _ {E : Type 0} (edges : Edges E) where
@@ -27,15 +27,15 @@ passed_of passed (j ∷ js) = times j passed + passed_of passed js
 
 -- For each node the number of its incoming edges that were not passed yet: those with none of them are in the list. Each edge that was passed
 -- begins at a node of it
-pub record Sorting {N E : Type 0} (nodes : Content N) (edges : Edges E) (into : ByNode) (counts : Pairs ℕ) (found passed : List Key) : Type 0 where
-  pub table : (y : Key) → IsLive nodes y → (n : ℕ) × (get counts y ≡ Some n) × (n + passed_of passed (edges_at into y) ≡ length (edges_at into y)) × (times y found ≡ (if nat_eq n 0 then 1 else 0))
-  pub live : (y : Key) → 0 < times y found → IsLive nodes y
-  pub forward : GoesForward edges found
-  pub began : (x : Key) (e : SeenEdge E) → map.get edges x ≡ Some e → 0 < times x passed → 0 < times e.from found
+pub record Sorting {N E : Type 0} (s : Seen N E) (counts : Pairs ℕ) (found passed : List Key) : Type 0 where
+  pub table : (y : Key) → IsLive s.nodes y → (n : ℕ) × (get counts y ≡ Some n) × (n + passed_of passed (edges_at s.into y) ≡ length (edges_at s.into y)) × (times y found ≡ (if nat_eq n 0 then 1 else 0))
+  pub live : (y : Key) → 0 < times y found → IsLive s.nodes y
+  pub forward : GoesForward s.edges.live found
+  pub began : (x : Key) (e : SeenEdge E) → map.get s.edges.live x ≡ Some e → 0 < times x passed → 0 < times e.from found
   pub once : (x : Key) → times x passed ≤ 1
 
 -- The same before any edge was passed, where these nodes were counted
-pub record Counting {N : Type 0} (nodes : Content N) (into : ByNode) (counts : Pairs ℕ) (found done : List Key) : Type 0 where
-  pub beside : IsBeside nodes counts
-  pub table : (y : Key) → 0 < times y done → (get counts y ≡ Some (length (edges_at into y))) × (times y found ≡ (if nat_eq (length (edges_at into y)) 0 then 1 else 0))
+pub record Counting {N E : Type 0} (s : Seen N E) (counts : Pairs ℕ) (found done : List Key) : Type 0 where
+  pub beside : IsBeside s.nodes counts
+  pub table : (y : Key) → 0 < times y done → (get counts y ≡ Some (length (edges_at s.into y))) × (times y found ≡ (if nat_eq (length (edges_at s.into y)) 0 then 1 else 0))
   pub others : (y : Key) → times y done ≡ 0 → times y found ≡ 0

@@ -9,12 +9,12 @@ ghost use Rattle.slotmap_keylist.specs.KeyLists.{without};
 ghost use Rattle.slotmap_graph.specs.Parts.{SeenEdge, avoids, touches, from, to, value, edges_at, ListsEdges, PutsBehind, SameEdges, RefusesEdge, RefusesLiveEdge};
 ghost use Rattle.slotmap_keylist.specs.Mapped.{map_content};
 ghost use Rattle.slotmap_graph.specs.declared.links.Direction.{Direction as ToOrFrom};
-ghost use Rattle.slotmap_graph.specs.Threads.{no_link as empty_link, ends_in, node_value, seen_edge};
+ghost use Rattle.slotmap_graph.specs.Threads.{no_link, ends_in, node_value, seen_edge};
 
-use crate::links::{Direction, Edges, Nodes, link_last, no_ends, no_link, unlink};
+use crate::links::{Direction, Edges, Nodes, link_last, unlink};
 use crate::{Edge, EdgeError, EdgeKey, Graph, Node};
 use slotmap::{DefaultKey, InsertError, Key};
-use slotmap_keylist::inner;
+use slotmap_keylist::{Ends, Link, inner};
 
 // Adds a node with no edge to the map of nodes.
 fn insert_node<K: Key, N: Drop>(nodes: &mut Nodes<K, N>, value: N) -> Result<K, InsertError<N>>
@@ -27,8 +27,8 @@ fn insert_node<K: Key, N: Drop>(nodes: &mut Nodes<K, N>, value: N) -> Result<K, 
 {
     let node = Node {
         value,
-        out: no_ends(),
-        into: no_ends(),
+        out: Ends::none(),
+        into: Ends::none(),
     };
     match nodes.insert(node) {
         Ok(key) => Ok(key),
@@ -57,7 +57,7 @@ fn insert_edge<E: Drop>(
 ) -> Result<EdgeKey, EdgeError<E>>
     ensures adds { IfOk result (λ key. Inserts (map_content seen_edge edges.old) key (record { from = from; to = to; value = value }) (map_content seen_edge edges.new)) }
     ensures fresh { IfOk result (λ key. map.get edges.old.live key ≡ None) }
-    ensures unlinked { IfOk result (λ key. edges.new.live ≡ map.insert edges.old.live key (record { from = from; to = to; value = value; out = empty_link; into = empty_link })) }
+    ensures unlinked { IfOk result (λ key. edges.new.live ≡ map.insert edges.old.live key (record { from = from; to = to; value = value; out = no_link; into = no_link })) }
     ensures err { IfErr result (RefusesLiveEdge (map_content seen_edge edges.old) value) }
     ensures same { OnErr result (edges.new.live ≡ edges.old.live) }
     ensures reuses { 0 < map.len edges.old.next → IsOk result }
@@ -68,8 +68,8 @@ fn insert_edge<E: Drop>(
         from,
         to,
         value,
-        out: no_link(),
-        into: no_link(),
+        out: Link::none(),
+        into: Link::none(),
     };
     match edges.insert(edge) {
         Ok(key) => Ok(key),

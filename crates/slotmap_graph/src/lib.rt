@@ -368,7 +368,8 @@ impl<K: Key, N: Drop, E: Drop> Graph<K, N, E> {
         EdgesAt {
             edges: &self.edges,
             direction,
-            next: ends.first,
+            first: ends.first,
+            last: ends.last,
             left: ends.len,
         }
     }

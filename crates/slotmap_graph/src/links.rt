@@ -4,7 +4,7 @@ ghost use Rattle.std.specs.Prelude.{◌≡◌, ◌<◌, ◌++◌, [], ◌∷◌,
 ghost use Rattle.slotmap.specs.Words.{Key as KeyOf, IsContent, IsLive};
 ghost use Rattle.slotmap_keylist.specs.KeyLists.{is_key, times, without};
 ghost use Rattle.slotmap_keylist.specs.Splice.{own, with_next, with_prev};
-ghost use Rattle.slotmap_graph.specs.Threads.{no_ends as empty_ends, no_link as empty_link, IsThreaded, KeepsEdges, Rethreads, ends_in, edge_link, link_in, listed, node_ends, with_ends, with_link};
+ghost use Rattle.slotmap_graph.specs.Threads.{IsThreaded, KeepsEdges, Rethreads, ends_in, edge_link, link_in, listed, node_ends, with_ends, with_link};
 
 use crate::{Edge, EdgeKey, Node};
 use slotmap::{Key, SlotMap};
@@ -20,27 +20,6 @@ pub(crate) enum Direction {
 pub(crate) type Nodes<K, N> = SlotMap<K, Node<N>>;
 
 pub(crate) type Edges<E> = SlotMap<EdgeKey, Edge<E>>;
-
-// The ends of an empty list.
-pub(crate) fn no_ends() -> Ends<EdgeKey>
-    ensures { result ≡ empty_ends }
-{
-    Ends {
-        first: None,
-        last: None,
-        len: 0,
-    }
-}
-
-// The link of an edge in no list.
-pub(crate) fn no_link() -> Link<EdgeKey>
-    ensures { result ≡ empty_link }
-{
-    Link {
-        prev: None,
-        next: None,
-    }
-}
 
 impl<N> Node<N> {
     // The ends of one of its two lists.
@@ -94,21 +73,21 @@ pub(crate) fn list_ends<K: Key, N: Drop>(
 {
     match nodes.get(node) {
         Some(node) => node.ends(direction),
-        None => no_ends(),
+        None => Ends::none(),
     }
 }
 
-// The edge after this one.
-pub(crate) fn next_of<E: Drop>(
+// The link of an edge, or that of an edge in no list if it doesn't exist.
+pub(crate) fn link_of<E: Drop>(
     edges: &Edges<E>,
     direction: Direction,
     key: EdgeKey,
-) -> Option<EdgeKey>
-    ensures { result ≡ (link_in direction edges.now.live key).next }
+) -> Link<EdgeKey>
+    ensures { result ≡ link_in direction edges.now.live key }
 {
     match edges.get(key) {
-        Some(edge) => edge.link(direction).next,
-        None => None,
+        Some(edge) => edge.link(direction),
+        None => Link::none(),
     }
 }
 

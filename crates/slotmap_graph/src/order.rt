@@ -79,7 +79,7 @@ impl<K: Key, N: Drop, E: Drop> Graph<K, N, E> {
         requires valid { IsContent true self.now.nodes }
         requires none { counts.old.pairs ≡ map.empty }
         requires empty { found.old.items ≡ [] }
-        ensures { OnOk result (Counting self.now.nodes self.now.into counts.new.pairs (list_map K.data_of found.new.items) (map.keys self.now.nodes.live)) }
+        ensures { OnOk result (Counting self.now counts.new.pairs (list_map K.data_of found.new.items) (map.keys self.now.nodes.live)) }
     {
         for node in self.nodes() {
             let degree = self.in_degree(node);
@@ -98,11 +98,11 @@ impl<K: Key, N: Drop, E: Drop> Graph<K, N, E> {
     ) -> Result<(), AllocError>
         requires within { at < length (list_map K.data_of found.old.items) }
         requires next { K.data_of node ≡ slice_index_or (list_map K.data_of found.old.items) at (K.data_of node) }
-        requires sorting { Sorting self.now.nodes self.now.edges.live self.now.into counts.old.pairs (list_map K.data_of found.old.items) (edges_out self.now.out (take at (list_map K.data_of found.old.items))) }
-        ensures { OnOk result (Sorting self.now.nodes self.now.edges.live self.now.into counts.new.pairs (list_map K.data_of found.new.items) (edges_out self.now.out (take (at + 1) (list_map K.data_of found.new.items)))) }
+        requires sorting { Sorting self.now counts.old.pairs (list_map K.data_of found.old.items) (edges_out self.now.out (take at (list_map K.data_of found.old.items))) }
+        ensures { OnOk result (Sorting self.now counts.new.pairs (list_map K.data_of found.new.items) (edges_out self.now.out (take (at + 1) (list_map K.data_of found.new.items)))) }
     {
         for edge in self.edges_from(node) {
-            pass(found, counts, outer(self.edges[edge].to))?;
+            pass(found, counts, outer(self.target(edge)))?;
         }
         Ok(())
     }

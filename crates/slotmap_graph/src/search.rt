@@ -1,15 +1,15 @@
 //! The calls that follow edges: neighbours, edges between two nodes, and reachable nodes.
 
-ghost use Rattle.std.specs.Prelude.{◌≡◌, ◌≢◌, ◌<◌, ◌≤◌, IfOk, OnOk, true, map as list_map};
+ghost use Rattle.std.specs.Prelude.{◌≡◌, ◌≢◌, ◌<◌, ◌≤◌, Some, IfOk, OnOk, true, option_map, map as list_map};
 ghost use Rattle.std.specs.List.{find, fold};
 ghost use Rattle.std.specs.FinMap as map;
 ghost use Rattle.slotmap.specs.Words.{Key as KeyOf, IsBeside, IsContent, IsLive, get, contains_key};
 ghost use Rattle.slotmap_keylist.specs.KeyLists.{times};
-ghost use Rattle.slotmap_graph.specs.Parts.{PutsAlone, edges_at, to};
+ghost use Rattle.slotmap_graph.specs.Parts.{IsJoined, PutsAlone, edges_at, to};
 ghost use Rattle.slotmap_graph.specs.Search.{AreSeen, Finds, HasNext, IsBreadthFirst, Leads, ends_along, goes_to, marked};
 
 use crate::{EdgeKey, Graph};
-use slotmap::{Key, SecondaryMap};
+use slotmap::{DefaultKey, Key, SecondaryMap};
 use slotmap_keylist::{inner, outer};
 use std::alloc::{AllocError, Global};
 
@@ -46,6 +46,16 @@ fn mark<K: Key>(found: &mut Vec<K>, seen: &mut Seen<K>, node: K) -> Result<(), A
 }
 
 impl<K: Key, N: Drop, E: Drop> Graph<K, N, E> {
+    // The node where an edge ends.
+    pub(crate) fn target(&self, edge: EdgeKey) -> DefaultKey
+        requires { IsLive self.now.edges edge }
+        ensures arrives { option_map to (map.get self.now.edges.live edge) ≡ Some result }
+        ensures live { IsLive self.now.nodes result }
+        ensures joined { IsJoined self.now }
+    {
+        self.edges[edge].to
+    }
+
     /// Returns the nodes where this node's outgoing edges end, one for each edge, in the order of
     /// [`Graph::edges_from`].
     ///
@@ -64,7 +74,7 @@ impl<K: Key, N: Drop, E: Drop> Graph<K, N, E> {
     {
         let mut found = Vec::new(alloc);
         for edge in self.edges_from(node) {
-            found.push(outer(self.edges[edge].to))?;
+            found.push(outer(self.target(edge)))?;
         }
         Ok(found)
     }
@@ -85,7 +95,7 @@ impl<K: Key, N: Drop, E: Drop> Graph<K, N, E> {
     {
         let to = inner(to);
         for edge in self.edges_from(from) {
-            if self.edges[edge].to == to {
+            if self.target(edge) == to {
                 return Some(edge);
             }
         }
@@ -108,7 +118,7 @@ impl<K: Key, N: Drop, E: Drop> Graph<K, N, E> {
             ≡ fold marked (list_map K.data_of found.old.items) (ends_along to self.now.edges.live (edges_at self.now.out (K.data_of node)))) }
     {
         for edge in self.edges_from(node) {
-            mark(found, seen, outer(self.edges[edge].to))?;
+            mark(found, seen, outer(self.target(edge)))?;
         }
         Ok(())
     }

@@ -1,10 +1,10 @@
 pub mod Alone
 pub mod Changed
 pub mod Counts
-pub mod Following
 pub mod Linking
 pub mod Mapped
 pub mod NotNull
 pub mod Searched
+pub mod Segments
 pub mod Shown
 pub mod Splicing

@@ -43,6 +43,21 @@ fn searches(rt: HostRuntime) -> Result<(), Fail> {
 }
 
 #[test]
+fn walks(rt: HostRuntime) -> Result<(), Fail> {
+    let (mut graph, a, b, first) = pair(rt.alloc())?;
+    let second = graph.add_edge(a, b, 6)?;
+    graph.remove_edge(first);
+    let third = graph.add_edge(a, b, 7)?;
+    let mut edges = graph.edges_to(b);
+    assert_eq!(rt; edges.len(), 2);
+    assert_eq!(rt; edges.next_back(), Some(third));
+    assert_eq!(rt; edges.clone()?.next(), Some(second));
+    assert_eq!(rt; edges.next(), Some(second));
+    assert_eq!(rt; edges.next_back(), None);
+    Ok(())
+}
+
+#[test]
 fn orders(rt: HostRuntime) -> Result<(), Fail> {
     let alloc = rt.alloc();
     let (mut graph, a, b, _) = pair(alloc)?;

@@ -6,7 +6,8 @@ use Rattle.slotmap_keylist.specs.KeyLists.{times}
 use Rattle.slotmap_keylist.proofs.Linking.{in_midst}
 use Rattle.slotmap_graph.proofs.Followed.{walked_in, walked_on}
 use Rattle.slotmap_graph.proofs.GraphSteps.{puts_alone}
-use Rattle.slotmap_graph.proofs.TopologicalOrders.{counting_none, counting_step, key_live, keys_once}
+use Rattle.slotmap_graph.proofs.Counted.{counting_none, counting_step}
+use Rattle.slotmap_graph.proofs.MapKeys.{key_live, keys_once}
 use Rattle.slotmap_graph.proofs.Graph.count_all.Goals as goal
 
 pub loop-node-init : goal.loop-node-init
@@ -14,7 +15,7 @@ loop-node-init g c = record {
   can_next = tt;
   is_finite = tt;
   walked = c.into_iter-node-iterator.ensures.into_iter_gives ∙ c.nodes-node-items.ensures;
-  counting = counting_none c.args.self.now.nodes c.args.self.now.into c.args.counts.now.pairs _ c.requires.none (ap (list_map g.K.Key.data_of) c.requires.empty);
+  counting = counting_none c.args.self.now c.args.counts.now.pairs _ c.requires.none (ap (list_map g.K.Key.data_of) c.requires.empty);
 }
 
 pub count-requires : goal.count-requires
@@ -35,7 +36,7 @@ loop-node-preserved g c =
       can_next = tt;
       is_finite = tt;
       walked = rw map-append (walked_on done c.loop-node.node-iterator _ _ y c.loop-node.invariant.walked c.in-Some.ensures.steps);
-      counting = rw map-append (counting_step c.args.self.now.nodes c.args.self.now.into c.loop-node.counts.pairs c.count.new.counts.pairs _ _ done c.loop-node.invariant.counting y
+      counting = rw map-append (counting_step c.args.self.now c.loop-node.counts.pairs c.count.new.counts.pairs _ _ done c.loop-node.invariant.counting y
           (key_live c.args.self.now.nodes.live y (omega (arith, there))) (omega (arith, there, once)) (c.in_ok-count.ensures.here ∙ ap Some c.in_degree-degree.ensures) c.count.ensures.others
           (rw c.in_degree-degree.ensures at c.in_ok-count.ensures.found));
     }

@@ -8,5 +8,5 @@ invariant-loop-node g l = record {
   can_next : (goal.iterator-loop-node g).can_next l.node-iterator;
   is_finite : (goal.iterator-loop-node g).is_finite l.node-iterator;
   walked : list_map g.K.Key.data_of l.yielded ++ l.node-iterator ≡ map.keys l.self.nodes.live;
-  counting : Counting l.self.nodes l.self.into l.counts.pairs (list_map g.K.Key.data_of l.found.items) (list_map g.K.Key.data_of l.yielded);
+  counting : Counting l.self l.counts.pairs (list_map g.K.Key.data_of l.found.items) (list_map g.K.Key.data_of l.yielded);
 }

@@ -1,12 +1,12 @@
 use Rattle.std.proofs.Common.{ap, sym, ◌∙◌}
 use Rattle.slotmap_keylist.specs.Linked.{followed}
-use Rattle.slotmap_keylist.specs.declared.Ends.{Ends}
+use Rattle.slotmap_keylist.proofs.Segments.{segment_start}
 use Rattle.slotmap_graph.specs.Threads.{link_in}
 use Rattle.slotmap_graph.proofs.Threaded.{at_lists}
 use Rattle.slotmap_graph.proofs.Graph.edges_of.Goals as goal
 
 pub invariant_of-result : goal.invariant_of-result
-invariant_of-result g c = rw c.list_ends-ends.ensures (sym (ap (λ (e : Ends _). e.len) ((c.self.invariant.linked c.args.direction).ends_are (g.K.Key.data_of c.args.node))))
+invariant_of-result g c = rw c.list_ends-ends.ensures (segment_start (c.self.invariant.linked c.args.direction) (g.K.Key.data_of c.args.node))
 
 pub returns-clause-in_order : goal.returns-clause-in_order
 returns-clause-in_order g c = rw (← c.self.view_is)

@@ -1,13 +1,7 @@
-use Rattle.std.proofs.Common.{◌≡◌, Some, refl, sym, ap, ◌∙◌}
+use Rattle.std.proofs.Common.{refl, sym, ap, ◌∙◌}
 use Rattle.std.specs.List.{find}
-use Rattle.std.specs.FinMap as map
-use Rattle.std.specs.Option.{option_map}
-use Rattle.slotmap_keylist.proofs.Mapped.{get-mapped}
-use Rattle.slotmap_graph.specs.declared.links.Direction.TheVariants.{Out}
 use Rattle.slotmap_graph.specs.Search.{goes_to}
-use Rattle.slotmap_graph.specs.Threads.{seen_edge}
-use Rattle.slotmap_graph.proofs.GraphSteps.{walked_live}
-use Rattle.slotmap_graph.proofs.Followed.{not_found, found_first, walked, walked_in, walked_on}
+use Rattle.slotmap_graph.proofs.Followed.{found_first, next_live, not_found, walked, walked_on}
 use Rattle.slotmap_graph.proofs.Graph.find_edge.Goals as goal
 
 pub loop-edge-init : goal.loop-edge-init
@@ -18,30 +12,22 @@ loop-edge-init g c = record {
   none = refl;
 }
 
-pub index-requires : goal.index-requires
-index-requires g c =
-    walked_live _ _ c.self.invariant Out (g.K.Key.data_of c.args.from) c.in-Some.edge
-    (walked_in c.loop-edge.yielded c.loop-edge.edge-iterator _ _ c.in-Some.edge (rw (← c.self.view_is) at c.loop-edge.invariant.walked) c.in-Some.ensures.steps)
+pub target-requires : goal.target-requires
+target-requires g c =
+    next_live c.args.self.now.edges.live (g.K.Key.data_of c.args.from) _ (rw c.edges_from-edge-items.ensures.in_order at c.edges_from-edge-items.ensures.listed)
+    c.loop-edge.yielded c.loop-edge.edge-iterator c.next.new.self c.in-Some.edge c.loop-edge.invariant.walked c.in-Some.ensures.steps
 
 pub returns-then-eq : goal.returns-then-eq
-returns-then-eq g c =
-    let edges = c.args.self.now.edges.live in
-    let x = c.in-Some.edge in
-    let there : map.get edges x ≡ Some (seen_edge c.index.result.now) = rw (← c.self.view_is) (get-mapped seen_edge c.self.inside.edges.live x ∙ ap (option_map seen_edge) c.index.ensures) in
-    rw (← c.inner-to.ensures) (sym (found_first edges c.loop-edge.yielded x (seen_edge c.index.result.now) there c.inner-to.result c.loop-edge.invariant.none c.loop-edge.edge-iterator _ _
-    c.loop-edge.invariant.walked c.in-Some.ensures.steps (sym c.if-eq.ensures)))
+returns-then-eq g c = rw (← c.inner-to.ensures) (sym (found_first c.args.self.now.edges.live c.loop-edge.yielded c.in-Some.edge c.target.result c.inner-to.result c.target.ensures.arrives
+    c.loop-edge.invariant.none c.loop-edge.edge-iterator _ _ c.loop-edge.invariant.walked c.in-Some.ensures.steps (sym c.if-eq.ensures)))
 
 pub loop-edge-preserved : goal.loop-edge-preserved
-loop-edge-preserved g c =
-    let edges = c.args.self.now.edges.live in
-    let x = c.in-Some.edge in
-    let there : map.get edges x ≡ Some (seen_edge c.index.result.now) = rw (← c.self.view_is) (get-mapped seen_edge c.self.inside.edges.live x ∙ ap (option_map seen_edge) c.index.ensures) in
-    record {
-      can_next = tt;
-      is_finite = tt;
-      walked = walked_on c.loop-edge.yielded c.loop-edge.edge-iterator _ _ x c.loop-edge.invariant.walked c.in-Some.ensures.steps;
-      none = not_found edges c.loop-edge.yielded x (seen_edge c.index.result.now) there c.inner-to.result c.loop-edge.invariant.none (sym c.if-eq.ensures);
-    }
+loop-edge-preserved g c = record {
+  can_next = tt;
+  is_finite = tt;
+  walked = walked_on c.loop-edge.yielded c.loop-edge.edge-iterator _ _ c.in-Some.edge c.loop-edge.invariant.walked c.in-Some.ensures.steps;
+  none = not_found c.args.self.now.edges.live c.loop-edge.yielded c.in-Some.edge c.target.result c.inner-to.result c.target.ensures.arrives c.loop-edge.invariant.none (sym c.if-eq.ensures);
+}
 
 pub returns : goal.returns
 returns g c =

@@ -1,17 +1,10 @@
-use Rattle.std.proofs.Common.{◌≡◌, Some, refl, sym, ap, ◌∙◌}
+use Rattle.std.proofs.Common.{refl, sym, ap, ◌∙◌}
 use Rattle.std.proofs.Common.{map as list_map}
 use Rattle.std.specs.List.{fold}
-use Rattle.std.specs.FinMap as map
-use Rattle.std.specs.Option.{option_map}
-use Rattle.slotmap.specs.Words.{IsLive}
-use Rattle.slotmap_keylist.specs.Mapped.{map_values}
-use Rattle.slotmap_keylist.proofs.Mapped.{get-mapped}
-use Rattle.slotmap_graph.specs.declared.links.Direction.TheVariants.{Out}
-use Rattle.slotmap_graph.specs.Parts.{EndsLive, to}
+use Rattle.slotmap_graph.specs.Parts.{to}
 use Rattle.slotmap_graph.specs.Search.{ends_along, marked}
-use Rattle.slotmap_graph.specs.Threads.{seen_edge}
-use Rattle.slotmap_graph.proofs.GraphSteps.{puts_alone, walked_edge, walked_live}
-use Rattle.slotmap_graph.proofs.Followed.{goes_on, marks_step, one_more, walked, walked_in, walked_on}
+use Rattle.slotmap_graph.proofs.GraphSteps.{puts_alone}
+use Rattle.slotmap_graph.proofs.Followed.{goes_on, marks_step, next_joins, next_live, one_more, walked, walked_on}
 use Rattle.slotmap_graph.proofs.Searches.{finds_start, finds_step, pending_start, pending_step, pending_end, marked_keeps}
 use Rattle.slotmap_graph.proofs.Graph.mark_neighbours.Goals as goal
 
@@ -25,17 +18,13 @@ loop-edge-init g c = record {
   order = refl;
 }
 
-pub index-requires : goal.index-requires
-index-requires g c =
-    walked_live _ _ c.self.invariant Out (g.K.Key.data_of c.args.node) c.in-Some.edge
-    (walked_in c.loop-edge.yielded c.loop-edge.edge-iterator _ _ c.in-Some.edge (rw (← c.self.view_is) at c.loop-edge.invariant.walked) c.in-Some.ensures.steps)
+pub target-requires : goal.target-requires
+target-requires g c =
+    next_live c.args.self.now.edges.live (g.K.Key.data_of c.args.node) _ (rw c.edges_from-edge-items.ensures.in_order at c.edges_from-edge-items.ensures.listed)
+    c.loop-edge.yielded c.loop-edge.edge-iterator c.next.new.self c.in-Some.edge c.loop-edge.invariant.walked c.in-Some.ensures.steps
 
 pub mark-requires-clause-alone : goal.mark-requires-clause-alone
-mark-requires-clause-alone g c =
-    let e = seen_edge c.index.result.now in
-    let there = get-mapped seen_edge c.self.inside.edges.live c.in-Some.edge ∙ ap (option_map seen_edge) c.index.ensures in
-    let live : IsLive c.args.self.now.nodes e.to = rw (← c.self.view_is) (c.self.invariant.ends c.in-Some.edge e there).1 in
-    rw c.outer.ensures (puts_alone c.args.self.now.nodes c.loop-edge.seen.pairs e.to c.loop-edge.invariant.finds.live live c.requires.valid)
+mark-requires-clause-alone g c = rw c.outer.ensures (puts_alone c.args.self.now.nodes c.loop-edge.seen.pairs c.target.result c.loop-edge.invariant.finds.live c.target.ensures.live c.requires.valid)
 
 pub mark-requires-clause-listed : goal.mark-requires-clause-listed
 mark-requires-clause-listed g c = c.loop-edge.invariant.finds.listed
@@ -45,26 +34,23 @@ loop-edge-preserved g c =
     let edges = c.args.self.now.edges.live in
     let node = g.K.Key.data_of c.args.node in
     let x = c.in-Some.edge in
-    let e = seen_edge c.index.result.now in
+    let end = c.target.result in
     let so_far = c.loop-edge.invariant in
-    let ends : EndsLive c.args.self.now.nodes edges = rw (← c.self.view_is) c.self.invariant.ends in
-    let stored : map.get (map_values seen_edge c.self.inside.edges.live) x ≡ Some e = get-mapped seen_edge c.self.inside.edges.live x ∙ ap (option_map seen_edge) c.index.ensures in
-    let there : map.get edges x ≡ Some e = rw (← c.self.view_is) stored in
-    let listed = walked_edge _ _ c.self.invariant Out node x (walked_in c.loop-edge.yielded c.loop-edge.edge-iterator _ _ x (rw (← c.self.view_is) at so_far.walked) c.in-Some.ensures.steps) in
-    let leads : e.from ≡ node = (let one : listed.0 ≡ e = (let both = sym listed.1 ∙ stored in cc) in ap (λ q. q.from) (sym one) ∙ listed.2) in
+    let lists = rw c.edges_from-edge-items.ensures.in_order at c.edges_from-edge-items.ensures.listed in
+    let joins = next_joins edges node _ lists c.loop-edge.yielded c.loop-edge.edge-iterator c.next.new.self x so_far.walked c.in-Some.ensures.steps end c.target.ensures.arrives in
     let marks = rw c.outer.ensures at c.in_ok-mark.ensures.marks in
-    let marked_there = rw c.outer.ensures at c.in_ok-mark.ensures.there in
+    let there = rw c.outer.ensures at c.in_ok-mark.ensures.there in
     let others = rw c.outer.ensures at c.mark.ensures.others in
-    let keeps = marked_keeps c.loop-edge.seen.pairs c.mark.new.seen.pairs e.to marked_there others in
+    let keeps = marked_keeps c.loop-edge.seen.pairs c.mark.new.seen.pairs end there others in
     record {
       can_next = tt;
       is_finite = tt;
       walked = walked_on c.loop-edge.yielded c.loop-edge.edge-iterator _ _ x so_far.walked c.in-Some.ensures.steps;
-      finds = finds_step c.args.self.now.nodes edges node c.args.seen.now.pairs _ c.loop-edge.seen.pairs _ so_far.finds ends x e there leads
-          c.mark.new.seen.pairs _ c.in_ok-mark.ensures.listed (goes_on _ _ e.to marks) marked_there others;
-      pending = pending_step edges node c.loop-edge.edge-iterator _ x e c.loop-edge.seen.pairs c.mark.new.seen.pairs c.in-Some.ensures.steps there marked_there keeps so_far.pending;
-      order = marks_step (list_map g.K.Key.data_of c.args.found.now.items) (ends_along to edges c.loop-edge.yielded) _ _ e.to so_far.order marks
-          ∙ ap (fold marked (list_map g.K.Key.data_of c.args.found.now.items)) (sym (one_more edges c.loop-edge.yielded x e there to));
+      finds = finds_step c.args.self.now.nodes edges node c.args.seen.now.pairs _ c.loop-edge.seen.pairs _ so_far.finds end c.target.ensures.live joins
+          c.mark.new.seen.pairs _ c.in_ok-mark.ensures.listed (goes_on _ _ end marks) there others;
+      pending = pending_step edges node c.loop-edge.edge-iterator _ x end c.loop-edge.seen.pairs c.mark.new.seen.pairs c.in-Some.ensures.steps c.target.ensures.arrives there keeps so_far.pending;
+      order = marks_step (list_map g.K.Key.data_of c.args.found.now.items) (ends_along to edges c.loop-edge.yielded) _ _ end so_far.order marks
+          ∙ ap (fold marked (list_map g.K.Key.data_of c.args.found.now.items)) (sym (one_more edges c.loop-edge.yielded x to end c.target.ensures.arrives));
     }
 
 pub returns-clause-finds : goal.returns-clause-finds

@@ -1,15 +1,9 @@
-use Rattle.std.proofs.Common.{◌≡◌, Some, [], ◌∷◌, ◌++◌, sym, ap, ◌∙◌}
+use Rattle.std.proofs.Common.{◌∷◌, [], ◌++◌, sym, ap, ◌∙◌}
 use Rattle.std.proofs.Common.{map as list_map}
-use Rattle.std.specs.FinMap as map
-use Rattle.std.specs.Option.{option_map}
 use Rattle.std.proofs.lemmas.List.{map-append}
-use Rattle.slotmap_keylist.proofs.Mapped.{get-mapped}
-use Rattle.slotmap_graph.specs.declared.links.Direction.TheVariants.{Out}
 use Rattle.slotmap_graph.specs.Parts.{to}
 use Rattle.slotmap_graph.specs.Search.{ends_along}
-use Rattle.slotmap_graph.specs.Threads.{seen_edge}
-use Rattle.slotmap_graph.proofs.GraphSteps.{walked_live}
-use Rattle.slotmap_graph.proofs.Followed.{one_more, walked, walked_in, walked_on}
+use Rattle.slotmap_graph.proofs.Followed.{next_live, one_more, walked, walked_on}
 use Rattle.slotmap_graph.proofs.Graph.neighbours.Goals as goal
 
 pub loop-edge-init : goal.loop-edge-init
@@ -20,24 +14,24 @@ loop-edge-init g c = record {
   found = ap (list_map g.K.Key.data_of) c.new-found.ensures.items;
 }
 
-pub index-requires : goal.index-requires
-index-requires g c =
-    walked_live _ _ c.self.invariant Out (g.K.Key.data_of c.args.node) c.in-Some.edge
-    (walked_in c.loop-edge.yielded c.loop-edge.edge-iterator _ _ c.in-Some.edge (rw (← c.self.view_is) at c.loop-edge.invariant.walked) c.in-Some.ensures.steps)
+pub target-requires : goal.target-requires
+target-requires g c =
+    next_live c.args.self.now.edges.live (g.K.Key.data_of c.args.node) _ (rw c.edges_from-edge-items.ensures.in_order at c.edges_from-edge-items.ensures.listed)
+    c.loop-edge.yielded c.loop-edge.edge-iterator c.next.new.self c.in-Some.edge c.loop-edge.invariant.walked c.in-Some.ensures.steps
 
 pub loop-edge-preserved : goal.loop-edge-preserved
 loop-edge-preserved g c =
     let edges = c.args.self.now.edges.live in
-    let x = c.in-Some.edge in
-    let there : map.get edges x ≡ Some (seen_edge c.index.result.now) = rw (← c.self.view_is) (get-mapped seen_edge c.self.inside.edges.live x ∙ ap (option_map seen_edge) c.index.ensures) in
     record {
       can_next = tt;
       is_finite = tt;
-      walked = walked_on c.loop-edge.yielded c.loop-edge.edge-iterator _ _ x c.loop-edge.invariant.walked c.in-Some.ensures.steps;
+      walked = walked_on c.loop-edge.yielded c.loop-edge.edge-iterator _ _ c.in-Some.edge c.loop-edge.invariant.walked c.in-Some.ensures.steps;
       found = ap (list_map g.K.Key.data_of) c.in_ok-push.ensures.items ∙ map-append g.K.Key.data_of c.loop-edge.found.items (c.outer.result ∷ [])
           ∙ ap (λ l. l ++ g.K.Key.data_of c.outer.result ∷ []) c.loop-edge.invariant.found ∙ ap (λ k. ends_along to edges c.loop-edge.yielded ++ k ∷ []) c.outer.ensures
-          ∙ sym (one_more edges c.loop-edge.yielded x (seen_edge c.index.result.now) there to);
+          ∙ sym (one_more edges c.loop-edge.yielded c.in-Some.edge to c.target.result c.target.ensures.arrives);
     }
 
 pub returns : goal.returns
-returns g c = c.loop-edge.invariant.found ∙ ap (ends_along to c.args.self.now.edges.live) (walked c.loop-edge.yielded c.loop-edge.edge-iterator _ c.loop-edge.invariant.walked c.in-None.ensures.steps.0)
+returns g c =
+    let all = walked c.loop-edge.yielded c.loop-edge.edge-iterator _ c.loop-edge.invariant.walked c.in-None.ensures.steps.0 in
+    c.loop-edge.invariant.found ∙ ap (ends_along to c.args.self.now.edges.live) all

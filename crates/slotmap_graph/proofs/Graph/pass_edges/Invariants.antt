@@ -10,6 +10,6 @@ invariant-loop-edge g l = record {
   is_finite : (goal.iterator-loop-edge g).is_finite l.edge-iterator;
   walked : l.yielded ++ l.edge-iterator ≡ edges_at l.self.out (g.K.Key.data_of l.fn.node);
   goes_on : GoesOn (list_map g.K.Key.data_of l.fn.found.items) (list_map g.K.Key.data_of l.found.items);
-  sorting : Sorting l.self.nodes l.self.edges.live l.self.into l.counts.pairs (list_map g.K.Key.data_of l.found.items)
+  sorting : Sorting l.self l.counts.pairs (list_map g.K.Key.data_of l.found.items)
       (edges_out l.self.out (take l.at (list_map g.K.Key.data_of l.fn.found.items)) ++ l.yielded);
 }

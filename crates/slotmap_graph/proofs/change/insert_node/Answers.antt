@@ -10,7 +10,7 @@ pub returns-in-Ok-clause-valid : goal.returns-in-Ok-clause-valid
 returns-in-Ok-clause-valid g c = mapped-grow node_value _ _ _ c.in-Ok.ensures.valid
 
 pub returns-in-Ok-clause-ends : goal.returns-in-Ok-clause-ends
-returns-in-Ok-clause-ends g c = inserted_ends c.args.nodes.now c.insert.new.self g.K.Key.data_of _ c.no_ends.ensures c.no_ends-2.ensures _ c.insert.ensures.valid.before c.insert.ensures.ok c.insert.ensures.valid.unchanged
+returns-in-Ok-clause-ends g c = inserted_ends c.args.nodes.now c.insert.new.self g.K.Key.data_of _ c.none.ensures c.none-2.ensures _ c.insert.ensures.valid.before c.insert.ensures.ok c.insert.ensures.valid.unchanged
 
 pub returns-in-Err-Full-clause-valid : goal.returns-in-Err-Full-clause-valid
 returns-in-Err-Full-clause-valid g c = mapped-grow node_value _ _ _ c.in-Err-Full.ensures.valid

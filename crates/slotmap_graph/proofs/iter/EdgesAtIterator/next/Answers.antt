@@ -1,17 +1,21 @@
-use Rattle.std.proofs.Common.{length, ap, arith}
-use Rattle.slotmap_keylist.proofs.Following.{follow_step, follow_goes}
+use Rattle.std.proofs.Common.{◌≡◌, sym, ◌∙◌, arith}
+use Rattle.slotmap_keylist.proofs.Segments.{segment_front}
 use Rattle.slotmap_graph.specs.Threads.{link_in}
 use Rattle.slotmap_graph.proofs.iter.EdgesAtIterator.next.Goals as goal
 
 pub returns-in_err-key-clause-steps : goal.returns-in_err-key-clause-steps
 returns-in_err-key-clause-steps g c =
-    absurd (follow_goes (link_in c.self.inside.direction c.self.inside.edges.now.live) c.self.inside.left c.self.inside.next (omega (arith, c.if-self-eq0.false)) c.in_err-key.was c.self.invariant)
+    let step = segment_front (link_in c.self.inside.direction c.self.inside.edges.now.live) c.self.inside.left c.self.inside.first c.self.inside.last c.self.invariant (omega (arith, c.if-self-eq0.false)) in
+    absurd (let h = sym step.1 ∙ c.in_err-key.was in cc)
 
 pub invariant_of-self : goal.invariant_of-self
 invariant_of-self g c =
-    let step = follow_step (link_in c.self.inside.direction c.self.inside.edges.now.live) c.self.inside.left c.self.inside.next c.in_ok-key.key (omega (arith, c.if-self-eq0.false)) c.in_ok-key.was in
-    rw c.next_of-self-inside.ensures (let long = ap length step in omega (arith, long, c.self.invariant))
+    let step = segment_front (link_in c.self.inside.direction c.self.inside.edges.now.live) c.self.inside.left c.self.inside.first c.self.inside.last c.self.invariant (omega (arith, c.if-self-eq0.false)) in
+    let same : step.0 ≡ c.in_ok-key.key = (let h = sym step.1 ∙ c.in_ok-key.was in cc) in
+    rw (c.link_of.ensures, ← same) step.2
 
 pub returns-clause-steps : goal.returns-clause-steps
 returns-clause-steps g c =
-    rw (← c.self.view_is, c.next_of-self-inside.ensures) (follow_step (link_in c.self.inside.direction c.self.inside.edges.now.live) c.self.inside.left c.self.inside.next c.in_ok-key.key (omega (arith, c.if-self-eq0.false)) c.in_ok-key.was)
+    let step = segment_front (link_in c.self.inside.direction c.self.inside.edges.now.live) c.self.inside.left c.self.inside.first c.self.inside.last c.self.invariant (omega (arith, c.if-self-eq0.false)) in
+    let same : step.0 ≡ c.in_ok-key.key = (let h = sym step.1 ∙ c.in_ok-key.was in cc) in
+    rw (← c.self.view_is, c.link_of.ensures, ← same) step.3

@@ -1,0 +1,109 @@
+-- The keys of a finite map, each once, and which lists have all of them.
+use Rattle.std.proofs.Common.{◌≡◌, ◌≢◌, ◌-◌, ◌<◌, ◌≤◌, ◌⊎◌, Bool, true, false, T, List, [], ◌∷◌, length, map as list_map, if◌then◌else◌, is_some, is_lt, ◌&&◌, ◌||◌, refl, sym, ap, ◌∙◌, inl, inr, arith}
+use Rattle.std.specs.FinMap as map
+use Rattle.std.specs.List.{list_any}
+use Rattle.std.specs.Ordering.{eq_by_cmp}
+use Rattle.std.proofs.Math.Nat.{eq-zero-or-pos}
+use Rattle.std.specs.FinMap.Entries.{below_all, is_sorted}
+use Rattle.slotmap.specs.Words.{Key, key_cmp}
+use Rattle.slotmap.proofs.Callers.{same_or_other, keys_total, exact_keys, itself, tied, keys, len_removed, live-remove_other, none_found}
+use Rattle.slotmap_keylist.specs.KeyLists.{same, times}
+use Rattle.slotmap_keylist.proofs.Counts.{one_itself, one_other, times_first, no_more_than}
+
+T-true : (b : Bool) → T b → b ≡ true
+T-true true t = refl
+T-true false t = absurd t
+
+-- a list in order has no key twice
+below_none : {V : Type 0} (k : Key) (es : List (Key × V)) → below_all key_cmp k es ≡ true → times k (list_map (λ e. e.0) es) ≡ 0
+below_none k [] below = refl
+below_none k (e ∷ es) below = elim (is_lt (key_cmp k e.0)) as (λ b. is_lt (key_cmp k e.0) ≡ b → (b && below_all key_cmp k es) ≡ true → times k (list_map (λ e. e.0) (e ∷ es)) ≡ 0) [
+  | true ↦ λ less rest. elim (same_or_other e.0 k) [
+    | inl is ↦ absurd (let tie = itself keys_total exact_keys k in let f = ap (λ q. is_lt (key_cmp k q)) (sym is) in grind arith)
+    | inr other ↦ (let first = times_first k e.0 (list_map (λ e. e.0) es) in let no = one_other e.0 k other in let none = below_none k es rest in omega arith)
+  ]
+  | false ↦ λ less rest. absurd (cc)
+] refl below
+
+sorted_once : {V : Type 0} (es : List (Key × V)) → is_sorted key_cmp es ≡ true → (k : Key) → times k (list_map (λ e. e.0) es) ≤ 1
+sorted_once [] sorted k = omega arith
+sorted_once (e ∷ es) sorted k = elim (below_all key_cmp e.0 es) as (λ b. below_all key_cmp e.0 es ≡ b → (b && is_sorted key_cmp es) ≡ true → times k (list_map (λ e. e.0) (e ∷ es)) ≤ 1) [
+  | true ↦ λ below rest. (
+      let first = times_first k e.0 (list_map (λ e. e.0) es) in
+      let few = sorted_once es rest k in
+      elim (same_or_other e.0 k) [
+        | inl is ↦ (let none = below_none e.0 es below in let gone = ap (λ q. times q (list_map (λ e. e.0) es)) is in let one = ap (λ q. same q k) is ∙ one_itself k in omega arith)
+        | inr other ↦ (let no = one_other e.0 k other in omega arith)
+      ])
+  | false ↦ λ below rest. absurd (cc)
+] refl sorted
+
+-- the keys of a map are those of its entries
+any_there : (ks : List Key) (q : Key) → list_any (eq_by_cmp key_cmp q) ks ≡ true → 0 < times q ks
+any_there [] q is = absurd (cc)
+any_there (k ∷ ks) q is = elim (same_or_other k q) [
+  | inl e ↦ (let first = times_first q k ks in let one = ap (λ p. same p q) e ∙ one_itself q in omega arith)
+  | inr other ↦ (let first = times_first q k ks in
+      let rest = any_there ks q (sym (ap (λ b. b || list_any (eq_by_cmp key_cmp q) ks) (apart q k other)) ∙ is) in omega arith)
+]
+  where
+    apart : (q k : Key) → k ≢ q → eq_by_cmp key_cmp q k ≡ false
+    apart q k other = elim (eq_by_cmp key_cmp q k) as (λ b. eq_by_cmp key_cmp q k ≡ b → eq_by_cmp key_cmp q k ≡ false) [
+      | true ↦ λ tie. absurd (other (sym (tied keys_total exact_keys q k tie)))
+      | false ↦ λ is. is
+    ] refl
+
+there_any : (ks : List Key) (q : Key) → 0 < times q ks → list_any (eq_by_cmp key_cmp q) ks ≡ true
+there_any [] q more = absurd (omega arith)
+there_any (k ∷ ks) q more = elim (same_or_other k q) [
+  | inl e ↦ ap (λ b. b || list_any (eq_by_cmp key_cmp q) ks) (ap (eq_by_cmp key_cmp q) e ∙ itself keys_total exact_keys q)
+  | inr other ↦ (let first = times_first q k ks in let no = one_other k q other in let rest = there_any ks q (omega arith) in grind arith)
+]
+
+module _ {V : Type 0} (live : map.FinMap key_cmp V) where
+  pub key_there : (q : Key) → map.contains_key live q ≡ true → 0 < times q (map.keys live)
+  key_there q there = any_there (map.keys live) q (sym (map.contains_key-keys live q) ∙ there)
+
+  pub key_live : (q : Key) → 0 < times q (map.keys live) → map.contains_key live q ≡ true
+  key_live q more = map.contains_key-keys live q ∙ there_any (map.keys live) q more
+
+  pub keys_once : (q : Key) → times q (map.keys live) ≤ 1
+  keys_once = sorted_once (map.entries live) (T-true (is_sorted key_cmp (map.entries live)) (map.entries_sorted live))
+
+-- as many keys as there are, each of them live, are all of them
+pub covers : {V : Type 0} (live : map.FinMap key_cmp V) (ks : List Key) → ((x : Key) → map.contains_key live x ≡ true → 0 < times x ks) → map.len live ≤ length ks
+covers {V} live [] all = let none = none_found live (λ k v there. absurd (let more = all k (ap is_some there) in omega arith)) in let zero_len = ap map.len none ∙ map.len-empty key_cmp V in omega arith
+covers live (k ∷ ks) all =
+    let rest = covers (map.remove live k) ks (λ x there. (elim (same_or_other x k) [
+      | inl is ↦ absurd (let gone : map.contains_key (map.remove live k) k ≡ false = grind (arith, keys) in let f = ap (map.contains_key (map.remove live k)) is in cc)
+      | inr other ↦ (let still : map.contains_key live x ≡ true = grind (arith, keys) in
+          let more = all x still in let first = times_first x k ks in let no = one_other k x (λ s. other (sym s)) in omega arith)
+    ])) in
+    elim (map.contains_key live k) as (λ b. map.contains_key live k ≡ b → map.len live ≤ length (k ∷ ks)) [
+      | true ↦ λ there. (let less = len_removed keys_total exact_keys live k there in omega arith)
+      | false ↦ λ gone. (let same_len : map.len (map.remove live k) ≡ map.len live = map.len-remove keys_total live k ∙ ap (λ b. if b then map.len live - 1 else map.len live) gone in omega arith)
+    ] refl
+
+pub all_there : {V : Type 0} (live : map.FinMap key_cmp V) (ks : List Key) → ((x : Key) → times x ks ≤ 1) → ((x : Key) → 0 < times x ks → map.contains_key live x ≡ true) → length ks ≡ map.len live
+    → (x : Key) → map.contains_key live x ≡ true → 0 < times x ks
+all_there live ks once there many x x_live = elim (eq-zero-or-pos (times x ks)) [
+  | inl none ↦ absurd (
+      let few = no_more_than ks (map.remove live x) once (λ q more. live-remove_other live x q (λ is. (let gone = ap (λ k. times k ks) is ∙ none in omega arith)) (there q more)) in
+      let less = len_removed keys_total exact_keys live x x_live in
+      omega arith)
+  | inr more ↦ more
+]
+
+-- one of these keys isn't in a list, or all are
+pub find_missing : (ks found : List Key) → ((k : Key) × (0 < times k ks) × (times k found ≡ 0)) ⊎ ((k : Key) → 0 < times k ks → 0 < times k found)
+find_missing [] found = inr (λ k more. absurd (omega arith))
+find_missing (k ∷ ks) found = elim (eq-zero-or-pos (times k found)) [
+  | inl none ↦ inl (k, (let first = times_first k k ks in let one = one_itself k in omega arith), none)
+  | inr there ↦ elim (find_missing ks found) [
+    | inl some ↦ inl (some.0, (let first = times_first some.0 k ks in let more = some.1 in omega arith), some.2)
+    | inr all ↦ inr (λ q more. (elim (same_or_other k q) [
+      | inl is ↦ rw (← is) there
+      | inr other ↦ all q (let first = times_first q k ks in let no = one_other k q other in omega arith)
+    ]))
+  ]
+]
