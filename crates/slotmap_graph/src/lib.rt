@@ -219,6 +219,30 @@ impl<K: Key, N: Drop, E: Drop> Graph<K, N, E> {
         self.edges.reserve(additional)
     }
 
+    /// Returns for how many nodes there is memory, those that are there among them, in constant time.
+    ///
+    /// ```
+    /// let graph: Graph<NodeKey, &str, u64> = Graph::with_capacity_and_key(alloc, 2, 4)?;
+    /// assert!(rt; graph.node_capacity() >= 2);
+    /// ```
+    pub fn node_capacity(&self) -> usize
+        ensures { result ≡ self.now.nodes.capacity }
+    {
+        self.nodes.capacity()
+    }
+
+    /// Returns for how many edges there is memory, those that are there among them, in constant time.
+    ///
+    /// ```
+    /// let graph: Graph<NodeKey, &str, u64> = Graph::with_capacity_and_key(alloc, 2, 4)?;
+    /// assert!(rt; graph.edge_capacity() >= 4);
+    /// ```
+    pub fn edge_capacity(&self) -> usize
+        ensures { result ≡ self.now.edges.capacity }
+    {
+        self.edges.capacity()
+    }
+
     /// Returns the number of nodes, in constant time.
     pub fn node_count(&self) -> usize
         ensures { result ≡ map.len self.now.nodes.live }
