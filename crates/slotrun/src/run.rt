@@ -61,11 +61,23 @@ fn run_kind(
         return Err(Stop::Usage);
     };
     match kind.as_str() {
-        "basic" => run_on::<SlotMap<DefaultKey, i32>, Detachable>(alloc, input, output),
-        "dense" => run_on::<DenseSlotMap<DefaultKey, i32>, Detachable>(alloc, input, output),
-        "hop" => run_on::<HopSlotMap<DefaultKey, i32>, Plain>(alloc, input, output),
+        "basic" => run_basic(alloc, input, output),
+        "dense" => run_dense(alloc, input, output),
+        "hop" => run_hop(alloc, input, output),
         _ => Err(Stop::Usage),
     }
+}
+
+fn run_basic(alloc: Global, input: &mut impl Read, output: &mut impl Write) -> Result<(), Stop> {
+    run_on::<SlotMap<DefaultKey, i32>, Detachable>(alloc, input, output)
+}
+
+fn run_dense(alloc: Global, input: &mut impl Read, output: &mut impl Write) -> Result<(), Stop> {
+    run_on::<DenseSlotMap<DefaultKey, i32>, Detachable>(alloc, input, output)
+}
+
+fn run_hop(alloc: Global, input: &mut impl Read, output: &mut impl Write) -> Result<(), Stop> {
+    run_on::<HopSlotMap<DefaultKey, i32>, Plain>(alloc, input, output)
 }
 
 // Reads a script, and runs it on a new map.
