@@ -41,10 +41,10 @@ PITCH, LEFT, TOPS = 152, 22, [698, 598, 460, 316, 186, 66]
 HEIGHT = 56
 
 
-# The library of each row program stands for the program too, and a library for its tests.
+# The library of a program stands as the program, and the tests of a library as the library.
 LIBRARIES = {
     "slotmap_rows_primary": "primary_rows", "slotmap_rows_secondary": "secondary_rows", "json_tests": "slotmap_json",
-    "structure_tests": "structure_examples",
+    "structure_tests": "structure_examples", "slotmap_script": "slotrun", "script_tests": "slotrun",
 }
 
 

@@ -1,14 +1,7 @@
 //! Runs a script of map commands from standard input.
 #![tactic(auto)]
 
-mod commands;
-mod list;
-mod reply;
-mod run;
-mod script;
-mod stop;
-
-pub use run::run_script;
+use slotmap_script::run_script;
 use std::io::{ErrorKind, Write};
 use std::process::ExitCode;
 use std::{env, io};
@@ -35,6 +28,3 @@ fn main(rt: HostRuntime) -> ExitCode {
     };
     ExitCode::from(run_script(rt.alloc(), &words, &mut rt.stdin(), &mut output))
 }
-
-#[cfg(test)]
-mod tests;

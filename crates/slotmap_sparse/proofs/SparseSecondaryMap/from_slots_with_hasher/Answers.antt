@@ -28,3 +28,9 @@ returns-clause-contents g c =
     let accepted = subst (λ l. Accepts l 4294967294) c.deref.ensures.value (c.in_ok-check_slots.ensures.ok.0 refl) in
     let read = subst (λ l. Read l at.made.pairs) (Taking-end at.invariant.taking c.in-None.ensures.steps.0) at.invariant.read in
     contents_by_place list at.made.pairs read (λ i slot here some. (accepted.consistent i slot (slice_get_within list i slot here) here).0 some)
+
+pub read-requires-clause-below : goal.read-requires-clause-below
+read-requires-clause-below g c = grind (arith, common_steps)
+
+pub overflow_add-index : goal.overflow_add-index
+overflow_add-index g c = grind (arith, common_steps)

@@ -7,7 +7,7 @@ mod refusals;
 mod scripts;
 mod streams;
 
-use crate::run_script;
+use slotmap_script::run_script;
 use std::alloc::{AllocError, Global};
 use std::test::Fail;
 

@@ -1,15 +1,15 @@
 //! Replies that no small script produces, and maps that have fewer lines.
 
-use crate::commands::{Commands, Plain};
-use crate::list::{Listed, LoadError, write_refusal};
-use crate::reply::{LineReply, write_reply};
-use crate::run::{finish, run_on, run_stretches};
-use crate::script::parse;
 use slotmap_basic::SlotMap;
 use slotmap_core::commands::Reply;
 use slotmap_core::errors::{JsonError, OutOfMemory, SlotsError};
 use slotmap_core::keys::DefaultKey;
 use slotmap_core::serial::SlotRecord;
+use slotmap_script::commands::{Commands, Plain};
+use slotmap_script::list::{Listed, LoadError, write_refusal};
+use slotmap_script::reply::{LineReply, write_reply};
+use slotmap_script::run::{finish, run_on, run_stretches};
+use slotmap_script::script::parse;
 use std::alloc::Global;
 use std::test::Fail;
 

@@ -1,7 +1,7 @@
 //! Readers and writers that fail, and the order of faults.
 
 use super::list;
-use crate::run_script;
+use slotmap_script::run_script;
 use std::alloc::{AllocError, Global};
 use std::io;
 use std::io::{ErrorKind, Read, Write};

@@ -35,8 +35,8 @@ pub fn run_script(
     finish(ended, output)
 }
 
-// Writes why a script ended early, and returns the status.
-pub(crate) fn finish(ended: Result<(), Stop>, output: &mut impl Write) -> u8 {
+/// Writes why a script ended early, and returns the status, as [`run_script`] has it.
+pub fn finish(ended: Result<(), Stop>, output: &mut impl Write) -> u8 {
     let (status, written) = match ended {
         Ok(()) => return 0,
         Err(Stop::Output) => return 3,
@@ -80,8 +80,8 @@ fn run_hop(alloc: Global, input: &mut impl Read, output: &mut impl Write) -> Res
     run_on::<HopSlotMap<DefaultKey, i32>, Plain>(alloc, input, output)
 }
 
-// Reads a script, and runs it on a new map.
-pub(crate) fn run_on<M, C>(
+/// Parses all lines of a script, and runs it on a new map.
+pub fn run_on<M, C>(
     alloc: Global,
     input: &mut impl Read,
     output: &mut impl Write,
@@ -97,8 +97,9 @@ where
     run_stretches(alloc, map, stretches, output)
 }
 
-// Runs the stretches. Replies are gathered before they are written.
-pub(crate) fn run_stretches<M, C>(
+/// Runs the stretches of a script on a map, and writes the replies. These are gathered before they are
+/// written.
+pub fn run_stretches<M, C>(
     alloc: Global,
     mut map: M,
     stretches: Vec<Stretch<'_, C>>,
