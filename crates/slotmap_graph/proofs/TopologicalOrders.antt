@@ -59,6 +59,12 @@ test_more n more is = grind (arith, nat_tests)
 not_zero : (n : ℕ) → 0 < n → nat_eq n 0 ≡ false
 not_zero n more = grind (arith, nat_tests)
 
+at_most_one : (n t : ℕ) → t ≡ (if nat_eq n 0 then 1 else 0) → t ≤ 1
+at_most_one n t is = grind (arith, nat_tests)
+
+none_left : (n t : ℕ) → t ≡ (if nat_eq n 0 then 1 else 0) → t ≡ 0 → 0 < n
+none_left n t is none = grind (arith, nat_tests)
+
 is_zero : (n t : ℕ) → t ≡ (if nat_eq n 0 then 1 else 0) → 0 < t → n ≡ 0
 is_zero n t is more = grind (arith, nat_tests)
 
@@ -222,11 +228,8 @@ module _ {N E : Type 0} (s : Seen N E) (counts : Pairs ℕ) (found passed : List
   pub found_once : (x : Key) → times x found ≤ 1
   found_once x = elim (eq-zero-or-pos (times x found)) [
     | inl none ↦ omega arith
-    | inr more ↦ few (sorting.table x (sorting.live x more)).0 (sorting.table x (sorting.live x more)).3
+    | inr more ↦ at_most_one (sorting.table x (sorting.live x more)).0 (times x found) (sorting.table x (sorting.live x more)).3
   ]
-    where
-      few : (n : ℕ) → times x found ≡ (if nat_eq n 0 then 1 else 0) → times x found ≤ 1
-      few n is = grind (arith, nat_tests)
 
   pub found_fits : length found ≤ map.len s.nodes.live
   found_fits = no_more_than found s.nodes.live found_once sorting.live
@@ -276,13 +279,10 @@ module _ {N E : Type 0} (s : Seen N E) (joined : IsJoined s) (counts : Pairs ℕ
   before : (y : Key) → IsLive s.nodes y → times y found ≡ 0 → (p : Key) × HasEdge s.edges.live p y × IsLive s.nodes p × (times p found ≡ 0)
   before y live missing =
       let entry = sorting.table y live in
-      let left : 0 < entry.0 = not_found_left entry.0 entry.3 in
+      let left : 0 < entry.0 = none_left entry.0 (times y found) entry.3 missing in
       let some = some_unpassed (edges_out s.out found) (edges_at s.into y) (omega (arith, entry.2, left)) in
       let e = listed_edge to s.edges.live y (edges_at s.into y) (joined.into y) some.0 some.1 in
       (e.0.from, (some.0, e.0, e.1, refl, e.2), (joined.ends some.0 e.0 e.1).0, sym (out_times s joined found some.0 e.0 e.1) ∙ some.2)
-    where
-      not_found_left : (n : ℕ) → times y found ≡ (if nat_eq n 0 then 1 else 0) → 0 < n
-      not_found_left n is = grind (arith, nat_tests)
 
   -- back from node to node, until one comes again
   climb : (fuel : ℕ) (ks : List Key) (head : Key) → IsLive s.nodes head → times head found ≡ 0 → ((x : Key) → times x ks ≤ 1) → ((x : Key) → 0 < times x ks → IsLive s.nodes x × Leads s.edges.live head x)
