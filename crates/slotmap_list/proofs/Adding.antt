@@ -8,7 +8,7 @@ use Rattle.slotmap_list.specs.declared.PushError.{PushError}
 use Rattle.slotmap_list.specs.declared.PushError.TheVariants.{Full, Memory}
 use Rattle.slotmap_list.specs.Refused.{RefusesPush}
 use Rattle.slotmap_list.specs.Additions.{Adds, FullAtLimit, refused}
-use Rattle.slotmap_list.proofs.NodeLists.{by_key}
+use Rattle.slotmap_list.proofs.Elements.{by_key}
 
 -- what a call ensures of its result, where it succeeds
 pub ok_so : {A E : Type 0} (r : Result A E) (P Q : A → Type 0) → IsOk r → IfOk r P → IfOk r Q → (x : A) × P x × Q x

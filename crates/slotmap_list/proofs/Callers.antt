@@ -3,7 +3,7 @@ use Rattle.std.proofs.Common.{◌≡◌, ◌≢◌, false, cond, List, [], ◌�
 use Rattle.slotmap.specs.Words.{Key}
 use Rattle.slotmap.proofs.Callers.{keys_total, exact_keys, itself}
 use Rattle.slotmap_list.specs.Sequence.{value_of, put_after, put_before, without}
-use Rattle.slotmap_list.proofs.NodeLists.{same, by_key, other_key, cond_none}
+use Rattle.slotmap_list.proofs.Elements.{same, by_key, other_key, cond_none}
 
 module _ {T : Type 0} where
   -- a cursor without an element isn't that of an element

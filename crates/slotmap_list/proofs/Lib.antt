@@ -1,13 +1,13 @@
 pub mod Adding
+pub mod Alike
 pub mod Callers
 pub mod Chains
 pub mod Draining
+pub mod Elements
 pub mod Iterated
 pub mod Looks
-pub mod ClonedChains
 pub mod Moving
-pub mod NeighbourLemmas
-pub mod NodeLists
+pub mod Places
 pub mod Pops
+pub mod Rows
 pub mod Visiting
-pub mod Written

@@ -103,10 +103,14 @@ module _ {T : Type 0} where
   IsOnce (e ∷ es) = (value_of e.0 es ≡ None) × IsOnce es
 
   -- the place between these two neighbours is somewhere in the list
-  abbrev pub IsGap : List (Key × T) → Option Key → Option Key → Type 0
-  IsGap es prev next = (before : List (Key × T)) × ((after : List (Key × T)) × (es ≡ before ++ after) × (last_or before None ≡ prev) × (first_or after None ≡ next))
+  pub record IsGap (es : List (Key × T)) (prev next : Option Key) : Type 0 where
+    pub before : List (Key × T)
+    pub after : List (Key × T)
+    pub list : es ≡ before ++ after
+    pub prev_is : last_or before None ≡ prev
+    pub next_is : first_or after None ≡ next
 
   -- an element was put into a place between these two neighbours
-  abbrev pub PutsBetween : List (Key × T) → Option Key → Option Key → Key × T → List (Key × T) → Type 0
-  PutsBetween old prev next x new =
-      (before : List (Key × T)) × ((after : List (Key × T)) × (old ≡ before ++ after) × (last_or before None ≡ prev) × (first_or after None ≡ next) × (new ≡ before ++ x ∷ after))
+  pub record PutsBetween (old : List (Key × T)) (prev next : Option Key) (x : Key × T) (new : List (Key × T)) : Type 0 where
+    pub gap : IsGap old prev next
+    pub put : new ≡ gap.before ++ x ∷ gap.after

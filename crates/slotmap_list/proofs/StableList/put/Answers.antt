@@ -1,12 +1,9 @@
-use Rattle.std.proofs.Common.{true, is_err, is_some, ap, sym, ◌∙◌, subst, refl, rules}
+use Rattle.std.proofs.Common.{true, is_err, is_some, ap, sym, ◌∙◌, refl, rules}
 use Rattle.std.specs.Option.{option_map}
-use Rattle.slotmap_list.specs.Sequence.{value_of}
-use Rattle.slotmap_list.specs.Chain.{IsChain}
-use Rattle.slotmap_list.proofs.NodeLists.{elements_are}
-use Rattle.slotmap_list.proofs.Chains.{value_found, put_chain, added_stands, self_chain, chain_is}
 use Rattle.slotmap.proofs.Callers.{spent_insert, get-insert_here}
-use Rattle.slotmap_keylist.proofs.Alone.{alone-inserts, alone-keeps, gone_stays, new_not_gone}
+use Rattle.slotmap_keylist.proofs.Alone.{alone-inserts, alone-keeps, gone_stays, new_not_gone, same_live}
 use Rattle.slotmap_keylist.proofs.NotNull.{live_not_null-reuses}
+use Rattle.slotmap_list.proofs.Chains.{value_found, put_chain, added_stands, self_chain, chain_is, shown}
 use Rattle.slotmap_list.proofs.StableList.put.Goals as goal
 
 pub some-on-requires : goal.some-on-requires
@@ -16,37 +13,26 @@ some-on-requires g c =
 
 pub relink-requires-clause-prev_stands : goal.relink-requires-clause-prev_stands
 relink-requires-clause-prev_stands g c =
-    let chain = subst (IsChain c.self.inside.nodes.live c.self.inside.first c.self.inside.last) (elements_are c.self.view_is) c.self.invariant in
-    (added_stands _ _ _ _ _ _ _ _ _ c.requires chain c.in_ok-key.ensures.ok.live).0
+    (added_stands (shown c.self.invariant c.self.view_is) c.requires c.in_ok-key.key c.args.value c.in_ok-key.ensures.fresh (rw (c.copied.ensures, c.copied-2.ensures) at c.in_ok-key.ensures.ok.live)).0
 
 pub relink-requires-clause-next_stands : goal.relink-requires-clause-next_stands
 relink-requires-clause-next_stands g c =
-    let chain = subst (IsChain c.self.inside.nodes.live c.self.inside.first c.self.inside.last) (elements_are c.self.view_is) c.self.invariant in
-    (added_stands _ _ _ _ _ _ _ _ _ c.requires chain c.in_ok-key.ensures.ok.live).1
+    (added_stands (shown c.self.invariant c.self.view_is) c.requires c.in_ok-key.key c.args.value c.in_ok-key.ensures.fresh (rw (c.copied.ensures, c.copied-2.ensures) at c.in_ok-key.ensures.ok.live)).1
 
 pub invariant_of-self-2 : goal.invariant_of-self-2
 invariant_of-self-2 g c =
-    let chain = subst (IsChain c.self.inside.nodes.live c.self.inside.first c.self.inside.last) (elements_are c.self.view_is) c.self.invariant in
-    self_chain _ _ _ _ (put_chain _ _ _ _ _ c.args.prev c.args.next _ _ c.args.self.now.elements c.requires c.in_ok-key.key c.args.value chain
-    c.in_ok-key.ensures.fresh (rw (c.copied.ensures, c.copied-2.ensures) at c.in_ok-key.ensures.ok.live) (rw (c.copied-back.ensures, c.some-on.ensures) at c.relink.ensures.links))
+    self_chain (put_chain (shown c.self.invariant c.self.view_is) c.requires c.in_ok-key.key c.args.value c.in_ok-key.ensures.fresh
+    (rw (c.copied.ensures, c.copied-2.ensures) at c.in_ok-key.ensures.ok.live) (rw (c.copied-back.ensures, c.some-on.ensures) at c.relink.ensures.links) (same_live _ _ c.relink.ensures.keys))
 
 pub returns-clause-ok : goal.returns-clause-ok
-returns-clause-ok g c =
-    let chain = subst (IsChain c.self.inside.nodes.live c.self.inside.first c.self.inside.last) (elements_are c.self.view_is) c.self.invariant in (
-      c.requires.0,
-      (
-        c.requires.1.0,
-        c.requires.1.1,
-        c.requires.1.2,
-        c.requires.1.3,
-        chain_is _ _ _ _ (put_chain _ _ _ _ _ c.args.prev c.args.next _ _ c.args.self.now.elements c.requires c.in_ok-key.key c.args.value chain
-            c.in_ok-key.ensures.fresh (rw (c.copied.ensures, c.copied-2.ensures) at c.in_ok-key.ensures.ok.live) (rw (c.copied-back.ensures, c.some-on.ensures) at c.relink.ensures.links)),
-      ),
-    )
+returns-clause-ok g c = record {
+  gap = c.requires;
+  put = chain_is (put_chain (shown c.self.invariant c.self.view_is) c.requires c.in_ok-key.key c.args.value c.in_ok-key.ensures.fresh
+      (rw (c.copied.ensures, c.copied-2.ensures) at c.in_ok-key.ensures.ok.live) (rw (c.copied-back.ensures, c.some-on.ensures) at c.relink.ensures.links) (same_live _ _ c.relink.ensures.keys));
+}
 
 pub returns-clause-fresh : goal.returns-clause-fresh
-returns-clause-fresh g c =
-    sym (value_found _ _ _ _ c.in_ok-key.key c.self.invariant ∙ ap (value_of c.in_ok-key.key) (elements_are c.self.view_is)) ∙ ap (option_map (λ n. n.value)) c.in_ok-key.ensures.fresh
+returns-clause-fresh g c = sym (value_found (shown c.self.invariant c.self.view_is) c.in_ok-key.key) ∙ ap (option_map (λ n. n.value)) c.in_ok-key.ensures.fresh
 
 pub returns-clause-unspent : goal.returns-clause-unspent
 returns-clause-unspent g c = rw (← c.self.view_is) (new_not_gone _ _ c.add.ensures.valid.before _ _ c.in_ok-key.ensures.ok)
