@@ -155,11 +155,12 @@ module _ {T : Type 0} where
   last_in es k is = let b = back_of es k is in let sum = ap (times k) b.2 ∙ times-append k b.0 ((k, b.1) ∷ []) in let here = one_itself k in omega arith
 
   -- a key that stands in a list splits it
-  pub split : (xs : List (Key × T)) (k : Key) (v : T) → value_of k xs ≡ Some v → (ys : List (Key × T)) × (zs : List (Key × T)) × (xs ≡ ys ++ (k, v) ∷ zs) × (times k ys ≡ 0)
-  split [] k v h = absurd (cc)
-  split (x ∷ xs) k v h = by_key (λ b. cond b (Some x.1) (value_of k xs) ≡ Some v → (ys : List (Key × T)) × (zs : List (Key × T)) × (x ∷ xs ≡ ys ++ (k, v) ∷ zs) × (times k ys ≡ 0)) k x.0
-      (λ e is. let value : x.1 ≡ v = cc in ([], xs, ap (λ (p : Key × T). p ∷ xs) (λ i. (sym e i, value i)), refl))
-      (λ other _ is. let rest = split xs k v is in (x ∷ rest.0, rest.1, ap (λ l. x ∷ l) rest.2, (let none = rest.3 in let first = one_other k x.0 other in omega arith))) h
+  pub parts_at : (xs : List (Key × T)) (k : Key) → 0 < times k xs → (ys : List (Key × T)) × (v : T) × (zs : List (Key × T)) × (xs ≡ ys ++ (k, v) ∷ zs)
+  parts_at [] k more = absurd (omega arith)
+  parts_at (x ∷ xs) k more = elim (same_or_other k x.0) [
+    | inl is ↦ ([], x.1, xs, ap (λ q. (q, x.1) ∷ xs) (sym is))
+    | inr other ↦ (let rest = parts_at xs k (let first = one_other k x.0 other in omega arith) in (x ∷ rest.0, rest.1, rest.2, ap (λ l. x ∷ l) rest.3))
+  ]
 
   -- what the words of a list say of a key that stands behind this part
   module _ (k : Key) (v : T) (zs : List (Key × T)) where

@@ -10,4 +10,5 @@ pub mod Moving
 pub mod Places
 pub mod Pops
 pub mod Rows
+pub mod Swapping
 pub mod Visiting

@@ -37,7 +37,7 @@ module _ {T : Type 0} where
   stays put k None xs none = refl
   stays put k (Some v) xs none = absurd (cc)
 
-  two : (k other : Key) (xs : List (Key × T)) → are_two k other xs ≡ true → (other ≢ k) × (is_some (value_of k xs) ≡ true) × (is_some (value_of other xs) ≡ true)
+  pub two : (k other : Key) (xs : List (Key × T)) → are_two k other xs ≡ true → (other ≢ k) × (is_some (value_of k xs) ≡ true) × (is_some (value_of other xs) ≡ true)
   two k other xs is =
       let parts = three (is_same k other) (is_some (value_of k xs)) (is_some (value_of other xs)) is in
       (λ e. absurd (let same = (same_keys k other).1 (sym e) in let apart = parts.0 in cc), parts.1, parts.2)

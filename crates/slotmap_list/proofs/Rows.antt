@@ -9,7 +9,7 @@ use Rattle.slotmap_list.specs.declared.links.Side.{Side}
 use Rattle.slotmap_list.specs.declared.links.Side.TheVariants.{Before, After}
 use Rattle.slotmap_list.specs.Sequence.{value_of, first_or, last_or, without, IsOnce, IsGap}
 use Rattle.slotmap_list.specs.Chain.{Nodes, AreNodes, IsRow, link_to, with_link, with_link_of, outer, BothStand, Relinks}
-use Rattle.slotmap_list.proofs.Elements.{one_itself, one_other, times, times-append, times-parts, times_none, at_most_once, once_if, once_drop, once_put, absent_before, first_or-append, last_or-append, first_in, last_in, split, without-split}
+use Rattle.slotmap_list.proofs.Elements.{one_itself, one_other, times, times-append, times-parts, times_none, times_some, at_most_once, once_if, once_drop, once_put, absent_before, first_or-append, last_or-append, first_in, last_in, parts_at, without-split}
 
 if_some : {A : Type 0} (P : A → Type 0) (o : Option A) → ((x : A) → o ≡ Some x → P x) → IfSome o P
 if_some P None f = tt
@@ -134,22 +134,18 @@ module _ {T : Type 0} where
 
   module _ {nodes : Nodes T} {first last : Option Key} {xs : List (Key × T)} (row : IsRow nodes first last xs) where
     pub split_at : (k : Key) (node : Node T) → map.get nodes k ≡ Some node → IsSome (value_of k xs) → IsSplit xs k node
-    split_at k node found some = by (value_of k xs) refl some
-      where
-        by : (o : Option T) → value_of k xs ≡ o → IsSome o → IsSplit xs k node
-        by None is there = absurd (cc)
-        by (Some v) is there =
-            let s = split xs k v is in
-            let at = nodes_right nodes None None s.0 ((k, v) ∷ s.1) (subst (λ l. AreNodes nodes None l None) s.2 row.nodes_are) in
-            let same_node : node ≡ record { value = v; prev = last_or s.0 None; next = first_or s.1 None } = (let e = sym found ∙ at.0 in cc) in
-            record {
-              before = s.0;
-              after = s.1;
-              list = s.2 ∙ ap (λ w. s.0 ++ (k, w) ∷ s.1) (sym (ap (λ n. n.value) same_node));
-              absent = absent_before s.0 k v s.1 (subst IsOnce s.2 row.once);
-              prev = ap (λ n. n.prev) same_node;
-              next = ap (λ n. n.next) same_node;
-            }
+    split_at k node found some =
+        let s = parts_at xs k (times_some k xs some) in
+        let at = nodes_right nodes None None s.0 ((k, s.1) ∷ s.2) (subst (λ l. AreNodes nodes None l None) s.3 row.nodes_are) in
+        let same_node : node ≡ record { value = s.1; prev = last_or s.0 None; next = first_or s.2 None } = (let e = sym found ∙ at.0 in cc) in
+        record {
+          before = s.0;
+          after = s.2;
+          list = s.3 ∙ ap (λ v. s.0 ++ (k, v) ∷ s.2) (sym (ap (λ n. n.value) same_node));
+          absent = absent_before s.0 k s.1 s.2 (subst IsOnce s.3 row.once);
+          prev = ap (λ n. n.prev) same_node;
+          next = ap (λ n. n.next) same_node;
+        }
 
     -- an element leaves the row: the nodes may differ under its key
     module _ (k : Key) (node : Node T) (s : IsSplit xs k node) (base : Nodes T) (alike : (q : Key) → Some k ≢ Some q → map.get base q ≡ map.get nodes q) where

@@ -1,5 +1,5 @@
 -- A list as its user sees it: keys with their values, from front to back.
-use Rattle.std.specs.Prelude.{◌≡◌, refl, List, [], ◌∷◌, ◌++◌, Option, Some, None, Bool, cond, not, ◌&&◌, nat_eq, is_some}
+use Rattle.std.specs.Prelude.{◌≡◌, refl, List, [], ◌∷◌, ◌++◌, Option, Some, None, Bool, cond, not, ◌⊎◌, ◌&&◌, nat_eq, is_some}
 use Rattle.std.specs.Coded.{Coded, code_by, coded×, coded_list}
 use Rattle.std.specs.Ordering.{eq_by_cmp}
 use Rattle.std.specs.FinMap.Entries.{find}
@@ -96,6 +96,20 @@ module _ {T : Type 0} where
   abbrev pub TakesBack : List (Key × T) → Option (Key × T) → List (Key × T) → Type 0
   TakesBack old None new = (old ≡ []) × (new ≡ [])
   TakesBack old (Some x) new = old ≡ new ++ x ∷ []
+
+  -- the element of `first`, which stands before that of `second`, and that one are in each other's places
+  pub record ChangePlaces (old : List (Key × T)) (first second : Key) (new : List (Key × T)) : Type 0 where
+    pub before : List (Key × T)
+    pub between : List (Key × T)
+    pub after : List (Key × T)
+    pub value : T
+    pub other_value : T
+    pub was : old ≡ before ++ (first, value) ∷ (between ++ (second, other_value) ∷ after)
+    pub is : new ≡ before ++ (second, other_value) ∷ (between ++ (first, value) ∷ after)
+
+  -- the elements of these two keys, in whichever order they stand, are in each other's places
+  abbrev pub Swaps : List (Key × T) → Key → Key → List (Key × T) → Type 0
+  Swaps old k other new = ChangePlaces old k other new ⊎ ChangePlaces old other k new
 
   -- no key occurs twice
   abbrev pub IsOnce : List (Key × T) → Type 0

@@ -1,8 +1,8 @@
 //! The calls that add an element.
 
-ghost use Rattle.std.specs.Prelude.{◌≡◌, ◌<◌, ◌++◌, ◌∷◌, [], IsOk, IfOk, OnOk, IfErr, OnErr, IsSome, None};
+ghost use Rattle.std.specs.Prelude.{◌≡◌, ◌+◌, ◌<◌, ◌++◌, ◌∷◌, [], IsOk, IfOk, OnOk, IfErr, OnErr, IsSome, None};
 ghost use Rattle.std.specs.FinMap as map;
-ghost use Rattle.slotmap.specs.Words.{Inserts, IsSpent, Keeps, KeepsSpent};
+ghost use Rattle.slotmap.specs.Words.{Inserts, IsSpent, Keeps, KeepsSpent, used};
 ghost use Rattle.slotmap_list.specs.Sequence.{value_of, put_after, put_before, IsGap, PutsBetween};
 ghost use Rattle.slotmap_list.specs.Neighbours.{insert_beside};
 ghost use Rattle.slotmap_list.specs.Refused.{RefusesPlace, RefusesPush};
@@ -25,6 +25,7 @@ impl<K: Key, T: Drop> StableList<K, T> {
         ensures fresh { IfOk result (λ key. value_of key self.old.elements ≡ None) }
         ensures unspent { IfOk result (λ key. IsSpent self.old.cursors key → ⊥) }
         ensures cursors { IfOk result (λ key. Inserts self.old.cursors key tt self.new.cursors) }
+        ensures used { OnOk result (used self.new.cursors ≡ used self.old.cursors + 1) }
         ensures err { IfErr result (RefusesPush self.old.cursors value) }
         ensures reuses { 0 < map.len self.old.cursors.next → IsOk result }
         ensures room { 0 < self.old.cursors.room → IsOk result }
@@ -61,6 +62,7 @@ impl<K: Key, T: Drop> StableList<K, T> {
         ensures fresh { IfOk result (λ key. value_of (K.data_of key) self.old.elements ≡ None) }
         ensures unspent { IfOk result (λ key. IsSpent self.old.cursors (K.data_of key) → ⊥) }
         ensures cursors { IfOk result (λ key. Inserts self.old.cursors (K.data_of key) tt self.new.cursors) }
+        ensures used { OnOk result (used self.new.cursors ≡ used self.old.cursors + 1) }
         ensures err { IfErr result (RefusesPush self.old.cursors value) }
         ensures reuses { 0 < map.len self.old.cursors.next → IsOk result }
         ensures room { 0 < self.old.cursors.room → IsOk result }

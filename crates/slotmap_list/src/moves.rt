@@ -1,9 +1,9 @@
 //! Moves of an element within its list, and writes of its value.
 
-ghost use Rattle.std.specs.Prelude.{◌≡◌, is_some, if◌then◌else◌};
+ghost use Rattle.std.specs.Prelude.{◌≡◌, true, false, IsTrue, is_some, if◌then◌else◌};
 ghost use Rattle.std.specs.Borrow.{sem};
 ghost use Rattle.std.specs.Option.{option_copied_mut};
-ghost use Rattle.slotmap_list.specs.Sequence.{value_of, moved_to_front, moved_to_back, moved_after, moved_before, are_two};
+ghost use Rattle.slotmap_list.specs.Sequence.{value_of, moved_to_front, moved_to_back, moved_after, moved_before, are_two, IsOnce, Swaps};
 ghost use Rattle.slotmap_list.specs.Neighbours.{gap_at, is_move, moved_to};
 
 use crate::StableList;
@@ -113,10 +113,64 @@ impl<K: Key, T: Drop> StableList<K, T> {
         self.move_to(inner(cursor), Place::Beside(Side::Before, inner(other)))
     }
 
+    /// Puts the elements of two cursors into each other's places. It returns `false`, and changes
+    /// nothing, if one of the two isn't in the list, or if they are the same.
+    ///
+    /// Each element moves with its cursor and its value. So `list[cursor]` is what it was, and its
+    /// neighbours are the other's. In a slice, where an index names a place, `swap` leaves the index
+    /// and moves the value. Constant time. Nothing is allocated.
+    ///
+    /// ```
+    /// let mut list = StableList::new(alloc)?;
+    /// let one = list.push_back(1)?;
+    /// list.push_back(2)?;
+    /// let three = list.push_back(3)?;
+    /// assert!(rt; list.swap(one, three));
+    /// assert_eq!(rt; list.to_vec(alloc)?.as_slice(), [3, 2, 1].as_slice());
+    /// assert_eq!(rt; list.get(one), Some(&1));
+    /// assert!(rt; !list.swap(one, one));
+    /// ```
+    pub fn swap(&mut self, cursor: K, other: K) -> bool
+        ensures which { result ≡ are_two (K.data_of cursor) (K.data_of other) self.old.elements }
+        ensures swaps { IsTrue result → Swaps self.old.elements (K.data_of cursor) (K.data_of other) self.new.elements }
+        ensures cursors { self.new.cursors ≡ self.old.cursors }
+        ensures unchanged { result ≡ false → self.new ≡ self.old }
+    {
+        let cursor = inner(cursor);
+        let other = inner(other);
+        if !self.has_two(cursor, other) {
+            return false;
+        }
+        self.exchange(cursor, other);
+        true
+    }
+
+    // Puts two elements of the list into each other's places: one behind the other, which then moves
+    // to before the next element that the first one had.
+    fn exchange(&mut self, cursor: DefaultKey, other: DefaultKey)
+        requires { are_two cursor other self.old.elements ≡ true }
+        ensures swaps { Swaps self.old.elements cursor other self.new.elements }
+        ensures cursors { self.new.cursors ≡ self.old.cursors }
+    {
+        let next = self.after(cursor);
+        self.move_to(cursor, Place::Beside(Side::After, other));
+        match next {
+            None => {
+                self.move_to(other, Place::Back);
+            }
+            Some(next) => {
+                if next != other {
+                    self.move_to(other, Place::Beside(Side::Before, next));
+                }
+            }
+        }
+    }
+
     // Moves the element of a cursor to a place, if it can.
     fn move_to(&mut self, cursor: DefaultKey, place: Place) -> bool
         ensures which { result ≡ is_move cursor place self.old.elements }
         ensures moved { self.new ≡ record self.old { elements = moved_to place cursor self.old.elements } }
+        ensures once { IsOnce self.new.elements }
     {
         if !self.can_move(cursor, &place) {
             return false;

@@ -1,8 +1,11 @@
-use Rattle.std.proofs.Common.{true, is_err, is_some, ap, sym, ◌∙◌, refl, rules}
+use Rattle.std.proofs.Common.{◌+◌, true, is_err, is_some, ap, sym, ◌∙◌, refl, rules}
 use Rattle.std.specs.Option.{option_map}
+use Rattle.slotmap.specs.Words.{used}
 use Rattle.slotmap.proofs.Callers.{spent_insert, get-insert_here}
-use Rattle.slotmap_keylist.proofs.Alone.{alone-inserts, alone-keeps, gone_stays, new_not_gone, same_live}
+use Rattle.slotmap_keylist.proofs.Alone.{alone-inserts, alone-keeps, gone_stays, new_not_gone, same_live, used_alone}
 use Rattle.slotmap_keylist.proofs.NotNull.{live_not_null-reuses}
+use Rattle.slotmap_list.specs.Sequence.{Sequence}
+use Rattle.slotmap_list.proofs.Adding.{used_inserted}
 use Rattle.slotmap_list.proofs.Chains.{value_found, put_chain, added_stands, self_chain, chain_is, shown}
 use Rattle.slotmap_list.proofs.StableList.put.Goals as goal
 
@@ -46,6 +49,11 @@ returns-in_err-key-clause-gone g c = rw (← c.self.view_is) (gone_stays _ _ _ r
 
 pub returns-in_err-key-clause-err : goal.returns-in_err-key-clause-err
 returns-in_err-key-clause-err g c = rw (← c.self.view_is) (search rules)
+
+pub returns-clause-used : goal.returns-clause-used
+returns-clause-used g c =
+    ap used c.relink.ensures.keys ∙ used_alone c.add.new.nodes ∙ used_inserted _ _ _ _ c.in_ok-key.ensures.fresh c.in_ok-key.ensures.ok
+    ∙ ap (λ n. n + 1) (sym (used_alone c.self.inside.nodes) ∙ ap (λ (s : Sequence _). used s.cursors) c.self.view_is)
 
 pub returns-clause-cursors : goal.returns-clause-cursors
 returns-clause-cursors g c = rw (c.relink.ensures.keys, ← c.self.view_is) (alone-inserts _ _ _ _ c.in_ok-key.ensures.ok)
