@@ -11,6 +11,11 @@ use Rattle.slotmap_list.specs.declared.moves.Place.TheVariants.{Front, Back, Bes
 use Rattle.slotmap_list.specs.Sequence.{value_of, put_after, put_before, put_again, moved_to_front, moved_to_back, are_two}
 use Rattle.slotmap_list.specs.Chain.{Nodes}
 
+-- the place before this key, or the back if there is none
+abbrev pub before_or_back : Option Key → Place
+before_or_back None = Back
+before_or_back (Some k) = Beside Before k
+
 module _ {T : Type 0} where
   -- the neighbours of the place on this side of k, by its node
   abbrev pub gap_beside : Side → Key → Node T → Option Key × Option Key

@@ -3,8 +3,8 @@
 ghost use Rattle.std.specs.Prelude.{◌≡◌, true, false, IsTrue, is_some, if◌then◌else◌};
 ghost use Rattle.std.specs.Borrow.{sem};
 ghost use Rattle.std.specs.Option.{option_copied_mut};
-ghost use Rattle.slotmap_list.specs.Sequence.{value_of, moved_to_front, moved_to_back, moved_after, moved_before, are_two, IsOnce, Swaps};
-ghost use Rattle.slotmap_list.specs.Neighbours.{gap_at, is_move, moved_to};
+ghost use Rattle.slotmap_list.specs.Sequence.{value_of, moved_to_front, moved_to_back, moved_after, moved_before, are_two, Swaps};
+ghost use Rattle.slotmap_list.specs.Neighbours.{gap_at, is_move, moved_to, before_or_back};
 
 use crate::StableList;
 use crate::links::{Neighbour, Nodes, Side, beside, link, unlink};
@@ -32,6 +32,16 @@ fn gap<T: Drop>(
         Place::Front => Some((KeyOrNull::none(), first.copied())),
         Place::Back => Some((last.copied(), KeyOrNull::none())),
         Place::Beside(side, key) => beside(nodes, side, key),
+    }
+}
+
+// The place before a key, or the back if there is none.
+fn place_before(next: Option<DefaultKey>) -> Place
+    ensures { result ≡ before_or_back next }
+{
+    match next {
+        Some(key) => Place::Beside(Side::Before, key),
+        None => Place::Back,
     }
 }
 
@@ -145,8 +155,8 @@ impl<K: Key, T: Drop> StableList<K, T> {
         true
     }
 
-    // Puts two elements of the list into each other's places: one behind the other, which then moves
-    // to before the next element that the first one had.
+    // Puts two elements of the list into each other's places: one moves to behind the other, which
+    // then moves to before what was behind the first one. If it was that itself, it stays.
     fn exchange(&mut self, cursor: DefaultKey, other: DefaultKey)
         requires { are_two cursor other self.old.elements ≡ true }
         ensures swaps { Swaps self.old.elements cursor other self.new.elements }
@@ -154,23 +164,13 @@ impl<K: Key, T: Drop> StableList<K, T> {
     {
         let next = self.after(cursor);
         self.move_to(cursor, Place::Beside(Side::After, other));
-        match next {
-            None => {
-                self.move_to(other, Place::Back);
-            }
-            Some(next) => {
-                if next != other {
-                    self.move_to(other, Place::Beside(Side::Before, next));
-                }
-            }
-        }
+        self.move_to(other, place_before(next));
     }
 
     // Moves the element of a cursor to a place, if it can.
     fn move_to(&mut self, cursor: DefaultKey, place: Place) -> bool
         ensures which { result ≡ is_move cursor place self.old.elements }
         ensures moved { self.new ≡ record self.old { elements = moved_to place cursor self.old.elements } }
-        ensures once { IsOnce self.new.elements }
     {
         if !self.can_move(cursor, &place) {
             return false;

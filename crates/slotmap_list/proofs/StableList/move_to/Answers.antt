@@ -37,9 +37,6 @@ invariant_of-self g c =
     self_chain (chain_moved (shown c.self.invariant c.self.view_is) c.unlink.ensures.unlinks c.args.place _ _ (sym c.can_move.ensures ∙ c.if-not-can_move.false) (sym c.in-Some.ensures)
     c.link.ensures.links (same_live _ _ (c.link.ensures.keys ∙ c.unlink.ensures.keys)))
 
-pub returns-clause-once : goal.returns-clause-once
-returns-clause-once g c = (invariant_of-self g c).row.once
-
 pub returns-clause-moved : goal.returns-clause-moved
 returns-clause-moved g c =
     seen_as c.args.self.now _ _ _ (chain_is (chain_moved (shown c.self.invariant c.self.view_is) c.unlink.ensures.unlinks c.args.place _ _ (sym c.can_move.ensures ∙ c.if-not-can_move.false) (sym c.in-Some.ensures)
