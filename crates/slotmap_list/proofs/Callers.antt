@@ -1,5 +1,5 @@
 -- What callers of a list cite: which value each cursor has after a call.
-use Rattle.std.proofs.Common.{◌≡◌, ◌≢◌, false, cond, List, [], ◌∷◌, Some, None, IsSome, refl, sym, ap, subst, ◌∙◌}
+use Rattle.std.proofs.Common.{◌≡◌, ◌≢◌, false, cond, List, [], ◌∷◌, Some, None, IsSome, refl, sym, ap, subst, ◌∙◌, arith}
 use Rattle.slotmap.specs.Words.{Key}
 use Rattle.slotmap.proofs.Callers.{keys_total, exact_keys, itself}
 use Rattle.slotmap_list.specs.Sequence.{value_of, put_after, put_before, without}
@@ -25,10 +25,7 @@ module _ {T : Type 0} where
 
     pub put_after_other : (es : List (Key × T)) (q : Key) → q ≢ x.0 → value_of q (put_after k x es) ≡ value_of q es
     put_after_other [] q other = refl
-    put_after_other (e ∷ es) q other =
-        by_key (λ b. value_of q (cond b (e ∷ x ∷ es) (e ∷ put_after k x es)) ≡ value_of q (e ∷ es)) k e.0
-        (λ _. ap (cond (same q e.0) (Some e.1)) (shown_there q x es (other_key q x.0 other)))
-        (λ _ _. ap (cond (same q e.0) (Some e.1)) (put_after_other es q other))
+    put_after_other (e ∷ es) q other = let rest = put_after_other es q other in let apart = other_key q x.0 other in grind arith
 
     pub put_before_here : (es : List (Key × T)) → IsSome (value_of k es) → value_of x.0 es ≡ None → value_of x.0 (put_before k x es) ≡ Some x.1
     put_before_here [] some none = absurd (cc)
@@ -40,10 +37,7 @@ module _ {T : Type 0} where
 
     pub put_before_other : (es : List (Key × T)) (q : Key) → q ≢ x.0 → value_of q (put_before k x es) ≡ value_of q es
     put_before_other [] q other = refl
-    put_before_other (e ∷ es) q other =
-        by_key (λ b. value_of q (cond b (x ∷ e ∷ es) (e ∷ put_before k x es)) ≡ value_of q (e ∷ es)) k e.0
-        (λ _. shown_there q x (e ∷ es) (other_key q x.0 other))
-        (λ _ _. ap (cond (same q e.0) (Some e.1)) (put_before_other es q other))
+    put_before_other (e ∷ es) q other = grind (arith, put_before_other es q other, other_key q x.0 other)
 
   pub without_other : (k : Key) (es : List (Key × T)) (q : Key) → q ≢ k → value_of q (without k es) ≡ value_of q es
   without_other k [] q other = refl

@@ -4,7 +4,7 @@ use Rattle.std.proofs.Common.{refl, sym, ap, subst, ◌∙◌, arith}
 use Rattle.std.specs.Option.{option_map}
 use Rattle.std.specs.FinMap as map
 use Rattle.slotmap.specs.Words.{Key, key_cmp, Content}
-use Rattle.slotmap.proofs.Callers.{keys, keys_total, exact_keys, same_or_other, len_removed, get-insert_here, get-insert_other}
+use Rattle.slotmap.proofs.Callers.{keys, keys_total, exact_keys, same_or_other, len_removed, get-insert_here, get-insert_other, live-insert_still}
 use Rattle.slotmap_keylist.proofs.Alone.{len_alike}
 use Rattle.slotmap_keylist.proofs.Mapped.{some-mapped}
 use Rattle.slotmap_list.specs.declared.Node.{Node}
@@ -12,7 +12,7 @@ use Rattle.slotmap_list.specs.Sequence.{Sequence, value_of, first_or, key_after,
 use Rattle.slotmap_list.specs.Chain.{Nodes, follow_node, follow, AreNodes, IsRow, IsChain, with_link, HasNeighbours, BothStand, Relinks, Unlinks, Links}
 use Rattle.slotmap_list.specs.declared.links.Side.TheVariants.{Before, After}
 use Rattle.slotmap_list.proofs.Elements.{one, one_itself, one_other, times, times-append, times-put, length-put, times_none, times_some, some_there, none_there, value_of-split, key_after-split, key_after-absent, key_before-split, key_before-absent, without-split, without-absent, first_in, last_in}
-use Rattle.slotmap_list.proofs.Rows.{row_stands, linked_other, IsSplit, split_at, neighbours_stand, row_without, gap_stands, row_with}
+use Rattle.slotmap_list.proofs.Rows.{row_stands, linked_other, IsSplit, split_at, neighbours_stand, row_without, both_so, gap_stands, row_with}
 
 module _ {T : Type 0} where
   was_there : (nodes : Nodes T) (k q : Key) → map.contains_key (map.remove nodes k) q ≡ true → (q ≢ k) × (map.contains_key nodes q ≡ true)
@@ -102,10 +102,7 @@ module _ {T : Type 0} where
       own = ap (λ m. map.get m k) added ∙ get-insert_here nodes k _
 
       pub added_stands : BothStand mid prev next
-      added_stands = gap_stands chain.row gap mid (λ q there. elim (same_or_other q k) [
-        | inl is ↦ ap (map.contains_key mid) is ∙ ap is_some own
-        | inr other ↦ ap is_some (other_than q other) ∙ there
-      ])
+      added_stands = both_so nodes mid prev next (λ q there. ap (λ m. map.contains_key m q) added ∙ live-insert_still nodes k _ q there) (gap_stands chain.row gap)
 
       pub put_chain : {new : Nodes T} {new_first new_last : Option Key} → Relinks mid first last prev next (Some k) (Some k) new new_first new_last
           → ((q : Key) → map.contains_key new q ≡ map.contains_key mid q) → IsChain new new_first new_last (gap.before ++ (k, v) ∷ gap.after)

@@ -84,7 +84,7 @@ module _ {T : Type 0} where
 
     module _ (place : Place) (prev next : Option Key) (can : is_move k place xs ≡ true) (is : gap_at mid mid_first mid_last place ≡ Some (prev, next)) where
       pub neighbours_placed : BothStand mid prev next
-      neighbours_placed = gap_stands (others chain out) (placed place prev next can is).gap mid (λ q there. there)
+      neighbours_placed = gap_stands (others chain out) (placed place prev next can is).gap
 
       pub chain_moved : {new : Nodes T} {new_first new_last : Option Key} → Links mid mid_first mid_last k prev next new new_first new_last
           → ((q : Key) → map.contains_key new q ≡ map.contains_key nodes q) → IsChain new new_first new_last (moved_to place k xs)

@@ -115,12 +115,19 @@ module _ {T : Type 0} where
   outer_last [] ws last o is = refl
   outer_last (z ∷ zs) ws last o is = is ∙ last_or-append ws (z ∷ zs) None
 
-  -- the neighbours of a place have nodes, also in a map that has those of these nodes
-  place_stands : (nodes other : Nodes T) (n p : Option Key) (ys zs : List (Key × T)) → AreNodes nodes None ys n → AreNodes nodes p zs None
-      → ((q : Key) → map.contains_key nodes q ≡ true → map.contains_key other q ≡ true) → (prev next : Option Key) → last_or ys None ≡ prev → first_or zs None ≡ next → BothStand other prev next
-  place_stands nodes other n p ys zs left right so prev next before after = (
-    if_some (λ q. map.contains_key other q ≡ true) prev (λ q is. so q (row_stands nodes None n ys q left (last_in ys q (before ∙ is)))),
-    if_some (λ q. map.contains_key other q ≡ true) next (λ q is. so q (row_stands nodes p None zs q right (first_in zs q (after ∙ is)))),
+  -- what stands in one map stands in another one
+  pub both_so : (a b : Nodes T) (prev next : Option Key) → ((q : Key) → map.contains_key a q ≡ true → map.contains_key b q ≡ true) → BothStand a prev next → BothStand b prev next
+  both_so a b prev next so both = (
+    if_some_so (λ q. map.contains_key a q ≡ true) (λ q. map.contains_key b q ≡ true) prev so both.0,
+    if_some_so (λ q. map.contains_key a q ≡ true) (λ q. map.contains_key b q ≡ true) next so both.1,
+  )
+
+  -- the neighbours of a place have nodes
+  place_stands : (nodes : Nodes T) (n p : Option Key) (ys zs : List (Key × T)) → AreNodes nodes None ys n → AreNodes nodes p zs None
+      → (prev next : Option Key) → last_or ys None ≡ prev → first_or zs None ≡ next → BothStand nodes prev next
+  place_stands nodes n p ys zs left right prev next before after = (
+    if_some (λ q. map.contains_key nodes q ≡ true) prev (λ q is. row_stands nodes None n ys q left (last_in ys q (before ∙ is))),
+    if_some (λ q. map.contains_key nodes q ≡ true) next (λ q is. row_stands nodes p None zs q right (first_in zs q (after ∙ is))),
   )
 
   -- where the element of a node stands, and what is before it and after it
@@ -159,7 +166,7 @@ module _ {T : Type 0} where
       right = nodes_framed nodes base (Some k) (Some k) None s.after (only_at k s.after s.absent.1) alike (nodes_right nodes None None s.before ((k, node.value) ∷ s.after) all).1
 
       pub neighbours_stand : BothStand base node.prev node.next
-      neighbours_stand = place_stands base base (Some k) (Some k) s.before s.after left right (λ q there. there) node.prev node.next (sym s.prev) (sym s.next)
+      neighbours_stand = place_stands base (Some k) (Some k) s.before s.after left right node.prev node.next (sym s.prev) (sym s.next)
 
       pub row_without : {new : Nodes T} {new_first new_last : Option Key} → Relinks base first last node.prev node.next node.next node.prev new new_first new_last → IsRow new new_first new_last (without k xs)
       row_without {new} {new_first} {new_last} relinks =
@@ -184,8 +191,8 @@ module _ {T : Type 0} where
       behind : AreNodes nodes (last_or gap.before None) gap.after None
       behind = nodes_right nodes None None gap.before gap.after parts
 
-      pub gap_stands : (other : Nodes T) → ((q : Key) → map.contains_key nodes q ≡ true → map.contains_key other q ≡ true) → BothStand other prev next
-      gap_stands other so = place_stands nodes other (first_or gap.after None) (last_or gap.before None) gap.before gap.after ahead behind so prev next gap.prev_is gap.next_is
+      pub gap_stands : BothStand nodes prev next
+      gap_stands = place_stands nodes (first_or gap.after None) (last_or gap.before None) gap.before gap.after ahead behind prev next gap.prev_is gap.next_is
 
       pub row_with : (k : Key) (v : T) → times k xs ≡ 0 → (base : Nodes T) → ((q : Key) → Some k ≢ Some q → map.get base q ≡ map.get nodes q)
           → map.get base k ≡ Some (record { value = v; prev = prev; next = next }) → {new : Nodes T} {new_first new_last : Option Key}

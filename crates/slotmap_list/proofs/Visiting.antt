@@ -1,5 +1,5 @@
 -- A loop that visits the elements from front to back, and keeps or removes each.
-use Rattle.std.proofs.Common.{◌≡◌, ◌⊎◌, ◌<◌, ◌+◌, ℕ, length, arith, Bool, true, false, cond, List, [], ◌∷◌, ◌++◌, Option, Some, None, IsSome, is_some, inl, inr, refl, sym, ap, subst, ◌∙◌, append_assoc, append-nil}
+use Rattle.std.proofs.Common.{◌≡◌, ◌<◌, ◌+◌, ℕ, length, arith, Bool, true, false, cond, List, [], ◌∷◌, ◌++◌, Option, Some, None, IsSome, is_some, inl, inr, refl, sym, ap, subst, ◌∙◌, append_assoc, append-nil}
 use denote.Param.Always.{always_mut, mut_next}
 use Rattle.std.specs.Fn.{Mut, Called, Takes}
 use Rattle.std.specs.Borrow.{MutBor}
@@ -7,18 +7,11 @@ use Rattle.slotmap.specs.Words.{Key, IsSpent, KeepsSpent}
 use Rattle.slotmap.proofs.Callers.{same_or_other}
 use Rattle.slotmap_list.specs.Sequence.{Sequence, value_of, first_or, key_after, with_value_at, without, IsOnce}
 use Rattle.slotmap_list.specs.Retain.{RetainsOne, RetainsEach, CallableInOrder}
-use Rattle.slotmap_list.proofs.Elements.{same, one_other, times, times-put, times_none, none_there, absent_before, apart_first, itself_first, once_drop, front_of, no_first}
+use Rattle.slotmap_list.proofs.Elements.{same, one_other, times, times-append, times_none, none_there, absent_before, apart_first, itself_first, once_drop, front_of, no_first}
 use Rattle.slotmap_list.proofs.Elements.{value_of-split, key_after-split, without-split, with_value-split}
 use Rattle.slotmap_list.proofs.Alike.{once-written}
 
 module _ {T : Type 0} where
-  -- a key that stands no more once the element of k is taken out is k, or didn't stand before
-  still_absent : (ys : List (Key × T)) (k : Key) (v : T) (zs : List (Key × T)) (u : Key) → value_of u (ys ++ zs) ≡ None → (u ≡ k) ⊎ (value_of u (ys ++ (k, v) ∷ zs) ≡ None)
-  still_absent ys k v zs u none = elim (same_or_other u k) [
-    | inl is ↦ inl is
-    | inr other ↦ inr (none_there u (ys ++ (k, v) ∷ zs) (let first = one_other u k other in let gone = times_none u (ys ++ zs) none in let sum = times-put u ys (k, v) zs in omega arith))
-  ]
-
   -- the elements from a key on, and how many there are
   abbrev pub from : Key → List (Key × T) → List (Key × T)
   from k [] = []
@@ -142,10 +135,10 @@ module _ {F K T : Type 0} {g : Mut F (K × (MutBor T × Unit {0})) (Bool × (Mut
       pub dropped_less : {new : List (Key × T)} → new ≡ without k (with_value_at k after.now now.elements) → ahead next new < ahead (Some k) now.elements
       dropped_less {new} removed = ahead_less new r.left (dropped_is removed) (subst IsOnce (sym (dropped_is removed)) (once_drop r.left (k, here.0) here.1 (subst IsOnce now_here once)))
 
-      -- one more element was visited
+      -- one more element was visited: k is left, or it is gone for good
       step : {new : Sequence T} (more : List (Key × T)) → RetainsOne g data_of f' (k, here.0) more f'' → new.elements ≡ (r.left ++ more) ++ here.1
-          → ((u : Key) → IsSome (value_of u old.elements) → value_of u new.elements ≡ None → IsSpent new.cursors u) → KeepsSpent now.cursors new.cursors → Retaining g data_of old f new next f''
-      step more visit new_is for_good keeps = record {
+          → (value_of k new.elements ≡ None → IsSpent new.cursors k) → KeepsSpent now.cursors new.cursors → Retaining g data_of old f new next f''
+      step {new} more visit new_is for_good keeps = record {
         done = r.done ++ (k, here.0) ∷ [];
         left = r.left ++ more;
         rest = here.1;
@@ -153,28 +146,27 @@ module _ {F K T : Type 0} {g : Mut F (K × (MutBor T × Unit {0})) (Bool × (Mut
         now_is = new_is;
         visited = each_push f r.done r.left f' (k, here.0) more f'' r.visited visit;
         at_is = next_is;
-        for_good = for_good;
+        for_good = λ u there none. (elim (same_or_other u k) [
+          | inl is ↦ subst (IsSpent new.cursors) (sym is) (for_good (ap (λ q. value_of q new.elements) (sym is) ∙ none))
+          | inr other ↦ keeps u (r.for_good u there (ap (value_of u) now_here ∙ none_there u (r.left ++ (k, here.0) ∷ here.1) (
+              let gone = times_none u new.elements none in
+              let all = ap (times u) new_is ∙ times-append u (r.left ++ more) here.1 in
+              let part = times-append u r.left more in
+              let before = times-append u r.left ((k, here.0) ∷ here.1) in
+              let first = one_other u k other in
+              omega arith)))
+        ]);
         gone = λ u s. keeps u (r.gone u s);
       }
 
       pub retaining_kept : stays ≡ true → Retaining g data_of old f (record now { elements = with_value_at k after.now now.elements }) next f''
       retaining_kept keep = step ((k, after.now) ∷ []) (subst (λ b. RetainsOne g data_of f' (k, here.0) (cond b ((k, after.now) ∷ []) []) f'') keep one) kept_is
-          (λ u there none. r.for_good u there (ap (value_of u) now_here ∙ none_there u (r.left ++ (k, here.0) ∷ here.1)
-          (let gone = times_none u (r.left ++ (k, after.now) ∷ here.1) (sym (ap (value_of u) written) ∙ none) in
-          let sum = times-put u r.left (k, after.now) here.1 in
-          let before = times-put u r.left (k, here.0) here.1 in
-          omega arith)))
-          (λ u spent. spent)
+          (λ none. absurd (let some = written_stands in let h = sym (ap is_some none) ∙ some in cc)) (λ u spent. spent)
 
       pub retaining_dropped : {new : Sequence T} → stays ≡ false → new.elements ≡ without k (with_value_at k after.now now.elements) → IsSpent new.cursors k → KeepsSpent now.cursors new.cursors
           → Retaining g data_of old f new next f''
-      retaining_dropped {new} drop removed spent keeps = step [] (subst (λ b. RetainsOne g data_of f' (k, here.0) (cond b ((k, after.now) ∷ []) []) f'') drop one)
-          (dropped_is removed ∙ ap (λ l. l ++ here.1) (sym (append-nil r.left)))
-          (λ u there none. elim (still_absent r.left k here.0 here.1 u (sym (ap (value_of u) (dropped_is removed)) ∙ none)) [
-            | inl is_k ↦ subst (IsSpent new.cursors) (sym is_k) spent
-            | inr absent ↦ keeps u (r.for_good u there (ap (value_of u) now_here ∙ absent))
-          ])
-          keeps
+      retaining_dropped drop removed spent keeps = step [] (subst (λ b. RetainsOne g data_of f' (k, here.0) (cond b ((k, after.now) ∷ []) []) f'') drop one)
+          (dropped_is removed ∙ ap (λ l. l ++ here.1) (sym (append-nil r.left))) (λ _. spent) keeps
 
 -- a closure that can always be called
 module _ {F K T : Type 0} (g : Mut F (K × (MutBor T × Unit {0})) (Bool × (MutBor T × Unit {0}))) (data_of : K → Key) where

@@ -4,7 +4,7 @@ ghost use Rattle.std.specs.Prelude.{◌≡◌, ◌<◌, IsOk, IfSome, IfOk, IfEr
 ghost use Rattle.std.specs.Option.{option_map};
 ghost use Rattle.std.specs.FinMap as map;
 ghost use Rattle.slotmap.specs.Words.{IsLive, Inserts, MayGrow, without_values};
-ghost use Rattle.slotmap_list.specs.Chain.{with_link, outer, HasNeighbours, Relinks, Unlinks, Links};
+ghost use Rattle.slotmap_list.specs.Chain.{with_link, outer, BothStand, HasNeighbours, Relinks, Unlinks, Links};
 ghost use Rattle.slotmap_list.specs.Neighbours.{gap_beside};
 ghost use Rattle.slotmap_list.specs.Refused.{RefusesPush};
 
@@ -57,8 +57,7 @@ pub(crate) fn relink<T: Drop>(
     on: Neighbour,
     back: Neighbour,
 )
-    requires prev_stands { IfSome prev (λ key. IsLive nodes.old key) }
-    requires next_stands { IfSome next (λ key. IsLive nodes.old key) }
+    requires { BothStand nodes.old.live prev next }
     ensures links { Relinks nodes.old.live first.old last.old prev next on back nodes.new.live first.new last.new }
     ensures keys { without_values nodes.new ≡ without_values nodes.old }
 {
@@ -126,8 +125,7 @@ pub(crate) fn link<T: Drop>(
     next: Neighbour,
 )
     requires stands { IsLive nodes.old key }
-    requires prev_stands { IfSome prev (λ other. IsLive nodes.old other) }
-    requires next_stands { IfSome next (λ other. IsLive nodes.old other) }
+    requires linked { BothStand nodes.old.live prev next }
     ensures links { Links nodes.old.live first.old last.old key prev next nodes.new.live first.new last.new }
     ensures keys { without_values nodes.new ≡ without_values nodes.old }
 {

@@ -195,8 +195,8 @@ impl<K: Key, T: Drop> StableList<K, T> {
         ensures { result ≡ is_move cursor place.now self.now.elements }
     {
         match place {
-            Place::Front => self.nodes.contains_key(cursor),
-            Place::Back => self.nodes.contains_key(cursor),
+            Place::Front => self.has(cursor),
+            Place::Back => self.has(cursor),
             Place::Beside(_, other) => self.has_two(cursor, *other),
         }
     }
@@ -205,12 +205,6 @@ impl<K: Key, T: Drop> StableList<K, T> {
     fn has_two(&self, cursor: DefaultKey, other: DefaultKey) -> bool
         ensures { result ≡ are_two cursor other self.now.elements }
     {
-        if cursor == other {
-            return false;
-        }
-        if !self.nodes.contains_key(cursor) {
-            return false;
-        }
-        self.nodes.contains_key(other)
+        cursor != other && self.has(cursor) && self.has(other)
     }
 }

@@ -24,13 +24,9 @@ link-requires-clause-stands g c =
     same_live _ _ c.unlink.ensures.keys c.args.cursor ∙ stands_here (shown c.self.invariant c.self.view_is) c.args.cursor
     ∙ mover_stands c.args.place c.args.cursor _ (sym c.can_move.ensures ∙ c.if-not-can_move.false)
 
-pub link-requires-clause-prev_stands : goal.link-requires-clause-prev_stands
-link-requires-clause-prev_stands g c =
-    (neighbours_placed (shown c.self.invariant c.self.view_is) c.unlink.ensures.unlinks c.args.place _ _ (sym c.can_move.ensures ∙ c.if-not-can_move.false) (sym c.in-Some.ensures)).0
-
-pub link-requires-clause-next_stands : goal.link-requires-clause-next_stands
-link-requires-clause-next_stands g c =
-    (neighbours_placed (shown c.self.invariant c.self.view_is) c.unlink.ensures.unlinks c.args.place _ _ (sym c.can_move.ensures ∙ c.if-not-can_move.false) (sym c.in-Some.ensures)).1
+pub link-requires-clause-linked : goal.link-requires-clause-linked
+link-requires-clause-linked g c =
+    neighbours_placed (shown c.self.invariant c.self.view_is) c.unlink.ensures.unlinks c.args.place _ _ (sym c.can_move.ensures ∙ c.if-not-can_move.false) (sym c.in-Some.ensures)
 
 pub invariant_of-self : goal.invariant_of-self
 invariant_of-self g c =

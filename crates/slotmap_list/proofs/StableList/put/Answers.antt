@@ -14,13 +14,8 @@ some-on-requires g c =
     let there = get-insert_here c.self.inside.nodes.live c.in_ok-key.key _ in
     live_not_null-reuses _ c.add.ensures.valid.after c.in_ok-key.key (rw c.in_ok-key.ensures.ok.live (ap is_some there))
 
-pub relink-requires-clause-prev_stands : goal.relink-requires-clause-prev_stands
-relink-requires-clause-prev_stands g c =
-    (added_stands (shown c.self.invariant c.self.view_is) c.requires c.in_ok-key.key c.args.value c.in_ok-key.ensures.fresh (rw (c.copied.ensures, c.copied-2.ensures) at c.in_ok-key.ensures.ok.live)).0
-
-pub relink-requires-clause-next_stands : goal.relink-requires-clause-next_stands
-relink-requires-clause-next_stands g c =
-    (added_stands (shown c.self.invariant c.self.view_is) c.requires c.in_ok-key.key c.args.value c.in_ok-key.ensures.fresh (rw (c.copied.ensures, c.copied-2.ensures) at c.in_ok-key.ensures.ok.live)).1
+pub relink-requires : goal.relink-requires
+relink-requires g c = added_stands (shown c.self.invariant c.self.view_is) c.requires c.in_ok-key.key c.args.value c.in_ok-key.ensures.fresh (rw (c.copied.ensures, c.copied-2.ensures) at c.in_ok-key.ensures.ok.live)
 
 pub invariant_of-self-2 : goal.invariant_of-self-2
 invariant_of-self-2 g c =

@@ -17,13 +17,9 @@ pub returns-in_err-node-clause-removed : goal.returns-in_err-node-clause-removed
 returns-in_err-node-clause-removed g c =
     rw c.in_err-node.ensures.unchanged (ap (λ (s : Sequence _). s.elements) c.self.view_is ∙ without_absent (shown c.self.invariant c.self.view_is) c.args.cursor (sym (rw c.in_err-node.was at c.remove.ensures.value)))
 
-pub relink-requires-clause-prev_stands : goal.relink-requires-clause-prev_stands
-relink-requires-clause-prev_stands g c =
-    rw c.copied.ensures (removed_stands c.self.invariant c.args.cursor c.in_ok-node.node (sym (rw c.in_ok-node.was at c.remove.ensures.value)) c.in_ok-node.ensures.removes.live).0
-
-pub relink-requires-clause-next_stands : goal.relink-requires-clause-next_stands
-relink-requires-clause-next_stands g c =
-    rw c.copied-2.ensures (removed_stands c.self.invariant c.args.cursor c.in_ok-node.node (sym (rw c.in_ok-node.was at c.remove.ensures.value)) c.in_ok-node.ensures.removes.live).1
+pub relink-requires : goal.relink-requires
+relink-requires g c =
+    rw (c.copied.ensures, c.copied-2.ensures) (removed_stands c.self.invariant c.args.cursor c.in_ok-node.node (sym (rw c.in_ok-node.was at c.remove.ensures.value)) c.in_ok-node.ensures.removes.live)
 
 pub invariant_of-self-2 : goal.invariant_of-self-2
 invariant_of-self-2 g c =

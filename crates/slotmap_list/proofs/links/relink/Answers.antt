@@ -5,7 +5,7 @@ use Rattle.slotmap_list.proofs.Rows.{if_some_so}
 use Rattle.slotmap_list.proofs.links.relink.Goals as goal
 
 pub set_link-requires-2 : goal.set_link-requires-2
-set_link-requires-2 g c = if_some_so (λ k. map.contains_key c.args.nodes.now.live k ≡ true) _ c.args.next (λ k there. same_live _ _ c.set_link.ensures.keys k ∙ there) c.requires.next_stands
+set_link-requires-2 g c = if_some_so (λ k. map.contains_key c.args.nodes.now.live k ≡ true) _ c.args.next (λ k there. same_live _ _ c.set_link.ensures.keys k ∙ there) c.requires.1
 
 pub returns-clause-links : goal.returns-clause-links
 returns-clause-links g c = rw (c.set_link-2.ensures.nodes, c.set_link.ensures.nodes, c.set_link.ensures.end, c.set_link-2.ensures.end)
