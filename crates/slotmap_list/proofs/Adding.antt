@@ -102,13 +102,3 @@ module _ {T : Type 0} where
       | inr gone ↦ inr (keeps_other u gone)
     ];
   }
-
-  pub moving_end : (old old_other now other : Sequence T) → Moving old old_other now other → other.elements ≡ [] → Adds old.elements (values old_other.elements) now.elements
-  moving_end old old_other now other m empty =
-      subst (λ vs. Adds old.elements vs now.elements) (sym (append-nil m.moved) ∙ ap (λ l. m.moved ++ values l) (sym empty) ∙ m.ahead) m.adds
-
-  pub moving_spent : (old old_other now other : Sequence T) → Moving old old_other now other → other.elements ≡ [] → (k : Key) → IsSome (value_of k old_other.elements) → IsSpent other.cursors k
-  moving_spent old old_other now other m empty k there = elim (m.taken k there) [
-    | inl here ↦ absurd (let none = ap (value_of k) empty in let some = subst (λ o. IsSome o) none here in cc)
-    | inr spent ↦ spent
-  ]

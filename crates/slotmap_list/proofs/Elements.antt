@@ -61,34 +61,24 @@ module _ {T : Type 0} where
 
   pub times_none : (q : Key) (es : List (Key × T)) → value_of q es ≡ None → times q es ≡ 0
   times_none q [] none = refl
-  times_none q (e ∷ es) none =
-      let parts = cond_none (same q e.0) e.1 (value_of q es) none in
-      let rest = times_none q es parts.1 in
-      let first = one_other q e.0 (untied keys_total exact_keys q e.0 parts.0) in
-      omega arith
+  times_none q (e ∷ es) none = grind (arith, times_none q es, one_other q e.0, untied keys_total exact_keys q e.0)
 
   pub none_there : (q : Key) (es : List (Key × T)) → times q es ≡ 0 → value_of q es ≡ None
   none_there q [] none = refl
-  none_there q (e ∷ es) none = by_key (λ b. cond b (Some e.1) (value_of q es) ≡ None) q e.0
-      (λ is. absurd (let first = ap (one q) (sym is) ∙ one_itself q in omega arith)) (λ _ _. none_there q es (omega arith))
+  none_there q (e ∷ es) none = grind (arith, none_there q es, one_itself q, tied keys_total exact_keys q e.0)
 
   pub times_some : (q : Key) (es : List (Key × T)) → IsSome (value_of q es) → 0 < times q es
   times_some q [] some = absurd (cc)
-  times_some q (e ∷ es) some = by_key (λ b. IsSome (cond b (Some e.1) (value_of q es)) → 0 < one q e.0 + times q es) q e.0
-      (λ is _. (let first = ap (one q) (sym is) ∙ one_itself q in omega arith)) (λ _ _ there. (let rest = times_some q es there in omega arith)) some
+  times_some q (e ∷ es) some = grind (arith, times_some q es, one_itself q, tied keys_total exact_keys q e.0)
 
   pub some_there : (q : Key) (es : List (Key × T)) → 0 < times q es → IsSome (value_of q es)
   some_there q [] more = absurd (omega arith)
-  some_there q (e ∷ es) more = by_key (λ b. IsSome (cond b (Some e.1) (value_of q es))) q e.0
-      (λ _. refl) (λ other _. some_there q es (let first = one_other q e.0 other in omega arith))
+  some_there q (e ∷ es) more = grind (arith, some_there q es, one_other q e.0, untied keys_total exact_keys q e.0)
 
   -- no key stands twice
   pub at_most_once : (es : List (Key × T)) → IsOnce es → (q : Key) → times q es ≤ 1
   at_most_once [] once q = omega arith
-  at_most_once (e ∷ es) once q = elim (same_or_other q e.0) [
-    | inl is ↦ (let none = ap (λ k. times k es) is ∙ times_none e.0 es once.0 in let first = ap (one q) (sym is) ∙ one_itself q in omega arith)
-    | inr other ↦ (let rest = at_most_once es once.1 q in let first = one_other q e.0 other in omega arith)
-  ]
+  at_most_once (e ∷ es) once q = grind (arith, at_most_once es once.1 q, times_none e.0 es once.0, one_itself q, one_other q e.0, same_or_other q e.0)
 
   pub once_if : (es : List (Key × T)) → ((q : Key) → times q es ≤ 1) → IsOnce es
   once_if [] few = tt
@@ -106,13 +96,7 @@ module _ {T : Type 0} where
   once_drop ys e zs once = once_if (ys ++ zs) (λ q. (let few = at_most_once (ys ++ e ∷ zs) once q in let sum = times-put q ys e zs in omega arith))
 
   pub once_put : (ys : List (Key × T)) (k : Key) (v : T) (zs : List (Key × T)) → IsOnce (ys ++ zs) → times k (ys ++ zs) ≡ 0 → IsOnce (ys ++ (k, v) ∷ zs)
-  once_put ys k v zs once none = once_if (ys ++ (k, v) ∷ zs) (λ q.
-      let few = at_most_once (ys ++ zs) once q in
-      let sum = times-put q ys (k, v) zs in
-      elim (same_or_other q k) [
-        | inl is ↦ (let gone = ap (λ j. times j (ys ++ zs)) is ∙ none in let first = ap (one q) (sym is) ∙ one_itself q in omega arith)
-        | inr other ↦ (let first = one_other q k other in omega arith)
-      ])
+  once_put ys k v zs once none = once_if (ys ++ (k, v) ∷ zs) (λ q. grind (arith, at_most_once (ys ++ zs) once q, times-put q ys (k, v) zs, one_itself q, one_other q k, same_or_other q k))
 
   -- the ends of a list
   pub first_or-append : (xs ys : List (Key × T)) (o : Option Key) → first_or (xs ++ ys) o ≡ first_or xs (first_or ys o)

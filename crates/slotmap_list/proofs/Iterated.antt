@@ -25,89 +25,63 @@ module _ {T : Type 0} where
   back_split (x ∷ []) more = ([], x, refl)
   back_split (x ∷ y ∷ xs) more = let rest = back_split (y ∷ xs) (omega arith) in (x ∷ rest.0, rest.1, ap (λ l. x ∷ l) rest.2)
 
-  module _ {nodes : Nodes T} {left : ℕ} {first last : Option Key} (w : IsWalk nodes left first last) where
-    -- following the links gives the elements that are left
-    walk_is : follow nodes left first ≡ w.ahead
-    walk_is = ap (λ n. follow nodes n first) w.left_is ∙ ap (follow nodes (length w.ahead)) w.first_is ∙ follow_is nodes w.prev w.next w.ahead w.nodes_are
+  -- following the links gives the elements that are left
+  walk_left : {nodes : Nodes T} {left : ℕ} {first last : Option Key} (w : IsWalk nodes left first last) → follow nodes left first ≡ w.ahead
+  walk_left {nodes} {first = first} w = ap (λ n. follow nodes n first) w.left_is ∙ ap (follow nodes (length w.ahead)) w.first_is ∙ follow_is nodes w.prev w.next w.ahead w.nodes_are
 
-    pub walk_length : left ≡ length (follow nodes left first)
-    walk_length = w.left_is ∙ ap length (sym walk_is)
+  pub walk_length : {nodes : Nodes T} {left : ℕ} {first last : Option Key} → IsWalk nodes left first last → left ≡ length (follow nodes left first)
+  walk_length w = w.left_is ∙ ap length (sym (walk_left w))
 
-    module _ (more : 0 < left) where
-      front : (e : Key × T) × (es : List (Key × T)) × (w.ahead ≡ e ∷ es)
-      front = front_split w.ahead (let long = w.left_is in omega arith)
+  module _ {nodes : Nodes T} {left : ℕ} {first last : Option Key} (w : IsWalk nodes left first last) (more : 0 < left) where
+    -- the element at the front is passed: a walk is left, and what was left is that element and the rest
+    pub walk_next : (k : Key) (node : Node T) → map.get nodes k ≡ Some node → first ≡ Some k → IsWalk nodes (left - 1) node.next last × (follow nodes left first ≡ (k, node.value) ∷ follow nodes (left - 1) node.next)
+    walk_next k node found at =
+        let f = front_split w.ahead (let long = w.left_is in omega arith) in
+        let all = subst (λ l. AreNodes nodes w.prev l w.next) f.2 w.nodes_are in
+        let name : f.0.0 ≡ k = (let e = sym (w.first_is ∙ ap (λ l. first_or l w.next) f.2) ∙ at in cc) in
+        let is : node ≡ record { value = f.0.1; prev = w.prev; next = first_or f.1 w.next } = (let e = sym found ∙ ap (map.get nodes) (sym name) ∙ all.0 in cc) in
+        let rest : IsWalk nodes (left - 1) node.next last = record {
+          prev = Some f.0.0;
+          ahead = f.1;
+          next = w.next;
+          nodes_are = all.1;
+          left_is = (let long = w.left_is ∙ ap length f.2 in omega arith);
+          first_is = ap (λ n. n.next) is;
+          last_is = w.last_is ∙ ap (λ l. last_or l w.prev) f.2;
+        } in
+        (rest, walk_left w ∙ f.2 ∙ (λ i. (name i, sym (ap (λ n. n.value) is) i) ∷ sym (walk_left rest) i))
 
-      front_nodes : AreNodes nodes w.prev (front.0 ∷ front.1) w.next
-      front_nodes = subst (λ l. AreNodes nodes w.prev l w.next) front.2 w.nodes_are
+    back : (ys : List (Key × T)) × (e : Key × T) × (w.ahead ≡ ys ++ e ∷ [])
+    back = back_split w.ahead (let long = w.left_is in omega arith)
 
-      back : (ys : List (Key × T)) × (e : Key × T) × (w.ahead ≡ ys ++ e ∷ [])
-      back = back_split w.ahead (let long = w.left_is in omega arith)
+    back_nodes : AreNodes nodes w.prev (back.0 ++ back.1 ∷ []) w.next
+    back_nodes = subst (λ l. AreNodes nodes w.prev l w.next) back.2 w.nodes_are
 
-      back_nodes : AreNodes nodes w.prev (back.0 ++ back.1 ∷ []) w.next
-      back_nodes = subst (λ l. AreNodes nodes w.prev l w.next) back.2 w.nodes_are
+    -- an end is there as long as elements are left, and it has a node
+    pub walk_last : (k : Key) × (node : Node T) × (last ≡ Some k) × (map.get nodes k ≡ Some node)
+    walk_last = (
+      back.1.0,
+      record { value = back.1.1; prev = last_or back.0 w.prev; next = w.next },
+      w.last_is ∙ ap (λ l. last_or l w.prev) back.2 ∙ last_or-append back.0 (back.1 ∷ []) w.prev,
+      (nodes_right nodes w.prev w.next back.0 (back.1 ∷ []) back_nodes).0,
+    )
 
-      back_at : last ≡ Some back.1.0
-      back_at = w.last_is ∙ ap (λ l. last_or l w.prev) back.2 ∙ last_or-append back.0 (back.1 ∷ []) w.prev
-
-      back_node : map.get nodes back.1.0 ≡ Some (record { value = back.1.1; prev = last_or back.0 w.prev; next = w.next })
-      back_node = (nodes_right nodes w.prev w.next back.0 (back.1 ∷ []) back_nodes).0
-
-      -- an end is there as long as elements are left, and it has a node
-      pub walk_last : (k : Key) × (node : Node T) × (last ≡ Some k) × (map.get nodes k ≡ Some node)
-      walk_last = (back.1.0, record { value = back.1.1; prev = last_or back.0 w.prev; next = w.next }, back_at, back_node)
-
-      module _ (k : Key) (node : Node T) (found : map.get nodes k ≡ Some node) where
-        -- the element at the front is passed
-        module _ (at : first ≡ Some k) where
-          front_name : front.0.0 ≡ k
-          front_name = let e = sym (w.first_is ∙ ap (λ l. first_or l w.next) front.2) ∙ at in (cc)
-
-          front_is : node ≡ record { value = front.0.1; prev = w.prev; next = first_or front.1 w.next }
-          front_is = let e = sym found ∙ ap (map.get nodes) (sym front_name) ∙ front_nodes.0 in (cc)
-
-          pub walk_next : IsWalk nodes (left - 1) node.next last
-          walk_next = record {
-            prev = Some front.0.0;
-            ahead = front.1;
-            next = w.next;
-            nodes_are = front_nodes.1;
-            left_is = (let long = w.left_is ∙ ap length front.2 in omega arith);
-            first_is = ap (λ n. n.next) front_is;
-            last_is = w.last_is ∙ ap (λ l. last_or l w.prev) front.2;
-          }
-
-        -- the element at the back is passed
-        module _ (at : last ≡ Some k) where
-          back_name : back.1.0 ≡ k
-          back_name = let e = sym back_at ∙ at in (cc)
-
-          back_is : node ≡ record { value = back.1.1; prev = last_or back.0 w.prev; next = w.next }
-          back_is = let e = sym found ∙ ap (map.get nodes) (sym back_name) ∙ back_node in (cc)
-
-          pub walk_back : IsWalk nodes (left - 1) first node.prev
-          walk_back = record {
-            prev = w.prev;
-            ahead = back.0;
-            next = Some back.1.0;
-            nodes_are = nodes_left nodes w.prev w.next back.0 (back.1 ∷ []) back_nodes;
-            left_is = (let long = w.left_is ∙ ap length back.2 ∙ length-append back.0 (back.1 ∷ []) in omega arith);
-            first_is = w.first_is ∙ ap (λ l. first_or l w.next) back.2 ∙ first_or-append back.0 (back.1 ∷ []) w.next;
-            last_is = ap (λ n. n.prev) back_is;
-          }
-
-  -- what was left is the element that was passed, and what is left then
-  module _ {nodes : Nodes T} {left : ℕ} {first last : Option Key} (w : IsWalk nodes left first last) (more : 0 < left) (k : Key) (node : Node T) (found : map.get nodes k ≡ Some node) where
-    pub walk_next_is : first ≡ Some k → follow nodes left first ≡ (k, node.value) ∷ follow nodes (left - 1) node.next
-    unfolding walk_next
-    walk_next_is at =
-        walk_is w ∙ (front w more).2 ∙ ap (λ (e : Key × T). e ∷ (front w more).1) (λ i. (front_name w more k node found at i, sym (ap (λ n. n.value) (front_is w more k node found at)) i))
-        ∙ ap (λ l. (k, node.value) ∷ l) (sym (walk_is (walk_next w more k node found at)))
-
-    pub walk_back_is : last ≡ Some k → follow nodes left first ≡ follow nodes (left - 1) first ++ (k, node.value) ∷ []
-    unfolding walk_back
-    walk_back_is at =
-        walk_is w ∙ (back w more).2 ∙ ap (λ (e : Key × T). (back w more).0 ++ e ∷ []) (λ i. (back_name w more k node found at i, sym (ap (λ n. n.value) (back_is w more k node found at)) i))
-        ∙ ap (λ l. l ++ (k, node.value) ∷ []) (sym (walk_is (walk_back w more k node found at)))
+    -- the element at the back is passed
+    pub walk_back : (k : Key) (node : Node T) → map.get nodes k ≡ Some node → last ≡ Some k → IsWalk nodes (left - 1) first node.prev × (follow nodes left first ≡ follow nodes (left - 1) first ++ (k, node.value) ∷ [])
+    unfolding walk_last
+    walk_back k node found at =
+        let name : back.1.0 ≡ k = (let e = sym walk_last.2 ∙ at in cc) in
+        let is : node ≡ record { value = back.1.1; prev = last_or back.0 w.prev; next = w.next } = (let e = sym found ∙ ap (map.get nodes) (sym name) ∙ walk_last.3 in cc) in
+        let rest : IsWalk nodes (left - 1) first node.prev = record {
+          prev = w.prev;
+          ahead = back.0;
+          next = Some back.1.0;
+          nodes_are = nodes_left nodes w.prev w.next back.0 (back.1 ∷ []) back_nodes;
+          left_is = (let long = w.left_is ∙ ap length back.2 ∙ length-append back.0 (back.1 ∷ []) in omega arith);
+          first_is = w.first_is ∙ ap (λ l. first_or l w.next) back.2 ∙ first_or-append back.0 (back.1 ∷ []) w.next;
+          last_is = ap (λ n. n.prev) is;
+        } in
+        (rest, walk_left w ∙ back.2 ∙ (λ i. sym (walk_left rest) i ++ (name i, sym (ap (λ n. n.value) is) i) ∷ []))
 
 -- what the first step of an iterator yields, from either end
 module _ {A B : Type 0} (view : A → B) where

@@ -15,16 +15,7 @@ use Rattle.slotmap_list.proofs.Places.{gap_front, gap_back, gap_side, put_side, 
 use Rattle.slotmap_list.proofs.Callers.{without_other}
 
 three : (a b c : Bool) → (not a && (b && c)) ≡ true → (a ≡ false) × (b ≡ true) × (c ≡ true)
-three true b c is = absurd (cc)
-three false false c is = absurd (cc)
-three false true false is = absurd (cc)
-three false true true is = (refl, refl, refl)
-
-pub not_two : (s a b : Bool) → a ≡ false → false ≡ (not s && (a && b))
-not_two s a b none = grind arith
-
-pub both_two : (s a b r : Bool) → s ≡ false → a ≡ true → r ≡ b → r ≡ (not s && (a && b))
-both_two s a b r apart there is = grind arith
+three a b c is = grind arith
 
 module _ {T : Type 0} where
   -- what the model of a list is, by its parts

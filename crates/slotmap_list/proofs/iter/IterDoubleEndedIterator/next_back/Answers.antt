@@ -1,7 +1,7 @@
 use Rattle.std.proofs.Common.{◌≡◌, ◌-◌, [], ◌∷◌, length, length-append, sym, ap, ◌∙◌, arith}
 use Rattle.std.specs.FinMap as map
 use Rattle.slotmap_list.specs.Chain.{follow}
-use Rattle.slotmap_list.proofs.Iterated.{walk_last, walk_back, walk_back_is}
+use Rattle.slotmap_list.proofs.Iterated.{walk_last, walk_back}
 use Rattle.slotmap_list.proofs.iter.IterDoubleEndedIterator.next_back.Goals as goal
 
 -- as long as an element is left, the end has a node
@@ -19,11 +19,11 @@ returns-in_err-node-clause-steps g c =
 
 pub invariant_of-self : goal.invariant_of-self
 invariant_of-self g c =
-    rw c.get-self-inside.ensures.value (walk_back c.self.invariant (omega (arith, c.if-self-eq0.false)) _ _ (sym (rw c.in_ok-node.was at c.get.ensures.value)) c.in_ok-cursor.was)
+    rw c.get-self-inside.ensures.value (walk_back c.self.invariant (omega (arith, c.if-self-eq0.false)) _ _ (sym (rw c.in_ok-node.was at c.get.ensures.value)) c.in_ok-cursor.was).0
 
 pub returns-clause-steps : goal.returns-clause-steps
 returns-clause-steps g c =
-    rw c.outer.ensures (sym c.self.view_is ∙ walk_back_is c.self.invariant (omega (arith, c.if-self-eq0.false)) _ _ (sym (rw c.in_ok-node.was at c.get.ensures.value)) c.in_ok-cursor.was)
+    rw c.outer.ensures (sym c.self.view_is ∙ (walk_back c.self.invariant (omega (arith, c.if-self-eq0.false)) _ _ (sym (rw c.in_ok-node.was at c.get.ensures.value)) c.in_ok-cursor.was).1)
 
 pub returns-clause-goes : goal.returns-clause-goes
 returns-clause-goes g c =
