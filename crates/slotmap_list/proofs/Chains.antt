@@ -8,11 +8,11 @@ use Rattle.slotmap.proofs.Callers.{keys, keys_total, exact_keys, same_or_other, 
 use Rattle.slotmap_keylist.proofs.Alone.{len_alike}
 use Rattle.slotmap_keylist.proofs.Mapped.{some-mapped}
 use Rattle.slotmap_list.specs.declared.Node.{Node}
-use Rattle.slotmap_list.specs.Sequence.{Sequence, value_of, first_or, key_after, key_before, without, IsGap}
+use Rattle.slotmap_list.specs.Sequence.{Sequence, value_of, first_or, key_after, key_before, without}
 use Rattle.slotmap_list.specs.Chain.{Nodes, follow_node, follow, AreNodes, IsRow, IsChain, with_link, HasNeighbours, BothStand, Relinks, Unlinks, Links}
 use Rattle.slotmap_list.specs.declared.links.Side.TheVariants.{Before, After}
 use Rattle.slotmap_list.proofs.Elements.{one, one_itself, one_other, times, times-append, times-put, length-put, times_none, times_some, some_there, none_there, value_of-split, key_after-split, key_after-absent, key_before-split, key_before-absent, without-split, without-absent, first_in, last_in}
-use Rattle.slotmap_list.proofs.Rows.{row_stands, linked_other, IsSplit, split_at, neighbours_stand, row_without, both_so, gap_stands, row_with}
+use Rattle.slotmap_list.proofs.Rows.{row_stands, linked_other, IsGap, IsSplit, split_at, neighbours_stand, row_without, both_so, gap_stands, row_with}
 
 module _ {T : Type 0} where
   was_there : (nodes : Nodes T) (k q : Key) → map.contains_key (map.remove nodes k) q ≡ true → (q ≢ k) × (map.contains_key nodes q ≡ true)

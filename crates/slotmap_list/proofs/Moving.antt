@@ -3,15 +3,14 @@ use Rattle.std.proofs.Common.{◌≡◌, ◌≢◌, Bool, true, false, not, ◌&
 use Rattle.std.specs.Option.{option_map}
 use Rattle.std.specs.FinMap as map
 use Rattle.slotmap.specs.Words.{Key, same_keys, Content}
-use Rattle.slotmap_list.specs.declared.Node.{Node}
-use Rattle.slotmap_list.specs.Sequence.{Sequence, value_of, put_again, without, is_same, are_two, IsGap}
+use Rattle.slotmap_list.specs.Sequence.{Sequence, value_of, put_again, without, is_same, are_two}
 use Rattle.slotmap_list.specs.Chain.{Nodes, IsChain, BothStand, Unlinks, Links}
-use Rattle.slotmap_list.specs.Neighbours.{gap_beside, gap_at, insert_beside, is_move, moved_to}
-use Rattle.slotmap_list.specs.declared.moves.Place.{Place}
-use Rattle.slotmap_list.specs.declared.moves.Place.TheVariants.{Front, Back, Beside}
-use Rattle.slotmap_list.proofs.Rows.{split_at, gap_stands}
-use Rattle.slotmap_list.proofs.Chains.{value_found, in_nodes, others, moved_chain}
-use Rattle.slotmap_list.proofs.Places.{gap_front, gap_back, gap_side, put_side, beside_some}
+use Rattle.slotmap_list.specs.Neighbours.{gap_at, insert_beside, is_place, put_at, is_move, moved_to}
+use Rattle.slotmap_list.specs.declared.links.Place.{Place}
+use Rattle.slotmap_list.specs.declared.links.Place.TheVariants.{Front, Back, Beside}
+use Rattle.slotmap_list.proofs.Rows.{gap_stands}
+use Rattle.slotmap_list.proofs.Chains.{value_found, others, moved_chain}
+use Rattle.slotmap_list.proofs.Places.{place_in, place_there}
 use Rattle.slotmap_list.proofs.Callers.{without_other}
 
 three : (a b c : Bool) → (not a && (b && c)) ≡ true → (a ≡ false) × (b ≡ true) × (c ≡ true)
@@ -45,48 +44,31 @@ module _ {T : Type 0} where
   move_stays Back k xs none = stays (λ x rest. rest ++ x ∷ []) k (value_of k xs) xs none
   move_stays (Beside side other) k xs none = ap (λ b. if b then put_again (insert_beside side other) k (value_of k xs) xs else xs) (sym none)
 
+  -- a place to which k can move is a place among the others
+  place_left : (place : Place) (k : Key) (xs : List (Key × T)) → is_move k place xs ≡ true → is_place place (without k xs) ≡ true
+  place_left Front k xs can = refl
+  place_left Back k xs can = refl
+  place_left (Beside side other) k xs can = let they = two k other xs can in ap is_some (without_other k xs other they.0) ∙ they.2
+
+  put_there : (place : Place) (k : Key) (v : T) (xs : List (Key × T)) → is_move k place xs ≡ true → value_of k xs ≡ Some v → put_at place (k, v) (without k xs) ≡ moved_to place k xs
+  put_there Front k v xs can is = ap (λ o. put_again (λ x rest. x ∷ rest) k o xs) (sym is)
+  put_there Back k v xs can is = ap (λ o. put_again (λ x rest. rest ++ x ∷ []) k o xs) (sym is)
+  put_there (Beside side other) k v xs can is =
+      ap (λ o. put_again (insert_beside side other) k o xs) (sym is) ∙ ap (λ b. if b then put_again (insert_beside side other) k (value_of k xs) xs else xs) (sym can)
+
   -- `mid` has the nodes once the element was linked out
   module _ {nodes mid : Nodes T} {first last mid_first mid_last : Option Key} {xs : List (Key × T)} {k : Key}
-      (chain : IsChain nodes first last xs) (out : Unlinks nodes first last k mid mid_first mid_last) where
-    -- the place to which it moves is a place among the others, and what is put there is the list once it moved
-    record Placed (place : Place) (prev next : Option Key) : Type 0 where
-      gap : IsGap (without k xs) prev next
-      put : gap.before ++ (k, out.node.value) ∷ gap.after ≡ moved_to place k xs
+      (chain : IsChain nodes first last xs) (out : Unlinks nodes first last k mid mid_first mid_last) (place : Place) (can : is_move k place xs ≡ true) where
+    pub move_there : gap_at mid mid_first mid_last place ≡ None → ⊥
+    move_there none = place_there (others chain out) place (place_left place k xs can) none
 
-    again : (put : Key × T → List (Key × T) → List (Key × T)) → put (k, out.node.value) (without k xs) ≡ put_again put k (value_of k xs) xs
-    again put = ap (λ o. put_again put k o xs) (ap (option_map (λ n. n.value)) (sym out.found) ∙ value_found chain k)
-
-    placed_as : (place : Place) (p : Option Key × Option Key) (prev next : Option Key) → Some p ≡ Some (prev, next) → Placed place p.0 p.1 → Placed place prev next
-    placed_as place p prev next is placed = let e : p ≡ (prev, next) = cc in subst (λ (q : Option Key × Option Key). Placed place q.0 q.1) e placed
-
-    placed : (place : Place) (prev next : Option Key) → is_move k place xs ≡ true → gap_at mid mid_first mid_last place ≡ Some (prev, next) → Placed place prev next
-    placed Front prev next can is = placed_as Front (None, mid_first) prev next is (record { gap = gap_front _ _ (others chain out).first_is; put = again (λ x rest. x ∷ rest) })
-    placed Back prev next can is = placed_as Back (mid_last, None) prev next is (record { gap = gap_back _ _ (others chain out).last_is; put = again (λ x rest. rest ++ x ∷ []) })
-    placed (Beside side other) prev next can is =
-        let row = others chain out in
-        let they = two k other xs can in
-        let found = beside_some (map.get mid other) side other prev next is in
-        let gap = gap_side (without k xs) side other found.0 (split_at row other found.0 found.1 (ap is_some (without_other k xs other they.0) ∙ they.2)) in
-        placed_as (Beside side other) (gap_beside side other found.0) prev next (ap Some found.2) (record {
-          gap = gap;
-          put = put_side (without k xs) _ side other found.0 (k, out.node.value) row.once (record { gap = gap; put = refl })
-              ∙ again (insert_beside side other) ∙ ap (λ b. if b then put_again (insert_beside side other) k (value_of k xs) xs else xs) (sym can);
-        })
-
-    module _ (place : Place) (prev next : Option Key) (can : is_move k place xs ≡ true) (is : gap_at mid mid_first mid_last place ≡ Some (prev, next)) where
+    module _ {prev next : Option Key} (is : gap_at mid mid_first mid_last place ≡ Some (prev, next)) where
       pub neighbours_placed : BothStand mid prev next
-      neighbours_placed = gap_stands (others chain out) (placed place prev next can is).gap
+      neighbours_placed = gap_stands (others chain out) (place_in (others chain out) place prev next (place_left place k xs can) is).gap
 
       pub chain_moved : {new : Nodes T} {new_first new_last : Option Key} → Links mid mid_first mid_last k prev next new new_first new_last
           → ((q : Key) → map.contains_key new q ≡ map.contains_key nodes q) → IsChain new new_first new_last (moved_to place k xs)
-      chain_moved {new} {new_first} {new_last} into alike = let at = placed place prev next can is in subst (IsChain new new_first new_last) at.put (moved_chain chain out at.gap into alike)
-
-    -- the place is there
-    pub place_there : (place : Place) → is_move k place xs ≡ true → ((q : Key) → map.contains_key mid q ≡ map.contains_key nodes q) → gap_at mid mid_first mid_last place ≡ None → ⊥
-    place_there Front can alike none = cc
-    place_there Back can alike none = cc
-    place_there (Beside side other) can alike none = by (map.get mid other) none (alike other ∙ in_nodes chain other (two k other xs can).2)
-      where
-        by : (o : Option (Node T)) → option_map (gap_beside side other) o ≡ None → is_some o ≡ true → ⊥
-        by None none there = cc
-        by (Some node) none there = cc
+      chain_moved {new} {new_first} {new_last} into alike =
+          let at = place_in (others chain out) place prev next (place_left place k xs can) is in
+          let value = sym (value_found chain k) ∙ ap (option_map (λ n. n.value)) out.found in
+          subst (IsChain new new_first new_last) (at.put (k, out.node.value) ∙ put_there place k out.node.value xs can value) (moved_chain chain out at.gap into alike)

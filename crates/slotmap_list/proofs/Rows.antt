@@ -7,7 +7,7 @@ use Rattle.slotmap.proofs.Callers.{same_or_other, get-insert_here, get-insert_ot
 use Rattle.slotmap_list.specs.declared.Node.{Node}
 use Rattle.slotmap_list.specs.declared.links.Side.{Side}
 use Rattle.slotmap_list.specs.declared.links.Side.TheVariants.{Before, After}
-use Rattle.slotmap_list.specs.Sequence.{value_of, first_or, last_or, without, IsOnce, IsGap}
+use Rattle.slotmap_list.specs.Sequence.{value_of, first_or, last_or, without, IsOnce}
 use Rattle.slotmap_list.specs.Chain.{Nodes, AreNodes, IsRow, link_to, with_link, with_link_of, outer, BothStand, Relinks}
 use Rattle.slotmap_list.proofs.Elements.{one_itself, one_other, times, times-append, times-parts, times_none, times_some, at_most_once, once_if, once_drop, once_put, absent_before, first_or-append, last_or-append, first_in, last_in, parts_at, without-split}
 
@@ -129,6 +129,14 @@ module _ {T : Type 0} where
     if_some (λ q. map.contains_key nodes q ≡ true) prev (λ q is. row_stands nodes None n ys q left (last_in ys q (before ∙ is))),
     if_some (λ q. map.contains_key nodes q ≡ true) next (λ q is. row_stands nodes p None zs q right (first_in zs q (after ∙ is))),
   )
+
+  -- the place between these two neighbours is somewhere in the list
+  pub record IsGap (xs : List (Key × T)) (prev next : Option Key) : Type 0 where
+    pub before : List (Key × T)
+    pub after : List (Key × T)
+    pub list : xs ≡ before ++ after
+    pub prev_is : last_or before None ≡ prev
+    pub next_is : first_or after None ≡ next
 
   -- where the element of a node stands, and what is before it and after it
   pub record IsSplit (xs : List (Key × T)) (k : Key) (node : Node T) : Type 0 where

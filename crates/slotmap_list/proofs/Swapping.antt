@@ -4,7 +4,7 @@ use Rattle.std.proofs.Math.Nat.{eq-zero-or-pos}
 use Rattle.slotmap.specs.Words.{Key, same_keys}
 use Rattle.slotmap_list.specs.declared.links.Side.{Side}
 use Rattle.slotmap_list.specs.declared.links.Side.TheVariants.{Before, After}
-use Rattle.slotmap_list.specs.declared.moves.Place.TheVariants.{Back, Beside}
+use Rattle.slotmap_list.specs.declared.links.Place.TheVariants.{Back, Beside}
 use Rattle.slotmap_list.specs.Sequence.{Sequence, value_of, first_or, key_after, put_again, is_same, are_two, IsOnce, Swaps}
 use Rattle.slotmap_list.specs.Neighbours.{insert_beside, moved_to, before_or_back}
 use Rattle.slotmap_list.proofs.Elements.{one, one_itself, one_other, times, times-append, times-put, times_some, some_there, at_most_once, once_if, absent_before, once_drop, parts_at}

@@ -115,16 +115,3 @@ module _ {T : Type 0} where
   abbrev pub IsOnce : List (Key × T) → Type 0
   IsOnce [] = Unit {0}
   IsOnce (e ∷ es) = (value_of e.0 es ≡ None) × IsOnce es
-
-  -- the place between these two neighbours is somewhere in the list
-  pub record IsGap (es : List (Key × T)) (prev next : Option Key) : Type 0 where
-    pub before : List (Key × T)
-    pub after : List (Key × T)
-    pub list : es ≡ before ++ after
-    pub prev_is : last_or before None ≡ prev
-    pub next_is : first_or after None ≡ next
-
-  -- an element was put into a place between these two neighbours
-  pub record PutsBetween (old : List (Key × T)) (prev next : Option Key) (x : Key × T) (new : List (Key × T)) : Type 0 where
-    pub gap : IsGap old prev next
-    pub put : new ≡ gap.before ++ x ∷ gap.after

@@ -4,36 +4,12 @@ ghost use Rattle.std.specs.Prelude.{◌≡◌, true, false, IsTrue, is_some, if�
 ghost use Rattle.std.specs.Borrow.{sem};
 ghost use Rattle.std.specs.Option.{option_copied_mut};
 ghost use Rattle.slotmap_list.specs.Sequence.{value_of, moved_to_front, moved_to_back, moved_after, moved_before, are_two, Swaps};
-ghost use Rattle.slotmap_list.specs.Neighbours.{gap_at, is_move, moved_to, before_or_back};
+ghost use Rattle.slotmap_list.specs.Neighbours.{is_move, moved_to, before_or_back};
 
 use crate::StableList;
-use crate::links::{Neighbour, Nodes, Side, beside, link, unlink};
+use crate::links::{Place, Side, gap, link, unlink};
 use slotmap::{DefaultKey, Key};
-use slotmap_keylist::{KeyOrNull, inner};
-
-// A place in a list: at an end, or on a side of an element.
-#[derive(Drop)]
-enum Place {
-    Front,
-    Back,
-    Beside(Side, DefaultKey),
-}
-
-// The neighbours of a place, or `None` if it isn't there.
-fn gap<T: Drop>(
-    nodes: &Nodes<T>,
-    first: &Neighbour,
-    last: &Neighbour,
-    place: Place,
-) -> Option<(Neighbour, Neighbour)>
-    ensures { result ≡ gap_at nodes.now.live first.now last.now place }
-{
-    match place {
-        Place::Front => Some((KeyOrNull::none(), first.copied())),
-        Place::Back => Some((last.copied(), KeyOrNull::none())),
-        Place::Beside(side, key) => beside(nodes, side, key),
-    }
-}
+use slotmap_keylist::inner;
 
 // The place before a key, or the back if there is none.
 fn place_before(next: Option<DefaultKey>) -> Place

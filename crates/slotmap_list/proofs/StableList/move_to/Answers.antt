@@ -2,7 +2,7 @@ use Rattle.std.proofs.Common.{refl, sym, ap, ◌∙◌}
 use Rattle.slotmap_keylist.proofs.Alone.{same_live}
 use Rattle.slotmap_list.specs.Sequence.{Sequence}
 use Rattle.slotmap_list.proofs.Chains.{chain_is, self_chain, stands_here, neighbours, shown}
-use Rattle.slotmap_list.proofs.Moving.{mover_stands, move_stays, place_there, neighbours_placed, chain_moved, seen_as}
+use Rattle.slotmap_list.proofs.Moving.{mover_stands, move_stays, move_there, neighbours_placed, chain_moved, seen_as}
 use Rattle.slotmap_list.proofs.StableList.move_to.Goals as goal
 
 pub returns-then-not-can_move-clause-moved : goal.returns-then-not-can_move-clause-moved
@@ -17,7 +17,7 @@ unlink-requires-clause-linked g c = neighbours c.self.invariant c.args.cursor
 
 pub unreachable-requires : goal.unreachable-requires
 unreachable-requires g c =
-    place_there (shown c.self.invariant c.self.view_is) c.unlink.ensures.unlinks c.args.place (sym c.can_move.ensures ∙ c.if-not-can_move.false) (same_live _ _ c.unlink.ensures.keys) (sym c.in_default.ensures)
+    move_there (shown c.self.invariant c.self.view_is) c.unlink.ensures.unlinks c.args.place (sym c.can_move.ensures ∙ c.if-not-can_move.false) (sym c.in_default.ensures)
 
 pub link-requires-clause-stands : goal.link-requires-clause-stands
 link-requires-clause-stands g c =
@@ -26,14 +26,14 @@ link-requires-clause-stands g c =
 
 pub link-requires-clause-linked : goal.link-requires-clause-linked
 link-requires-clause-linked g c =
-    neighbours_placed (shown c.self.invariant c.self.view_is) c.unlink.ensures.unlinks c.args.place _ _ (sym c.can_move.ensures ∙ c.if-not-can_move.false) (sym c.in-Some.ensures)
+    neighbours_placed (shown c.self.invariant c.self.view_is) c.unlink.ensures.unlinks c.args.place (sym c.can_move.ensures ∙ c.if-not-can_move.false) (sym c.in-Some.ensures)
 
 pub invariant_of-self : goal.invariant_of-self
 invariant_of-self g c =
-    self_chain (chain_moved (shown c.self.invariant c.self.view_is) c.unlink.ensures.unlinks c.args.place _ _ (sym c.can_move.ensures ∙ c.if-not-can_move.false) (sym c.in-Some.ensures)
+    self_chain (chain_moved (shown c.self.invariant c.self.view_is) c.unlink.ensures.unlinks c.args.place (sym c.can_move.ensures ∙ c.if-not-can_move.false) (sym c.in-Some.ensures)
     c.link.ensures.links (same_live _ _ (c.link.ensures.keys ∙ c.unlink.ensures.keys)))
 
 pub returns-clause-moved : goal.returns-clause-moved
 returns-clause-moved g c =
-    seen_as c.args.self.now _ _ _ (chain_is (chain_moved (shown c.self.invariant c.self.view_is) c.unlink.ensures.unlinks c.args.place _ _ (sym c.can_move.ensures ∙ c.if-not-can_move.false) (sym c.in-Some.ensures)
+    seen_as c.args.self.now _ _ _ (chain_is (chain_moved (shown c.self.invariant c.self.view_is) c.unlink.ensures.unlinks c.args.place (sym c.can_move.ensures ∙ c.if-not-can_move.false) (sym c.in-Some.ensures)
     c.link.ensures.links (same_live _ _ (c.link.ensures.keys ∙ c.unlink.ensures.keys)))) (c.link.ensures.keys ∙ c.unlink.ensures.keys ∙ ap (λ (s : Sequence _). s.cursors) c.self.view_is)

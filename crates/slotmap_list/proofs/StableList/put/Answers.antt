@@ -6,8 +6,12 @@ use Rattle.slotmap_keylist.proofs.Alone.{alone-inserts, alone-keeps, gone_stays,
 use Rattle.slotmap_keylist.proofs.NotNull.{live_not_null-reuses}
 use Rattle.slotmap_list.specs.Sequence.{Sequence}
 use Rattle.slotmap_list.proofs.Adding.{used_inserted}
-use Rattle.slotmap_list.proofs.Chains.{value_found, put_chain, added_stands, self_chain, chain_is, shown}
+use Rattle.slotmap_list.proofs.Chains.{value_found, self_chain, chain_is, shown}
+use Rattle.slotmap_list.proofs.Places.{place_there, neighbours_put, chain_put}
 use Rattle.slotmap_list.proofs.StableList.put.Goals as goal
+
+pub unreachable-requires : goal.unreachable-requires
+unreachable-requires g c = place_there (shown c.self.invariant c.self.view_is).row c.args.place c.requires (sym c.in_default.ensures)
 
 pub some-on-requires : goal.some-on-requires
 some-on-requires g c =
@@ -15,19 +19,17 @@ some-on-requires g c =
     live_not_null-reuses _ c.add.ensures.valid.after c.in_ok-key.key (rw c.in_ok-key.ensures.ok.live (ap is_some there))
 
 pub relink-requires : goal.relink-requires
-relink-requires g c = added_stands (shown c.self.invariant c.self.view_is) c.requires c.in_ok-key.key c.args.value c.in_ok-key.ensures.fresh (rw (c.copied.ensures, c.copied-2.ensures) at c.in_ok-key.ensures.ok.live)
+relink-requires g c = neighbours_put (shown c.self.invariant c.self.view_is) c.args.place c.requires (sym c.in-Some.ensures) c.in_ok-key.key c.args.value c.in_ok-key.ensures.fresh (rw (c.copied.ensures, c.copied-2.ensures) at c.in_ok-key.ensures.ok.live)
 
 pub invariant_of-self-2 : goal.invariant_of-self-2
 invariant_of-self-2 g c =
-    self_chain (put_chain (shown c.self.invariant c.self.view_is) c.requires c.in_ok-key.key c.args.value c.in_ok-key.ensures.fresh
+    self_chain (chain_put (shown c.self.invariant c.self.view_is) c.args.place c.requires (sym c.in-Some.ensures) c.in_ok-key.key c.args.value c.in_ok-key.ensures.fresh
     (rw (c.copied.ensures, c.copied-2.ensures) at c.in_ok-key.ensures.ok.live) (rw (c.copied-back.ensures, c.some-on.ensures) at c.relink.ensures.links) (same_live _ _ c.relink.ensures.keys))
 
 pub returns-clause-ok : goal.returns-clause-ok
-returns-clause-ok g c = record {
-  gap = c.requires;
-  put = chain_is (put_chain (shown c.self.invariant c.self.view_is) c.requires c.in_ok-key.key c.args.value c.in_ok-key.ensures.fresh
-      (rw (c.copied.ensures, c.copied-2.ensures) at c.in_ok-key.ensures.ok.live) (rw (c.copied-back.ensures, c.some-on.ensures) at c.relink.ensures.links) (same_live _ _ c.relink.ensures.keys));
-}
+returns-clause-ok g c =
+    chain_is (chain_put (shown c.self.invariant c.self.view_is) c.args.place c.requires (sym c.in-Some.ensures) c.in_ok-key.key c.args.value c.in_ok-key.ensures.fresh
+    (rw (c.copied.ensures, c.copied-2.ensures) at c.in_ok-key.ensures.ok.live) (rw (c.copied-back.ensures, c.some-on.ensures) at c.relink.ensures.links) (same_live _ _ c.relink.ensures.keys))
 
 pub returns-clause-fresh : goal.returns-clause-fresh
 returns-clause-fresh g c = sym (value_found (shown c.self.invariant c.self.view_is) c.in_ok-key.key) ∙ ap (option_map (λ n. n.value)) c.in_ok-key.ensures.fresh
