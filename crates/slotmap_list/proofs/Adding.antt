@@ -1,19 +1,32 @@
 -- Many values that are added at the back.
 use Rattle.std.specs.FinMap as map
 use Rattle.std.specs.FinSet as set
-use Rattle.std.proofs.Common.{◌≡◌, ◌≤◌, ◌⊎◌, cond, List, [], ◌∷◌, ◌++◌, length, map as list_map, Some, IsSome, Result, Ok, Err, IsOk, IfOk, inl, inr, refl, sym, ap, subst, ◌∙◌, arith, append_assoc, append-nil}
-use Rattle.slotmap.specs.Words.{Key, Content, IsSpent, KeepsSpent, Inserts, Keeps}
+use Rattle.std.proofs.Common.{◌≡◌, ◌≤◌, ◌⊎◌, cond, List, [], ◌∷◌, ◌++◌, length, map as list_map, Some, None, is_some, ◌+◌, IsSome, Result, Ok, Err, IsOk, IfOk, inl, inr, refl, sym, ap, subst, ◌∙◌, arith, append_assoc, append-nil}
+use Rattle.slotmap.specs.Words.{Key, key_cmp, Content, IsNew, IsSpent, KeepsSpent, Inserts, Keeps, used}
+use Rattle.slotmap.proofs.Callers.{keys_total}
 use Rattle.slotmap_list.specs.Sequence.{Sequence, value_of, TakesFront}
 use Rattle.slotmap_list.specs.declared.PushError.{PushError}
 use Rattle.slotmap_list.specs.declared.PushError.TheVariants.{Full, Memory}
 use Rattle.slotmap_list.specs.Refused.{RefusesPush}
 use Rattle.slotmap_list.specs.Additions.{Adds, FullAtLimit, refused}
-use Rattle.slotmap_list.proofs.NodeLists.{by_key}
+use Rattle.slotmap_list.proofs.Elements.{by_key}
 
 -- what a call ensures of its result, where it succeeds
 pub ok_so : {A E : Type 0} (r : Result A E) (P Q : A → Type 0) → IsOk r → IfOk r P → IfOk r Q → (x : A) × P x × Q x
 ok_so (Ok x) P Q ok p q = (x, p, q)
 ok_so (Err e) P Q ok p q = absurd (cc)
+
+-- how many slots are in use: none in a new map, one more after an insert, and as many where a call keeps the content
+pub used_new : (c : Content (Unit {0})) → IsNew c → used c ≡ 0
+used_new c new = omega (arith, ap map.len new.live ∙ map.len-empty key_cmp (Unit {0}), ap set.len new.detached ∙ set.len-empty key_cmp, ap set.len new.retired ∙ set.len-empty key_cmp)
+
+pub used_inserted : {V : Type 0} (old new : Content V) (k : Key) (v : V) → map.get old.live k ≡ None → Inserts old k v new → used new ≡ used old + 1
+used_inserted old new k v fresh inserts =
+    let live = ap map.len inserts.live ∙ map.len-insert keys_total old.live k v ∙ ap (λ o. cond (is_some o) (map.len old.live) (map.len old.live + 1)) fresh in
+    omega (arith, live, ap set.len inserts.detached, ap set.len inserts.retired)
+
+pub used_kept : (old new : Content (Unit {0})) → Keeps old new → used new ≡ used old
+used_kept old new keeps = omega (arith, ap map.len keeps.live, ap set.len keeps.detached, ap set.len keeps.retired)
 
 module _ {T : Type 0} where
   pub refused_is : (cursors : Content (Unit {0})) (v : T) (error : PushError T) → RefusesPush cursors v error → refused error ≡ v
@@ -22,8 +35,8 @@ module _ {T : Type 0} where
 
   -- a refused push leaves as many keys as there were
   pub full_after : (old new : Content (Unit {0})) (v : T) (error : PushError T) → RefusesPush old v error → Keeps old new → FullAtLimit new error
-  full_after old new v (Full back) is keeps = omega (arith, is.0, ap map.len keeps.live, ap set.len keeps.detached, ap set.len keeps.retired)
-  full_after old new v (Memory back) is keeps = omega (arith, is.0.below_limit, ap map.len keeps.live, ap set.len keeps.detached, ap set.len keeps.retired)
+  full_after old new v (Full back) is keeps = omega (arith, is.0, used_kept old new keeps)
+  full_after old new v (Memory back) is keeps = omega (arith, is.0.below_limit, used_kept old new keeps)
 
   abbrev pub values : List (Key × T) → List T
   values es = list_map (λ e. e.1) es
@@ -89,13 +102,3 @@ module _ {T : Type 0} where
       | inr gone ↦ inr (keeps_other u gone)
     ];
   }
-
-  pub moving_end : (old old_other now other : Sequence T) → Moving old old_other now other → other.elements ≡ [] → Adds old.elements (values old_other.elements) now.elements
-  moving_end old old_other now other m empty =
-      subst (λ vs. Adds old.elements vs now.elements) (sym (append-nil m.moved) ∙ ap (λ l. m.moved ++ values l) (sym empty) ∙ m.ahead) m.adds
-
-  pub moving_spent : (old old_other now other : Sequence T) → Moving old old_other now other → other.elements ≡ [] → (k : Key) → IsSome (value_of k old_other.elements) → IsSpent other.cursors k
-  moving_spent old old_other now other m empty k there = elim (m.taken k there) [
-    | inl here ↦ absurd (let none = ap (value_of k) empty in let some = subst (λ o. IsSome o) none here in cc)
-    | inr spent ↦ spent
-  ]

@@ -1,9 +1,9 @@
 -- What callers of a list cite: which value each cursor has after a call.
-use Rattle.std.proofs.Common.{◌≡◌, ◌≢◌, false, cond, List, [], ◌∷◌, Some, None, IsSome, refl, sym, ap, subst, ◌∙◌}
+use Rattle.std.proofs.Common.{◌≡◌, ◌≢◌, false, cond, List, [], ◌∷◌, Some, None, IsSome, refl, sym, ap, subst, ◌∙◌, arith}
 use Rattle.slotmap.specs.Words.{Key}
 use Rattle.slotmap.proofs.Callers.{keys_total, exact_keys, itself}
 use Rattle.slotmap_list.specs.Sequence.{value_of, put_after, put_before, without}
-use Rattle.slotmap_list.proofs.NodeLists.{same, by_key, other_key, cond_none}
+use Rattle.slotmap_list.proofs.Elements.{same, by_key, other_key}
 
 module _ {T : Type 0} where
   -- a cursor without an element isn't that of an element
@@ -17,33 +17,19 @@ module _ {T : Type 0} where
   module _ (k : Key) (x : Key × T) where
     pub put_after_here : (es : List (Key × T)) → IsSome (value_of k es) → value_of x.0 es ≡ None → value_of x.0 (put_after k x es) ≡ Some x.1
     put_after_here [] some none = absurd (cc)
-    put_after_here (e ∷ es) some none =
-        let parts = cond_none (same x.0 e.0) e.1 (value_of x.0 es) none in
-        by_key (λ b. value_of x.0 (cond b (e ∷ x ∷ es) (e ∷ put_after k x es)) ≡ Some x.1) k e.0
-        (λ _. shown_there x.0 e (x ∷ es) parts.0 ∙ ap (λ b. cond b (Some x.1) (value_of x.0 es)) (itself keys_total exact_keys x.0))
-        (λ _ apart. shown_there x.0 e (put_after k x es) parts.0 ∙ put_after_here es (subst IsSome (shown_there k e es apart) some) parts.1)
+    put_after_here (e ∷ es) some none = grind (arith, put_after_here es, itself keys_total exact_keys x.0)
 
     pub put_after_other : (es : List (Key × T)) (q : Key) → q ≢ x.0 → value_of q (put_after k x es) ≡ value_of q es
     put_after_other [] q other = refl
-    put_after_other (e ∷ es) q other =
-        by_key (λ b. value_of q (cond b (e ∷ x ∷ es) (e ∷ put_after k x es)) ≡ value_of q (e ∷ es)) k e.0
-        (λ _. ap (cond (same q e.0) (Some e.1)) (shown_there q x es (other_key q x.0 other)))
-        (λ _ _. ap (cond (same q e.0) (Some e.1)) (put_after_other es q other))
+    put_after_other (e ∷ es) q other = let rest = put_after_other es q other in let apart = other_key q x.0 other in grind arith
 
     pub put_before_here : (es : List (Key × T)) → IsSome (value_of k es) → value_of x.0 es ≡ None → value_of x.0 (put_before k x es) ≡ Some x.1
     put_before_here [] some none = absurd (cc)
-    put_before_here (e ∷ es) some none =
-        let parts = cond_none (same x.0 e.0) e.1 (value_of x.0 es) none in
-        by_key (λ b. value_of x.0 (cond b (x ∷ e ∷ es) (e ∷ put_before k x es)) ≡ Some x.1) k e.0
-        (λ _. ap (λ b. cond b (Some x.1) (value_of x.0 (e ∷ es))) (itself keys_total exact_keys x.0))
-        (λ _ apart. shown_there x.0 e (put_before k x es) parts.0 ∙ put_before_here es (subst IsSome (shown_there k e es apart) some) parts.1)
+    put_before_here (e ∷ es) some none = grind (arith, put_before_here es, itself keys_total exact_keys x.0)
 
     pub put_before_other : (es : List (Key × T)) (q : Key) → q ≢ x.0 → value_of q (put_before k x es) ≡ value_of q es
     put_before_other [] q other = refl
-    put_before_other (e ∷ es) q other =
-        by_key (λ b. value_of q (cond b (x ∷ e ∷ es) (e ∷ put_before k x es)) ≡ value_of q (e ∷ es)) k e.0
-        (λ _. shown_there q x (e ∷ es) (other_key q x.0 other))
-        (λ _ _. ap (cond (same q e.0) (Some e.1)) (put_before_other es q other))
+    put_before_other (e ∷ es) q other = grind (arith, put_before_other es q other, other_key q x.0 other)
 
   pub without_other : (k : Key) (es : List (Key × T)) (q : Key) → q ≢ k → value_of q (without k es) ≡ value_of q es
   without_other k [] q other = refl

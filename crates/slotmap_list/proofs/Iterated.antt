@@ -1,132 +1,87 @@
 -- Steps of an iterator over a list, from either end.
-use Rattle.std.proofs.Common.{◌≡◌, ℕ, zero, suc, ◌-◌, ◌<◌, List, [], ◌∷◌, ◌++◌, length, Option, Some, None, inl, inr, refl, sym, ap, subst, ◌∙◌, arith, length-append, append_assoc, append-nil}
+use Rattle.std.proofs.Common.{◌≡◌, ℕ, ◌-◌, ◌<◌, List, [], ◌∷◌, ◌++◌, length, Option, Some, None, refl, sym, ap, subst, ◌∙◌, arith, length-append}
 use Rattle.std.specs.Option.{option_map, MatchOption}
 use Rattle.std.specs.List.{slice_get}
 use Rattle.std.specs.FinMap as map
 use Rattle.slotmap.specs.Words.{Key}
 use Rattle.slotmap_list.specs.declared.Node.{Node}
-use Rattle.slotmap_list.specs.Sequence.{first_or, last_or, IsOnce}
-use Rattle.slotmap_list.specs.Chain.{Nodes, follow_node, follow_key, follow, node_at, IsChain, IsWalk}
-use Rattle.slotmap_list.proofs.NodeLists.{last_or-append, snoc_view}
-use Rattle.slotmap_list.proofs.Chains.{follow_part, node_here}
+use Rattle.slotmap_list.specs.Sequence.{first_or, last_or}
+use Rattle.slotmap_list.specs.Chain.{Nodes, follow, AreNodes, IsChain, IsWalk}
+use Rattle.slotmap_list.proofs.Elements.{first_or-append, last_or-append}
+use Rattle.slotmap_list.proofs.Rows.{nodes_left, nodes_right}
+use Rattle.slotmap_list.proofs.Chains.{follow_is}
 
 module _ {T : Type 0} where
   -- all elements are left at the beginning
-  pub walk_start : (nodes : Nodes T) (first last : Option Key) (xs : List (Key × T)) → IsChain nodes first last xs → IsWalk nodes (map.len nodes) first last
-  walk_start nodes first last xs chain = record {
-    before = [];
-    ahead = xs;
-    after = [];
-    nodes_are = λ q. chain.nodes_are q ∙ ap (λ l. node_at None l None q) (sym (append-nil xs));
-    once = subst IsOnce (sym (append-nil xs)) chain.once;
-    left_is = sym chain.count;
-    first_is = chain.first_is ∙ ap (λ l. first_or l None) (sym (append-nil xs));
-    last_is = chain.last_is;
-  }
+  pub walk_start : {nodes : Nodes T} {first last : Option Key} {xs : List (Key × T)} → IsChain nodes first last xs → IsWalk nodes (map.len nodes) first last
+  walk_start {xs = xs} chain = record { prev = None; ahead = xs; next = None; nodes_are = chain.row.nodes_are; left_is = sym chain.count; first_is = chain.row.first_is; last_is = chain.row.last_is }
 
-  module _ (nodes : Nodes T) (left : ℕ) (first last : Option Key) (w : IsWalk nodes left first last) where
-    -- following the links gives the elements that are left
-    walk_is : follow nodes left first ≡ w.ahead
-    walk_is = ap (λ n. follow nodes n first) w.left_is ∙ ap (follow nodes (length w.ahead)) w.first_is ∙ follow_part nodes w.before w.ahead w.after w.once w.nodes_are
+  front_split : (xs : List (Key × T)) → 0 < length xs → (e : Key × T) × (es : List (Key × T)) × (xs ≡ e ∷ es)
+  front_split [] more = absurd (omega arith)
+  front_split (x ∷ xs) more = (x, xs, refl)
 
-    pub walk_length : left ≡ length (follow nodes left first)
-    walk_length = w.left_is ∙ ap length (sym walk_is)
+  back_split : (xs : List (Key × T)) → 0 < length xs → (ys : List (Key × T)) × (e : Key × T) × (xs ≡ ys ++ e ∷ [])
+  back_split [] more = absurd (omega arith)
+  back_split (x ∷ []) more = ([], x, refl)
+  back_split (x ∷ y ∷ xs) more = let rest = back_split (y ∷ xs) (omega arith) in (x ∷ rest.0, rest.1, ap (λ l. x ∷ l) rest.2)
 
-    -- the element at the front is passed
-    pub walk_next : (k : Key) (node : Node T) → 0 < left → first ≡ Some k → map.get nodes k ≡ Some node → IsWalk nodes (left - 1) node.next last
-    walk_next k node more at found = by w.ahead refl
-      where
-        by : (xs : List (Key × T)) → w.ahead ≡ xs → IsWalk nodes (left - 1) node.next last
-        by [] is = absurd (let n = w.left_is ∙ ap length is in omega arith)
-        by (e ∷ es) is =
-            let name : e.0 ≡ k = (let a = sym at ∙ w.first_is ∙ ap (λ l. first_or (l ++ w.after) None) is in cc) in
-            let list : w.before ++ (w.ahead ++ w.after) ≡ w.before ++ e ∷ (es ++ w.after) = ap (λ l. w.before ++ (l ++ w.after)) is in
-            let here = node_here w.before e (es ++ w.after) (subst IsOnce list w.once) in
-            let node_is : node ≡ record { value = e.1; prev = last_or w.before None; next = first_or (es ++ w.after) None } =
-            (let a = sym found ∙ ap (map.get nodes) (sym name) ∙ w.nodes_are e.0 ∙ ap (λ l. node_at None l None e.0) list ∙ here in cc) in
-            let other : w.before ++ (w.ahead ++ w.after) ≡ (w.before ++ e ∷ []) ++ (es ++ w.after) = list ∙ sym (append_assoc w.before (e ∷ []) (es ++ w.after)) in
-            record {
-              before = w.before ++ e ∷ [];
-              ahead = es;
-              after = w.after;
-              nodes_are = λ q. w.nodes_are q ∙ ap (λ l. node_at None l None q) other;
-              once = subst IsOnce other w.once;
-              left_is = (let n = w.left_is ∙ ap length is in omega arith);
-              first_is = ap (λ n. n.next) node_is;
-              last_is = w.last_is ∙ ap (λ l. last_or l None) (ap (λ l. w.before ++ l) is ∙ sym (append_assoc w.before (e ∷ []) es));
-            }
+  -- following the links gives the elements that are left
+  walk_left : {nodes : Nodes T} {left : ℕ} {first last : Option Key} (w : IsWalk nodes left first last) → follow nodes left first ≡ w.ahead
+  walk_left {nodes} {first = first} w = ap (λ n. follow nodes n first) w.left_is ∙ ap (follow nodes (length w.ahead)) w.first_is ∙ follow_is nodes w.prev w.next w.ahead w.nodes_are
 
-    -- the element at the back is passed
-    record Back (k : Key) (node : Node T) : Type 0 where
-      ahead : List (Key × T)
-      list : w.ahead ≡ ahead ++ (k, node.value) ∷ []
-      rest : IsWalk nodes (left - 1) first node.prev
-      rest_is : rest.ahead ≡ ahead
+  pub walk_length : {nodes : Nodes T} {left : ℕ} {first last : Option Key} → IsWalk nodes left first last → left ≡ length (follow nodes left first)
+  walk_length w = w.left_is ∙ ap length (sym (walk_left w))
 
-    back : (k : Key) (node : Node T) → 0 < left → last ≡ Some k → map.get nodes k ≡ Some node → Back k node
-    back k node more at found = elim (snoc_view w.ahead) [
-      | inl none ↦ absurd (let n = w.left_is ∙ ap length none in omega arith)
-      | inr some ↦ by some.0 some.1.0 some.1.1
-    ]
-      where
-        by : (es : List (Key × T)) (e : Key × T) → w.ahead ≡ es ++ e ∷ [] → Back k node
-        by es e is =
-            let end : last_or (w.before ++ w.ahead) None ≡ Some e.0 = ap (λ l. last_or (w.before ++ l) None) is ∙ last_or-append w.before (es ++ e ∷ []) None
-            ∙ last_or-append es (e ∷ []) (last_or w.before None) in
-            let name : e.0 ≡ k = (let a = sym at ∙ w.last_is ∙ end in cc) in
-            let list : w.before ++ (w.ahead ++ w.after) ≡ w.before ++ (es ++ e ∷ w.after) = ap (λ l. w.before ++ l) (ap (λ l. l ++ w.after) is ∙ append_assoc es (e ∷ []) w.after) in
-            let whole : w.before ++ (w.ahead ++ w.after) ≡ (w.before ++ es) ++ e ∷ w.after = list ∙ sym (append_assoc w.before es (e ∷ w.after)) in
-            let here = node_here (w.before ++ es) e w.after (subst IsOnce whole w.once) in
-            let node_is : node ≡ record { value = e.1; prev = last_or (w.before ++ es) None; next = first_or w.after None } =
-            (let a = sym found ∙ ap (map.get nodes) (sym name) ∙ w.nodes_are e.0 ∙ ap (λ l. node_at None l None e.0) whole ∙ here in cc) in
-            record {
-              ahead = es;
-              list = is ∙ ap (λ (p : Key × T). es ++ p ∷ []) (λ i. (name i, sym (ap (λ n. n.value) node_is) i));
-              rest = record {
-                before = w.before;
-                ahead = es;
-                after = e ∷ w.after;
-                nodes_are = λ q. w.nodes_are q ∙ ap (λ l. node_at None l None q) list;
-                once = subst IsOnce list w.once;
-                left_is = (let n = w.left_is ∙ ap length is ∙ length-append es (e ∷ []) in omega arith);
-                first_is = w.first_is ∙ ap (λ l. first_or l None) (ap (λ l. l ++ w.after) is ∙ append_assoc es (e ∷ []) w.after);
-                last_is = ap (λ n. n.prev) node_is;
-              };
-              rest_is = refl;
-            }
+  module _ {nodes : Nodes T} {left : ℕ} {first last : Option Key} (w : IsWalk nodes left first last) (more : 0 < left) where
+    -- the element at the front is passed: a walk is left, and what was left is that element and the rest
+    pub walk_next : (k : Key) (node : Node T) → map.get nodes k ≡ Some node → first ≡ Some k → IsWalk nodes (left - 1) node.next last × (follow nodes left first ≡ (k, node.value) ∷ follow nodes (left - 1) node.next)
+    walk_next k node found at =
+        let f = front_split w.ahead (let long = w.left_is in omega arith) in
+        let all = subst (λ l. AreNodes nodes w.prev l w.next) f.2 w.nodes_are in
+        let name : f.0.0 ≡ k = (let e = sym (w.first_is ∙ ap (λ l. first_or l w.next) f.2) ∙ at in cc) in
+        let is : node ≡ record { value = f.0.1; prev = w.prev; next = first_or f.1 w.next } = (let e = sym found ∙ ap (map.get nodes) (sym name) ∙ all.0 in cc) in
+        let rest : IsWalk nodes (left - 1) node.next last = record {
+          prev = Some f.0.0;
+          ahead = f.1;
+          next = w.next;
+          nodes_are = all.1;
+          left_is = (let long = w.left_is ∙ ap length f.2 in omega arith);
+          first_is = ap (λ n. n.next) is;
+          last_is = w.last_is ∙ ap (λ l. last_or l w.prev) f.2;
+        } in
+        (rest, walk_left w ∙ f.2 ∙ (λ i. (name i, sym (ap (λ n. n.value) is) i) ∷ sym (walk_left rest) i))
 
-    pub walk_back : (k : Key) (node : Node T) → 0 < left → last ≡ Some k → map.get nodes k ≡ Some node → IsWalk nodes (left - 1) first node.prev
-    walk_back k node more at found = (back k node more at found).rest
+    back : (ys : List (Key × T)) × (e : Key × T) × (w.ahead ≡ ys ++ e ∷ [])
+    back = back_split w.ahead (let long = w.left_is in omega arith)
+
+    back_nodes : AreNodes nodes w.prev (back.0 ++ back.1 ∷ []) w.next
+    back_nodes = subst (λ l. AreNodes nodes w.prev l w.next) back.2 w.nodes_are
 
     -- an end is there as long as elements are left, and it has a node
-    pub walk_last : 0 < left → (k : Key) × ((node : Node T) × (last ≡ Some k) × (map.get nodes k ≡ Some node))
-    walk_last more = elim (snoc_view w.ahead) [
-      | inl none ↦ absurd (let n = w.left_is ∙ ap length none in omega arith)
-      | inr some ↦ by some.0 some.1.0 some.1.1
-    ]
-      where
-        by : (es : List (Key × T)) (e : Key × T) → w.ahead ≡ es ++ e ∷ [] → (k : Key) × ((node : Node T) × (last ≡ Some k) × (map.get nodes k ≡ Some node))
-        by es e is =
-            let end : last_or (w.before ++ w.ahead) None ≡ Some e.0 = ap (λ l. last_or (w.before ++ l) None) is ∙ last_or-append w.before (es ++ e ∷ []) None
-            ∙ last_or-append es (e ∷ []) (last_or w.before None) in
-            let list : w.before ++ (w.ahead ++ w.after) ≡ w.before ++ (es ++ e ∷ w.after) = ap (λ l. w.before ++ l) (ap (λ l. l ++ w.after) is ∙ append_assoc es (e ∷ []) w.after) in
-            let whole : w.before ++ (w.ahead ++ w.after) ≡ (w.before ++ es) ++ e ∷ w.after = list ∙ sym (append_assoc w.before es (e ∷ w.after)) in
-            let here = node_here (w.before ++ es) e w.after (subst IsOnce whole w.once) in
-            (e.0, (record { value = e.1; prev = last_or (w.before ++ es) None; next = first_or w.after None }, w.last_is ∙ end, w.nodes_are e.0 ∙ ap (λ l. node_at None l None e.0) whole ∙ here))
+    pub walk_last : (k : Key) × (node : Node T) × (last ≡ Some k) × (map.get nodes k ≡ Some node)
+    walk_last = (
+      back.1.0,
+      record { value = back.1.1; prev = last_or back.0 w.prev; next = w.next },
+      w.last_is ∙ ap (λ l. last_or l w.prev) back.2 ∙ last_or-append back.0 (back.1 ∷ []) w.prev,
+      (nodes_right nodes w.prev w.next back.0 (back.1 ∷ []) back_nodes).0,
+    )
 
-  -- what was left is what is left then, and the element that was passed
-  pub walk_back_is : (nodes : Nodes T) (left : ℕ) (first last : Option Key) (w : IsWalk nodes left first last) (k : Key) (node : Node T) → 0 < left → last ≡ Some k → map.get nodes k ≡ Some node
-      → follow nodes left first ≡ follow nodes (left - 1) first ++ (k, node.value) ∷ []
-  walk_back_is nodes left first last w k node more at found =
-      let b = back nodes left first last w k node more at found in
-      walk_is nodes left first last w ∙ b.list ∙ ap (λ l. l ++ (k, node.value) ∷ []) (sym (walk_is nodes (left - 1) first node.prev b.rest ∙ b.rest_is))
-
-  pub walk_next_is : (nodes : Nodes T) (left : ℕ) (first : Option Key) (k : Key) (node : Node T) → 0 < left → first ≡ Some k → map.get nodes k ≡ Some node
-      → follow nodes left first ≡ (k, node.value) ∷ follow nodes (left - 1) node.next
-  walk_next_is nodes zero first k node more at found = absurd (omega arith)
-  walk_next_is nodes (suc n) first k node more at found =
-      ap (λ o. follow_key nodes o (follow nodes n)) at ∙ ap (λ o. follow_node k o (follow nodes n)) found
-      ∙ ap (λ m. (k, node.value) ∷ follow nodes m node.next) (let e : n ≡ suc n - 1 = omega arith in e)
+    -- the element at the back is passed
+    pub walk_back : (k : Key) (node : Node T) → map.get nodes k ≡ Some node → last ≡ Some k → IsWalk nodes (left - 1) first node.prev × (follow nodes left first ≡ follow nodes (left - 1) first ++ (k, node.value) ∷ [])
+    unfolding walk_last
+    walk_back k node found at =
+        let name : back.1.0 ≡ k = (let e = sym walk_last.2 ∙ at in cc) in
+        let is : node ≡ record { value = back.1.1; prev = last_or back.0 w.prev; next = w.next } = (let e = sym found ∙ ap (map.get nodes) (sym name) ∙ walk_last.3 in cc) in
+        let rest : IsWalk nodes (left - 1) first node.prev = record {
+          prev = w.prev;
+          ahead = back.0;
+          next = Some back.1.0;
+          nodes_are = nodes_left nodes w.prev w.next back.0 (back.1 ∷ []) back_nodes;
+          left_is = (let long = w.left_is ∙ ap length back.2 ∙ length-append back.0 (back.1 ∷ []) in omega arith);
+          first_is = w.first_is ∙ ap (λ l. first_or l w.next) back.2 ∙ first_or-append back.0 (back.1 ∷ []) w.next;
+          last_is = ap (λ n. n.prev) is;
+        } in
+        (rest, walk_left w ∙ back.2 ∙ (λ i. sym (walk_left rest) i ++ (name i, sym (ap (λ n. n.value) is) i) ∷ []))
 
 -- what the first step of an iterator yields, from either end
 module _ {A B : Type 0} (view : A → B) where

@@ -1,5 +1,5 @@
 -- Many values that are added to a list at once.
-use Rattle.std.specs.Prelude.{◌≡◌, ◌<◌, ◌++◌, List, Option, Some, Result, MatchResult, map as list_map}
+use Rattle.std.specs.Prelude.{◌≡◌, ℕ, ◌<◌, ◌++◌, List, Option, Some, Result, MatchResult, map as list_map}
 use Rattle.std.specs.Iterator.{Drains, YieldsThen}
 use Rattle.slotmap.specs.Words.{Key, Content, used, most}
 use Rattle.slotmap_list.specs.declared.PushError.{PushError}
@@ -11,10 +11,14 @@ module _ {T : Type 0} where
   refused (Full v) = v
   refused (Memory v) = v
 
+  -- `Full` if and only if these are as many as a map can hold
+  abbrev pub FullAfter : ℕ → PushError T → Type 0
+  FullAfter n (Full v) = n ≡ most
+  FullAfter n (Memory v) = n < most
+
   -- `Full` if and only if a map can hold no more keys than it has now
   abbrev pub FullAtLimit : Content (Unit {0}) → PushError T → Type 0
-  FullAtLimit cursors (Full v) = used cursors ≡ most
-  FullAtLimit cursors (Memory v) = used cursors < most
+  FullAtLimit cursors error = FullAfter (used cursors) error
 
   -- these values stand at the back, in this order, under cursors of their own; the elements before them are the same
   pub record Adds (old : List (Key × T)) (values : List T) (new : List (Key × T)) : Type 0 where

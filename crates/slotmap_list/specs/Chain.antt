@@ -1,9 +1,8 @@
 -- How a list is kept in a map of nodes.
-use Rattle.std.specs.Prelude.{◌≡◌, ℕ, zero, suc, true, List, [], ◌∷◌, ◌++◌, length, Option, Some, None, IfSome, cond}
-use Rattle.std.specs.Ordering.{eq_by_cmp}
+use Rattle.std.specs.Prelude.{◌≡◌, ℕ, zero, suc, true, List, [], ◌∷◌, length, Option, Some, None, IsSome, IfSome}
 use Rattle.std.specs.FinMap as map
 use Rattle.slotmap.specs.Words.{Key, key_cmp}
-use Rattle.slotmap_list.specs.Sequence.{first_or, last_or, IsOnce}
+use Rattle.slotmap_list.specs.Sequence.{value_of, first_or, last_or, IsOnce}
 use Rattle.slotmap_list.specs.declared.Node.{Node}
 use Rattle.slotmap_list.specs.declared.links.Side.{Side}
 use Rattle.slotmap_list.specs.declared.links.Side.TheVariants.{Before, After}
@@ -30,18 +29,24 @@ module _ {T : Type 0} where
   follow nodes zero at = []
   follow nodes (suc n) at = follow_key nodes at (follow nodes n)
 
-  -- the node of q where these elements are between `prev` and `next`
-  abbrev pub node_at : Option Key → List (Key × T) → Option Key → Key → Option (Node T)
-  node_at prev [] next q = None
-  node_at prev (e ∷ es) next q = cond (eq_by_cmp key_cmp q e.0) (Some (record { value = e.1; prev = prev; next = first_or es next })) (node_at (Some e.0) es next q)
+  -- each of these elements, which stand between `prev` and `next`, has its node
+  abbrev pub AreNodes : Nodes T → Option Key → List (Key × T) → Option Key → Type 0
+  AreNodes nodes prev [] next = Unit {0}
+  AreNodes nodes prev (e ∷ es) next =
+      (map.get nodes e.0 ≡ Some (record { value = e.1; prev = prev; next = first_or es next })) × AreNodes nodes (Some e.0) es next
 
-  -- the nodes are those of the elements es
-  pub record IsChain (nodes : Nodes T) (first last : Option Key) (es : List (Key × T)) : Type 0 where
-    pub nodes_are : (q : Key) → map.get nodes q ≡ node_at None es None q
+  -- the elements es have nodes, from one end to the other; there may be more nodes
+  pub record IsRow (nodes : Nodes T) (first last : Option Key) (es : List (Key × T)) : Type 0 where
+    pub nodes_are : AreNodes nodes None es None
     pub once : IsOnce es
-    pub count : length es ≡ map.len nodes
     pub first_is : first ≡ first_or es None
     pub last_is : last ≡ last_or es None
+
+  -- and there are no more nodes
+  pub record IsChain (nodes : Nodes T) (first last : Option Key) (es : List (Key × T)) : Type 0 where
+    pub row : IsRow nodes first last es
+    pub stands : (q : Key) → map.contains_key nodes q ≡ true → IsSome (value_of q es)
+    pub count : length es ≡ map.len nodes
 
   -- a node whose link on this side leads to `to`
   abbrev pub link_to : Side → Option Key → Node T → Node T
@@ -57,13 +62,6 @@ module _ {T : Type 0} where
   with_link side nodes None to = nodes
   with_link side nodes (Some k) to = with_link_of side nodes k (map.get nodes k) to
 
-  -- the nodes once the link after `at` leads to `next`, and once the link before it leads to `prev`
-  abbrev pub with_next : Nodes T → Option Key → Option Key → Nodes T
-  with_next nodes at next = with_link After nodes at next
-
-  abbrev pub with_prev : Nodes T → Option Key → Option Key → Nodes T
-  with_prev nodes at prev = with_link Before nodes at prev
-
   -- these two, if they are there, have nodes
   abbrev pub BothStand : Nodes T → Option Key → Option Key → Type 0
   BothStand nodes prev next = IfSome prev (λ p. map.contains_key nodes p ≡ true) × IfSome next (λ n. map.contains_key nodes n ≡ true)
@@ -74,7 +72,7 @@ module _ {T : Type 0} where
 
   -- the link after `prev` leads on to `on`, and the link before `next` back to `back`; the nodes, and the ends of the list, before and after
   pub record Relinks (old : Nodes T) (first last prev next on back : Option Key) (new : Nodes T) (new_first new_last : Option Key) : Type 0 where
-    pub nodes : new ≡ with_prev (with_next old prev on) next back
+    pub nodes : new ≡ with_link Before (with_link After old prev on) next back
     pub first_is : new_first ≡ outer prev first on
     pub last_is : new_last ≡ outer next last back
 
@@ -90,13 +88,12 @@ module _ {T : Type 0} where
     pub found : map.get old k ≡ Some node
     pub links : Relinks (map.insert old k (record { value = node.value; prev = prev; next = next })) first last prev next (Some k) (Some k) new new_first new_last
 
-  -- these elements are those that an iterator has left: what stands before them and after them in the list, and its two ends
+  -- these elements, between `prev` and `next`, are those that an iterator has left, with the two ends at which it stands
   pub record IsWalk (nodes : Nodes T) (left : ℕ) (first last : Option Key) : Type 0 where
-    pub before : List (Key × T)
+    pub prev : Option Key
     pub ahead : List (Key × T)
-    pub after : List (Key × T)
-    pub nodes_are : (q : Key) → map.get nodes q ≡ node_at None (before ++ (ahead ++ after)) None q
-    pub once : IsOnce (before ++ (ahead ++ after))
+    pub next : Option Key
+    pub nodes_are : AreNodes nodes prev ahead next
     pub left_is : left ≡ length ahead
-    pub first_is : first ≡ first_or (ahead ++ after) None
-    pub last_is : last ≡ last_or (before ++ ahead) None
+    pub first_is : first ≡ first_or ahead next
+    pub last_is : last ≡ last_or ahead prev

@@ -1,5 +1,5 @@
 -- A list as its user sees it: keys with their values, from front to back.
-use Rattle.std.specs.Prelude.{◌≡◌, refl, List, [], ◌∷◌, ◌++◌, Option, Some, None, Bool, cond, not, ◌&&◌, nat_eq, is_some}
+use Rattle.std.specs.Prelude.{◌≡◌, refl, List, [], ◌∷◌, ◌++◌, Option, Some, None, Bool, cond, not, ◌⊎◌, ◌&&◌, nat_eq, is_some}
 use Rattle.std.specs.Coded.{Coded, code_by, coded×, coded_list}
 use Rattle.std.specs.Ordering.{eq_by_cmp}
 use Rattle.std.specs.FinMap.Entries.{find}
@@ -97,16 +97,21 @@ module _ {T : Type 0} where
   TakesBack old None new = (old ≡ []) × (new ≡ [])
   TakesBack old (Some x) new = old ≡ new ++ x ∷ []
 
+  -- the element of `first`, which stands before that of `second`, and that one are in each other's places
+  pub record ChangePlaces (old : List (Key × T)) (first second : Key) (new : List (Key × T)) : Type 0 where
+    pub before : List (Key × T)
+    pub between : List (Key × T)
+    pub after : List (Key × T)
+    pub value : T
+    pub other_value : T
+    pub was : old ≡ before ++ (first, value) ∷ (between ++ (second, other_value) ∷ after)
+    pub is : new ≡ before ++ (second, other_value) ∷ (between ++ (first, value) ∷ after)
+
+  -- the elements of these two keys, in whichever order they stand, are in each other's places
+  abbrev pub Swaps : List (Key × T) → Key → Key → List (Key × T) → Type 0
+  Swaps old k other new = ChangePlaces old k other new ⊎ ChangePlaces old other k new
+
   -- no key occurs twice
   abbrev pub IsOnce : List (Key × T) → Type 0
   IsOnce [] = Unit {0}
   IsOnce (e ∷ es) = (value_of e.0 es ≡ None) × IsOnce es
-
-  -- the place between these two neighbours is somewhere in the list
-  abbrev pub IsGap : List (Key × T) → Option Key → Option Key → Type 0
-  IsGap es prev next = (before : List (Key × T)) × ((after : List (Key × T)) × (es ≡ before ++ after) × (last_or before None ≡ prev) × (first_or after None ≡ next))
-
-  -- an element was put into a place between these two neighbours
-  abbrev pub PutsBetween : List (Key × T) → Option Key → Option Key → Key × T → List (Key × T) → Type 0
-  PutsBetween old prev next x new =
-      (before : List (Key × T)) × ((after : List (Key × T)) × (old ≡ before ++ after) × (last_or before None ≡ prev) × (first_or after None ≡ next) × (new ≡ before ++ x ∷ after))

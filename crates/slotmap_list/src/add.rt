@@ -1,30 +1,26 @@
 //! The calls that add an element.
 
-ghost use Rattle.std.specs.Prelude.{◌≡◌, ◌<◌, ◌++◌, ◌∷◌, [], IsOk, IfOk, OnOk, IfErr, OnErr, IsSome, None};
+ghost use Rattle.std.specs.Prelude.{◌≡◌, ◌+◌, ◌<◌, ◌++◌, ◌∷◌, [], IsOk, IfOk, OnOk, IfErr, OnErr, IsSome, None, true};
 ghost use Rattle.std.specs.FinMap as map;
-ghost use Rattle.slotmap.specs.Words.{Inserts, IsSpent, Keeps, KeepsSpent};
-ghost use Rattle.slotmap_list.specs.Sequence.{value_of, put_after, put_before, IsGap, PutsBetween};
-ghost use Rattle.slotmap_list.specs.Neighbours.{insert_beside};
+ghost use Rattle.slotmap.specs.Words.{Inserts, IsSpent, Keeps, KeepsSpent, used};
+ghost use Rattle.slotmap_list.specs.Sequence.{value_of, put_after, put_before};
+ghost use Rattle.slotmap_list.specs.Neighbours.{insert_beside, is_place, put_at};
 ghost use Rattle.slotmap_list.specs.Refused.{RefusesPlace, RefusesPush};
 
-use crate::links::{Neighbour, Side, add, beside, relink};
+use crate::links::{Place, Side, add, gap, relink};
 use crate::{Node, PlaceError, PushError, StableList};
 use slotmap::{DefaultKey, Key};
 use slotmap_keylist::{KeyOrNull, inner, outer};
 
 impl<K: Key, T: Drop> StableList<K, T> {
-    // Puts an element between two neighbours.
-    fn put(
-        &mut self,
-        prev: Neighbour,
-        next: Neighbour,
-        value: T,
-    ) -> Result<DefaultKey, PushError<T>>
-        requires { IsGap self.old.elements prev next }
-        ensures ok { IfOk result (λ key. PutsBetween self.old.elements prev next (key, value) self.new.elements) }
+    // Puts an element into a place.
+    fn put(&mut self, place: Place, value: T) -> Result<DefaultKey, PushError<T>>
+        requires { is_place place self.old.elements ≡ true }
+        ensures ok { IfOk result (λ key. self.new.elements ≡ put_at place (key, value) self.old.elements) }
         ensures fresh { IfOk result (λ key. value_of key self.old.elements ≡ None) }
         ensures unspent { IfOk result (λ key. IsSpent self.old.cursors key → ⊥) }
         ensures cursors { IfOk result (λ key. Inserts self.old.cursors key tt self.new.cursors) }
+        ensures used { OnOk result (used self.new.cursors ≡ used self.old.cursors + 1) }
         ensures err { IfErr result (RefusesPush self.old.cursors value) }
         ensures reuses { 0 < map.len self.old.cursors.next → IsOk result }
         ensures room { 0 < self.old.cursors.room → IsOk result }
@@ -32,6 +28,9 @@ impl<K: Key, T: Drop> StableList<K, T> {
         ensures keeps { OnErr result (Keeps self.old.cursors self.new.cursors) }
         ensures gone { KeepsSpent self.old.cursors self.new.cursors }
     {
+        let Some((prev, next)) = gap(&self.nodes, &self.first, &self.last, place) else {
+            unreachable!()
+        };
         let node = Node {
             value,
             prev: prev.copied(),
@@ -61,6 +60,7 @@ impl<K: Key, T: Drop> StableList<K, T> {
         ensures fresh { IfOk result (λ key. value_of (K.data_of key) self.old.elements ≡ None) }
         ensures unspent { IfOk result (λ key. IsSpent self.old.cursors (K.data_of key) → ⊥) }
         ensures cursors { IfOk result (λ key. Inserts self.old.cursors (K.data_of key) tt self.new.cursors) }
+        ensures used { OnOk result (used self.new.cursors ≡ used self.old.cursors + 1) }
         ensures err { IfErr result (RefusesPush self.old.cursors value) }
         ensures reuses { 0 < map.len self.old.cursors.next → IsOk result }
         ensures room { 0 < self.old.cursors.room → IsOk result }
@@ -68,8 +68,7 @@ impl<K: Key, T: Drop> StableList<K, T> {
         ensures keeps { OnErr result (Keeps self.old.cursors self.new.cursors) }
         ensures gone { KeepsSpent self.old.cursors self.new.cursors }
     {
-        let last = self.last.copied();
-        Ok(outer(self.put(last, KeyOrNull::none(), value)?))
+        Ok(outer(self.put(Place::Back, value)?))
     }
 
     /// Adds an element at the front, and returns its cursor.
@@ -88,8 +87,7 @@ impl<K: Key, T: Drop> StableList<K, T> {
         ensures keeps { OnErr result (Keeps self.old.cursors self.new.cursors) }
         ensures gone { KeepsSpent self.old.cursors self.new.cursors }
     {
-        let first = self.first.copied();
-        Ok(outer(self.put(KeyOrNull::none(), first, value)?))
+        Ok(outer(self.put(Place::Front, value)?))
     }
 
     // Adds an element on this side of that of a cursor.
@@ -111,10 +109,10 @@ impl<K: Key, T: Drop> StableList<K, T> {
         ensures keeps { OnErr result (Keeps self.old.cursors self.new.cursors) }
         ensures gone { KeepsSpent self.old.cursors self.new.cursors }
     {
-        let Some((prev, next)) = beside(&self.nodes, side, cursor) else {
+        if !self.has(cursor) {
             return Err(PlaceError::Gone(value));
-        };
-        match self.put(prev, next, value) {
+        }
+        match self.put(Place::Beside(side, cursor), value) {
             Ok(key) => Ok(key),
             Err(PushError::Full(value)) => Err(PlaceError::Full(value)),
             Err(PushError::Memory(value)) => Err(PlaceError::Memory(value)),

@@ -4,7 +4,7 @@ ghost use Rattle.std.specs.Prelude.{◌≡◌, ◌+◌, ◌≤◌, [], List, IsO
 ghost use Rattle.std.specs.Iterator.{IsFinite, Drains, YieldsThen};
 ghost use Rattle.slotmap.specs.Words.{Key as KeyOf, IsSpent, Keeps, KeepsSpent, RefusesCapacity, used};
 ghost use Rattle.slotmap_list.specs.Sequence.{value_of};
-ghost use Rattle.slotmap_list.specs.Additions.{Adds, AddsAll, FullAtLimit, refused};
+ghost use Rattle.slotmap_list.specs.Additions.{Adds, AddsAll, FullAfter, FullAtLimit, refused};
 
 use crate::{PushError, StableList};
 use slotmap::{Key, ReserveError};
@@ -29,6 +29,7 @@ impl<K: Key, T: Drop> StableList<K, T> {
             I.IntoIter.can_next it × IsFinite (I.IntoIter.remaining it) }
         ensures extends { (it : I.IntoIter) × I.into_iter_gives iter it
             × AddsAll it self.old.elements result self.new.elements I.IntoIter.next_gives }
+        ensures used { used self.new.cursors + length self.old.elements ≡ used self.old.cursors + length self.new.elements }
         ensures err { IfErr result (FullAtLimit self.new.cursors) }
         ensures gone { KeepsSpent self.old.cursors self.new.cursors }
     {
@@ -42,8 +43,10 @@ impl<K: Key, T: Drop> StableList<K, T> {
 
     /// Makes a list of the values of an iterator, in its order.
     ///
-    /// If a value can't be added, there is no list. The error then holds that value, or is `None` if
-    /// not even an empty list could be made. The iterator has to end. In Rust this is `FromIterator`.
+    /// If a value can't be added, there is no list. The values before it are dropped, and so is the
+    /// rest of the iterator. The error holds that value. It is `Full` if there were as many values
+    /// before it as a map can hold, 4294967294, else `Memory`. It is `None` if not even an empty list
+    /// could be made. The iterator has to end. In Rust this is `FromIterator`.
     ///
     /// ```
     /// let list: StableList<Cursor, u64> = StableList::from_iter(alloc, vec![in alloc; 1, 2]?).unwrap();
@@ -60,7 +63,7 @@ impl<K: Key, T: Drop> StableList<K, T> {
         ensures ok { IfOk result (λ list. (it : I.IntoIter) × (values : List T) × I.into_iter_gives iter it
             × Drains I.IntoIter.next_gives it values × (list_map (λ e. e.1) list.elements ≡ values)) }
         ensures err { IfErr result (λ error. IfSome error (λ back. (it : I.IntoIter) × (values : List T) × (rest : I.IntoIter)
-            × I.into_iter_gives iter it × YieldsThen I.IntoIter.next_gives it values (Some (refused back)) rest)) }
+            × I.into_iter_gives iter it × YieldsThen I.IntoIter.next_gives it values (Some (refused back)) rest × FullAfter (length values) back)) }
     {
         let Ok(mut list) = StableList::with_key(alloc) else {
             return Err(None);

@@ -237,7 +237,15 @@ impl<K: Key, T: Drop> StableList<K, T> {
         ensures value { result ≡ is_some (value_of (K.data_of cursor) self.now.elements) }
         ensures live { result ≡ map.contains_key self.now.cursors.live (K.data_of cursor) }
     {
-        self.nodes.contains_key(inner(cursor))
+        self.has(inner(cursor))
+    }
+
+    // Whether a key is in the list.
+    fn has(&self, key: DefaultKey) -> bool
+        ensures value { result ≡ is_some (value_of key self.now.elements) }
+        ensures live { result ≡ map.contains_key self.now.cursors.live key }
+    {
+        self.nodes.contains_key(key)
     }
 
     /// Returns the number of elements, in constant time. No cursor stands twice.
@@ -359,6 +367,9 @@ impl<K: Key, T: Drop> Index<K> for StableList<K, T> {
     ghost index_gives = { λ list cursor value. value_of (K.data_of cursor) list.elements ≡ Some value };
 
     fn index(&self, cursor: K) -> &T {
-        &self.nodes[inner(cursor)].value
+        let Some(value) = self.get(cursor) else {
+            unreachable!()
+        };
+        value
     }
 }

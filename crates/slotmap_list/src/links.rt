@@ -4,8 +4,8 @@ ghost use Rattle.std.specs.Prelude.{◌≡◌, ◌<◌, IsOk, IfSome, IfOk, IfEr
 ghost use Rattle.std.specs.Option.{option_map};
 ghost use Rattle.std.specs.FinMap as map;
 ghost use Rattle.slotmap.specs.Words.{IsLive, Inserts, MayGrow, without_values};
-ghost use Rattle.slotmap_list.specs.Chain.{with_link, outer, HasNeighbours, Relinks, Unlinks, Links};
-ghost use Rattle.slotmap_list.specs.Neighbours.{gap_beside};
+ghost use Rattle.slotmap_list.specs.Chain.{with_link, outer, BothStand, HasNeighbours, Relinks, Unlinks, Links};
+ghost use Rattle.slotmap_list.specs.Neighbours.{gap_beside, gap_at};
 ghost use Rattle.slotmap_list.specs.Refused.{RefusesPush};
 
 use crate::{Node, PushError};
@@ -23,6 +23,14 @@ pub(crate) type Neighbour = KeyOrNull<DefaultKey>;
 pub(crate) enum Side {
     Before,
     After,
+}
+
+// A place in a list: at an end, or on a side of an element.
+#[derive(Drop)]
+pub(crate) enum Place {
+    Front,
+    Back,
+    Beside(Side, DefaultKey),
 }
 
 // Lets the link on this side of `at`, or else the list's own, lead to `to`.
@@ -57,8 +65,7 @@ pub(crate) fn relink<T: Drop>(
     on: Neighbour,
     back: Neighbour,
 )
-    requires prev_stands { IfSome prev (λ key. IsLive nodes.old key) }
-    requires next_stands { IfSome next (λ key. IsLive nodes.old key) }
+    requires { BothStand nodes.old.live prev next }
     ensures links { Relinks nodes.old.live first.old last.old prev next on back nodes.new.live first.new last.new }
     ensures keys { without_values nodes.new ≡ without_values nodes.old }
 {
@@ -84,17 +91,29 @@ pub(crate) fn add<T: Drop>(nodes: &mut Nodes<T>, node: Node<T>) -> Result<Defaul
 }
 
 // The neighbours of the place on this side of an element, or `None` if it isn't in the list.
-pub(crate) fn beside<T: Drop>(
-    nodes: &Nodes<T>,
-    side: Side,
-    key: DefaultKey,
-) -> Option<(Neighbour, Neighbour)>
+fn beside<T: Drop>(nodes: &Nodes<T>, side: Side, key: DefaultKey) -> Option<(Neighbour, Neighbour)>
     ensures { result ≡ option_map (gap_beside side key) (map.get nodes.now.live key) }
 {
     let node = nodes.get(key)?;
     match side {
         Side::Before => Some((node.prev.copied(), KeyOrNull::some(key))),
         Side::After => Some((KeyOrNull::some(key), node.next.copied())),
+    }
+}
+
+// The neighbours of a place, or `None` if it isn't there.
+pub(crate) fn gap<T: Drop>(
+    nodes: &Nodes<T>,
+    first: &Neighbour,
+    last: &Neighbour,
+    place: Place,
+) -> Option<(Neighbour, Neighbour)>
+    ensures { result ≡ gap_at nodes.now.live first.now last.now place }
+{
+    match place {
+        Place::Front => Some((KeyOrNull::none(), first.copied())),
+        Place::Back => Some((last.copied(), KeyOrNull::none())),
+        Place::Beside(side, key) => beside(nodes, side, key),
     }
 }
 
@@ -126,8 +145,7 @@ pub(crate) fn link<T: Drop>(
     next: Neighbour,
 )
     requires stands { IsLive nodes.old key }
-    requires prev_stands { IfSome prev (λ other. IsLive nodes.old other) }
-    requires next_stands { IfSome next (λ other. IsLive nodes.old other) }
+    requires linked { BothStand nodes.old.live prev next }
     ensures links { Links nodes.old.live first.old last.old key prev next nodes.new.live first.new last.new }
     ensures keys { without_values nodes.new ≡ without_values nodes.old }
 {

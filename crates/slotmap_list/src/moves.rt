@@ -1,37 +1,23 @@
 //! Moves of an element within its list, and writes of its value.
 
-ghost use Rattle.std.specs.Prelude.{◌≡◌, is_some, if◌then◌else◌};
+ghost use Rattle.std.specs.Prelude.{◌≡◌, true, false, IsTrue, is_some, if◌then◌else◌};
 ghost use Rattle.std.specs.Borrow.{sem};
 ghost use Rattle.std.specs.Option.{option_copied_mut};
-ghost use Rattle.slotmap_list.specs.Sequence.{value_of, moved_to_front, moved_to_back, moved_after, moved_before, are_two};
-ghost use Rattle.slotmap_list.specs.Neighbours.{gap_at, is_move, moved_to};
+ghost use Rattle.slotmap_list.specs.Sequence.{value_of, moved_to_front, moved_to_back, moved_after, moved_before, are_two, Swaps};
+ghost use Rattle.slotmap_list.specs.Neighbours.{is_move, moved_to, before_or_back};
 
 use crate::StableList;
-use crate::links::{Neighbour, Nodes, Side, beside, link, unlink};
+use crate::links::{Place, Side, gap, link, unlink};
 use slotmap::{DefaultKey, Key};
-use slotmap_keylist::{KeyOrNull, inner};
+use slotmap_keylist::inner;
 
-// A place in a list: at an end, or on a side of an element.
-#[derive(Drop)]
-enum Place {
-    Front,
-    Back,
-    Beside(Side, DefaultKey),
-}
-
-// The neighbours of a place, or `None` if it isn't there.
-fn gap<T: Drop>(
-    nodes: &Nodes<T>,
-    first: &Neighbour,
-    last: &Neighbour,
-    place: Place,
-) -> Option<(Neighbour, Neighbour)>
-    ensures { result ≡ gap_at nodes.now.live first.now last.now place }
+// The place before a key, or the back if there is none.
+fn place_before(next: Option<DefaultKey>) -> Place
+    ensures { result ≡ before_or_back next }
 {
-    match place {
-        Place::Front => Some((KeyOrNull::none(), first.copied())),
-        Place::Back => Some((last.copied(), KeyOrNull::none())),
-        Place::Beside(side, key) => beside(nodes, side, key),
+    match next {
+        Some(key) => Place::Beside(Side::Before, key),
+        None => Place::Back,
     }
 }
 
@@ -113,6 +99,50 @@ impl<K: Key, T: Drop> StableList<K, T> {
         self.move_to(inner(cursor), Place::Beside(Side::Before, inner(other)))
     }
 
+    /// Puts the elements of two cursors into each other's places. It returns `false`, and changes
+    /// nothing, if one of the two isn't in the list, or if they are the same.
+    ///
+    /// Each element moves with its cursor and its value. So `list[cursor]` is what it was, and its
+    /// neighbours are the other's. In a slice, where an index names a place, `swap` leaves the index
+    /// and moves the value. Constant time. Nothing is allocated.
+    ///
+    /// ```
+    /// let mut list = StableList::new(alloc)?;
+    /// let one = list.push_back(1)?;
+    /// list.push_back(2)?;
+    /// let three = list.push_back(3)?;
+    /// assert!(rt; list.swap(one, three));
+    /// assert_eq!(rt; list.to_vec(alloc)?.as_slice(), [3, 2, 1].as_slice());
+    /// assert_eq!(rt; list.get(one), Some(&1));
+    /// assert!(rt; !list.swap(one, one));
+    /// ```
+    pub fn swap(&mut self, cursor: K, other: K) -> bool
+        ensures which { result ≡ are_two (K.data_of cursor) (K.data_of other) self.old.elements }
+        ensures swaps { IsTrue result → Swaps self.old.elements (K.data_of cursor) (K.data_of other) self.new.elements }
+        ensures cursors { self.new.cursors ≡ self.old.cursors }
+        ensures unchanged { result ≡ false → self.new ≡ self.old }
+    {
+        let cursor = inner(cursor);
+        let other = inner(other);
+        if !self.has_two(cursor, other) {
+            return false;
+        }
+        self.exchange(cursor, other);
+        true
+    }
+
+    // Puts two elements of the list into each other's places: one moves to behind the other, which
+    // then moves to before what was behind the first one. If it was that itself, it stays.
+    fn exchange(&mut self, cursor: DefaultKey, other: DefaultKey)
+        requires { are_two cursor other self.old.elements ≡ true }
+        ensures swaps { Swaps self.old.elements cursor other self.new.elements }
+        ensures cursors { self.new.cursors ≡ self.old.cursors }
+    {
+        let next = self.after(cursor);
+        self.move_to(cursor, Place::Beside(Side::After, other));
+        self.move_to(other, place_before(next));
+    }
+
     // Moves the element of a cursor to a place, if it can.
     fn move_to(&mut self, cursor: DefaultKey, place: Place) -> bool
         ensures which { result ≡ is_move cursor place self.old.elements }
@@ -141,8 +171,8 @@ impl<K: Key, T: Drop> StableList<K, T> {
         ensures { result ≡ is_move cursor place.now self.now.elements }
     {
         match place {
-            Place::Front => self.nodes.contains_key(cursor),
-            Place::Back => self.nodes.contains_key(cursor),
+            Place::Front => self.has(cursor),
+            Place::Back => self.has(cursor),
             Place::Beside(_, other) => self.has_two(cursor, *other),
         }
     }
@@ -151,12 +181,6 @@ impl<K: Key, T: Drop> StableList<K, T> {
     fn has_two(&self, cursor: DefaultKey, other: DefaultKey) -> bool
         ensures { result ≡ are_two cursor other self.now.elements }
     {
-        if cursor == other {
-            return false;
-        }
-        if !self.nodes.contains_key(cursor) {
-            return false;
-        }
-        self.nodes.contains_key(other)
+        cursor != other && self.has(cursor) && self.has(other)
     }
 }

@@ -19,7 +19,10 @@ impl<K: Key, T: Drop> StableList<K, T> {
         ensures* lends { sem 𝓛 (lends_value K.row T.row self.entry key result) }
         ensures value { value_of key self.old.elements ≡ Some result.now }
     {
-        &mut self.nodes[key].value
+        match self.get_mut(outer(key)) {
+            Some(value) => value,
+            None => unreachable!(),
+        }
     }
 
     // Removes the element of a key that stands, and drops its value.

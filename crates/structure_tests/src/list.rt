@@ -69,6 +69,19 @@ fn adds_several(rt: HostRuntime) -> Result<(), Fail> {
 }
 
 #[test]
+fn swaps(rt: HostRuntime) -> Result<(), Fail> {
+    let alloc = rt.alloc();
+    let (mut list, one, two) = pair(alloc)?;
+    let three = list.push_back(3)?;
+    assert!(rt; list.swap(one, three));
+    assert_eq!(rt; list.to_vec(alloc)?.as_slice(), [3, 2, 1].as_slice());
+    assert!(rt; list.swap(two, one));
+    assert_eq!(rt; list.to_vec(alloc)?.as_slice(), [3, 1, 2].as_slice());
+    assert_eq!(rt; list.get(one), Some(&1));
+    Ok(())
+}
+
+#[test]
 fn copies(rt: HostRuntime) -> Result<(), Fail> {
     let (mut list, one, _) = pair(rt.alloc())?;
     let copy = list.clone()?;

@@ -1,13 +1,16 @@
-use Rattle.std.proofs.Common.{◌≡◌, sym, subst, rules}
-use Rattle.slotmap.specs.Words.{KeepsSpent}
+use Rattle.std.proofs.Common.{◌≡◌, ◌+◌, ◌∷◌, [], length, length-append, ap, sym, subst, ◌∙◌, arith, rules}
+use Rattle.slotmap.specs.Words.{KeepsSpent, used}
 use Rattle.slotmap_list.specs.Additions.{Adds, refused}
-use Rattle.slotmap_list.proofs.Adding.{Adds-push, refused_is, full_after}
+use Rattle.slotmap_list.proofs.Adding.{Adds-push, refused_is, full_after, used_kept}
 use Rattle.slotmap_list.proofs.StableList.extend.Goals as goal
 
 pub loop-value-preserved : goal.loop-value-preserved
 loop-value-preserved g c =
     let at = c.loop-value in
     let more = Adds-push c.args.self.now.elements at.self.elements c.push_back.new.self.elements at.yielded (g.K.Key.data_of c.in_default.field-0) c.in-Some.value at.invariant.2.adds c.in_default.ensures.ok in
+    let long = ap length c.in_default.ensures.ok ∙ length-append at.self.elements ((g.K.Key.data_of c.in_default.field-0, c.in-Some.value) ∷ []) in
+    let slots : used c.push_back.new.self.cursors + length c.args.self.now.elements ≡ used c.args.self.now.cursors + length c.push_back.new.self.elements =
+    (let before = at.invariant.2.used in omega (arith, long, c.in_default.ensures.used)) in
     let gone : KeepsSpent c.args.self.now.cursors c.push_back.new.self.cursors = λ k spent. c.push_back.ensures.gone k (at.invariant.2.gone k spent) in
     search rules
 
@@ -23,6 +26,10 @@ returns-in-Err-clause-extends g c =
         ended = (c.next.new.self, rw back (search rules));
       },
     )
+
+pub returns-in-Err-clause-used : goal.returns-in-Err-clause-used
+returns-in-Err-clause-used g c =
+    omega (arith, c.loop-value.invariant.2.used, ap length c.in-Err.ensures.unchanged, used_kept c.loop-value.self.cursors c.push_back.new.self.cursors c.in-Err.ensures.keeps)
 
 pub returns-in-Err-clause-err : goal.returns-in-Err-clause-err
 returns-in-Err-clause-err g c = full_after c.loop-value.self.cursors _ c.in-Some.value c.in-Err.error c.in-Err.ensures.err c.in-Err.ensures.keeps

@@ -1,4 +1,5 @@
-use Rattle.slotmap.specs.Words.{KeepsSpent}
+use Rattle.std.proofs.Common.{◌≡◌, ◌+◌, length}
+use Rattle.slotmap.specs.Words.{KeepsSpent, used}
 use Rattle.slotmap_list.specs.Additions.{Adds}
 use Rattle.slotmap_list.proofs.StableList.extend.Given as goal
 
@@ -6,4 +7,8 @@ abbrev pub invariant-loop-value : goal.invariant-loop-value
 invariant-loop-value g l =
     (goal.iterator-loop-value g).can_next l.value-iterator
     × (goal.iterator-loop-value g).is_finite l.value-iterator
-    × record { adds : Adds l.fn.self.elements l.yielded l.self.elements; gone : KeepsSpent l.fn.self.cursors l.self.cursors }
+    × record {
+      adds : Adds l.fn.self.elements l.yielded l.self.elements;
+      used : used l.self.cursors + length l.fn.self.elements ≡ used l.fn.self.cursors + length l.self.elements;
+      gone : KeepsSpent l.fn.self.cursors l.self.cursors;
+    }

@@ -1,10 +1,8 @@
-use Rattle.std.proofs.Common.{None, refl, subst, sym, ap, ◌∙◌}
-use Rattle.slotmap_list.specs.Sequence.{Sequence}
-use Rattle.slotmap_list.specs.Chain.{IsChain}
-use Rattle.slotmap_list.proofs.NodeLists.{elements_are}
-use Rattle.slotmap_list.proofs.Chains.{chain_is, self_chain}
+use Rattle.std.proofs.Common.{refl, sym, ap, ◌∙◌}
 use Rattle.slotmap_keylist.proofs.Alone.{same_live}
-use Rattle.slotmap_list.proofs.Moving.{stands_here, mover_stands, move_stays, neighbours, both_stand, place_gap, place_there, to_place, seen_as}
+use Rattle.slotmap_list.specs.Sequence.{Sequence}
+use Rattle.slotmap_list.proofs.Chains.{chain_is, self_chain, stands_here, neighbours, shown}
+use Rattle.slotmap_list.proofs.Moving.{mover_stands, move_stays, move_there, neighbours_placed, chain_moved, seen_as}
 use Rattle.slotmap_list.proofs.StableList.move_to.Goals as goal
 
 pub returns-then-not-can_move-clause-moved : goal.returns-then-not-can_move-clause-moved
@@ -12,43 +10,30 @@ returns-then-not-can_move-clause-moved g c =
     seen_as c.args.self.now c.args.self.now.elements _ c.args.self.now.cursors (move_stays c.args.place c.args.cursor c.args.self.now.elements (sym c.can_move.ensures ∙ c.if-not-can_move.true)) refl
 
 pub unlink-requires-clause-stands : goal.unlink-requires-clause-stands
-unlink-requires-clause-stands g c =
-    let chain = subst (IsChain c.self.inside.nodes.live c.self.inside.first c.self.inside.last) (elements_are c.self.view_is) c.self.invariant in
-    stands_here _ _ _ _ c.args.cursor chain ∙ mover_stands c.args.place c.args.cursor _ (sym c.can_move.ensures ∙ c.if-not-can_move.false)
+unlink-requires-clause-stands g c = stands_here (shown c.self.invariant c.self.view_is) c.args.cursor ∙ mover_stands c.args.place c.args.cursor _ (sym c.can_move.ensures ∙ c.if-not-can_move.false)
 
 pub unlink-requires-clause-linked : goal.unlink-requires-clause-linked
-unlink-requires-clause-linked g c = neighbours _ _ _ _ c.args.cursor c.self.invariant
+unlink-requires-clause-linked g c = neighbours c.self.invariant c.args.cursor
 
 pub unreachable-requires : goal.unreachable-requires
 unreachable-requires g c =
-    let chain = subst (IsChain c.self.inside.nodes.live c.self.inside.first c.self.inside.last) (elements_are c.self.view_is) c.self.invariant in
-    place_there _ _ c.unlink.new.nodes.live _ _ _ _ None None _ _ chain c.unlink.ensures.unlinks c.args.place (sym c.can_move.ensures ∙ c.if-not-can_move.false)
-    (same_live _ _ c.unlink.ensures.keys) (sym c.in_default.ensures)
+    move_there (shown c.self.invariant c.self.view_is) c.unlink.ensures.unlinks c.args.place (sym c.can_move.ensures ∙ c.if-not-can_move.false) (sym c.in_default.ensures)
 
 pub link-requires-clause-stands : goal.link-requires-clause-stands
 link-requires-clause-stands g c =
-    let chain = subst (IsChain c.self.inside.nodes.live c.self.inside.first c.self.inside.last) (elements_are c.self.view_is) c.self.invariant in
-    same_live _ _ c.unlink.ensures.keys c.args.cursor ∙ stands_here _ _ _ _ c.args.cursor chain ∙ mover_stands c.args.place c.args.cursor _ (sym c.can_move.ensures ∙ c.if-not-can_move.false)
+    same_live _ _ c.unlink.ensures.keys c.args.cursor ∙ stands_here (shown c.self.invariant c.self.view_is) c.args.cursor
+    ∙ mover_stands c.args.place c.args.cursor _ (sym c.can_move.ensures ∙ c.if-not-can_move.false)
 
-pub link-requires-clause-prev_stands : goal.link-requires-clause-prev_stands
-link-requires-clause-prev_stands g c =
-    let chain = subst (IsChain c.self.inside.nodes.live c.self.inside.first c.self.inside.last) (elements_are c.self.view_is) c.self.invariant in
-    (both_stand _ _ c.unlink.new.nodes.live _ _ _ _ None None _ _ chain c.unlink.ensures.unlinks _ _
-    (place_gap _ _ c.unlink.new.nodes.live _ _ _ _ None None _ _ chain c.unlink.ensures.unlinks c.args.place _ _ (sym c.can_move.ensures ∙ c.if-not-can_move.false) (sym c.in-Some.ensures))).0
-
-pub link-requires-clause-next_stands : goal.link-requires-clause-next_stands
-link-requires-clause-next_stands g c =
-    let chain = subst (IsChain c.self.inside.nodes.live c.self.inside.first c.self.inside.last) (elements_are c.self.view_is) c.self.invariant in
-    (both_stand _ _ c.unlink.new.nodes.live _ _ _ _ None None _ _ chain c.unlink.ensures.unlinks _ _
-    (place_gap _ _ c.unlink.new.nodes.live _ _ _ _ None None _ _ chain c.unlink.ensures.unlinks c.args.place _ _ (sym c.can_move.ensures ∙ c.if-not-can_move.false) (sym c.in-Some.ensures))).1
+pub link-requires-clause-linked : goal.link-requires-clause-linked
+link-requires-clause-linked g c =
+    neighbours_placed (shown c.self.invariant c.self.view_is) c.unlink.ensures.unlinks c.args.place (sym c.can_move.ensures ∙ c.if-not-can_move.false) (sym c.in-Some.ensures)
 
 pub invariant_of-self : goal.invariant_of-self
 invariant_of-self g c =
-    let chain = subst (IsChain c.self.inside.nodes.live c.self.inside.first c.self.inside.last) (elements_are c.self.view_is) c.self.invariant in
-    self_chain _ _ _ _ (to_place _ _ _ _ _ _ _ _ _ _ _ chain c.unlink.ensures.unlinks c.args.place _ _ (sym c.can_move.ensures ∙ c.if-not-can_move.false) (sym c.in-Some.ensures) c.link.ensures.links)
+    self_chain (chain_moved (shown c.self.invariant c.self.view_is) c.unlink.ensures.unlinks c.args.place (sym c.can_move.ensures ∙ c.if-not-can_move.false) (sym c.in-Some.ensures)
+    c.link.ensures.links (same_live _ _ (c.link.ensures.keys ∙ c.unlink.ensures.keys)))
 
 pub returns-clause-moved : goal.returns-clause-moved
 returns-clause-moved g c =
-    let chain = subst (IsChain c.self.inside.nodes.live c.self.inside.first c.self.inside.last) (elements_are c.self.view_is) c.self.invariant in
-    seen_as c.args.self.now _ _ _ (chain_is _ _ _ _ (to_place _ _ _ _ _ _ _ _ _ _ _ chain c.unlink.ensures.unlinks c.args.place _ _ (sym c.can_move.ensures ∙ c.if-not-can_move.false) (sym c.in-Some.ensures) c.link.ensures.links))
-    (c.link.ensures.keys ∙ c.unlink.ensures.keys ∙ ap (λ (s : Sequence _). s.cursors) c.self.view_is)
+    seen_as c.args.self.now _ _ _ (chain_is (chain_moved (shown c.self.invariant c.self.view_is) c.unlink.ensures.unlinks c.args.place (sym c.can_move.ensures ∙ c.if-not-can_move.false) (sym c.in-Some.ensures)
+    c.link.ensures.links (same_live _ _ (c.link.ensures.keys ∙ c.unlink.ensures.keys)))) (c.link.ensures.keys ∙ c.unlink.ensures.keys ∙ ap (λ (s : Sequence _). s.cursors) c.self.view_is)

@@ -1,52 +1,38 @@
-use Rattle.std.proofs.Common.{true, is_err, is_some, ap, sym, ◌∙◌, subst, refl, rules}
+use Rattle.std.proofs.Common.{◌+◌, true, is_err, is_some, ap, sym, ◌∙◌, refl, rules}
 use Rattle.std.specs.Option.{option_map}
-use Rattle.slotmap_list.specs.Sequence.{value_of}
-use Rattle.slotmap_list.specs.Chain.{IsChain}
-use Rattle.slotmap_list.proofs.NodeLists.{elements_are}
-use Rattle.slotmap_list.proofs.Chains.{value_found, put_chain, added_stands, self_chain, chain_is}
+use Rattle.slotmap.specs.Words.{used}
 use Rattle.slotmap.proofs.Callers.{spent_insert, get-insert_here}
-use Rattle.slotmap_keylist.proofs.Alone.{alone-inserts, alone-keeps, gone_stays, new_not_gone}
+use Rattle.slotmap_keylist.proofs.Alone.{alone-inserts, alone-keeps, gone_stays, new_not_gone, same_live, used_alone}
 use Rattle.slotmap_keylist.proofs.NotNull.{live_not_null-reuses}
+use Rattle.slotmap_list.specs.Sequence.{Sequence}
+use Rattle.slotmap_list.proofs.Adding.{used_inserted}
+use Rattle.slotmap_list.proofs.Chains.{value_found, self_chain, chain_is, shown}
+use Rattle.slotmap_list.proofs.Places.{place_there, neighbours_put, chain_put}
 use Rattle.slotmap_list.proofs.StableList.put.Goals as goal
+
+pub unreachable-requires : goal.unreachable-requires
+unreachable-requires g c = place_there (shown c.self.invariant c.self.view_is).row c.args.place c.requires (sym c.in_default.ensures)
 
 pub some-on-requires : goal.some-on-requires
 some-on-requires g c =
     let there = get-insert_here c.self.inside.nodes.live c.in_ok-key.key _ in
     live_not_null-reuses _ c.add.ensures.valid.after c.in_ok-key.key (rw c.in_ok-key.ensures.ok.live (ap is_some there))
 
-pub relink-requires-clause-prev_stands : goal.relink-requires-clause-prev_stands
-relink-requires-clause-prev_stands g c =
-    let chain = subst (IsChain c.self.inside.nodes.live c.self.inside.first c.self.inside.last) (elements_are c.self.view_is) c.self.invariant in
-    (added_stands _ _ _ _ _ _ _ _ _ c.requires chain c.in_ok-key.ensures.ok.live).0
-
-pub relink-requires-clause-next_stands : goal.relink-requires-clause-next_stands
-relink-requires-clause-next_stands g c =
-    let chain = subst (IsChain c.self.inside.nodes.live c.self.inside.first c.self.inside.last) (elements_are c.self.view_is) c.self.invariant in
-    (added_stands _ _ _ _ _ _ _ _ _ c.requires chain c.in_ok-key.ensures.ok.live).1
+pub relink-requires : goal.relink-requires
+relink-requires g c = neighbours_put (shown c.self.invariant c.self.view_is) c.args.place c.requires (sym c.in-Some.ensures) c.in_ok-key.key c.args.value c.in_ok-key.ensures.fresh (rw (c.copied.ensures, c.copied-2.ensures) at c.in_ok-key.ensures.ok.live)
 
 pub invariant_of-self-2 : goal.invariant_of-self-2
 invariant_of-self-2 g c =
-    let chain = subst (IsChain c.self.inside.nodes.live c.self.inside.first c.self.inside.last) (elements_are c.self.view_is) c.self.invariant in
-    self_chain _ _ _ _ (put_chain _ _ _ _ _ c.args.prev c.args.next _ _ c.args.self.now.elements c.requires c.in_ok-key.key c.args.value chain
-    c.in_ok-key.ensures.fresh (rw (c.copied.ensures, c.copied-2.ensures) at c.in_ok-key.ensures.ok.live) (rw (c.copied-back.ensures, c.some-on.ensures) at c.relink.ensures.links))
+    self_chain (chain_put (shown c.self.invariant c.self.view_is) c.args.place c.requires (sym c.in-Some.ensures) c.in_ok-key.key c.args.value c.in_ok-key.ensures.fresh
+    (rw (c.copied.ensures, c.copied-2.ensures) at c.in_ok-key.ensures.ok.live) (rw (c.copied-back.ensures, c.some-on.ensures) at c.relink.ensures.links) (same_live _ _ c.relink.ensures.keys))
 
 pub returns-clause-ok : goal.returns-clause-ok
 returns-clause-ok g c =
-    let chain = subst (IsChain c.self.inside.nodes.live c.self.inside.first c.self.inside.last) (elements_are c.self.view_is) c.self.invariant in (
-      c.requires.0,
-      (
-        c.requires.1.0,
-        c.requires.1.1,
-        c.requires.1.2,
-        c.requires.1.3,
-        chain_is _ _ _ _ (put_chain _ _ _ _ _ c.args.prev c.args.next _ _ c.args.self.now.elements c.requires c.in_ok-key.key c.args.value chain
-            c.in_ok-key.ensures.fresh (rw (c.copied.ensures, c.copied-2.ensures) at c.in_ok-key.ensures.ok.live) (rw (c.copied-back.ensures, c.some-on.ensures) at c.relink.ensures.links)),
-      ),
-    )
+    chain_is (chain_put (shown c.self.invariant c.self.view_is) c.args.place c.requires (sym c.in-Some.ensures) c.in_ok-key.key c.args.value c.in_ok-key.ensures.fresh
+    (rw (c.copied.ensures, c.copied-2.ensures) at c.in_ok-key.ensures.ok.live) (rw (c.copied-back.ensures, c.some-on.ensures) at c.relink.ensures.links) (same_live _ _ c.relink.ensures.keys))
 
 pub returns-clause-fresh : goal.returns-clause-fresh
-returns-clause-fresh g c =
-    sym (value_found _ _ _ _ c.in_ok-key.key c.self.invariant ∙ ap (value_of c.in_ok-key.key) (elements_are c.self.view_is)) ∙ ap (option_map (λ n. n.value)) c.in_ok-key.ensures.fresh
+returns-clause-fresh g c = sym (value_found (shown c.self.invariant c.self.view_is) c.in_ok-key.key) ∙ ap (option_map (λ n. n.value)) c.in_ok-key.ensures.fresh
 
 pub returns-clause-unspent : goal.returns-clause-unspent
 returns-clause-unspent g c = rw (← c.self.view_is) (new_not_gone _ _ c.add.ensures.valid.before _ _ c.in_ok-key.ensures.ok)
@@ -60,6 +46,11 @@ returns-in_err-key-clause-gone g c = rw (← c.self.view_is) (gone_stays _ _ _ r
 
 pub returns-in_err-key-clause-err : goal.returns-in_err-key-clause-err
 returns-in_err-key-clause-err g c = rw (← c.self.view_is) (search rules)
+
+pub returns-clause-used : goal.returns-clause-used
+returns-clause-used g c =
+    ap used c.relink.ensures.keys ∙ used_alone c.add.new.nodes ∙ used_inserted _ _ _ _ c.in_ok-key.ensures.fresh c.in_ok-key.ensures.ok
+    ∙ ap (λ n. n + 1) (sym (used_alone c.self.inside.nodes) ∙ ap (λ (s : Sequence _). used s.cursors) c.self.view_is)
 
 pub returns-clause-cursors : goal.returns-clause-cursors
 returns-clause-cursors g c = rw (c.relink.ensures.keys, ← c.self.view_is) (alone-inserts _ _ _ _ c.in_ok-key.ensures.ok)

@@ -1,15 +1,11 @@
-use Rattle.std.proofs.Common.{◌≡◌, true, is_some, ap, ◌∙◌}
-use Rattle.std.specs.FinMap as map
-use Rattle.slotmap_list.proofs.NodeLists.{if_some_so}
-use Rattle.slotmap_list.proofs.Chains.{stands-insert}
+use Rattle.std.proofs.Common.{is_some, ap, ◌∙◌}
+use Rattle.slotmap.proofs.Callers.{live-insert_still}
+use Rattle.slotmap_list.proofs.Rows.{both_so}
 use Rattle.slotmap_keylist.proofs.Alone.{alone-written}
 use Rattle.slotmap_list.proofs.links.link.Goals as goal
 
-pub relink-requires-clause-prev_stands : goal.relink-requires-clause-prev_stands
-relink-requires-clause-prev_stands g c = if_some_so (λ k. map.contains_key c.args.nodes.now.live k ≡ true) _ c.args.prev (λ k there. stands-insert _ _ _ k there) c.requires.prev_stands
-
-pub relink-requires-clause-next_stands : goal.relink-requires-clause-next_stands
-relink-requires-clause-next_stands g c = if_some_so (λ k. map.contains_key c.args.nodes.now.live k ≡ true) _ c.args.next (λ k there. stands-insert _ _ _ k there) c.requires.next_stands
+pub relink-requires : goal.relink-requires
+relink-requires g c = both_so c.args.nodes.now.live _ c.args.prev c.args.next (live-insert_still _ _ _) c.requires.linked
 
 pub returns-clause-links : goal.returns-clause-links
 returns-clause-links g c = record {

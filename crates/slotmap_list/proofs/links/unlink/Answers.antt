@@ -1,10 +1,7 @@
 use Rattle.slotmap_list.proofs.links.unlink.Goals as goal
 
-pub relink-requires-clause-prev_stands : goal.relink-requires-clause-prev_stands
-relink-requires-clause-prev_stands g c = rw (c.copied.ensures, c.copied-prev.ensures) (c.requires.linked _ c.index-node.ensures).0
-
-pub relink-requires-clause-next_stands : goal.relink-requires-clause-next_stands
-relink-requires-clause-next_stands g c = rw (c.copied-2.ensures, c.copied-next.ensures) (c.requires.linked _ c.index-node.ensures).1
+pub relink-requires : goal.relink-requires
+relink-requires g c = rw (c.copied.ensures, c.copied-2.ensures, c.copied-prev.ensures, c.copied-next.ensures) (c.requires.linked _ c.index-node.ensures)
 
 pub returns-clause-unlinks : goal.returns-clause-unlinks
 returns-clause-unlinks g c = record {

@@ -3,4 +3,4 @@ use Rattle.slotmap_list.proofs.Iterated.{walk_length}
 use Rattle.slotmap_list.proofs.iter.IterExactSizeIterator.len.Goals as goal
 
 pub returns-clause-value : goal.returns-clause-value
-returns-clause-value g c = walk_length _ _ _ _ c.self.invariant ∙ ap length c.self.view_is
+returns-clause-value g c = walk_length c.self.invariant ∙ ap length c.self.view_is

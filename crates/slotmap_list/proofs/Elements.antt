@@ -1,0 +1,196 @@
+-- Lists of elements: how often a key stands in one, its two ends, and its parts.
+use Rattle.std.proofs.Common.{◌≡◌, ◌≢◌, ℕ, ◌+◌, ◌<◌, ◌≤◌, ◌⊎◌, Bool, true, false, cond, List, [], ◌∷◌, ◌++◌, Option, Some, None, IsSome}
+use Rattle.std.proofs.Common.{length, refl, sym, ap, ◌∙◌, inl, inr, arith, length-append}
+use Rattle.std.specs.Ordering.{eq_by_cmp}
+use Rattle.slotmap.specs.Words.{Key, key_cmp}
+use Rattle.slotmap.proofs.Callers.{keys_total, exact_keys, tied, untied, itself, same_or_other}
+use Rattle.slotmap_list.specs.Sequence.{value_of, first_or, last_or, key_after, key_before, put_after, put_before, without, with_value_at, IsOnce}
+
+abbrev pub same : Key → Key → Bool
+same q k = eq_by_cmp key_cmp q k
+
+-- by whether two keys are one
+pub by_key : (P : Bool → Type 0) (q k : Key) → (q ≡ k → P true) → (q ≢ k → same q k ≡ false → P false) → P (same q k)
+by_key P q k here there = elim (same q k) as (λ b. same q k ≡ b → P b) [ true ↦ λ t. here (tied keys_total exact_keys q k t) | false ↦ λ t. there (untied keys_total exact_keys q k t) t ] refl
+
+pub other_key : (q k : Key) → q ≢ k → same q k ≡ false
+other_key q k other = by_key (λ b. b ≡ false) q k (λ e. absurd (other e)) (λ _ _. refl)
+
+pub cond_none : {A : Type 0} (b : Bool) (x : A) (o : Option A) → cond b (Some x) o ≡ None → (b ≡ false) × (o ≡ None)
+cond_none true x o h = absurd (cc)
+cond_none false x o h = (refl, h)
+
+-- 1 for one key, 0 for two
+pub one : Key → Key → ℕ
+one q k = cond (same q k) 1 0
+
+pub one_itself : (k : Key) → one k k ≡ 1
+unfolding one
+one_itself k = ap (λ b. cond b 1 0) (itself keys_total exact_keys k)
+
+pub one_other : (q k : Key) → q ≢ k → one q k ≡ 0
+unfolding one
+one_other q k other = ap (λ b. cond b 1 0) (other_key q k other)
+
+-- the first key of a list is this one, or another
+pub itself_first : (k : Key) → same k k ≡ true
+itself_first k = itself keys_total exact_keys k
+
+pub apart_first : (q k : Key) → one q k ≡ 0 → same q k ≡ false
+apart_first q k none = other_key q k (λ e. absurd (let here = ap (one q) (sym e) ∙ one_itself q in omega arith))
+
+module _ {T : Type 0} where
+  -- how often a key stands in a list
+  abbrev pub times : Key → List (Key × T) → ℕ
+  times q [] = 0
+  times q (e ∷ es) = one q e.0 + times q es
+
+  pub times-append : (q : Key) (xs ys : List (Key × T)) → times q (xs ++ ys) ≡ times q xs + times q ys
+  times-append q [] ys = omega arith
+  times-append q (x ∷ xs) ys = omega (arith, times-append q xs ys)
+
+  pub times-parts : (q : Key) (ys mid zs : List (Key × T)) → times q (ys ++ (mid ++ zs)) ≡ times q ys + (times q mid + times q zs)
+  times-parts q ys mid zs = omega (arith, times-append q ys (mid ++ zs), times-append q mid zs)
+
+  -- one element more
+  pub times-put : (q : Key) (ys : List (Key × T)) (e : Key × T) (zs : List (Key × T)) → times q (ys ++ e ∷ zs) ≡ one q e.0 + times q (ys ++ zs)
+  times-put q ys e zs = omega (arith, times-append q ys (e ∷ zs), times-append q ys zs)
+
+  pub length-put : (ys : List (Key × T)) (e : Key × T) (zs : List (Key × T)) → length (ys ++ e ∷ zs) ≡ 1 + length (ys ++ zs)
+  length-put ys e zs = omega (arith, length-append ys (e ∷ zs), length-append ys zs)
+
+  pub times_none : (q : Key) (es : List (Key × T)) → value_of q es ≡ None → times q es ≡ 0
+  times_none q [] none = refl
+  times_none q (e ∷ es) none = grind (arith, times_none q es, one_other q e.0, untied keys_total exact_keys q e.0)
+
+  pub none_there : (q : Key) (es : List (Key × T)) → times q es ≡ 0 → value_of q es ≡ None
+  none_there q [] none = refl
+  none_there q (e ∷ es) none = grind (arith, none_there q es, one_itself q, tied keys_total exact_keys q e.0)
+
+  pub times_some : (q : Key) (es : List (Key × T)) → IsSome (value_of q es) → 0 < times q es
+  times_some q [] some = absurd (cc)
+  times_some q (e ∷ es) some = grind (arith, times_some q es, one_itself q, tied keys_total exact_keys q e.0)
+
+  pub some_there : (q : Key) (es : List (Key × T)) → 0 < times q es → IsSome (value_of q es)
+  some_there q [] more = absurd (omega arith)
+  some_there q (e ∷ es) more = grind (arith, some_there q es, one_other q e.0, untied keys_total exact_keys q e.0)
+
+  -- no key stands twice
+  pub at_most_once : (es : List (Key × T)) → IsOnce es → (q : Key) → times q es ≤ 1
+  at_most_once [] once q = omega arith
+  at_most_once (e ∷ es) once q = grind (arith, at_most_once es once.1 q, times_none e.0 es once.0, one_itself q, one_other q e.0, same_or_other q e.0)
+
+  pub once_if : (es : List (Key × T)) → ((q : Key) → times q es ≤ 1) → IsOnce es
+  once_if [] few = tt
+  once_if (e ∷ es) few = (none_there e.0 es (let here = few e.0 in let first = one_itself e.0 in omega arith), once_if es (λ q. (let here = few q in omega arith)))
+
+  -- what is before a key that stands once, and what is behind it
+  pub absent_before : (ys : List (Key × T)) (k : Key) (v : T) (zs : List (Key × T)) → IsOnce (ys ++ (k, v) ∷ zs) → (times k ys ≡ 0) × (times k zs ≡ 0)
+  absent_before ys k v zs once =
+      let few = at_most_once (ys ++ (k, v) ∷ zs) once k in
+      let sum = times-append k ys ((k, v) ∷ zs) in
+      let first = one_itself k in
+      (omega arith, omega arith)
+
+  pub once_drop : (ys : List (Key × T)) (e : Key × T) (zs : List (Key × T)) → IsOnce (ys ++ e ∷ zs) → IsOnce (ys ++ zs)
+  once_drop ys e zs once = once_if (ys ++ zs) (λ q. (let few = at_most_once (ys ++ e ∷ zs) once q in let sum = times-put q ys e zs in omega arith))
+
+  pub once_put : (ys : List (Key × T)) (k : Key) (v : T) (zs : List (Key × T)) → IsOnce (ys ++ zs) → times k (ys ++ zs) ≡ 0 → IsOnce (ys ++ (k, v) ∷ zs)
+  once_put ys k v zs once none = once_if (ys ++ (k, v) ∷ zs) (λ q. grind (arith, at_most_once (ys ++ zs) once q, times-put q ys (k, v) zs, one_itself q, one_other q k, same_or_other q k))
+
+  -- the ends of a list
+  pub first_or-append : (xs ys : List (Key × T)) (o : Option Key) → first_or (xs ++ ys) o ≡ first_or xs (first_or ys o)
+  first_or-append [] ys o = refl
+  first_or-append (x ∷ xs) ys o = refl
+
+  pub last_or-append : (xs ys : List (Key × T)) (o : Option Key) → last_or (xs ++ ys) o ≡ last_or ys (last_or xs o)
+  last_or-append [] ys o = refl
+  last_or-append (x ∷ xs) ys o = last_or-append xs ys (Some x.0)
+
+  pub front_of : (es : List (Key × T)) (k : Key) → first_or es None ≡ Some k → (v : T) × (zs : List (Key × T)) × (es ≡ (k, v) ∷ zs)
+  front_of [] k is = absurd (cc)
+  front_of (e ∷ es) k is = (e.1, es, ap (λ q. (q, e.1) ∷ es) (let name : e.0 ≡ k = cc in name))
+
+  pub no_first : (es : List (Key × T)) → first_or es None ≡ None → es ≡ []
+  no_first [] is = refl
+  no_first (e ∷ es) is = absurd (cc)
+
+  pub first_in : (es : List (Key × T)) (k : Key) → first_or es None ≡ Some k → 0 < times k es
+  first_in es k is = let f = front_of es k is in let here = one_itself k in let sum = ap (times k) f.2 in omega arith
+
+  last_some : (es : List (Key × T)) (k : Key) → (l : Key) × (last_or es (Some k) ≡ Some l)
+  last_some [] k = (k, refl)
+  last_some (e ∷ es) k = last_some es e.0
+
+  pub no_last : (es : List (Key × T)) → last_or es None ≡ None → es ≡ []
+  no_last [] is = refl
+  no_last (e ∷ es) is = absurd (let l = last_some es e.0 in let h = sym l.1 ∙ is in cc)
+
+  split_last : (e : Key × T) (es : List (Key × T)) (k : Key) → last_or es (Some e.0) ≡ Some k → (ys : List (Key × T)) × (v : T) × (e ∷ es ≡ ys ++ (k, v) ∷ [])
+  split_last e [] k is = ([], e.1, ap (λ q. (q, e.1) ∷ []) (let name : e.0 ≡ k = cc in name))
+  split_last e (x ∷ es) k is = let rest = split_last x es k is in (e ∷ rest.0, rest.1, ap (λ l. e ∷ l) rest.2)
+
+  -- a list with a last key
+  pub back_of : (es : List (Key × T)) (k : Key) → last_or es None ≡ Some k → (ys : List (Key × T)) × (v : T) × (es ≡ ys ++ (k, v) ∷ [])
+  back_of [] k is = absurd (cc)
+  back_of (e ∷ es) k is = split_last e es k is
+
+  pub last_in : (es : List (Key × T)) (k : Key) → last_or es None ≡ Some k → 0 < times k es
+  last_in es k is = let b = back_of es k is in let sum = ap (times k) b.2 ∙ times-append k b.0 ((k, b.1) ∷ []) in let here = one_itself k in omega arith
+
+  -- a key that stands in a list splits it
+  pub parts_at : (xs : List (Key × T)) (k : Key) → 0 < times k xs → (ys : List (Key × T)) × (v : T) × (zs : List (Key × T)) × (xs ≡ ys ++ (k, v) ∷ zs)
+  parts_at [] k more = absurd (omega arith)
+  parts_at (x ∷ xs) k more = elim (same_or_other k x.0) [
+    | inl is ↦ ([], x.1, xs, ap (λ q. (q, x.1) ∷ xs) (sym is))
+    | inr other ↦ (let rest = parts_at xs k (let first = one_other k x.0 other in omega arith) in (x ∷ rest.0, rest.1, rest.2, ap (λ l. x ∷ l) rest.3))
+  ]
+
+  -- what the words of a list say of a key that stands behind this part
+  module _ (k : Key) (v : T) (zs : List (Key × T)) where
+    pub value_of-split : (ys : List (Key × T)) → times k ys ≡ 0 → value_of k (ys ++ (k, v) ∷ zs) ≡ Some v
+    value_of-split [] none = let here = itself_first k in cc
+    value_of-split (y ∷ ys) none = let apart = apart_first k y.0 (omega arith) in let rest = value_of-split ys (omega arith) in cc
+
+    pub key_after-split : (ys : List (Key × T)) → times k ys ≡ 0 → key_after k (ys ++ (k, v) ∷ zs) ≡ first_or zs None
+    key_after-split [] none = let here = itself_first k in cc
+    key_after-split (y ∷ ys) none = let apart = apart_first k y.0 (omega arith) in let rest = key_after-split ys (omega arith) in cc
+
+    pub key_before-split : (p : Option Key) (ys : List (Key × T)) → times k ys ≡ 0 → key_before p k (ys ++ (k, v) ∷ zs) ≡ last_or ys p
+    key_before-split p [] none = let here = itself_first k in cc
+    key_before-split p (y ∷ ys) none = let apart = apart_first k y.0 (omega arith) in let rest = key_before-split (Some y.0) ys (omega arith) in cc
+
+    pub put_after-split : (x : Key × T) (ys : List (Key × T)) → times k ys ≡ 0 → put_after k x (ys ++ (k, v) ∷ zs) ≡ ys ++ (k, v) ∷ x ∷ zs
+    put_after-split x [] none = let here = itself_first k in cc
+    put_after-split x (y ∷ ys) none = let apart = apart_first k y.0 (omega arith) in let rest = put_after-split x ys (omega arith) in cc
+
+    pub put_before-split : (x : Key × T) (ys : List (Key × T)) → times k ys ≡ 0 → put_before k x (ys ++ (k, v) ∷ zs) ≡ ys ++ x ∷ (k, v) ∷ zs
+    put_before-split x [] none = let here = itself_first k in cc
+    put_before-split x (y ∷ ys) none = let apart = apart_first k y.0 (omega arith) in let rest = put_before-split x ys (omega arith) in cc
+
+    pub without-split : (ys : List (Key × T)) → times k ys ≡ 0 → without k (ys ++ (k, v) ∷ zs) ≡ ys ++ zs
+    without-split [] none = let here = itself_first k in cc
+    without-split (y ∷ ys) none = let apart = apart_first k y.0 (omega arith) in let rest = without-split ys (omega arith) in cc
+
+    pub with_value-split : (w : T) (ys : List (Key × T)) → times k ys ≡ 0 → with_value_at k w (ys ++ (k, v) ∷ zs) ≡ ys ++ (k, w) ∷ zs
+    with_value-split w [] none = let here = itself_first k in cc
+    with_value-split w (y ∷ ys) none = let apart = apart_first k y.0 (omega arith) in let rest = with_value-split w ys (omega arith) in cc
+
+  -- what is found in a list with one more element
+  pub value_of_pushed : (q : Key) (xs : List (Key × T)) (k : Key) (v w : T) → value_of q (xs ++ (k, v) ∷ []) ≡ Some w → (value_of q xs ≡ Some w) ⊎ (v ≡ w)
+  value_of_pushed q [] k v w = by_key (λ b. cond b (Some v) None ≡ Some w → (◌≡◌ {A = Option T} None (Some w)) ⊎ (v ≡ w)) q k (λ _ found. inr (cc)) (λ _ _ found. inl found)
+  value_of_pushed q (x ∷ xs) k v w = by_key (λ b. cond b (Some x.1) (value_of q (xs ++ (k, v) ∷ [])) ≡ Some w → (cond b (Some x.1) (value_of q xs) ≡ Some w) ⊎ (v ≡ w)) q x.0
+      (λ _ found. inl found) (λ _ _ found. value_of_pushed q xs k v w found)
+
+  -- and of one that doesn't stand
+  pub key_after-absent : (k : Key) (xs : List (Key × T)) → times k xs ≡ 0 → key_after k xs ≡ None
+  key_after-absent k [] none = refl
+  key_after-absent k (x ∷ xs) none = let apart = apart_first k x.0 (omega arith) in let rest = key_after-absent k xs (omega arith) in cc
+
+  pub key_before-absent : (k : Key) (p : Option Key) (xs : List (Key × T)) → times k xs ≡ 0 → key_before p k xs ≡ None
+  key_before-absent k p [] none = refl
+  key_before-absent k p (x ∷ xs) none = let apart = apart_first k x.0 (omega arith) in let rest = key_before-absent k (Some x.0) xs (omega arith) in cc
+
+  pub without-absent : (k : Key) (xs : List (Key × T)) → times k xs ≡ 0 → without k xs ≡ xs
+  without-absent k [] none = refl
+  without-absent k (x ∷ xs) none = let apart = apart_first k x.0 (omega arith) in let rest = without-absent k xs (omega arith) in cc
