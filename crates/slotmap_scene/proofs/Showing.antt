@@ -3,6 +3,7 @@ use Rattle.std.proofs.Common.{◌≡◌, ℕ, true, false, Option, Some, None, R
 use Rattle.std.specs.Option.{option_map}
 use Rattle.std.specs.FinMap as map
 use Rattle.std.proofs.lemmas.Option.{same_Some}
+use Rattle.std.proofs.lemmas.Simd.{map-map}
 use Rattle.slotmap.specs.Words.{Key, Content, IsContent, KeepsSpent, Inserts, Keeps, Leaves, MakesRoom}
 use Rattle.slotmap.proofs.Callers.{get-insert_here, get-insert_other, same_or_other, keys_total, exact_keys}
 use Rattle.slotmap.specs.declared.InsertError.{InsertError}
@@ -11,11 +12,11 @@ use Rattle.slotmap_keylist.specs.Linked.{followed}
 use Rattle.slotmap_keylist.proofs.Mapped.{entries-mapped, get-mapped, contains-mapped, len-mapped}
 use Rattle.slotmap_keylist.proofs.Shown.{shown_content, shown_keeps_spent, shown_inserts, shown_keeps, shown_leaves, shown_makes_room}
 use Rattle.slotmap_scene.specs.declared.links.LinkedNode.{LinkedNode}
-use Rattle.slotmap_scene.specs.Node.{Node, Nodes}
+use Rattle.slotmap_scene.specs.Node.{Node, Nodes, node_value}
 use Rattle.slotmap_scene.specs.Above.{roots_in}
 use Rattle.slotmap_scene.specs.Climb.{parent_in, parent_of}
 use Rattle.slotmap_scene.specs.Family.{child, children_in, children_of, value_of}
-use Rattle.slotmap_scene.specs.LinkedNodes.{LinkedNodes, ends_in, leaf, led_to, link_in, link_of, linked_roots, shown_under, shown_scene, shown_node, shown_nodes, IsWoven}
+use Rattle.slotmap_scene.specs.LinkedNodes.{LinkedNodes, ends_in, leaf, led_to, link_in, link_of, linked_roots, linked_value, shown_under, shown_scene, shown_node, shown_nodes, IsWoven}
 use Rattle.slotmap_scene.specs.Refusals.{RefusesNode}
 use Rattle.slotmap_scene.proofs.Weaving.{woven_same}
 
@@ -87,6 +88,9 @@ module _ {T : Type 0} where
         by : (es : List (Key × LinkedNode T)) → linked_roots es ≡ roots_in (list_map (λ e. (e.0, shown_node m e.1)) es)
         by [] = refl
         by (e ∷ es) = ap (λ l. cond (is_some e.1.parent) l (e.0 ∷ l)) (by es)
+
+    pub shown_values : list_map linked_value (map.entries m) ≡ list_map node_value (map.entries (shown_nodes m))
+    shown_values = sym (ap (list_map node_value) (entries-mapped (shown_node m) m) ∙ map-map node_value _ (map.entries m))
 
   -- a node with the same children is shown as it was
   pub shown_still : (m new : LinkedNodes T) (q : Key) → led_to new q ≡ led_to m q → map.get new q ≡ map.get m q → map.get (shown_nodes new) q ≡ map.get (shown_nodes m) q

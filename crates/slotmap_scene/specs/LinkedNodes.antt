@@ -59,6 +59,10 @@ module _ {T : Type 0} where
   abbrev pub linked_roots : List (Key × LinkedNode T) → List Key
   linked_roots nodes = roots_by (λ node. node.parent) nodes
 
+  -- a key with the value of its node
+  abbrev pub linked_value : Key × LinkedNode T → Key × T
+  linked_value e = (e.0, e.1.value)
+
   -- a clone of the value, with the same parent and the same links
   abbrev pub IsLinkedClone : (T → T → Type 0) → LinkedNode T → LinkedNode T → Type 0
   IsLinkedClone is_clone node copy = is_clone node.value copy.value × (copy.parent ≡ node.parent) × (copy.children ≡ node.children) × (copy.siblings ≡ node.siblings)

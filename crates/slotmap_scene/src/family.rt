@@ -1,6 +1,6 @@
 //! The nodes under their keys. A clause sees each with the list of its children in place of its links.
 
-ghost use Rattle.std.specs.Prelude.{◌≡◌, ◌<◌, ◌≤◌, ◌+◌, ◌++◌, ◌∷◌, [], Some, None, IfOk, IfErr, IsOk, OnErr, List, true, option_copied, option_map};
+ghost use Rattle.std.specs.Prelude.{◌≡◌, ◌<◌, ◌≤◌, ◌+◌, ◌++◌, ◌∷◌, [], Some, None, IfOk, IfErr, IsOk, OnErr, List, true, map as list_map, option_copied, option_map};
 ghost use Rattle.std.specs.FinMap as map;
 ghost use Rattle.std.specs.Borrow.{sem};
 ghost use Rattle.std.specs.Option.{option_copied_mut};
@@ -10,10 +10,11 @@ ghost use Rattle.slotmap_keylist.specs.Linked.{first_or, last_or};
 ghost use Rattle.slotmap_scene.specs.Above.{roots_in};
 ghost use Rattle.slotmap_scene.specs.Climb.{has_node, lacks_node, parent_of, with_parent};
 ghost use Rattle.slotmap_scene.specs.Family.{child, children_of, value_of, with_children_in};
-ghost use Rattle.slotmap_scene.specs.LinkedNodes.{IsPlace, linked_roots, shown_under};
+ghost use Rattle.slotmap_scene.specs.LinkedNodes.{IsPlace, linked_roots, linked_value, shown_under};
+ghost use Rattle.slotmap_scene.specs.Node.{node_value};
 ghost use Rattle.slotmap_scene.specs.Refusals.{RefusesNode};
 
-use crate::iter::ChildKeys;
+use crate::children::ChildKeys;
 use crate::links::{LinkedNode, LinkedNodes, add, put_between, take_between};
 use slotmap::{DefaultKey, InsertError, Key, ReserveError, SlotMap, basic};
 use slotmap_keylist::{Ends, Link};
@@ -71,6 +72,13 @@ impl<T: Drop> Nodes<T> {
         self.map.len()
     }
 
+    // For how many nodes memory is allocated.
+    pub fn capacity(&self) -> usize
+        ensures { result ≡ self.now.capacity }
+    {
+        self.map.capacity()
+    }
+
     // Whether there is such a node.
     pub fn contains_key(&self, node: DefaultKey) -> bool
         ensures value { result ≡ map.contains_key self.now.live node }
@@ -99,7 +107,8 @@ impl<T: Drop> Nodes<T> {
 
     // The nodes, by ascending index of their keys.
     pub fn iter(&self) -> basic::Iter<'_, DefaultKey, LinkedNode<T>>
-        ensures { linked_roots result ≡ roots_in (map.entries self.now.live) }
+        ensures roots { linked_roots result ≡ roots_in (map.entries self.now.live) }
+        ensures values { list_map linked_value result ≡ list_map node_value (map.entries self.now.live) }
     {
         self.map.iter()
     }

@@ -1,6 +1,6 @@
 use Rattle.std.proofs.Common.{length, is_some, sym, ap, ◌∙◌, arith}
 use Rattle.slotmap_scene.proofs.Walking.{first_live, next_is, walk_next}
-use Rattle.slotmap_scene.proofs.iter.ChildKeysIterator.next.Goals as goal
+use Rattle.slotmap_scene.proofs.children.ChildKeysIterator.next.Goals as goal
 
 pub returns-in_err-node-clause-steps : goal.returns-in_err-node-clause-steps
 returns-in_err-node-clause-steps g c =

@@ -2,7 +2,7 @@ use Rattle.std.proofs.Common.{◌-◌, [], ◌∷◌, length, length-append, is_
 use Rattle.slotmap_keylist.specs.Linked.{follow}
 use Rattle.slotmap_scene.specs.LinkedNodes.{link_of}
 use Rattle.slotmap_scene.proofs.Walking.{last_live, last_there, back_is, walk_back}
-use Rattle.slotmap_scene.proofs.iter.ChildKeysDoubleEndedIterator.next_back.Goals as goal
+use Rattle.slotmap_scene.proofs.children.ChildKeysDoubleEndedIterator.next_back.Goals as goal
 
 pub returns-in_err-key-clause-steps : goal.returns-in_err-key-clause-steps
 returns-in_err-key-clause-steps g c = absurd (last_there c.self.inside.nodes.now.live c.self.inside.left c.self.inside.first c.self.inside.last c.self.invariant c.if-self-eq0.false c.in_err-key.was)
