@@ -10,8 +10,7 @@ use Rattle.slotmap_keylist.proofs.Linking.{in_midst}
 use Rattle.slotmap_scene.specs.Node.{Node, Nodes}
 use Rattle.slotmap_scene.specs.declared.tree.Side.{Side}
 use Rattle.slotmap_scene.specs.declared.tree.Side.TheVariants.{Before, After}
-use Rattle.slotmap_scene.specs.Climb.{with_parent}
-use Rattle.slotmap_scene.specs.Family.{attached_by, around, children_in, children_of, placed, placed_before, placed_after, with_children_in}
+use Rattle.slotmap_scene.specs.Family.{around, children_in, children_of, placed, placed_before, placed_after, with_child, with_children_in}
 use Rattle.slotmap_scene.specs.LinkedNodes.{IsPlace}
 
 module _ (s k x : Key) where
@@ -60,27 +59,25 @@ pub beside_list : (side : Side) (b : List Key) (s : Key) (a : List Key) → b ++
 beside_list Before b s a = refl
 beside_list After b s a = sym (append_assoc b (s ∷ []) a)
 
-module _ {T : Type 0} (nodes : Nodes T) (k p : Key) where
-  -- the children of p are these now, or what is made of those that it has
-  made_in : (o : Option (Node T)) (f : List Key → List Key) → with_children_in nodes p o (λ _. f (children_in o)) ≡ with_children_in nodes p o f
-  made_in None f = refl
-  made_in (Some n) f = refl
-
-  pub attached_as : (f : List Key → List Key) (ks : List Key) → ks ≡ f (children_of nodes p) → attached_by nodes k p (λ _. ks) ≡ attached_by nodes k p f
-  attached_as f ks is = ap (λ m. with_parent m k (Some p)) (ap (λ l. with_children_in nodes p (map.get nodes p) (λ _. l)) is ∙ made_in (map.get nodes p) f)
-
 -- a node is put at a place among the children of p
-module _ {T : Type 0} (old new : Content (Node T)) (k p : Key) (l : Link Key) (puts : (before after : List Key) → IsPlace old.live p l before after → new ≡ record old { live = attached_by old.live k p (λ _. before ++ k ∷ after) }) where
-  attached_at : (f : List Key → List Key) (before after : List Key) → IsPlace old.live p l before after → before ++ k ∷ after ≡ f (children_of old.live p) → new ≡ record old { live = attached_by old.live k p f }
-  attached_at f before after place is = puts before after place ∙ ap (λ m. record old { live = m }) (attached_as old.live k p f (before ++ k ∷ after) is)
+module _ {T : Type 0} (old new : Content (Node T)) (k p : Key) (l : Link Key)
+    (puts : (before after : List Key) → IsPlace old.live p l before after → new ≡ record old { live = with_children_in old.live p (map.get old.live p) (λ _. before ++ k ∷ after) }) where
+  attached_at : (f : List Key → List Key) (before after : List Key) → IsPlace old.live p l before after → before ++ k ∷ after ≡ f (children_of old.live p)
+      → new ≡ record old { live = with_children_in old.live p (map.get old.live p) f }
+  attached_at f before after place is = puts before after place
+      ∙ ap (λ m. record old { live = m }) (ap (λ ks. with_children_in old.live p (map.get old.live p) (λ _. ks)) is ∙ made_in (map.get old.live p))
+    where
+      made_in : (o : Option (Node T)) → with_children_in old.live p o (λ _. f (children_in o)) ≡ with_children_in old.live p o f
+      made_in None = refl
+      made_in (Some n) = refl
 
   -- behind all of them
-  pub attached_last : IsPlace old.live p l (children_of old.live p) [] → new ≡ record old { live = attached_by old.live k p (λ ks. ks ++ k ∷ []) }
+  pub attached_last : IsPlace old.live p l (children_of old.live p) [] → new ≡ record old { live = with_child old.live p k }
   attached_last place = attached_at (λ ks. ks ++ k ∷ []) (children_of old.live p) [] place refl
 
   -- beside one of them
   pub attached_side : (side : Side) (s : Key) (b a : List Key) → children_of old.live p ≡ b ++ s ∷ a → times s (children_of old.live p) ≡ 1 → IsPlace old.live p l (around side b s a).0 (around side b s a).1
-      → new ≡ record old { live = attached_by old.live k p (placed side s k) }
+      → new ≡ record old { live = with_children_in old.live p (map.get old.live p) (placed side s k) }
   attached_side side s b a is once place =
       let none : times s b ≡ 0 = (let sum = sym once ∙ ap (times s) is ∙ in_midst b s a in omega arith) in
       attached_at (placed side s k) (around side b s a).0 (around side b s a).1 place (placed_is s k side b a none ∙ ap (placed side s k) (sym is))

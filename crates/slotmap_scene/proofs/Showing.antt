@@ -117,44 +117,44 @@ module _ {T : Type 0} where
       nodes_make_room n ok makes = shown_makes_room c new (shown_nodes c.live) (shown_nodes new.live) (shown_keys c.live) (shown_len c.live) (shown_keys new.live) (shown_len new.live)
           (ap shown_nodes makes.keeps.live) true n ok makes
 
-      -- a root with no children came
-      module _ (woven : IsWoven c.live) (k : Key) (v : T) (fresh : map.contains_key c.live k ≡ false) (inserts : Inserts c k (leaf v) new) where
+      -- a node with no children came
+      module _ (woven : IsWoven c.live) (k : Key) (v : T) (p : Option Key) (fresh : map.contains_key c.live k ≡ false) (inserts : Inserts c k (leaf v p) new) where
         none_in : {N X : Type 0} (P : Option N → X) (o : Option N) → is_some o ≡ false → P None ≡ P o
         none_in P None is = refl
         none_in P (Some n) is = absurd (cc)
 
-        as_before : {X : Type 0} (P : Option (LinkedNode T) → X) → P (Some (leaf v)) ≡ P None → (q : Key) → P (map.get new.live q) ≡ P (map.get c.live q)
+        as_before : {X : Type 0} (P : Option (LinkedNode T) → X) → P (Some (leaf v p)) ≡ P None → (q : Key) → P (map.get new.live q) ≡ P (map.get c.live q)
         as_before P same q = ap (λ m. P (map.get m q)) inserts.live ∙ elim (same_or_other q k) [
-          | inl is ↦ rw is (ap P (get-insert_here c.live k (leaf v)) ∙ same ∙ none_in P (map.get c.live k) fresh)
-          | inr other ↦ ap P (get-insert_other c.live k (leaf v) q other)
+          | inl is ↦ rw is (ap P (get-insert_here c.live k (leaf v p)) ∙ same ∙ none_in P (map.get c.live k) fresh)
+          | inr other ↦ ap P (get-insert_other c.live k (leaf v p) q other)
         ]
 
         came_keys : (q : Key) → map.contains_key c.live q ≡ true → map.contains_key new.live q ≡ true
         came_keys q live = ap (λ m. map.contains_key m q) inserts.live ∙ elim (same_or_other q k) [
-          | inl is ↦ rw is (ap is_some (get-insert_here c.live k (leaf v)))
-          | inr other ↦ ap is_some (get-insert_other c.live k (leaf v) q other) ∙ live
+          | inl is ↦ rw is (ap is_some (get-insert_here c.live k (leaf v p)))
+          | inr other ↦ ap is_some (get-insert_other c.live k (leaf v p) q other) ∙ live
         ]
 
         pub came_woven : IsWoven new.live
         came_woven = woven_same c.live new.live (as_before ends_in refl) (as_before link_in refl) came_keys woven
 
-        came_live : shown_nodes new.live ≡ map.insert (shown_nodes c.live) k (child None v)
+        came_live : shown_nodes new.live ≡ map.insert (shown_nodes c.live) k (child p v)
         came_live = map.same_map keys_total exact_keys _ _ (λ q. shown_alike c.live new.live (as_before link_in refl) q ∙ ap (λ m. option_map (shown_node c.live) (map.get m q)) inserts.live ∙ elim (same_or_other q k) [
-          | inl is ↦ rw is (ap (option_map (shown_node c.live)) (get-insert_here c.live k (leaf v)) ∙ sym (get-insert_here (shown_nodes c.live) k (child None v)))
-          | inr other ↦ ap (option_map (shown_node c.live)) (get-insert_other c.live k (leaf v) q other) ∙ sym (shown_get c.live q) ∙ sym (get-insert_other (shown_nodes c.live) k (child None v) q other)
+          | inl is ↦ rw is (ap (option_map (shown_node c.live)) (get-insert_here c.live k (leaf v p)) ∙ sym (get-insert_here (shown_nodes c.live) k (child p v)))
+          | inr other ↦ ap (option_map (shown_node c.live)) (get-insert_other c.live k (leaf v p) q other) ∙ sym (shown_get c.live q) ∙ sym (get-insert_other (shown_nodes c.live) k (child p v) q other)
         ])
 
-        pub came_inserts : Inserts (shown_scene c) k (child None v) (shown_scene new)
-        came_inserts = shown_inserts c new (shown_nodes c.live) (shown_nodes new.live) (shown_keys c.live) (shown_len c.live) (shown_keys new.live) (shown_len new.live) k (leaf v) (child None v) came_live inserts
+        pub came_inserts : Inserts (shown_scene c) k (child p v) (shown_scene new)
+        came_inserts = shown_inserts c new (shown_nodes c.live) (shown_nodes new.live) (shown_keys c.live) (shown_len c.live) (shown_keys new.live) (shown_len new.live) k (leaf v p) (child p v) came_live inserts
 
       -- by the clauses of an insert, whatever it returns
-      pub added_woven : {E : Type 0} (woven : IsWoven c.live) (v : T) (result : Result Key E) → IfOk result (λ k. Inserts c k (leaf v) new) → IfOk result (λ k. map.contains_key c.live k ≡ false) → OnErr result (Keeps c new) → IsWoven new.live
-      added_woven woven v (Ok k) inserts fresh keeps = came_woven woven k v fresh inserts
-      added_woven woven v (Err e) inserts fresh keeps = subst IsWoven (sym keeps.live) woven
+      pub added_woven : {E : Type 0} (woven : IsWoven c.live) (v : T) (p : Option Key) (result : Result Key E) → IfOk result (λ k. Inserts c k (leaf v p) new) → IfOk result (λ k. map.contains_key c.live k ≡ false) → OnErr result (Keeps c new) → IsWoven new.live
+      added_woven woven v p (Ok k) inserts fresh keeps = came_woven woven k v p fresh inserts
+      added_woven woven v p (Err e) inserts fresh keeps = subst IsWoven (sym keeps.live) woven
 
-      pub added_inserts : {E : Type 0} (woven : IsWoven c.live) (v : T) (result : Result Key E) → IfOk result (λ k. Inserts c k (leaf v) new) → IfOk result (λ k. map.contains_key c.live k ≡ false) → IfOk result (λ k. Inserts (shown_scene c) k (child None v) (shown_scene new))
-      added_inserts woven v (Ok k) inserts fresh = came_inserts woven k v fresh inserts
-      added_inserts woven v (Err e) inserts fresh = tt
+      pub added_inserts : {E : Type 0} (woven : IsWoven c.live) (v : T) (p : Option Key) (result : Result Key E) → IfOk result (λ k. Inserts c k (leaf v p) new) → IfOk result (λ k. map.contains_key c.live k ≡ false) → IfOk result (λ k. Inserts (shown_scene c) k (child p v) (shown_scene new))
+      added_inserts woven v p (Ok k) inserts fresh = came_inserts woven k v p fresh inserts
+      added_inserts woven v p (Err e) inserts fresh = tt
 
       pub added_keeps : {E : Type 0} (result : Result Key E) → OnErr result (Keeps c new) → OnErr result (Keeps (shown_scene c) (shown_scene new))
       added_keeps (Ok k) keeps = tt

@@ -12,10 +12,9 @@ use Rattle.slotmap_keylist.specs.Changed.{changed, changed_in}
 use Rattle.slotmap_keylist.proofs.Changed.{changed_gives, changed_here, changed_keeps, changed_other}
 use Rattle.slotmap_scene.specs.declared.links.LinkedNode.{LinkedNode}
 use Rattle.slotmap_scene.specs.Node.{Node, Nodes}
-use Rattle.slotmap_scene.specs.Climb.{parent_of, with_parent}
-use Rattle.slotmap_scene.specs.Family.{IsNodeClone, children_of, value_of, with_children_in}
+use Rattle.slotmap_scene.specs.Climb.{parent_in, parent_of}
+use Rattle.slotmap_scene.specs.Family.{IsNodeClone, children_in, children_of, with_children_in}
 use Rattle.slotmap_scene.specs.LinkedNodes.{LinkedNodes, ends_in, ends_of, led_to, link_in, link_of, shown_scene, shown_node, shown_nodes, put_between, taken_between, IsLinkedClone, IsWoven}
-use Rattle.slotmap_scene.proofs.Families.{parented_children, parented_is, parented_others, value_parented, value_written, written_is, written_others, written_parent, written_keys}
 use Rattle.slotmap_scene.proofs.RelinkedNodes.{relinked_keeps}
 use Rattle.slotmap_scene.proofs.Weaving.{led_is, woven_by, woven_same, with_list, list_at, list_other, put_linked, taken_linked}
 use Rattle.slotmap_scene.proofs.Showing.{shown_alike, shown_still, above_in, value_in, same_nodes, shown_children, shown_get, shown_keys, shown_parent, shown_value}
@@ -24,65 +23,36 @@ module _ {T : Type 0} (m : LinkedNodes T) (woven : IsWoven m) where
   abbrev nodes : Nodes T
   nodes = shown_nodes m
 
-  -- a node is put into a list
-  module _ (p k : Key) (live : map.contains_key m k ≡ true) (there : map.contains_key m p ≡ true) (none : (q : Key) → times k (led_to m q) ≡ 0)
-      (before after : List Key) (list : led_to m p ≡ before ++ after) (l : Link Key) (place : l ≡ link_between before after) where
-    abbrev listed : Nodes T
-    listed = with_children_in nodes p (map.get nodes p) (λ _. before ++ k ∷ after)
+  -- the list of p is another one
+  module _ (p : Key) (there : map.contains_key m p ≡ true) (ks : List Key) (f : List Key → List Key) (made : ks ≡ f (led_to m p)) (new : LinkedNodes T)
+      (keeps : (X : Type 0) (P : Option (LinkedNode T) → X) → ((n : LinkedNode T) (e : _) (s : _) → P (Some (record n { children = e; siblings = s })) ≡ P (Some n)) → (q : Key) → P (map.get new q) ≡ P (map.get m q))
+      (linked : AreLinked (ends_of new) (link_of new) (with_list m woven p ks)) where
+    abbrev fill : Node T → Node T
+    fill n = record n { children = f n.children }
 
-    put_keeps : {X : Type 0} (P : Option (LinkedNode T) → X) → ((n : LinkedNode T) (e : _) (s : _) → P (Some (record n { children = e; siblings = s })) ≡ P (Some n))
-        → (q : Key) → P (map.get (put_between m p k l) q) ≡ P (map.get (changed m k (λ n. record n { parent = Some p; siblings = l })) q)
-    put_keeps P free q = relinked_keeps (changed m k (λ n. record n { parent = Some p; siblings = l })) p l (Some k) (Some k) (λ len. len + 1) P free q
-
-    put_values : (q : Key) → value_of (shown_nodes (put_between m p k l)) q ≡ value_of (with_parent listed k (Some p)) q
-    put_values q =
-        shown_value (put_between m p k l) q ∙ put_keeps value_in (λ n e s. refl) q ∙ changed_keeps m k (λ n. record n { parent = Some p; siblings = l }) value_in (λ n. refl) q
-        ∙ sym (value_parented listed k (Some p) q ∙ value_written nodes p (λ _. before ++ k ∷ after) q ∙ shown_value m q)
-
-    put_parents : (q : Key) → parent_of (shown_nodes (put_between m p k l)) q ≡ parent_of (with_parent listed k (Some p)) q
-    put_parents q = shown_parent (put_between m p k l) q ∙ put_keeps above_in (λ n e s. refl) q ∙ elim (same_or_other q k) [
-      | inl is ↦ rw is (changed_gives m k (λ n. record n { parent = Some p; siblings = l }) above_in (λ _. Some p) (λ n. refl) live
-          ∙ sym (parented_is listed k (Some p) (written_keys nodes p (λ _. before ++ k ∷ after) k ∙ shown_keys m k ∙ live)))
-      | inr other ↦ ap above_in (changed_other m k (λ n. record n { parent = Some p; siblings = l }) q other)
-          ∙ sym (parented_others listed k (Some p) q other ∙ written_parent nodes p (λ _. before ++ k ∷ after) q ∙ shown_parent m q)
+    list_children : (q : Key) → children_of (shown_nodes new) q ≡ children_of (with_children_in nodes p (map.get nodes p) f) q
+    list_children q = shown_children new q ∙ led_is new (with_list m woven p ks) linked q ∙ elim (same_or_other q p) [
+      | inl is ↦ rw is (list_at m woven p ks p refl ∙ made ∙ sym (changed_gives nodes p fill children_in f (λ n. refl) (shown_keys m p ∙ there) ∙ ap f (shown_children m p)))
+      | inr other ↦ list_other m woven p ks q other ∙ sym (ap children_in (changed_other nodes p fill q other) ∙ shown_children m q)
     ]
 
-    put_children : (q : Key) → children_of (shown_nodes (put_between m p k l)) q ≡ children_of (with_parent listed k (Some p)) q
-    put_children q =
-        shown_children (put_between m p k l) q
-        ∙ led_is (put_between m p k l) (with_list m woven p (before ++ k ∷ after)) (put_linked m woven p k live there none before after list l place) q
-        ∙ elim (same_or_other q p) [
-          | inl is ↦ list_at m woven p (before ++ k ∷ after) q is ∙ sym (ap (children_of listed) is ∙ written_is nodes p (λ _. before ++ k ∷ after) (shown_keys m p ∙ there))
-          | inr other ↦ list_other m woven p (before ++ k ∷ after) q other ∙ sym (shown_children m q) ∙ sym (written_others nodes p (λ _. before ++ k ∷ after) q other)
-        ] ∙ sym (parented_children listed k (Some p) q)
+    list_shown : shown_nodes new ≡ with_children_in nodes p (map.get nodes p) f
+    list_shown = same_nodes (shown_nodes new) (with_children_in nodes p (map.get nodes p) f)
+        (λ q. shown_value new q ∙ keeps (Option T) value_in (λ n e s. refl) q ∙ sym (changed_keeps nodes p fill (option_map (λ n. n.value)) (λ n. refl) q ∙ shown_value m q))
+        (λ q. shown_parent new q ∙ keeps (Option Key) above_in (λ n e s. refl) q ∙ sym (changed_keeps nodes p fill parent_in (λ n. refl) q ∙ shown_parent m q)) list_children
 
-    pub put_shown : shown_nodes (put_between m p k l) ≡ with_parent listed k (Some p)
-    put_shown = same_nodes (shown_nodes (put_between m p k l)) (with_parent listed k (Some p)) put_values put_parents put_children
+  -- a node is put into a list, or taken out of one
+  pub put_shown : (p k : Key) (live : map.contains_key m k ≡ true) (there : map.contains_key m p ≡ true) (none : (q : Key) → times k (led_to m q) ≡ 0) (before after : List Key) (list : led_to m p ≡ before ++ after)
+      (l : Link Key) (place : l ≡ link_between before after) → shown_nodes (put_between m p k l) ≡ with_children_in nodes p (map.get nodes p) (λ _. before ++ k ∷ after)
+  put_shown p k live there none before after list l place = list_shown p there (before ++ k ∷ after) (λ _. before ++ k ∷ after) refl (put_between m p k l)
+      (λ X P free q. relinked_keeps (changed m k (λ n. record n { siblings = l })) p l (Some k) (Some k) (λ len. len + 1) P free q
+      ∙ changed_keeps m k (λ n. record n { siblings = l }) P (λ n. free n n.children l) q) (put_linked m woven p k live there none before after list l place)
 
-  -- a node is taken out of one
-  module _ (p k : Key) (there : map.contains_key m p ≡ true) (before after : List Key) (list : led_to m p ≡ before ++ k ∷ after) (l : Link Key) (place : l ≡ link_between before after) where
-    abbrev unlisted : Nodes T
-    unlisted = with_children_in nodes p (map.get nodes p) (without k)
-
-    taken_keeps : {X : Type 0} (P : Option (LinkedNode T) → X) → ((n : LinkedNode T) (e : _) (s : _) → P (Some (record n { children = e; siblings = s })) ≡ P (Some n))
-        → (q : Key) → P (map.get (taken_between m p l) q) ≡ P (map.get m q)
-    taken_keeps P free q = relinked_keeps m p l l.next l.prev (λ len. len - 1) P free q
-
-    taken_children : (q : Key) → children_of (shown_nodes (taken_between m p l)) q ≡ children_of unlisted q
-    taken_children q =
-        shown_children (taken_between m p l) q
-        ∙ led_is (taken_between m p l) (with_list m woven p (before ++ after)) (taken_linked m woven p k there before after list l place) q
-        ∙ elim (same_or_other q p) [
-          | inl is ↦ list_at m woven p (before ++ after) q is
-              ∙ sym (ap (children_of unlisted) is ∙ written_is nodes p (without k) (shown_keys m p ∙ there) ∙ ap (without k) (shown_children m p ∙ list)
-              ∙ without_split k before after (subst (λ ks. times k ks ≤ 1) list (woven.apart.once p k)))
-          | inr other ↦ list_other m woven p (before ++ after) q other ∙ sym (shown_children m q) ∙ sym (written_others nodes p (without k) q other)
-        ]
-
-    pub taken_shown : shown_nodes (taken_between m p l) ≡ unlisted
-    taken_shown = same_nodes (shown_nodes (taken_between m p l)) unlisted
-        (λ q. shown_value (taken_between m p l) q ∙ taken_keeps value_in (λ n e s. refl) q ∙ sym (value_written nodes p (without k) q ∙ shown_value m q))
-        (λ q. shown_parent (taken_between m p l) q ∙ taken_keeps above_in (λ n e s. refl) q ∙ sym (written_parent nodes p (without k) q ∙ shown_parent m q)) taken_children
+  pub taken_shown : (p k : Key) (there : map.contains_key m p ≡ true) (before after : List Key) (list : led_to m p ≡ before ++ k ∷ after) (l : Link Key) (place : l ≡ link_between before after)
+      → shown_nodes (taken_between m p l) ≡ with_children_in nodes p (map.get nodes p) (without k)
+  taken_shown p k there before after list l place = list_shown p there (before ++ after) (without k)
+      (sym (ap (without k) list ∙ without_split k before after (subst (λ ks. times k ks ≤ 1) list (woven.apart.once p k)))) (taken_between m p l)
+      (λ X P free q. relinked_keeps m p l l.next l.prev (λ len. len - 1) P free q) (taken_linked m woven p k there before after list l place)
 
   -- a node has another value or another parent, and the same links
   module _ (k : Key) (n : LinkedNode T) (found : map.get m k ≡ Some n) (f : LinkedNode T → LinkedNode T) (g : Node T → Node T)

@@ -116,30 +116,30 @@ module _ {T : Type 0} (c : Content (LinkedNode T)) (woven : IsWoven c.live) (sel
       pub put_weaves : IsWoven new.live
       put_weaves = subst (λ (s : Content (LinkedNode T)). IsWoven s.live) (sym made) (put_woven c.live woven p k (live_is k live) (live_is p there) none before after list l place.link)
 
-      pub put_shows : shown_scene new ≡ record self { live = with_parent (with_children_in self.live p (map.get self.live p) (λ _. before ++ k ∷ after)) k (Some p) }
+      pub put_shows : shown_scene new ≡ record self { live = with_children_in self.live p (map.get self.live p) (λ _. before ++ k ∷ after) }
       put_shows = now_shows (put_between c.live p k l) (put_keys c.live woven p k (live_is k live) (live_is p there) none before after list l place.link) new made
-          (λ n. with_parent (with_children_in n p (map.get n p) (λ _. before ++ k ∷ after)) k (Some p)) (put_shown c.live woven p k (live_is k live) (live_is p there) none before after list l place.link)
+          (λ n. with_children_in n p (map.get n p) (λ _. before ++ k ∷ after)) (put_shown c.live woven p k (live_is k live) (live_is p there) none before after list l place.link)
 
       pub put_leaves : Leaves self (shown_scene new)
       put_leaves = still_leaves (put_between c.live p k l) (put_keys c.live woven p k (live_is k live) (live_is p there) none before after list l place.link) new made
 
-  -- a node becomes a root
-  module _ (k : Key) (n : LinkedNode T) (found : map.get c.live k ≡ Some n) where
-    abbrev made_root : LinkedNodes T
-    made_root = map.insert c.live k (record n { parent = None })
+  -- a node has another parent
+  module _ (k : Key) (n : LinkedNode T) (found : map.get c.live k ≡ Some n) (o : Option Key) where
+    abbrev with_other : LinkedNodes T
+    with_other = map.insert c.live k (record n { parent = o })
 
-    root_keys : (q : Key) → map.contains_key made_root q ≡ map.contains_key c.live q
-    root_keys q = own_keys c.live woven k n found (λ x. record x { parent = None }) (λ x. record x { parent = None }) (λ x. refl) (λ x. refl) (λ x. refl) q
+    parent_keys : (q : Key) → map.contains_key with_other q ≡ map.contains_key c.live q
+    parent_keys q = own_keys c.live woven k n found (λ x. record x { parent = o }) (λ x. record x { parent = o }) (λ x. refl) (λ x. refl) (λ x. refl) q
 
-    pub root_woven : IsWoven made_root
-    root_woven = own_woven c.live woven k n found (λ x. record x { parent = None }) (λ x. record x { parent = None }) (λ x. refl) (λ x. refl) (λ x. refl)
+    pub parent_woven : IsWoven with_other
+    parent_woven = own_woven c.live woven k n found (λ x. record x { parent = o }) (λ x. record x { parent = o }) (λ x. refl) (λ x. refl) (λ x. refl)
 
-    pub root_shows : shown_scene (record c { live = made_root }) ≡ record self { live = with_parent self.live k None }
-    root_shows = now_shows made_root root_keys (record c { live = made_root }) refl (λ m. with_parent m k None)
-        (own_shown c.live woven k n found (λ x. record x { parent = None }) (λ x. record x { parent = None }) (λ x. refl) (λ x. refl) (λ x. refl))
+    pub parent_shows : shown_scene (record c { live = with_other }) ≡ record self { live = with_parent self.live k o }
+    parent_shows = now_shows with_other parent_keys (record c { live = with_other }) refl (λ m. with_parent m k o)
+        (own_shown c.live woven k n found (λ x. record x { parent = o }) (λ x. record x { parent = o }) (λ x. refl) (λ x. refl) (λ x. refl))
 
-    pub root_leaves : Leaves self (shown_scene (record c { live = made_root }))
-    root_leaves = still_leaves made_root root_keys (record c { live = made_root }) refl
+    pub parent_leaves : Leaves self (shown_scene (record c { live = with_other }))
+    parent_leaves = still_leaves with_other parent_keys (record c { live = with_other }) refl
 
   -- a node with no children, that is in no list, goes
   module _ (k : Key) (leaf : children_of self.live k ≡ []) (alone : (q : Key) → times k (children_of self.live q) ≡ 0) where

@@ -100,7 +100,7 @@ module _ {T : Type 0} (m : LinkedNodes T) (woven : IsWoven m) (p : Key) where
   module _ (k : Key) (live : map.contains_key m k ≡ true) (there : map.contains_key m p ≡ true) (none : (q : Key) → times k (led_to m q) ≡ 0)
       (before after : List Key) (list : led_to m p ≡ before ++ after) (l : Link Key) (place : l ≡ link_between before after) where
     abbrev own : LinkedNodes T
-    own = changed m k (λ n. record n { parent = Some p; siblings = l })
+    own = changed m k (λ n. record n { siblings = l })
 
     abbrev put : LinkedNodes T
     put = put_between m p k l
@@ -118,10 +118,10 @@ module _ {T : Type 0} (m : LinkedNodes T) (woven : IsWoven m) (p : Key) where
     not_next is = absurd (let at = first_in after k is in let zero = absent in omega arith)
 
     own_keys : (x : Key) → map.contains_key own x ≡ map.contains_key m x
-    own_keys x = changed_keeps m k (λ n. record n { parent = Some p; siblings = l }) is_some (λ n. refl) x
+    own_keys x = changed_keeps m k (λ n. record n { siblings = l }) is_some (λ n. refl) x
 
     own_ends : (x : Key) → ends_of own x ≡ ends_of m x
-    own_ends x = changed_keeps m k (λ n. record n { parent = Some p; siblings = l }) ends_in (λ n. refl) x
+    own_ends x = changed_keeps m k (λ n. record n { siblings = l }) ends_in (λ n. refl) x
 
     pub put_keys : (x : Key) → map.contains_key put x ≡ map.contains_key m x
     put_keys x = relinked_keeps own p l (Some k) (Some k) (λ len. len + 1) is_some (λ n e s. refl) x ∙ own_keys x
@@ -129,7 +129,7 @@ module _ {T : Type 0} (m : LinkedNodes T) (woven : IsWoven m) (p : Key) where
     own_link : link_of put k ≡ link_between before after
     own_link =
         relinked_others own p l (Some k) (Some k) (λ len. len + 1) k (λ is. not_prev (sym (ap (λ (s : Link Key). s.prev) place) ∙ is)) (λ is. not_next (sym (ap (λ (s : Link Key). s.next) place) ∙ is))
-        ∙ changed_gives m k (λ n. record n { parent = Some p; siblings = l }) link_in (λ s. l) (λ n. refl) live ∙ place
+        ∙ changed_gives m k (λ n. record n { siblings = l }) link_in (λ s. l) (λ n. refl) live ∙ place
 
     put_ends : ends_of put p ≡ ends_of_list ks
     put_ends =
@@ -148,7 +148,7 @@ module _ {T : Type 0} (m : LinkedNodes T) (woven : IsWoven m) (p : Key) where
     pub put_linked : AreLinked (ends_of put) (link_of put) (with_list ks)
     put_linked = linked_put woven.linked woven.apart p k before after list none own_link
         (relinks_now before [] after list own k not_prev not_next own_keys
-        (λ x other. ap link_in (changed_other m k (λ n. record n { parent = Some p; siblings = l }) x other)) l place (Some k) (Some k) (λ len. len + 1))
+        (λ x other. ap link_in (changed_other m k (λ n. record n { siblings = l }) x other)) l place (Some k) (Some k) (λ len. len + 1))
         (record {
           list = list_here ks;
           ends = put_ends;

@@ -1,17 +1,16 @@
 -- What a fold of the values on the way up comes to.
-use Rattle.std.proofs.Common.{◌≡◌, ◌≢◌, ℕ, zero, suc, List, [], ◌∷◌, ◌++◌, append_assoc, Option, Some, None, IfSome, IfNone, is_some, option_map, true, refl, sym, ap, subst, ◌∙◌}
+use Rattle.std.proofs.Common.{◌≡◌, ◌≢◌, ℕ, zero, suc, List, [], ◌∷◌, ◌++◌, append_assoc, Option, Some, None, IfSome, IfNone, is_some, option_map, true, refl, sym, ap, subst, ◌∙◌, inl, inr}
 use Rattle.std.specs.Fn.{Mut, Takes}
 use Rattle.std.specs.Borrow.{Bor}
 use Rattle.std.specs.List.{FoldsTo, fold}
 use Rattle.std.proofs.lemmas.Fn.{FoldsTo-push}
 use Rattle.std.specs.FinMap as map
 use Rattle.slotmap.specs.Words.{Key}
-use Rattle.slotmap.proofs.Callers.{get-insert_here, get-insert_other}
+use Rattle.slotmap.proofs.Callers.{get-insert_here, same_or_other}
 use Rattle.slotmap_scene.specs.Node.{Node, Nodes}
 use Rattle.slotmap_scene.specs.Climb.{has_node, lacks_node, parent_of, parent_in, ClimbsTo, IsTree, IsWithin}
-use Rattle.slotmap_scene.specs.Family.{value_of, child, with_child, attached, as_root}
-use Rattle.slotmap_scene.proofs.Families.{parent_there, attached_parents, detached_parents, value_detached, value_attached}
-use Rattle.slotmap_scene.proofs.Moved.{child_attached}
+use Rattle.slotmap_scene.specs.Family.{IsMoved, IsNewChild, value_of, child}
+use Rattle.slotmap_scene.proofs.Families.{parent_there}
 use Rattle.slotmap_scene.specs.WorldValue.{IsPathFrom, IsPathUp, world_along, IsWorld, CallsAt, FoldsUp, CallableUp}
 
 module _ {T : Type 0} (nodes : Nodes T) where
@@ -204,33 +203,17 @@ module _ {T : Type 0} (old new : Nodes T) (k : Key) (values : (q : Key) → has_
     world_new fresh = under_parent (path_added fresh (Some p) (world.own ∷ world.above) world.path)
 
 -- after `reparent` a node is where its own value says, under its new parent, which is where it was
-module _ {T : Type 0} (nodes : Nodes T) (k p : Key) (live : has_node nodes k) (out : IsWithin nodes p k → ⊥) where
-  abbrev moved : Nodes T
-  moved = attached (as_root nodes k) k p
-
-  pub world_moved : (under : T → T → T) (v w : T) → value_of nodes k ≡ Some v → IsWorld under nodes p w → IsWorld under moved k (under v w)
-  world_moved under v w own world =
-      let gone = detached_parents nodes k in
-      let back = attached_parents (as_root nodes k) k p (λ ks. ks ++ k ∷ []) (gone.same_keys k ∙ live) in
-      let value : (q : Key) → value_of moved q ≡ value_of nodes q = λ q. value_attached (as_root nodes k) k p (λ ks. ks ++ k ∷ []) q ∙ value_detached nodes k q in
-      world_below nodes moved k (λ q there other. value q) (λ q there other. back.others q other ∙ gone.others q other) under v p w (value k ∙ own) back.here world out
+module _ {T : Type 0} (old new : Nodes T) (k p : Key) {put : List Key → List Key} (trees : IsMoved old new k (Some p) put) (values : (q : Key) → value_of new q ≡ value_of old q) where
+  pub world_moved : (IsWithin old p k → ⊥) → (under : T → T → T) (v w : T) → value_of old k ≡ Some v → IsWorld under old p w → IsWorld under new k (under v w)
+  world_moved out under v w own world = world_below old new k (λ q there other. values q) (λ q there other. trees.parents q other) under v p w (values k ∙ own) trees.parent_is world out
 
 -- where a node is that is added
-module _ {T : Type 0} (nodes : Nodes T) (k : Key) (v : T) where
-  abbrev added : Nodes T
-  added = map.insert nodes k (child None v)
+pub world_added_root : {T : Type 0} (nodes : Nodes T) (k : Key) (v : T) (under : T → T → T) → IsWorld under (map.insert nodes k (child None v)) k v
+world_added_root nodes k v under = world_root (map.insert nodes k (child None v)) under k (child None v) (get-insert_here nodes k (child None v)) refl
 
-  pub world_added_root : (under : T → T → T) → IsWorld under added k v
-  world_added_root under = world_root added under k (child None v) (get-insert_here nodes k (child None v)) refl
-
-  pub world_added_child : lacks_node nodes k → (under : T → T → T) (p : Key) (w : T) → IsWorld under nodes p w → IsWorld under (attached added k p) k (under v w)
-  world_added_child fresh under p w world =
-      let put = attached_parents added k p (λ ks. ks ++ k ∷ []) (ap is_some (get-insert_here nodes k (child None v))) in
-      world_new nodes (attached added k p) k (λ q there other. value_attached added k p (λ ks. ks ++ k ∷ []) q ∙ ap (option_map (λ n. n.value)) (get-insert_other nodes k (child None v) q other))
-      (λ q there other. put.others q other ∙ ap parent_in (get-insert_other nodes k (child None v) q other)) under v p w (value_attached added k p (λ ks. ks ++ k ∷ []) k ∙ ap (option_map (λ n. n.value)) (get-insert_here nodes k (child None v))) put.here world fresh
-
-  -- the same, by what the clause of a call says that adds a child
-  pub world_added_below : lacks_node nodes k → (under : T → T → T) (p : Key) (w : T) → IsWorld under nodes p w → IsWorld under (map.insert (with_child nodes p k) k (child (Some p) v)) k (under v w)
-  world_added_below fresh under p w world =
-      let apart : k ≢ p = λ same. (let live = subst (has_node nodes) (sym same) (path_live nodes p (world.own ∷ world.above) world.path) in cc) in
-      subst (λ m. IsWorld under m k (under v w)) (sym (child_attached nodes p k v (λ ks. ks ++ k ∷ []) apart)) (world_added_child fresh under p w world)
+pub world_added_child : {T : Type 0} (old new : Nodes T) (k p : Key) {v : T} {children : List Key} → IsNewChild old new k p v children → lacks_node old k
+    → (under : T → T → T) (w : T) → IsWorld under old p w → IsWorld under new k (under v w)
+world_added_child old new k p {v} gains fresh under w world = world_new old new k
+    (λ q there other. elim (same_or_other q p) [ inl at ↦ rw at gains.value | inr elsewhere ↦ ap (option_map (λ n. n.value)) (gains.others q other elsewhere) ])
+    (λ q there other. elim (same_or_other q p) [ inl at ↦ rw at gains.parent | inr elsewhere ↦ ap parent_in (gains.others q other elsewhere) ])
+    under v p w (ap (option_map (λ n. n.value)) gains.node) (ap parent_in gains.node) world fresh

@@ -1,5 +1,5 @@
 -- The children of each node, and how a call changes them.
-use Rattle.std.specs.Prelude.{◌≡◌, ◌≢◌, ℕ, Option, Some, None, List, [], ◌∷◌, ◌++◌, ◌<◌, ⊤, cond, option_map}
+use Rattle.std.specs.Prelude.{◌≡◌, ◌≢◌, ℕ, Option, Some, None, List, [], ◌∷◌, ◌++◌, cond, option_map}
 use Rattle.std.specs.FinMap as map
 use Rattle.slotmap.specs.Words.{Key}
 use Rattle.slotmap_scene.specs.Node.{Node, Nodes}
@@ -101,19 +101,17 @@ module _ {T : Type 0} where
   abbrev pub with_sibling : Side → Nodes T → Key → Key → Nodes T
   with_sibling side nodes s k = with_children_of nodes (parent_of nodes s) (placed side s k)
 
-  -- the parent of k, if it has one, has k as a child
-  abbrev pub MayLeave : Nodes T → Key → Option Key → Type 0
-  MayLeave nodes k None = ⊤
-  MayLeave nodes k (Some p) = 0 < times k (children_of nodes p)
-
   -- k is a root, and no node has it as a child
   abbrev pub as_root : Nodes T → Key → Nodes T
   as_root nodes k = with_parent (without_child nodes (parent_of nodes k) k) k None
 
-  -- k, a root until now, is a child of p, which has other children now
-  abbrev pub attached_by : Nodes T → Key → Key → (List Key → List Key) → Nodes T
-  attached_by nodes k p f = with_parent (with_children_in nodes p (map.get nodes p) f) k (Some p)
+  -- k is the last child of p, and no other node has it as a child
+  abbrev pub as_last_child : Nodes T → Key → Key → Nodes T
+  as_last_child nodes k p = with_child (with_parent (without_child nodes (parent_of nodes k) k) k (Some p)) p k
 
-  -- k, a root until now, is the last child of p
-  abbrev pub attached : Nodes T → Key → Key → Nodes T
-  attached nodes k p = attached_by nodes k p (λ ks. ks ++ k ∷ [])
+  -- k has this parent, is put among its children, and is no other node's child; all other nodes have the same parent and the same children
+  pub record IsMoved (old new : Nodes T) (k : Key) (parent : Option Key) (put : List Key → List Key) : Type 0 where
+    pub parent_is : parent_of new k ≡ parent
+    pub parents : (q : Key) → q ≢ k → parent_of new q ≡ parent_of old q
+    pub children_are : (p : Key) → parent ≡ Some p → children_of new p ≡ put (without k (children_of old p))
+    pub other_children : (q : Key) → parent ≢ Some q → children_of new q ≡ without k (children_of old q)

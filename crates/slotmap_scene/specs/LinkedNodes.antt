@@ -37,9 +37,9 @@ module _ {T : Type 0} where
   abbrev pub led_to : LinkedNodes T → Key → List Key
   led_to m k = followed (link_of m) (ends_of m k)
 
-  -- a node with no parent, no children and no siblings
-  abbrev pub leaf : T → LinkedNode T
-  leaf v = record { value = v; parent = None; children = record { first = None; last = None; len = 0 }; siblings = record { prev = None; next = None } }
+  -- a node with this parent, no children and no siblings
+  abbrev pub leaf : T → Option Key → LinkedNode T
+  leaf v parent = record { value = v; parent = parent; children = record { first = None; last = None; len = 0 }; siblings = record { prev = None; next = None } }
 
   -- the nodes with the children that the links lead to, in place of the links
   abbrev pub shown_node : LinkedNodes T → LinkedNode T → Node T
@@ -90,9 +90,9 @@ module _ {T : Type 0} where
   abbrev pub relinked : LinkedNodes T → Key → Link Key → Option Key → Option Key → (ℕ → ℕ) → LinkedNodes T
   relinked m p l on back f = with_len (with_prev (with_next m p l.prev on) p l.next back) p f
 
-  -- k is put between two keys of the list of p, and p is its parent
+  -- k is put between two keys of the list of p
   abbrev pub put_between : LinkedNodes T → Key → Key → Link Key → LinkedNodes T
-  put_between m p k l = relinked (changed m k (λ n. record n { parent = Some p; siblings = l })) p l (Some k) (Some k) (λ len. len + 1)
+  put_between m p k l = relinked (changed m k (λ n. record n { siblings = l })) p l (Some k) (Some k) (λ len. len + 1)
 
   -- what is between two keys of the list of p is taken out of it
   abbrev pub taken_between : LinkedNodes T → Key → Link Key → LinkedNodes T

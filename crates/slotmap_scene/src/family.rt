@@ -151,9 +151,13 @@ impl<T: Drop> Nodes<T> {
         self.map.get(node)?.siblings.prev
     }
 
-    // Adds a root with no children.
-    pub fn insert(&mut self, value: T) -> Result<DefaultKey, InsertError<T>>
-        ensures adds { IfOk result (λ key. Inserts self.old key (child None value) self.new) }
+    // Adds a node with this parent and no children. It is in no list.
+    pub fn insert(
+        &mut self,
+        value: T,
+        parent: Option<DefaultKey>,
+    ) -> Result<DefaultKey, InsertError<T>>
+        ensures adds { IfOk result (λ key. Inserts self.old key (child parent value) self.new) }
         ensures fresh { IfOk result (λ key. lacks_node self.old.live key) }
         ensures unspent { IfOk result (λ key. IsSpent self.old key → ⊥) }
         ensures stale { KeepsSpent self.old self.new }
@@ -162,17 +166,17 @@ impl<T: Drop> Nodes<T> {
         ensures room { 0 < self.old.room → IsOk result }
         ensures unchanged { OnErr result (Keeps self.old self.new) }
     {
-        add(&mut self.map, value)
+        add(&mut self.map, value, parent)
     }
 
-    // Puts a node that is in no list between two children of a parent, as its child.
+    // Puts a node that is in no list between two children of a parent.
     pub fn put_between(&mut self, parent: DefaultKey, node: DefaultKey, siblings: Link<DefaultKey>)
         requires parent { has_node self.old.live parent }
         requires node { has_node self.old.live node }
         requires alone { (p : KeyOf) → times node (children_of self.old.live p) ≡ 0 }
         requires place { (before : List KeyOf) × (after : List KeyOf) × IsPlace self.old.live parent siblings before after }
         ensures puts { (before after : List KeyOf) → IsPlace self.old.live parent siblings before after
-            → self.new ≡ record self.old { live = with_parent (with_children_in self.old.live parent (map.get self.old.live parent) (λ _. before ++ node ∷ after)) node (Some parent) } }
+            → self.new ≡ record self.old { live = with_children_in self.old.live parent (map.get self.old.live parent) (λ _. before ++ node ∷ after) } }
         ensures leaves { Leaves self.old self.new }
     {
         put_between(&mut self.map, parent, node, siblings);
@@ -188,13 +192,13 @@ impl<T: Drop> Nodes<T> {
         take_between(&mut self.map, parent, siblings);
     }
 
-    // Lets a node have no parent.
-    pub fn make_root(&mut self, node: DefaultKey)
+    // Lets a node have this parent, or none. The lists of children are the same.
+    pub fn set_parent(&mut self, node: DefaultKey, parent: Option<DefaultKey>)
         requires { has_node self.old.live node }
-        ensures sets { self.new ≡ record self.old { live = with_parent self.old.live node None } }
+        ensures sets { self.new ≡ record self.old { live = with_parent self.old.live node parent } }
         ensures leaves { Leaves self.old self.new }
     {
-        self.map[node].parent = None;
+        self.map[node].parent = parent;
     }
 
     // Removes a node that has no children and is in no list, and returns it.

@@ -37,7 +37,7 @@ impl<K: Key, T: Drop> Scene<K, T> {
         let Some(parent) = self.parent_key(sibling) else {
             return Err(AddError::Gone(value));
         };
-        let key = self.nodes.insert(value)?;
+        let key = self.nodes.insert(value, Some(parent))?;
         self.nodes.attach_beside(key, side, sibling, parent);
         Ok(key)
     }

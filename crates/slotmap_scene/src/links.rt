@@ -23,12 +23,13 @@ pub(crate) struct LinkedNode<T> {
 // The nodes with their links, under their keys.
 pub(crate) type LinkedNodes<T> = SlotMap<DefaultKey, LinkedNode<T>>;
 
-// Adds a root with no children.
+// Adds a node with this parent and no children. It is in no list.
 pub(crate) fn add<T: Drop>(
     nodes: &mut LinkedNodes<T>,
     value: T,
+    parent: Option<DefaultKey>,
 ) -> Result<DefaultKey, InsertError<T>>
-    ensures adds { IfOk result (λ key. Inserts nodes.old key (leaf value) nodes.new) }
+    ensures adds { IfOk result (λ key. Inserts nodes.old key (leaf value parent) nodes.new) }
     ensures fresh { IfOk result (λ key. map.contains_key nodes.old.live key ≡ false) }
     ensures unspent { IfOk result (λ key. IsSpent nodes.old key → ⊥) }
     ensures stale { KeepsSpent nodes.old nodes.new }
@@ -39,7 +40,7 @@ pub(crate) fn add<T: Drop>(
 {
     let node = LinkedNode {
         value,
-        parent: None,
+        parent,
         children: Ends::none(),
         siblings: Link::none(),
     };
@@ -101,7 +102,6 @@ pub(crate) fn put_between<T: Drop>(
     ensures { nodes.new ≡ record nodes.old { live = put_between nodes.old.live parent node siblings } }
 {
     let place = &mut nodes[node];
-    place.parent = Some(parent);
     place.siblings.prev = siblings.prev;
     place.siblings.next = siblings.next;
     set_next(nodes, parent, siblings.prev, Some(node));

@@ -14,7 +14,7 @@ overflow_add-index_mut g c =
     let k = c.args.node in
     let p = c.args.parent in
     let l = c.args.siblings in
-    let put = λ (n : LinkedNode g.row.T.Denot). record n { parent = Some p; siblings = l } in
+    let put = λ (n : LinkedNode g.row.T.Denot). record n { siblings = l } in
     let own = sym (ap (λ o. changed_in old.live k o put) c.index_mut-place.ensures.value) in
     let linked = ap (λ s. s.live) c.set_prev.ensures ∙ ap (λ s. with_prev s.live p l.next (Some k)) c.set_next.ensures ∙ ap (λ m. with_prev (with_next m p l.prev (Some k)) p l.next (Some k)) own in
     let same = neighbours_len (changed old.live k put) p l.prev (Some k) l.next (Some k) c.index_mut.result.now (sym (ap (λ m. map.get m p) linked) ∙ c.index_mut.ensures.value) in
@@ -29,7 +29,7 @@ returns g c =
     let k = c.args.node in
     let p = c.args.parent in
     let l = c.args.siblings in
-    let put = λ (n : LinkedNode g.row.T.Denot). record n { parent = Some p; siblings = l } in
+    let put = λ (n : LinkedNode g.row.T.Denot). record n { siblings = l } in
     let own = sym (ap (λ o. record old { live = changed_in old.live k o put }) c.index_mut-place.ensures.value) in
     sym (ap (λ o. record c.set_prev.new.nodes { live = changed_in c.set_prev.new.nodes.live p o (λ n. record n { children = record n.children { len = n.children.len + 1 } }) }) c.index_mut.ensures.value)
     ∙ ap (λ (s : Content (LinkedNode g.row.T.Denot)). record s { live = with_len s.live p (λ len. len + 1) }) (c.set_prev.ensures

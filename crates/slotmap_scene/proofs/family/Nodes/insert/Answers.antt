@@ -6,10 +6,10 @@ use Rattle.slotmap_scene.proofs.Showing.{added_inserts, added_keeps, added_woven
 use Rattle.slotmap_scene.proofs.family.Nodes.insert.Goals as goal
 
 pub invariant_of-self : goal.invariant_of-self
-invariant_of-self g c = added_woven c.self.inside.map c.add.new.nodes c.self.invariant c.args.value c.add.result c.add.ensures.adds c.add.ensures.fresh c.add.ensures.unchanged
+invariant_of-self g c = added_woven c.self.inside.map c.add.new.nodes c.self.invariant c.args.value c.args.parent c.add.result c.add.ensures.adds c.add.ensures.fresh c.add.ensures.unchanged
 
 pub returns-clause-adds : goal.returns-clause-adds
-returns-clause-adds g c = rw (← c.self.view_is) (added_inserts c.self.inside.map c.add.new.nodes c.self.invariant c.args.value c.add.result c.add.ensures.adds c.add.ensures.fresh)
+returns-clause-adds g c = rw (← c.self.view_is) (added_inserts c.self.inside.map c.add.new.nodes c.self.invariant c.args.value c.args.parent c.add.result c.add.ensures.adds c.add.ensures.fresh)
 
 pub returns-clause-fresh : goal.returns-clause-fresh
 returns-clause-fresh g c = rw (← c.self.view_is) (IfOk-weaker c.add.result _ _ (λ k fresh. shown_keys c.self.inside.map.live k ∙ fresh) c.add.ensures.fresh)
