@@ -4,9 +4,8 @@ use Rattle.std.specs.Option.{option_map}
 use Rattle.std.specs.FinMap as map
 use Rattle.slotmap.specs.Words.{Key, key_cmp, Content, IsCloneBy, IsCloneOf}
 use Rattle.slotmap.proofs.Callers.{keys, same_or_other, keys_total, exact_keys, left_in}
-use Rattle.slotmap_keylist.specs.declared.Link.{Link}
 use Rattle.slotmap_keylist.specs.KeyLists.{times, without}
-use Rattle.slotmap_keylist.specs.Linked.{followed, ends_of as ends_of_list, link_between, AreLinked}
+use Rattle.slotmap_keylist.specs.Linked.{first_or, last_or, followed, ends_of as ends_of_list, link_between, AreLinked}
 use Rattle.slotmap_keylist.proofs.Linking.{in_midst, without_split}
 use Rattle.slotmap_keylist.specs.Changed.{changed, changed_in}
 use Rattle.slotmap_keylist.proofs.Changed.{changed_gives, changed_here, changed_keeps, changed_other}
@@ -16,7 +15,7 @@ use Rattle.slotmap_scene.specs.Climb.{parent_in, parent_of}
 use Rattle.slotmap_scene.specs.Family.{IsNodeClone, children_in, children_of, with_children_in}
 use Rattle.slotmap_scene.specs.LinkedNodes.{LinkedNodes, ends_in, ends_of, led_to, link_in, link_of, shown_scene, shown_node, shown_nodes, put_between, taken_between, IsLinkedClone, IsWoven}
 use Rattle.slotmap_scene.proofs.RelinkedNodes.{relinked_keeps}
-use Rattle.slotmap_scene.proofs.Weaving.{led_is, woven_by, woven_same, with_list, list_at, list_other, put_linked, taken_linked}
+use Rattle.slotmap_scene.proofs.Weaving.{led_is, woven_by, woven_same, with_list, list_here, list_other, put_linked, taken_linked}
 use Rattle.slotmap_scene.proofs.Showing.{shown_alike, shown_still, above_in, value_in, same_nodes, shown_children, shown_get, shown_keys, shown_parent, shown_value}
 
 module _ {T : Type 0} (m : LinkedNodes T) (woven : IsWoven m) where
@@ -32,7 +31,7 @@ module _ {T : Type 0} (m : LinkedNodes T) (woven : IsWoven m) where
 
     list_children : (q : Key) → children_of (shown_nodes new) q ≡ children_of (with_children_in nodes p (map.get nodes p) f) q
     list_children q = shown_children new q ∙ led_is new (with_list m woven p ks) linked q ∙ elim (same_or_other q p) [
-      | inl is ↦ rw is (list_at m woven p ks p refl ∙ made ∙ sym (changed_gives nodes p fill children_in f (λ n. refl) (shown_keys m p ∙ there) ∙ ap f (shown_children m p)))
+      | inl is ↦ rw is (list_here m woven p ks ∙ made ∙ sym (changed_gives nodes p fill children_in f (λ n. refl) (shown_keys m p ∙ there) ∙ ap f (shown_children m p)))
       | inr other ↦ list_other m woven p ks q other ∙ sym (ap children_in (changed_other nodes p fill q other) ∙ shown_children m q)
     ]
 
@@ -43,16 +42,16 @@ module _ {T : Type 0} (m : LinkedNodes T) (woven : IsWoven m) where
 
   -- a node is put into a list, or taken out of one
   pub put_shown : (p k : Key) (live : map.contains_key m k ≡ true) (there : map.contains_key m p ≡ true) (none : (q : Key) → times k (led_to m q) ≡ 0) (before after : List Key) (list : led_to m p ≡ before ++ after)
-      (l : Link Key) (place : l ≡ link_between before after) → shown_nodes (put_between m p k l) ≡ with_children_in nodes p (map.get nodes p) (λ _. before ++ k ∷ after)
-  put_shown p k live there none before after list l place = list_shown p there (before ++ k ∷ after) (λ _. before ++ k ∷ after) refl (put_between m p k l)
-      (λ X P free q. relinked_keeps (changed m k (λ n. record n { siblings = l })) p l (Some k) (Some k) (λ len. len + 1) P free q
-      ∙ changed_keeps m k (λ n. record n { siblings = l }) P (λ n. free n n.children l) q) (put_linked m woven p k live there none before after list l place)
+      → shown_nodes (put_between m p k (link_between before after)) ≡ with_children_in nodes p (map.get nodes p) (λ _. before ++ k ∷ after)
+  put_shown p k live there none before after list = list_shown p there (before ++ k ∷ after) (λ _. before ++ k ∷ after) refl (put_between m p k (link_between before after))
+      (λ X P free q. relinked_keeps (changed m k (λ n. record n { siblings = link_between before after })) p (link_between before after) (Some k) (Some k) (λ len. len + 1) P free q
+      ∙ changed_keeps m k (λ n. record n { siblings = link_between before after }) P (λ n. free n n.children (link_between before after)) q) (put_linked m woven p k live there none before after list)
 
-  pub taken_shown : (p k : Key) (there : map.contains_key m p ≡ true) (before after : List Key) (list : led_to m p ≡ before ++ k ∷ after) (l : Link Key) (place : l ≡ link_between before after)
-      → shown_nodes (taken_between m p l) ≡ with_children_in nodes p (map.get nodes p) (without k)
-  taken_shown p k there before after list l place = list_shown p there (before ++ after) (without k)
-      (sym (ap (without k) list ∙ without_split k before after (subst (λ ks. times k ks ≤ 1) list (woven.apart.once p k)))) (taken_between m p l)
-      (λ X P free q. relinked_keeps m p l l.next l.prev (λ len. len - 1) P free q) (taken_linked m woven p k there before after list l place)
+  pub taken_shown : (p k : Key) (there : map.contains_key m p ≡ true) (before after : List Key) (list : led_to m p ≡ before ++ k ∷ after)
+      → shown_nodes (taken_between m p (link_between before after)) ≡ with_children_in nodes p (map.get nodes p) (without k)
+  taken_shown p k there before after list = list_shown p there (before ++ after) (without k)
+      (sym (ap (without k) list ∙ without_split k before after (subst (λ ks. times k ks ≤ 1) list (woven.apart.once p k)))) (taken_between m p (link_between before after))
+      (λ X P free q. relinked_keeps m p (link_between before after) (first_or after None) (last_or before None) (λ len. len - 1) P free q) (taken_linked m woven p k there before after list)
 
   -- a node has another value or another parent, and the same links
   module _ (k : Key) (n : LinkedNode T) (found : map.get m k ≡ Some n) (f : LinkedNode T → LinkedNode T) (g : Node T → Node T)

@@ -87,15 +87,18 @@ module _ {T : Type 0} (c : Content (LinkedNode T)) (woven : IsWoven c.live) (sel
       listed_next = some_of l.next (IsLive c) (λ x is. next_live c.live woven p split.0 (k ∷ []) split.1 split.2 x (sym (ap (λ (s : Link Key). s.next) place) ∙ is))
 
       module _ (new : Content (LinkedNode T)) (made : new ≡ record c { live = taken_between c.live p l }) where
+        takes : new ≡ record c { live = taken_between c.live p (link_between split.0 split.1) }
+        takes = made ∙ ap (λ s. record c { live = taken_between c.live p s }) place
+
         pub take_woven : IsWoven new.live
-        take_woven = subst (λ (s : Content (LinkedNode T)). IsWoven s.live) (sym made) (taken_woven c.live woven p k lister_live split.0 split.1 split.2 l place)
+        take_woven = subst (λ (s : Content (LinkedNode T)). IsWoven s.live) (sym takes) (taken_woven c.live woven p k lister_live split.0 split.1 split.2)
 
         pub take_shows : shown_scene new ≡ record self { live = with_children_in self.live p (map.get self.live p) (without k) }
-        take_shows = now_shows (taken_between c.live p l) (taken_keys c.live woven p k lister_live split.0 split.1 split.2 l place) new made
-            (λ n. with_children_in n p (map.get n p) (without k)) (taken_shown c.live woven p k lister_live split.0 split.1 split.2 l place)
+        take_shows = now_shows (taken_between c.live p (link_between split.0 split.1)) (taken_keys c.live woven p k lister_live split.0 split.1 split.2) new takes
+            (λ n. with_children_in n p (map.get n p) (without k)) (taken_shown c.live woven p k lister_live split.0 split.1 split.2)
 
         pub take_leaves : Leaves self (shown_scene new)
-        take_leaves = still_leaves (taken_between c.live p l) (taken_keys c.live woven p k lister_live split.0 split.1 split.2 l place) new made
+        take_leaves = still_leaves (taken_between c.live p (link_between split.0 split.1)) (taken_keys c.live woven p k lister_live split.0 split.1 split.2) new takes
 
   -- a node that is in no list is put among the children of p
   module _ (p k : Key) (there : has_node self.live p) (live : has_node self.live k) (alone : (q : Key) → times k (children_of self.live q) ≡ 0) (l : Link Key) (before after : List Key)
@@ -113,15 +116,18 @@ module _ {T : Type 0} (c : Content (LinkedNode T)) (woven : IsWoven c.live) (sel
     put_next = some_of l.next (IsLive c) (λ x is. next_live c.live woven p before [] after list x (sym (ap (λ (s : Link Key). s.next) place.link) ∙ is))
 
     module _ (new : Content (LinkedNode T)) (made : new ≡ record c { live = put_between c.live p k l }) where
+      puts : new ≡ record c { live = put_between c.live p k (link_between before after) }
+      puts = made ∙ ap (λ s. record c { live = put_between c.live p k s }) place.link
+
       pub put_weaves : IsWoven new.live
-      put_weaves = subst (λ (s : Content (LinkedNode T)). IsWoven s.live) (sym made) (put_woven c.live woven p k (live_is k live) (live_is p there) none before after list l place.link)
+      put_weaves = subst (λ (s : Content (LinkedNode T)). IsWoven s.live) (sym puts) (put_woven c.live woven p k (live_is k live) (live_is p there) none before after list)
 
       pub put_shows : shown_scene new ≡ record self { live = with_children_in self.live p (map.get self.live p) (λ _. before ++ k ∷ after) }
-      put_shows = now_shows (put_between c.live p k l) (put_keys c.live woven p k (live_is k live) (live_is p there) none before after list l place.link) new made
-          (λ n. with_children_in n p (map.get n p) (λ _. before ++ k ∷ after)) (put_shown c.live woven p k (live_is k live) (live_is p there) none before after list l place.link)
+      put_shows = now_shows (put_between c.live p k (link_between before after)) (put_keys c.live woven p k (live_is k live) (live_is p there) none before after list) new puts
+          (λ n. with_children_in n p (map.get n p) (λ _. before ++ k ∷ after)) (put_shown c.live woven p k (live_is k live) (live_is p there) none before after list)
 
       pub put_leaves : Leaves self (shown_scene new)
-      put_leaves = still_leaves (put_between c.live p k l) (put_keys c.live woven p k (live_is k live) (live_is p there) none before after list l place.link) new made
+      put_leaves = still_leaves (put_between c.live p k (link_between before after)) (put_keys c.live woven p k (live_is k live) (live_is p there) none before after list) new puts
 
   -- a node has another parent
   module _ (k : Key) (n : LinkedNode T) (found : map.get c.live k ≡ Some n) (o : Option Key) where
