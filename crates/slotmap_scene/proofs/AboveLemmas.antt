@@ -3,9 +3,9 @@ use Rattle.std.proofs.Common.{◌≡◌, ℕ, zero, suc, ◌<◌, true, false, c
 use Rattle.std.specs.FinMap as map
 use Rattle.slotmap.specs.Words.{Key}
 use Rattle.slotmap_scene.specs.Node.{Nodes}
-use Rattle.slotmap_scene.specs.Climb.{ClimbsTo, IsTree, has_node, parent_of}
+use Rattle.slotmap_scene.specs.Climb.{ClimbsTo, IsTree, parent_of}
 use Rattle.slotmap_scene.specs.Above.{GoesUp, keys_up, HasRoot, roots_by}
-use Rattle.slotmap_scene.proofs.Climbs.{short, leads_live}
+use Rattle.slotmap_scene.proofs.Climbs.{short}
 use Rattle.slotmap_scene.proofs.Families.{parent_there}
 
 module _ {T : Type 0} (nodes : Nodes T) where
@@ -41,9 +41,6 @@ module _ {T : Type 0} (nodes : Nodes T) where
       by (suc len) (suc n) climbs below =
           ap (λ o. k ∷ keys_up nodes len o) climbs.1.1 ∙ ap (λ l. k ∷ l) (same_up n len (suc len) climbs.0 climbs.1.2 (omega arith) (omega arith))
           ∙ ap (λ o. k ∷ keys_up nodes (suc len) o) (sym climbs.1.1)
-
-  pub root_live : (k : Key) → HasRoot nodes (Some k) → has_node nodes k
-  root_live k has = leads_live nodes has.0 k has.1
 
   goes_up_from : (n : ℕ) (k : Key) → ClimbsTo nodes n k → GoesUp nodes (Some k) (keys_up nodes (suc n) (Some k))
   goes_up_from zero k climbs = (refl, subst (λ o. GoesUp nodes o (keys_up nodes zero o)) (sym climbs.1) tt)

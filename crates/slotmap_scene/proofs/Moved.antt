@@ -2,7 +2,7 @@
 use Rattle.std.proofs.Common.{◌≡◌, ◌≢◌, ℕ, zero, suc, ◌+◌, true, Option, Some, None, Result, Ok, Err, IfOk, OnErr, List, [], ◌∷◌, ◌++◌, is_some, refl, sym, ap, subst, ◌∙◌, inl, inr, arith}
 use Rattle.std.specs.Prelude.{option_map}
 use Rattle.std.specs.FinMap as map
-use Rattle.slotmap.specs.Words.{Key, Content, Inserts, Keeps}
+use Rattle.slotmap.specs.Words.{Key, Content, Inserts, Keeps, KeepsSpent}
 use Rattle.slotmap.proofs.Callers.{get-insert_here, get-insert_other, same_or_other, keys_total, exact_keys, none_of}
 use Rattle.slotmap_keylist.specs.KeyLists.{same, times, without}
 use Rattle.slotmap_keylist.specs.Changed.{changed}
@@ -12,6 +12,7 @@ use Rattle.slotmap_keylist.proofs.Counts.{times_gone, times_pushed, without_none
 use Rattle.slotmap_scene.specs.Node.{Node, Nodes}
 use Rattle.slotmap_scene.specs.Climb.{has_node, lacks_node, parent_in, parent_of, StepsTo, IsWithin, with_parent}
 use Rattle.slotmap_scene.specs.Family.{IsMoved, IsNewChild, IsScene, as_last_child, as_root, child, children_in, children_of, forgets, value_of, with_children_in, with_children_of, without_child}
+use Rattle.slotmap_scene.proofs.Leaving.{spent_alike}
 use Rattle.slotmap_scene.proofs.Families.{by_parent, listed_never, listed_once, parent_there, scene_moved}
 
 module _ {T : Type 0} where
@@ -98,9 +99,6 @@ module _ {T : Type 0} where
       abbrev push : Node T → Node T
       push n = record n { children = n.children ++ k ∷ [] }
 
-      abbrev pushed : Nodes T
-      pushed = as_last_child nodes k p
-
       pub moved_below : IsMoved nodes (as_last_child nodes k p) k (Some p) (λ ks. ks ++ k ∷ [])
       moved_below = record {
         parent_is = changed_keeps (hung (Some p)) p push parent_in (λ n. refl) k
@@ -114,7 +112,7 @@ module _ {T : Type 0} where
       pub values_below : (q : Key) → value_of (as_last_child nodes k p) q ≡ value_of nodes q
       values_below q = changed_keeps (hung (Some p)) p push (option_map (λ n. n.value)) (λ n. refl) q ∙ hung_values (Some p) q
 
-      pushed_keys : (q : Key) → map.contains_key (as_last_child nodes k p) q ≡ map.contains_key nodes q
+      pub pushed_keys : (q : Key) → map.contains_key (as_last_child nodes k p) q ≡ map.contains_key nodes q
       pushed_keys q = changed_keeps (hung (Some p)) p push is_some (λ n. refl) q ∙ hung_keys (Some p) q
 
       pub scene_below : (IsWithin nodes p k → ⊥) → IsScene (as_last_child nodes k p)
@@ -246,3 +244,6 @@ module _ {T : Type 0} (old mid : Content (Node T)) (scene : IsScene old.live) (k
 
     pub child_scene : ((x : Key) (ks : List Key) → times x (f ks) ≡ times x ks + same k x) → IsScene new.live
     child_scene more = subst IsScene (sym child_live) (came_scene old.live scene k fresh (Some p) (λ q is. subst (has_node old.live) (cc) there) v f more)
+
+    pub child_spent : KeepsSpent old mid → KeepsSpent old new
+    child_spent keeps k spent = rw put (spent_alike mid _ (filled_keeps mid.live f is_some (λ n. refl) (Some p)) k (keeps k spent))

@@ -5,55 +5,36 @@ use Rattle.slotmap.specs.Words.{Key, Content}
 use Rattle.slotmap_keylist.specs.declared.Link.{Link}
 use Rattle.slotmap_keylist.specs.KeyLists.{is_key, same, times}
 use Rattle.slotmap_keylist.specs.Linked.{last_or, link_between}
-use Rattle.slotmap_keylist.proofs.Counts.{is_itself, times_first}
+use Rattle.slotmap_keylist.proofs.Counts.{is_itself, is_other, one_itself, times_first}
 use Rattle.slotmap_keylist.proofs.Linking.{in_midst}
 use Rattle.slotmap_scene.specs.Node.{Node, Nodes}
 use Rattle.slotmap_scene.specs.declared.tree.Side.{Side}
 use Rattle.slotmap_scene.specs.declared.tree.Side.TheVariants.{Before, After}
-use Rattle.slotmap_scene.specs.Family.{around, children_in, children_of, placed, placed_before, placed_after, with_child, with_children_in}
+use Rattle.slotmap_scene.specs.Family.{around, beside, children_in, children_of, placed, with_child, with_children_in}
 use Rattle.slotmap_scene.specs.LinkedNodes.{IsPlace}
 
-module _ (s k x : Key) where
-  times_before : (ks : List Key) → times x (placed_before s k ks) ≡ times x ks + same k x
-  times_before [] = let first = times_first x k [] in omega arith
-  times_before (q ∷ qs) = elim (is_key q s) as (λ b. times x (cond b (k ∷ q ∷ qs) (q ∷ placed_before s k qs)) ≡ times x (q ∷ qs) + same k x) [
-    | true ↦ (let first = times_first x k (q ∷ qs) in omega arith)
-    | false ↦ (let first = times_first x q (placed_before s k qs) in let was = times_first x q qs in let rest = times_before qs in omega arith)
+module _ (side : Side) (s k : Key) where
+  pub times_placed : (x : Key) (ks : List Key) → times x (placed side s k ks) ≡ times x ks + same k x
+  times_placed x [] = let first = times_first x k [] in omega arith
+  times_placed x (q ∷ qs) = elim (is_key q s) as (λ b. times x (cond b (beside side k q qs) (q ∷ placed side s k qs)) ≡ times x (q ∷ qs) + same k x) [
+    | true ↦ at_once side
+    | false ↦ (let first = times_first x q (placed side s k qs) in let was = times_first x q qs in let rest = times_placed x qs in omega arith)
   ]
+    where
+      at_once : (side : Side) → times x (beside side k q qs) ≡ times x (q ∷ qs) + same k x
+      at_once Before = let first = times_first x k (q ∷ qs) in omega arith
+      at_once After = let first = times_first x q (k ∷ qs) in let next = times_first x k qs in let was = times_first x q qs in omega arith
 
-  times_after : (ks : List Key) → times x (placed_after s k ks) ≡ times x ks + same k x
-  times_after [] = let first = times_first x k [] in omega arith
-  times_after (q ∷ qs) = elim (is_key q s) as (λ b. times x (cond b (q ∷ k ∷ qs) (q ∷ placed_after s k qs)) ≡ times x (q ∷ qs) + same k x) [
-    | true ↦ (let first = times_first x q (k ∷ qs) in let next = times_first x k qs in let was = times_first x q qs in omega arith)
-    | false ↦ (let first = times_first x q (placed_after s k qs) in let was = times_first x q qs in let rest = times_after qs in omega arith)
-  ]
-
-  pub times_placed : (side : Side) (ks : List Key) → times x (placed side s k ks) ≡ times x ks + same k x
-  times_placed Before ks = times_before ks
-  times_placed After ks = times_after ks
-
-module _ (s k : Key) where
-  not_first : (q : Key) (qs : List Key) → times s (q ∷ qs) ≡ 0 → is_key q s ≡ false
-  not_first q qs none = elim (is_key q s) as (λ b. is_key q s ≡ b → b ≡ false) [
-    | true ↦ λ is. absurd (let first = times_first s q qs in let one : same q s ≡ 1 = ap (λ b. cond b 1 0) is in omega arith)
-    | false ↦ λ is. refl
-  ] refl
-
-  before_is : (b a : List Key) → times s b ≡ 0 → placed_before s k (b ++ s ∷ a) ≡ b ++ k ∷ s ∷ a
-  before_is [] a none = ap (λ t. cond t (k ∷ s ∷ a) (s ∷ placed_before s k a)) (is_itself s)
-  before_is (q ∷ b) a none =
+  placed_at : (b a : List Key) → times s b ≡ 0 → placed side s k (b ++ s ∷ a) ≡ b ++ beside side k s a
+  placed_at [] a none = ap (λ t. cond t (beside side k s a) (s ∷ placed side s k a)) (is_itself s)
+  placed_at (q ∷ b) a none =
       let first = times_first s q b in
-      ap (λ t. cond t (k ∷ q ∷ (b ++ s ∷ a)) (q ∷ placed_before s k (b ++ s ∷ a))) (not_first q b none) ∙ ap (λ l. q ∷ l) (before_is b a (omega arith))
+      let other = is_other q s (λ is. absurd (let one = ap (λ x. same x s) is ∙ one_itself s in omega arith)) in
+      ap (λ t. cond t (beside side k q (b ++ s ∷ a)) (q ∷ placed side s k (b ++ s ∷ a))) other ∙ ap (λ l. q ∷ l) (placed_at b a (omega arith))
 
-  after_is : (b a : List Key) → times s b ≡ 0 → placed_after s k (b ++ s ∷ a) ≡ b ++ s ∷ k ∷ a
-  after_is [] a none = ap (λ t. cond t (s ∷ k ∷ a) (s ∷ placed_after s k a)) (is_itself s)
-  after_is (q ∷ b) a none =
-      let first = times_first s q b in
-      ap (λ t. cond t (q ∷ k ∷ (b ++ s ∷ a)) (q ∷ placed_after s k (b ++ s ∷ a))) (not_first q b none) ∙ ap (λ l. q ∷ l) (after_is b a (omega arith))
-
-  pub placed_is : (side : Side) (b a : List Key) → times s b ≡ 0 → (around side b s a).0 ++ k ∷ (around side b s a).1 ≡ placed side s k (b ++ s ∷ a)
-  placed_is Before b a none = sym (before_is b a none)
-  placed_is After b a none = append_assoc b (s ∷ []) (k ∷ a) ∙ sym (after_is b a none)
+pub placed_is : (side : Side) (s k : Key) (b a : List Key) → times s b ≡ 0 → (around side b s a).0 ++ k ∷ (around side b s a).1 ≡ placed side s k (b ++ s ∷ a)
+placed_is Before s k b a none = sym (placed_at Before s k b a none)
+placed_is After s k b a none = append_assoc b (s ∷ []) (k ∷ a) ∙ sym (placed_at After s k b a none)
 
 pub beside_list : (side : Side) (b : List Key) (s : Key) (a : List Key) → b ++ s ∷ a ≡ (around side b s a).0 ++ (around side b s a).1
 beside_list Before b s a = refl
@@ -80,7 +61,7 @@ module _ {T : Type 0} (old new : Content (Node T)) (k p : Key) (l : Link Key)
       → new ≡ record old { live = with_children_in old.live p (map.get old.live p) (placed side s k) }
   attached_side side s b a is once place =
       let none : times s b ≡ 0 = (let sum = sym once ∙ ap (times s) is ∙ in_midst b s a in omega arith) in
-      attached_at (placed side s k) (around side b s a).0 (around side b s a).1 place (placed_is s k side b a none ∙ ap (placed side s k) (sym is))
+      attached_at (placed side s k) (around side b s a).0 (around side b s a).1 place (placed_is side s k b a none ∙ ap (placed side s k) (sym is))
 
 module _ {T : Type 0} (nodes : Nodes T) (p : Key) where
   -- the place behind all children

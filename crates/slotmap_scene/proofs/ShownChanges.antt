@@ -62,9 +62,6 @@ module _ {T : Type 0} (m : LinkedNodes T) (woven : IsWoven m) where
     same_link : (q : Key) → link_of (changed m k f) q ≡ link_of m q
     same_link q = changed_keeps m k f link_in links q
 
-    pub own_keys : (q : Key) → map.contains_key (map.insert m k (f n)) q ≡ map.contains_key m q
-    own_keys q = ap (λ x. map.contains_key x q) (sym own_is) ∙ changed_keeps m k f is_some (λ x. refl) q
-
     pub own_woven : IsWoven (map.insert m k (f n))
     own_woven = subst IsWoven own_is (woven_same m (changed m k f) (changed_keeps m k f ends_in ends) same_link (λ q there. changed_keeps m k f is_some (λ x. refl) q ∙ there) woven)
 

@@ -184,9 +184,6 @@ module _ {T : Type 0} (m : LinkedNodes T) (woven : IsWoven m) (p : Key) where
     longer : length (before ++ after) + 1 ≡ length (before ++ k ∷ after)
     longer = let a = length-append before (k ∷ after) in let b = length-append before after in omega arith
 
-    pub put_keys : (x : Key) → map.contains_key put x ≡ map.contains_key m x
-    put_keys x = relinked_keeps own_written p (link_between before after) (Some k) (Some k) (λ len. len + 1) is_some (λ n e s. refl) x ∙ own_keys x
-
     pub put_linked : AreLinked (ends_of put) (link_of put) (with_list (before ++ k ∷ after))
     put_linked = linked_put woven.linked woven.apart p k before after list none
         (new_own before [] after list (k ∷ []) comes k absent own_written own_keys own_ends own_links there (λ len. len + 1) longer
@@ -201,9 +198,6 @@ module _ {T : Type 0} (m : LinkedNodes T) (woven : IsWoven m) (p : Key) where
   module _ (k : Key) (there : map.contains_key m p ≡ true) (before after : List Key) (list : led_to m p ≡ before ++ k ∷ after) where
     abbrev taken : LinkedNodes T
     taken = taken_between m p (link_between before after)
-
-    pub taken_keys : (x : Key) → map.contains_key taken x ≡ map.contains_key m x
-    taken_keys x = relinked_keeps m p (link_between before after) (first_or after None) (last_or before None) (λ len. len - 1) is_some (λ n e s. refl) x
 
     elsewhere : times k before + times k after ≡ 0
     elsewhere = let sum = ap (times k) list ∙ in_midst before k after in let once = woven.apart.once p k in omega arith

@@ -14,19 +14,15 @@ abbrev pub is_parent : Option Key → Key → ℕ
 is_parent None p = 0
 is_parent (Some q) p = same q p
 
--- k is placed right before its sibling s, or at the end, where s isn't there
-abbrev pub placed_before : Key → Key → List Key → List Key
-placed_before s k [] = k ∷ []
-placed_before s k (q ∷ qs) = cond (is_key q s) (k ∷ q ∷ qs) (q ∷ placed_before s k qs)
+-- k on this side of q, which is in front of the others
+abbrev pub beside : Side → Key → Key → List Key → List Key
+beside Before k q qs = k ∷ q ∷ qs
+beside After k q qs = q ∷ k ∷ qs
 
--- the same right behind it
-abbrev pub placed_after : Key → Key → List Key → List Key
-placed_after s k [] = k ∷ []
-placed_after s k (q ∷ qs) = cond (is_key q s) (q ∷ k ∷ qs) (q ∷ placed_after s k qs)
-
+-- k is placed right before its sibling s, or right behind it; where s isn't there, at the end
 abbrev pub placed : Side → Key → Key → List Key → List Key
-placed Before s k ks = placed_before s k ks
-placed After s k ks = placed_after s k ks
+placed side s k [] = k ∷ []
+placed side s k (q ∷ qs) = cond (is_key q s) (beside side k q qs) (q ∷ placed side s k qs)
 
 -- the two parts of a list that a place on this side of s is between, where these keys are before s and behind it
 abbrev pub around : Side → List Key → Key → List Key → List Key × List Key

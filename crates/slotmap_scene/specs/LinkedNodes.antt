@@ -1,5 +1,5 @@
 -- The links between nodes, and the nodes that they show.
-use Rattle.std.specs.Prelude.{◌≡◌, ◌<◌, ◌+◌, ◌-◌, ℕ, Option, Some, None, List, ◌++◌, length, true}
+use Rattle.std.specs.Prelude.{◌≡◌, ◌<◌, ◌+◌, ◌-◌, ℕ, Option, Some, None, IfSome, List, ◌++◌, length, true}
 use Rattle.std.specs.FinMap as map
 use Rattle.slotmap.specs.Words.{Key, key_cmp, Content}
 use Rattle.slotmap_keylist.specs.declared.Ends.{Ends}
@@ -72,6 +72,12 @@ module _ {T : Type 0} where
     pub linked : AreLinked (ends_of m) (link_of m) (led_to m)
     pub apart : AreApart (led_to m)
     pub live : (p k : Key) → 0 < times k (led_to m p) → map.contains_key m k ≡ true
+
+  -- p is a node, and so are these two neighbours
+  pub record AreLive (m : LinkedNodes T) (p : Key) (l : Link Key) : Type 0 where
+    pub parent : map.contains_key m p ≡ true
+    pub prev : IfSome l.prev (λ k. map.contains_key m k ≡ true)
+    pub next : IfSome l.next (λ k. map.contains_key m k ≡ true)
 
   -- a node, or the end of the list of p, leads on to another key, or to none
   abbrev pub with_next : LinkedNodes T → Key → Option Key → Option Key → LinkedNodes T

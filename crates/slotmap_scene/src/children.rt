@@ -92,7 +92,7 @@ impl<'a, K: Key, T: Drop> Iterator for ChildKeys<'a, K, T> {
             return None;
         }
         let key = self.first?;
-        let node = self.nodes.get(key)?;
+        let node = &self.nodes[key];
         self.left -= 1;
         self.first = node.siblings.next;
         Some(outer(key))
@@ -116,7 +116,7 @@ impl<'a, K: Key, T: Drop> DoubleEndedIterator for ChildKeys<'a, K, T> {
             return None;
         }
         let key = self.last?;
-        let node = self.nodes.get(key)?;
+        let node = &self.nodes[key];
         self.left -= 1;
         self.last = node.siblings.prev;
         Some(outer(key))

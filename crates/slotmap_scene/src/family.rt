@@ -6,7 +6,7 @@ ghost use Rattle.std.specs.Borrow.{sem};
 ghost use Rattle.std.specs.Option.{option_copied_mut};
 ghost use Rattle.slotmap.specs.Words.{Key as KeyOf, IsContent, IsNew, IsSpent, KeepsSpent, Inserts, Keeps, Leaves, MakesRoom, RefusesCapacity, used};
 ghost use Rattle.slotmap_keylist.specs.KeyLists.{times, without};
-ghost use Rattle.slotmap_keylist.specs.Linked.{first_or, last_or};
+ghost use Rattle.slotmap_keylist.specs.Linked.{ends_of, first_or, last_or, link_between};
 ghost use Rattle.slotmap_scene.specs.Above.{roots_in};
 ghost use Rattle.slotmap_scene.specs.Climb.{has_node, lacks_node, parent_of, with_parent};
 ghost use Rattle.slotmap_scene.specs.Family.{child, children_of, value_of, with_children_in};
@@ -113,42 +113,45 @@ impl<T: Drop> Nodes<T> {
         self.map.iter()
     }
 
+    // The ends of the list of a node's children.
+    fn ends(&self, node: DefaultKey) -> Ends<DefaultKey>
+        ensures { result ≡ ends_of (children_of self.now.live node) }
+    {
+        match self.map.get(node) {
+            Some(node) => node.children,
+            None => Ends::none(),
+        }
+    }
+
+    // The neighbours of a child.
+    pub fn link(&self, node: DefaultKey) -> Link<DefaultKey>
+        ensures { (p : KeyOf) (before after : List KeyOf) → children_of self.now.live p ≡ before ++ node ∷ after → result ≡ link_between before after }
+    {
+        match self.map.get(node) {
+            Some(node) => node.siblings,
+            None => Link::none(),
+        }
+    }
+
     // The keys of the children of a node.
     pub fn children<K: Key>(&self, node: DefaultKey) -> ChildKeys<'_, K, T>
         ensures { result ≡ children_of self.now.live node }
     {
-        match self.map.get(node) {
-            Some(node) => ChildKeys::between(&self.map, node.children),
-            None => ChildKeys::between(&self.map, Ends::none()),
-        }
+        ChildKeys::between(&self.map, self.ends(node))
     }
 
     // The first child of a node.
     pub fn first(&self, node: DefaultKey) -> Option<DefaultKey>
         ensures { result ≡ first_or (children_of self.now.live node) None }
     {
-        self.map.get(node)?.children.first
+        self.ends(node).first
     }
 
     // The last child of a node.
     pub fn last(&self, node: DefaultKey) -> Option<DefaultKey>
         ensures { result ≡ last_or (children_of self.now.live node) None }
     {
-        self.map.get(node)?.children.last
-    }
-
-    // The child behind another one.
-    pub fn next(&self, node: DefaultKey) -> Option<DefaultKey>
-        ensures { (p : KeyOf) (before after : List KeyOf) → children_of self.now.live p ≡ before ++ node ∷ after → result ≡ first_or after None }
-    {
-        self.map.get(node)?.siblings.next
-    }
-
-    // The child before another one.
-    pub fn prev(&self, node: DefaultKey) -> Option<DefaultKey>
-        ensures { (p : KeyOf) (before after : List KeyOf) → children_of self.now.live p ≡ before ++ node ∷ after → result ≡ last_or before None }
-    {
-        self.map.get(node)?.siblings.prev
+        self.ends(node).last
     }
 
     // Adds a node with this parent and no children. It is in no list.
@@ -175,28 +178,26 @@ impl<T: Drop> Nodes<T> {
         requires node { has_node self.old.live node }
         requires alone { (p : KeyOf) → times node (children_of self.old.live p) ≡ 0 }
         requires place { (before : List KeyOf) × (after : List KeyOf) × IsPlace self.old.live parent siblings before after }
-        ensures puts { (before after : List KeyOf) → IsPlace self.old.live parent siblings before after
+        ensures { (before after : List KeyOf) → IsPlace self.old.live parent siblings before after
             → self.new ≡ record self.old { live = with_children_in self.old.live parent (map.get self.old.live parent) (λ _. before ++ node ∷ after) } }
-        ensures leaves { Leaves self.old self.new }
     {
         put_between(&mut self.map, parent, node, siblings);
     }
 
     // Takes a node out of the children of its parent.
     pub fn take_out(&mut self, parent: DefaultKey, node: DefaultKey)
-        requires { 0 < times node (children_of self.old.live parent) }
-        ensures takes { self.new ≡ record self.old { live = with_children_in self.old.live parent (map.get self.old.live parent) (without node) } }
-        ensures leaves { Leaves self.old self.new }
+        requires parent { has_node self.old.live parent }
+        requires child { 0 < times node (children_of self.old.live parent) }
+        ensures { self.new ≡ record self.old { live = with_children_in self.old.live parent (map.get self.old.live parent) (without node) } }
     {
-        let siblings = self.map[node].siblings;
+        let siblings = self.link(node);
         take_between(&mut self.map, parent, siblings);
     }
 
     // Lets a node have this parent, or none. The lists of children are the same.
     pub fn set_parent(&mut self, node: DefaultKey, parent: Option<DefaultKey>)
         requires { has_node self.old.live node }
-        ensures sets { self.new ≡ record self.old { live = with_parent self.old.live node parent } }
-        ensures leaves { Leaves self.old self.new }
+        ensures { self.new ≡ record self.old { live = with_parent self.old.live node parent } }
     {
         self.map[node].parent = parent;
     }

@@ -4,7 +4,7 @@
 ghost use Rattle.std.specs.Prelude.{◌≡◌, ◌<◌, ◌≤◌, IfErr, IfOk, IfSome, IsOk, OnErr, false};
 ghost use Rattle.std.specs.FinMap as map;
 ghost use Rattle.slotmap.specs.Words.{Inserts, IsLive, IsSpent, Keeps, KeepsSpent};
-ghost use Rattle.slotmap_scene.specs.LinkedNodes.{ends_of, leaf, put_between, taken_between, with_next, with_prev};
+ghost use Rattle.slotmap_scene.specs.LinkedNodes.{AreLive, ends_of, leaf, put_between, taken_between, with_next, with_prev};
 ghost use Rattle.slotmap_scene.specs.Refusals.{RefusesNode};
 
 use slotmap::{DefaultKey, InsertError, SlotMap};
@@ -94,10 +94,8 @@ pub(crate) fn put_between<T: Drop>(
     node: DefaultKey,
     siblings: Link<DefaultKey>,
 )
-    requires parent { IsLive nodes.old parent }
+    requires place { AreLive nodes.old.live parent siblings }
     requires node { IsLive nodes.old node }
-    requires prev { IfSome siblings.prev (IsLive nodes.old) }
-    requires next { IfSome siblings.next (IsLive nodes.old) }
     requires fits { (ends_of nodes.old.live parent).len ≤ map.len nodes.old.live }
     ensures { nodes.new ≡ record nodes.old { live = put_between nodes.old.live parent node siblings } }
 {
@@ -115,9 +113,7 @@ pub(crate) fn take_between<T: Drop>(
     parent: DefaultKey,
     siblings: Link<DefaultKey>,
 )
-    requires parent { IsLive nodes.old parent }
-    requires prev { IfSome siblings.prev (IsLive nodes.old) }
-    requires next { IfSome siblings.next (IsLive nodes.old) }
+    requires place { AreLive nodes.old.live parent siblings }
     requires some { 0 < (ends_of nodes.old.live parent).len }
     ensures { nodes.new ≡ record nodes.old { live = taken_between nodes.old.live parent siblings } }
 {

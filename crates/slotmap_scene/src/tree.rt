@@ -2,7 +2,7 @@
 
 ghost use Rattle.std.specs.Prelude.{◌≡◌, ◌++◌, ◌∷◌, [], List, Some, None, option_map};
 ghost use Rattle.std.specs.FinMap as map;
-ghost use Rattle.slotmap.specs.Words.{Key as KeyOf, Leaves};
+ghost use Rattle.slotmap.specs.Words.{Key as KeyOf, KeepsSpent, Leaves};
 ghost use Rattle.slotmap_keylist.specs.KeyLists.{times};
 ghost use Rattle.slotmap_keylist.specs.Linked.{link_between};
 ghost use Rattle.slotmap_scene.specs.Climb.{IsWithin, has_node, lacks_node, parent_of};
@@ -26,8 +26,7 @@ impl<T: Drop> Nodes<T> {
         requires node { has_node self.old.live node }
         requires parent { has_node self.old.live parent }
         requires alone { (p : KeyOf) → times node (children_of self.old.live p) ≡ 0 }
-        ensures attaches { self.new ≡ record self.old { live = with_child self.old.live parent node } }
-        ensures leaves { Leaves self.old self.new }
+        ensures { self.new ≡ record self.old { live = with_child self.old.live parent node } }
     {
         let prev = self.last(parent);
         self.put_between(parent, node, Link { prev, next: None });
@@ -38,14 +37,15 @@ impl<T: Drop> Nodes<T> {
         ensures { (p : KeyOf) (before after : List KeyOf) → children_of self.now.live p ≡ before ++ sibling ∷ after
             → result ≡ link_between (around side before sibling after).0 (around side before sibling after).1 }
     {
+        let link = self.link(sibling);
         match side {
             Side::Before => Link {
-                prev: self.prev(sibling),
+                prev: link.prev,
                 next: Some(sibling),
             },
             Side::After => Link {
                 prev: Some(sibling),
-                next: self.next(sibling),
+                next: link.next,
             },
         }
     }
@@ -63,8 +63,7 @@ impl<T: Drop> Nodes<T> {
         requires parent { has_node self.old.live parent }
         requires sibling { times sibling (children_of self.old.live parent) ≡ 1 }
         requires alone { (p : KeyOf) → times node (children_of self.old.live p) ≡ 0 }
-        ensures attaches { self.new ≡ record self.old { live = with_children_in self.old.live parent (map.get self.old.live parent) (placed side sibling node) } }
-        ensures leaves { Leaves self.old self.new }
+        ensures { self.new ≡ record self.old { live = with_children_in self.old.live parent (map.get self.old.live parent) (placed side sibling node) } }
     {
         let siblings = self.place_beside(side, sibling);
         self.put_between(parent, node, siblings);
@@ -74,8 +73,7 @@ impl<T: Drop> Nodes<T> {
     fn leave(&mut self, node: DefaultKey)
         requires there { has_node self.old.live node }
         requires scene { IsScene self.old.live }
-        ensures takes { self.new ≡ record self.old { live = without_child self.old.live (parent_of self.old.live node) node } }
-        ensures leaves { Leaves self.old self.new }
+        ensures { self.new ≡ record self.old { live = without_child self.old.live (parent_of self.old.live node) node } }
     {
         if let Some(parent) = self[node].parent {
             self.take_out(parent, node);
@@ -90,7 +88,7 @@ impl<T: Drop> Nodes<T> {
         ensures trees { IsMoved self.old.live self.new.live node None (λ ks. ks) }
         ensures values { (k : KeyOf) → value_of self.new.live k ≡ value_of self.old.live k }
         ensures scene { IsScene self.new.live }
-        ensures leaves { Leaves self.old self.new }
+        ensures stale { KeepsSpent self.old self.new }
     {
         self.leave(node);
         self.set_parent(node, None);
@@ -106,7 +104,7 @@ impl<T: Drop> Nodes<T> {
         ensures trees { IsMoved self.old.live self.new.live node (Some parent) (λ ks. ks ++ node ∷ []) }
         ensures values { (k : KeyOf) → value_of self.new.live k ≡ value_of self.old.live k }
         ensures scene { IsScene self.new.live }
-        ensures leaves { Leaves self.old self.new }
+        ensures stale { KeepsSpent self.old self.new }
     {
         self.leave(node);
         self.set_parent(node, Some(parent));

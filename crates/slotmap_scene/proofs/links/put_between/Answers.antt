@@ -17,7 +17,7 @@ overflow_add-index_mut g c =
     let put = λ (n : LinkedNode g.row.T.Denot). record n { siblings = l } in
     let own = sym (ap (λ o. changed_in old.live k o put) c.index_mut-place.ensures.value) in
     let linked = ap (λ s. s.live) c.set_prev.ensures ∙ ap (λ s. with_prev s.live p l.next (Some k)) c.set_next.ensures ∙ ap (λ m. with_prev (with_next m p l.prev (Some k)) p l.next (Some k)) own in
-    let same = neighbours_len (changed old.live k put) p l (Some k) (Some k) (changed_keeps old.live k put is_some (λ n. refl) p ∙ c.requires.parent) c.index_mut.result.now (sym (ap (λ m. map.get m p) linked) ∙ c.index_mut.ensures.value) in
+    let same = neighbours_len (changed old.live k put) p l (Some k) (Some k) (changed_keeps old.live k put is_some (λ n. refl) p ∙ c.requires.place.parent) c.index_mut.result.now (sym (ap (λ m. map.get m p) linked) ∙ c.index_mut.ensures.value) in
     let kept = changed_keeps old.live k put (λ o. (ends_in o).len) (λ n. refl) p in
     let fits = c.requires.fits in
     let limit = c.index_mut-place.ensures.valid.limit in

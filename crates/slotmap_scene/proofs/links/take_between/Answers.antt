@@ -10,6 +10,6 @@ overflow_sub-index_mut g c =
     let l = c.args.siblings in
     let p = c.args.parent in
     let linked = ap (λ s. s.live) c.set_prev.ensures ∙ ap (λ s. with_prev s.live p l.next l.prev) c.set_next.ensures in
-    let same = neighbours_len m p l l.next l.prev c.requires.parent c.index_mut.result.now (sym (ap (λ x. map.get x p) linked) ∙ c.index_mut.ensures.value) in
+    let same = neighbours_len m p l l.next l.prev c.requires.place.parent c.index_mut.result.now (sym (ap (λ x. map.get x p) linked) ∙ c.index_mut.ensures.value) in
     let some = c.requires.some in
     omega arith

@@ -13,9 +13,9 @@ put_between-requires-clause-place g c =
       side_place nodes c.args.parent c.args.side c.args.sibling parts.0 parts.1 c.place_beside-siblings.result parts.2 (c.place_beside-siblings.ensures c.args.parent parts.0 parts.1 parts.2),
     )
 
-pub returns-clause-attaches : goal.returns-clause-attaches
-returns-clause-attaches g c =
+pub returns : goal.returns
+returns g c =
     let nodes = c.args.self.now.live in
     let parts = split_at c.args.sibling (children_of nodes c.args.parent) (let once = c.requires.sibling in omega arith) in
-    attached_side c.args.self.now c.put_between.new.self c.args.node c.args.parent c.place_beside-siblings.result c.put_between.ensures.puts c.args.side c.args.sibling parts.0 parts.1 parts.2 c.requires.sibling
+    attached_side c.args.self.now c.put_between.new.self c.args.node c.args.parent c.place_beside-siblings.result c.put_between.ensures c.args.side c.args.sibling parts.0 parts.1 parts.2 c.requires.sibling
     (side_place nodes c.args.parent c.args.side c.args.sibling parts.0 parts.1 c.place_beside-siblings.result parts.2 (c.place_beside-siblings.ensures c.args.parent parts.0 parts.1 parts.2))
