@@ -9,7 +9,8 @@ use Rattle.slotmap.proofs.Callers.{get-insert_here, get-insert_other, same_or_ot
 use Rattle.slotmap.specs.declared.InsertError.{InsertError}
 use Rattle.slotmap.specs.declared.InsertError.TheVariants.{Full, Memory}
 use Rattle.slotmap_keylist.specs.Linked.{followed}
-use Rattle.slotmap_keylist.proofs.Mapped.{entries-mapped, get-mapped, contains-mapped, len-mapped}
+use Rattle.slotmap_keylist.specs.Mapped.{map_values}
+use Rattle.slotmap_keylist.proofs.Mapped.{entries-mapped, get-mapped, contains-mapped, len-mapped, mapped-insert}
 use Rattle.slotmap_keylist.proofs.Shown.{shown_content, shown_keeps_spent, shown_inserts, shown_keeps, shown_leaves, shown_makes_room}
 use Rattle.slotmap_scene.specs.declared.links.LinkedNode.{LinkedNode}
 use Rattle.slotmap_scene.specs.Node.{Node, Nodes, node_value}
@@ -43,10 +44,8 @@ module _ {T : Type 0} where
     shown_get q = get-mapped (shown_node m) m q
 
     -- where all links are the same, the nodes are shown in the same way
-    pub shown_alike : (new : LinkedNodes T) → ((q : Key) → link_of new q ≡ link_of m q) → (q : Key) → map.get (shown_nodes new) q ≡ option_map (shown_node m) (map.get new q)
-    shown_alike new links q =
-        get-mapped (shown_node new) new q
-        ∙ (λ i. option_map (λ (x : LinkedNode T). record { value = x.value; parent = x.parent; children = followed (λ y. links y i) x.children }) (map.get new q))
+    pub shown_alike : (new : LinkedNodes T) → ((q : Key) → link_of new q ≡ link_of m q) → shown_nodes new ≡ map_values (shown_node m) new
+    shown_alike new links = λ i. map_values (λ (x : LinkedNode T). record { value = x.value; parent = x.parent; children = followed (λ y. links y i) x.children }) new
 
     pub shown_keys : (q : Key) → map.contains_key (shown_nodes m) q ≡ map.contains_key m q
     shown_keys q = contains-mapped (shown_node m) m q
@@ -139,26 +138,16 @@ module _ {T : Type 0} where
         came_woven = woven_same c.live new.live (as_before ends_in refl) (as_before link_in refl) came_keys woven
 
         came_live : shown_nodes new.live ≡ map.insert (shown_nodes c.live) k (child p v)
-        came_live = map.same_map keys_total exact_keys _ _ (λ q. shown_alike c.live new.live (as_before link_in refl) q ∙ ap (λ m. option_map (shown_node c.live) (map.get m q)) inserts.live ∙ elim (same_or_other q k) [
-          | inl is ↦ rw is (ap (option_map (shown_node c.live)) (get-insert_here c.live k (leaf v p)) ∙ sym (get-insert_here (shown_nodes c.live) k (child p v)))
-          | inr other ↦ ap (option_map (shown_node c.live)) (get-insert_other c.live k (leaf v p) q other) ∙ sym (shown_get c.live q) ∙ sym (get-insert_other (shown_nodes c.live) k (child p v) q other)
-        ])
+        came_live = shown_alike c.live new.live (as_before link_in refl) ∙ ap (map_values (shown_node c.live)) inserts.live ∙ mapped-insert (shown_node c.live) c.live k (leaf v p)
 
         pub came_inserts : Inserts (shown_scene c) k (child p v) (shown_scene new)
         came_inserts = shown_inserts c new (shown_nodes c.live) (shown_nodes new.live) (shown_keys c.live) (shown_len c.live) (shown_keys new.live) (shown_len new.live) k (leaf v p) (child p v) came_live inserts
 
       -- by the clauses of an insert, whatever it returns
-      pub added_woven : {E : Type 0} (woven : IsWoven c.live) (v : T) (p : Option Key) (result : Result Key E) → IfOk result (λ k. Inserts c k (leaf v p) new) → IfOk result (λ k. map.contains_key c.live k ≡ false) → OnErr result (Keeps c new) → IsWoven new.live
-      added_woven woven v p (Ok k) inserts fresh keeps = came_woven woven k v p fresh inserts
-      added_woven woven v p (Err e) inserts fresh keeps = subst IsWoven (sym keeps.live) woven
-
-      pub added_inserts : {E : Type 0} (woven : IsWoven c.live) (v : T) (p : Option Key) (result : Result Key E) → IfOk result (λ k. Inserts c k (leaf v p) new) → IfOk result (λ k. map.contains_key c.live k ≡ false) → IfOk result (λ k. Inserts (shown_scene c) k (child p v) (shown_scene new))
-      added_inserts woven v p (Ok k) inserts fresh = came_inserts woven k v p fresh inserts
-      added_inserts woven v p (Err e) inserts fresh = tt
-
-      pub added_keeps : {E : Type 0} (result : Result Key E) → OnErr result (Keeps c new) → OnErr result (Keeps (shown_scene c) (shown_scene new))
-      added_keeps (Ok k) keeps = tt
-      added_keeps (Err e) keeps = nodes_keep keeps
+      pub added : {E : Type 0} → IsWoven c.live → (v : T) (p : Option Key) (result : Result Key E) → IfOk result (λ k. Inserts c k (leaf v p) new) → IfOk result (λ k. map.contains_key c.live k ≡ false) → OnErr result (Keeps c new)
+          → IsWoven new.live × IfOk result (λ k. Inserts (shown_scene c) k (child p v) (shown_scene new)) × OnErr result (Keeps (shown_scene c) (shown_scene new))
+      added woven v p (Ok k) inserts fresh keeps = (came_woven woven k v p fresh inserts, came_inserts woven k v p fresh inserts, tt)
+      added woven v p (Err e) inserts fresh keeps = (subst IsWoven (sym keeps.live) woven, tt, nodes_keep keeps)
 
       pub refuses_shown : (v : T) (result : Result Key (InsertError T)) → IfErr result (RefusesNode c v) → IfErr result (RefusesNode (shown_scene c) v)
       refuses_shown v (Ok k) refuses = tt

@@ -6,7 +6,10 @@ use Rattle.slotmap.specs.Words.{Key, key_cmp, Content, IsCloneBy, IsCloneOf}
 use Rattle.slotmap.proofs.Callers.{keys, same_or_other, keys_total, exact_keys, left_in}
 use Rattle.slotmap_keylist.specs.KeyLists.{times, without}
 use Rattle.slotmap_keylist.specs.Linked.{first_or, last_or, followed, ends_of as ends_of_list, link_between, AreLinked}
-use Rattle.slotmap_keylist.proofs.Linking.{in_midst, without_split}
+use Rattle.slotmap_keylist.specs.Mapped.{with_live}
+use Rattle.slotmap_keylist.proofs.Linking.{cons_not_nil, without_split}
+use Rattle.slotmap_keylist.proofs.Mapped.{mapped-clones, mapped-empty, mapped-insert}
+use Rattle.slotmap_keylist.proofs.Splicing.{linked_but}
 use Rattle.slotmap_keylist.specs.Changed.{changed, changed_in}
 use Rattle.slotmap_keylist.proofs.Changed.{changed_gives, changed_here, changed_keeps, changed_other}
 use Rattle.slotmap_scene.specs.declared.links.LinkedNode.{LinkedNode}
@@ -66,14 +69,9 @@ module _ {T : Type 0} (m : LinkedNodes T) (woven : IsWoven m) where
     own_woven = subst IsWoven own_is (woven_same m (changed m k f) (changed_keeps m k f ends_in ends) same_link (λ q there. changed_keeps m k f is_some (λ x. refl) q ∙ there) woven)
 
     pub own_shown : shown_nodes (map.insert m k (f n)) ≡ changed nodes k g
-    own_shown = ap shown_nodes (sym own_is) ∙ map.same_map keys_total exact_keys (shown_nodes (changed m k f)) (changed nodes k g) (λ q. shown_alike m (changed m k f) same_link q ∙ elim (same_or_other q k) [
-      | inl is ↦ rw is (ap (option_map (shown_node m)) (changed_here m k f) ∙ turned (map.get m k) ∙ ap (option_map g) (sym (shown_get m k)) ∙ sym (changed_here nodes k g))
-      | inr other ↦ ap (option_map (shown_node m)) (changed_other m k f q other) ∙ sym (shown_get m q) ∙ sym (changed_other nodes k g q other)
-    ])
-      where
-        turned : (o : Option (LinkedNode T)) → option_map (shown_node m) (option_map f o) ≡ option_map g (option_map (shown_node m) o)
-        turned None = refl
-        turned (Some x) = ap Some (shows x)
+    own_shown =
+        shown_alike m (map.insert m k (f n)) (λ q. ap (λ x. link_of x q) (sym own_is) ∙ same_link q) ∙ mapped-insert (shown_node m) m k (f n) ∙ ap (map.insert nodes k) (shows n)
+        ∙ sym (ap (λ o. changed_in nodes k o g) (shown_get m k ∙ ap (option_map (shown_node m)) found))
 
   -- a node goes that has no children, and is in no list
   module _ (k : Key) (leaf : led_to m k ≡ []) (none : (q : Key) → times k (led_to m q) ≡ 0) where
@@ -92,10 +90,7 @@ module _ {T : Type 0} (m : LinkedNodes T) (woven : IsWoven m) where
         | inl is ↦ rw is (ap ends_in (gone_here m) ∙ ap ends_of_list (sym leaf))
         | inr other ↦ ap ends_in (gone_other m p other) ∙ woven.linked.ends_are p
       ];
-      links_are = λ p before x after is. elim (same_or_other x k) [
-        | inl same ↦ absurd (let sum = ap (times x) is ∙ in_midst before x after in let zero = subst (λ y. times y (led_to m p) ≡ 0) (sym same) (none p) in omega arith)
-        | inr other ↦ ap link_in (gone_other m x other) ∙ woven.linked.links_are p before x after is
-      ];
+      links_are = (linked_but woven.linked k none (λ x other. ap link_in (gone_other m x other))).links_are;
     }
 
     pub gone_woven : IsWoven gone
@@ -113,17 +108,13 @@ module _ {T : Type 0} (m : LinkedNodes T) (none : m ≡ map.empty) where
   none_there : (q : Key) → map.get m q ≡ None
   none_there q = ap (λ x. map.get x q) none ∙ map.get-empty {X = LinkedNode T} key_cmp q
 
-  no_split : (before : List Key) (k : Key) (after : List Key) → [] ≡ before ++ k ∷ after → ⊥
-  no_split [] k after is = absurd (cc)
-  no_split (q ∷ before) k after is = absurd (cc)
-
   pub woven_none : IsWoven m
   woven_none = woven_by m (λ p. [])
-      (record { ends_are = λ p. ap ends_in (none_there p); links_are = λ p before k after is. absurd (no_split before k after is) })
+      (record { ends_are = λ p. ap ends_in (none_there p); links_are = λ p before k after is. absurd (cons_not_nil before k after is) })
       (record { once = λ p k. omega arith; alone = λ p q k more. absurd (omega arith) }) (λ p k more. absurd (omega arith))
 
   pub shown_none : shown_nodes m ≡ map.empty
-  shown_none = map.same_map keys_total exact_keys (shown_nodes m) map.empty (λ q. shown_get m q ∙ ap (option_map _) (none_there q) ∙ sym (map.get-empty {X = Node T} key_cmp q))
+  shown_none = ap shown_nodes none ∙ mapped-empty (shown_node map.empty)
 
 -- a copy has the same links
 module _ {T : Type 0} (is_clone : T → T → Type 0) (c copy : Content (LinkedNode T)) (clones : IsCloneBy (IsLinkedClone is_clone) c copy) where
@@ -142,16 +133,5 @@ module _ {T : Type 0} (is_clone : T → T → Type 0) (c copy : Content (LinkedN
   copied_woven woven = woven_same c.live copy.live (λ q. (alike q).1) (λ q. (alike q).2) (λ q there. (alike q).0 ∙ there) woven
 
   pub copied_shown : IsCloneBy (IsNodeClone is_clone) (shown_scene c) (shown_scene copy)
-  copied_shown = record {
-    live = λ q. rw (shown_get c.live q, shown_alike c.live copy.live (λ x. (alike x).2) q) (live (map.get c.live q) (map.get copy.live q) (clones.live q));
-    detached = clones.detached;
-    retired = clones.retired;
-    next = clones.next;
-    offer = clones.offer;
-    stack = clones.stack;
-  }
-    where
-      live : (o p : Option (LinkedNode T)) → IsCloneOf (IsLinkedClone is_clone) o p → IsCloneOf (IsNodeClone is_clone) (option_map (shown_node c.live) o) (option_map (shown_node c.live) p)
-      live None p clone = ap (option_map (shown_node c.live)) clone
-      live (Some n) None clone = absurd clone
-      live (Some n) (Some x) clone = (clone.0, clone.1, ap (followed (link_of c.live)) clone.2)
+  copied_shown = subst (λ nodes. IsCloneBy (IsNodeClone is_clone) (shown_scene c) (with_live copy nodes)) (sym (shown_alike c.live copy.live (λ q. (alike q).2)))
+      (mapped-clones (shown_node c.live) (IsLinkedClone is_clone) (IsNodeClone is_clone) (λ v w is. (is.0, is.1, ap (followed (link_of c.live)) is.2)) c copy clones)

@@ -154,27 +154,18 @@ module _ {T : Type 0} (nodes : Nodes T) (k p : Key) (node : Node T) (there : map
 -- where a node k is that gets another parent, or is added: all other nodes keep their values and their parents
 module _ {T : Type 0} (old new : Nodes T) (k : Key) (values : (q : Key) → has_node old q → q ≢ k → value_of new q ≡ value_of old q)
     (parents : (q : Key) → has_node old q → q ≢ k → parent_of new q ≡ parent_of old q) where
-  -- a path that doesn't come by k stays
-  path_outside : (q : Option Key) (vs : List T) → ((r : Key) → q ≡ Some r → IsWithin old r k → ⊥) → IsPathFrom old q vs → IsPathFrom new q vs
-  path_outside None [] out path = tt
-  path_outside None (v ∷ above) out path = absurd path
-  path_outside (Some q) [] out path = absurd path
-  path_outside (Some q) (v ∷ above) out path =
+  -- a path stays that doesn't come by k
+  path_kept : (Past : Key → Type 0) → ((q : Key) → Past q → has_node old q → q ≢ k) → ((q r : Key) → Past q → parent_of old q ≡ Some r → Past r)
+      → (q : Option Key) (vs : List T) → ((r : Key) → q ≡ Some r → Past r) → IsPathFrom old q vs → IsPathFrom new q vs
+  path_kept Past apart up None [] past path = tt
+  path_kept Past apart up None (v ∷ above) past path = absurd path
+  path_kept Past apart up (Some q) [] past path = absurd path
+  path_kept Past apart up (Some q) (v ∷ above) past path =
       let live = path_live old q (v ∷ above) path in
-      let apart : q ≢ k = λ same. out q refl (zero, same) in (
-        values q live apart ∙ path.0,
-        subst (λ r. IsPathFrom new r above) (sym (parents q live apart)) (path_outside (parent_of old q) above (λ r up w. out q refl (suc w.0, (r, (up, w.1)))) path.1),
+      let other = apart q (past q refl) live in (
+        values q live other ∙ path.0,
+        subst (λ r. IsPathFrom new r above) (sym (parents q live other)) (path_kept Past apart up (parent_of old q) above (λ r is. up q r (past q refl) is) path.1),
       )
-
-  -- where k wasn't there, each path stays
-  path_added : lacks_node old k → (q : Option Key) (vs : List T) → IsPathFrom old q vs → IsPathFrom new q vs
-  path_added fresh None [] path = tt
-  path_added fresh None (v ∷ above) path = absurd path
-  path_added fresh (Some q) [] path = absurd path
-  path_added fresh (Some q) (v ∷ above) path =
-      let live = path_live old q (v ∷ above) path in
-      let apart : q ≢ k = λ same. (let h = sym (subst (has_node old) same live) ∙ fresh in cc) in
-      (values q live apart ∙ path.0, subst (λ r. IsPathFrom new r above) (sym (parents q live apart)) (path_added fresh (parent_of old q) above path.1))
 
   -- k is where its own value says, under its new parent
   module _ (under : T → T → T) (v : T) (p : Key) (w : T) (here : value_of new k ≡ Some v) (up : parent_of new k ≡ Some p) (world : IsWorld under old p w) where
@@ -187,10 +178,11 @@ module _ {T : Type 0} (old new : Nodes T) (k : Key) (values : (q : Key) → has_
     }
 
     world_below : (IsWithin old p k → ⊥) → IsWorld under new k (under v w)
-    world_below out = under_parent (path_outside (Some p) (world.own ∷ world.above) (λ r is within. out (let same : r ≡ p = cc in subst (λ x. IsWithin old x k) same within)) world.path)
+    world_below out = under_parent (path_kept (λ q. IsWithin old q k → ⊥) (λ q outside live same. outside (zero, same)) (λ q r outside is w. outside (suc w.0, (r, (is, w.1))))
+        (Some p) (world.own ∷ world.above) (λ r is within. out (let same : r ≡ p = cc in subst (λ x. IsWithin old x k) same within)) world.path)
 
     world_new : lacks_node old k → IsWorld under new k (under v w)
-    world_new fresh = under_parent (path_added fresh (Some p) (world.own ∷ world.above) world.path)
+    world_new fresh = under_parent (path_kept (λ q. Unit {0}) (λ q _ live same. (let h = sym (subst (has_node old) same live) ∙ fresh in cc)) (λ q r _ is. tt) (Some p) (world.own ∷ world.above) (λ r is. tt) world.path)
 
 -- after `reparent` a node is where its own value says, under its new parent, which is where it was
 module _ {T : Type 0} (old new : Nodes T) (k p : Key) {put : List Key → List Key} (trees : IsMoved old new k (Some p) put) (values : (q : Key) → value_of new q ≡ value_of old q) where
