@@ -5,7 +5,7 @@ use Rattle.slotmap.specs.Words.{Key}
 use Rattle.slotmap_scene.specs.Node.{Nodes}
 use Rattle.slotmap_scene.specs.Climb.{ClimbsTo, IsTree, parent_of}
 use Rattle.slotmap_scene.specs.Above.{GoesUp, keys_up, HasRoot, roots_by}
-use Rattle.slotmap_scene.proofs.Climbs.{short}
+use Rattle.slotmap_scene.proofs.Climbs.{next_up, short}
 use Rattle.slotmap_scene.proofs.Families.{parent_there}
 
 module _ {T : Type 0} (nodes : Nodes T) where
@@ -14,14 +14,12 @@ module _ {T : Type 0} (nodes : Nodes T) where
   none_up (suc n) = refl
 
   -- enough is enough
-  same_up : (steps n m : ℕ) (k : Key) → ClimbsTo nodes steps k → steps < n → steps < m → keys_up nodes n (Some k) ≡ keys_up nodes m (Some k)
-  same_up steps zero m k climbs a b = absurd (omega arith)
-  same_up steps (suc n) zero k climbs a b = absurd (omega arith)
-  same_up zero (suc n) (suc m) k climbs a b =
-      ap (λ o. k ∷ keys_up nodes n o) climbs.1 ∙ ap (λ l. k ∷ l) (none_up n ∙ sym (none_up m)) ∙ ap (λ o. k ∷ keys_up nodes m o) (sym climbs.1)
-  same_up (suc steps) (suc n) (suc m) k climbs a b =
-      ap (λ o. k ∷ keys_up nodes n o) climbs.1.1 ∙ ap (λ l. k ∷ l) (same_up steps n m climbs.0 climbs.1.2 (omega arith) (omega arith))
-      ∙ ap (λ o. k ∷ keys_up nodes m o) (sym climbs.1.1)
+  same_up : (n m : ℕ) (o : Option Key) → ((k : Key) → o ≡ Some k → (steps : ℕ) × ClimbsTo nodes steps k × (steps < n) × (steps < m)) → keys_up nodes n o ≡ keys_up nodes m o
+  same_up n m None up = none_up n ∙ sym (none_up m)
+  same_up zero m (Some k) up = absurd (let short = (up k refl).2 in omega arith)
+  same_up (suc n) zero (Some k) up = absurd (let short = (up k refl).3 in omega arith)
+  same_up (suc n) (suc m) (Some k) up = ap (λ l. k ∷ l) (same_up n m (parent_of nodes k) (λ p is.
+      let own = up k refl in let next = next_up nodes own.0 k p own.1 is in let one = next.1.0 in (next.0, next.1.1, (let a = own.2 in omega arith), (let b = own.3 in omega arith))))
 
   -- the parent of a key with a root above it has one too
   pub root_above : (k : Key) → HasRoot nodes (Some k) → HasRoot nodes (parent_of nodes k)
@@ -33,14 +31,9 @@ module _ {T : Type 0} (nodes : Nodes T) where
 
   -- a key with what is above its parent
   pub step_up : (k : Key) → HasRoot nodes (Some k) → keys_up nodes (map.len nodes) (Some k) ≡ k ∷ keys_up nodes (map.len nodes) (parent_of nodes k)
-  step_up k has = by (map.len nodes) has.0 has.1 (short nodes has.0 k has.1)
-    where
-      by : (len n : ℕ) → ClimbsTo nodes n k → n < len → keys_up nodes len (Some k) ≡ k ∷ keys_up nodes len (parent_of nodes k)
-      by zero n climbs below = absurd (omega arith)
-      by (suc len) zero climbs below = ap (λ o. k ∷ keys_up nodes len o) climbs.1 ∙ ap (λ l. k ∷ l) (none_up len) ∙ ap (λ o. k ∷ keys_up nodes (suc len) o) (sym climbs.1)
-      by (suc len) (suc n) climbs below =
-          ap (λ o. k ∷ keys_up nodes len o) climbs.1.1 ∙ ap (λ l. k ∷ l) (same_up n len (suc len) climbs.0 climbs.1.2 (omega arith) (omega arith))
-          ∙ ap (λ o. k ∷ keys_up nodes (suc len) o) (sym climbs.1.1)
+  step_up k has =
+      let below = short nodes has.0 k has.1 in
+      same_up (map.len nodes) (suc (map.len nodes)) (Some k) (λ q is. (has.0, subst (ClimbsTo nodes has.0) (cc) has.1, below, omega arith))
 
   goes_up_from : (n : ℕ) (k : Key) → ClimbsTo nodes n k → GoesUp nodes (Some k) (keys_up nodes (suc n) (Some k))
   goes_up_from zero k climbs = (refl, subst (λ o. GoesUp nodes o (keys_up nodes zero o)) (sym climbs.1) tt)
@@ -51,7 +44,7 @@ module _ {T : Type 0} (nodes : Nodes T) where
   goes_up None has = subst (GoesUp nodes None) (sym (none_up (map.len nodes))) tt
   goes_up (Some k) has =
       let below = short nodes has.0 k has.1 in
-      subst (GoesUp nodes (Some k)) (same_up has.0 (suc has.0) (map.len nodes) k has.1 (omega arith) below) (goes_up_from has.0 k has.1)
+      subst (GoesUp nodes (Some k)) (same_up (suc has.0) (map.len nodes) (Some k) (λ q is. (has.0, subst (ClimbsTo nodes has.0) (cc) has.1, omega arith, below))) (goes_up_from has.0 k has.1)
 
   -- a node's parent has a root above it
   pub parent_rooted : IsTree nodes → (k : Key) → HasRoot nodes (parent_of nodes k)

@@ -5,7 +5,7 @@ use Rattle.std.specs.FinMap as map
 use Rattle.std.proofs.lemmas.Option.{same_Some}
 use Rattle.std.proofs.lemmas.Simd.{map-map}
 use Rattle.slotmap.specs.Words.{Key, Content, IsContent, KeepsSpent, Inserts, Keeps, Leaves, MakesRoom}
-use Rattle.slotmap.proofs.Callers.{get-insert_here, get-insert_other, same_or_other, keys_total, exact_keys}
+use Rattle.slotmap.proofs.Callers.{get-insert_here, get-insert_other, none_of, same_or_other, still_in, keys_total, exact_keys}
 use Rattle.slotmap.specs.declared.InsertError.{InsertError}
 use Rattle.slotmap.specs.declared.InsertError.TheVariants.{Full, Memory}
 use Rattle.slotmap_keylist.specs.Linked.{followed}
@@ -118,21 +118,14 @@ module _ {T : Type 0} where
 
       -- a node with no children came
       module _ (woven : IsWoven c.live) (k : Key) (v : T) (p : Option Key) (fresh : map.contains_key c.live k ≡ false) (inserts : Inserts c k (leaf v p) new) where
-        none_in : {N X : Type 0} (P : Option N → X) (o : Option N) → is_some o ≡ false → P None ≡ P o
-        none_in P None is = refl
-        none_in P (Some n) is = absurd (cc)
-
         as_before : {X : Type 0} (P : Option (LinkedNode T) → X) → P (Some (leaf v p)) ≡ P None → (q : Key) → P (map.get new.live q) ≡ P (map.get c.live q)
         as_before P same q = ap (λ m. P (map.get m q)) inserts.live ∙ elim (same_or_other q k) [
-          | inl is ↦ rw is (ap P (get-insert_here c.live k (leaf v p)) ∙ same ∙ none_in P (map.get c.live k) fresh)
+          | inl is ↦ rw is (ap P (get-insert_here c.live k (leaf v p)) ∙ same ∙ sym (ap P (none_of (map.get c.live k) fresh)))
           | inr other ↦ ap P (get-insert_other c.live k (leaf v p) q other)
         ]
 
         came_keys : (q : Key) → map.contains_key c.live q ≡ true → map.contains_key new.live q ≡ true
-        came_keys q live = ap (λ m. map.contains_key m q) inserts.live ∙ elim (same_or_other q k) [
-          | inl is ↦ rw is (ap is_some (get-insert_here c.live k (leaf v p)))
-          | inr other ↦ ap is_some (get-insert_other c.live k (leaf v p) q other) ∙ live
-        ]
+        came_keys q live = rw inserts.live (still_in keys_total exact_keys c.live k (leaf v p) q live)
 
         pub came_woven : IsWoven new.live
         came_woven = woven_same c.live new.live (as_before ends_in refl) (as_before link_in refl) came_keys woven

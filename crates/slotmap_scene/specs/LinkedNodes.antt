@@ -79,6 +79,10 @@ module _ {T : Type 0} where
     pub prev : IfSome l.prev (λ k. map.contains_key m k ≡ true)
     pub next : IfSome l.next (λ k. map.contains_key m k ≡ true)
 
+  -- a node has these neighbours
+  abbrev pub with_link : LinkedNodes T → Key → Link Key → LinkedNodes T
+  with_link m k l = changed m k (λ n. record n { siblings = l })
+
   -- a node, or the end of the list of p, leads on to another key, or to none
   abbrev pub with_next : LinkedNodes T → Key → Option Key → Option Key → LinkedNodes T
   with_next m p None next = changed m p (λ n. record n { children = record n.children { first = next } })
@@ -98,7 +102,7 @@ module _ {T : Type 0} where
 
   -- k is put between two keys of the list of p
   abbrev pub put_between : LinkedNodes T → Key → Key → Link Key → LinkedNodes T
-  put_between m p k l = relinked (changed m k (λ n. record n { siblings = l })) p l (Some k) (Some k) (λ len. len + 1)
+  put_between m p k l = relinked (with_link m k l) p l (Some k) (Some k) (λ len. len + 1)
 
   -- what is between two keys of the list of p is taken out of it
   abbrev pub taken_between : LinkedNodes T → Key → Link Key → LinkedNodes T

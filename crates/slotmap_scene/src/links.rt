@@ -1,10 +1,10 @@
 //! A node with its links, and the changes of links: a node comes, is put between two others, or is taken
 //! out.
 
-ghost use Rattle.std.specs.Prelude.{◌≡◌, ◌<◌, ◌≤◌, IfErr, IfOk, IfSome, IsOk, OnErr, false};
+ghost use Rattle.std.specs.Prelude.{◌≡◌, ◌<◌, ◌≤◌, IfErr, IfOk, IfSome, IsOk, OnErr, true, false};
 ghost use Rattle.std.specs.FinMap as map;
-ghost use Rattle.slotmap.specs.Words.{Inserts, IsLive, IsSpent, Keeps, KeepsSpent};
-ghost use Rattle.slotmap_scene.specs.LinkedNodes.{AreLive, ends_of, leaf, put_between, taken_between, with_next, with_prev};
+ghost use Rattle.slotmap.specs.Words.{Inserts, IsContent, IsLive, IsSpent, Keeps, KeepsSpent};
+ghost use Rattle.slotmap_scene.specs.LinkedNodes.{AreLive, ends_of, leaf, put_between, taken_between, with_link, with_next, with_prev};
 ghost use Rattle.slotmap_scene.specs.Refusals.{RefusesNode};
 
 use slotmap::{DefaultKey, InsertError, SlotMap};
@@ -49,6 +49,22 @@ pub(crate) fn add<T: Drop>(
         Err(InsertError::Full(node)) => Err(InsertError::Full(node.value)),
         Err(InsertError::Memory(node)) => Err(InsertError::Memory(node.value)),
     }
+}
+
+// Gives a node these neighbours.
+fn set_link<T: Drop>(
+    nodes: &mut LinkedNodes<T>,
+    node: DefaultKey,
+    prev: Option<DefaultKey>,
+    next: Option<DefaultKey>,
+)
+    requires { IsLive nodes.old node }
+    ensures valid { IsContent true nodes.old }
+    ensures links { nodes.new ≡ record nodes.old { live = with_link nodes.old.live node (record { prev = prev; next = next }) } }
+{
+    let place = &mut nodes[node];
+    place.siblings.prev = prev;
+    place.siblings.next = next;
 }
 
 // Lets a node lead on to another one, or to none. Without a node, it is the start of the list of the
@@ -99,9 +115,7 @@ pub(crate) fn put_between<T: Drop>(
     requires fits { (ends_of nodes.old.live parent).len ≤ map.len nodes.old.live }
     ensures { nodes.new ≡ record nodes.old { live = put_between nodes.old.live parent node siblings } }
 {
-    let place = &mut nodes[node];
-    place.siblings.prev = siblings.prev;
-    place.siblings.next = siblings.next;
+    set_link(nodes, node, siblings.prev, siblings.next);
     set_next(nodes, parent, siblings.prev, Some(node));
     set_prev(nodes, parent, siblings.next, Some(node));
     nodes[parent].children.len += 1;

@@ -2,9 +2,9 @@ use Rattle.std.proofs.Common.{refl, sym, ap, ◌∙◌, is_some, option_map}
 use Rattle.slotmap.proofs.Callers.{leaves_in_turn}
 use Rattle.slotmap_keylist.specs.KeyLists.{times, without}
 use Rattle.slotmap_keylist.proofs.Counts.{times_gone}
-use Rattle.slotmap_scene.specs.Climb.{parent_in}
+use Rattle.slotmap_scene.specs.Climb.{parent_in, parent_of}
 use Rattle.slotmap_scene.specs.Family.{children_in, children_of}
-use Rattle.slotmap_scene.proofs.Leaving.{leaves_alike}
+use Rattle.slotmap_scene.proofs.Leaving.{leaves_filled}
 use Rattle.slotmap_scene.proofs.Moved.{left_of}
 use Rattle.slotmap_scene.proofs.family.Nodes.prune.Goals as goal
 
@@ -26,4 +26,4 @@ pub returns-clause-value : goal.returns-clause-value
 returns-clause-value g c = sym (left_of c.args.self.now.live c.requires.scene c.args.node (option_map (λ n. n.value)) (λ o. o) refl (λ n. refl) c.args.node) ∙ ap (option_map (λ n. n.value)) (rw c.leave.ensures at c.remove.ensures.value)
 
 pub returns-clause-leaves : goal.returns-clause-leaves
-returns-clause-leaves g c = leaves_in_turn _ _ _ (rw c.leave.ensures (leaves_alike c.args.self.now _ (left_of c.args.self.now.live c.requires.scene c.args.node is_some (λ b. b) refl (λ n. refl)))) c.remove.ensures.leaves
+returns-clause-leaves g c = leaves_in_turn _ _ _ (rw c.leave.ensures (leaves_filled c.args.self.now (parent_of c.args.self.now.live c.args.node) (without c.args.node))) c.remove.ensures.leaves
