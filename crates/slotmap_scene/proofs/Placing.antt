@@ -1,16 +1,16 @@
 -- A place among the children of a node, and the list with one more child there.
 use Rattle.std.proofs.Common.{◌≡◌, ◌+◌, true, false, cond, Option, Some, None, List, [], ◌∷◌, ◌++◌, append_assoc, append-nil, refl, sym, ap, ◌∙◌, arith}
 use Rattle.std.specs.FinMap as map
-use Rattle.slotmap.specs.Words.{Key, Content}
+use Rattle.slotmap.specs.Words.{Key}
 use Rattle.slotmap_keylist.specs.declared.Link.{Link}
 use Rattle.slotmap_keylist.specs.KeyLists.{is_key, same, times}
 use Rattle.slotmap_keylist.specs.Linked.{last_or, link_between}
 use Rattle.slotmap_keylist.proofs.Counts.{is_itself, is_other, one_itself, times_first}
 use Rattle.slotmap_keylist.proofs.Linking.{in_midst}
-use Rattle.slotmap_scene.specs.Node.{Node, Nodes}
+use Rattle.slotmap_scene.specs.Node.{Nodes}
 use Rattle.slotmap_scene.specs.declared.tree.Side.{Side}
 use Rattle.slotmap_scene.specs.declared.tree.Side.TheVariants.{Before, After}
-use Rattle.slotmap_scene.specs.Family.{around, beside, children_in, children_of, placed, with_child, with_children_in}
+use Rattle.slotmap_scene.specs.Family.{around, beside, children_of, placed}
 use Rattle.slotmap_scene.specs.LinkedNodes.{IsPlace}
 
 module _ (side : Side) (s k : Key) where
@@ -40,29 +40,6 @@ pub beside_list : (side : Side) (b : List Key) (s : Key) (a : List Key) → b ++
 beside_list Before b s a = refl
 beside_list After b s a = sym (append_assoc b (s ∷ []) a)
 
--- a node is put at a place among the children of p
-module _ {T : Type 0} (old new : Content (Node T)) (k p : Key) (l : Link Key)
-    (puts : (before after : List Key) → IsPlace old.live p l before after → new ≡ record old { live = with_children_in old.live p (map.get old.live p) (λ _. before ++ k ∷ after) }) where
-  attached_at : (f : List Key → List Key) (before after : List Key) → IsPlace old.live p l before after → before ++ k ∷ after ≡ f (children_of old.live p)
-      → new ≡ record old { live = with_children_in old.live p (map.get old.live p) f }
-  attached_at f before after place is = puts before after place
-      ∙ ap (λ m. record old { live = m }) (ap (λ ks. with_children_in old.live p (map.get old.live p) (λ _. ks)) is ∙ made_in (map.get old.live p))
-    where
-      made_in : (o : Option (Node T)) → with_children_in old.live p o (λ _. f (children_in o)) ≡ with_children_in old.live p o f
-      made_in None = refl
-      made_in (Some n) = refl
-
-  -- behind all of them
-  pub attached_last : IsPlace old.live p l (children_of old.live p) [] → new ≡ record old { live = with_child old.live p k }
-  attached_last place = attached_at (λ ks. ks ++ k ∷ []) (children_of old.live p) [] place refl
-
-  -- beside one of them
-  pub attached_side : (side : Side) (s : Key) (b a : List Key) → children_of old.live p ≡ b ++ s ∷ a → times s (children_of old.live p) ≡ 1 → IsPlace old.live p l (around side b s a).0 (around side b s a).1
-      → new ≡ record old { live = with_children_in old.live p (map.get old.live p) (placed side s k) }
-  attached_side side s b a is once place =
-      let none : times s b ≡ 0 = (let sum = sym once ∙ ap (times s) is ∙ in_midst b s a in omega arith) in
-      attached_at (placed side s k) (around side b s a).0 (around side b s a).1 place (placed_is side s k b a none ∙ ap (placed side s k) (sym is))
-
 module _ {T : Type 0} (nodes : Nodes T) (p : Key) where
   -- the place behind all children
   pub last_place : (l : Option Key) → l ≡ last_or (children_of nodes p) None → IsPlace nodes p (record { prev = l; next = None }) (children_of nodes p) []
@@ -71,3 +48,8 @@ module _ {T : Type 0} (nodes : Nodes T) (p : Key) where
   -- and the one beside a child
   pub side_place : (side : Side) (s : Key) (b a : List Key) (l : Link Key) → children_of nodes p ≡ b ++ s ∷ a → l ≡ link_between (around side b s a).0 (around side b s a).1 → IsPlace nodes p l (around side b s a).0 (around side b s a).1
   side_place side s b a l is link = record { list = is ∙ beside_list side b s a; link = link }
+
+  pub side_put : (side : Side) (s k : Key) (b a : List Key) → children_of nodes p ≡ b ++ s ∷ a → times s (children_of nodes p) ≡ 1 → (around side b s a).0 ++ k ∷ (around side b s a).1 ≡ placed side s k (children_of nodes p)
+  side_put side s k b a is once =
+      let sum = sym once ∙ ap (times s) is ∙ in_midst b s a in
+      placed_is side s k b a (omega arith) ∙ ap (placed side s k) (sym is)

@@ -17,7 +17,7 @@ use Rattle.slotmap_scene.specs.Node.{Node, Nodes, node_value}
 use Rattle.slotmap_scene.specs.Above.{roots_in}
 use Rattle.slotmap_scene.specs.Climb.{parent_in, parent_of}
 use Rattle.slotmap_scene.specs.Family.{child, children_in, children_of, value_of}
-use Rattle.slotmap_scene.specs.LinkedNodes.{LinkedNodes, ends_in, leaf, led_to, link_in, link_of, linked_roots, linked_value, shown_under, shown_scene, shown_node, shown_nodes, IsWoven}
+use Rattle.slotmap_scene.specs.LinkedNodes.{LinkedNodes, above_in, value_in, ends_in, leaf, led_to, link_in, link_of, linked_roots, linked_value, shown_under, shown_scene, shown_node, shown_nodes, IsWoven}
 use Rattle.slotmap_scene.specs.Refusals.{RefusesNode}
 use Rattle.slotmap_scene.proofs.Weaving.{woven_same}
 
@@ -32,13 +32,6 @@ same_nodes {T} a b values parents children = map.same_map keys_total exact_keys 
     by (Some n) (Some m) value parent children = let same = same_Some n.value m.value value in λ i. Some (record { value = same i; parent = parent i; children = children i })
 
 module _ {T : Type 0} where
-  abbrev pub value_in : Option (LinkedNode T) → Option T
-  value_in o = option_map (λ n. n.value) o
-
-  abbrev pub above_in : Option (LinkedNode T) → Option Key
-  above_in None = None
-  above_in (Some n) = n.parent
-
   module _ (m : LinkedNodes T) where
     pub shown_get : (q : Key) → map.get (shown_nodes m) q ≡ option_map (shown_node m) (map.get m q)
     shown_get q = get-mapped (shown_node m) m q

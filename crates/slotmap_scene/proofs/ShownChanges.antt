@@ -17,44 +17,28 @@ use Rattle.slotmap_scene.specs.Node.{Node, Nodes}
 use Rattle.slotmap_scene.specs.Climb.{parent_in, parent_of}
 use Rattle.slotmap_scene.specs.Family.{IsNodeClone, children_in, children_of, with_children_in}
 use Rattle.slotmap_scene.specs.LinkedNodes.{LinkedNodes, ends_in, ends_of, led_to, link_in, link_of, shown_scene, shown_node, shown_nodes, put_between, taken_between, IsLinkedClone, IsWoven}
-use Rattle.slotmap_scene.proofs.RelinkedNodes.{relinked_keeps}
-use Rattle.slotmap_scene.proofs.Weaving.{led_is, woven_by, woven_same, with_list, list_here, list_other, put_linked, taken_linked}
-use Rattle.slotmap_scene.proofs.Showing.{shown_alike, shown_still, above_in, value_in, same_nodes, shown_children, shown_get, shown_keys, shown_parent, shown_value}
+use Rattle.slotmap_scene.proofs.Weaving.{Relisted, led_is, woven_by, woven_same}
+use Rattle.slotmap_scene.proofs.Showing.{shown_alike, shown_still, same_nodes, shown_children, shown_get, shown_keys, shown_parent, shown_value}
 
 module _ {T : Type 0} (m : LinkedNodes T) (woven : IsWoven m) where
   abbrev nodes : Nodes T
   nodes = shown_nodes m
 
   -- the list of p is another one
-  module _ (p : Key) (there : map.contains_key m p ≡ true) (ks : List Key) (f : List Key → List Key) (made : ks ≡ f (led_to m p)) (new : LinkedNodes T)
-      (keeps : (X : Type 0) (P : Option (LinkedNode T) → X) → ((n : LinkedNode T) (e : _) (s : _) → P (Some (record n { children = e; siblings = s })) ≡ P (Some n)) → (q : Key) → P (map.get new q) ≡ P (map.get m q))
-      (linked : AreLinked (ends_of new) (link_of new) (with_list m woven p ks)) where
+  module _ (p : Key) (there : map.contains_key m p ≡ true) (ks : List Key) (f : List Key → List Key) (made : ks ≡ f (led_to m p)) (new : LinkedNodes T) (relisted : Relisted m new p ks) where
     abbrev fill : Node T → Node T
     fill n = record n { children = f n.children }
 
     list_children : (q : Key) → children_of (shown_nodes new) q ≡ children_of (with_children_in nodes p (map.get nodes p) f) q
-    list_children q = shown_children new q ∙ led_is new (with_list m woven p ks) linked q ∙ elim (same_or_other q p) [
-      | inl is ↦ rw is (list_here m woven p ks ∙ made ∙ sym (changed_gives nodes p fill children_in f (λ n. refl) (shown_keys m p ∙ there) ∙ ap f (shown_children m p)))
-      | inr other ↦ list_other m woven p ks q other ∙ sym (ap children_in (changed_other nodes p fill q other) ∙ shown_children m q)
+    list_children q = shown_children new q ∙ elim (same_or_other q p) [
+      | inl is ↦ rw is (relisted.list ∙ made ∙ sym (changed_gives nodes p fill children_in f (λ n. refl) (shown_keys m p ∙ there) ∙ ap f (shown_children m p)))
+      | inr other ↦ relisted.others q other ∙ sym (ap children_in (changed_other nodes p fill q other) ∙ shown_children m q)
     ]
 
-    list_shown : shown_nodes new ≡ with_children_in nodes p (map.get nodes p) f
+    pub list_shown : shown_nodes new ≡ with_children_in nodes p (map.get nodes p) f
     list_shown = same_nodes (shown_nodes new) (with_children_in nodes p (map.get nodes p) f)
-        (λ q. shown_value new q ∙ keeps (Option T) value_in (λ n e s. refl) q ∙ sym (changed_keeps nodes p fill (option_map (λ n. n.value)) (λ n. refl) q ∙ shown_value m q))
-        (λ q. shown_parent new q ∙ keeps (Option Key) above_in (λ n e s. refl) q ∙ sym (changed_keeps nodes p fill parent_in (λ n. refl) q ∙ shown_parent m q)) list_children
-
-  -- a node is put into a list, or taken out of one
-  pub put_shown : (p k : Key) (live : map.contains_key m k ≡ true) (there : map.contains_key m p ≡ true) (none : (q : Key) → times k (led_to m q) ≡ 0) (before after : List Key) (list : led_to m p ≡ before ++ after)
-      → shown_nodes (put_between m p k (link_between before after)) ≡ with_children_in nodes p (map.get nodes p) (λ _. before ++ k ∷ after)
-  put_shown p k live there none before after list = list_shown p there (before ++ k ∷ after) (λ _. before ++ k ∷ after) refl (put_between m p k (link_between before after))
-      (λ X P free q. relinked_keeps (changed m k (λ n. record n { siblings = link_between before after })) p (link_between before after) (Some k) (Some k) (λ len. len + 1) P free q
-      ∙ changed_keeps m k (λ n. record n { siblings = link_between before after }) P (λ n. free n n.children (link_between before after)) q) (put_linked m woven p k live there none before after list)
-
-  pub taken_shown : (p k : Key) (there : map.contains_key m p ≡ true) (before after : List Key) (list : led_to m p ≡ before ++ k ∷ after)
-      → shown_nodes (taken_between m p (link_between before after)) ≡ with_children_in nodes p (map.get nodes p) (without k)
-  taken_shown p k there before after list = list_shown p there (before ++ after) (without k)
-      (sym (ap (without k) list ∙ without_split k before after (subst (λ ks. times k ks ≤ 1) list (woven.apart.once p k)))) (taken_between m p (link_between before after))
-      (λ X P free q. relinked_keeps m p (link_between before after) (first_or after None) (last_or before None) (λ len. len - 1) P free q) (taken_linked m woven p k there before after list)
+        (λ q. shown_value new q ∙ relisted.values q ∙ sym (changed_keeps nodes p fill (option_map (λ n. n.value)) (λ n. refl) q ∙ shown_value m q))
+        (λ q. shown_parent new q ∙ relisted.parents q ∙ sym (changed_keeps nodes p fill parent_in (λ n. refl) q ∙ shown_parent m q)) list_children
 
   -- a node has another value or another parent, and the same links
   module _ (k : Key) (n : LinkedNode T) (found : map.get m k ≡ Some n) (f : LinkedNode T → LinkedNode T) (g : Node T → Node T)

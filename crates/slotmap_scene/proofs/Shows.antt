@@ -1,20 +1,20 @@
 -- What the calls on linked nodes require and make, by what the nodes show.
-use Rattle.std.proofs.Common.{◌≡◌, ◌<◌, true, Option, Some, None, IfSome, List, [], ◌∷◌, ◌++◌, length, refl, sym, ap, subst, ◌∙◌, arith}
+use Rattle.std.proofs.Common.{◌≡◌, ◌<◌, ◌≤◌, true, Option, Some, None, IfSome, List, [], ◌∷◌, ◌++◌, length, refl, sym, ap, subst, ◌∙◌, arith}
 use Rattle.std.specs.FinMap as map
 use Rattle.slotmap.specs.Words.{Key, Content, IsLive}
 use Rattle.slotmap_keylist.specs.declared.Ends.{Ends}
 use Rattle.slotmap_keylist.specs.declared.Link.{Link}
 use Rattle.slotmap_keylist.specs.KeyLists.{times, without}
 use Rattle.slotmap_keylist.specs.Linked.{ends_of as ends_of_list, link_between}
-use Rattle.slotmap_keylist.proofs.Linking.{split_at}
+use Rattle.slotmap_keylist.proofs.Linking.{split_at, without_split}
 use Rattle.slotmap_scene.specs.declared.links.LinkedNode.{LinkedNode}
 use Rattle.slotmap_scene.specs.Node.{Node, Nodes}
 use Rattle.slotmap_scene.specs.Climb.{has_node, with_parent}
 use Rattle.slotmap_scene.specs.Family.{child, children_of, with_children_in}
 use Rattle.slotmap_scene.specs.LinkedNodes.{AreLive, IsPlace, IsWoven, LinkedNodes, ends_of, led_to, link_of, put_between, shown_scene, shown_nodes, taken_between}
 use Rattle.slotmap_scene.proofs.Showing.{seen_there, shown_children, shown_keys}
-use Rattle.slotmap_scene.proofs.ShownChanges.{put_shown, taken_shown, own_shown, own_woven, gone_shown, gone_woven}
-use Rattle.slotmap_scene.proofs.Weaving.{next_live, prev_live, put_woven, taken_woven}
+use Rattle.slotmap_scene.proofs.ShownChanges.{list_shown, own_shown, own_woven, gone_shown, gone_woven}
+use Rattle.slotmap_scene.proofs.Weaving.{next_live, prev_live, put_relists, taken_relists}
 
 some_of : {A : Type 0} (o : Option A) (P : A → Type 0) → ((x : A) → o ≡ Some x → P x) → IfSome o P
 some_of None P all = tt
@@ -75,8 +75,10 @@ module _ {T : Type 0} (c : Content (LinkedNode T)) (woven : IsWoven c.live) (sel
     pub taken_now : (new : Content (LinkedNode T)) → new ≡ record c { live = taken_between c.live p l } → Now new (λ n. with_children_in n p (map.get n p) (without k))
     taken_now new made =
         let list = sym (children_are p) ∙ split.2 in
-        now (taken_between c.live p (link_between split.0 split.1)) new (made ∙ ap (λ s. record c { live = taken_between c.live p s }) (link p split.0 split.1 split.2))
-        (taken_woven c.live woven p k (live_is p there) split.0 split.1 list) (λ n. with_children_in n p (map.get n p) (without k)) (taken_shown c.live woven p k (live_is p there) split.0 split.1 list)
+        let taken = taken_relists c.live woven p k (live_is p there) split.0 split.1 list in
+        let made_list = sym (ap (without k) list ∙ without_split k split.0 split.1 (subst (λ ks. times k ks ≤ 1) list (woven.apart.once p k))) in
+        now (taken_between c.live p (link_between split.0 split.1)) new (made ∙ ap (λ s. record c { live = taken_between c.live p s }) (link p split.0 split.1 split.2)) taken.woven
+        (λ n. with_children_in n p (map.get n p) (without k)) (list_shown c.live woven p (live_is p there) (split.0 ++ split.1) (without k) made_list _ taken)
 
   -- a node that is in no list is put among the children of p
   module _ (p k : Key) (there : has_node self.live p) (live : has_node self.live k) (alone : (q : Key) → times k (children_of self.live q) ≡ 0) (l : Link Key) (before after : List Key)
@@ -84,13 +86,13 @@ module _ {T : Type 0} (c : Content (LinkedNode T)) (woven : IsWoven c.live) (sel
     pub put_neighbours : AreLive c.live p l
     put_neighbours = neighbours p there before [] after place.list l place.link
 
-    pub put_now : (new : Content (LinkedNode T)) → new ≡ record c { live = put_between c.live p k l } → Now new (λ n. with_children_in n p (map.get n p) (λ _. before ++ k ∷ after))
-    put_now new made =
+    pub put_now : (new : Content (LinkedNode T)) → new ≡ record c { live = put_between c.live p k l } → (f : List Key → List Key) → before ++ k ∷ after ≡ f (children_of self.live p)
+        → Now new (λ n. with_children_in n p (map.get n p) f)
+    put_now new made f is =
         let none = λ (q : Key). ap (times k) (sym (children_are q)) ∙ alone q in
-        let list = sym (children_are p) ∙ place.list in
-        now (put_between c.live p k (link_between before after)) new (made ∙ ap (λ s. record c { live = put_between c.live p k s }) place.link)
-        (put_woven c.live woven p k (live_is k live) (live_is p there) none before after list) (λ n. with_children_in n p (map.get n p) (λ _. before ++ k ∷ after))
-        (put_shown c.live woven p k (live_is k live) (live_is p there) none before after list)
+        let put = put_relists c.live woven p k (live_is k live) (live_is p there) none before after (sym (children_are p) ∙ place.list) in
+        now (put_between c.live p k (link_between before after)) new (made ∙ ap (λ s. record c { live = put_between c.live p k s }) place.link) put.woven
+        (λ n. with_children_in n p (map.get n p) f) (list_shown c.live woven p (live_is p there) (before ++ k ∷ after) f (is ∙ ap f (children_are p)) _ put)
 
   -- a node has another parent
   pub parent_now : (k : Key) (n : LinkedNode T) → map.get c.live k ≡ Some n → (o : Option Key) → Now (record c { live = map.insert c.live k (record n { parent = o }) }) (λ m. with_parent m k o)

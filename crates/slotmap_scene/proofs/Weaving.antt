@@ -13,7 +13,7 @@ use Rattle.slotmap_keylist.proofs.Linking.{first_or-append, last_or-append, firs
 use Rattle.slotmap_keylist.proofs.Splicing.{spliced, spliced_own, two_neighbours}
 use Rattle.slotmap_keylist.specs.Changed.{changed}
 use Rattle.slotmap_keylist.proofs.Changed.{changed_gives, changed_keeps, changed_other}
-use Rattle.slotmap_scene.specs.LinkedNodes.{LinkedNodes, ends_in, ends_of, led_to, link_in, link_of, relinked, put_between, taken_between, IsWoven}
+use Rattle.slotmap_scene.specs.LinkedNodes.{LinkedNodes, above_in, value_in, ends_in, ends_of, led_to, link_in, link_of, relinked, put_between, taken_between, IsWoven}
 use Rattle.slotmap_scene.proofs.RelinkedNodes.{relinked_keeps, relinked_links, relinked_ends, relinked_others}
 
 -- the ends of a list in which other keys stand at a place now
@@ -56,15 +56,22 @@ woven_same m new ends links keys woven = woven_by new (led_to m)
     (record { ends_are = λ p. ends p ∙ woven.linked.ends_are p; links_are = λ p before k after is. links k ∙ woven.linked.links_are p before k after is })
     woven.apart (λ p k more. keys k (woven.live p k more))
 
+-- the list of p is another one now; all other lists are as before, and so are values and parents
+pub record Relisted {T : Type 0} (m new : LinkedNodes T) (p : Key) (ks : List Key) : Type 0 where
+  pub woven : IsWoven new
+  pub list : led_to new p ≡ ks
+  pub others : (q : Key) → q ≢ p → led_to new q ≡ led_to m q
+  pub values : (q : Key) → value_in (map.get new q) ≡ value_in (map.get m q)
+  pub parents : (q : Key) → above_in (map.get new q) ≡ above_in (map.get m q)
+
 module _ {T : Type 0} (m : LinkedNodes T) (woven : IsWoven m) (p : Key) where
-  -- the list of p is another one
-  abbrev pub with_list : List Key → Key → List Key
+  abbrev with_list : List Key → Key → List Key
   with_list ks q = cond (is_key q p) ks (led_to m q)
 
-  pub list_here : (ks : List Key) → with_list ks p ≡ ks
+  list_here : (ks : List Key) → with_list ks p ≡ ks
   list_here ks = ap (λ b. cond b ks (led_to m p)) (is_itself p)
 
-  pub list_other : (ks : List Key) (q : Key) → q ≢ p → with_list ks q ≡ led_to m q
+  list_other : (ks : List Key) (q : Key) → q ≢ p → with_list ks q ≡ led_to m q
   list_other ks q other = ap (λ b. cond b ks (led_to m q)) (is_other q p other)
 
   -- a list is no longer than there are nodes
@@ -150,10 +157,17 @@ module _ {T : Type 0} (m : LinkedNodes T) (woven : IsWoven m) (p : Key) where
           other_ends = λ q other. relinked_others then p (link_between before after) (first_or now (first_or after None)) (last_or now (last_or before None)) f q other ∙ ends q;
         }
 
-        new_woven : AreLinked (ends_of new) (link_of new) (with_list ks) → IsWoven new
-        new_woven linked = woven_by new (with_list ks) linked (record { once = now_once; alone = now_alone }) (λ q x more.
-            relinked_keeps then p (link_between before after) (first_or now (first_or after None)) (last_or now (last_or before None)) f is_some (λ n e s. refl) x ∙ keys x
-            ∙ elim (now_in x q more) [ inl was ↦ woven.live q x was | inr new ↦ (come x new.0).2 ])
+        relisted : AreLinked (ends_of new) (link_of new) (with_list ks) → ((q : Key) → value_in (map.get then q) ≡ value_in (map.get m q)) → ((q : Key) → above_in (map.get then q) ≡ above_in (map.get m q)) → Relisted m new p ks
+        relisted linked values parents =
+            let keeps = relinked_keeps then p (link_between before after) (first_or now (first_or after None)) (last_or now (last_or before None)) f is_some (λ n e s. refl) in
+            record {
+              woven = woven_by new (with_list ks) linked (record { once = now_once; alone = now_alone })
+                  (λ q x more. keeps x ∙ keys x ∙ elim (now_in x q more) [ inl was ↦ woven.live q x was | inr new ↦ (come x new.0).2 ]);
+              list = led_is new (with_list ks) linked p ∙ list_here ks;
+              others = λ q other. led_is new (with_list ks) linked q ∙ list_other ks q other;
+              values = λ q. relinked_keeps then p (link_between before after) (first_or now (first_or after None)) (last_or now (last_or before None)) f value_in (λ n e s. refl) q ∙ values q;
+              parents = λ q. relinked_keeps then p (link_between before after) (first_or now (first_or after None)) (last_or now (last_or before None)) f above_in (λ n e s. refl) q ∙ parents q;
+            }
 
   -- a node that is in no list is put between two parts of the list of p
   module _ (k : Key) (live : map.contains_key m k ≡ true) (there : map.contains_key m p ≡ true) (none : (q : Key) → times k (led_to m q) ≡ 0) (before after : List Key) (list : led_to m p ≡ before ++ after) where
@@ -184,15 +198,16 @@ module _ {T : Type 0} (m : LinkedNodes T) (woven : IsWoven m) (p : Key) where
     longer : length (before ++ after) + 1 ≡ length (before ++ k ∷ after)
     longer = let a = length-append before (k ∷ after) in let b = length-append before after in omega arith
 
-    pub put_linked : AreLinked (ends_of put) (link_of put) (with_list (before ++ k ∷ after))
+    put_linked : AreLinked (ends_of put) (link_of put) (with_list (before ++ k ∷ after))
     put_linked = linked_put woven.linked woven.apart p k before after list none
         (new_own before [] after list (k ∷ []) comes k absent own_written own_keys own_ends own_links there (λ len. len + 1) longer
         ∙ changed_gives m k (λ n. record n { siblings = link_between before after }) link_in (λ s. link_between before after) (λ n. refl) live)
         (new_relinks before [] after list (k ∷ []) comes k absent own_written own_keys own_ends own_links there (λ len. len + 1) longer)
         (new_listed before [] after list (k ∷ []) comes k absent own_written own_keys own_ends own_links there (λ len. len + 1) longer)
 
-    pub put_woven : IsWoven put
-    put_woven = new_woven before [] after list (k ∷ []) comes k absent own_written own_keys own_ends own_links there (λ len. len + 1) longer put_linked
+    pub put_relists : Relisted m (put_between m p k (link_between before after)) p (before ++ k ∷ after)
+    put_relists = relisted before [] after list (k ∷ []) comes k absent own_written own_keys own_ends own_links there (λ len. len + 1) longer put_linked
+        (changed_keeps m k (λ n. record n { siblings = link_between before after }) value_in (λ n. refl)) (changed_keeps m k (λ n. record n { siblings = link_between before after }) above_in (λ n. refl))
 
   -- a node is taken out of the list of p
   module _ (k : Key) (there : map.contains_key m p ≡ true) (before after : List Key) (list : led_to m p ≡ before ++ k ∷ after) where
@@ -208,10 +223,10 @@ module _ {T : Type 0} (m : LinkedNodes T) (woven : IsWoven m) (p : Key) where
     none_come : (x : Key) → 0 < times x [] → (times x [] ≡ 1) × ((q : Key) → times x (led_to m q) ≡ 0) × (map.contains_key m x ≡ true)
     none_come x more = absurd (omega arith)
 
-    pub taken_linked : AreLinked (ends_of taken) (link_of taken) (with_list (before ++ after))
+    taken_linked : AreLinked (ends_of taken) (link_of taken) (with_list (before ++ after))
     taken_linked = linked_taken woven.linked woven.apart p k before after list
         (new_relinks before (k ∷ []) after list [] none_come k elsewhere m (λ x. refl) (λ x. refl) (λ x other. refl) there (λ len. len - 1) shorter)
         (new_listed before (k ∷ []) after list [] none_come k elsewhere m (λ x. refl) (λ x. refl) (λ x other. refl) there (λ len. len - 1) shorter)
 
-    pub taken_woven : IsWoven taken
-    taken_woven = new_woven before (k ∷ []) after list [] none_come k elsewhere m (λ x. refl) (λ x. refl) (λ x other. refl) there (λ len. len - 1) shorter taken_linked
+    pub taken_relists : Relisted m (taken_between m p (link_between before after)) p (before ++ after)
+    taken_relists = relisted before (k ∷ []) after list [] none_come k elsewhere m (λ x. refl) (λ x. refl) (λ x other. refl) there (λ len. len - 1) shorter taken_linked (λ q. refl) (λ q. refl)

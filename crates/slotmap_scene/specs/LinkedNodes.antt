@@ -1,5 +1,5 @@
 -- The links between nodes, and the nodes that they show.
-use Rattle.std.specs.Prelude.{◌≡◌, ◌<◌, ◌+◌, ◌-◌, ℕ, Option, Some, None, IfSome, List, ◌++◌, length, true}
+use Rattle.std.specs.Prelude.{◌≡◌, ◌<◌, ◌+◌, ◌-◌, ℕ, Option, Some, None, IfSome, List, ◌++◌, length, option_map, true}
 use Rattle.std.specs.FinMap as map
 use Rattle.slotmap.specs.Words.{Key, key_cmp, Content}
 use Rattle.slotmap_keylist.specs.declared.Ends.{Ends}
@@ -25,6 +25,13 @@ module _ {T : Type 0} where
   abbrev pub link_in : Option (LinkedNode T) → Link Key
   link_in None = record { prev = None; next = None }
   link_in (Some node) = node.siblings
+
+  abbrev pub value_in : Option (LinkedNode T) → Option T
+  value_in o = option_map (λ n. n.value) o
+
+  abbrev pub above_in : Option (LinkedNode T) → Option Key
+  above_in None = None
+  above_in (Some node) = node.parent
 
   -- the ends of the children of each key, and the neighbours of each
   abbrev pub ends_of : LinkedNodes T → Key → Ends Key

@@ -178,8 +178,8 @@ impl<T: Drop> Nodes<T> {
         requires node { has_node self.old.live node }
         requires alone { (p : KeyOf) → times node (children_of self.old.live p) ≡ 0 }
         requires place { (before : List KeyOf) × (after : List KeyOf) × IsPlace self.old.live parent siblings before after }
-        ensures { (before after : List KeyOf) → IsPlace self.old.live parent siblings before after
-            → self.new ≡ record self.old { live = with_children_in self.old.live parent (map.get self.old.live parent) (λ _. before ++ node ∷ after) } }
+        ensures { (before after : List KeyOf) (f : List KeyOf → List KeyOf) → IsPlace self.old.live parent siblings before after → before ++ node ∷ after ≡ f (children_of self.old.live parent)
+            → self.new ≡ record self.old { live = with_children_in self.old.live parent (map.get self.old.live parent) f } }
     {
         put_between(&mut self.map, parent, node, siblings);
     }
