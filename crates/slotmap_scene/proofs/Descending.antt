@@ -15,7 +15,7 @@ use Rattle.slotmap_scene.specs.Below.{GoesDown}
 use Rattle.slotmap_scene.specs.Climb.{has_node, parent_of, StepsTo, IsWithin}
 use Rattle.slotmap_scene.specs.Family.{children_of, IsScene}
 use Rattle.slotmap_scene.proofs.Climbs.{has_parent, no_cycle}
-use Rattle.slotmap_scene.proofs.Families.{listed_once, listed_few, listed_parent}
+use Rattle.slotmap_scene.proofs.Moved.{listed_once, listed_few, listed_parent}
 
 -- one key more at the back, or none
 pub reverse_pushed : (xs : List Key) (o : Option Key) → reverse (xs ++ option_to_list o) ≡ option_to_list o ++ reverse xs

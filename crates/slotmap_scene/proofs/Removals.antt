@@ -1,5 +1,5 @@
 -- How a node is removed with all that is below it: down by the last child as far as a leaf, which goes, and on from its parent.
-use Rattle.std.proofs.Common.{◌≡◌, ◌≢◌, ℕ, zero, suc, ◌+◌, ◌-◌, ◌*◌, ◌≤◌, ◌<◌, false, Option, Some, None, List, [], ◌∷◌, ◌++◌, length, is_some, refl, sym, ap, subst, ◌∙◌, inl, inr, arith}
+use Rattle.std.proofs.Common.{◌≡◌, ◌≢◌, ℕ, zero, suc, ◌+◌, ◌-◌, ◌*◌, ◌≤◌, ◌<◌, false, Option, Some, None, [], ◌∷◌, ◌++◌, length, is_some, refl, sym, ap, subst, ◌∙◌, inl, inr, arith}
 use Rattle.std.specs.Prelude.{option_map}
 use Rattle.std.specs.FinMap as map
 use Rattle.slotmap.specs.Words.{Key}
@@ -13,10 +13,8 @@ use Rattle.slotmap_scene.specs.Node.{Node, Nodes}
 use Rattle.slotmap_scene.specs.Above.{keys_up}
 use Rattle.slotmap_scene.specs.Climb.{has_node, lacks_node, parent_in, parent_of, ClimbsTo, IsTree, StepsTo, IsWithin}
 use Rattle.slotmap_scene.specs.Family.{IsMoved, IsScene, children_in, children_of, forgets, value_of, without_child}
-use Rattle.slotmap_scene.proofs.AboveLemmas.{step_up}
-use Rattle.slotmap_scene.proofs.Climbs.{has_parent, within_up}
-use Rattle.slotmap_scene.proofs.Families.{listed_never, listed_once, listed_parent, moved_listed, parent_there}
-use Rattle.slotmap_scene.proofs.Moved.{forgotten, left_get, left_of}
+use Rattle.slotmap_scene.proofs.Climbs.{step_up, has_parent, within_up, parent_there}
+use Rattle.slotmap_scene.proofs.Moved.{listed_never, listed_once, listed_parent, moved_listed, forgotten, left_get, left_of}
 
 -- the walk ends: each step down goes deeper, and each step up removes a node
 module _ {T : Type 0} (old : Nodes T) where

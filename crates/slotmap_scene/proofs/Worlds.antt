@@ -10,7 +10,7 @@ use Rattle.slotmap.proofs.Callers.{get-insert_here, same_or_other}
 use Rattle.slotmap_scene.specs.Node.{Node, Nodes}
 use Rattle.slotmap_scene.specs.Climb.{has_node, lacks_node, parent_of, parent_in, ClimbsTo, IsTree, IsWithin}
 use Rattle.slotmap_scene.specs.Family.{IsMoved, IsNewChild, value_of, child}
-use Rattle.slotmap_scene.proofs.Families.{parent_there}
+use Rattle.slotmap_scene.proofs.Climbs.{parent_there}
 use Rattle.slotmap_scene.specs.WorldValue.{IsPathFrom, IsPathUp, world_along, IsWorld, CallsAt, FoldsUp, CallableUp}
 
 module _ {T : Type 0} (nodes : Nodes T) where

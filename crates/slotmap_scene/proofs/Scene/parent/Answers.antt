@@ -1,6 +1,6 @@
 use Rattle.std.proofs.Common.{sym, ap, ◌∙◌}
 use Rattle.slotmap_scene.specs.Climb.{parent_in}
-use Rattle.slotmap_scene.proofs.Families.{parent_there}
+use Rattle.slotmap_scene.proofs.Climbs.{parent_there}
 use Rattle.slotmap_scene.proofs.Scene.parent.Goals as goal
 
 pub returns-clause-live : goal.returns-clause-live

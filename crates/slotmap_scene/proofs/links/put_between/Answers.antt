@@ -3,7 +3,7 @@ use Rattle.std.specs.FinMap as map
 use Rattle.slotmap_keylist.proofs.Changed.{changed_keeps}
 use Rattle.slotmap_scene.specs.declared.links.LinkedNode.{LinkedNode}
 use Rattle.slotmap_scene.specs.LinkedNodes.{ends_in, with_link, with_next, with_prev}
-use Rattle.slotmap_scene.proofs.RelinkedNodes.{neighbours_len}
+use Rattle.slotmap_scene.proofs.Weaving.{neighbours_len}
 use Rattle.slotmap_scene.proofs.links.put_between.Goals as goal
 
 pub overflow_add-index_mut : goal.overflow_add-index_mut

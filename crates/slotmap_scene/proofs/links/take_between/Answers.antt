@@ -1,7 +1,7 @@
 use Rattle.std.proofs.Common.{sym, ap, ◌∙◌, arith}
 use Rattle.slotmap_scene.specs.LinkedNodes.{with_prev}
 use Rattle.std.specs.FinMap as map
-use Rattle.slotmap_scene.proofs.RelinkedNodes.{neighbours_len}
+use Rattle.slotmap_scene.proofs.Weaving.{neighbours_len}
 use Rattle.slotmap_scene.proofs.links.take_between.Goals as goal
 
 pub overflow_sub-index_mut : goal.overflow_sub-index_mut

@@ -3,8 +3,7 @@ use Rattle.slotmap.specs.Words.{Key}
 use Rattle.slotmap_keylist.specs.declared.Ends.{Ends}
 use Rattle.slotmap_keylist.specs.Linked.{followed}
 use Rattle.slotmap_scene.specs.LinkedNodes.{IsWalk, link_of}
-use Rattle.slotmap_scene.proofs.Showing.{shown_children}
-use Rattle.slotmap_scene.proofs.Shows.{ends_shown}
+use Rattle.slotmap_scene.proofs.Showing.{shown_children, ends_shown}
 use Rattle.slotmap_scene.proofs.Walking.{walk_children}
 use Rattle.slotmap_scene.proofs.family.Nodes.children.Goals as goal
 

@@ -1,6 +1,5 @@
 use Rattle.std.proofs.Common.{None}
-use Rattle.slotmap_scene.proofs.Leaving.{spent_alike}
-use Rattle.slotmap_scene.proofs.Moved.{hung_keys, moved_out, scene_out, values_out}
+use Rattle.slotmap_scene.proofs.Moved.{spent_alike, hung_keys, moved_out, scene_out, values_out}
 use Rattle.slotmap_scene.proofs.family.Nodes.detach.Goals as goal
 
 pub returns-clause-trees : goal.returns-clause-trees

@@ -1,6 +1,6 @@
 use Rattle.std.proofs.Common.{ap, ◌∙◌}
 use Rattle.slotmap_scene.specs.LinkedNodes.{ends_in}
-use Rattle.slotmap_scene.proofs.Shows.{ends_shown}
+use Rattle.slotmap_scene.proofs.Showing.{ends_shown}
 use Rattle.slotmap_scene.proofs.family.Nodes.ends.Goals as goal
 
 pub returns-in-Some : goal.returns-in-Some

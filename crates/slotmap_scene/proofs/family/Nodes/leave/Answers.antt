@@ -1,6 +1,7 @@
 use Rattle.std.proofs.Common.{ap, ◌∙◌, arith}
 use Rattle.slotmap_scene.specs.Climb.{parent_in}
-use Rattle.slotmap_scene.proofs.Families.{listed_once, parent_there}
+use Rattle.slotmap_scene.proofs.Climbs.{parent_there}
+use Rattle.slotmap_scene.proofs.Moved.{listed_once}
 use Rattle.slotmap_scene.proofs.family.Nodes.leave.Goals as goal
 
 pub take_out-requires-clause-parent : goal.take_out-requires-clause-parent

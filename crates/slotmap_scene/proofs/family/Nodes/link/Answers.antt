@@ -1,6 +1,6 @@
 use Rattle.std.proofs.Common.{ap, ◌∙◌}
 use Rattle.slotmap_scene.specs.LinkedNodes.{link_in}
-use Rattle.slotmap_scene.proofs.Shows.{link_shown}
+use Rattle.slotmap_scene.proofs.Showing.{link_shown}
 use Rattle.slotmap_scene.proofs.family.Nodes.link.Goals as goal
 
 pub returns-in-Some : goal.returns-in-Some

@@ -1,6 +1,5 @@
 use Rattle.std.proofs.Common.{Some}
-use Rattle.slotmap_scene.proofs.Leaving.{spent_alike}
-use Rattle.slotmap_scene.proofs.Moved.{hung_alone, moved_below, pushed_keys, scene_below, values_below}
+use Rattle.slotmap_scene.proofs.Moved.{spent_alike, hung_alone, moved_below, pushed_keys, scene_below, values_below}
 use Rattle.slotmap_scene.proofs.family.Nodes.move_below.Goals as goal
 
 pub attach-requires-clause-alone : goal.attach-requires-clause-alone

@@ -4,8 +4,7 @@ use Rattle.slotmap_keylist.specs.KeyLists.{times, without}
 use Rattle.slotmap_keylist.proofs.Counts.{times_gone}
 use Rattle.slotmap_scene.specs.Climb.{parent_in, parent_of}
 use Rattle.slotmap_scene.specs.Family.{children_in, children_of}
-use Rattle.slotmap_scene.proofs.Leaving.{leaves_filled}
-use Rattle.slotmap_scene.proofs.Moved.{left_of}
+use Rattle.slotmap_scene.proofs.Moved.{leaves_filled, left_of}
 use Rattle.slotmap_scene.proofs.family.Nodes.prune.Goals as goal
 
 pub remove-requires-clause-there : goal.remove-requires-clause-there

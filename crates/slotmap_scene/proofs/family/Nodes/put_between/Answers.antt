@@ -1,5 +1,5 @@
 use Rattle.std.proofs.Common.{◌∷◌, ◌++◌, refl}
-use Rattle.slotmap_scene.proofs.Shows.{live_is, put_neighbours, put_now}
+use Rattle.slotmap_scene.proofs.Showing.{live_is, put_neighbours, put_now}
 use Rattle.slotmap_scene.proofs.Weaving.{led_short}
 use Rattle.slotmap_scene.proofs.family.Nodes.put_between.Goals as goal
 

@@ -1,4 +1,4 @@
-use Rattle.slotmap_scene.proofs.Shows.{live_is, parent_now}
+use Rattle.slotmap_scene.proofs.Showing.{live_is, parent_now}
 use Rattle.slotmap_scene.proofs.family.Nodes.set_parent.Goals as goal
 
 pub index_mut-requires : goal.index_mut-requires

@@ -1,4 +1,4 @@
-use Rattle.slotmap_scene.proofs.Shows.{take_neighbours, take_some, taken_now}
+use Rattle.slotmap_scene.proofs.Showing.{take_neighbours, take_some, taken_now}
 use Rattle.slotmap_scene.proofs.family.Nodes.take_out.Goals as goal
 
 pub take_between-requires-clause-place : goal.take_between-requires-clause-place
