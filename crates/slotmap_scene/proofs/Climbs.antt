@@ -1,10 +1,11 @@
--- What a change of the nodes does to the way up from each.
-use Rattle.std.proofs.Common.{◌≡◌, ◌≢◌, ℕ, zero, suc, ◌+◌, ◌≤◌, ◌<◌, ◌↔◌, true, Option, Some, None, Result, Ok, Err, IfOk, OnErr, is_some, refl, sym, ap, subst, ◌∙◌, inl, inr, arith}
+-- The way up from each node: where it ends, what a change of the nodes does to it, and the keys that an iterator yields on it.
+use Rattle.std.proofs.Common.{◌≡◌, ◌≢◌, ℕ, zero, suc, ◌+◌, ◌≤◌, ◌<◌, ◌↔◌, true, Option, Some, None, is_some, refl, sym, ap, subst, ◌∙◌, inl, inr, arith, false, cond, List, [], ◌∷◌}
 use Rattle.std.specs.FinMap as map
 use Rattle.slotmap.specs.Words.{Key}
-use Rattle.slotmap.proofs.Callers.{get-insert_here, get-insert_other, same_or_other, keys_total, exact_keys, left_in, len_removed, some_entry}
+use Rattle.slotmap.proofs.Callers.{same_or_other, keys_total, exact_keys, left_in, len_removed, some_entry}
 use Rattle.slotmap_scene.specs.Node.{Node, Nodes}
-use Rattle.slotmap_scene.specs.Climb.{has_node, lacks_node, parent_in, parent_of, ClimbsTo, IsTree, StepsTo, IsWithin}
+use Rattle.slotmap_scene.specs.Climb.{has_node, parent_in, parent_of, ClimbsTo, IsTree, StepsTo, IsWithin}
+use Rattle.slotmap_scene.specs.Above.{GoesUp, keys_up, HasRoot, roots_by}
 
 module _ {T : Type 0} where
   pub leads_live : (nodes : Nodes T) (n : ℕ) (k : Key) → ClimbsTo nodes n k → has_node nodes k
@@ -40,7 +41,7 @@ module _ {T : Type 0} where
   short nodes n k leads = let h = short_in nodes nodes n k leads (λ q i le up j steps sum. leads_live nodes i q up) in omega arith
 
   -- where a way goes on, and where it ends
-  next_up : (nodes : Nodes T) (n : ℕ) (k p : Key) → ClimbsTo nodes n k → parent_of nodes k ≡ Some p → (m : ℕ) × ((n ≡ suc m) × ClimbsTo nodes m p)
+  pub next_up : (nodes : Nodes T) (n : ℕ) (k p : Key) → ClimbsTo nodes n k → parent_of nodes k ≡ Some p → (m : ℕ) × ((n ≡ suc m) × ClimbsTo nodes m p)
   next_up nodes zero k p leads is = absurd (let h = sym leads.1 ∙ is in cc)
   next_up nodes (suc n) k p leads is = let h = sym leads.1.1 ∙ is in let same : leads.0 ≡ p = cc in (n, (refl, subst (ClimbsTo nodes n) same leads.1.2))
 
@@ -112,76 +113,38 @@ module _ {T : Type 0} where
   tree_same old new keys parents tree q there =
       let up = tree q (sym (keys q) ∙ there) in (up.0, leads_kept old new (λ k live. (keys k ∙ live, parents k)) up.0 q up.1)
 
-  module _ (nodes : Nodes T) (k : Key) (node : Node T) (fresh : lacks_node nodes k) where
-    inserted_kept : (q : Key) → has_node nodes q → has_node (map.insert nodes k node) q × (parent_of (map.insert nodes k node) q ≡ parent_of nodes q)
-    inserted_kept q there =
-        let other : q ≢ k = λ same. (let h = sym (subst (has_node nodes) same there) ∙ fresh in cc) in
-        let is = get-insert_other nodes k node q other in
-        (ap is_some is ∙ there, ap parent_in is)
-
-    pub tree_root : IsTree nodes → node.parent ≡ None → IsTree (map.insert nodes k node)
-    tree_root tree none q there = elim (same_or_other q k) [
-      | inl same ↦ (let here = get-insert_here nodes k node in (zero, rw same (ap is_some here, ap parent_in here ∙ none)))
-      | inr other ↦ (let was : has_node nodes q = sym (ap is_some (get-insert_other nodes k node q other)) ∙ there in let up = tree q was in (up.0, leads_kept nodes (map.insert nodes k node) inserted_kept up.0 q up.1))
-    ]
-
-  -- what holds of the nodes still holds where a node was added, or nothing was done
-  holds_after : {E : Type 0} (P : Nodes T → Type 0) (old new : Nodes T) (f : Key → Nodes T) (result : Result Key E)
-      → IfOk result (λ k. new ≡ f k) → IfOk result (λ k. lacks_node old k) → OnErr result (new ≡ old)
-      → P old → ((k : Key) → lacks_node old k → P (f k)) → P new
-  holds_after P old new f (Ok k) is fresh same holds added = subst P (sym is) (added k fresh)
-  holds_after P old new f (Err e) is fresh same holds added = subst P (sym same) holds
-
-  -- who is whose parent, after one node got another parent or none
-  pub record Parents (old new : Nodes T) (k : Key) (parent : Option Key) : Type 0 where
-    pub same_keys : (q : Key) → map.contains_key new q ≡ map.contains_key old q
-    pub here : parent_of new k ≡ parent
-    pub others : (q : Key) → q ≢ k → parent_of new q ≡ parent_of old q
-
-  -- a node becomes a root
-  module _ (old new : Nodes T) (k : Key) (changes : Parents old new k None) (live : has_node old k) where
-    root_now : ClimbsTo new zero k
-    root_now = (changes.same_keys k ∙ live, changes.here)
-
-    still_up : (n : ℕ) (q : Key) → ClimbsTo old n q → (i : ℕ) × ClimbsTo new i q
-    still_up zero q leads = elim (same_or_other q k) [
-      | inl same ↦ (zero, subst (ClimbsTo new zero) (sym same) root_now)
-      | inr other ↦ (zero, (changes.same_keys q ∙ leads.0, changes.others q other ∙ leads.1))
-    ]
-    still_up (suc n) q leads = elim (same_or_other q k) [
-      | inl same ↦ (zero, subst (ClimbsTo new zero) (sym same) root_now)
-      | inr other ↦ (let above = still_up n leads.0 leads.1.2 in
-          (suc above.0, (leads.0, (changes.same_keys q ∙ leads.1.0, changes.others q other ∙ leads.1.1, above.1))))
-    ]
-
-    pub tree_cut : IsTree old → IsTree new
-    tree_cut tree q there = let up = tree q (sym (changes.same_keys q) ∙ there) in still_up up.0 q up.1
-
-  -- a node gets a parent that is not below it
-  module _ (old new : Nodes T) (k p : Key) (changes : Parents old new k (Some p)) (live : has_node old k) where
+  -- a node was moved, or came: all others are there as before, and have the same parents
+  module _ (old new : Nodes T) (k : Key) (keys : (q : Key) → q ≢ k → map.contains_key new q ≡ map.contains_key old q) (parents : (q : Key) → q ≢ k → parent_of new q ≡ parent_of old q) where
     -- outside of what is below k the way up is the same
     outside : (n : ℕ) (q : Key) → (IsWithin old q k → ⊥) → ClimbsTo old n q → ClimbsTo new n q
-    outside zero q out leads = (changes.same_keys q ∙ leads.0, changes.others q (λ same. out (zero, same)) ∙ leads.1)
+    outside zero q out leads = let apart : q ≢ k = λ same. out (zero, same) in (keys q apart ∙ leads.0, parents q apart ∙ leads.1)
     outside (suc n) q out leads =
-        (leads.0, (changes.same_keys q ∙ leads.1.0, changes.others q (λ same. out (zero, same)) ∙ leads.1.1, outside n leads.0 (λ w. out (suc w.0, (leads.0, (leads.1.1, w.1)))) leads.1.2))
+        let apart : q ≢ k = λ same. out (zero, same) in
+        (leads.0, (keys q apart ∙ leads.1.0, parents q apart ∙ leads.1.1, outside n leads.0 (λ w. out (suc w.0, (leads.0, (leads.1.1, w.1)))) leads.1.2))
 
-    module _ (m : ℕ) (up : ClimbsTo old m p) (out : IsWithin old p k → ⊥) where
-      at_k : ClimbsTo new (suc m) k
-      at_k = (p, (changes.same_keys k ∙ live, changes.here, outside m p out up))
+    -- k is a root, or its parent isn't below it
+    leads_k : (parent : Option Key) → has_node new k → parent_of new k ≡ parent → ((p : Key) → parent ≡ Some p → has_node old p × (IsWithin old p k → ⊥)) → IsTree old → (n : ℕ) × ClimbsTo new n k
+    leads_k None live is above tree = (zero, (live, is))
+    leads_k (Some p) live is above tree = let own = above p refl in let up = tree p own.0 in (suc up.0, (p, (live, is, outside up.0 p own.1 up.1)))
 
-      still : (n : ℕ) (q : Key) → ClimbsTo old n q → (i : ℕ) × ClimbsTo new i q
+    module _ (n : ℕ) (up : ClimbsTo new n k) where
+      still : (i : ℕ) (q : Key) → ClimbsTo old i q → (j : ℕ) × ClimbsTo new j q
       still zero q leads = elim (same_or_other q k) [
-        | inl same ↦ (suc m, subst (ClimbsTo new (suc m)) (sym same) at_k)
-        | inr other ↦ (zero, (changes.same_keys q ∙ leads.0, changes.others q other ∙ leads.1))
+        | inl same ↦ (n, subst (ClimbsTo new n) (sym same) up)
+        | inr other ↦ (zero, (keys q other ∙ leads.0, parents q other ∙ leads.1))
       ]
-      still (suc n) q leads = elim (same_or_other q k) [
-        | inl same ↦ (suc m, subst (ClimbsTo new (suc m)) (sym same) at_k)
-        | inr other ↦ (let above = still n leads.0 leads.1.2 in
-            (suc above.0, (leads.0, (changes.same_keys q ∙ leads.1.0, changes.others q other ∙ leads.1.1, above.1))))
+      still (suc i) q leads = elim (same_or_other q k) [
+        | inl same ↦ (n, subst (ClimbsTo new n) (sym same) up)
+        | inr other ↦ (let above = still i leads.0 leads.1.2 in (suc above.0, (leads.0, (keys q other ∙ leads.1.0, parents q other ∙ leads.1.1, above.1))))
       ]
 
-      pub tree_hung : IsTree old → IsTree new
-      tree_hung tree q there = let leads = tree q (sym (changes.same_keys q) ∙ there) in still leads.0 q leads.1
+    pub tree_moved : (parent : Option Key) → has_node new k → parent_of new k ≡ parent → ((p : Key) → parent ≡ Some p → has_node old p × (IsWithin old p k → ⊥)) → IsTree old → IsTree new
+    tree_moved parent live is above tree q there =
+        let up = leads_k parent live is above tree in
+        elim (same_or_other q k) [
+          | inl same ↦ (up.0, subst (ClimbsTo new up.0) (sym same) up.1)
+          | inr other ↦ (let leads = tree q (sym (keys q other) ∙ there) in still up.0 up.1 leads.0 q leads.1)
+        ]
 
   -- a node that has a parent is there
   pub has_parent : (nodes : Nodes T) (k p : Key) → parent_of nodes k ≡ Some p → has_node nodes k
@@ -190,6 +153,13 @@ module _ {T : Type 0} where
       by : (o : Option (Node T)) → parent_in o ≡ Some p → is_some o ≡ true
       by None e = absurd (cc)
       by (Some node) e = refl
+
+  -- the parent of a node is there
+  pub parent_there : (nodes : Nodes T) → IsTree nodes → (k p : Key) → parent_of nodes k ≡ Some p → has_node nodes p
+  parent_there nodes tree k p is =
+      let up = tree k (has_parent nodes k p is) in
+      let next = next_up nodes up.0 k p up.1 is in
+      leads_live nodes next.0 p next.1.1
 
   -- no node is above itself
   steps_sum : (nodes : Nodes T) (n j m : ℕ) (k other : Key) → ClimbsTo nodes n k → StepsTo nodes j k other → ClimbsTo nodes m other → n ≡ j + m
@@ -207,3 +177,57 @@ module _ {T : Type 0} where
       let sum = steps_sum nodes next.0 within.0 up.0 p k next.1.1 within.1 up.1 in
       let one = next.1.0 in
       omega arith
+
+module _ {T : Type 0} (nodes : Nodes T) where
+  none_up : (n : ℕ) → keys_up nodes n None ≡ []
+  none_up zero = refl
+  none_up (suc n) = refl
+
+  -- enough is enough
+  same_up : (n m : ℕ) (o : Option Key) → ((k : Key) → o ≡ Some k → (steps : ℕ) × ClimbsTo nodes steps k × (steps < n) × (steps < m)) → keys_up nodes n o ≡ keys_up nodes m o
+  same_up n m None up = none_up n ∙ sym (none_up m)
+  same_up zero m (Some k) up = absurd (let short = (up k refl).2 in omega arith)
+  same_up (suc n) zero (Some k) up = absurd (let short = (up k refl).3 in omega arith)
+  same_up (suc n) (suc m) (Some k) up = ap (λ l. k ∷ l) (same_up n m (parent_of nodes k) (λ p is.
+      let own = up k refl in let next = next_up nodes own.0 k p own.1 is in let one = next.1.0 in (next.0, next.1.1, (let a = own.2 in omega arith), (let b = own.3 in omega arith))))
+
+  -- the parent of a key with a root above it has one too
+  pub root_above : (k : Key) → HasRoot nodes (Some k) → HasRoot nodes (parent_of nodes k)
+  root_above k has = by has.0 has.1
+    where
+      by : (n : ℕ) → ClimbsTo nodes n k → HasRoot nodes (parent_of nodes k)
+      by zero climbs = subst (HasRoot nodes) (sym climbs.1) tt
+      by (suc n) climbs = subst (HasRoot nodes) (sym climbs.1.1) (n, climbs.1.2)
+
+  -- a key with what is above its parent
+  pub step_up : (k : Key) → HasRoot nodes (Some k) → keys_up nodes (map.len nodes) (Some k) ≡ k ∷ keys_up nodes (map.len nodes) (parent_of nodes k)
+  step_up k has =
+      let below = short nodes has.0 k has.1 in
+      same_up (map.len nodes) (suc (map.len nodes)) (Some k) (λ q is. (has.0, subst (ClimbsTo nodes has.0) (cc) has.1, below, omega arith))
+
+  goes_up_from : (n : ℕ) (k : Key) → ClimbsTo nodes n k → GoesUp nodes (Some k) (keys_up nodes (suc n) (Some k))
+  goes_up_from zero k climbs = (refl, subst (λ o. GoesUp nodes o (keys_up nodes zero o)) (sym climbs.1) tt)
+  goes_up_from (suc n) k climbs = (refl, subst (λ o. GoesUp nodes o (keys_up nodes (suc n) o)) (sym climbs.1.1) (goes_up_from n climbs.0 climbs.1.2))
+
+  -- they lead up to the root
+  pub goes_up : (at : Option Key) → HasRoot nodes at → GoesUp nodes at (keys_up nodes (map.len nodes) at)
+  goes_up None has = subst (GoesUp nodes None) (sym (none_up (map.len nodes))) tt
+  goes_up (Some k) has =
+      let below = short nodes has.0 k has.1 in
+      subst (GoesUp nodes (Some k)) (same_up (suc has.0) (map.len nodes) (Some k) (λ q is. (has.0, subst (ClimbsTo nodes has.0) (cc) has.1, omega arith, below))) (goes_up_from has.0 k has.1)
+
+  -- a node's parent has a root above it
+  pub parent_rooted : IsTree nodes → (k : Key) → HasRoot nodes (parent_of nodes k)
+  parent_rooted tree k = by (parent_of nodes k) refl
+    where
+      by : (o : Option Key) → parent_of nodes k ≡ o → HasRoot nodes o
+      by None is = tt
+      by (Some p) is = tree p (parent_there nodes tree k p is)
+
+module _ {N : Type 0} (parent : N → Option Key) where
+  -- the next root among these nodes
+  pub root_first : (nodes rest : List (Key × N)) (k : Key) (node : N) → nodes ≡ (k, node) ∷ rest → is_some (parent node) ≡ false → roots_by parent nodes ≡ k ∷ roots_by parent rest
+  root_first nodes rest k node is root = ap (roots_by parent) is ∙ ap (λ b. cond b (roots_by parent rest) (k ∷ roots_by parent rest)) root
+
+  pub root_passed : (nodes rest : List (Key × N)) (k : Key) (node : N) → nodes ≡ (k, node) ∷ rest → is_some (parent node) ≡ true → roots_by parent nodes ≡ roots_by parent rest
+  root_passed nodes rest k node is below = ap (roots_by parent) is ∙ ap (λ b. cond b (roots_by parent rest) (k ∷ roots_by parent rest)) below

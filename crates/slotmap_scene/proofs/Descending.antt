@@ -15,7 +15,7 @@ use Rattle.slotmap_scene.specs.Below.{GoesDown}
 use Rattle.slotmap_scene.specs.Climb.{has_node, parent_of, StepsTo, IsWithin}
 use Rattle.slotmap_scene.specs.Family.{children_of, IsScene}
 use Rattle.slotmap_scene.proofs.Climbs.{has_parent, no_cycle}
-use Rattle.slotmap_scene.proofs.Families.{listed_once, listed_few, listed_parent}
+use Rattle.slotmap_scene.proofs.Moved.{listed_once, listed_few, listed_parent}
 
 -- one key more at the back, or none
 pub reverse_pushed : (xs : List Key) (o : Option Key) → reverse (xs ++ option_to_list o) ≡ option_to_list o ++ reverse xs
@@ -164,22 +164,19 @@ module _ {T : Type 0} where
             below k more = (below_node k (let a = times_pushed k listed q in let c = counted k in omega arith)).0
 
     -- nothing is ahead
-    module _ (listed ahead : List Key) (d : Descending nodes node listed ahead) (none : ahead ≡ []) where
-      done : Descending nodes node listed []
-      done = subst (Descending nodes node listed) none d
-
-      pub descended_order : GoesDown nodes (children_of nodes node) listed
-      descended_order = subst (GoesDown nodes (children_of nodes node)) (append-nil listed) (done.order [] refl)
-
-      pub descended_only : (k : Key) → 0 < times k listed → has_node nodes k × IsWithin nodes k node × (k ≢ node)
-      descended_only k more = below_node listed [] done k (omega arith)
-
+    module _ (listed : List Key) (done : Descending nodes node listed []) where
       steps_listed : (n : ℕ) (k : Key) → StepsTo nodes n k node → (k ≡ node) ⊎ (0 < times k listed)
       steps_listed zero k is = inl is
       steps_listed (suc n) k steps = inr (let more = done.closed k steps.0 steps.1.0 (steps_listed n steps.0 steps.1.1) in omega arith)
 
-      pub descended_all : (k : Key) → IsWithin nodes k node → k ≢ node → 0 < times k listed
-      descended_all k w apart = elim (steps_listed w.0 k w.1) [ inl is ↦ absurd (apart is) | inr more ↦ more ]
+      all_listed : (k : Key) → IsWithin nodes k node → k ≢ node → 0 < times k listed
+      all_listed k w apart = elim (steps_listed w.0 k w.1) [ inl is ↦ absurd (apart is) | inr more ↦ more ]
+
+  -- these are the keys of all that is below a node
+  pub record Descended (nodes : Nodes T) (node : Key) (listed : List Key) : Type 0 where
+    pub order : GoesDown nodes (children_of nodes node) listed
+    pub all : (k : Key) → IsWithin nodes k node → k ≢ node → 0 < times k listed
+    pub only : (k : Key) → 0 < times k listed → has_node nodes k × IsWithin nodes k node × (k ≢ node)
 
 -- a walk whose keys ahead are kept on a stack, the next one last
 abbrev pub Walks : {T : Type 0} → Nodes T → Key → List Key → List Key → Type 0
@@ -207,5 +204,11 @@ module _ {T : Type 0} (nodes : Nodes T) (scene : IsScene nodes) (node : Key) whe
         let turned = ap reverse new_is ∙ reverse_pushed (rest ++ option_to_list next) first ∙ ap (λ ks. option_to_list first ++ ks) (reverse_pushed rest next) in
         (children_of nodes q ++ step.0, subst (λ ks. Stacked nodes ks (children_of nodes q ++ step.0)) (sym turned) step.2, descending_step nodes scene node listed w.0 w.2 q step.0 step.1)
 
-  pub walk_none : (listed stack : List Key) (w : Walks nodes node listed stack) → stack ≡ [] → w.0 ≡ []
-  walk_none listed stack w none = subst (λ ks. Stacked nodes (reverse ks) w.0) none w.1
+  pub descended : (listed stack : List Key) → Walks nodes node listed stack → stack ≡ [] → Descended nodes node listed
+  descended listed stack w none =
+      let done = subst (Descending nodes node listed) (subst (λ ks. Stacked nodes (reverse ks) w.0) none w.1) w.2 in
+      record {
+        order = subst (GoesDown nodes (children_of nodes node)) (append-nil listed) (done.order [] refl);
+        all = all_listed nodes scene node listed done;
+        only = λ k more. below_node nodes scene node listed [] done k (omega arith);
+      }

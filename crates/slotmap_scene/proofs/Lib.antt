@@ -1,16 +1,10 @@
-pub mod AboveLemmas
 pub mod Callers
 pub mod Climbs
 pub mod Descending
-pub mod Families
-pub mod Leaving
 pub mod Moved
-pub mod RelinkedNodes
 pub mod Placing
 pub mod Removals
 pub mod Showing
-pub mod ShownChanges
-pub mod Shows
 pub mod Walking
 pub mod Weaving
 pub mod Worlds

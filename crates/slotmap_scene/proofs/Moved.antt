@@ -1,177 +1,327 @@
--- A scene after a node came, was moved, or was removed with all that is below it.
-use Rattle.std.proofs.Common.{◌≡◌, ◌≢◌, ℕ, zero, suc, ◌+◌, true, Option, Some, None, List, [], ◌∷◌, ◌++◌, is_some, refl, sym, ap, subst, ◌∙◌, inl, inr, arith}
+-- The parent and the children of each node, and what a scene is once a node became a root, was moved below another one, or came.
+use Rattle.std.proofs.Common.{◌≡◌, ◌≢◌, ℕ, zero, suc, ◌+◌, ◌≤◌, ◌<◌, Option, Some, None, List, is_some, refl, sym, ap, subst, ◌∙◌, inl, inr, arith, Result, Ok, Err, IfOk, OnErr, [], ◌∷◌, ◌++◌}
 use Rattle.std.specs.Prelude.{option_map}
-use Rattle.std.proofs.Common.{Bool, IsTrue, ◌↔◌, false, Result, Ok, Err, IfOk, OnErr}
 use Rattle.std.specs.FinMap as map
-use Rattle.slotmap.specs.Words.{Key, Content, Inserts, Keeps}
-use Rattle.slotmap.proofs.Callers.{get-insert_here, get-insert_other, same_or_other, keys_total, exact_keys, still_in, none_of}
-use Rattle.slotmap_scene.specs.Node.{Node, Nodes}
-use Rattle.slotmap_scene.specs.Climb.{has_node, lacks_node, parent_in, parent_of, StepsTo, IsWithin}
+use Rattle.slotmap.specs.Words.{Key, Content, ClonesEqual, IsCloneOf, IsCloneBy, key_cmp, KeepsSpent, Leaves, Inserts, Keeps}
+use Rattle.slotmap.proofs.Callers.{same_or_other, clone_live, leaves_none, leaves_by_write, get-insert_here, get-insert_other, keys_total, exact_keys, none_of}
 use Rattle.slotmap_keylist.specs.KeyLists.{same, times, without}
-use Rattle.slotmap_keylist.proofs.Counts.{times_pushed, without_none}
-use Rattle.slotmap_scene.specs.declared.tree.Side.{Side}
-use Rattle.slotmap_scene.proofs.Placing.{times_placed}
-use Rattle.slotmap_scene.specs.Family.{placed, with_children_of, with_sibling, children_in, children_of, IsNewChild, IsScene, child, forgets, with_children_in, without_child, as_root, attached, attached_by}
-use Rattle.slotmap_scene.proofs.Climbs.{has_parent}
-use Rattle.slotmap_scene.proofs.Families.{by_parent, listed_once, listed_never, parent_there, parented_here, parented_other, written_here, written_other, new_child}
-use Rattle.slotmap_scene.proofs.Families.{detached_parents, scene_leaf, scene_detached, scene_attached}
+use Rattle.slotmap_keylist.proofs.Changed.{changed_keeps, changed_gives, changed_here, changed_other}
+use Rattle.slotmap_keylist.proofs.Counts.{one_itself, one_other, times_gone, times_without, times_pushed, without_none}
+use Rattle.slotmap_keylist.proofs.Alone.{len_alike}
+use Rattle.slotmap_keylist.proofs.Shown.{shown_spent}
+use Rattle.slotmap_keylist.specs.Changed.{changed}
+use Rattle.slotmap_scene.specs.Node.{Node, Nodes}
+use Rattle.slotmap_scene.specs.Climb.{has_node, parent_in, parent_of, IsWithin, lacks_node, StepsTo, with_parent}
+use Rattle.slotmap_scene.specs.Family.{is_parent, children_in, children_of, AreListed, IsMoved, IsScene, IsNodeClone, with_value, with_children_in, with_children_of, IsNewChild, as_last_child, as_root, child, forgets, value_of, without_child}
+use Rattle.slotmap_scene.proofs.Climbs.{tree_moved, tree_same, parent_there}
+
+-- who is a parent of whom
+is_its_parent : (o : Option Key) (p : Key) → o ≡ Some p → is_parent o p ≡ 1
+is_its_parent o p is = ap (λ q. is_parent q p) is ∙ one_itself p
+
+is_no_parent : (o : Option Key) (p : Key) → o ≢ Some p → is_parent o p ≡ 0
+is_no_parent None p other = refl
+is_no_parent (Some q) p other = one_other q p (λ same. other (ap Some same))
+
+pub by_parent : (o : Option Key) (p : Key) (P : Type 0) → (o ≡ Some p → P) → (o ≢ Some p → P) → P
+by_parent None p P here other = other (λ e. absurd (cc))
+by_parent (Some q) p P here other = elim (same_or_other q p) [ inl same ↦ here (ap Some same) | inr apart ↦ other (λ e. apart (cc)) ]
 
 module _ {T : Type 0} where
-  -- a node comes, as the last child of another one
-  module _ (nodes : Nodes T) (k p : Key) (v : T) (fresh : lacks_node nodes k) (there : has_node nodes p) (scene : IsScene nodes) (f : List Key → List Key) (more : (x : Key) (ks : List Key) → times x (f ks) ≡ times x ks + same k x) where
-    abbrev with_leaf : Nodes T
-    with_leaf = map.insert nodes k (child None v)
+  module _ (nodes : Nodes T) (listed : AreListed nodes) where
+    pub listed_once : (p k : Key) → parent_of nodes k ≡ Some p → times k (children_of nodes p) ≡ 1
+    listed_once p k is = listed p k ∙ is_its_parent (parent_of nodes k) p is
 
-    leaf_here : map.get with_leaf k ≡ Some (child None v)
-    leaf_here = get-insert_here nodes k (child None v)
+    pub listed_never : (p k : Key) → parent_of nodes k ≢ Some p → times k (children_of nodes p) ≡ 0
+    listed_never p k other = listed p k ∙ is_no_parent (parent_of nodes k) p other
 
-    scene_with_leaf : IsScene with_leaf
-    scene_with_leaf = scene_leaf nodes k v fresh scene
+    pub listed_few : (p k : Key) → times k (children_of nodes p) ≤ 1
+    listed_few p k = by_parent (parent_of nodes k) p (times k (children_of nodes p) ≤ 1)
+        (λ is. let one = listed_once p k is in omega arith) (λ other. let none = listed_never p k other in omega arith)
 
-    nothing_within : (i : ℕ) (q : Key) → StepsTo with_leaf i q k → q ≡ k
-    nothing_within zero q same = same
-    nothing_within (suc i) q steps =
-        let at = nothing_within i steps.0 steps.1.1 in
-        let one = listed_once with_leaf scene_with_leaf.listed k q (steps.1.0 ∙ ap Some at) in
-        let none = ap (times q) (ap children_in leaf_here) in
-        absurd (omega arith)
+    pub listed_parent : (p k : Key) → 0 < times k (children_of nodes p) → parent_of nodes k ≡ Some p
+    listed_parent p k more = by_parent (parent_of nodes k) p (parent_of nodes k ≡ Some p) (λ is. is) (λ other. absurd (let none = listed_never p k other in omega arith))
 
-    pub scene_child : IsScene (attached_by with_leaf k p f)
-    scene_child = scene_attached with_leaf k p f more (ap is_some leaf_here) (ap parent_in leaf_here) (still_in keys_total exact_keys nodes k (child None v) p there)
-        (λ w. (let same = nothing_within w.0 p w.1 in let h = sym (subst (has_node nodes) same there) ∙ fresh in cc)) scene_with_leaf
+  -- the same trees, of other values
+  pub scene_alike : (old new : Nodes T) → ((q : Key) → map.contains_key new q ≡ map.contains_key old q) → ((q : Key) → parent_of new q ≡ parent_of old q) → ((q : Key) → children_of new q ≡ children_of old q)
+      → IsScene old → IsScene new
+  scene_alike old new keys parents children scene = record {
+    tree = tree_same old new keys parents scene.tree;
+    listed = λ p k. ap (times k) (children p) ∙ scene.listed p k ∙ ap (λ o. is_parent o p) (sym (parents k));
+  }
 
-  -- what is within a node is so too once the node is a root
-  module _ (nodes : Nodes T) (k : Key) where
-    steps_before : (i : ℕ) (q other : Key) → StepsTo (as_root nodes k) i q other → StepsTo nodes i q other
-    steps_before zero q other same = same
-    steps_before (suc i) q other steps = elim (same_or_other q k) [
-      | inl is ↦ absurd (let none = (detached_parents nodes k).here in let some = subst (λ x. parent_of (as_root nodes k) x ≡ Some steps.0) is steps.1.0 in let h = sym none ∙ some in cc)
-      | inr apart ↦ (steps.0, (sym ((detached_parents nodes k).others q apart) ∙ steps.1.0, steps_before i steps.0 other steps.1.1))
+  pub scene_with_value : (nodes : Nodes T) (k : Key) (v : T) → IsScene nodes → IsScene (with_value nodes k v)
+  scene_with_value nodes k v = scene_alike nodes (with_value nodes k v)
+      (changed_keeps nodes k (λ n. record n { value = v }) is_some (λ n. refl))
+      (changed_keeps nodes k (λ n. record n { value = v }) parent_in (λ n. refl))
+      (changed_keeps nodes k (λ n. record n { value = v }) children_in (λ n. refl))
+
+  -- a node was moved, or came, and was put among the children of its parent
+  module _ (old new : Nodes T) (scene : IsScene old) (k : Key) (parent : Option Key) (put : List Key → List Key) (moved : IsMoved old new k parent put)
+      (more : (x : Key) (ks : List Key) → times x (put ks) ≡ times x ks + same k x) where
+    listed_itself : (p : Key) → times k (children_of new p) ≡ is_parent parent p
+    listed_itself p = by_parent parent p (times k (children_of new p) ≡ is_parent parent p)
+        (λ is. (let sum = ap (times k) (moved.children_are p is) ∙ more k (without k (children_of old p)) in
+        let gone = times_gone k (children_of old p) in let one = one_itself k in let its = is_its_parent parent p is in omega arith))
+        (λ other. ap (times k) (moved.other_children p other) ∙ times_gone k (children_of old p) ∙ sym (is_no_parent parent p other))
+
+    listed_still : (p x : Key) → x ≢ k → times x (children_of new p) ≡ times x (children_of old p)
+    listed_still p x apart = by_parent parent p (times x (children_of new p) ≡ times x (children_of old p))
+        (λ is. (let sum = ap (times x) (moved.children_are p is) ∙ more x (without k (children_of old p)) in
+        let kept = times_without k x (children_of old p) apart in let none = one_other k x (λ s. apart (sym s)) in omega arith))
+        (λ other. ap (times x) (moved.other_children p other) ∙ times_without k x (children_of old p) apart)
+
+    pub moved_listed : AreListed new
+    moved_listed p x = elim (same_or_other x k) [
+      | inl is ↦ rw is (listed_itself p ∙ ap (λ o. is_parent o p) (sym moved.parent_is))
+      | inr other ↦ listed_still p x other ∙ scene.listed p x ∙ ap (λ o. is_parent o p) (sym (moved.parents x other))
     ]
 
-    within_before : (q other : Key) → IsWithin (as_root nodes k) q other → IsWithin nodes q other
-    within_before q other w = (w.0, steps_before w.0 q other w.1)
+    pub scene_moved : ((q : Key) → q ≢ k → map.contains_key new q ≡ map.contains_key old q) → has_node new k → ((p : Key) → parent ≡ Some p → has_node old p × (IsWithin old p k → ⊥)) → IsScene new
+    scene_moved keys live above = record { tree = tree_moved old new k keys moved.parents parent live moved.parent_is above scene.tree; listed = moved_listed }
 
-    within_steps : (i : ℕ) (q : Key) → StepsTo nodes i q k → IsWithin (as_root nodes k) q k
-    within_steps zero q same = (zero, same)
-    within_steps (suc i) q steps = elim (same_or_other q k) [
-      | inl is ↦ (zero, is)
-      | inr apart ↦ (let rest = within_steps i steps.0 steps.1.1 in (suc rest.0, (steps.0, ((detached_parents nodes k).others q apart ∙ steps.1.0, rest.1))))
-    ]
+-- a copy has the same trees
+module _ {T : Type 0} (is_clone : T → T → Type 0) where
+  pub nodes_equal : ClonesEqual is_clone → ClonesEqual (IsNodeClone is_clone)
+  nodes_equal same x y is = λ i. record { value = same x.value y.value is.0 i; parent = is.1 i; children = is.2 i }
 
-    pub within_after : (q : Key) → IsWithin nodes q k → IsWithin (as_root nodes k) q k
-    within_after q w = within_steps w.0 q w.1
+  pub scene_copied : (nodes copy : Content (Node T)) → IsCloneBy (IsNodeClone is_clone) nodes copy → IsScene nodes.live → IsScene copy.live
+  scene_copied nodes copy clones = scene_alike nodes.live copy.live (clone_live (IsNodeClone is_clone) nodes copy clones)
+      (λ k. (linked (map.get nodes.live k) (map.get copy.live k) (clones.live k)).0) (λ k. (linked (map.get nodes.live k) (map.get copy.live k) (clones.live k)).1)
+    where
+      linked : (o p : Option (Node T)) → IsCloneOf (IsNodeClone is_clone) o p → (parent_in p ≡ parent_in o) × (children_in p ≡ children_in o)
+      linked None p is = (ap parent_in is, ap children_in is)
+      linked (Some n) None is = absurd is
+      linked (Some n) (Some m) is = (is.1, is.2)
 
-  -- a node that has not the child
-  forgotten : (k : Key) (o : Option (Node T)) → times k (children_in o) ≡ 0 → o ≡ option_map (forgets k) o
-  forgotten k None none = refl
-  forgotten k (Some n) none = ap (λ l. Some (record n { children = l })) (sym (without_none k n.children none))
-
-  module _ (nodes : Nodes T) (k : Key) where
-    taken_here : (o : Option Key) (q : Key) → o ≡ Some q → map.get (without_child nodes o k) q ≡ option_map (forgets k) (map.get nodes q)
-    taken_here o q is = ap (λ x. map.get (without_child nodes x k) q) is ∙ written_here nodes q (without k)
-
-    taken_other : (o : Option Key) (q : Key) → o ≢ Some q → map.get (without_child nodes o k) q ≡ map.get nodes q
-    taken_other None q other = refl
-    taken_other (Some p) q other = written_other nodes p (without k) q (λ same. other (ap Some (sym same)))
-
-  -- a node leaves its parent: what is under each key then
-  module _ (nodes : Nodes T) (k : Key) (scene : IsScene nodes) where
-    left_get : (q : Key) → map.get (without_child nodes (parent_of nodes k) k) q ≡ option_map (forgets k) (map.get nodes q)
-    left_get q = by_parent (parent_of nodes k) q (map.get (without_child nodes (parent_of nodes k) k) q ≡ option_map (forgets k) (map.get nodes q))
-        (λ is. taken_here nodes k (parent_of nodes k) q is)
-        (λ other. taken_other nodes k (parent_of nodes k) q other ∙ forgotten k (map.get nodes q) (listed_never nodes scene.listed q k other))
-
-    detached_get : (q : Key) → q ≢ k → map.get (as_root nodes k) q ≡ option_map (forgets k) (map.get nodes q)
-    detached_get q other =
-        parented_other (without_child nodes (parent_of nodes k) k) k None q other ∙ left_get q
-
-    pub scene_removed : (new : Nodes T) → ((q : Key) → (IsWithin (as_root nodes k) q k → ⊥) → map.get new q ≡ map.get (as_root nodes k) q)
-        → (q : Key) → (IsWithin nodes q k → ⊥) → map.get new q ≡ option_map (forgets k) (map.get nodes q)
-    scene_removed new others q out = others q (λ w. out (within_before nodes k q k w)) ∙ detached_get q (λ same. out (zero, same))
-
-  -- a node that is gone
-  module _ (nodes : Nodes T) (k : Key) (gone : lacks_node nodes k) where
-    no_node : map.get nodes k ≡ None
-    no_node = none_of (map.get nodes k) gone
-
-    pub gone_forgotten : IsScene nodes → (q : Key) → map.get nodes q ≡ option_map (forgets k) (map.get nodes q)
-    gone_forgotten scene q = forgotten k (map.get nodes q) (listed_never nodes scene.listed q k (λ e. (let h = sym (ap parent_in no_node) ∙ e in cc)))
-
-    steps_gone : IsScene nodes → (i : ℕ) (q : Key) → StepsTo nodes i q k → lacks_node nodes q
-    steps_gone scene zero q same = rw same gone
-    steps_gone scene (suc i) q steps = absurd (let above = steps_gone scene i steps.0 steps.1.1 in let there = parent_there nodes scene.tree q steps.0 steps.1.0 in cc)
-
-    pub gone_within : IsScene nodes → (q : Key) → IsWithin nodes q k → lacks_node nodes q
-    gone_within scene q w = steps_gone scene w.0 q w.1
-
-  -- a node that comes under p is one that comes as a root, and is then put under p
-  module _ (nodes : Nodes T) (p k : Key) (v : T) (f : List Key → List Key) (apart : k ≢ p) where
-    abbrev root : Nodes T
-    root = map.insert nodes k (child None v)
-
-    abbrev written : Nodes T
-    written = with_children_in nodes p (map.get nodes p) f
-
-    abbrev written_root : Nodes T
-    written_root = with_children_in root p (map.get root p) f
-
-    pub child_attached : map.insert written k (child (Some p) v) ≡ attached_by root k p f
-    child_attached = map.same_map keys_total exact_keys _ _ (λ q. elim (same_or_other q k) [
-      | inl is ↦ rw is (get-insert_here written k (child (Some p) v)
-          ∙ sym (parented_here written_root k (Some p)
-          ∙ ap (option_map (λ (n : Node T). record n { parent = Some p })) (written_other root p f k apart ∙ get-insert_here nodes k (child None v))))
-      | inr other ↦ get-insert_other written k (child (Some p) v) q other ∙ elim (same_or_other q p) [
-        | inl at ↦ rw at (written_here nodes p f ∙ sym (parented_other written_root k (Some p) p (λ s. apart (sym s))
-            ∙ written_here root p f ∙ ap (option_map (λ (n : Node T). record n { children = f n.children })) (get-insert_other nodes k (child None v) p (λ s. apart (sym s)))))
-        | inr elsewhere ↦ written_other nodes p f q elsewhere ∙ sym (parented_other written_root k (Some p) q other
-            ∙ written_other root p f q elsewhere ∙ get-insert_other nodes k (child None v) q other)
-      ]
-    ])
-
-  -- a node is moved below another one
-  module _ (nodes : Nodes T) (k p : Key) (scene : IsScene nodes) (live : has_node nodes k) (there : has_node nodes p) (out : IsWithin nodes p k → ⊥) where
-    pub root_alone : (q : Key) → times k (children_of (as_root nodes k) q) ≡ 0
-    root_alone q = listed_never (as_root nodes k) (scene_detached nodes k live scene).listed q k (λ is. (let none = (detached_parents nodes k).here in let h = sym none ∙ is in cc))
-
-    pub scene_moved : IsScene (attached (as_root nodes k) k p)
-    scene_moved = scene_attached (as_root nodes k) k p (λ ks. ks ++ k ∷ []) (λ x ks. times_pushed x ks k) ((detached_parents nodes k).same_keys k ∙ live) (detached_parents nodes k).here
-        ((detached_parents nodes k).same_keys p ∙ there) (λ w. out (within_before nodes k p k w)) (scene_detached nodes k live scene)
-
--- the same count where the children of one node changed
-len_written : {T : Type 0} (nodes : Nodes T) (p : Key) (f : List Key → List Key) → map.len (with_children_in nodes p (map.get nodes p) f) ≡ map.len nodes
-len_written {T} nodes p f = by (map.get nodes p) refl
+pub leaves_filled : {T : Type 0} (c : Content (Node T)) (o : Option Key) (f : List Key → List Key) → Leaves c (record c { live = with_children_of c.live o f })
+leaves_filled c None f = leaves_none c
+leaves_filled {T} c (Some p) f = by (map.get c.live p) refl
   where
-    by : (o : Option (Node T)) → map.get nodes p ≡ o → map.len (with_children_in nodes p o f) ≡ map.len nodes
-    by None is = refl
-    by (Some n) is = let there : map.contains_key nodes p ≡ true = ap is_some is in grind (arith, map.len-insert keys_total nodes p (record n { children = f n.children }))
+    by : (o : Option (Node T)) → map.get c.live p ≡ o → Leaves c (record c { live = with_children_in c.live p o f })
+    by None is = leaves_none c
+    by (Some n) is = leaves_by_write c p (record n { children = f n.children }) (ap is_some is)
 
--- by the clauses of a call that adds a node, whatever it returns
-module _ {T E : Type 0} (old new : Content (Node T)) (scene : IsScene old.live) (v : T) where
-  pub root_added : (result : Result Key E) → IfOk result (λ k. Inserts old k (child None v) new) → IfOk result (λ k. lacks_node old.live k) → OnErr result (Keeps old new) → IsScene new.live
-  root_added (Ok k) inserts fresh keeps = subst IsScene (sym inserts.live) (scene_leaf old.live k v fresh scene)
-  root_added (Err e) inserts fresh keeps = subst IsScene (sym keeps.live) scene
+-- the same keys are there, with other values
+pub spent_alike : {V : Type 0} (c : Content V) (m : map.FinMap key_cmp V) → ((q : Key) → map.contains_key m q ≡ map.contains_key c.live q) → KeepsSpent c (record c { live = m })
+spent_alike c m same = shown_spent c m same (len_alike m c.live same)
 
--- a node came as a root
-module _ {T : Type 0} (old mid : Content (Node T)) (k : Key) (v : T) (fresh : lacks_node old.live k) (came : Inserts old k (child None v) mid) where
-  pub came_stays : (p : Key) → has_node old.live p → has_node mid.live p
-  came_stays p there = ap (λ m. map.contains_key m p) came.live ∙ still_in keys_total exact_keys old.live k (child None v) p there
+module _ {T : Type 0} where
+  -- the children of a node, if there is one, are written
+  module _ (nodes : Nodes T) (f : List Key → List Key) where
+    abbrev fill : Node T → Node T
+    fill n = record n { children = f n.children }
 
-  pub came_alone : IsScene old.live → (q : Key) → times k (children_of mid.live q) ≡ 0
-  came_alone scene q = ap (λ m. times k (children_of m q)) came.live ∙ listed_never (map.insert old.live k (child None v)) (scene_leaf old.live k v fresh scene).listed q k
-      (λ is. (let none = ap parent_in (get-insert_here old.live k (child None v)) in let h = sym none ∙ is in cc))
+    pub filled_keeps : {X : Type 0} (P : Option (Node T) → X) → ((n : Node T) → P (Some (fill n)) ≡ P (Some n)) → (o : Option Key) (q : Key) → P (map.get (with_children_of nodes o f) q) ≡ P (map.get nodes q)
+    filled_keeps P keeps None q = refl
+    filled_keeps P keeps (Some p) q = changed_keeps nodes p fill P keeps q
 
-  -- and is put under p
-  module _ (new : Content (Node T)) (p : Key) (f : List Key → List Key) (put : new ≡ record mid { live = attached_by mid.live k p f }) (there : has_node old.live p) where
+    filled_other : (o : Option Key) (q : Key) → o ≢ Some q → map.get (with_children_of nodes o f) q ≡ map.get nodes q
+    filled_other None q other = refl
+    filled_other (Some p) q other = changed_other nodes p fill q (λ same. other (ap Some (sym same)))
+
+  -- a node that has lost a child, and one that never had it
+  forgot : {X : Type 0} (k : Key) (P : Option (Node T) → X) (f : X → X) → P None ≡ f (P None) → ((n : Node T) → P (Some (forgets k n)) ≡ f (P (Some n))) → (o : Option (Node T)) → P (option_map (forgets k) o) ≡ f (P o)
+  forgot k P f none some None = none
+  forgot k P f none some (Some n) = some n
+
+  pub forgotten : (k : Key) (o : Option (Node T)) → times k (children_in o) ≡ 0 → option_map (forgets k) o ≡ o
+  forgotten k None none = refl
+  forgotten k (Some n) none = ap (λ l. Some (record n { children = l })) (without_none k n.children none)
+
+  -- a node leaves the children of its parent
+  module _ (nodes : Nodes T) (scene : IsScene nodes) (k : Key) where
+    abbrev left : Nodes T
+    left = without_child nodes (parent_of nodes k) k
+
+    pub left_get : (q : Key) → map.get left q ≡ option_map (forgets k) (map.get nodes q)
+    left_get q = by_parent (parent_of nodes k) q (map.get left q ≡ option_map (forgets k) (map.get nodes q))
+        (λ is. ap (λ o. map.get (without_child nodes o k) q) is ∙ changed_here nodes q (forgets k))
+        (λ other. filled_other nodes (without k) (parent_of nodes k) q other ∙ sym (forgotten k (map.get nodes q) (listed_never nodes scene.listed q k other)))
+
+    pub left_of : {X : Type 0} (P : Option (Node T) → X) (f : X → X) → P None ≡ f (P None) → ((n : Node T) → P (Some (forgets k n)) ≡ f (P (Some n))) → (q : Key) → P (map.get left q) ≡ f (P (map.get nodes q))
+    left_of P f none some q = ap P (left_get q) ∙ forgot k P f none some (map.get nodes q)
+
+    -- and has this parent
+    module _ (o : Option Key) where
+      abbrev hang : Node T → Node T
+      hang n = record n { parent = o }
+
+      abbrev hung : Nodes T
+      hung = with_parent left k o
+
+      hung_children : (q : Key) → children_of hung q ≡ without k (children_of nodes q)
+      hung_children q = changed_keeps left k hang children_in (λ n. refl) q ∙ left_of children_in (without k) refl (λ n. refl) q
+
+      hung_values : (q : Key) → value_of hung q ≡ value_of nodes q
+      hung_values q = changed_keeps left k hang (option_map (λ n. n.value)) (λ n. refl) q ∙ left_of (option_map (λ n. n.value)) (λ x. x) refl (λ n. refl) q
+
+      pub hung_keys : (q : Key) → map.contains_key hung q ≡ map.contains_key nodes q
+      hung_keys q = changed_keeps left k hang is_some (λ n. refl) q ∙ left_of is_some (λ b. b) refl (λ n. refl) q
+
+      hung_parents : (q : Key) → q ≢ k → parent_of hung q ≡ parent_of nodes q
+      hung_parents q other = ap parent_in (changed_other left k hang q other) ∙ left_of parent_in (λ x. x) refl (λ n. refl) q
+
+      pub hung_alone : (q : Key) → times k (children_of hung q) ≡ 0
+      hung_alone q = ap (times k) (hung_children q) ∙ times_gone k (children_of nodes q)
+
+    -- so it is a root
+    pub moved_out : (put : List Key → List Key) → IsMoved nodes (as_root nodes k) k None put
+    moved_out put = record {
+      parent_is = ap parent_in (changed_here left k (hang None)) ∙ none (map.get left k);
+      parents = hung_parents None;
+      children_are = λ p is. absurd (cc);
+      other_children = λ q other. hung_children None q;
+    }
+      where
+        none : (o : Option (Node T)) → parent_in (option_map (hang None) o) ≡ None
+        none None = refl
+        none (Some n) = refl
+
+    pub values_out : (q : Key) → value_of (as_root nodes k) q ≡ value_of nodes q
+    values_out = hung_values None
+
+    pub scene_out : has_node nodes k → IsScene (as_root nodes k)
+    scene_out live = scene_moved nodes (as_root nodes k) scene k None (λ ks. ks ++ k ∷ []) (moved_out (λ ks. ks ++ k ∷ [])) (λ x ks. times_pushed x ks k)
+        (λ q other. hung_keys None q) (hung_keys None k ∙ live) (λ p is. absurd (cc))
+
+    -- or the last child of p
+    module _ (p : Key) (live : has_node nodes k) (there : has_node nodes p) where
+      abbrev push : Node T → Node T
+      push n = record n { children = n.children ++ k ∷ [] }
+
+      pub moved_below : IsMoved nodes (as_last_child nodes k p) k (Some p) (λ ks. ks ++ k ∷ [])
+      moved_below = record {
+        parent_is = changed_keeps (hung (Some p)) p push parent_in (λ n. refl) k
+            ∙ changed_gives left k (hang (Some p)) parent_in (λ _. Some p) (λ n. refl) (left_of is_some (λ b. b) refl (λ n. refl) k ∙ live);
+        parents = λ q other. changed_keeps (hung (Some p)) p push parent_in (λ n. refl) q ∙ hung_parents (Some p) q other;
+        children_are = λ q is. (let at : p ≡ q = cc in rw (← at) (changed_gives (hung (Some p)) p push children_in (λ ks. ks ++ k ∷ []) (λ n. refl) (hung_keys (Some p) p ∙ there)
+            ∙ ap (λ ks. ks ++ k ∷ []) (hung_children (Some p) p)));
+        other_children = λ q other. ap children_in (changed_other (hung (Some p)) p push q (λ at. other (ap Some (sym at)))) ∙ hung_children (Some p) q;
+      }
+
+      pub values_below : (q : Key) → value_of (as_last_child nodes k p) q ≡ value_of nodes q
+      values_below q = changed_keeps (hung (Some p)) p push (option_map (λ n. n.value)) (λ n. refl) q ∙ hung_values (Some p) q
+
+      pub pushed_keys : (q : Key) → map.contains_key (as_last_child nodes k p) q ≡ map.contains_key nodes q
+      pushed_keys q = changed_keeps (hung (Some p)) p push is_some (λ n. refl) q ∙ hung_keys (Some p) q
+
+      pub scene_below : (IsWithin nodes p k → ⊥) → IsScene (as_last_child nodes k p)
+      scene_below out = scene_moved nodes (as_last_child nodes k p) scene k (Some p) (λ ks. ks ++ k ∷ []) moved_below (λ x ks. times_pushed x ks k)
+          (λ q other. pushed_keys q) (pushed_keys k ∙ live) (λ q is. (let at : p ≡ q = cc in rw (← at) (there, out)))
+
+  -- a key that no node has
+  module _ (nodes : Nodes T) (scene : IsScene nodes) (k : Key) (fresh : lacks_node nodes k) where
+    absent : map.get nodes k ≡ None
+    absent = none_of (map.get nodes k) fresh
+
+    never : (q : Key) → times k (children_of nodes q) ≡ 0
+    never q = listed_never nodes scene.listed q k (λ is. (let h = sym (ap parent_in absent) ∙ is in cc))
+
+    pub moved_nowhere : (put : List Key → List Key) → IsMoved nodes nodes k None put
+    moved_nowhere put = record {
+      parent_is = ap parent_in absent;
+      parents = λ q other. refl;
+      children_are = λ p is. absurd (cc);
+      other_children = λ q other. sym (without_none k (children_of nodes q) (never q));
+    }
+
+    pub gone_forgotten : (q : Key) → map.get nodes q ≡ option_map (forgets k) (map.get nodes q)
+    gone_forgotten q = sym (forgotten k (map.get nodes q) (never q))
+
+    steps_gone : (i : ℕ) (q : Key) → StepsTo nodes i q k → lacks_node nodes q
+    steps_gone zero q same = rw same fresh
+    steps_gone (suc i) q steps = absurd (let above = steps_gone i steps.0 steps.1.1 in let there = parent_there nodes scene.tree q steps.0 steps.1.0 in cc)
+
+    pub gone_within : (q : Key) → IsWithin nodes q k → lacks_node nodes q
+    gone_within q w = steps_gone w.0 q w.1
+
+    -- a node comes under it, and is put among the children of its parent
+    module _ (parent : Option Key) (there : (p : Key) → parent ≡ Some p → has_node nodes p) (v : T) (put : List Key → List Key) where
+      abbrev filled : Nodes T
+      filled = with_children_of nodes parent put
+
+      abbrev with_node : Nodes T
+      with_node = map.insert filled k (child parent v)
+
+      not_parent : (p : Key) → parent ≡ Some p → p ≢ k
+      not_parent p is same = let live = subst (has_node nodes) same (there p is) in cc
+
+      came_elsewhere : (q : Key) → q ≢ k → map.get with_node q ≡ map.get filled q
+      came_elsewhere q other = get-insert_other filled k (child parent v) q other
+
+      came_moved : IsMoved nodes with_node k parent put
+      came_moved = record {
+        parent_is = ap parent_in (get-insert_here filled k (child parent v));
+        parents = λ q other. ap parent_in (came_elsewhere q other) ∙ filled_keeps nodes put parent_in (λ n. refl) parent q;
+        children_are = λ p is. ap children_in (came_elsewhere p (not_parent p is)) ∙ ap (λ o. children_of (with_children_of nodes o put) p) is
+            ∙ changed_gives nodes p (fill nodes put) children_in put (λ n. refl) (there p is) ∙ ap put (sym (without_none k (children_of nodes p) (never p)));
+        other_children = λ q apart. elim (same_or_other q k) [
+          | inl is ↦ rw is (ap children_in (get-insert_here filled k (child parent v)) ∙ sym (ap (λ o. without k (children_in o)) absent))
+          | inr other ↦ ap children_in (came_elsewhere q other ∙ filled_other nodes put parent q apart) ∙ sym (without_none k (children_of nodes q) (never q))
+        ];
+      }
+
+      pub came_scene : ((x : Key) (ks : List Key) → times x (put ks) ≡ times x ks + same k x) → IsScene with_node
+      came_scene more = scene_moved nodes with_node scene k parent put came_moved more
+          (λ q other. ap is_some (came_elsewhere q other) ∙ filled_keeps nodes put is_some (λ n. refl) parent q)
+          (ap is_some (get-insert_here filled k (child parent v))) (λ p is. (there p is, λ w. (let gone = gone_within p w in let live = there p is in cc)))
+
+      pub came_child : (p : Key) → parent ≡ Some p → IsNewChild nodes with_node k p v (put (children_of nodes p))
+      came_child p is = record {
+        node = get-insert_here filled k (child parent v) ∙ ap (λ o. Some (child o v)) is;
+        children_are = came_moved.children_are p is ∙ ap put (without_none k (children_of nodes p) (never p));
+        value = ap (option_map (λ n. n.value)) (came_elsewhere p (not_parent p is)) ∙ filled_keeps nodes put (option_map (λ n. n.value)) (λ n. refl) parent p;
+        parent = came_moved.parents p (not_parent p is);
+        others = λ q other apart. came_elsewhere q other ∙ filled_other nodes put parent q (λ at. apart (let same = sym is ∙ at in cc));
+      }
+
+-- what is inserted before another value is changed, or after it
+changed_later : {T : Type 0} (m : Nodes T) (k p : Key) (v : Node T) (f : Node T → Node T) → p ≢ k → changed (map.insert m k v) p f ≡ map.insert (changed m p f) k v
+changed_later m k p v f apart = map.same_map keys_total exact_keys _ _ (λ q. elim (same_or_other q k) [
+  | inl is ↦ rw is (changed_other (map.insert m k v) p f k (λ s. apart (sym s)) ∙ get-insert_here m k v ∙ sym (get-insert_here (changed m p f) k v))
+  | inr other ↦ elim (same_or_other q p) [
+    | inl at ↦ rw at (changed_here (map.insert m k v) p f ∙ ap (option_map f) (get-insert_other m k v p apart) ∙ sym (get-insert_other (changed m p f) k v p apart ∙ changed_here m p f))
+    | inr elsewhere ↦ changed_other (map.insert m k v) p f q elsewhere ∙ get-insert_other m k v q other ∙ sym (get-insert_other (changed m p f) k v q other ∙ changed_other m p f q elsewhere)
+  ]
+])
+
+-- by the clauses of a call that adds a root, whatever it returns
+pub root_added : {T E : Type 0} (old new : Content (Node T)) → IsScene old.live → (v : T) (result : Result Key E) → IfOk result (λ k. Inserts old k (child None v) new) → IfOk result (λ k. lacks_node old.live k)
+    → OnErr result (Keeps old new) → IsScene new.live
+root_added old new scene v (Ok k) inserts fresh keeps = subst IsScene (sym inserts.live) (came_scene old.live scene k fresh None (λ p is. absurd (cc)) v (λ ks. ks ++ k ∷ []) (λ x ks. times_pushed x ks k))
+root_added old new scene v (Err e) inserts fresh keeps = subst IsScene (sym keeps.live) scene
+
+-- a node came that has a parent
+module _ {T : Type 0} (old mid : Content (Node T)) (scene : IsScene old.live) (k p : Key) (v : T) (fresh : lacks_node old.live k) (there : has_node old.live p) (came : Inserts old k (child (Some p) v) mid) where
+  parent_apart : p ≢ k
+  parent_apart same = let live = subst (has_node old.live) same there in cc
+
+  came_get : (q : Key) → q ≢ k → map.get mid.live q ≡ map.get old.live q
+  came_get q other = ap (λ m. map.get m q) came.live ∙ get-insert_other old.live k (child (Some p) v) q other
+
+  pub came_there : has_node mid.live p
+  came_there = ap is_some (came_get p parent_apart) ∙ there
+
+  pub came_alone : (q : Key) → times k (children_of mid.live q) ≡ 0
+  came_alone q = elim (same_or_other q k) [
+    | inl is ↦ rw is (ap (λ m. times k (children_of m k)) came.live ∙ ap (λ o. times k (children_in o)) (get-insert_here old.live k (child (Some p) v)))
+    | inr other ↦ ap (λ o. times k (children_in o)) (came_get q other) ∙ never old.live scene k fresh q
+  ]
+
+  -- it has siblings, as before
+  pub came_sibling : (s : Key) → parent_of old.live s ≡ Some p → times s (children_of mid.live p) ≡ 1
+  came_sibling s own = ap (λ o. times s (children_in o)) (came_get p parent_apart) ∙ listed_once old.live scene.listed p s own
+
+  -- and is put among the children of its parent
+  module _ (new : Content (Node T)) (f : List Key → List Key) (put : new ≡ record mid { live = with_children_in mid.live p (map.get mid.live p) f }) where
     child_live : new.live ≡ map.insert (with_children_in old.live p (map.get old.live p) f) k (child (Some p) v)
-    child_live =
-        ap (λ c. c.live) put ∙ ap (λ m. attached_by m k p f) came.live
-        ∙ sym (child_attached old.live p k v f (λ same. (let live = subst (has_node old.live) (sym same) there in cc)))
+    child_live = ap (λ c. c.live) put ∙ ap (λ m. with_children_in m p (map.get m p) f) came.live ∙ changed_later old.live k p (child (Some p) v) (λ n. record n { children = f n.children }) parent_apart
 
     pub child_inserts : Inserts (record old { live = with_children_in old.live p (map.get old.live p) f }) k (child (Some p) v) new
     child_inserts = record {
       offered = came.offered;
-      below_limit = (let below = came.below_limit in let same = len_written old.live p f in omega arith);
+      below_limit = (let below = came.below_limit in let same = len_alike (with_children_in old.live p (map.get old.live p) f) old.live (filled_keeps old.live f is_some (λ n. refl) (Some p)) in omega arith);
       live = child_live;
       detached = ap (λ c. c.detached) put ∙ came.detached;
       retired = ap (λ c. c.retired) put ∙ came.retired;
@@ -181,35 +331,10 @@ module _ {T : Type 0} (old mid : Content (Node T)) (k : Key) (v : T) (fresh : la
     }
 
     pub child_gained : IsNewChild old.live new.live k p v (f (children_of old.live p))
-    child_gained = new_child old.live new.live k p v f there fresh child_live
+    child_gained = subst (λ m. IsNewChild old.live m k p v (f (children_of old.live p))) (sym child_live) (came_child old.live scene k fresh (Some p) (λ q is. subst (has_node old.live) (cc) there) v f p refl)
 
-    pub child_scene : ((x : Key) (ks : List Key) → times x (f ks) ≡ times x ks + same k x) → IsScene old.live → IsScene new.live
-    child_scene more scene = subst IsScene (sym (ap (λ c. c.live) put ∙ ap (λ m. attached_by m k p f) came.live)) (scene_child old.live k p v fresh there scene f more)
+    pub child_scene : ((x : Key) (ks : List Key) → times x (f ks) ≡ times x ks + same k x) → IsScene new.live
+    child_scene more = subst IsScene (sym child_live) (came_scene old.live scene k fresh (Some p) (λ q is. subst (has_node old.live) (cc) there) v f more)
 
-  -- or beside a sibling s, whose parent is p
-  module _ (scene : IsScene old.live) (s p : Key) (own : parent_of old.live s ≡ Some p) where
-    pub parent_stays : has_node mid.live p
-    parent_stays = came_stays p (parent_there old.live scene.tree s p own)
-
-    pub sibling_stays : times s (children_of mid.live p) ≡ 1
-    sibling_stays =
-        let other : s ≢ k = λ same. (let live = subst (has_node old.live) same (has_parent old.live s p own) in cc) in
-        listed_once mid.live (subst IsScene (sym came.live) (scene_leaf old.live k v fresh scene)).listed p s (ap (λ m. parent_of m s) came.live ∙ ap parent_in (get-insert_other old.live k (child None v) s other) ∙ own)
-
-    module _ (new : Content (Node T)) (side : Side) (put : new ≡ record mid { live = attached_by mid.live k p (placed side s k) }) where
-      pub beside_scene : IsScene new.live
-      beside_scene = child_scene new p (placed side s k) put (parent_there old.live scene.tree s p own) (λ x ks. times_placed s k x side ks) scene
-
-      pub beside_inserts : Inserts (record old { live = with_sibling side old.live s k }) k (child (parent_of old.live s) v) new
-      beside_inserts = subst (λ o. Inserts (record old { live = with_children_of old.live o (placed side s k) }) k (child o v) new) (sym own)
-          (child_inserts new p (placed side s k) put (parent_there old.live scene.tree s p own))
-
-      pub beside_gained : (q : Key) → parent_of old.live s ≡ Some q → IsNewChild old.live new.live k q v (placed side s k (children_of old.live q))
-      beside_gained q is =
-          let h = sym own ∙ is in
-          let at : p ≡ q = cc in
-          subst (λ x. IsNewChild old.live new.live k x v (placed side s k (children_of old.live x))) at (child_gained new p (placed side s k) put (parent_there old.live scene.tree s p own))
-
--- a test answered no, so what it tests does not hold
-pub out_of : {P : Type 0} (answer : Bool) → IsTrue answer ↔ P → answer ≡ false → P → ⊥
-out_of answer test is_false p = let yes = test.1 p in cc
+    pub child_spent : KeepsSpent old mid → KeepsSpent old new
+    child_spent keeps k spent = rw put (spent_alike mid _ (filled_keeps mid.live f is_some (λ n. refl) (Some p)) k (keeps k spent))

@@ -1,5 +1,5 @@
 -- A walk along the children of a node, from both ends.
-use Rattle.std.proofs.Common.{◌≡◌, ◌-◌, ℕ, true, Option, Some, None, List, [], ◌∷◌, ◌++◌, length, length-append, append_assoc, append-nil, refl, sym, ap, ◌∙◌, arith}
+use Rattle.std.proofs.Common.{◌≡◌, ◌-◌, ◌<◌, ℕ, true, Option, Some, None, List, [], ◌∷◌, ◌++◌, length, length-append, append_assoc, append-nil, refl, sym, ap, ◌∙◌, arith}
 use Rattle.std.specs.FinMap as map
 use Rattle.std.proofs.lemmas.Option.{same_Some}
 use Rattle.slotmap.specs.Words.{Key}
@@ -7,6 +7,7 @@ use Rattle.slotmap_keylist.specs.declared.Ends.{Ends}
 use Rattle.slotmap_keylist.specs.declared.Link.{Link}
 use Rattle.slotmap_keylist.specs.KeyLists.{times}
 use Rattle.slotmap_keylist.specs.Linked.{first_or, last_or, follow, link_between}
+use Rattle.slotmap_keylist.proofs.Following.{follow_step}
 use Rattle.slotmap_keylist.proofs.Linking.{follow_part, in_midst, last_or-append, none_last, split_last}
 use Rattle.slotmap_scene.specs.declared.links.LinkedNode.{LinkedNode}
 use Rattle.slotmap_scene.specs.LinkedNodes.{IsWalk, IsWoven, LinkedNodes, ends_of, led_to, link_in, link_of}
@@ -119,10 +120,7 @@ module _ {T : Type 0} (m : LinkedNodes T) (left : ℕ) (first last : Option Key)
 -- what is left by a step
 module _ {T : Type 0} (m : LinkedNodes T) (left : ℕ) (first last : Option Key) (walk : IsWalk m left first last) (some : left ≡ 0 → ⊥) (k : Key) (n : LinkedNode T) (found : map.get m k ≡ Some n) where
   pub next_is : first ≡ Some k → follow (link_of m) left first ≡ k ∷ follow (link_of m) (left - 1) n.siblings.next
-  unfolding walk_next
-  next_is is =
-      walk_keys m left first last walk ∙ (first_key m left first last walk some k is).1
-      ∙ ap (λ ks. k ∷ ks) (sym (walk_keys m (left - 1) n.siblings.next last (walk_next m left first last walk some k is n found)))
+  next_is is = follow_step (link_of m) left first k (let more : 0 < left = omega arith in more) is ∙ ap (λ o. k ∷ follow (link_of m) (left - 1) (link_in o).next) found
 
   pub back_is : last ≡ Some k → follow (link_of m) left first ≡ follow (link_of m) (left - 1) first ++ k ∷ []
   unfolding walk_back

@@ -1,17 +1,16 @@
 -- What a fold of the values on the way up comes to.
-use Rattle.std.proofs.Common.{◌≡◌, ◌≢◌, ℕ, zero, suc, List, [], ◌∷◌, ◌++◌, append_assoc, Option, Some, None, IfSome, IfNone, is_some, option_map, true, refl, sym, ap, subst, ◌∙◌}
+use Rattle.std.proofs.Common.{◌≡◌, ◌≢◌, ℕ, zero, suc, List, [], ◌∷◌, ◌++◌, append_assoc, Option, Some, None, IfSome, IfNone, is_some, option_map, true, refl, sym, ap, subst, ◌∙◌, inl, inr}
 use Rattle.std.specs.Fn.{Mut, Takes}
 use Rattle.std.specs.Borrow.{Bor}
 use Rattle.std.specs.List.{FoldsTo, fold}
 use Rattle.std.proofs.lemmas.Fn.{FoldsTo-push}
 use Rattle.std.specs.FinMap as map
 use Rattle.slotmap.specs.Words.{Key}
-use Rattle.slotmap.proofs.Callers.{get-insert_here, get-insert_other}
+use Rattle.slotmap.proofs.Callers.{get-insert_here, same_or_other}
 use Rattle.slotmap_scene.specs.Node.{Node, Nodes}
 use Rattle.slotmap_scene.specs.Climb.{has_node, lacks_node, parent_of, parent_in, ClimbsTo, IsTree, IsWithin}
-use Rattle.slotmap_scene.specs.Family.{value_of, child, with_child, attached, as_root}
-use Rattle.slotmap_scene.proofs.Families.{parent_there, attached_parents, detached_parents, value_detached, value_attached}
-use Rattle.slotmap_scene.proofs.Moved.{child_attached}
+use Rattle.slotmap_scene.specs.Family.{IsMoved, IsNewChild, value_of, child}
+use Rattle.slotmap_scene.proofs.Climbs.{parent_there}
 use Rattle.slotmap_scene.specs.WorldValue.{IsPathFrom, IsPathUp, world_along, IsWorld, CallsAt, FoldsUp, CallableUp}
 
 module _ {T : Type 0} (nodes : Nodes T) where
@@ -60,16 +59,6 @@ module _ {T : Type 0} (nodes : Nodes T) where
   -- a root is where its own value says
   pub world_root : (under : T → T → T) (k : Key) (node : Node T) → map.get nodes k ≡ Some node → node.parent ≡ None → IsWorld under nodes k node.value
   world_root under k node there top = record { own = node.value; above = []; path = root_path k node there top; made = refl }
-
-  -- any other node is where its own value says, under its parent
-  pub world_child : (under : T → T → T) (k p : Key) (node : Node T) (w : T) → map.get nodes k ≡ Some node → node.parent ≡ Some p
-      → IsWorld under nodes p w → IsWorld under nodes k (under node.value w)
-  world_child under k p node w there up world = record {
-    own = node.value;
-    above = world.own ∷ world.above;
-    path = child_path k p node there up (world.own ∷ world.above) world.path;
-    made = ap (under node.value) world.made;
-  }
 
   -- what `world` returns, where it is known by these two
   pub world_is : (under : T → T → T) (k : Key) (w : T) (result : Option T) → IsWorld under nodes k w
@@ -165,27 +154,18 @@ module _ {T : Type 0} (nodes : Nodes T) (k p : Key) (node : Node T) (there : map
 -- where a node k is that gets another parent, or is added: all other nodes keep their values and their parents
 module _ {T : Type 0} (old new : Nodes T) (k : Key) (values : (q : Key) → has_node old q → q ≢ k → value_of new q ≡ value_of old q)
     (parents : (q : Key) → has_node old q → q ≢ k → parent_of new q ≡ parent_of old q) where
-  -- a path that doesn't come by k stays
-  path_outside : (q : Option Key) (vs : List T) → ((r : Key) → q ≡ Some r → IsWithin old r k → ⊥) → IsPathFrom old q vs → IsPathFrom new q vs
-  path_outside None [] out path = tt
-  path_outside None (v ∷ above) out path = absurd path
-  path_outside (Some q) [] out path = absurd path
-  path_outside (Some q) (v ∷ above) out path =
+  -- a path stays that doesn't come by k
+  path_kept : (Past : Key → Type 0) → ((q : Key) → Past q → has_node old q → q ≢ k) → ((q r : Key) → Past q → parent_of old q ≡ Some r → Past r)
+      → (q : Option Key) (vs : List T) → ((r : Key) → q ≡ Some r → Past r) → IsPathFrom old q vs → IsPathFrom new q vs
+  path_kept Past apart up None [] past path = tt
+  path_kept Past apart up None (v ∷ above) past path = absurd path
+  path_kept Past apart up (Some q) [] past path = absurd path
+  path_kept Past apart up (Some q) (v ∷ above) past path =
       let live = path_live old q (v ∷ above) path in
-      let apart : q ≢ k = λ same. out q refl (zero, same) in (
-        values q live apart ∙ path.0,
-        subst (λ r. IsPathFrom new r above) (sym (parents q live apart)) (path_outside (parent_of old q) above (λ r up w. out q refl (suc w.0, (r, (up, w.1)))) path.1),
+      let other = apart q (past q refl) live in (
+        values q live other ∙ path.0,
+        subst (λ r. IsPathFrom new r above) (sym (parents q live other)) (path_kept Past apart up (parent_of old q) above (λ r is. up q r (past q refl) is) path.1),
       )
-
-  -- where k wasn't there, each path stays
-  path_added : lacks_node old k → (q : Option Key) (vs : List T) → IsPathFrom old q vs → IsPathFrom new q vs
-  path_added fresh None [] path = tt
-  path_added fresh None (v ∷ above) path = absurd path
-  path_added fresh (Some q) [] path = absurd path
-  path_added fresh (Some q) (v ∷ above) path =
-      let live = path_live old q (v ∷ above) path in
-      let apart : q ≢ k = λ same. (let h = sym (subst (has_node old) same live) ∙ fresh in cc) in
-      (values q live apart ∙ path.0, subst (λ r. IsPathFrom new r above) (sym (parents q live apart)) (path_added fresh (parent_of old q) above path.1))
 
   -- k is where its own value says, under its new parent
   module _ (under : T → T → T) (v : T) (p : Key) (w : T) (here : value_of new k ≡ Some v) (up : parent_of new k ≡ Some p) (world : IsWorld under old p w) where
@@ -198,39 +178,24 @@ module _ {T : Type 0} (old new : Nodes T) (k : Key) (values : (q : Key) → has_
     }
 
     world_below : (IsWithin old p k → ⊥) → IsWorld under new k (under v w)
-    world_below out = under_parent (path_outside (Some p) (world.own ∷ world.above) (λ r is within. out (let same : r ≡ p = cc in subst (λ x. IsWithin old x k) same within)) world.path)
+    world_below out = under_parent (path_kept (λ q. IsWithin old q k → ⊥) (λ q outside live same. outside (zero, same)) (λ q r outside is w. outside (suc w.0, (r, (is, w.1))))
+        (Some p) (world.own ∷ world.above) (λ r is within. out (let same : r ≡ p = cc in subst (λ x. IsWithin old x k) same within)) world.path)
 
     world_new : lacks_node old k → IsWorld under new k (under v w)
-    world_new fresh = under_parent (path_added fresh (Some p) (world.own ∷ world.above) world.path)
+    world_new fresh = under_parent (path_kept (λ q. Unit {0}) (λ q _ live same. (let h = sym (subst (has_node old) same live) ∙ fresh in cc)) (λ q r _ is. tt) (Some p) (world.own ∷ world.above) (λ r is. tt) world.path)
 
 -- after `reparent` a node is where its own value says, under its new parent, which is where it was
-module _ {T : Type 0} (nodes : Nodes T) (k p : Key) (live : has_node nodes k) (out : IsWithin nodes p k → ⊥) where
-  abbrev moved : Nodes T
-  moved = attached (as_root nodes k) k p
-
-  pub world_moved : (under : T → T → T) (v w : T) → value_of nodes k ≡ Some v → IsWorld under nodes p w → IsWorld under moved k (under v w)
-  world_moved under v w own world =
-      let gone = detached_parents nodes k in
-      let back = attached_parents (as_root nodes k) k p (λ ks. ks ++ k ∷ []) (gone.same_keys k ∙ live) in
-      let value : (q : Key) → value_of moved q ≡ value_of nodes q = λ q. value_attached (as_root nodes k) k p (λ ks. ks ++ k ∷ []) q ∙ value_detached nodes k q in
-      world_below nodes moved k (λ q there other. value q) (λ q there other. back.others q other ∙ gone.others q other) under v p w (value k ∙ own) back.here world out
+module _ {T : Type 0} (old new : Nodes T) (k p : Key) {put : List Key → List Key} (trees : IsMoved old new k (Some p) put) (values : (q : Key) → value_of new q ≡ value_of old q) where
+  pub world_moved : (IsWithin old p k → ⊥) → (under : T → T → T) (v w : T) → value_of old k ≡ Some v → IsWorld under old p w → IsWorld under new k (under v w)
+  world_moved out under v w own world = world_below old new k (λ q there other. values q) (λ q there other. trees.parents q other) under v p w (values k ∙ own) trees.parent_is world out
 
 -- where a node is that is added
-module _ {T : Type 0} (nodes : Nodes T) (k : Key) (v : T) where
-  abbrev added : Nodes T
-  added = map.insert nodes k (child None v)
+pub world_added_root : {T : Type 0} (nodes : Nodes T) (k : Key) (v : T) (under : T → T → T) → IsWorld under (map.insert nodes k (child None v)) k v
+world_added_root nodes k v under = world_root (map.insert nodes k (child None v)) under k (child None v) (get-insert_here nodes k (child None v)) refl
 
-  pub world_added_root : (under : T → T → T) → IsWorld under added k v
-  world_added_root under = world_root added under k (child None v) (get-insert_here nodes k (child None v)) refl
-
-  pub world_added_child : lacks_node nodes k → (under : T → T → T) (p : Key) (w : T) → IsWorld under nodes p w → IsWorld under (attached added k p) k (under v w)
-  world_added_child fresh under p w world =
-      let put = attached_parents added k p (λ ks. ks ++ k ∷ []) (ap is_some (get-insert_here nodes k (child None v))) in
-      world_new nodes (attached added k p) k (λ q there other. value_attached added k p (λ ks. ks ++ k ∷ []) q ∙ ap (option_map (λ n. n.value)) (get-insert_other nodes k (child None v) q other))
-      (λ q there other. put.others q other ∙ ap parent_in (get-insert_other nodes k (child None v) q other)) under v p w (value_attached added k p (λ ks. ks ++ k ∷ []) k ∙ ap (option_map (λ n. n.value)) (get-insert_here nodes k (child None v))) put.here world fresh
-
-  -- the same, by what the clause of a call says that adds a child
-  pub world_added_below : lacks_node nodes k → (under : T → T → T) (p : Key) (w : T) → IsWorld under nodes p w → IsWorld under (map.insert (with_child nodes p k) k (child (Some p) v)) k (under v w)
-  world_added_below fresh under p w world =
-      let apart : k ≢ p = λ same. (let live = subst (has_node nodes) (sym same) (path_live nodes p (world.own ∷ world.above) world.path) in cc) in
-      subst (λ m. IsWorld under m k (under v w)) (sym (child_attached nodes p k v (λ ks. ks ++ k ∷ []) apart)) (world_added_child fresh under p w world)
+pub world_added_child : {T : Type 0} (old new : Nodes T) (k p : Key) {v : T} {children : List Key} → IsNewChild old new k p v children → lacks_node old k
+    → (under : T → T → T) (w : T) → IsWorld under old p w → IsWorld under new k (under v w)
+world_added_child old new k p {v} gains fresh under w world = world_new old new k
+    (λ q there other. elim (same_or_other q p) [ inl at ↦ rw at gains.value | inr elsewhere ↦ ap (option_map (λ n. n.value)) (gains.others q other elsewhere) ])
+    (λ q there other. elim (same_or_other q p) [ inl at ↦ rw at gains.parent | inr elsewhere ↦ ap parent_in (gains.others q other elsewhere) ])
+    under v p w (ap (option_map (λ n. n.value)) gains.node) (ap parent_in gains.node) world fresh

@@ -1,5 +1,5 @@
 -- The children of each node, and how a call changes them.
-use Rattle.std.specs.Prelude.{◌≡◌, ◌≢◌, ℕ, Option, Some, None, List, [], ◌∷◌, ◌++◌, ◌<◌, ⊤, cond, option_map}
+use Rattle.std.specs.Prelude.{◌≡◌, ◌≢◌, ℕ, Option, Some, None, List, [], ◌∷◌, ◌++◌, cond, option_map}
 use Rattle.std.specs.FinMap as map
 use Rattle.slotmap.specs.Words.{Key}
 use Rattle.slotmap_scene.specs.Node.{Node, Nodes}
@@ -14,19 +14,15 @@ abbrev pub is_parent : Option Key → Key → ℕ
 is_parent None p = 0
 is_parent (Some q) p = same q p
 
--- k is placed right before its sibling s, or at the end, where s isn't there
-abbrev pub placed_before : Key → Key → List Key → List Key
-placed_before s k [] = k ∷ []
-placed_before s k (q ∷ qs) = cond (is_key q s) (k ∷ q ∷ qs) (q ∷ placed_before s k qs)
+-- k on this side of q, which is in front of the others
+abbrev pub beside : Side → Key → Key → List Key → List Key
+beside Before k q qs = k ∷ q ∷ qs
+beside After k q qs = q ∷ k ∷ qs
 
--- the same right behind it
-abbrev pub placed_after : Key → Key → List Key → List Key
-placed_after s k [] = k ∷ []
-placed_after s k (q ∷ qs) = cond (is_key q s) (q ∷ k ∷ qs) (q ∷ placed_after s k qs)
-
+-- k is placed right before its sibling s, or right behind it; where s isn't there, at the end
 abbrev pub placed : Side → Key → Key → List Key → List Key
-placed Before s k ks = placed_before s k ks
-placed After s k ks = placed_after s k ks
+placed side s k [] = k ∷ []
+placed side s k (q ∷ qs) = cond (is_key q s) (beside side k q qs) (q ∷ placed side s k qs)
 
 -- the two parts of a list that a place on this side of s is between, where these keys are before s and behind it
 abbrev pub around : Side → List Key → Key → List Key → List Key × List Key
@@ -101,19 +97,17 @@ module _ {T : Type 0} where
   abbrev pub with_sibling : Side → Nodes T → Key → Key → Nodes T
   with_sibling side nodes s k = with_children_of nodes (parent_of nodes s) (placed side s k)
 
-  -- the parent of k, if it has one, has k as a child
-  abbrev pub MayLeave : Nodes T → Key → Option Key → Type 0
-  MayLeave nodes k None = ⊤
-  MayLeave nodes k (Some p) = 0 < times k (children_of nodes p)
-
   -- k is a root, and no node has it as a child
   abbrev pub as_root : Nodes T → Key → Nodes T
   as_root nodes k = with_parent (without_child nodes (parent_of nodes k) k) k None
 
-  -- k, a root until now, is a child of p, which has other children now
-  abbrev pub attached_by : Nodes T → Key → Key → (List Key → List Key) → Nodes T
-  attached_by nodes k p f = with_parent (with_children_in nodes p (map.get nodes p) f) k (Some p)
+  -- k is the last child of p, and no other node has it as a child
+  abbrev pub as_last_child : Nodes T → Key → Key → Nodes T
+  as_last_child nodes k p = with_child (with_parent (without_child nodes (parent_of nodes k) k) k (Some p)) p k
 
-  -- k, a root until now, is the last child of p
-  abbrev pub attached : Nodes T → Key → Key → Nodes T
-  attached nodes k p = attached_by nodes k p (λ ks. ks ++ k ∷ [])
+  -- k has this parent, is put among its children, and is no other node's child; all other nodes have the same parent and the same children
+  pub record IsMoved (old new : Nodes T) (k : Key) (parent : Option Key) (put : List Key → List Key) : Type 0 where
+    pub parent_is : parent_of new k ≡ parent
+    pub parents : (q : Key) → q ≢ k → parent_of new q ≡ parent_of old q
+    pub children_are : (p : Key) → parent ≡ Some p → children_of new p ≡ put (without k (children_of old p))
+    pub other_children : (q : Key) → parent ≢ Some q → children_of new q ≡ without k (children_of old q)

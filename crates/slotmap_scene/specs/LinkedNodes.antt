@@ -1,5 +1,5 @@
 -- The links between nodes, and the nodes that they show.
-use Rattle.std.specs.Prelude.{◌≡◌, ◌<◌, ◌+◌, ◌-◌, ℕ, Option, Some, None, List, ◌++◌, length, true}
+use Rattle.std.specs.Prelude.{◌≡◌, ◌<◌, ◌+◌, ◌-◌, ℕ, Option, Some, None, IfSome, List, ◌++◌, length, option_map, true}
 use Rattle.std.specs.FinMap as map
 use Rattle.slotmap.specs.Words.{Key, key_cmp, Content}
 use Rattle.slotmap_keylist.specs.declared.Ends.{Ends}
@@ -26,6 +26,13 @@ module _ {T : Type 0} where
   link_in None = record { prev = None; next = None }
   link_in (Some node) = node.siblings
 
+  abbrev pub value_in : Option (LinkedNode T) → Option T
+  value_in o = option_map (λ n. n.value) o
+
+  abbrev pub above_in : Option (LinkedNode T) → Option Key
+  above_in None = None
+  above_in (Some node) = node.parent
+
   -- the ends of the children of each key, and the neighbours of each
   abbrev pub ends_of : LinkedNodes T → Key → Ends Key
   ends_of m k = ends_in (map.get m k)
@@ -37,9 +44,9 @@ module _ {T : Type 0} where
   abbrev pub led_to : LinkedNodes T → Key → List Key
   led_to m k = followed (link_of m) (ends_of m k)
 
-  -- a node with no parent, no children and no siblings
-  abbrev pub leaf : T → LinkedNode T
-  leaf v = record { value = v; parent = None; children = record { first = None; last = None; len = 0 }; siblings = record { prev = None; next = None } }
+  -- a node with this parent, no children and no siblings
+  abbrev pub leaf : T → Option Key → LinkedNode T
+  leaf v parent = record { value = v; parent = parent; children = record { first = None; last = None; len = 0 }; siblings = record { prev = None; next = None } }
 
   -- the nodes with the children that the links lead to, in place of the links
   abbrev pub shown_node : LinkedNodes T → LinkedNode T → Node T
@@ -59,6 +66,10 @@ module _ {T : Type 0} where
   abbrev pub linked_roots : List (Key × LinkedNode T) → List Key
   linked_roots nodes = roots_by (λ node. node.parent) nodes
 
+  -- a key with the value of its node
+  abbrev pub linked_value : Key × LinkedNode T → Key × T
+  linked_value e = (e.0, e.1.value)
+
   -- a clone of the value, with the same parent and the same links
   abbrev pub IsLinkedClone : (T → T → Type 0) → LinkedNode T → LinkedNode T → Type 0
   IsLinkedClone is_clone node copy = is_clone node.value copy.value × (copy.parent ≡ node.parent) × (copy.children ≡ node.children) × (copy.siblings ≡ node.siblings)
@@ -68,6 +79,16 @@ module _ {T : Type 0} where
     pub linked : AreLinked (ends_of m) (link_of m) (led_to m)
     pub apart : AreApart (led_to m)
     pub live : (p k : Key) → 0 < times k (led_to m p) → map.contains_key m k ≡ true
+
+  -- p is a node, and so are these two neighbours
+  pub record AreLive (m : LinkedNodes T) (p : Key) (l : Link Key) : Type 0 where
+    pub parent : map.contains_key m p ≡ true
+    pub prev : IfSome l.prev (λ k. map.contains_key m k ≡ true)
+    pub next : IfSome l.next (λ k. map.contains_key m k ≡ true)
+
+  -- a node has these neighbours
+  abbrev pub with_link : LinkedNodes T → Key → Link Key → LinkedNodes T
+  with_link m k l = changed m k (λ n. record n { siblings = l })
 
   -- a node, or the end of the list of p, leads on to another key, or to none
   abbrev pub with_next : LinkedNodes T → Key → Option Key → Option Key → LinkedNodes T
@@ -86,9 +107,9 @@ module _ {T : Type 0} where
   abbrev pub relinked : LinkedNodes T → Key → Link Key → Option Key → Option Key → (ℕ → ℕ) → LinkedNodes T
   relinked m p l on back f = with_len (with_prev (with_next m p l.prev on) p l.next back) p f
 
-  -- k is put between two keys of the list of p, and p is its parent
+  -- k is put between two keys of the list of p
   abbrev pub put_between : LinkedNodes T → Key → Key → Link Key → LinkedNodes T
-  put_between m p k l = relinked (changed m k (λ n. record n { parent = Some p; siblings = l })) p l (Some k) (Some k) (λ len. len + 1)
+  put_between m p k l = relinked (with_link m k l) p l (Some k) (Some k) (λ len. len + 1)
 
   -- what is between two keys of the list of p is taken out of it
   abbrev pub taken_between : LinkedNodes T → Key → Link Key → LinkedNodes T

@@ -19,3 +19,7 @@ node_code {T} t =
 -- the node of each key
 abbrev pub Nodes : Type 0 → Type 0
 Nodes T = map.FinMap key_cmp (Node T)
+
+-- a key with the value of its node
+abbrev pub node_value : {T : Type 0} → Key × Node T → Key × T
+node_value e = (e.0, e.1.value)

@@ -1,19 +1,20 @@
 //! The nodes under their keys. A clause sees each with the list of its children in place of its links.
 
-ghost use Rattle.std.specs.Prelude.{◌≡◌, ◌<◌, ◌≤◌, ◌+◌, ◌++◌, ◌∷◌, [], Some, None, IfOk, IfErr, IsOk, OnErr, List, true, option_copied, option_map};
+ghost use Rattle.std.specs.Prelude.{◌≡◌, ◌<◌, ◌≤◌, ◌+◌, ◌++◌, ◌∷◌, [], Some, None, IfOk, IfErr, IsOk, OnErr, List, true, map as list_map, option_copied, option_map};
 ghost use Rattle.std.specs.FinMap as map;
 ghost use Rattle.std.specs.Borrow.{sem};
 ghost use Rattle.std.specs.Option.{option_copied_mut};
 ghost use Rattle.slotmap.specs.Words.{Key as KeyOf, IsContent, IsNew, IsSpent, KeepsSpent, Inserts, Keeps, Leaves, MakesRoom, RefusesCapacity, used};
 ghost use Rattle.slotmap_keylist.specs.KeyLists.{times, without};
-ghost use Rattle.slotmap_keylist.specs.Linked.{first_or, last_or};
+ghost use Rattle.slotmap_keylist.specs.Linked.{ends_of, first_or, last_or, link_between};
 ghost use Rattle.slotmap_scene.specs.Above.{roots_in};
 ghost use Rattle.slotmap_scene.specs.Climb.{has_node, lacks_node, parent_of, with_parent};
 ghost use Rattle.slotmap_scene.specs.Family.{child, children_of, value_of, with_children_in};
-ghost use Rattle.slotmap_scene.specs.LinkedNodes.{IsPlace, linked_roots, shown_under};
+ghost use Rattle.slotmap_scene.specs.LinkedNodes.{IsPlace, linked_roots, linked_value, shown_under};
+ghost use Rattle.slotmap_scene.specs.Node.{node_value};
 ghost use Rattle.slotmap_scene.specs.Refusals.{RefusesNode};
 
-use crate::iter::ChildKeys;
+use crate::children::ChildKeys;
 use crate::links::{LinkedNode, LinkedNodes, add, put_between, take_between};
 use slotmap::{DefaultKey, InsertError, Key, ReserveError, SlotMap, basic};
 use slotmap_keylist::{Ends, Link};
@@ -71,6 +72,13 @@ impl<T: Drop> Nodes<T> {
         self.map.len()
     }
 
+    // For how many nodes memory is allocated.
+    pub fn capacity(&self) -> usize
+        ensures { result ≡ self.now.capacity }
+    {
+        self.map.capacity()
+    }
+
     // Whether there is such a node.
     pub fn contains_key(&self, node: DefaultKey) -> bool
         ensures value { result ≡ map.contains_key self.now.live node }
@@ -99,52 +107,60 @@ impl<T: Drop> Nodes<T> {
 
     // The nodes, by ascending index of their keys.
     pub fn iter(&self) -> basic::Iter<'_, DefaultKey, LinkedNode<T>>
-        ensures { linked_roots result ≡ roots_in (map.entries self.now.live) }
+        ensures roots { linked_roots result ≡ roots_in (map.entries self.now.live) }
+        ensures values { list_map linked_value result ≡ list_map node_value (map.entries self.now.live) }
     {
         self.map.iter()
+    }
+
+    // The ends of the list of a node's children.
+    fn ends(&self, node: DefaultKey) -> Ends<DefaultKey>
+        ensures { result ≡ ends_of (children_of self.now.live node) }
+    {
+        match self.map.get(node) {
+            Some(node) => node.children,
+            None => Ends::none(),
+        }
+    }
+
+    // The neighbours of a child.
+    pub fn link(&self, node: DefaultKey) -> Link<DefaultKey>
+        ensures { (p : KeyOf) (before after : List KeyOf) → children_of self.now.live p ≡ before ++ node ∷ after → result ≡ link_between before after }
+    {
+        match self.map.get(node) {
+            Some(node) => node.siblings,
+            None => Link::none(),
+        }
     }
 
     // The keys of the children of a node.
     pub fn children<K: Key>(&self, node: DefaultKey) -> ChildKeys<'_, K, T>
         ensures { result ≡ children_of self.now.live node }
     {
-        match self.map.get(node) {
-            Some(node) => ChildKeys::between(&self.map, node.children),
-            None => ChildKeys::between(&self.map, Ends::none()),
-        }
+        ChildKeys::between(&self.map, self.ends(node))
     }
 
     // The first child of a node.
     pub fn first(&self, node: DefaultKey) -> Option<DefaultKey>
         ensures { result ≡ first_or (children_of self.now.live node) None }
     {
-        self.map.get(node)?.children.first
+        self.ends(node).first
     }
 
     // The last child of a node.
     pub fn last(&self, node: DefaultKey) -> Option<DefaultKey>
         ensures { result ≡ last_or (children_of self.now.live node) None }
     {
-        self.map.get(node)?.children.last
+        self.ends(node).last
     }
 
-    // The child behind another one.
-    pub fn next(&self, node: DefaultKey) -> Option<DefaultKey>
-        ensures { (p : KeyOf) (before after : List KeyOf) → children_of self.now.live p ≡ before ++ node ∷ after → result ≡ first_or after None }
-    {
-        self.map.get(node)?.siblings.next
-    }
-
-    // The child before another one.
-    pub fn prev(&self, node: DefaultKey) -> Option<DefaultKey>
-        ensures { (p : KeyOf) (before after : List KeyOf) → children_of self.now.live p ≡ before ++ node ∷ after → result ≡ last_or before None }
-    {
-        self.map.get(node)?.siblings.prev
-    }
-
-    // Adds a root with no children.
-    pub fn insert(&mut self, value: T) -> Result<DefaultKey, InsertError<T>>
-        ensures adds { IfOk result (λ key. Inserts self.old key (child None value) self.new) }
+    // Adds a node with this parent and no children. It is in no list.
+    pub fn insert(
+        &mut self,
+        value: T,
+        parent: Option<DefaultKey>,
+    ) -> Result<DefaultKey, InsertError<T>>
+        ensures adds { IfOk result (λ key. Inserts self.old key (child parent value) self.new) }
         ensures fresh { IfOk result (λ key. lacks_node self.old.live key) }
         ensures unspent { IfOk result (λ key. IsSpent self.old key → ⊥) }
         ensures stale { KeepsSpent self.old self.new }
@@ -153,39 +169,37 @@ impl<T: Drop> Nodes<T> {
         ensures room { 0 < self.old.room → IsOk result }
         ensures unchanged { OnErr result (Keeps self.old self.new) }
     {
-        add(&mut self.map, value)
+        add(&mut self.map, value, parent)
     }
 
-    // Puts a node that is in no list between two children of a parent, as its child.
+    // Puts a node that is in no list between two children of a parent.
     pub fn put_between(&mut self, parent: DefaultKey, node: DefaultKey, siblings: Link<DefaultKey>)
         requires parent { has_node self.old.live parent }
         requires node { has_node self.old.live node }
         requires alone { (p : KeyOf) → times node (children_of self.old.live p) ≡ 0 }
         requires place { (before : List KeyOf) × (after : List KeyOf) × IsPlace self.old.live parent siblings before after }
-        ensures puts { (before after : List KeyOf) → IsPlace self.old.live parent siblings before after
-            → self.new ≡ record self.old { live = with_parent (with_children_in self.old.live parent (map.get self.old.live parent) (λ _. before ++ node ∷ after)) node (Some parent) } }
-        ensures leaves { Leaves self.old self.new }
+        ensures { (before after : List KeyOf) (f : List KeyOf → List KeyOf) → IsPlace self.old.live parent siblings before after → before ++ node ∷ after ≡ f (children_of self.old.live parent)
+            → self.new ≡ record self.old { live = with_children_in self.old.live parent (map.get self.old.live parent) f } }
     {
         put_between(&mut self.map, parent, node, siblings);
     }
 
     // Takes a node out of the children of its parent.
     pub fn take_out(&mut self, parent: DefaultKey, node: DefaultKey)
-        requires { 0 < times node (children_of self.old.live parent) }
-        ensures takes { self.new ≡ record self.old { live = with_children_in self.old.live parent (map.get self.old.live parent) (without node) } }
-        ensures leaves { Leaves self.old self.new }
+        requires parent { has_node self.old.live parent }
+        requires child { 0 < times node (children_of self.old.live parent) }
+        ensures { self.new ≡ record self.old { live = with_children_in self.old.live parent (map.get self.old.live parent) (without node) } }
     {
-        let siblings = self.map[node].siblings;
+        let siblings = self.link(node);
         take_between(&mut self.map, parent, siblings);
     }
 
-    // Lets a node have no parent.
-    pub fn make_root(&mut self, node: DefaultKey)
+    // Lets a node have this parent, or none. The lists of children are the same.
+    pub fn set_parent(&mut self, node: DefaultKey, parent: Option<DefaultKey>)
         requires { has_node self.old.live node }
-        ensures sets { self.new ≡ record self.old { live = with_parent self.old.live node None } }
-        ensures leaves { Leaves self.old self.new }
+        ensures { self.new ≡ record self.old { live = with_parent self.old.live node parent } }
     {
-        self.map[node].parent = None;
+        self.map[node].parent = parent;
     }
 
     // Removes a node that has no children and is in no list, and returns it.

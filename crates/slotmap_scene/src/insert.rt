@@ -5,7 +5,7 @@ ghost use Rattle.std.specs.FinMap as map;
 ghost use Rattle.slotmap.specs.Words.{Key as KeyOf, Inserts, IsSpent, Keeps, KeepsSpent};
 ghost use Rattle.slotmap_scene.specs.declared.tree.Side.TheVariants.{Before, After};
 ghost use Rattle.slotmap_scene.specs.Climb.{lacks_node, parent_of};
-ghost use Rattle.slotmap_scene.specs.Family.{IsNewChild, child, children_of, placed, placed_before, placed_after, with_sibling};
+ghost use Rattle.slotmap_scene.specs.Family.{IsNewChild, child, children_of, placed, with_sibling};
 ghost use Rattle.slotmap_scene.specs.Refusals.{RefusesSibling};
 
 use crate::tree::Side;
@@ -37,7 +37,7 @@ impl<K: Key, T: Drop> Scene<K, T> {
         let Some(parent) = self.parent_key(sibling) else {
             return Err(AddError::Gone(value));
         };
-        let key = self.nodes.insert(value)?;
+        let key = self.nodes.insert(value, Some(parent))?;
         self.nodes.attach_beside(key, side, sibling, parent);
         Ok(key)
     }
@@ -64,7 +64,7 @@ impl<K: Key, T: Drop> Scene<K, T> {
         ensures adds { IfOk result (λ key. Inserts (record self.old { live = with_sibling Before self.old.live (K.data_of sibling) (K.data_of key) })
             (K.data_of key) (child (parent_of self.old.live (K.data_of sibling)) value) self.new) }
         ensures gains { IfOk result (λ key. (p : KeyOf) → parent_of self.old.live (K.data_of sibling) ≡ Some p
-            → IsNewChild self.old.live self.new.live (K.data_of key) p value (placed_before (K.data_of sibling) (K.data_of key) (children_of self.old.live p))) }
+            → IsNewChild self.old.live self.new.live (K.data_of key) p value (placed Before (K.data_of sibling) (K.data_of key) (children_of self.old.live p))) }
         ensures fresh { IfOk result (λ key. lacks_node self.old.live (K.data_of key)) }
         ensures unspent { IfOk result (λ key. IsSpent self.old (K.data_of key) → ⊥) }
         ensures stale { KeepsSpent self.old self.new }
@@ -99,7 +99,7 @@ impl<K: Key, T: Drop> Scene<K, T> {
         ensures adds { IfOk result (λ key. Inserts (record self.old { live = with_sibling After self.old.live (K.data_of sibling) (K.data_of key) })
             (K.data_of key) (child (parent_of self.old.live (K.data_of sibling)) value) self.new) }
         ensures gains { IfOk result (λ key. (p : KeyOf) → parent_of self.old.live (K.data_of sibling) ≡ Some p
-            → IsNewChild self.old.live self.new.live (K.data_of key) p value (placed_after (K.data_of sibling) (K.data_of key) (children_of self.old.live p))) }
+            → IsNewChild self.old.live self.new.live (K.data_of key) p value (placed After (K.data_of sibling) (K.data_of key) (children_of self.old.live p))) }
         ensures fresh { IfOk result (λ key. lacks_node self.old.live (K.data_of key)) }
         ensures unspent { IfOk result (λ key. IsSpent self.old (K.data_of key) → ⊥) }
         ensures stale { KeepsSpent self.old self.new }

@@ -1,101 +1,63 @@
-//! The iterator over the keys of a node's children.
+//! Iterators over all nodes.
 
-ghost use Rattle.std.specs.Prelude.{◌≡◌, ◌≤◌, length, Some, IfSome, ⊤};
-ghost use Rattle.std.specs.Iterator.{YieldsFirstBy, YieldsLastBy, item_count, at_most, UpTo};
-ghost use Rattle.slotmap_keylist.specs.Linked.{followed};
-ghost use Rattle.slotmap_scene.specs.LinkedNodes.{IsWalk, link_of};
+ghost use Rattle.std.specs.Prelude.{◌≡◌, ◌≤◌, length, Some, IfSome, map as list_map};
+ghost use Rattle.std.specs.Iterator.{YieldsFirstBy, item_count, at_most, UpTo};
+ghost use Rattle.std.specs.FinMap as map;
+ghost use Rattle.slotmap_scene.specs.Node.{node_value};
 
-use crate::links::LinkedNodes;
-use slotmap::{DefaultKey, Key};
-use slotmap_keylist::{Ends, outer};
-use std::alloc::AllocError;
-use std::fmt;
+use crate::Scene;
+use crate::links::LinkedNode;
+use slotmap::{DefaultKey, Key, basic};
+use slotmap_keylist::outer;
 use std::iter::FusedIterator;
 use std::marker::{Model, PhantomData};
 
-/// An iterator over the keys of a node's children, in order, from both ends: see [`Scene::children`].
+/// An iterator over the nodes of a scene, each with its key and its value: see [`Scene::iter`].
 ///
-/// A contract sees it as the list of the keys that it will still yield. A clone yields the same keys;
-/// cloning allocates nothing.
-///
-/// [`Scene::children`]: crate::Scene::children
+/// A contract sees it as the list of what it will still yield. After its end it yields nothing.
 #[derive(Drop)]
-pub struct ChildKeys<'a, K, T> {
-    nodes: &'a LinkedNodes<T>,
-    first: Option<DefaultKey>,
-    last: Option<DefaultKey>,
-    left: usize,
+pub struct Iter<'a, K, T> {
+    nodes: basic::Iter<'a, DefaultKey, LinkedNode<T>>,
     key_type: PhantomData<K>,
 }
 
-impl<'a, K, T> Model for ChildKeys<'a, K, T> {
-    ghost use Rattle.std.specs.Prelude.{List};
+impl<'a, K, T> Model for Iter<'a, K, T> {
+    ghost use Rattle.std.specs.Prelude.{List, map as list_map};
     ghost use Rattle.slotmap.specs.Words.{Key};
-    ghost use Rattle.slotmap_keylist.specs.Linked.{follow};
-    ghost use Rattle.slotmap_scene.specs.LinkedNodes.{IsWalk, link_of};
+    ghost use Rattle.slotmap_scene.specs.LinkedNodes.{linked_value};
 
-    ghost Value = { List Key };
+    ghost Value = { List (Key × T) };
 
-    ghost view = { λ it. follow (link_of it.nodes.now.live) it.left it.first };
-
-    ghost invariant = { λ it. IsWalk it.nodes.now.live it.left it.first it.last };
+    ghost view = { λ it. list_map linked_value it.nodes };
 }
 
-impl<'a, K, T> ChildKeys<'a, K, T> {
-    // The keys of a list with these ends.
-    pub(crate) fn between(nodes: &'a LinkedNodes<T>, ends: Ends<DefaultKey>) -> ChildKeys<'a, K, T>
-        requires { IsWalk nodes.now.live ends.len ends.first ends.last }
-        ensures { result ≡ followed (link_of nodes.now.live) ends }
-    {
-        ChildKeys {
-            nodes,
-            first: ends.first,
-            last: ends.last,
-            left: ends.len,
-            key_type: PhantomData,
-        }
-    }
-
-    /// Returns how many keys are left, in constant time.
+impl<'a, K, T> Iter<'a, K, T> {
+    /// Returns how many nodes are left, in constant time.
+    ///
+    /// ```
+    /// let mut scene: Scene<DefaultKey, &str> = Scene::new(alloc)?;
+    /// scene.add_root("car")?;
+    /// assert_eq!(rt; scene.iter().len(), 1);
+    /// ```
     pub fn len(&self) -> usize
         ensures { result ≡ length self.now }
     {
-        self.left
+        self.nodes.len()
     }
 }
 
-impl<'a, K, T> Clone for ChildKeys<'a, K, T> {
-    ghost is_clone = { λ it copy. copy ≡ it };
+impl<'a, K: Key, T: Drop> Iterator for Iter<'a, K, T> {
+    type Item = (K, &'a T);
 
-    ghost is_infallible = { λ _. ⊤ };
-
-    fn clone(&self) -> Result<Self, AllocError> {
-        Ok(ChildKeys {
-            nodes: self.nodes,
-            first: self.first,
-            last: self.last,
-            left: self.left,
-            key_type: PhantomData,
-        })
-    }
-}
-
-impl<'a, K: Key, T: Drop> Iterator for ChildKeys<'a, K, T> {
-    type Item = K;
-
-    ghost next_gives = { YieldsFirstBy K.data_of (λ rest. rest) };
+    ghost next_gives = { YieldsFirstBy (λ item. (K.data_of item.0, item.1.now)) (λ rest. rest) };
 
     ghost remaining = { item_count (λ rest. rest) };
 
-    fn next(&mut self) -> Option<K> {
-        if self.left == 0 {
-            return None;
+    fn next(&mut self) -> Option<(K, &'a T)> {
+        match self.nodes.next() {
+            Some((key, node)) => Some((outer(key), &node.value)),
+            None => None,
         }
-        let key = self.first?;
-        let node = self.nodes.get(key)?;
-        self.left -= 1;
-        self.first = node.siblings.next;
-        Some(outer(key))
     }
 
     fn size_hint(&self) -> (usize, Option<usize>)
@@ -108,33 +70,181 @@ impl<'a, K: Key, T: Drop> Iterator for ChildKeys<'a, K, T> {
     }
 }
 
-impl<'a, K: Key, T: Drop> DoubleEndedIterator for ChildKeys<'a, K, T> {
-    ghost next_back_gives = { YieldsLastBy K.data_of (λ rest. rest) };
-
-    fn next_back(&mut self) -> Option<K> {
-        if self.left == 0 {
-            return None;
-        }
-        let key = self.last?;
-        let node = self.nodes.get(key)?;
-        self.left -= 1;
-        self.last = node.siblings.prev;
-        Some(outer(key))
-    }
-}
-
-impl<'a, K: Key, T: Drop> ExactSizeIterator for ChildKeys<'a, K, T> {
+impl<'a, K: Key, T: Drop> ExactSizeIterator for Iter<'a, K, T> {
     fn len(&self) -> usize {
-        ChildKeys::len(self)
+        Iter::len(self)
     }
 }
 
-impl<'a, K: Key, T: Drop> FusedIterator for ChildKeys<'a, K, T> {}
+impl<'a, K: Key, T: Drop> FusedIterator for Iter<'a, K, T> {}
 
-impl<'a, K, T> fmt::Debug for ChildKeys<'a, K, T> {
-    fn fmt<W: fmt::Write>(&self, f: &mut fmt::Formatter<W>) -> fmt::Result {
-        f.debug_struct("ChildKeys")
-            .field("remaining", &self.len())
-            .finish()
+impl<'a, K: Key, T: Drop> IntoIterator for &'a Scene<K, T> {
+    type Item = (K, &'a T);
+
+    type IntoIter = Iter<'a, K, T>;
+
+    ghost into_iter_gives = { λ scene it. it ≡ list_map node_value (map.entries scene.now.live) };
+
+    fn into_iter(self) -> Iter<'a, K, T> {
+        self.iter()
+    }
+}
+
+/// An iterator over the keys of the nodes: see [`Scene::keys`].
+///
+/// A contract sees it as the list of the keys that it will still yield. After its end it yields
+/// nothing.
+#[derive(Drop)]
+pub struct Keys<'a, K, T> {
+    nodes: Iter<'a, K, T>,
+}
+
+impl<'a, K, T> Model for Keys<'a, K, T> {
+    ghost use Rattle.std.specs.Prelude.{List, map as list_map};
+    ghost use Rattle.slotmap.specs.Words.{Key};
+
+    ghost Value = { List Key };
+
+    ghost view = { λ it. list_map (λ e. e.0) it.nodes };
+}
+
+impl<'a, K: Key, T: Drop> Iterator for Keys<'a, K, T> {
+    type Item = K;
+
+    ghost next_gives = { YieldsFirstBy K.data_of (λ rest. rest) };
+
+    ghost remaining = { item_count (λ rest. rest) };
+
+    fn next(&mut self) -> Option<K> {
+        match self.nodes.next() {
+            Some((key, _)) => Some(key),
+            None => None,
+        }
+    }
+
+    fn size_hint(&self) -> (usize, Option<usize>)
+        ensures lower { result.0 ≤ length self.now }
+        ensures upper { IfSome result.1 (UpTo (at_most (length self.now))) }
+        ensures exact { result ≡ (length self.now, Some (length self.now)) }
+    {
+        self.nodes.size_hint()
+    }
+}
+
+impl<'a, K: Key, T: Drop> ExactSizeIterator for Keys<'a, K, T> {
+    fn len(&self) -> usize {
+        self.nodes.len()
+    }
+}
+
+impl<'a, K: Key, T: Drop> FusedIterator for Keys<'a, K, T> {}
+
+/// An iterator over the values of the nodes: see [`Scene::values`].
+///
+/// A contract sees it as the list of the values that it will still yield. After its end it yields
+/// nothing.
+#[derive(Drop)]
+pub struct Values<'a, K, T> {
+    nodes: Iter<'a, K, T>,
+}
+
+impl<'a, K, T> Model for Values<'a, K, T> {
+    ghost use Rattle.std.specs.Prelude.{List, map as list_map};
+
+    ghost Value = { List T };
+
+    ghost view = { λ it. list_map (λ e. e.1) it.nodes };
+}
+
+impl<'a, K: Key, T: Drop> Iterator for Values<'a, K, T> {
+    type Item = &'a T;
+
+    ghost next_gives = { YieldsFirstBy (λ item. item.now) (λ rest. rest) };
+
+    ghost remaining = { item_count (λ rest. rest) };
+
+    fn next(&mut self) -> Option<&'a T> {
+        match self.nodes.next() {
+            Some((_, value)) => Some(value),
+            None => None,
+        }
+    }
+
+    fn size_hint(&self) -> (usize, Option<usize>)
+        ensures lower { result.0 ≤ length self.now }
+        ensures upper { IfSome result.1 (UpTo (at_most (length self.now))) }
+        ensures exact { result ≡ (length self.now, Some (length self.now)) }
+    {
+        self.nodes.size_hint()
+    }
+}
+
+impl<'a, K: Key, T: Drop> ExactSizeIterator for Values<'a, K, T> {
+    fn len(&self) -> usize {
+        self.nodes.len()
+    }
+}
+
+impl<'a, K: Key, T: Drop> FusedIterator for Values<'a, K, T> {}
+
+impl<K: Key, T: Drop> Scene<K, T> {
+    /// Returns an iterator over the nodes of all trees, each with its key and its value, by ascending
+    /// index. A `for` loop over `&scene` goes over the same.
+    ///
+    /// It is made in constant time. All its steps together read each slot once.
+    ///
+    /// ```
+    /// let mut scene: Scene<DefaultKey, &str> = Scene::new(alloc)?;
+    /// let car = scene.add_root("car")?;
+    /// let wheel = scene.add_child(car, "wheel")?;
+    /// let mut nodes = scene.iter();
+    /// assert_eq!(rt; nodes.next(), Some((car, &"car")));
+    /// assert_eq!(rt; nodes.next(), Some((wheel, &"wheel")));
+    /// assert!(rt; nodes.next().is_none());
+    /// ```
+    pub fn iter(&self) -> Iter<'_, K, T>
+        ensures { result ≡ list_map node_value (map.entries self.now.live) }
+    {
+        Iter {
+            nodes: self.nodes.iter(),
+            key_type: PhantomData,
+        }
+    }
+
+    /// Returns an iterator over the keys of the nodes of all trees, by ascending index.
+    ///
+    /// It is made in constant time. All its steps together read each slot once.
+    ///
+    /// ```
+    /// let mut scene: Scene<DefaultKey, &str> = Scene::new(alloc)?;
+    /// let car = scene.add_root("car")?;
+    /// let wheel = scene.add_child(car, "wheel")?;
+    /// let mut keys = scene.keys();
+    /// assert_eq!(rt; keys.next(), Some(car));
+    /// assert_eq!(rt; keys.next(), Some(wheel));
+    /// ```
+    pub fn keys(&self) -> Keys<'_, K, T>
+        ensures { result ≡ map.keys self.now.live }
+    {
+        Keys { nodes: self.iter() }
+    }
+
+    /// Returns an iterator over the values of the nodes of all trees, in the order of
+    /// [`Scene::iter`].
+    ///
+    /// It is made in constant time. All its steps together read each slot once.
+    ///
+    /// ```
+    /// let mut scene: Scene<DefaultKey, &str> = Scene::new(alloc)?;
+    /// let car = scene.add_root("car")?;
+    /// scene.add_child(car, "wheel")?;
+    /// let mut values = scene.values();
+    /// assert_eq!(rt; values.next(), Some(&"car"));
+    /// assert_eq!(rt; values.next(), Some(&"wheel"));
+    /// ```
+    pub fn values(&self) -> Values<'_, K, T>
+        ensures { result ≡ list_map (λ e. e.1.value) (map.entries self.now.live) }
+    {
+        Values { nodes: self.iter() }
     }
 }

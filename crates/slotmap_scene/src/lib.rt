@@ -22,7 +22,8 @@
 //!   and [`Scene::reparent`] in the number of those above the new parent.
 //! - [`Scene::remove`] takes time linear in the number of nodes that it removes, and
 //!   [`Scene::descendants`] in the number of those that it lists.
-//! - [`Scene::clear`] and [`Scene::clone`] take time linear in the number of slots.
+//! - [`Scene::clear`] and [`Scene::clone`] take time linear in the number of slots. So do all steps of
+//!   [`Scene::iter`], [`Scene::keys`] or [`Scene::values`] together.
 //!
 //! ```
 //! let mut scene: Scene<DefaultKey, &str> = Scene::new(alloc)?;
@@ -50,7 +51,8 @@ ghost use Rattle.slotmap_scene.specs.Family.{children_of, is_parent, value_of};
 
 use crate::family::Nodes;
 pub use above::{Ancestors, Roots};
-pub use iter::ChildKeys;
+pub use children::ChildKeys;
+pub use iter::{Iter, Keys, Values};
 use slotmap::{DefaultKey, InsertError, Key, ReserveError};
 use slotmap_keylist::{inner, outer};
 use std::alloc::Global;
@@ -60,6 +62,7 @@ use thiserror::Error;
 
 mod above;
 mod below;
+mod children;
 mod climb;
 mod clone;
 mod family;
@@ -201,6 +204,20 @@ impl<K: Key, T: Drop> Scene<K, T> {
         ensures { result ≡ map.len self.now.live }
     {
         self.nodes.len()
+    }
+
+    /// Returns for how many nodes memory is allocated, in constant time.
+    ///
+    /// It counts the slots of nodes, of removed nodes, and those that have had no node yet.
+    ///
+    /// ```
+    /// let mut scene: Scene<DefaultKey, &str> = Scene::with_capacity_and_key(alloc, 2)?;
+    /// assert!(rt; scene.capacity() >= 2);
+    /// ```
+    pub fn capacity(&self) -> usize
+        ensures { result ≡ self.now.capacity }
+    {
+        self.nodes.capacity()
     }
 
     /// Returns whether there is no node, in constant time.

@@ -1,10 +1,10 @@
 //! A node with its links, and the changes of links: a node comes, is put between two others, or is taken
 //! out.
 
-ghost use Rattle.std.specs.Prelude.{◌≡◌, ◌<◌, ◌≤◌, IfErr, IfOk, IfSome, IsOk, OnErr, false};
+ghost use Rattle.std.specs.Prelude.{◌≡◌, ◌<◌, ◌≤◌, IfErr, IfOk, IfSome, IsOk, OnErr, true, false};
 ghost use Rattle.std.specs.FinMap as map;
-ghost use Rattle.slotmap.specs.Words.{Inserts, IsLive, IsSpent, Keeps, KeepsSpent};
-ghost use Rattle.slotmap_scene.specs.LinkedNodes.{ends_of, leaf, put_between, taken_between, with_next, with_prev};
+ghost use Rattle.slotmap.specs.Words.{Inserts, IsContent, IsLive, IsSpent, Keeps, KeepsSpent};
+ghost use Rattle.slotmap_scene.specs.LinkedNodes.{AreLive, ends_of, leaf, put_between, taken_between, with_link, with_next, with_prev};
 ghost use Rattle.slotmap_scene.specs.Refusals.{RefusesNode};
 
 use slotmap::{DefaultKey, InsertError, SlotMap};
@@ -23,12 +23,13 @@ pub(crate) struct LinkedNode<T> {
 // The nodes with their links, under their keys.
 pub(crate) type LinkedNodes<T> = SlotMap<DefaultKey, LinkedNode<T>>;
 
-// Adds a root with no children.
+// Adds a node with this parent and no children. It is in no list.
 pub(crate) fn add<T: Drop>(
     nodes: &mut LinkedNodes<T>,
     value: T,
+    parent: Option<DefaultKey>,
 ) -> Result<DefaultKey, InsertError<T>>
-    ensures adds { IfOk result (λ key. Inserts nodes.old key (leaf value) nodes.new) }
+    ensures adds { IfOk result (λ key. Inserts nodes.old key (leaf value parent) nodes.new) }
     ensures fresh { IfOk result (λ key. map.contains_key nodes.old.live key ≡ false) }
     ensures unspent { IfOk result (λ key. IsSpent nodes.old key → ⊥) }
     ensures stale { KeepsSpent nodes.old nodes.new }
@@ -39,7 +40,7 @@ pub(crate) fn add<T: Drop>(
 {
     let node = LinkedNode {
         value,
-        parent: None,
+        parent,
         children: Ends::none(),
         siblings: Link::none(),
     };
@@ -48,6 +49,22 @@ pub(crate) fn add<T: Drop>(
         Err(InsertError::Full(node)) => Err(InsertError::Full(node.value)),
         Err(InsertError::Memory(node)) => Err(InsertError::Memory(node.value)),
     }
+}
+
+// Gives a node these neighbours.
+fn set_link<T: Drop>(
+    nodes: &mut LinkedNodes<T>,
+    node: DefaultKey,
+    prev: Option<DefaultKey>,
+    next: Option<DefaultKey>,
+)
+    requires { IsLive nodes.old node }
+    ensures valid { IsContent true nodes.old }
+    ensures links { nodes.new ≡ record nodes.old { live = with_link nodes.old.live node (record { prev = prev; next = next }) } }
+{
+    let place = &mut nodes[node];
+    place.siblings.prev = prev;
+    place.siblings.next = next;
 }
 
 // Lets a node lead on to another one, or to none. Without a node, it is the start of the list of the
@@ -93,17 +110,12 @@ pub(crate) fn put_between<T: Drop>(
     node: DefaultKey,
     siblings: Link<DefaultKey>,
 )
-    requires parent { IsLive nodes.old parent }
+    requires place { AreLive nodes.old.live parent siblings }
     requires node { IsLive nodes.old node }
-    requires prev { IfSome siblings.prev (IsLive nodes.old) }
-    requires next { IfSome siblings.next (IsLive nodes.old) }
     requires fits { (ends_of nodes.old.live parent).len ≤ map.len nodes.old.live }
     ensures { nodes.new ≡ record nodes.old { live = put_between nodes.old.live parent node siblings } }
 {
-    let place = &mut nodes[node];
-    place.parent = Some(parent);
-    place.siblings.prev = siblings.prev;
-    place.siblings.next = siblings.next;
+    set_link(nodes, node, siblings.prev, siblings.next);
     set_next(nodes, parent, siblings.prev, Some(node));
     set_prev(nodes, parent, siblings.next, Some(node));
     nodes[parent].children.len += 1;
@@ -115,9 +127,7 @@ pub(crate) fn take_between<T: Drop>(
     parent: DefaultKey,
     siblings: Link<DefaultKey>,
 )
-    requires parent { IsLive nodes.old parent }
-    requires prev { IfSome siblings.prev (IsLive nodes.old) }
-    requires next { IfSome siblings.next (IsLive nodes.old) }
+    requires place { AreLive nodes.old.live parent siblings }
     requires some { 0 < (ends_of nodes.old.live parent).len }
     ensures { nodes.new ≡ record nodes.old { live = taken_between nodes.old.live parent siblings } }
 {

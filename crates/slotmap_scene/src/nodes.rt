@@ -4,7 +4,7 @@ ghost use Rattle.std.specs.Prelude.{◌≡◌, ◌↔◌, ◌<◌, ◌++◌, ◌
 ghost use Rattle.std.specs.FinMap as map;
 ghost use Rattle.slotmap.specs.Words.{Key as KeyOf, IsSpent, KeepsSpent, Inserts, Keeps, Leaves};
 ghost use Rattle.slotmap_scene.specs.Climb.{IsWithin, has_node, lacks_node};
-ghost use Rattle.slotmap_scene.specs.Family.{IsNewChild, IsScene, attached, as_root, child, children_of, forgets, value_of, with_child};
+ghost use Rattle.slotmap_scene.specs.Family.{IsMoved, IsNewChild, IsScene, as_last_child, as_root, child, children_of, forgets, value_of, with_child};
 ghost use Rattle.slotmap_scene.specs.Refusals.{RefusesNode, RefusesChild, RefusesParent};
 
 use crate::{AddError, ReparentError, Scene};
@@ -19,6 +19,7 @@ impl<K: Key, T: Drop> Scene<K, T> {
     pub fn add_root(&mut self, value: T) -> Result<K, InsertError<T>>
         ensures adds { IfOk result (λ key. Inserts self.old (K.data_of key) (child None value) self.new) }
         ensures fresh { IfOk result (λ key. lacks_node self.old.live (K.data_of key)) }
+        ensures children { IfOk result (λ key. children_of self.new.live (K.data_of key) ≡ []) }
         ensures unspent { IfOk result (λ key. IsSpent self.old (K.data_of key) → ⊥) }
         ensures stale { KeepsSpent self.old self.new }
         ensures err { IfErr result (RefusesNode self.old value) }
@@ -26,7 +27,7 @@ impl<K: Key, T: Drop> Scene<K, T> {
         ensures room { 0 < self.old.room → IsOk result }
         ensures unchanged { OnErr result (Keeps self.old self.new) }
     {
-        Ok(outer(self.nodes.insert(value)?))
+        Ok(outer(self.nodes.insert(value, None)?))
     }
 
     /// Adds a node with no children as the last child of another one, and returns its key, which no node
@@ -53,7 +54,7 @@ impl<K: Key, T: Drop> Scene<K, T> {
         if !self.nodes.contains_key(parent) {
             return Err(AddError::Gone(value));
         }
-        let key = self.nodes.insert(value)?;
+        let key = self.nodes.insert(value, Some(parent))?;
         self.nodes.attach(key, parent);
         Ok(outer(key))
     }
@@ -65,7 +66,9 @@ impl<K: Key, T: Drop> Scene<K, T> {
     /// It fails exactly if one of the two doesn't exist, or if the new parent is the node or below it. The
     /// scene is then unchanged. It allocates nothing.
     pub fn reparent(&mut self, node: K, parent: K) -> Result<(), ReparentError>
-        ensures moved { OnOk result (self.new ≡ record self.old { live = attached (as_root self.old.live (K.data_of node)) (K.data_of node) (K.data_of parent) }) }
+        ensures moved { OnOk result (self.new ≡ record self.old { live = as_last_child self.old.live (K.data_of node) (K.data_of parent) }) }
+        ensures trees { OnOk result (IsMoved self.old.live self.new.live (K.data_of node) (Some (K.data_of parent)) (λ ks. ks ++ K.data_of node ∷ [])) }
+        ensures values { (k : KeyOf) → value_of self.new.live k ≡ value_of self.old.live k }
         ensures nodes { OnOk result (has_node self.old.live (K.data_of node) × has_node self.old.live (K.data_of parent)) }
         ensures no_cycle { OnOk result (IsWithin self.old.live (K.data_of parent) (K.data_of node) → ⊥) }
         ensures stale { KeepsSpent self.old self.new }
@@ -84,8 +87,7 @@ impl<K: Key, T: Drop> Scene<K, T> {
         }
         let node = inner(node);
         let parent = inner(parent);
-        self.nodes.detach(node);
-        self.nodes.attach(node, parent);
+        self.nodes.move_below(node, parent);
         Ok(())
     }
 
@@ -95,6 +97,8 @@ impl<K: Key, T: Drop> Scene<K, T> {
     pub fn make_root(&mut self, node: K) -> bool
         ensures which { IsTrue result ↔ has_node self.old.live (K.data_of node) }
         ensures new { self.new ≡ record self.old { live = as_root self.old.live (K.data_of node) } }
+        ensures trees { IsMoved self.old.live self.new.live (K.data_of node) None (λ ks. ks) }
+        ensures values { (k : KeyOf) → value_of self.new.live k ≡ value_of self.old.live k }
         ensures stale { KeepsSpent self.old self.new }
     {
         let node = inner(node);
@@ -122,7 +126,6 @@ impl<K: Key, T: Drop> Scene<K, T> {
         if !self.nodes.contains_key(node) {
             return None;
         }
-        self.nodes.detach(node);
         Some(self.nodes.remove_tree(node))
     }
 

@@ -1,14 +1,15 @@
 //! The trees of the nodes: a root becomes a child, a child a root, and a tree is removed.
 
-ghost use Rattle.std.specs.Prelude.{◌≡◌, ◌++◌, ◌∷◌, List, Some, None};
+ghost use Rattle.std.specs.Prelude.{◌≡◌, ◌++◌, ◌∷◌, [], List, Some, None, option_map};
 ghost use Rattle.std.specs.FinMap as map;
-ghost use Rattle.slotmap.specs.Words.{Key as KeyOf, Leaves};
+ghost use Rattle.slotmap.specs.Words.{Key as KeyOf, KeepsSpent, Leaves};
 ghost use Rattle.slotmap_keylist.specs.KeyLists.{times};
 ghost use Rattle.slotmap_keylist.specs.Linked.{link_between};
 ghost use Rattle.slotmap_scene.specs.Climb.{IsWithin, has_node, lacks_node, parent_of};
-ghost use Rattle.slotmap_scene.specs.Family.{IsScene, MayLeave, as_root, attached, attached_by, around, children_of, placed, value_of};
+ghost use Rattle.slotmap_scene.specs.Family.{IsMoved, IsScene, around, as_last_child, as_root, children_of, forgets, placed, value_of, with_child, with_children_in, without_child};
 
 use crate::family::Nodes;
+use crate::links::LinkedNode;
 use slotmap::DefaultKey;
 use slotmap_keylist::Link;
 
@@ -20,13 +21,12 @@ pub(crate) enum Side {
 }
 
 impl<T: Drop> Nodes<T> {
-    // Makes a root the last child of another node.
+    // Puts a node that is in no list behind the children of another one.
     pub fn attach(&mut self, node: DefaultKey, parent: DefaultKey)
         requires node { has_node self.old.live node }
         requires parent { has_node self.old.live parent }
         requires alone { (p : KeyOf) → times node (children_of self.old.live p) ≡ 0 }
-        ensures attaches { self.new ≡ record self.old { live = attached self.old.live node parent } }
-        ensures leaves { Leaves self.old self.new }
+        ensures { self.new ≡ record self.old { live = with_child self.old.live parent node } }
     {
         let prev = self.last(parent);
         self.put_between(parent, node, Link { prev, next: None });
@@ -37,19 +37,21 @@ impl<T: Drop> Nodes<T> {
         ensures { (p : KeyOf) (before after : List KeyOf) → children_of self.now.live p ≡ before ++ sibling ∷ after
             → result ≡ link_between (around side before sibling after).0 (around side before sibling after).1 }
     {
+        let link = self.link(sibling);
         match side {
             Side::Before => Link {
-                prev: self.prev(sibling),
+                prev: link.prev,
                 next: Some(sibling),
             },
             Side::After => Link {
                 prev: Some(sibling),
-                next: self.next(sibling),
+                next: link.next,
             },
         }
     }
 
-    // Makes a root a child of a parent, right before a sibling, or right behind it.
+    // Puts a node that is in no list among the children of a parent, right before a sibling, or right
+    // behind it.
     pub fn attach_beside(
         &mut self,
         node: DefaultKey,
@@ -61,52 +63,94 @@ impl<T: Drop> Nodes<T> {
         requires parent { has_node self.old.live parent }
         requires sibling { times sibling (children_of self.old.live parent) ≡ 1 }
         requires alone { (p : KeyOf) → times node (children_of self.old.live p) ≡ 0 }
-        ensures attaches { self.new ≡ record self.old { live = attached_by self.old.live node parent (placed side sibling node) } }
-        ensures leaves { Leaves self.old self.new }
+        ensures { self.new ≡ record self.old { live = with_children_in self.old.live parent (map.get self.old.live parent) (placed side sibling node) } }
     {
         let siblings = self.place_beside(side, sibling);
         self.put_between(parent, node, siblings);
     }
 
-    // Makes a node a root.
-    pub fn detach(&mut self, node: DefaultKey)
+    // Takes a node out of the list of its parent, if it has one.
+    fn leave(&mut self, node: DefaultKey)
         requires there { has_node self.old.live node }
-        requires parent { MayLeave self.old.live node (parent_of self.old.live node) }
-        ensures detaches { self.new ≡ record self.old { live = as_root self.old.live node } }
-        ensures leaves { Leaves self.old self.new }
+        requires scene { IsScene self.old.live }
+        ensures { self.new ≡ record self.old { live = without_child self.old.live (parent_of self.old.live node) node } }
     {
         if let Some(parent) = self[node].parent {
             self.take_out(parent, node);
         }
-        self.make_root(node);
     }
 
-    // Removes a root with all that is below it, and returns its value.
+    // Makes a node a root.
+    pub fn detach(&mut self, node: DefaultKey)
+        requires there { has_node self.old.live node }
+        requires scene { IsScene self.old.live }
+        ensures detaches { self.new ≡ record self.old { live = as_root self.old.live node } }
+        ensures trees { IsMoved self.old.live self.new.live node None (λ ks. ks) }
+        ensures values { (k : KeyOf) → value_of self.new.live k ≡ value_of self.old.live k }
+        ensures scene { IsScene self.new.live }
+        ensures stale { KeepsSpent self.old self.new }
+    {
+        self.leave(node);
+        self.set_parent(node, None);
+    }
+
+    // Makes a node the last child of another one, which isn't below it.
+    pub fn move_below(&mut self, node: DefaultKey, parent: DefaultKey)
+        requires node { has_node self.old.live node }
+        requires parent { has_node self.old.live parent }
+        requires no_cycle { IsWithin self.old.live parent node → ⊥ }
+        requires scene { IsScene self.old.live }
+        ensures moved { self.new ≡ record self.old { live = as_last_child self.old.live node parent } }
+        ensures trees { IsMoved self.old.live self.new.live node (Some parent) (λ ks. ks ++ node ∷ []) }
+        ensures values { (k : KeyOf) → value_of self.new.live k ≡ value_of self.old.live k }
+        ensures scene { IsScene self.new.live }
+        ensures stale { KeepsSpent self.old self.new }
+    {
+        self.leave(node);
+        self.set_parent(node, Some(parent));
+        self.attach(node, parent);
+    }
+
+    // Removes a node that has no children, and takes it out of the list of its parent.
+    fn prune(&mut self, node: DefaultKey) -> LinkedNode<T>
+        requires there { has_node self.old.live node }
+        requires leaf { children_of self.old.live node ≡ [] }
+        requires scene { IsScene self.old.live }
+        ensures parent { parent_of self.old.live node ≡ result.parent }
+        ensures value { value_of self.old.live node ≡ Some result.value }
+        ensures live { self.new.live ≡ map.remove (without_child self.old.live (parent_of self.old.live node) node) node }
+        ensures leaves { Leaves self.old self.new }
+    {
+        self.leave(node);
+        self.remove(node)
+    }
+
+    // Removes a node with all that is below it, and returns its value.
     //
-    // It goes down to the last child of each node, which it takes out of the list, as far as a leaf. It
-    // removes the leaf, and goes on from the parent.
+    // It goes down by the last child of each node, as far as a leaf. It removes the leaf, and goes on from
+    // the parent.
     pub fn remove_tree(&mut self, root: DefaultKey) -> T
         requires there { has_node self.old.live root }
-        requires root { parent_of self.old.live root ≡ None }
         requires scene { IsScene self.old.live }
         ensures value { value_of self.old.live root ≡ Some result }
         ensures removed { (k : KeyOf) → IsWithin self.old.live k root → lacks_node self.new.live k }
-        ensures others { (k : KeyOf) → (IsWithin self.old.live k root → ⊥) → map.get self.new.live k ≡ map.get self.old.live k }
+        ensures others { (k : KeyOf) → (IsWithin self.old.live k root → ⊥) → map.get self.new.live k ≡ option_map (forgets root) (map.get self.old.live k) }
+        ensures scene { IsScene self.new.live }
         ensures leaves { Leaves self.old self.new }
     {
         let mut at = root;
         loop {
             match self.last(at) {
-                Some(child) => {
-                    self.take_out(at, child);
-                    at = child;
-                }
+                Some(child) => at = child,
                 None => {
-                    let leaf = self.remove(at);
-                    match leaf.parent {
-                        Some(parent) => at = parent,
-                        None => return leaf.value,
+                    let leaf = self.prune(at);
+                    if at == root {
+                        return leaf.value;
                     }
+                    let Some(parent) = leaf.parent else {
+                        unreachable!()
+                    };
+                    at = parent;
                 }
             }
         }

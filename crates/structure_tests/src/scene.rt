@@ -24,6 +24,38 @@ fn parents_and_children(rt: HostRuntime) -> Result<(), Fail> {
 }
 
 #[test]
+fn all_nodes(rt: HostRuntime) -> Result<(), Fail> {
+    let (scene, top, first, second) = family(rt.alloc())?;
+    let mut nodes = scene.iter();
+    assert_eq!(rt; nodes.len(), 3);
+    assert_eq!(rt; nodes.next(), Some((top, &1)));
+    assert_eq!(rt; nodes.next(), Some((first, &2)));
+    let mut keys = scene.keys();
+    assert_eq!(rt; keys.size_hint(), (3, Some(3)));
+    keys.next();
+    keys.next();
+    assert_eq!(rt; keys.next(), Some(second));
+    assert_eq!(rt; keys.next(), None);
+    Ok(())
+}
+
+#[test]
+fn all_values(rt: HostRuntime) -> Result<(), Fail> {
+    let (scene, _, _, _) = family(rt.alloc())?;
+    let mut values = scene.values();
+    values.next();
+    assert_eq!(rt; values.len(), 2);
+    assert_eq!(rt; values.next(), Some(&2));
+    let mut sum = 0;
+    for (_, value) in &scene {
+        sum += *value;
+    }
+    assert_eq!(rt; sum, 6);
+    assert!(rt; scene.capacity() >= 3);
+    Ok(())
+}
+
+#[test]
 fn moves(rt: HostRuntime) -> Result<(), Fail> {
     let (mut scene, top, first, second) = family(rt.alloc())?;
     assert!(rt; scene.reparent(second, first).is_ok());

@@ -1,20 +1,19 @@
 use Rattle.std.proofs.Common.{◌∷◌, ◌++◌, [], sym, ◌∙◌}
-use Rattle.slotmap.proofs.Callers.{spent_leaves}
 use Rattle.slotmap_keylist.proofs.Counts.{times_pushed}
-use Rattle.slotmap_scene.proofs.Moved.{came_alone, child_gained, child_inserts, child_scene}
+use Rattle.slotmap_scene.proofs.Moved.{came_alone, child_gained, child_inserts, child_scene, child_spent}
 use Rattle.slotmap_scene.proofs.Scene.add_child.Goals as goal
 
 pub attach-requires-clause-alone : goal.attach-requires-clause-alone
-attach-requires-clause-alone g c = came_alone c.self.inside.nodes c.insert.new.self c.in_ok-key.key c.args.value c.in_ok-key.ensures.fresh c.in_ok-key.ensures.adds c.self.invariant
+attach-requires-clause-alone g c = came_alone c.self.inside.nodes c.insert.new.self c.self.invariant c.in_ok-key.key c.inner-parent.result c.args.value c.in_ok-key.ensures.fresh (sym c.contains_key.ensures.value ∙ c.if-not-contains_key.false) c.in_ok-key.ensures.adds
 
 pub invariant_of-self-2 : goal.invariant_of-self-2
-invariant_of-self-2 g c = child_scene c.self.inside.nodes c.insert.new.self c.in_ok-key.key c.args.value c.in_ok-key.ensures.fresh c.in_ok-key.ensures.adds c.attach.new.self c.inner-parent.result (λ ks. ks ++ c.in_ok-key.key ∷ []) c.attach.ensures.attaches (sym c.contains_key.ensures.value ∙ c.if-not-contains_key.false) (λ x ks. times_pushed x ks c.in_ok-key.key) c.self.invariant
+invariant_of-self-2 g c = child_scene c.self.inside.nodes c.insert.new.self c.self.invariant c.in_ok-key.key c.inner-parent.result c.args.value c.in_ok-key.ensures.fresh (sym c.contains_key.ensures.value ∙ c.if-not-contains_key.false) c.in_ok-key.ensures.adds c.attach.new.self (λ ks. ks ++ c.in_ok-key.key ∷ []) c.attach.ensures (λ x ks. times_pushed x ks c.in_ok-key.key)
 
 pub returns-clause-adds : goal.returns-clause-adds
-returns-clause-adds g c = rw (← c.self.view_is, c.outer.ensures, ← c.inner-parent.ensures) (child_inserts c.self.inside.nodes c.insert.new.self c.in_ok-key.key c.args.value c.in_ok-key.ensures.fresh c.in_ok-key.ensures.adds c.attach.new.self c.inner-parent.result (λ ks. ks ++ c.in_ok-key.key ∷ []) c.attach.ensures.attaches (sym c.contains_key.ensures.value ∙ c.if-not-contains_key.false))
+returns-clause-adds g c = rw (← c.self.view_is, c.outer.ensures, ← c.inner-parent.ensures) (child_inserts c.self.inside.nodes c.insert.new.self c.self.invariant c.in_ok-key.key c.inner-parent.result c.args.value c.in_ok-key.ensures.fresh (sym c.contains_key.ensures.value ∙ c.if-not-contains_key.false) c.in_ok-key.ensures.adds c.attach.new.self (λ ks. ks ++ c.in_ok-key.key ∷ []) c.attach.ensures)
 
 pub returns-clause-gains : goal.returns-clause-gains
-returns-clause-gains g c = rw (← c.self.view_is, c.outer.ensures, ← c.inner-parent.ensures) (child_gained c.self.inside.nodes c.insert.new.self c.in_ok-key.key c.args.value c.in_ok-key.ensures.fresh c.in_ok-key.ensures.adds c.attach.new.self c.inner-parent.result (λ ks. ks ++ c.in_ok-key.key ∷ []) c.attach.ensures.attaches (sym c.contains_key.ensures.value ∙ c.if-not-contains_key.false))
+returns-clause-gains g c = rw (← c.self.view_is, c.outer.ensures, ← c.inner-parent.ensures) (child_gained c.self.inside.nodes c.insert.new.self c.self.invariant c.in_ok-key.key c.inner-parent.result c.args.value c.in_ok-key.ensures.fresh (sym c.contains_key.ensures.value ∙ c.if-not-contains_key.false) c.in_ok-key.ensures.adds c.attach.new.self (λ ks. ks ++ c.in_ok-key.key ∷ []) c.attach.ensures)
 
 pub returns-clause-stale : goal.returns-clause-stale
-returns-clause-stale g c k spent = spent_leaves _ _ c.attach.ensures.leaves k (c.insert.ensures.stale k (rw (← c.self.view_is) at spent))
+returns-clause-stale g c = rw (← c.self.view_is) (child_spent c.self.inside.nodes c.insert.new.self c.self.invariant c.in_ok-key.key c.inner-parent.result c.args.value c.in_ok-key.ensures.fresh (sym c.contains_key.ensures.value ∙ c.if-not-contains_key.false) c.in_ok-key.ensures.adds c.attach.new.self (λ ks. ks ++ c.in_ok-key.key ∷ []) c.attach.ensures c.insert.ensures.stale)

@@ -1,4 +1,4 @@
-use Rattle.slotmap_scene.proofs.AboveLemmas.{goes_up}
+use Rattle.slotmap_scene.proofs.Climbs.{goes_up}
 use Rattle.slotmap_scene.proofs.Scene.ancestors.Goals as goal
 
 pub invariant_of-result : goal.invariant_of-result

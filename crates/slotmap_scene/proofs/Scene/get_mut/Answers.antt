@@ -1,4 +1,4 @@
-use Rattle.slotmap_scene.proofs.Families.{scene_with_value}
+use Rattle.slotmap_scene.proofs.Moved.{scene_with_value}
 use Rattle.slotmap_scene.proofs.Scene.get_mut.Goals as goal
 
 pub invariant_of-self-lent : goal.invariant_of-self-lent

@@ -1,7 +1,7 @@
 use Rattle.std.proofs.Common.{sym, ap, subst}
 use Rattle.slotmap_scene.specs.Climb.{parent_in}
 use Rattle.slotmap_scene.specs.Above.{HasRoot}
-use Rattle.slotmap_scene.proofs.AboveLemmas.{parent_rooted}
+use Rattle.slotmap_scene.proofs.Climbs.{parent_rooted}
 use Rattle.slotmap_scene.proofs.Scene.parent_key.Goals as goal
 
 pub returns-clause-rooted : goal.returns-clause-rooted

@@ -4,7 +4,7 @@ use Rattle.std.proofs.Math.IntN.{ℤ, ◌+ℤ◌, +ℤ_assoc}
 use Rattle.std.proofs.lemmas.Int.{int_wrap-add_right}
 use Rattle.slotmap_scene.specs.Offset.{shifted}
 use Rattle.slotmap_scene.specs.WorldValue.{IsWorld}
-use Rattle.slotmap_scene.proofs.Worlds.{world_added_root, world_added_below, world_is}
+use Rattle.slotmap_scene.proofs.Worlds.{world_added_root, world_added_child, world_is}
 use Rattle.structure_examples.proofs.arm.hand_of_arm.Goals as goal
 
 wrap_three : (a b c : ℤ) → int_wrap w32 (a +ℤ int_wrap w32 (b +ℤ c)) ≡ int_wrap w32 (a +ℤ b +ℤ c)
@@ -17,11 +17,7 @@ returns c =
     let tip = c.in_ok-tip.ensures in
     let at_upper : IsWorld shifted c.add_root.new.self.live c.in_ok-upper.upper c.args.shoulder =
     subst (λ m. IsWorld shifted m c.in_ok-upper.upper c.args.shoulder) (sym upper.adds.live) (world_added_root _ _ c.args.shoulder shifted) in
-    let at_lower : IsWorld shifted c.add_child.new.self.live c.in_ok-lower.lower (shifted c.args.elbow c.args.shoulder) =
-    subst (λ m. IsWorld shifted m c.in_ok-lower.lower (shifted c.args.elbow c.args.shoulder)) (sym lower.adds.live)
-    (world_added_below _ _ c.args.elbow lower.fresh shifted _ _ at_upper) in
-    let at_tip : IsWorld shifted c.add_child-2.new.self.live c.in_ok-tip.tip (shifted c.args.hand (shifted c.args.elbow c.args.shoulder)) =
-    subst (λ m. IsWorld shifted m c.in_ok-tip.tip (shifted c.args.hand (shifted c.args.elbow c.args.shoulder))) (sym tip.adds.live)
-    (world_added_below _ _ c.args.hand tip.fresh shifted _ _ at_lower) in
+    let at_lower = world_added_child _ _ _ _ lower.gains lower.fresh shifted _ at_upper in
+    let at_tip = world_added_child _ _ _ _ tip.gains tip.fresh shifted _ at_lower in
     world_is _ shifted _ _ _ at_tip c.world.ensures.some c.world.ensures.none
     ∙ (λ i. Some (record { x = wrap_three c.args.hand.x c.args.elbow.x c.args.shoulder.x i; y = wrap_three c.args.hand.y c.args.elbow.y c.args.shoulder.y i }))

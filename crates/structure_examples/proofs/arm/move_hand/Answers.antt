@@ -1,15 +1,13 @@
-use Rattle.std.proofs.Common.{◌≡◌, Some, sym, ap, subst, ◌∙◌, rules}
+use Rattle.std.proofs.Common.{◌≡◌, Some, sym, ap, ◌∙◌, rules}
 use Rattle.slotmap_scene.specs.Family.{value_of}
 use Rattle.slotmap_scene.specs.Offset.{shifted}
-use Rattle.slotmap_scene.specs.WorldValue.{IsWorld}
 use Rattle.slotmap_scene.proofs.Worlds.{one_world, world_moved}
 use Rattle.structure_examples.proofs.arm.move_hand.Goals as goal
 
 pub prove_eq-unreachable-requires : goal.prove_eq-unreachable-requires
 prove_eq-unreachable-requires c =
     let own : value_of c.args.arm.now.live c.args.hand ≡ Some c.in_ok-shift.field-0.now = sym c.in_ok-shift.ensures in
-    let kept = world_moved _ c.args.hand c.args.piece c.in-Ok.ensures.nodes.0 c.in-Ok.ensures.no_cycle shifted _ c.in_ok-base.base own c.in_ok-base.ensures.some in
-    let here = subst (λ m. IsWorld shifted m c.args.hand (shifted c.in_ok-shift.field-0.now c.in_ok-base.base)) (sym (ap (λ m. m.live) c.in-Ok.ensures.moved)) kept in
+    let here = world_moved _ _ c.args.hand c.args.piece c.in-Ok.ensures.trees c.in-Ok.ensures.values c.in-Ok.ensures.no_cycle shifted _ c.in_ok-base.base own c.in_ok-base.ensures.some in
     let is = one_world _ shifted c.args.hand c.in_ok-place.place _ c.in_ok-place.ensures.some here in
     let same : c.in_ok-place.place ≡ c.under.result = is ∙ sym c.under.ensures in
     let x : c.in_ok-place.place.x ≡ c.under.result.x = ap (λ o. o.x) same in

@@ -2,7 +2,7 @@ use Rattle.std.proofs.Common.{◌∷◌, sym, ap, subst, ◌∙◌, length, arit
 use Rattle.std.specs.FinMap as map
 use Rattle.slotmap_scene.specs.Climb.{parent_in}
 use Rattle.slotmap_scene.specs.Above.{HasRoot, keys_up}
-use Rattle.slotmap_scene.proofs.AboveLemmas.{root_above, step_up}
+use Rattle.slotmap_scene.proofs.Climbs.{root_above, step_up}
 use Rattle.slotmap_scene.proofs.above.AncestorsIterator.next.Goals as goal
 
 pub invariant_of-self : goal.invariant_of-self

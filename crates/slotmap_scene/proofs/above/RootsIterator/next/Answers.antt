@@ -1,7 +1,7 @@
 use Rattle.std.proofs.Common.{not, sym, ap, ◌∙◌, length, arith}
 use Rattle.slotmap_scene.specs.LinkedNodes.{linked_roots}
 use Rattle.slotmap_scene.specs.declared.links.LinkedNode.{LinkedNode}
-use Rattle.slotmap_scene.proofs.AboveLemmas.{root_first, root_passed}
+use Rattle.slotmap_scene.proofs.Climbs.{root_first, root_passed}
 use Rattle.slotmap_scene.proofs.above.RootsIterator.next.Goals as goal
 
 pub loop-entry-init : goal.loop-entry-init

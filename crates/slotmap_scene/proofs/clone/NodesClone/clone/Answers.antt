@@ -1,4 +1,4 @@
-use Rattle.slotmap_scene.proofs.ShownChanges.{copied_woven, copied_shown}
+use Rattle.slotmap_scene.proofs.Showing.{copied_woven, copied_shown}
 use Rattle.slotmap_scene.proofs.clone.NodesClone.clone.Goals as goal
 
 pub invariant_of-result : goal.invariant_of-result

@@ -1,7 +1,7 @@
 use Rattle.std.proofs.Common.{arith}
 use Rattle.slotmap_keylist.proofs.Linking.{split_at}
-use Rattle.slotmap_scene.specs.Family.{around, children_of}
-use Rattle.slotmap_scene.proofs.Placing.{attached_side, side_place}
+use Rattle.slotmap_scene.specs.Family.{around, children_of, placed}
+use Rattle.slotmap_scene.proofs.Placing.{side_place, side_put}
 use Rattle.slotmap_scene.proofs.family.Nodes.attach_beside.Goals as goal
 
 pub put_between-requires-clause-place : goal.put_between-requires-clause-place
@@ -13,9 +13,10 @@ put_between-requires-clause-place g c =
       side_place nodes c.args.parent c.args.side c.args.sibling parts.0 parts.1 c.place_beside-siblings.result parts.2 (c.place_beside-siblings.ensures c.args.parent parts.0 parts.1 parts.2),
     )
 
-pub returns-clause-attaches : goal.returns-clause-attaches
-returns-clause-attaches g c =
+pub returns : goal.returns
+returns g c =
     let nodes = c.args.self.now.live in
     let parts = split_at c.args.sibling (children_of nodes c.args.parent) (let once = c.requires.sibling in omega arith) in
-    attached_side c.args.self.now c.put_between.new.self c.args.node c.args.parent c.place_beside-siblings.result c.put_between.ensures.puts c.args.side c.args.sibling parts.0 parts.1 parts.2 c.requires.sibling
+    c.put_between.ensures _ _ (placed c.args.side c.args.sibling c.args.node)
     (side_place nodes c.args.parent c.args.side c.args.sibling parts.0 parts.1 c.place_beside-siblings.result parts.2 (c.place_beside-siblings.ensures c.args.parent parts.0 parts.1 parts.2))
+    (side_put nodes c.args.parent c.args.side c.args.sibling c.args.node parts.0 parts.1 parts.2 c.requires.sibling)

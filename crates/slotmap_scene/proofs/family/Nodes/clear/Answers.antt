@@ -1,5 +1,4 @@
-use Rattle.slotmap_scene.proofs.Showing.{nodes_content, nodes_leave}
-use Rattle.slotmap_scene.proofs.ShownChanges.{shown_none, woven_none}
+use Rattle.slotmap_scene.proofs.Showing.{nodes_content, nodes_leave, shown_none, woven_none}
 use Rattle.slotmap_scene.proofs.family.Nodes.clear.Goals as goal
 
 pub invariant_of-self : goal.invariant_of-self

@@ -2,14 +2,14 @@ use Rattle.std.proofs.Common.{◌∙◌}
 use Rattle.std.proofs.lemmas.Result.{IfOk-weaker}
 use Rattle.slotmap_keylist.proofs.Shown.{spent_shown}
 use Rattle.slotmap_scene.specs.LinkedNodes.{shown_nodes}
-use Rattle.slotmap_scene.proofs.Showing.{added_inserts, added_keeps, added_woven, nodes_keep_spent, refuses_shown, shown_keys, shown_len}
+use Rattle.slotmap_scene.proofs.Showing.{added, nodes_keep_spent, refuses_shown, shown_keys, shown_len}
 use Rattle.slotmap_scene.proofs.family.Nodes.insert.Goals as goal
 
 pub invariant_of-self : goal.invariant_of-self
-invariant_of-self g c = added_woven c.self.inside.map c.add.new.nodes c.self.invariant c.args.value c.add.result c.add.ensures.adds c.add.ensures.fresh c.add.ensures.unchanged
+invariant_of-self g c = (added c.self.inside.map c.add.new.nodes c.self.invariant c.args.value c.args.parent c.add.result c.add.ensures.adds c.add.ensures.fresh c.add.ensures.unchanged).0
 
 pub returns-clause-adds : goal.returns-clause-adds
-returns-clause-adds g c = rw (← c.self.view_is) (added_inserts c.self.inside.map c.add.new.nodes c.self.invariant c.args.value c.add.result c.add.ensures.adds c.add.ensures.fresh)
+returns-clause-adds g c = rw (← c.self.view_is) (added c.self.inside.map c.add.new.nodes c.self.invariant c.args.value c.args.parent c.add.result c.add.ensures.adds c.add.ensures.fresh c.add.ensures.unchanged).1
 
 pub returns-clause-fresh : goal.returns-clause-fresh
 returns-clause-fresh g c = rw (← c.self.view_is) (IfOk-weaker c.add.result _ _ (λ k fresh. shown_keys c.self.inside.map.live k ∙ fresh) c.add.ensures.fresh)
@@ -26,4 +26,4 @@ pub returns-clause-err : goal.returns-clause-err
 returns-clause-err g c = rw (← c.self.view_is) (refuses_shown c.self.inside.map c.add.new.nodes c.args.value c.add.result c.add.ensures.err)
 
 pub returns-clause-unchanged : goal.returns-clause-unchanged
-returns-clause-unchanged g c = rw (← c.self.view_is) (added_keeps c.self.inside.map c.add.new.nodes c.add.result c.add.ensures.unchanged)
+returns-clause-unchanged g c = rw (← c.self.view_is) (added c.self.inside.map c.add.new.nodes c.self.invariant c.args.value c.args.parent c.add.result c.add.ensures.adds c.add.ensures.fresh c.add.ensures.unchanged).2

@@ -1,7 +1,6 @@
 use Rattle.std.proofs.Common.{true, is_some, sym, ap}
 use Rattle.slotmap.proofs.Callers.{leaves_by_removal}
-use Rattle.slotmap_scene.proofs.Showing.{nodes_leave}
-use Rattle.slotmap_scene.proofs.Shows.{live_is, remove_live, remove_value, remove_woven}
+use Rattle.slotmap_scene.proofs.Showing.{nodes_leave, live_is, remove_live, remove_value, remove_woven}
 use Rattle.slotmap_scene.proofs.family.Nodes.remove.Goals as goal
 
 pub unreachable-requires : goal.unreachable-requires

@@ -3,9 +3,8 @@ use Rattle.slotmap.specs.Words.{Content}
 use Rattle.slotmap.proofs.Callers.{same_lent, same_unlent}
 use Rattle.slotmap_scene.specs.Node.{Node}
 use Rattle.slotmap_scene.specs.Family.{with_value}
-use Rattle.slotmap_scene.specs.LinkedNodes.{shown_scene}
-use Rattle.slotmap_scene.proofs.Showing.{shown_value, value_in}
-use Rattle.slotmap_scene.proofs.ShownChanges.{own_woven, own_shown}
+use Rattle.slotmap_scene.specs.LinkedNodes.{shown_scene, value_in}
+use Rattle.slotmap_scene.proofs.Showing.{shown_value, own_woven, own_shown}
 use Rattle.slotmap_scene.proofs.family.Nodes.value_mut.Goals as goal
 
 pub invariant_of-self-lent : goal.invariant_of-self-lent

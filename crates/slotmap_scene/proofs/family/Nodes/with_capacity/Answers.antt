@@ -1,4 +1,4 @@
-use Rattle.slotmap_scene.proofs.ShownChanges.{shown_none, woven_none}
+use Rattle.slotmap_scene.proofs.Showing.{shown_none, woven_none}
 use Rattle.slotmap_scene.proofs.family.Nodes.with_capacity.Goals as goal
 
 pub invariant_of-result : goal.invariant_of-result

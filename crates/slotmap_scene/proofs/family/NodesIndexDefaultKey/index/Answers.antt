@@ -1,5 +1,4 @@
-use Rattle.slotmap_scene.proofs.Showing.{seen_there}
-use Rattle.slotmap_scene.proofs.Shows.{live_is}
+use Rattle.slotmap_scene.proofs.Showing.{seen_there, live_is}
 use Rattle.slotmap_scene.proofs.family.NodesIndexDefaultKey.index.Goals as goal
 
 pub index-requires : goal.index-requires
