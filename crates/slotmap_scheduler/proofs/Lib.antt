@@ -1,3 +1,4 @@
+pub mod Callers
 pub mod Copied
 pub mod Gaps
 pub mod Handles
