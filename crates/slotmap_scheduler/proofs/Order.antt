@@ -1,193 +1,172 @@
 -- How a change of the jobs changes the order in which they are returned.
-use Rattle.std.proofs.Common.{◌≡◌, ℕ, ◌<◌, Bool, true, false, cond, not, List, [], ◌∷◌, Some, None, refl, sym, ap, subst, ◌∙◌, inl, inr, arith}
+use Rattle.std.proofs.Common.{◌≡◌, ◌≢◌, ℕ, ◌+◌, ◌<◌, ◌≤◌, false, cond, List, [], ◌∷◌, Some, None, is_some, length, refl, sym, ap, ◌∙◌, arith}
 use Rattle.std.specs.Prelude.{map as list_map, nat_lt, option_map}
-use Rattle.std.specs.List.{filter}
-use Rattle.std.specs.declared.cmp.Ordering.TheVariants.{Less, Equal, Greater}
-use Rattle.std.specs.Ordering.{nat_cmp, ordering_then, is_lt, eq_by_cmp}
+use Rattle.std.specs.List.{All, AllByRecursion}
+use Rattle.std.specs.declared.cmp.Ordering.TheVariants.{Less}
+use Rattle.std.specs.Ordering.{is_lt, eq_by_cmp}
 use Rattle.std.specs.FinMap as map
 use Rattle.std.specs.FinMap.Entries.{put, by_order}
 use Rattle.std.proofs.lemmas.Bool.Decides.{nat_tests}
+use Rattle.std.proofs.lemmas.List.{length-map, nil_from_length}
+use Rattle.std.proofs.lemmas.List.Elements.{All-map, All-from_recursion}
 use Rattle.slotmap.specs.Words.{Key, key_cmp}
-use Rattle.slotmap.proofs.Callers.{keys_total, exact_keys, tied, itself, get_after_insert, get_after_remove, get-insert_here, get-insert_other}
-use Rattle.slotmap_scheduler.specs.declared.Job.{Job}
-use Rattle.slotmap_scheduler.specs.Heap.{Turn, turn_cmp, Jobs, unplaced}
-use Rattle.slotmap_scheduler.specs.Schedule.{in_turn, without, by_turn, waiting_of, HasTurn, IsByTurn}
-use Rattle.slotmap_scheduler.proofs.Turns.{exact_turns, turns_total, here, elsewhere, left, apart, entries_removed, AllOf, all_of, Turns, seen_of, is_by_turn, by_turn_is, not_some}
+use Rattle.slotmap.proofs.Callers.{keys_total, exact_keys, alike_or_apart, same_or_other, tied, itself, get_after_insert, get_after_remove, len_removed}
+use Rattle.slotmap_scheduler.specs.Timed.{Turn, turn_cmp}
+use Rattle.slotmap_scheduler.specs.Inverse.{IsInverse}
+use Rattle.slotmap_scheduler.specs.Schedule.{job_of, in_turn, without, with_job}
+use Rattle.slotmap_scheduler.specs.Timed.{Timed, by_turn, seen, waiting_of, InOrder}
+use Rattle.slotmap_scheduler.proofs.Inverse.{put as inverse_put, dropped}
+use Rattle.slotmap_scheduler.proofs.Sorted.{none_there, all_of, entries_put, insert_same, puts, drops}
+use Rattle.slotmap_scheduler.proofs.Timed.{exact_turns, turns_total, in_order}
+
+-- a turn with the highest number is behind all of its time
+last_turn : {A : Type 0} (time count u v : ℕ) → v < count → (a b c : A) → by_order (turn_cmp (time, count) (u, v)) a b c ≡ cond (nat_lt time u) a c
+last_turn time count u v less a b c = grind (arith, nat_tests)
+
+least_turn : (t u : Turn) → t ≢ u → is_lt (turn_cmp u t) ≡ false → turn_cmp t u ≡ Less
+least_turn t u other not_before = grind (arith, nat_tests, exact_turns t u)
+
+pub time_up_to : (t u : Turn) → is_lt (turn_cmp u t) ≡ false → t.0 ≤ u.0
+time_up_to t u not_before = grind (arith, nat_tests)
 
 module _ {T : Type 0} where
-  pub no_job : (k : Key) (j : Job T) → map.get (map.empty {X = Job T} {R = key_cmp}) k ≡ Some j → ⊥
-  no_job k j there = not_some j (sym (map.get-empty key_cmp k) ∙ there)
+  -- a job among others, which are those of other handles
+  module _ (k : Key) where
+    abbrev IsOther : Turn × (Key × T) → Type 0
+    IsOther e = k ≢ e.1.0
 
-  no_turn : (t : Turn) (x : Key × (ℕ × T)) → map.get (map.empty {X = Key × (ℕ × T)} {R = turn_cmp}) t ≡ Some x → ⊥
-  no_turn t x there = not_some x (sym (map.get-empty turn_cmp t) ∙ there)
+    apart : (e : Turn × (Key × T)) → IsOther e → eq_by_cmp key_cmp k e.1.0 ≡ false
+    apart e other = grind (arith, tied keys_total exact_keys k e.1.0)
 
-  pub none_by_turn : IsByTurn (map.empty {X = Job T} {R = key_cmp}) map.empty
-  none_by_turn = record {
-    has = λ t x there. absurd (no_turn t x there);
-    all = λ t x h. absurd (no_job x.0 _ h.found);
-  }
+    none_found : (es : List (Turn × (Key × T))) → AllByRecursion IsOther es → job_of k (list_map seen es) ≡ None
+    none_found [] all = refl
+    none_found (e ∷ es) all = rw (apart e all.0) (none_found es all.1)
 
-  module _ (jobs : Jobs T) (m : Turns T) (is : IsByTurn jobs m) where
-    -- one more job
-    pub added : (k : Key) (j : Job T) → map.get jobs k ≡ None → map.get m j.turn ≡ None → IsByTurn (map.insert jobs k j) (map.insert m j.turn (seen_of k j))
-    added k j new free = record {
-      has = λ t x there. elim (get_after_insert turns_total exact_turns m j.turn (seen_of k j) t x there) [
-        | inl at ↦ subst (λ y. HasTurn (map.insert jobs k j) t y) (sym at.1) (record {
-          place = j.place;
-          found = get-insert_here jobs k j ∙ ap (λ (u : Turn). Some (record { turn = u; place = j.place; job = j.job })) (sym at.0);
-          time = ap (λ (u : Turn). u.0) (sym at.0);
-        })
-        | inr at ↦ (let h = is.has t x at.1 in record {
-          place = h.place;
-          found = get-insert_other jobs k j x.0 (λ same. not_some _ (sym new ∙ ap (map.get jobs) (sym same) ∙ h.found)) ∙ h.found;
-          time = h.time;
-        })
-      ];
-      all = λ t x h. elim (get_after_insert keys_total exact_keys jobs k j x.0 _ h.found) [
-        | inl at ↦ (let turn : t ≡ j.turn = ap (λ (i : Job T). i.turn) at.1 in
-            let job : x.1.1 ≡ j.job = ap (λ (i : Job T). i.job) at.1 in
-            ap (map.get (map.insert m j.turn (seen_of k j))) turn ∙ here turns_total exact_turns m j.turn (seen_of k j)
-            ∙ (λ i. Some (sym at.0 i, (sym (h.time ∙ ap (λ (u : Turn). u.0) turn) i, sym job i))))
-        | inr at ↦ (let there = is.all t x (record { place = h.place; found = at.1; time = h.time }) in
-            elsewhere turns_total exact_turns m j.turn (seen_of k j) t (λ same. not_some x (sym free ∙ ap (map.get m) (sym same) ∙ there)) ∙ there)
-      ];
-    }
+    all_kept : (es : List (Turn × (Key × T))) → AllByRecursion IsOther es → without k (list_map seen es) ≡ list_map seen es
+    all_kept [] all = refl
+    all_kept (e ∷ es) all = rw (apart e all.0) (ap (λ l. seen e ∷ l) (all_kept es all.1))
 
-    -- one job less
-    pub removed : (k : Key) (j : Job T) → map.get jobs k ≡ Some j → IsByTurn (map.remove jobs k) (map.remove m j.turn)
-    removed k j at = record {
-      has = λ t x there. (let before = get_after_remove turns_total exact_turns m j.turn t x there in
-          let h = is.has t x before.1 in
-          record {
-            place = h.place;
-            found = left keys_total exact_keys jobs k x.0 (λ same. before.0 (ap (λ (i : Job T). i.turn) (let e = sym h.found ∙ ap (map.get jobs) same ∙ at in let s : record { turn = t; place = h.place; job = x.1.1 } ≡ j = cc in s))) ∙ h.found;
-            time = h.time;
-          });
-      all = λ t x h. (let before = get_after_remove keys_total exact_keys jobs k x.0 _ h.found in
-          let there = is.all t x (record { place = h.place; found = before.1; time = h.time }) in
-          left turns_total exact_turns m j.turn t (λ same. before.0 (let mine = is.all j.turn (seen_of k j) (record { place = j.place; found = at; time = refl }) in
-          let both = sym there ∙ ap (map.get m) same ∙ mine in let e : x ≡ seen_of k j = cc in ap (λ (y : Key × (ℕ × T)). y.0) e)) ∙ there);
-    }
+    module _ (t : Turn) (job : T) where
+      put_found : (es : List (Turn × (Key × T))) → AllByRecursion IsOther es → job_of k (list_map seen (put turn_cmp t (k, job) es)) ≡ Some (t.0, job)
+      put_found [] all = grind (arith, itself keys_total exact_keys k)
+      put_found (e ∷ es) all = grind (arith, itself keys_total exact_keys k, apart e all.0, put_found es all.1)
 
-    -- only places have changed
-    pub kept : (new : Jobs T) → ((k : Key) → option_map unplaced (map.get new k) ≡ option_map unplaced (map.get jobs k)) → IsByTurn new m
-    kept new same = record {
-      has = λ t x there. (let h = is.has t x there in
-          elim (map.get new x.0) as (λ o. map.get new x.0 ≡ o → HasTurn new t x) [
-            | None ↦ λ none. absurd (let e = ap (option_map unplaced) (sym none) ∙ same x.0 ∙ ap (option_map unplaced) h.found in cc)
-            | Some j ↦ λ some. (let e = ap (option_map unplaced) (sym some) ∙ same x.0 ∙ ap (option_map unplaced) h.found in
-                let u : unplaced j ≡ (t, x.1.1) = cc in
-                record { place = j.place; found = some ∙ (λ i. Some (record { turn = (u i).0; place = j.place; job = (u i).1 })); time = h.time })
-          ] refl);
-      all = λ t x h. elim (map.get jobs x.0) as (λ o. map.get jobs x.0 ≡ o → map.get m t ≡ Some x) [
-        | None ↦ λ none. absurd (let e = ap (option_map unplaced) (sym none) ∙ sym (same x.0) ∙ ap (option_map unplaced) h.found in cc)
-        | Some j ↦ λ some. (let e = ap (option_map unplaced) (sym some) ∙ sym (same x.0) ∙ ap (option_map unplaced) h.found in
-            let u : unplaced j ≡ (t, x.1.1) = cc in
-            is.all t x (record { place = j.place; found = some ∙ (λ i. Some (record { turn = (u i).0; place = j.place; job = (u i).1 })); time = h.time }))
-      ] refl;
-    }
+      put_with_job : (w : T) (es : List (Turn × (Key × T))) → AllByRecursion IsOther es → with_job k w (list_map seen (put turn_cmp t (k, job) es)) ≡ list_map seen (put turn_cmp t (k, w) es)
+      put_with_job w [] all = grind (arith, itself keys_total exact_keys k)
+      put_with_job w (e ∷ es) all = grind (arith, itself keys_total exact_keys k, apart e all.0, put_with_job w es all.1)
 
-lt_less : (a b : ℕ) → nat_cmp a b ≡ Less → nat_lt a b ≡ true
-lt_less a b is = grind (arith, nat_tests)
+      put_without : (es : List (Turn × (Key × T))) → AllByRecursion IsOther es → AllByRecursion (λ (e : Turn × (Key × T)). t ≢ e.0) es → without k (list_map seen (put turn_cmp t (k, job) es)) ≡ list_map seen es
+      put_without [] all turns = grind (arith, itself keys_total exact_keys k)
+      put_without (e ∷ es) all turns = grind (arith, itself keys_total exact_keys k, apart e all.0, all_kept es all.1, put_without es all.1 turns.1, exact_turns t e.0, turns.0)
 
-lt_equal : (a b : ℕ) → nat_cmp a b ≡ Equal → nat_lt a b ≡ false
-lt_equal a b is = grind (arith, nat_tests)
+  put_last : (time count : ℕ) (k : Key) (job : T) (es : List (Turn × (Key × T))) → AllByRecursion (λ (e : Turn × (Key × T)). e.0.1 < count) es
+      → list_map seen (put turn_cmp (time, count) (k, job) es) ≡ in_turn (k, (time, job)) (list_map seen es)
+  put_last time count k job [] all = refl
+  put_last time count k job (e ∷ es) all = grind (arith, last_turn {A = List (Turn × (Key × T))} time count e.0.0 e.0.1 all.0, put_last time count k job es all.1)
 
-lt_greater : (a b : ℕ) → nat_cmp a b ≡ Greater → nat_lt a b ≡ false
-lt_greater a b is = grind (arith, nat_tests)
+  module _ (jobs : Timed T) (count : ℕ) (is : InOrder jobs count) where
+    free : (time : ℕ) → map.get (by_turn jobs) (time, count) ≡ None
+    free time = none_there _ (λ x there. let less = is.numbered x.0 (time, count) x.1 (is.turns.from (time, count) x.0 x.1 there) in omega arith)
 
-above : (a b : ℕ) → b < a → nat_cmp a b ≡ Greater
-above a b less = grind (arith, nat_tests)
+    -- a new job is behind all of its time
+    module _ (k : Key) (time : ℕ) (job : T) (new : map.get jobs k ≡ None) where
+      added_numbered : (q : Key) (t : Turn) (x : T) → map.get (map.insert jobs k ((time, count), job)) q ≡ Some (t, x) → t.1 < count + 1
+      added_numbered q t x there = grind (arith, get_after_insert keys_total exact_keys jobs k ((time, count), job) q (t, x) there, is.numbered q t x)
 
-up_to_itself : (t u : Turn) → is_lt (turn_cmp t u) ≡ true → is_lt (turn_cmp t u) ≡ false → ⊥
-up_to_itself t u a b = absurd (cc)
+      added_len : map.len (map.insert (by_turn jobs) (time, count) (k, job)) ≡ map.len (map.insert jobs k ((time, count), job))
+      added_len = grind (arith, map.len-insert turns_total (by_turn jobs) (time, count) (k, job), map.len-insert keys_total jobs k ((time, count), job), is.len, free time)
 
-module _ {T : Type 0} where
-  -- a turn that was given out, with its time
-  abbrev GivenOut : ℕ → Turn → Key × (ℕ × T) → Type 0
-  GivenOut count t x = (t.1 < count) × (x.1.0 ≡ t.0)
+      added_inverse : IsInverse (map.get (map.insert jobs k ((time, count), job))) (map.get (map.insert (by_turn jobs) (time, count) (k, job)))
+      added_inverse = inverse_put same_or_other (alike_or_apart turns_total exact_turns) _ _ _ _ is.turns k (time, count) job
+          (puts keys_total exact_keys jobs k (time, count) job (λ q x there. absurd (let less = is.numbered q (time, count) x there in omega arith)))
+          (puts turns_total exact_turns (by_turn jobs) (time, count) k job (λ t x there. absurd (let was = is.turns.from t k x there in cc)))
 
-  put_last : (count time : ℕ) (x : Key × (ℕ × T)) → x.1.0 ≡ time → (es : List (Turn × (Key × (ℕ × T)))) → AllOf (GivenOut count) es
-      → list_map (λ e. e.1) (put turn_cmp (time, count) x es) ≡ in_turn x (list_map (λ e. e.1) es)
-  put_last count time x at [] all = refl
-  put_last count time x at (e ∷ es) all =
-      let rest = put_last count time x at es all.1 in
-      let test : nat_lt x.1.0 e.1.1.0 ≡ nat_lt time e.0.0 = λ i. nat_lt (at i) (all.0.1 i) in
-      let late : nat_cmp count e.0.1 ≡ Greater = above count e.0.1 all.0.0 in
-      let seen = list_map (λ (f : Turn × (Key × (ℕ × T))). f.1) in
-      let found = λ (b : Bool). cond b (x ∷ e.1 ∷ seen es) (e.1 ∷ in_turn x (seen es)) in
-      elim (nat_cmp time e.0.0) as (λ o. nat_cmp time e.0.0 ≡ o
-      → seen (by_order (ordering_then o (nat_cmp count e.0.1)) (((time, count), x) ∷ e ∷ es) ((e.0, x) ∷ es) (e ∷ put turn_cmp (time, count) x es)) ≡ found (nat_lt x.1.0 e.1.1.0)) [
-        | Less ↦ λ is. sym (ap found (test ∙ lt_less time e.0.0 is))
-        | Equal ↦ λ is. ap (λ r. seen (by_order r (((time, count), x) ∷ e ∷ es) ((e.0, x) ∷ es) (e ∷ put turn_cmp (time, count) x es))) late
-            ∙ ap (λ l. e.1 ∷ l) rest ∙ sym (ap found (test ∙ lt_equal time e.0.0 is))
-        | Greater ↦ λ is. ap (λ l. e.1 ∷ l) rest ∙ sym (ap found (test ∙ lt_greater time e.0.0 is))
-      ] refl
+      pub added : InOrder (map.insert jobs k ((time, count), job)) (count + 1) × (waiting_of (map.insert jobs k ((time, count), job)) ≡ in_turn (k, (time, job)) (waiting_of jobs))
+      added =
+          let with = in_order _ (count + 1) _ added_inverse added_len added_numbered in
+          let before = all_of turns_total exact_turns (λ t x. t.1 < count) (by_turn jobs) (λ t x there. is.numbered x.0 t x.1 (is.turns.from t x.0 x.1 there)) in
+          (with.0, with.1 ∙ ap (list_map seen) (map.entries-insert turns_total (by_turn jobs) (time, count) (k, job)) ∙ put_last time count k job (map.entries (by_turn jobs)) before)
 
-  -- the entry of one turn is that of one handle
-  abbrev pub SameEntry : Turn → Key → Turn → Key × (ℕ × T) → Type 0
-  SameEntry turn k t x = eq_by_cmp turn_cmp turn t ≡ eq_by_cmp key_cmp k x.0
+    module _ (k : Key) (t : Turn) (job : T) (at : map.get jobs k ≡ Some (t, job)) where
+      turn_at : map.get (by_turn jobs) t ≡ Some (k, job)
+      turn_at = is.turns.to k t job at
 
-  filter_seen : (turn : Turn) (k : Key) (es : List (Turn × (Key × (ℕ × T)))) → AllOf (SameEntry turn k) es
-      → list_map (λ e. e.1) (filter (λ e. not (eq_by_cmp turn_cmp turn e.0)) es) ≡ without k (list_map (λ e. e.1) es)
-  filter_seen turn k [] all = refl
-  filter_seen turn k (e ∷ es) all =
-      let rest = filter_seen turn k es all.1 in
-      let seen = list_map (λ (f : Turn × (Key × (ℕ × T))). f.1) in
-      ap (λ b. seen (cond (not b) (e ∷ filter (λ f. not (eq_by_cmp turn_cmp turn f.0)) es) (filter (λ f. not (eq_by_cmp turn_cmp turn f.0)) es))) all.0
-      ∙ elim (eq_by_cmp key_cmp k e.1.0) as (λ b. seen (cond (not b) (e ∷ filter (λ f. not (eq_by_cmp turn_cmp turn f.0)) es) (filter (λ f. not (eq_by_cmp turn_cmp turn f.0)) es)) ≡ cond (not b) (e.1 ∷ without k (seen es)) (without k (seen es))) [
-        | true ↦ rest
-        | false ↦ ap (λ l. e.1 ∷ l) rest
-      ]
+      -- the other jobs, in order
+      abbrev others : List (Turn × (Key × T))
+      others = map.entries (map.remove (by_turn jobs) t)
 
-  module _ (jobs : Jobs T) (is : IsByTurn jobs (by_turn jobs)) where
-    all_given : (count : ℕ) → ((k : Key) (j : Job T) → map.get jobs k ≡ Some j → j.turn.1 < count) → AllOf (GivenOut count) (map.entries (by_turn jobs))
-    all_given count numbered = all_of turns_total exact_turns (GivenOut count) (by_turn jobs) (λ t x there. let h = is.has t x there in (numbered x.0 _ h.found, h.time))
+      other_key : (u : Turn) (x : Key × T) → map.get (map.remove (by_turn jobs) t) u ≡ Some x → k ≢ x.0
+      other_key u x there = grind (arith, get_after_remove turns_total exact_turns (by_turn jobs) t u x there, is.turns.from u x.0 x.1)
 
-    free_turn : (count : ℕ) → ((k : Key) (j : Job T) → map.get jobs k ≡ Some j → j.turn.1 < count) → (time : ℕ) → map.get (by_turn jobs) (time, count) ≡ None
-    free_turn count numbered time = elim (map.get (by_turn jobs) (time, count)) as (λ o. map.get (by_turn jobs) (time, count) ≡ o → o ≡ None) [
-      | None ↦ λ none. refl
-      | Some x ↦ λ some. absurd (let h = is.has (time, count) x some in let less = numbered x.0 _ h.found in omega arith)
-    ] refl
+      other_keys : AllByRecursion (IsOther k) others
+      other_keys = all_of turns_total exact_turns (λ u x. k ≢ x.0) (map.remove (by_turn jobs) t) other_key
 
-    -- a new job is put behind all jobs of its time
-    pub order_added : (count : ℕ) → ((k : Key) (j : Job T) → map.get jobs k ≡ Some j → j.turn.1 < count) → (time place : ℕ) (k : Key) (job : T) → map.get jobs k ≡ None
-        → IsByTurn (map.insert jobs k (record { turn = (time, count); place = place; job = job })) (by_turn (map.insert jobs k (record { turn = (time, count); place = place; job = job })))
-        × (waiting_of (map.insert jobs k (record { turn = (time, count); place = place; job = job })) ≡ in_turn (k, (time, job)) (waiting_of jobs))
-    order_added count numbered time place k job new =
-        let j : Job T = record { turn = (time, count); place = place; job = job } in
-        let with = added jobs (by_turn jobs) is k j new (free_turn count numbered time) in (
-          is_by_turn (map.insert jobs k j) _ with,
-          ap map.values (by_turn_is (map.insert jobs k j) _ with)
-              ∙ ap (list_map (λ e. e.1)) (map.entries-insert turns_total (by_turn jobs) (time, count) (k, (time, job)))
-              ∙ put_last count time (k, (time, job)) refl (map.entries (by_turn jobs)) (all_given count numbered),
-        )
+      other_turn : (u : Turn) (x : Key × T) → map.get (map.remove (by_turn jobs) t) u ≡ Some x → t ≢ u
+      other_turn u x there = grind (arith, get_after_remove turns_total exact_turns (by_turn jobs) t u x there)
 
-    module _ (k : Key) (j : Job T) (at : map.get jobs k ≡ Some j) where
-      pub turn_removed : IsByTurn (map.remove jobs k) (by_turn (map.remove jobs k))
-      turn_removed = is_by_turn (map.remove jobs k) _ (removed jobs (by_turn jobs) is k j at)
+      among : map.entries (by_turn jobs) ≡ put turn_cmp t (k, job) others
+      among = ap map.entries (sym (insert_same turns_total exact_turns (by_turn jobs) t (k, job) turn_at)) ∙ entries_put turns_total exact_turns (by_turn jobs) t (k, job)
 
-      pub same_entry : (t : Turn) (x : Key × (ℕ × T)) → map.get (by_turn jobs) t ≡ Some x → SameEntry j.turn k t x
-      same_entry t x there =
-          let h = is.has t x there in
-          let mine = is.all j.turn (seen_of k j) (record { place = j.place; found = at; time = refl }) in
-          elim (eq_by_cmp turn_cmp j.turn t) as (λ b. eq_by_cmp turn_cmp j.turn t ≡ b → b ≡ eq_by_cmp key_cmp k x.0) [
-            | true ↦ λ same. (let turn = tied turns_total exact_turns j.turn t same in
-                let both = sym mine ∙ ap (map.get (by_turn jobs)) turn ∙ there in
-                let e : seen_of k j ≡ x = cc in
-                sym (ap (λ (y : Key × (ℕ × T)). eq_by_cmp key_cmp k y.0) (sym e) ∙ itself keys_total exact_keys k))
-            | false ↦ λ other. sym (apart keys_total exact_keys k x.0 (λ same. (let e = sym at ∙ ap (map.get jobs) same ∙ h.found in
-                let f : j ≡ record { turn = t; place = h.place; job = x.1.1 } = cc in
-                let turn = ap (λ (i : Job T). eq_by_cmp turn_cmp j.turn i.turn) (sym f) ∙ itself turns_total exact_turns j.turn in cc)))
-          ] refl
+      others_wait : list_map seen others ≡ without k (waiting_of jobs)
+      others_wait = sym (ap (λ es. without k (list_map seen es)) among
+          ∙ put_without k t job others other_keys (all_of turns_total exact_turns (λ u x. t ≢ u) (map.remove (by_turn jobs) t) other_turn))
 
       -- without a job the others keep their order
-      pub order_removed : waiting_of (map.remove jobs k) ≡ without k (waiting_of jobs)
-      order_removed =
-          ap map.values (by_turn_is (map.remove jobs k) _ (removed jobs (by_turn jobs) is k j at))
-          ∙ ap (list_map (λ e. e.1)) (entries_removed turns_total exact_turns (by_turn jobs) j.turn)
-          ∙ filter_seen j.turn k (map.entries (by_turn jobs)) (all_of turns_total exact_turns (SameEntry j.turn k) (by_turn jobs) same_entry)
+      pub removed : InOrder (map.remove jobs k) count × (waiting_of (map.remove jobs k) ≡ without k (waiting_of jobs))
+      removed =
+          let with = in_order (map.remove jobs k) count (map.remove (by_turn jobs) t)
+          (dropped same_or_other (alike_or_apart turns_total exact_turns) _ _ _ _ is.turns k t job at (drops keys_total exact_keys jobs k) (drops turns_total exact_turns (by_turn jobs) t))
+          (let a = len_removed keys_total exact_keys jobs k (ap is_some at) in let b = len_removed turns_total exact_turns (by_turn jobs) t (ap is_some turn_at) in let c = is.len in omega arith)
+          (λ q u x there. is.numbered q u x (get_after_remove keys_total exact_keys jobs k q (u, x) there).1) in
+          (with.0, with.1 ∙ others_wait)
 
-    -- places don't matter
-    pub order_kept : (new : Jobs T) → ((k : Key) → option_map unplaced (map.get new k) ≡ option_map unplaced (map.get jobs k)) → IsByTurn new (by_turn new) × (waiting_of new ≡ waiting_of jobs)
-    order_kept new same = let with = kept jobs (by_turn jobs) is new same in (is_by_turn new _ with, ap map.values (by_turn_is new _ with))
+      -- a job is written in its place
+      module _ (w : T) where
+        written_numbered : (q : Key) (u : Turn) (x : T) → map.get (map.insert jobs k (t, w)) q ≡ Some (u, x) → u.1 < count
+        written_numbered q u x there = grind (arith, get_after_insert keys_total exact_keys jobs k (t, w) q (u, x) there, is.numbered q u x, is.numbered k t job at)
+
+        written_len : map.len (map.insert (by_turn jobs) t (k, w)) ≡ map.len (map.insert jobs k (t, w))
+        written_len = grind (arith, map.len-insert turns_total (by_turn jobs) t (k, w), map.len-insert keys_total jobs k (t, w), is.len, at, turn_at)
+
+        pub written : InOrder (map.insert jobs k (t, w)) count × (waiting_of (map.insert jobs k (t, w)) ≡ with_job k w (waiting_of jobs))
+        written =
+            let with = in_order (map.insert jobs k (t, w)) count (map.insert (by_turn jobs) t (k, w)) (inverse_put same_or_other (alike_or_apart turns_total exact_turns) _ _ _ _ is.turns k t w
+            (puts keys_total exact_keys jobs k t w (λ q x there. grind (arith, is.turns.to q t x there, turn_at)))
+            (puts turns_total exact_turns (by_turn jobs) t k w (λ u x there. grind (arith, is.turns.from u k x there, at)))) written_len written_numbered in
+            (with.0, with.1 ∙ ap (list_map seen) (entries_put turns_total exact_turns (by_turn jobs) t (k, w)) ∙ sym (ap (λ es. with_job k w (list_map seen es)) among ∙ put_with_job k t job w others other_keys))
+
+      -- it is the first, if no other turn is before its own
+      module _ (least : (q : Key) (u : Turn) (x : T) → map.get jobs q ≡ Some (u, x) → is_lt (turn_cmp u t) ≡ false) where
+        put_first : (es : List (Turn × (Key × T))) → AllByRecursion (λ (e : Turn × (Key × T)). turn_cmp t e.0 ≡ Less) es → put turn_cmp t (k, job) es ≡ (t, (k, job)) ∷ es
+        put_first [] all = refl
+        put_first (e ∷ es) all = ap (λ o. by_order o ((t, (k, job)) ∷ e ∷ es) ((e.0, (k, job)) ∷ es) (e ∷ put turn_cmp t (k, job) es)) all.0
+
+        pub waits_first : waiting_of jobs ≡ (k, (t.0, job)) ∷ without k (waiting_of jobs)
+        waits_first =
+            let before = all_of turns_total exact_turns (λ u x. turn_cmp t u ≡ Less) (map.remove (by_turn jobs) t) (λ u x there. least_turn t u (other_turn u x there)
+            (least x.0 u x.1 (is.turns.from u x.0 x.1 (get_after_remove turns_total exact_turns (by_turn jobs) t u x there).1))) in
+            ap (list_map seen) (among ∙ put_first others before) ∙ ap (λ l. (k, (t.0, job)) ∷ l) others_wait
+
+        -- where it isn't due, none is
+        pub none_due : (now : ℕ) → now < t.0 → All (λ e. now < e.1.0) (waiting_of jobs)
+        none_due now later = All-map (λ (e : Key × (ℕ × T)). now < e.1.0) seen (map.entries (by_turn jobs)) (All-from_recursion (λ (e : Turn × (Key × T)). now < e.0.0) (map.entries (by_turn jobs))
+            (all_of turns_total exact_turns (λ u x. now < u.0) (by_turn jobs) (λ u x there. let up = time_up_to t u (least x.0 u x.1 (is.turns.from u x.0 x.1 there)) in omega arith)))
+
+    -- which time and which job a handle has
+    pub job_is : (k : Key) → job_of k (waiting_of jobs) ≡ option_map (λ (x : Turn × T). (x.0.0, x.1)) (map.get jobs k)
+    job_is k = elim (map.get jobs k) as (λ o. map.get jobs k ≡ o → job_of k (waiting_of jobs) ≡ option_map (λ (x : Turn × T). (x.0.0, x.1)) o) [
+      | None ↦ λ none. none_found k (map.entries (by_turn jobs)) (all_of turns_total exact_turns (λ u x. k ≢ x.0) (by_turn jobs) (λ u x there same. let was = is.turns.from u x.0 x.1 there in let gone = ap (map.get jobs) (sym same) ∙ none in cc))
+      | Some x ↦ λ at. ap (λ es. job_of k (list_map seen es)) (among k x.0 x.1 at) ∙ put_found k x.0 x.1 (others k x.0 x.1 at) (other_keys k x.0 x.1 at)
+    ] refl
+
+    -- how many wait
+    pub len_is : length (waiting_of jobs) ≡ map.len jobs
+    len_is = length-map (map.entries (by_turn jobs)) seen ∙ sym (map.len-entries (by_turn jobs)) ∙ is.len
+
+    pub none_wait : map.len jobs ≡ 0 → waiting_of jobs ≡ []
+    none_wait none = nil_from_length (waiting_of jobs) (len_is ∙ none)
+
+  pub none_in_order : (jobs : Timed T) (count : ℕ) → jobs ≡ map.empty → InOrder jobs count
+  none_in_order jobs count is = rw is (in_order map.empty count map.empty
+      (record { to = λ k t x there. absurd (let e = map.get-empty {X = Turn × T} key_cmp k in cc); from = λ t k x there. absurd (let e = map.get-empty {X = Key × T} turn_cmp t in cc) })
+      (map.len-empty turn_cmp (Key × T) ∙ sym (map.len-empty key_cmp (Turn × T))) (λ k t x there. absurd (let e = map.get-empty {X = Turn × T} key_cmp k in cc))).0

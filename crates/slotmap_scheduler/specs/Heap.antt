@@ -1,72 +1,92 @@
 -- How a scheduler keeps its jobs: each in the map, with its place in a heap of turns.
-use Rattle.std.specs.Prelude.{◌≡◌, ◌≢◌, ℕ, ◌+◌, ◌*◌, ◌⊎◌, true, false, List, Some}
-use Rattle.std.specs.declared.cmp.Ordering.{Ordering}
-use Rattle.std.specs.Ordering.{ordering_then, nat_cmp, is_lt}
-use Rattle.std.specs.List.{slice_get}
-use Rattle.std.specs.Option.{option_map}
+use Rattle.std.specs.Prelude.{◌≡◌, ℕ, ◌+◌, ◌-◌, ◌<◌, ◌≤◌, Bool, false, List, Option, get_or, length, min, vec_len, vec_capacity, slice_get, option_map}
+use Rattle.std.specs.declared.vec.Vec.{Vec}
+use Rattle.std.specs.Ordering.{is_lt}
 use Rattle.std.specs.FinMap as map
-use Rattle.slotmap.specs.Words.{Key, key_cmp, Content, Removes, StaysValid, without_values}
+use Rattle.slotmap.specs.Words.{Key, key_cmp, Content, without_values}
+use Rattle.slotmap_keylist.specs.Mapped.{map_content}
 use Rattle.slotmap_scheduler.specs.declared.Job.{Job}
 use Rattle.slotmap_scheduler.specs.declared.heap.Entry.{Entry}
+use Rattle.slotmap_scheduler.specs.Inverse.{IsInverse}
+use Rattle.slotmap_scheduler.specs.Ordered.{up, IsOrdered, IsOrderedBut}
+use Rattle.slotmap_scheduler.specs.Timed.{Turn, turn_cmp, InOrder}
 
--- the time at which a job is due, and its number among all that were scheduled
-abbrev pub Turn : Type 0
-Turn = ℕ × ℕ
+-- whether turn a is before turn b
+abbrev pub precedes : Turn → Turn → Bool
+precedes a b = is_lt (turn_cmp a b)
 
--- by time, and then by number
-abbrev pub turn_cmp : Turn → Turn → Ordering
-turn_cmp a b = ordering_then (nat_cmp a.0 b.0) (nat_cmp a.1 b.1)
+-- an entry, for where there is none
+pub no_entry : Entry
+no_entry = record { turn = (0, 0); handle = record { index = 0; version = 0 } }
 
--- turn a isn't after turn b
-abbrev pub IsUpTo : Turn → Turn → Type 0
-IsUpTo a b = is_lt (turn_cmp b a) ≡ false
-
--- c is a place below the place p
-abbrev pub IsChild : ℕ → ℕ → Type 0
-IsChild p c = (c ≡ 2 * p + 1) ⊎ (c ≡ 2 * p + 2)
+-- the turn at a place
+abbrev pub turn_at : List Entry → ℕ → Turn
+turn_at heap i = (get_or heap i no_entry).turn
 
 -- no turn is before the one above it
 abbrev pub IsHeap : List Entry → Type 0
-IsHeap heap = (p c : ℕ) (a b : Entry) → IsChild p c → slice_get heap p ≡ Some a → slice_get heap c ≡ Some b → IsUpTo a.turn b.turn
+IsHeap heap = IsOrdered precedes (length heap) (turn_at heap)
 
 -- the same for all entries but one, which may have any turn
-pub record IsHeapBut (at : ℕ) (heap : List Entry) : Type 0 where
-  pub pairs : (p c : ℕ) (a b : Entry) → IsChild p c → p ≢ at → c ≢ at → slice_get heap p ≡ Some a → slice_get heap c ≡ Some b → IsUpTo a.turn b.turn
-  -- the entry above it, and those below it
-  pub bridges : (p c : ℕ) (a b : Entry) → IsChild p at → IsChild at c → slice_get heap p ≡ Some a → slice_get heap c ≡ Some b → IsUpTo a.turn b.turn
+abbrev pub IsHeapBut : ℕ → List Entry → Type 0
+IsHeapBut at heap = IsOrderedBut precedes (length heap) (turn_at heap) at
 
 -- its turn isn't before the one above it
 abbrev pub IsAbove : ℕ → List Entry → Type 0
-IsAbove at heap = (p : ℕ) (a b : Entry) → IsChild p at → slice_get heap p ≡ Some a → slice_get heap at ≡ Some b → IsUpTo a.turn b.turn
+IsAbove at heap = 0 < at → precedes (turn_at heap at) (turn_at heap (up at)) ≡ false
 
--- the entries at two places were exchanged
-pub record Swapped (old new : List Entry) (a b : ℕ) : Type 0 where
-  pub here : slice_get new a ≡ slice_get old b
-  pub there : slice_get new b ≡ slice_get old a
-  pub others : (i : ℕ) → i ≢ a → i ≢ b → slice_get new i ≡ slice_get old i
+-- the place child is below at, and has the first of the turns there
+pub record IsFirstBelow (at child : ℕ) (heap : List Entry) : Type 0 where
+  pub low : 0 < child
+  pub below : up child ≡ at
+  pub inside : child < length heap
+  pub least : (c : ℕ) → 0 < c → up c ≡ at → c < length heap → precedes (turn_at heap c) (turn_at heap child) ≡ false
+
+-- the handle and the turn at a place
+abbrev pub entry_at : List Entry → ℕ → Option (Key × Turn)
+entry_at heap i = option_map (λ e. (e.handle, e.turn)) (slice_get heap i)
 
 -- under each handle the job that waits
 abbrev pub Jobs : Type 0 → Type 0
 Jobs T = map.FinMap key_cmp (Job T)
 
 module _ {T : Type 0} where
+  -- the place and the turn of a handle
+  abbrev pub spot_of : Jobs T → Key → Option (ℕ × Turn)
+  spot_of jobs k = option_map (λ j. (j.place, j.turn)) (map.get jobs k)
+
   -- the jobs are those of the entries, and each has the place of its entry
-  pub record IsPlaced (jobs : Jobs T) (heap : List Entry) : Type 0 where
-    pub at : (i : ℕ) (e : Entry) → slice_get heap i ≡ Some e → (job : T) × (map.get jobs e.handle ≡ Some (record { turn = e.turn; place = i; job = job }))
-    pub placed : (k : Key) (j : Job T) → map.get jobs k ≡ Some j → slice_get heap j.place ≡ Some (record { turn = j.turn; handle = k })
+  abbrev pub IsPlaced : Jobs T → List Entry → Type 0
+  IsPlaced jobs heap = IsInverse (spot_of jobs) (entry_at heap)
 
   -- a job without its place
   abbrev pub unplaced : Job T → Turn × T
   unplaced j = (j.turn, j.job)
 
-  -- only the places of jobs have changed
-  pub record Resettled (old new : Content (Job T)) : Type 0 where
-    pub keys : without_values new ≡ without_values old
-    pub jobs : (k : Key) → option_map unplaced (map.get new.live k) ≡ option_map unplaced (map.get old.live k)
+  -- the jobs without their places
+  abbrev pub timed : Content (Job T) → Content (Turn × T)
+  timed jobs = map_content unplaced jobs
 
-  -- a job was taken out of the map, and then only places have changed
-  pub record TakesOut (old : Content (Job T)) (k : Key) (new : Content (Job T)) : Type 0 where
-    pub mid : Content (Job T)
-    pub removes : Removes old k mid
-    pub valid : StaysValid true old mid
-    pub settled : Resettled mid new
+  module _ {Z : Type 0} where
+    -- only places have changed, and each job has that of its entry
+    pub record Resettled (jobs : Content (Job T)) (heap : Vec Entry Z) (jobs' : Content (Job T)) (heap' : Vec Entry Z) : Type 0 where
+      pub placed : IsPlaced jobs'.live heap'.items
+      pub same : timed jobs' ≡ timed jobs
+      pub len : vec_len heap' ≡ vec_len heap
+      pub capacity : vec_capacity heap' ≡ vec_capacity heap
+
+    -- the handles, with the room and the capacity that both the map and the heap have
+    abbrev pub handles_of : Content (Turn × T) → Vec Entry Z → Content (Unit {0})
+    handles_of jobs heap = record (without_values jobs) {
+      room = min jobs.room (vec_capacity heap - vec_len heap);
+      capacity = min jobs.capacity (vec_capacity heap);
+    }
+
+    -- what holds of every scheduler
+    pub record IsSchedule (jobs : Content (Job T)) (count : ℕ) (heap : Vec Entry Z) : Type 0 where
+      pub order : InOrder (timed jobs).live count
+      pub placed : IsPlaced jobs.live heap.items
+      pub ordered : IsHeap heap.items
+      pub len : vec_len heap ≡ map.len (timed jobs).live
+      -- where a slot of the map is vacant, the heap has room too
+      pub room : map.len (timed jobs).live + map.len jobs.next ≤ vec_capacity heap

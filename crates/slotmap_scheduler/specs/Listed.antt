@@ -1,5 +1,5 @@
 -- The jobs of a scheduler in an order that isn't promised.
-use Rattle.std.specs.Prelude.{◌≡◌, ℕ, ◌<◌, ◌≤◌, ◌++◌, List, length, map as list_map}
+use Rattle.std.specs.Prelude.{◌≡◌, ℕ, ◌<◌, ◌≤◌, ◌++◌, nat_lt, cond, List, [], ◌∷◌, length, map as list_map}
 use Rattle.std.specs.List.{All}
 use Rattle.slotmap.specs.Words.{Key}
 use Rattle.slotmap_scheduler.specs.declared.Job.{Job}
@@ -18,6 +18,16 @@ module _ {T : Type 0} where
   -- the same time, with a clone of the job
   abbrev pub IsDueClone : (T → T → Type 0) → ℕ × T → ℕ × T → Type 0
   IsDueClone is_clone due copy = (copy.0 ≡ due.0) × is_clone due.1 copy.1
+
+  -- the first jobs that wait, as far as they are due
+  abbrev pub due_at : ℕ → Waiting T → Waiting T
+  due_at now [] = []
+  due_at now (e ∷ es) = cond (nat_lt now e.1.0) [] (e ∷ due_at now es)
+
+  -- the jobs from the first on that isn't due
+  abbrev pub left_at : ℕ → Waiting T → Waiting T
+  left_at now [] = []
+  left_at now (e ∷ es) = cond (nat_lt now e.1.0) (e ∷ es) (left_at now es)
 
   -- the jobs of these times and handles, as they are returned
   abbrev pub Due : {K : Type 0} → (K → Key) → List (Key × (ℕ × T)) → List (K × T) → Type 0

@@ -9,7 +9,8 @@ ghost use Rattle.slotmap_scheduler.specs.Listed.{TakesDue};
 
 use crate::heap::{Entry, settle, take_out};
 use crate::{Job, RescheduleError, ScheduleError, Scheduler};
-use slotmap::{DefaultKey, Key, ReserveError};
+use slotmap::{Key, ReserveError};
+use slotmap_keylist::{inner, outer};
 use std::alloc::AllocError;
 
 impl<K: Key, T: Drop> Scheduler<K, T> {
@@ -66,7 +67,7 @@ impl<K: Key, T: Drop> Scheduler<K, T> {
         let _ = self.heap.push(Entry { turn, handle });
         self.count += 1;
         settle(&mut self.jobs, &mut self.heap, place);
-        K::from(handle.data())
+        outer(handle)
     }
 
     /// Schedules a job, and returns its handle. It is behind all waiting jobs of its time.
@@ -128,11 +129,7 @@ impl<K: Key, T: Drop> Scheduler<K, T> {
         ensures for_good { OnSome result (IsSpent self.new.handles (K.data_of handle)) }
         ensures stale { KeepsSpent self.old.handles self.new.handles }
     {
-        let removed = take_out(
-            &mut self.jobs,
-            &mut self.heap,
-            DefaultKey::from(handle.data()),
-        )?;
+        let removed = take_out(&mut self.jobs, &mut self.heap, inner(handle))?;
         Some(removed.job)
     }
 
@@ -161,7 +158,7 @@ impl<K: Key, T: Drop> Scheduler<K, T> {
         ensures err { IfErr result (RefusesMove self.old (K.data_of handle)) }
         ensures unchanged { OnErr result (self.new ≡ self.old) }
     {
-        let key = DefaultKey::from(handle.data());
+        let key = inner(handle);
         let Some(job) = self.jobs.get(key) else {
             return Err(RescheduleError::Gone);
         };
@@ -196,7 +193,7 @@ impl<K: Key, T: Drop> Scheduler<K, T> {
         ensures later { (now : ℕ) → IfSome result (λ next. now < next.0 → All (λ e. now < e.1.0) self.now.waiting) }
     {
         let next = self.heap.first()?;
-        Some((next.turn.0, K::from(next.handle.data())))
+        Some((next.turn.0, outer(next.handle)))
     }
 
     /// Removes the next job, if it is due at `now`, and returns it with its handle. It is never

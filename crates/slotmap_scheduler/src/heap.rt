@@ -1,11 +1,11 @@
 //! The heap of turns, which knows the job that is next.
 
-ghost use Rattle.std.specs.Prelude.{◌≡◌, ◌≢◌, ℕ, ◌+◌, ◌<◌, ◌≤◌, IfSome, IfNone, OnSome, Some, length, vec_len, vec_capacity};
-ghost use Rattle.std.specs.List.{slice_get};
-ghost use Rattle.std.specs.Ordering.{is_lt};
+ghost use Rattle.std.specs.Prelude.{◌≡◌, ◌≢◌, ℕ, ◌+◌, ◌<◌, ◌≤◌, IfSome, IfNone, OnSome, true, length, vec_len, vec_capacity};
+ghost use Rattle.std.specs.List.{SwappedAt};
 ghost use Rattle.std.specs.FinMap as map;
-ghost use Rattle.slotmap_scheduler.specs.declared.heap.Entry.{Entry as EntryOf};
-ghost use Rattle.slotmap_scheduler.specs.Heap.{turn_cmp, IsUpTo, IsChild, IsPlaced, IsHeap, IsHeapBut, IsAbove, Swapped, Resettled, TakesOut};
+ghost use Rattle.slotmap.specs.Words.{Removes, StaysValid};
+ghost use Rattle.slotmap_scheduler.specs.Ordered.{up};
+ghost use Rattle.slotmap_scheduler.specs.Heap.{precedes, IsPlaced, IsHeap, IsHeapBut, IsAbove, IsFirstBelow, Resettled, timed};
 
 use crate::Job;
 use slotmap::{DefaultKey, SlotMap};
@@ -22,7 +22,7 @@ pub(crate) struct Entry {
 
 // Whether a turn is before another.
 fn is_before(a: (u64, u64), b: (u64, u64)) -> bool
-    ensures { result ≡ is_lt (turn_cmp a b) }
+    ensures { result ≡ precedes a b }
 {
     a < b
 }
@@ -33,11 +33,8 @@ fn exchange<T: Drop>(jobs: &mut Jobs<T>, heap: &mut Vec<Entry>, a: usize, b: usi
     requires a_in { a < vec_len heap.old }
     requires b_in { b < vec_len heap.old }
     requires apart { a ≢ b }
-    ensures placed { IsPlaced jobs.new.live heap.new.items }
-    ensures swapped { Swapped heap.old.items heap.new.items a b }
-    ensures resettled { Resettled jobs.old jobs.new }
-    ensures len { vec_len heap.new ≡ vec_len heap.old }
-    ensures capacity { vec_capacity heap.new ≡ vec_capacity heap.old }
+    ensures swapped { SwappedAt heap.old.items heap.new.items a b }
+    ensures resettled { Resettled jobs.old heap.old jobs.new heap.new }
 {
     heap.swap(a, b);
     jobs[heap[a].handle].place = a;
@@ -49,13 +46,10 @@ fn sift_up<T: Drop>(jobs: &mut Jobs<T>, heap: &mut Vec<Entry>, place: usize) -> 
     requires placed { IsPlaced jobs.old.live heap.old.items }
     requires but { IsHeapBut place heap.old.items }
     requires within { place < vec_len heap.old }
-    ensures placed { IsPlaced jobs.new.live heap.new.items }
     ensures but { IsHeapBut result heap.new.items }
     ensures above { IsAbove result heap.new.items }
     ensures within { result < vec_len heap.new }
-    ensures resettled { Resettled jobs.old jobs.new }
-    ensures len { vec_len heap.new ≡ vec_len heap.old }
-    ensures capacity { vec_capacity heap.new ≡ vec_capacity heap.old }
+    ensures resettled { Resettled jobs.old heap.old jobs.new heap.new }
 {
     let mut at = place;
     while at > 0 {
@@ -71,9 +65,8 @@ fn sift_up<T: Drop>(jobs: &mut Jobs<T>, heap: &mut Vec<Entry>, place: usize) -> 
 
 // The child of an entry whose turn is first.
 fn first_child(heap: &[Entry], at: usize) -> Option<usize>
-    ensures some { IfSome result (λ child. IsChild at child × (child < length heap.now)
-        × ((c : ℕ) (a b : EntryOf) → IsChild at c → slice_get heap.now child ≡ Some a → slice_get heap.now c ≡ Some b → IsUpTo a.turn b.turn)) }
-    ensures none { IfNone result ((c : ℕ) → IsChild at c → length heap.now ≤ c) }
+    ensures some { IfSome result (λ child. IsFirstBelow at child heap.now) }
+    ensures none { IfNone result ((c : ℕ) → 0 < c → up c ≡ at → length heap.now ≤ c) }
 {
     if at >= heap.len() / 2 {
         return None;
@@ -94,11 +87,8 @@ fn sift_down<T: Drop>(jobs: &mut Jobs<T>, heap: &mut Vec<Entry>, place: usize)
     requires but { IsHeapBut place heap.old.items }
     requires above { IsAbove place heap.old.items }
     requires within { place < vec_len heap.old }
-    ensures placed { IsPlaced jobs.new.live heap.new.items }
     ensures heap { IsHeap heap.new.items }
-    ensures resettled { Resettled jobs.old jobs.new }
-    ensures len { vec_len heap.new ≡ vec_len heap.old }
-    ensures capacity { vec_capacity heap.new ≡ vec_capacity heap.old }
+    ensures resettled { Resettled jobs.old heap.old jobs.new heap.new }
 {
     let mut at = place;
     while let Some(child) = first_child(heap, at) {
@@ -115,11 +105,8 @@ pub(crate) fn settle<T: Drop>(jobs: &mut Jobs<T>, heap: &mut Vec<Entry>, place: 
     requires placed { IsPlaced jobs.old.live heap.old.items }
     requires but { IsHeapBut place heap.old.items }
     requires within { place < vec_len heap.old }
-    ensures placed { IsPlaced jobs.new.live heap.new.items }
     ensures heap { IsHeap heap.new.items }
-    ensures resettled { Resettled jobs.old jobs.new }
-    ensures len { vec_len heap.new ≡ vec_len heap.old }
-    ensures capacity { vec_capacity heap.new ≡ vec_capacity heap.old }
+    ensures resettled { Resettled jobs.old heap.old jobs.new heap.new }
 {
     let at = sift_up(jobs, heap, place);
     sift_down(jobs, heap, at);
@@ -134,7 +121,7 @@ pub(crate) fn take_out<T: Drop>(
     requires placed { IsPlaced jobs.old.live heap.old.items }
     requires ordered { IsHeap heap.old.items }
     ensures value { result ≡ map.get jobs.old.live handle }
-    ensures leaves { OnSome result (TakesOut jobs.old handle jobs.new) }
+    ensures leaves { OnSome result (Removes (timed jobs.old) handle (timed jobs.new) × StaysValid true (timed jobs.old) (timed jobs.new)) }
     ensures placed { IsPlaced jobs.new.live heap.new.items }
     ensures heap { IsHeap heap.new.items }
     ensures len { OnSome result (vec_len heap.new + 1 ≡ vec_len heap.old) }

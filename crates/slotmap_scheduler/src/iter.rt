@@ -7,6 +7,7 @@ ghost use Rattle.slotmap_scheduler.specs.Listed.{ListsJobs};
 
 use crate::{Job, Scheduler};
 use slotmap::{DefaultKey, Key, basic};
+use slotmap_keylist::outer;
 use std::iter::FusedIterator;
 use std::marker::{Model, PhantomData};
 
@@ -38,7 +39,7 @@ impl<'a, K: Key, T: Drop> Iterator for Iter<'a, K, T> {
 
     fn next(&mut self) -> Option<(K, u64, &'a T)> {
         match self.jobs.next() {
-            Some((handle, job)) => Some((K::from(handle.data()), job.turn.0, &job.job)),
+            Some((handle, job)) => Some((outer(handle), job.turn.0, &job.job)),
             None => None,
         }
     }

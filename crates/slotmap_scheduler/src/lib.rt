@@ -41,6 +41,7 @@ mod iter;
 use heap::{Entry, Jobs};
 pub use iter::{Iter, Keys, Values};
 use slotmap::{DefaultKey, Key, ReserveError, SlotMap};
+use slotmap_keylist::inner;
 use std::alloc::Global;
 use std::marker::{Model, PhantomData};
 use std::ops::Index;
@@ -70,13 +71,15 @@ pub struct Scheduler<K, T> {
 }
 
 impl<K, T> Model for Scheduler<K, T> {
-    ghost use Rattle.slotmap_scheduler.specs.Schedule.{Schedule, schedule_code, waiting_of, handles_of, IsSchedule};
+    ghost use Rattle.slotmap_scheduler.specs.Schedule.{Schedule, schedule_code};
+    ghost use Rattle.slotmap_scheduler.specs.Timed.{waiting_of};
+    ghost use Rattle.slotmap_scheduler.specs.Heap.{timed, handles_of, IsSchedule};
 
     ghost Value = { Schedule T };
 
     ghost coded = { schedule_code T.code };
 
-    ghost view = { λ s. record { waiting = waiting_of s.jobs.live; handles = handles_of s.jobs s.heap; turns = s.count } };
+    ghost view = { λ s. record { waiting = waiting_of (timed s.jobs).live; handles = handles_of (timed s.jobs) s.heap; turns = s.count } };
 
     ghost invariant = { λ s. IsSchedule s.jobs s.count s.heap };
 }
@@ -194,21 +197,21 @@ impl<K: Key, T: Drop> Scheduler<K, T> {
         ensures value { result ≡ is_some (job_of (K.data_of handle) self.now.waiting) }
         ensures live { result ≡ map.contains_key self.now.handles.live (K.data_of handle) }
     {
-        self.jobs.contains_key(DefaultKey::from(handle.data()))
+        self.jobs.contains_key(inner(handle))
     }
 
     /// Returns the job of a handle, or `None` if no job waits under it, in constant time.
     pub fn get(&self, handle: K) -> Option<&T>
         ensures { option_copied result ≡ option_map (λ due. due.1) (job_of (K.data_of handle) self.now.waiting) }
     {
-        Some(&self.jobs.get(DefaultKey::from(handle.data()))?.job)
+        Some(&self.jobs.get(inner(handle))?.job)
     }
 
     /// Returns when the job of a handle is due, or `None` if no job waits under it, in constant time.
     pub fn due(&self, handle: K) -> Option<u64>
         ensures { result ≡ option_map (λ due. due.0) (job_of (K.data_of handle) self.now.waiting) }
     {
-        Some(self.jobs.get(DefaultKey::from(handle.data()))?.turn.0)
+        Some(self.jobs.get(inner(handle))?.turn.0)
     }
 
     /// Returns a mutable reference to the job of a handle, or `None` if no job waits under it, in
@@ -226,7 +229,7 @@ impl<K: Key, T: Drop> Scheduler<K, T> {
         ensures* writes_back { sem 𝓛 (lends_job K.row T.row self.entry (K.data_of handle) result) }
         ensures value { option_copied_mut result ≡ option_map (λ due. due.1) (job_of (K.data_of handle) self.old.waiting) }
     {
-        match self.jobs.get_mut(DefaultKey::from(handle.data())) {
+        match self.jobs.get_mut(inner(handle)) {
             Some(job) => Some(&mut job.job),
             None => None,
         }
@@ -242,6 +245,6 @@ impl<K: Key, T: Drop> Index<K> for Scheduler<K, T> {
     ghost index_gives = { λ s handle job. option_map (λ due. due.1) (job_of (K.data_of handle) s.waiting) ≡ Some job };
 
     fn index(&self, handle: K) -> &T {
-        &self.jobs[DefaultKey::from(handle.data())].job
+        &self.jobs[inner(handle)].job
     }
 }

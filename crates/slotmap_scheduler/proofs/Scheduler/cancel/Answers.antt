@@ -1,58 +1,42 @@
-use Rattle.std.proofs.Common.{◌≡◌, true, Some, is_some, sym, ap, ◌∙◌, arith}
+use Rattle.std.proofs.Common.{rules, true, is_some, sym, ap, ◌∙◌, arith}
 use Rattle.std.specs.Option.{option_map}
-use Rattle.slotmap.proofs.Callers.{spent_remove, live_remove_spent}
+use Rattle.slotmap.proofs.Callers.{spent_removes, removed_spent}
+use Rattle.slotmap_keylist.proofs.Mapped.{live-mapped}
 use Rattle.slotmap_scheduler.specs.declared.Job.{Job}
-use Rattle.slotmap_scheduler.specs.Schedule.{waiting_of}
+use Rattle.slotmap_scheduler.specs.Timed.{waiting_of}
+use Rattle.slotmap_scheduler.specs.Heap.{unplaced, timed}
 use Rattle.slotmap_scheduler.proofs.Schedules.{left_waits, left_schedule}
-use Rattle.slotmap_scheduler.proofs.Handles.{handles_removed, keeps_spent, is_spent}
-use Rattle.slotmap_scheduler.proofs.Seen.{job_is, none_seen}
+use Rattle.slotmap_scheduler.proofs.Handles.{handles_removed, handles_stale, handles_spent}
+use Rattle.slotmap_scheduler.proofs.Seen.{job_seen, none_seen}
 use Rattle.slotmap_scheduler.proofs.Results.{without_none}
 use Rattle.slotmap_scheduler.proofs.Scheduler.cancel.Goals as goal
 
 pub invariant_of-self-2 : goal.invariant_of-self-2
 invariant_of-self-2 g c =
-    let found = sym c.take_out.ensures.value ∙ c.in_ok-removed.was in
-    left_schedule c.self.inside.jobs c.take_out.new.jobs c.self.inside.count c.self.inside.heap c.take_out.new.heap c.self.invariant c.from.result c.in_ok-removed.removed found c.in_ok-removed.ensures.leaves c.in_ok-removed.ensures.len c.take_out.ensures.capacity c.take_out.ensures.placed c.take_out.ensures.heap
+    left_schedule c.self.inside.jobs c.take_out.new.jobs c.self.inside.count c.self.inside.heap c.take_out.new.heap c.self.invariant c.inner.result c.in_ok-removed.removed (sym c.take_out.ensures.value ∙ c.in_ok-removed.was)
+    c.in_ok-removed.ensures.leaves.0 c.take_out.ensures.placed c.take_out.ensures.heap c.in_ok-removed.ensures.len c.take_out.ensures.capacity
 
-pub returns-clause-job : goal.returns-clause-job
-returns-clause-job g c =
-    let key : c.from.result ≡ g.K.Key.data_of c.args.handle = c.from.ensures ∙ c.data.ensures.value in
-    let found = sym c.take_out.ensures.value ∙ c.in_ok-removed.was in
-    rw (← c.self.view_is, ← key) (ap (option_map (λ (j : Job g.row.T.Denot). j.job)) (sym found) ∙ job_is c.self.inside.jobs.live c.self.invariant.turns c.from.result)
-
-pub returns-clause-removed : goal.returns-clause-removed
-returns-clause-removed g c =
-    let key : c.from.result ≡ g.K.Key.data_of c.args.handle = c.from.ensures ∙ c.data.ensures.value in
-    let found = sym c.take_out.ensures.value ∙ c.in_ok-removed.was in
-    rw (← c.self.view_is, ← key) (left_waits c.self.inside.jobs c.take_out.new.jobs c.self.inside.count c.self.inside.heap c.take_out.new.heap c.self.invariant c.from.result c.in_ok-removed.removed found c.in_ok-removed.ensures.leaves c.in_ok-removed.ensures.len c.take_out.ensures.capacity)
-
-pub returns-clause-handles : goal.returns-clause-handles
-returns-clause-handles g c =
-    let key : c.from.result ≡ g.K.Key.data_of c.args.handle = c.from.ensures ∙ c.data.ensures.value in
-    let leaves = c.in_ok-removed.ensures.leaves in
-    rw (← c.self.view_is, ← key) (handles_removed c.self.inside.jobs leaves.mid c.take_out.new.jobs c.self.inside.heap c.take_out.new.heap c.from.result leaves.removes leaves.settled (let len = c.in_ok-removed.ensures.len in omega arith) c.take_out.ensures.capacity)
-
-pub returns-clause-for_good : goal.returns-clause-for_good
-returns-clause-for_good g c =
-    let key : c.from.result ≡ g.K.Key.data_of c.args.handle = c.from.ensures ∙ c.data.ensures.value in
+pub returns : goal.returns
+returns g c =
     let found = sym c.take_out.ensures.value ∙ c.in_ok-removed.was in
     let leaves = c.in_ok-removed.ensures.leaves in
-    rw (← key) (is_spent leaves.mid c.take_out.new.jobs c.take_out.new.heap c.from.result (live_remove_spent c.self.inside.jobs leaves.mid true leaves.valid c.from.result (Some c.in_ok-removed.removed) (sym found) (ap is_some found) leaves.removes) leaves.settled)
-
-pub returns-clause-stale : goal.returns-clause-stale
-returns-clause-stale g c =
-    let found = sym c.take_out.ensures.value ∙ c.in_ok-removed.was in
-    let leaves = c.in_ok-removed.ensures.leaves in
-    rw (← c.self.view_is) (keeps_spent c.self.inside.jobs leaves.mid c.take_out.new.jobs c.self.inside.heap c.take_out.new.heap (spent_remove c.self.inside.jobs leaves.mid true leaves.valid c.from.result (Some c.in_ok-removed.removed) (sym found) leaves.removes tt) leaves.settled)
+    let len = c.in_ok-removed.ensures.len in
+    let live = live-mapped unplaced c.self.inside.jobs c.inner.result (ap is_some found) in
+    record {
+      job = rw (← c.self.view_is, ← c.inner.ensures) (ap (option_map (λ (j : Job g.row.T.Denot). j.job)) (sym found) ∙ job_seen c.self.inside.jobs c.self.inside.count c.self.invariant.order c.inner.result);
+      removed = rw (← c.self.view_is, ← c.inner.ensures) (left_waits c.self.inside.jobs c.take_out.new.jobs c.self.inside.count c.self.inside.heap c.take_out.new.heap c.self.invariant c.inner.result c.in_ok-removed.removed found leaves.0);
+      handles = rw (← c.self.view_is, ← c.inner.ensures) (handles_removed (timed c.self.inside.jobs) (timed c.take_out.new.jobs) c.self.inside.heap c.take_out.new.heap c.inner.result leaves.0 (omega arith) c.take_out.ensures.capacity);
+      turns = search rules;
+      unchanged = search rules;
+      for_good = rw (← c.inner.ensures) (handles_spent (timed c.take_out.new.jobs) c.take_out.new.heap c.inner.result (removed_spent _ _ true leaves.1.before c.inner.result live leaves.0));
+      stale = rw (← c.self.view_is) (handles_stale _ _ c.self.inside.heap c.take_out.new.heap (spent_removes _ _ true leaves.1.before c.inner.result live leaves.0));
+    }
 
 pub returns-in_err-removed-clause-job : goal.returns-in_err-removed-clause-job
 returns-in_err-removed-clause-job g c =
-    let key : c.from.result ≡ g.K.Key.data_of c.args.handle = c.from.ensures ∙ c.data.ensures.value in
-    let none = sym c.take_out.ensures.value ∙ c.in_err-removed.was in
-    rw (← c.self.view_is, ← key) (c.from_residual.ensures ∙ ap (option_map (λ (j : Job g.row.T.Denot). j.job)) (sym none) ∙ job_is c.self.inside.jobs.live c.self.invariant.turns c.from.result)
+    rw (← c.self.view_is, ← c.inner.ensures) (c.from_residual.ensures ∙ ap (option_map (λ (j : Job g.row.T.Denot). j.job)) (sym c.in_err-removed.was ∙ c.take_out.ensures.value) ∙ job_seen c.self.inside.jobs c.self.inside.count c.self.invariant.order c.inner.result)
 
 pub returns-in_err-removed-clause-removed : goal.returns-in_err-removed-clause-removed
 returns-in_err-removed-clause-removed g c =
-    let key : c.from.result ≡ g.K.Key.data_of c.args.handle = c.from.ensures ∙ c.data.ensures.value in
-    let none = sym c.take_out.ensures.value ∙ c.in_err-removed.was in
-    rw (← c.self.view_is, ← key) (ap (λ jobs. waiting_of jobs.live) c.in_err-removed.ensures.unchanged.0 ∙ sym (without_none c.from.result (waiting_of c.self.inside.jobs.live) (none_seen c.self.inside.jobs.live c.self.invariant.turns c.from.result none)))
+    rw (← c.self.view_is, ← c.inner.ensures) (ap (λ jobs. waiting_of (timed jobs).live) c.in_err-removed.ensures.unchanged.0
+    ∙ sym (without_none c.inner.result _ (none_seen c.self.inside.jobs c.self.inside.count c.self.invariant.order c.inner.result (sym c.take_out.ensures.value ∙ c.in_err-removed.was))))

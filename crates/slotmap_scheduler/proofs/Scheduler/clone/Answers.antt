@@ -1,7 +1,9 @@
 use Rattle.std.proofs.Common.{◌∙◌, arith}
 use Rattle.std.proofs.lemmas.List.Elements.{same_from_all_zip}
 use Rattle.slotmap.proofs.Callers.{clone_len}
-use Rattle.slotmap_scheduler.proofs.Copied.{clones_job, schedule_copied, waiting_cloned, same_waiting}
+use Rattle.slotmap_keylist.proofs.Mapped.{len-mapped}
+use Rattle.slotmap_scheduler.specs.Heap.{unplaced, timed}
+use Rattle.slotmap_scheduler.proofs.Copied.{clones_job, Clones, timed_clones, schedule_copied, waiting_copied, same_waiting}
 use Rattle.slotmap_scheduler.proofs.Handles.{handles_copied}
 use Rattle.slotmap_scheduler.proofs.Scheduler.clone.Goals as goal
 
@@ -9,6 +11,7 @@ pub overflow_sub-capacity : goal.overflow_sub-capacity
 overflow_sub-capacity g c =
     let same = c.in_ok-heap.ensures.cases.1 in
     let all = c.self.invariant.len in
+    let mapped = len-mapped unplaced c.self.inside.jobs.live in
     let kept = clone_len (clones_job g.T.Clone.is_clone) c.self.inside.jobs c.in_ok-jobs.jobs c.in_ok-jobs.ensures.clones in
     let fits = c.in_ok-jobs.ensures.valid.capacity_fits in
     omega (arith, c.len.ensures, c.capacity.ensures.value)
@@ -22,10 +25,12 @@ invariant_of-result g c =
     (omega (arith, c.len.ensures, c.capacity.ensures.value))
 
 pub returns-clause-clones : goal.returns-clause-clones
-returns-clause-clones g c = rw (← c.self.view_is) (waiting_cloned g.T.Clone.is_clone c.self.inside.jobs c.in_ok-jobs.jobs c.in_ok-jobs.ensures.clones c.self.invariant.turns)
+returns-clause-clones g c = rw (← c.self.view_is) (waiting_copied g.T.Clone.is_clone c.self.inside.jobs c.in_ok-jobs.jobs c.in_ok-jobs.ensures.clones c.self.inside.count c.self.inside.heap c.self.invariant)
 
 pub returns-clause-same_if_clones_equal : goal.returns-clause-same_if_clones_equal
 returns-clause-same_if_clones_equal g c same = same_waiting g.T.Clone.is_clone same _ _ (returns-clause-clones g c)
 
 pub returns-clause-handles : goal.returns-clause-handles
-returns-clause-handles g c = rw (← c.self.view_is) (handles_copied (clones_job g.T.Clone.is_clone) c.self.inside.jobs c.in_ok-jobs.jobs c.self.inside.heap c.reserve.new.self c.in_ok-jobs.ensures.clones)
+returns-clause-handles g c =
+    rw (← c.self.view_is) (handles_copied (timed c.self.inside.jobs) (timed c.in_ok-jobs.jobs) c.self.inside.heap c.reserve.new.self (Clones g.T.Clone.is_clone)
+    (timed_clones g.T.Clone.is_clone c.self.inside.jobs c.in_ok-jobs.jobs c.in_ok-jobs.ensures.clones c.self.inside.count c.self.inside.heap c.self.invariant))

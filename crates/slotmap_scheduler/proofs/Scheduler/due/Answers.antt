@@ -1,17 +1,13 @@
-use Rattle.std.proofs.Common.{◌≡◌, ap, sym, ◌∙◌}
+use Rattle.std.proofs.Common.{sym, ap, ◌∙◌}
 use Rattle.std.specs.Option.{option_map}
-use Rattle.std.specs.FinMap as map
 use Rattle.slotmap_scheduler.specs.declared.Job.{Job}
-use Rattle.slotmap_scheduler.proofs.Seen.{due_is, none_copied}
+use Rattle.slotmap_scheduler.proofs.Seen.{due_seen, none_copied}
 use Rattle.slotmap_scheduler.proofs.Scheduler.due.Goals as goal
 
 pub returns : goal.returns
-returns g c =
-    let key : c.from.result ≡ g.K.Key.data_of c.args.handle = c.from.ensures ∙ c.data.ensures.value in
-    rw (← c.self.view_is) (ap (option_map (λ (j : Job g.row.T.Denot). j.turn.0)) (c.in_ok-get.ensures.value ∙ ap (map.get c.self.inside.jobs.live) key) ∙ due_is c.self.inside.jobs.live c.self.invariant.turns _)
+returns g c = rw (← c.self.view_is, ← c.inner.ensures) (ap (option_map (λ (j : Job g.row.T.Denot). j.turn.0)) c.in_ok-get.ensures.value ∙ due_seen c.self.inside.jobs c.self.inside.count c.self.invariant.order c.inner.result)
 
 pub returns-in_err-get : goal.returns-in_err-get
 returns-in_err-get g c =
-    let key : c.from.result ≡ g.K.Key.data_of c.args.handle = c.from.ensures ∙ c.data.ensures.value in
     let none = none_copied _ _ c.get.ensures.value c.in_err-get.was in
-    rw (← c.self.view_is) (c.from_residual.ensures ∙ ap (option_map (λ (j : Job g.row.T.Denot). j.turn.0)) (sym none ∙ ap (map.get c.self.inside.jobs.live) key) ∙ due_is c.self.inside.jobs.live c.self.invariant.turns _)
+    rw (← c.self.view_is, ← c.inner.ensures) (c.from_residual.ensures ∙ ap (option_map (λ (j : Job g.row.T.Denot). j.turn.0)) (sym none) ∙ due_seen c.self.inside.jobs c.self.inside.count c.self.invariant.order c.inner.result)

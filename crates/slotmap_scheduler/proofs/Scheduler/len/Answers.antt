@@ -1,6 +1,8 @@
-use Rattle.std.proofs.Common.{sym}
-use Rattle.slotmap_scheduler.proofs.Seen.{len_is}
+use Rattle.std.proofs.Common.{sym, ◌∙◌}
+use Rattle.slotmap_keylist.proofs.Mapped.{len-mapped}
+use Rattle.slotmap_scheduler.specs.Heap.{unplaced, timed}
+use Rattle.slotmap_scheduler.proofs.Order.{len_is}
 use Rattle.slotmap_scheduler.proofs.Scheduler.len.Goals as goal
 
 pub returns : goal.returns
-returns g c = rw (← c.self.view_is) (sym (len_is c.self.inside.jobs.live c.self.invariant.turns c.len.result (sym c.len.ensures.value)))
+returns g c = rw (← c.self.view_is) (c.len.ensures.value ∙ sym (len_is (timed c.self.inside.jobs).live c.self.inside.count c.self.invariant.order ∙ len-mapped unplaced c.self.inside.jobs.live))

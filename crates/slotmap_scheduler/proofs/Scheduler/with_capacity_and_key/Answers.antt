@@ -1,15 +1,20 @@
-use Rattle.slotmap_scheduler.proofs.Schedules.{schedule_new, new_waits}
+use Rattle.std.proofs.Common.{ℕ, ap, ◌∙◌, arith}
+use Rattle.std.specs.Ordering.{nat_cmp}
+use Rattle.std.specs.FinMap as map
+use Rattle.slotmap_keylist.proofs.Mapped.{mapped-new}
+use Rattle.slotmap_scheduler.specs.Heap.{unplaced, timed}
+use Rattle.slotmap_scheduler.proofs.Schedules.{schedule_none, none_waits}
 use Rattle.slotmap_scheduler.proofs.Handles.{handles_new}
 use Rattle.slotmap_scheduler.proofs.Scheduler.with_capacity_and_key.Goals as goal
 
 pub invariant_of-result : goal.invariant_of-result
 invariant_of-result g c =
-    schedule_new c.in_ok-jobs.jobs c.in_ok-heap.heap c.in_ok-jobs.ensures.starts c.in_ok-heap.ensures.items c.in_ok-heap.ensures.len
+    let new = c.in_ok-jobs.ensures.starts in
+    let next = ap map.len new.next ∙ map.len-empty nat_cmp ℕ in
+    schedule_none c.in_ok-jobs.jobs 0 c.in_ok-heap.heap new.live c.in_ok-heap.ensures.len (omega arith)
 
 pub returns-clause-waiting : goal.returns-clause-waiting
-returns-clause-waiting g c =
-    new_waits c.in_ok-jobs.jobs c.in_ok-jobs.ensures.starts
+returns-clause-waiting g c = none_waits c.in_ok-jobs.jobs c.in_ok-jobs.ensures.starts.live
 
 pub returns-clause-handles : goal.returns-clause-handles
-returns-clause-handles g c =
-    handles_new c.in_ok-jobs.jobs c.in_ok-heap.heap c.in_ok-jobs.ensures.starts
+returns-clause-handles g c = handles_new (timed c.in_ok-jobs.jobs) c.in_ok-heap.heap (mapped-new unplaced c.in_ok-jobs.jobs c.in_ok-jobs.ensures.starts)

@@ -1,15 +1,18 @@
-use Rattle.std.proofs.Common.{sym, ◌∙◌, arith}
-use Rattle.slotmap_scheduler.proofs.Heaps.{risen}
-use Rattle.slotmap_scheduler.proofs.Handles.{resettled_then}
+use Rattle.std.proofs.Common.{false, sym, ◌∙◌, arith}
+use Rattle.slotmap_scheduler.proofs.Heaps.{resettled_same, resettled_then, heap_risen, compared}
 use Rattle.slotmap_scheduler.proofs.heap.sift_up.Goals as goal
+
+pub loop-at-init : goal.loop-at-init
+loop-at-init g c = record { within = c.requires.within; but = c.requires.but; resettled = resettled_same _ _ c.requires.placed }
+
+pub returns-then-not-is_before-clause-above : goal.returns-then-not-is_before-clause-above
+returns-then-not-is_before-clause-above g c some =
+    compared c.loop-at.heap c.loop-at.at _ c.index.result.now c.index-in-loop-at.result.now c.loop-at.invariant.within (omega arith) c.index.ensures c.index-in-loop-at.ensures false
+    (sym c.is_before.ensures ∙ c.if-not-is_before.true)
 
 pub loop-at-preserved : goal.loop-at-preserved
 loop-at-preserved g c = record {
-  within = (let now = c.loop-at.invariant.within in let len = c.exchange.ensures.len in omega arith);
-  placed = c.exchange.ensures.placed;
-  but = risen c.loop-at.heap c.exchange.new.heap c.loop-at.at c.loop-at-test.true c.loop-at.invariant.within c.index-in-loop-at.result.now c.index.result.now c.index-in-loop-at.ensures c.index.ensures
-      c.loop-at.invariant.but c.exchange.ensures.swapped (sym c.is_before.ensures ∙ c.if-not-is_before.false);
-  resettled = resettled_then _ _ _ c.loop-at.invariant.resettled c.exchange.ensures.resettled;
-  len = c.exchange.ensures.len ∙ c.loop-at.invariant.len;
-  capacity = c.exchange.ensures.capacity ∙ c.loop-at.invariant.capacity;
+  within = (let now = c.loop-at.invariant.within in let len = c.exchange.ensures.resettled.len in omega arith);
+  but = heap_risen c.loop-at.heap c.loop-at.at c.loop-at.invariant.but c.exchange.new.heap c.exchange.ensures.resettled.len c.loop-at-test.true c.exchange.ensures.swapped;
+  resettled = resettled_then c.loop-at.invariant.resettled c.exchange.ensures.resettled;
 }

@@ -1,51 +1,48 @@
-use Rattle.std.proofs.Common.{sym, ◌∙◌}
-use Rattle.slotmap_scheduler.proofs.Gaps.{in_heap, last_placed, last_heap, gap_within, gap_but, gap_live, gap_placed}
-use Rattle.slotmap_scheduler.proofs.Handles.{resettled_then, resettled_place}
+use Rattle.std.proofs.Common.{◌≢◌, vec_len, sym, ◌∙◌}
+use Rattle.slotmap_keylist.proofs.Mapped.{mapped-removes, mapped-stays}
+use Rattle.slotmap_scheduler.specs.Heap.{unplaced}
+use Rattle.slotmap_scheduler.proofs.Places.{in_heap, last_placed, last_heap, gap_within, gap_but, gap_live, gap_placed, place_written}
 use Rattle.slotmap_scheduler.proofs.heap.take_out.Goals as goal
 
 pub swap_remove-requires : goal.swap_remove-requires
-swap_remove-requires g c =
-    in_heap c.args.jobs.now.live c.args.heap.now c.requires.placed c.args.handle c.in_ok-removed.removed (sym c.remove.ensures.value ∙ c.in_ok-removed.was)
+swap_remove-requires g c = in_heap c.args.jobs.now c.args.heap.now c.requires.placed c.args.handle c.in_ok-removed.removed (sym c.remove.ensures.value ∙ c.in_ok-removed.was)
+
+pub returns-then-removed-len-clause-leaves : goal.returns-then-removed-len-clause-leaves
+returns-then-removed-len-clause-leaves g c = (mapped-removes unplaced _ _ c.args.handle c.in_ok-removed.ensures.removes, mapped-stays unplaced _ _ c.remove.ensures.valid)
 
 pub returns-then-removed-len-clause-placed : goal.returns-then-removed-len-clause-placed
 returns-then-removed-len-clause-placed g c =
-    rw c.remove.ensures.live (last_placed c.args.jobs.now.live c.args.heap.now c.requires.placed c.args.handle c.in_ok-removed.removed (sym c.remove.ensures.value ∙ c.in_ok-removed.was)
+    rw c.remove.ensures.live (last_placed c.args.jobs.now c.args.heap.now c.requires.placed c.args.handle c.in_ok-removed.removed (sym c.remove.ensures.value ∙ c.in_ok-removed.was)
     c.swap_remove.new.self c.swap_remove.ensures.len c.swap_remove.ensures.by_index (c.if-removed-len.true ∙ c.len.ensures))
 
 pub returns-then-removed-len-clause-heap : goal.returns-then-removed-len-clause-heap
 returns-then-removed-len-clause-heap g c =
-    last_heap c.args.jobs.now.live c.args.heap.now c.requires.placed c.args.handle c.in_ok-removed.removed (sym c.remove.ensures.value ∙ c.in_ok-removed.was)
+    last_heap c.args.jobs.now c.args.heap.now c.requires.placed c.args.handle c.in_ok-removed.removed (sym c.remove.ensures.value ∙ c.in_ok-removed.was)
     c.swap_remove.new.self c.swap_remove.ensures.len c.swap_remove.ensures.by_index (c.if-removed-len.true ∙ c.len.ensures) c.requires.ordered
 
 pub index-requires : goal.index-requires
 index-requires g c =
-    gap_within c.args.jobs.now.live c.args.heap.now c.requires.placed c.args.handle c.in_ok-removed.removed (sym c.remove.ensures.value ∙ c.in_ok-removed.was)
+    gap_within c.args.jobs.now c.args.heap.now c.requires.placed c.args.handle c.in_ok-removed.removed (sym c.remove.ensures.value ∙ c.in_ok-removed.was)
     c.swap_remove.new.self c.swap_remove.ensures.len c.swap_remove.ensures.by_index (λ same. c.if-removed-len.false (same ∙ sym c.len.ensures))
 
 pub index_mut-requires : goal.index_mut-requires
 index_mut-requires g c =
-    rw c.remove.ensures.live (gap_live c.args.jobs.now.live c.args.heap.now c.requires.placed c.args.handle c.in_ok-removed.removed (sym c.remove.ensures.value ∙ c.in_ok-removed.was)
+    rw c.remove.ensures.live (gap_live c.args.jobs.now c.args.heap.now c.requires.placed c.args.handle c.in_ok-removed.removed (sym c.remove.ensures.value ∙ c.in_ok-removed.was)
     c.swap_remove.new.self c.swap_remove.ensures.len c.swap_remove.ensures.by_index (λ same. c.if-removed-len.false (same ∙ sym c.len.ensures)) c.index.result.now c.index.ensures)
 
-pub settle-requires-clause-placed : goal.settle-requires-clause-placed
-settle-requires-clause-placed g c =
-    rw c.remove.ensures.live (gap_placed c.args.jobs.now.live c.args.heap.now c.requires.placed c.args.handle c.in_ok-removed.removed (sym c.remove.ensures.value ∙ c.in_ok-removed.was)
-    c.swap_remove.new.self c.swap_remove.ensures.len c.swap_remove.ensures.by_index (λ same. c.if-removed-len.false (same ∙ sym c.len.ensures)) c.index.result.now c.index.ensures c.index_mut.result.now (rw c.remove.ensures.live at c.index_mut.ensures.value))
-
-pub settle-requires-clause-but : goal.settle-requires-clause-but
-settle-requires-clause-but g c =
-    gap_but c.args.jobs.now.live c.args.heap.now c.requires.placed c.args.handle c.in_ok-removed.removed (sym c.remove.ensures.value ∙ c.in_ok-removed.was)
-    c.swap_remove.new.self c.swap_remove.ensures.len c.swap_remove.ensures.by_index (λ same. c.if-removed-len.false (same ∙ sym c.len.ensures)) c.requires.ordered
-
-pub settle-requires-clause-within : goal.settle-requires-clause-within
-settle-requires-clause-within g c =
-    gap_within c.args.jobs.now.live c.args.heap.now c.requires.placed c.args.handle c.in_ok-removed.removed (sym c.remove.ensures.value ∙ c.in_ok-removed.was)
-    c.swap_remove.new.self c.swap_remove.ensures.len c.swap_remove.ensures.by_index (λ same. c.if-removed-len.false (same ∙ sym c.len.ensures))
+pub settle-requires : goal.settle-requires
+settle-requires g c =
+    let was = sym c.remove.ensures.value ∙ c.in_ok-removed.was in
+    let by = c.swap_remove.ensures in
+    let apart : c.in_ok-removed.removed.place ≢ vec_len c.swap_remove.new.self = λ same. c.if-removed-len.false (same ∙ sym c.len.ensures) in
+    record {
+      placed = rw c.remove.ensures.live (gap_placed c.args.jobs.now c.args.heap.now c.requires.placed c.args.handle c.in_ok-removed.removed was c.swap_remove.new.self by.len by.by_index apart
+          c.index.result.now c.index.ensures c.index_mut.result.now (rw c.remove.ensures.live at c.index_mut.ensures.value));
+      but = gap_but c.args.jobs.now c.args.heap.now c.requires.placed c.args.handle c.in_ok-removed.removed was c.swap_remove.new.self by.len by.by_index apart c.requires.ordered;
+      within = gap_within c.args.jobs.now c.args.heap.now c.requires.placed c.args.handle c.in_ok-removed.removed was c.swap_remove.new.self by.len by.by_index apart;
+    }
 
 pub returns-clause-leaves : goal.returns-clause-leaves
-returns-clause-leaves g c = record {
-  mid = c.remove.new.self;
-  removes = c.in_ok-removed.ensures.removes;
-  valid = c.remove.ensures.valid;
-  settled = resettled_then _ _ _ (resettled_place c.remove.new.self c.index.result.now.handle c.index_mut.result.now c.in_ok-removed.removed.place c.index_mut.ensures.value) c.settle.ensures.resettled;
-}
+returns-clause-leaves g c =
+    rw (c.settle.ensures.resettled.same, place_written c.remove.new.self c.index.result.now.handle c.index_mut.result.now c.in_ok-removed.removed.place c.index_mut.ensures.value)
+    (mapped-removes unplaced _ _ c.args.handle c.in_ok-removed.ensures.removes, mapped-stays unplaced _ _ c.remove.ensures.valid)

@@ -1,11 +1,9 @@
-use Rattle.std.proofs.Common.{◌≡◌, ◌++◌, ◌≤◌, ℕ, length}
-use Rattle.std.specs.List.{All}
-use Rattle.slotmap_scheduler.specs.Schedule.{Waiting}
+use Rattle.std.proofs.Common.{◌≡◌, length}
+use Rattle.slotmap_scheduler.specs.Listed.{left_at}
 use Rattle.structure_examples.proofs.timer.run_due.Given as goal
 
--- those that were taken out were due
 abbrev pub invariant-loop-job : goal.invariant-loop-job
-invariant-loop-job l = (due : Waiting ℕ) × (l.fn.scheduler.waiting ≡ due ++ l.scheduler.waiting) × All (λ e. e.1.0 ≤ l.now) due
+invariant-loop-job l = left_at l.now l.scheduler.waiting ≡ left_at l.now l.fn.scheduler.waiting
 
 abbrev pub decreases-loop-job : goal.decreases-loop-job
 decreases-loop-job l = length l.scheduler.waiting

@@ -1,0 +1,35 @@
+-- What callers of a scheduler cite: which jobs a loop over `pop_due` took out.
+use Rattle.std.proofs.Common.{◌≡◌, ℕ, ◌<◌, ◌≤◌, true, false, cond, [], ◌∷◌, ◌++◌, refl, sym, ap, ◌∙◌, arith}
+use Rattle.std.specs.Prelude.{nat_lt}
+use Rattle.std.specs.List.{All}
+use Rattle.std.proofs.lemmas.Bool.Decides.{nat_tests}
+use Rattle.std.proofs.lemmas.List.Elements.{All-nil, All-cons, All-head}
+use Rattle.slotmap.specs.Words.{Key}
+use Rattle.slotmap_scheduler.specs.Schedule.{Waiting}
+use Rattle.slotmap_scheduler.specs.Listed.{due_at, left_at}
+
+module _ {T : Type 0} (now : ℕ) where
+  abbrev IsDue : Key × (ℕ × T) → Type 0
+  IsDue e = e.1.0 ≤ now
+
+  abbrev IsLater : Key × (ℕ × T) → Type 0
+  IsLater e = now < e.1.0
+
+  due_and_left : (ws : Waiting T) → ws ≡ due_at now ws ++ left_at now ws
+  due_and_left [] = refl
+  due_and_left (e ∷ ws) = elim (nat_lt now e.1.0) as (λ b. e ∷ ws ≡ cond b [] (e ∷ due_at now ws) ++ cond b (e ∷ ws) (left_at now ws)) [ true ↦ refl | false ↦ ap (λ es. e ∷ es) (due_and_left ws) ]
+
+  all_due : (ws : Waiting T) → All IsDue (due_at now ws)
+  all_due [] = All-nil IsDue
+  all_due (e ∷ ws) = elim (nat_lt now e.1.0) as (λ b. nat_lt now e.1.0 ≡ b → All IsDue (cond b [] (e ∷ due_at now ws))) [
+    | true ↦ λ later. All-nil IsDue
+    | false ↦ λ due. All-cons IsDue e (due_at now ws) (grind (arith, nat_tests)) (all_due ws)
+  ] refl
+
+  none_taken : (ws : Waiting T) → All IsLater ws → left_at now ws ≡ ws
+  none_taken [] later = refl
+  none_taken (e ∷ ws) later = let first = All-head IsLater e ws later in grind (arith, nat_tests)
+
+  -- a loop whose invariant says that the same jobs are left at `now` took out those that are due, and no others
+  pub due_taken : (old new : Waiting T) → left_at now new ≡ left_at now old → All (λ e. now < e.1.0) new → (due : Waiting T) × (old ≡ due ++ new) × All (λ e. e.1.0 ≤ now) due
+  due_taken old new same later = (due_at now old, due_and_left old ∙ ap (λ ws. due_at now old ++ ws) (sym same ∙ none_taken new later), all_due old)

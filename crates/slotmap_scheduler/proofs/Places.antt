@@ -1,0 +1,188 @@
+-- The places of the jobs in the heap, and how a change of both keeps them.
+use Rattle.std.proofs.Common.{◌≡◌, ◌≢◌, ℕ, ◌+◌, ◌-◌, ◌<◌, ◌≤◌, ◌⊎◌, true, false, List, Option, Some, None, is_some, get_or, length, refl, sym, ap, ◌∙◌, inl, inr, arith}
+use Rattle.std.specs.Prelude.{nat_lt, option_map, vec_len, vec_capacity}
+use Rattle.std.specs.declared.vec.Vec.{Vec}
+use Rattle.std.specs.List.{SwappedAt}
+use Rattle.std.specs.FinMap as map
+use Rattle.std.proofs.lemmas.Bool.Decides.{nat_tests}
+use Rattle.std.proofs.lemmas.Option.{slice_get_past, slice_get-get_or, slice_get_read}
+use Rattle.slotmap.specs.Words.{Key, Content, with_value}
+use Rattle.slotmap.proofs.Callers.{keys, get-insert_here, get-insert_other, same_or_other, live-insert_still, live-remove_other}
+use Rattle.slotmap_keylist.proofs.Mapped.{mapped-written}
+use Rattle.slotmap_scheduler.specs.declared.Job.{Job}
+use Rattle.slotmap_scheduler.specs.declared.heap.Entry.{Entry}
+use Rattle.slotmap_scheduler.specs.Timed.{Turn}
+use Rattle.slotmap_scheduler.specs.Heap.{Jobs, no_entry, entry_at, spot_of, IsPlaced, IsHeap, IsHeapBut, Resettled, unplaced, timed}
+use Rattle.slotmap_scheduler.proofs.Inverse.{exchanged, moved, put, dropped}
+use Rattle.slotmap_scheduler.proofs.Ordered.{same_or_not}
+use Rattle.slotmap_scheduler.proofs.Heaps.{heap_put, heap_left}
+
+same_or_past : (i n : ℕ) → (i < n) ⊎ (n ≤ i)
+same_or_past i n = elim (nat_lt i n) as (λ b. nat_lt i n ≡ b → (i < n) ⊎ (n ≤ i)) [ true ↦ λ is. inl (grind (arith, nat_tests)) | false ↦ λ is. inr (grind (arith, nat_tests)) ] refl
+
+-- one list has at j what the other has at i
+pub read_alike : (xs ys : List Entry) (i j : ℕ) → (j < length ys → (i < length xs) × (get_or ys j no_entry ≡ get_or xs i no_entry)) → (length ys ≤ j → length xs ≤ i) → entry_at ys j ≡ entry_at xs i
+read_alike xs ys i j inside past = elim (same_or_past j (length ys)) [
+  | inl within ↦ (let both = inside within in ap (option_map _) (slice_get-get_or ys j no_entry within ∙ ap Some both.1 ∙ sym (slice_get-get_or xs i no_entry both.0)))
+  | inr beyond ↦ ap (option_map _) (slice_get_past ys j beyond ∙ sym (slice_get_past xs i (past beyond)))
+]
+
+pub entry_is : {Z : Type 0} (heap : Vec Entry Z) (i : ℕ) (x : Entry) → i < vec_len heap → x ≡ get_or heap.items i x → entry_at heap.items i ≡ Some (x.handle, x.turn)
+entry_is heap i x within is = ap (option_map (λ (e : Entry). (e.handle, e.turn))) (slice_get_read heap.items (vec_len heap) i x heap.ok.0 within is)
+
+pub entry_within : (xs : List Entry) (i : ℕ) (y : Key × Turn) → entry_at xs i ≡ Some y → i < length xs
+entry_within xs i y there = elim (same_or_past i (length xs)) [ inl within ↦ within | inr past ↦ absurd (let e = slice_get_past xs i past in cc) ]
+
+module _ {T : Type 0} (jobs : Jobs T) (heap : List Entry) (is : IsPlaced jobs heap) where
+  -- a job gets a place and a turn, where no other job has the place
+  pub placed_put : (new : List Entry) (k : Key) (j : Job T) (at : ℕ) → j.place ≡ at → entry_at new at ≡ Some (k, j.turn) → ((i : ℕ) → i ≢ at → entry_at new i ≡ entry_at heap i)
+      → ((q : Key) (t : Turn) → spot_of jobs q ≡ Some (at, t) → q ≡ k) → ((i : ℕ) (t : Turn) → entry_at heap i ≡ Some (k, t) → i ≡ at) → IsPlaced (map.insert jobs k j) new
+  placed_put new k j at place here others only_place only_key = put same_or_other same_or_not (spot_of jobs) _ (entry_at heap) _ is k at j.turn
+      (record { here = ap (option_map _) (get-insert_here jobs k j) ∙ ap (λ p. Some (p, j.turn)) place; others = λ q other. ap (option_map _) (get-insert_other jobs k j q other); alone = only_place })
+      (record { here = here; others = others; alone = only_key })
+
+-- a job that gets another place keeps all else
+pub place_written : {T : Type 0} (jobs : Content (Job T)) (k : Key) (j : Job T) (p : ℕ) → map.get jobs.live k ≡ Some j → timed (with_value jobs k (record j { place = p })) ≡ timed jobs
+place_written jobs k j p found = mapped-written unplaced jobs (with_value jobs k (record j { place = p })) k (record j { place = p }) j found refl refl
+
+module _ {T Z : Type 0} (jobs : Content (Job T)) (heap : Vec Entry Z) (is : IsPlaced jobs.live heap.items) where
+  -- the handle of an entry is live
+  pub placed_live : (i : ℕ) (k : Key) (t : Turn) → entry_at heap.items i ≡ Some (k, t) → map.contains_key jobs.live k ≡ true
+  placed_live i k t there = some_there (map.get jobs.live k) (is.from i k t there)
+    where
+      some_there : (o : Option (Job T)) → option_map {U = ℕ × Turn} (λ (j : Job T). (j.place, j.turn)) o ≡ Some (i, t) → is_some o ≡ true
+      some_there o at = grind arith
+
+  -- a job leaves, and the last entry takes the place of its own
+  module _ (k : Key) (j : Job T) (found : map.get jobs.live k ≡ Some j) where
+    spot_k : spot_of jobs.live k ≡ Some (j.place, j.turn)
+    spot_k = ap (option_map _) found
+
+    pub in_heap : j.place < vec_len heap
+    in_heap = omega (arith, entry_within heap.items j.place (k, j.turn) (is.to k j.place j.turn spot_k), heap.ok.0)
+
+    spot_gone : spot_of (map.remove jobs.live k) k ≡ None
+    spot_gone = let none : map.get (map.remove jobs.live k) k ≡ None = grind (arith, keys) in ap (option_map _) none
+
+    spot_left : (q : Key) → q ≢ k → spot_of (map.remove jobs.live k) q ≡ spot_of jobs.live q
+    spot_left q other = let same : map.get (map.remove jobs.live k) q ≡ map.get jobs.live q = grind (arith, keys) in ap (option_map _) same
+
+    module _ (new : Vec Entry Z) (len : vec_len new + 1 ≡ vec_len heap) (by : ((d : Entry) → j.place + 1 < vec_len heap → get_or new.items j.place d ≡ get_or heap.items (vec_len heap - 1) d)
+        × ((i : ℕ) (d : Entry) → i ≢ j.place → i + 1 < vec_len heap → get_or new.items i d ≡ get_or heap.items i d)) where
+      kept : (i : ℕ) → i ≢ j.place → i + 1 ≢ vec_len heap → entry_at new.items i ≡ entry_at heap.items i
+      kept i other not_last = read_alike heap.items new.items i i (λ within. (omega (arith, heap.ok.0, new.ok.0), by.1 i no_entry other (omega (arith, new.ok.0)))) (λ past. omega (arith, heap.ok.0, new.ok.0))
+
+      past_end : (i : ℕ) → vec_len new ≤ i → entry_at new.items i ≡ None
+      past_end i past = ap (option_map _) (slice_get_past new.items i (omega (arith, new.ok.0)))
+
+      -- it was the last itself
+      module _ (end : j.place ≡ vec_len new) where
+        pub last_placed : IsPlaced (map.remove jobs.live k) new.items
+        last_placed = dropped same_or_other same_or_not (spot_of jobs.live) _ (entry_at heap.items) _ is k j.place j.turn spot_k (record { gone = spot_gone; others = spot_left })
+            (record { gone = past_end j.place (omega arith); others = λ i other. kept i other (λ same. other (omega arith)) })
+
+        pub last_heap : IsHeap heap.items → IsHeap new.items
+        last_heap ordered = heap_left heap.items new.items ordered (omega (arith, heap.ok.0, new.ok.0)) (λ i inside. by.1 i no_entry (λ same. absurd (omega (arith, new.ok.0))) (omega (arith, new.ok.0)))
+
+      module _ (apart : j.place ≢ vec_len new) where
+        pub gap_within : j.place < vec_len new
+        gap_within = let inside = in_heap in omega arith
+
+        pub gap_but : IsHeap heap.items → IsHeapBut j.place new.items
+        gap_but ordered = heap_put heap.items new.items ordered j.place (λ i inside other. (omega (arith, heap.ok.0, new.ok.0), by.1 i no_entry other (omega (arith, new.ok.0))))
+
+        here : entry_at new.items j.place ≡ entry_at heap.items (vec_len new)
+        here = let inside = in_heap in
+            let last : vec_len heap - 1 ≡ vec_len new = omega arith in
+            read_alike heap.items new.items (vec_len new) j.place (λ _. (omega (arith, heap.ok.0), by.0 no_entry (omega arith) ∙ ap (λ n. get_or heap.items n no_entry) last)) (λ past. absurd (omega (arith, new.ok.0)))
+
+        module _ (m : Entry) (read : m ≡ get_or new.items j.place m) where
+          was_last : entry_at heap.items (vec_len new) ≡ Some (m.handle, m.turn)
+          was_last = sym here ∙ entry_is new j.place m gap_within read
+
+          spot_m : spot_of jobs.live m.handle ≡ Some (vec_len new, m.turn)
+          spot_m = is.from (vec_len new) m.handle m.turn was_last
+
+          another : m.handle ≢ k
+          another same = apart (place_of (spot_of jobs.live k) spot_k (ap (spot_of jobs.live) (sym same) ∙ spot_m))
+            where
+              place_of : (o : Option (ℕ × Turn)) → o ≡ Some (j.place, j.turn) → o ≡ Some (vec_len new, m.turn) → j.place ≡ vec_len new
+              place_of o x y = grind arith
+
+          pub gap_live : map.contains_key (map.remove jobs.live k) m.handle ≡ true
+          gap_live = live-remove_other jobs.live k m.handle another (placed_live (vec_len new) m.handle m.turn was_last)
+
+          module _ (jm : Job T) (found_m : map.get (map.remove jobs.live k) m.handle ≡ Some jm) where
+            spot_now : spot_of (map.insert (map.remove jobs.live k) m.handle (record jm { place = j.place })) m.handle ≡ Some (j.place, m.turn)
+            spot_now = grind (arith, get-insert_here (map.remove jobs.live k) m.handle (record jm { place = j.place }), spot_left m.handle another, spot_m, found_m)
+
+            pub gap_placed : IsPlaced (map.insert (map.remove jobs.live k) m.handle (record jm { place = j.place })) new.items
+            gap_placed = moved same_or_other same_or_not (spot_of jobs.live) _ (entry_at heap.items) _ is k m.handle j.place (vec_len new) j.turn m.turn spot_k spot_m
+                (ap (option_map _) (get-insert_other (map.remove jobs.live k) m.handle (record jm { place = j.place }) k (λ same. another (sym same))) ∙ spot_gone) spot_now
+                (λ q nk nm. ap (option_map _) (get-insert_other (map.remove jobs.live k) m.handle (record jm { place = j.place }) q nm) ∙ spot_left q nk) here (past_end (vec_len new) (omega arith))
+                (λ i other not_last. kept i other (λ same. not_last (omega arith)))
+
+  -- two entries are exchanged: that at a was at b, and the other way round
+  module _ (new : Vec Entry Z) (a b : ℕ) (in_a : a < vec_len heap) (in_b : b < vec_len heap) (len : vec_len new ≡ vec_len heap) (by : SwappedAt heap.items new.items a b) where
+    first : entry_at new.items a ≡ entry_at heap.items b
+    first = read_alike heap.items new.items b a (λ _. (omega (arith, heap.ok.0), by.0 no_entry)) (λ past. absurd (omega (arith, new.ok.0)))
+
+    second : entry_at new.items b ≡ entry_at heap.items a
+    second = read_alike heap.items new.items a b (λ _. (omega (arith, heap.ok.0), by.1 no_entry)) (λ past. absurd (omega (arith, new.ok.0)))
+
+    rest : (i : ℕ) → i ≢ a → i ≢ b → entry_at new.items i ≡ entry_at heap.items i
+    rest i na nb = read_alike heap.items new.items i i (λ within. (omega (arith, heap.ok.0, new.ok.0), by.2 i no_entry na nb)) (λ past. omega (arith, heap.ok.0, new.ok.0))
+
+    module _ (ea : Entry) (is_a : ea ≡ get_or new.items a ea) where
+      was_a : entry_at heap.items b ≡ Some (ea.handle, ea.turn)
+      was_a = sym first ∙ entry_is new a ea (omega arith) is_a
+
+      pub first_live : map.contains_key jobs.live ea.handle ≡ true
+      first_live = placed_live b ea.handle ea.turn was_a
+
+      module _ (eb : Entry) (is_b : eb ≡ get_or new.items b eb) (ja : Job T) (found_a : map.get jobs.live ea.handle ≡ Some ja) where
+        was_b : entry_at heap.items a ≡ Some (eb.handle, eb.turn)
+        was_b = sym second ∙ entry_is new b eb (omega arith) is_b
+
+        pub second_live : map.contains_key (map.insert jobs.live ea.handle (record ja { place = a })) eb.handle ≡ true
+        second_live = live-insert_still jobs.live ea.handle (record ja { place = a }) eb.handle (placed_live a eb.handle eb.turn was_b)
+
+        module _ (differ : a ≢ b) (jb : Job T) (found_b : map.get (map.insert jobs.live ea.handle (record ja { place = a })) eb.handle ≡ Some jb) where
+          spot_a : spot_of jobs.live ea.handle ≡ Some (b, ea.turn)
+          spot_a = is.from b ea.handle ea.turn was_a
+
+          spot_b : spot_of jobs.live eb.handle ≡ Some (a, eb.turn)
+          spot_b = is.from a eb.handle eb.turn was_b
+
+          two : ea.handle ≢ eb.handle
+          two same = differ (place_of (spot_of jobs.live ea.handle) spot_a (ap (spot_of jobs.live) same ∙ spot_b))
+            where
+              place_of : (o : Option (ℕ × Turn)) → o ≡ Some (b, ea.turn) → o ≡ Some (a, eb.turn) → a ≡ b
+              place_of o x y = grind arith
+
+          now_a : spot_of (map.insert (map.insert jobs.live ea.handle (record ja { place = a })) eb.handle (record jb { place = b })) ea.handle ≡ Some (a, ea.turn)
+          now_a = grind (
+            arith,
+            get-insert_other (map.insert jobs.live ea.handle (record ja { place = a })) eb.handle (record jb { place = b }) ea.handle two,
+            get-insert_here jobs.live ea.handle (record ja { place = a }),
+            spot_a,
+            found_a,
+          )
+
+          now_b : spot_of (map.insert (map.insert jobs.live ea.handle (record ja { place = a })) eb.handle (record jb { place = b })) eb.handle ≡ Some (b, eb.turn)
+          now_b = grind (
+            arith,
+            get-insert_here (map.insert jobs.live ea.handle (record ja { place = a })) eb.handle (record jb { place = b }),
+            get-insert_other jobs.live ea.handle (record ja { place = a }) eb.handle (λ same. two (sym same)),
+            spot_b,
+            found_b,
+          )
+
+          pub resettled_swap : vec_capacity new ≡ vec_capacity heap → Resettled jobs heap (with_value (with_value jobs ea.handle (record ja { place = a })) eb.handle (record jb { place = b })) new
+          resettled_swap capacity = record {
+            placed = exchanged same_or_other same_or_not (spot_of jobs.live) _ (entry_at heap.items) _ is ea.handle eb.handle a b ea.turn eb.turn spot_a spot_b now_a now_b
+                (λ q na nb. ap (option_map _) (get-insert_other _ eb.handle (record jb { place = b }) q nb ∙ get-insert_other jobs.live ea.handle (record ja { place = a }) q na)) first second rest;
+            same = place_written (with_value jobs ea.handle (record ja { place = a })) eb.handle jb b found_b ∙ place_written jobs ea.handle ja a found_a;
+            len = len;
+            capacity = capacity;
+          }

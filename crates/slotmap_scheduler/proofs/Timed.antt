@@ -1,0 +1,78 @@
+-- Jobs by their turns: no two have one turn, so each is found by its turn.
+use Rattle.std.proofs.Common.{◌≡◌, ℕ, ◌<◌, Bool, true, false, cond, List, [], ◌∷◌, Option, Some, refl, sym, ap, ◌∙◌, arith}
+use Rattle.std.specs.Prelude.{map as list_map}
+use Rattle.std.specs.Ordering.{nat_cmp, eq_by_cmp}
+use Rattle.std.specs.Cmp.{IsTotalOrder, nat_cmp_total}
+use Rattle.std.specs.List.{AllByRecursion}
+use Rattle.std.specs.FinMap as map
+use Rattle.std.specs.FinMap.Entries.{find}
+use Rattle.std.proofs.lemmas.Cmp.{on_total, then_total}
+use Rattle.std.proofs.lemmas.Map.Lookups.{CmpEqualImpliesEq, exact_pairs, exact_unsigned}
+use Rattle.slotmap.specs.Words.{Key, key_cmp}
+use Rattle.slotmap.proofs.Callers.{keys_total, exact_keys, tied, untied}
+use Rattle.slotmap_scheduler.specs.Timed.{Turn, turn_cmp}
+use Rattle.slotmap_scheduler.specs.Inverse.{IsInverse}
+use Rattle.slotmap_scheduler.specs.Timed.{Timed, by_turn, seen, waiting_of, InOrder}
+use Rattle.slotmap_scheduler.proofs.Sorted.{same_option, all_of}
+
+pub exact_turns : CmpEqualImpliesEq turn_cmp
+exact_turns = exact_pairs nat_cmp nat_cmp exact_unsigned exact_unsigned
+
+pub turns_total : IsTotalOrder turn_cmp
+turns_total = then_total (on_total (λ (t : Turn). t.0) nat_cmp_total) (on_total (λ (t : Turn). t.1) nat_cmp_total)
+
+module _ {T : Type 0} where
+  abbrev turned : Key × (Turn × T) → Turn × (Key × T)
+  turned e = (e.1.0, (e.0, e.1.1))
+
+  later : (t : Turn) (e : Turn × T) (job : T) (b : Bool) (o : Option (Turn × T)) → eq_by_cmp turn_cmp t e.0 ≡ false → cond b (Some e) o ≡ Some (t, job) → o ≡ Some (t, job)
+  later t e job b o other found = grind (arith, untied turns_total exact_turns t e.0)
+
+  module _ (jobs : Timed T) where
+    same_found : (q k : Key) (u t : Turn) (y x : T) → t ≡ u → map.get jobs q ≡ Some (u, y) → ◌≡◌ {A = Option (Key × T)} (Some (q, y)) (Some (k, x)) → map.get jobs k ≡ Some (t, x)
+    same_found q k u t y x same there at = grind arith
+
+    found_turn : (es : List (Key × (Turn × T))) → AllByRecursion (λ (e : Key × (Turn × T)). map.get jobs e.0 ≡ Some e.1) es → (t : Turn) (k : Key) (job : T)
+        → find turn_cmp t (list_map turned es) ≡ Some (k, job) → map.get jobs k ≡ Some (t, job)
+    found_turn [] all t k job = λ at. absurd (cc)
+    found_turn (e ∷ es) all t k job = elim (eq_by_cmp turn_cmp t e.1.0) as (λ b. eq_by_cmp turn_cmp t e.1.0 ≡ b → cond b (Some (e.0, e.1.1)) (find turn_cmp t (list_map turned es)) ≡ Some (k, job) → map.get jobs k ≡ Some (t, job)) [
+      | true ↦ λ same at. same_found e.0 k e.1.0 t e.1.1 job (tied turns_total exact_turns t e.1.0 same) all.0 at
+      | false ↦ λ other at. found_turn es all.1 t k job at
+    ] refl
+
+    module _ (one : (k q : Key) (t : Turn) (x y : T) → map.get jobs k ≡ Some (t, x) → map.get jobs q ≡ Some (t, y) → k ≡ q) where
+      same_entry : (k q : Key) (t u : Turn) (x y : T) → t ≡ u → map.get jobs k ≡ Some (t, x) → map.get jobs q ≡ Some (u, y) → ◌≡◌ {A = Option (Key × T)} (Some (q, y)) (Some (k, x))
+      same_entry k q t u x y same at there = grind (arith, one k q t x y)
+
+      turn_found : (es : List (Key × (Turn × T))) → AllByRecursion (λ (e : Key × (Turn × T)). map.get jobs e.0 ≡ Some e.1) es → (k : Key) (t : Turn) (job : T)
+          → map.get jobs k ≡ Some (t, job) → find key_cmp k es ≡ Some (t, job) → find turn_cmp t (list_map turned es) ≡ Some (k, job)
+      turn_found [] all k t job at found = absurd (cc)
+      turn_found (e ∷ es) all k t job at found = elim (eq_by_cmp turn_cmp t e.1.0) as (λ b. eq_by_cmp turn_cmp t e.1.0 ≡ b → cond b (Some (e.0, e.1.1)) (find turn_cmp t (list_map turned es)) ≡ Some (k, job)) [
+        | true ↦ λ same. same_entry k e.0 t e.1.0 job e.1.1 (tied turns_total exact_turns t e.1.0 same) at all.0
+        | false ↦ λ other. turn_found es all.1 k t job at (later t e.1 job (eq_by_cmp key_cmp k e.0) (find key_cmp k es) other found)
+      ] refl
+
+      pub inverse : IsInverse (map.get jobs) (map.get (by_turn jobs))
+      unfolding by_turn
+      inverse =
+          let all = all_of keys_total exact_keys (λ k v. map.get jobs k ≡ Some v) jobs (λ k v there. there) in
+          let by = map.get-from_entries turns_total (list_map turned (map.entries jobs)) in
+          record {
+            to = λ k t job at. by t ∙ turn_found (map.entries jobs) all k t job at (sym (map.get-entries jobs k) ∙ at);
+            from = λ t k job at. found_turn (map.entries jobs) all t k job (sym (by t) ∙ at);
+          }
+
+    one_handle : (turns : map.FinMap turn_cmp (Key × T)) → IsInverse (map.get jobs) (map.get turns) → (k q : Key) (t : Turn) (x y : T) → map.get jobs k ≡ Some (t, x) → map.get jobs q ≡ Some (t, y) → k ≡ q
+    one_handle turns is k q t x y at there = grind (arith, is.to k t x at, is.to q t y there)
+
+    pub by_turn_is : (turns : map.FinMap turn_cmp (Key × T)) → IsInverse (map.get jobs) (map.get turns) → by_turn jobs ≡ turns
+    by_turn_is turns is =
+        let by = inverse (one_handle turns is) in
+        map.same_map turns_total exact_turns (by_turn jobs) turns (λ t. same_option _ _ (λ x there. is.to x.0 t x.1 (by.from t x.0 x.1 there)) (λ x there. by.to x.0 t x.1 (is.from t x.0 x.1 there)))
+
+  -- jobs that are in order, and how they wait, by what finds each by its turn
+  pub in_order : (jobs : Timed T) (count : ℕ) (turns : map.FinMap turn_cmp (Key × T)) → IsInverse (map.get jobs) (map.get turns) → map.len turns ≡ map.len jobs
+      → ((k : Key) (t : Turn) (job : T) → map.get jobs k ≡ Some (t, job) → t.1 < count) → InOrder jobs count × (waiting_of jobs ≡ list_map seen (map.entries turns))
+  in_order jobs count turns is len numbered =
+      let same = by_turn_is jobs turns is in
+      (record { turns = rw same is; len = rw same len; numbered = numbered }, ap (λ (m : map.FinMap turn_cmp (Key × T)). list_map seen (map.entries m)) same)
