@@ -5,6 +5,5 @@ pub mod Moved
 pub mod Placing
 pub mod Removals
 pub mod Showing
-pub mod Walking
 pub mod Weaving
 pub mod Worlds

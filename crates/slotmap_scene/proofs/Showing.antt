@@ -1,5 +1,5 @@
 -- The nodes that links show: what is known of each, what a change of the links shows, and what it requires of the nodes.
-use Rattle.std.proofs.Common.{◌≡◌, ℕ, true, false, Option, Some, None, Result, Ok, Err, IfOk, IfErr, OnErr, List, [], ◌∷◌, is_some, map as list_map, cond, refl, sym, ap, subst, ◌∙◌, inl, inr, arith, ◌≢◌, ◌+◌, ◌-◌, ◌≤◌, ◌++◌, ◌<◌, IfSome, length}
+use Rattle.std.proofs.Common.{◌≡◌, ℕ, true, false, Option, Some, None, Result, Ok, Err, IfOk, IfErr, OnErr, List, [], ◌∷◌, is_some, map as list_map, cond, refl, sym, ap, subst, ◌∙◌, inl, inr, arith, ◌≢◌, ◌≤◌, ◌++◌, ◌<◌, IfSome, length}
 use Rattle.std.specs.Option.{option_map}
 use Rattle.std.proofs.lemmas.Option.{same_Some}
 use Rattle.std.proofs.lemmas.Simd.{map-map}

@@ -1,12 +1,12 @@
 -- The links between nodes, and the nodes that they show.
-use Rattle.std.specs.Prelude.{◌≡◌, ◌<◌, ◌+◌, ◌-◌, ℕ, Option, Some, None, IfSome, List, ◌++◌, length, option_map, true}
+use Rattle.std.specs.Prelude.{◌≡◌, ◌<◌, ◌+◌, ◌-◌, ℕ, Option, Some, None, IfSome, List, ◌++◌, option_map, true}
 use Rattle.std.specs.FinMap as map
 use Rattle.slotmap.specs.Words.{Key, key_cmp, Content}
 use Rattle.slotmap_keylist.specs.declared.Ends.{Ends}
 use Rattle.slotmap_keylist.specs.declared.Link.{Link}
 use Rattle.slotmap_keylist.specs.Changed.{changed}
 use Rattle.slotmap_keylist.specs.KeyLists.{times}
-use Rattle.slotmap_keylist.specs.Linked.{first_or, last_or, link_between, followed, AreLinked, AreApart}
+use Rattle.slotmap_keylist.specs.Linked.{link_between, followed, AreLinked, AreApart}
 use Rattle.slotmap_keylist.specs.Mapped.{map_values, with_live}
 use Rattle.slotmap_scene.specs.Node.{Node, Nodes}
 use Rattle.slotmap_scene.specs.Above.{roots_by}
@@ -119,15 +119,3 @@ module _ {T : Type 0} where
   pub record IsPlace (nodes : Nodes T) (p : Key) (l : Link Key) (before after : List Key) : Type 0 where
     pub list : children_of nodes p ≡ before ++ after
     pub link : l ≡ link_between before after
-
-  -- a walk along a part of the list of a node: so many keys of it are left, and the links of its neighbours lead on from `first` and back from `last`
-  pub record IsWalk (m : LinkedNodes T) (left : ℕ) (first last : Option Key) : Type 0 where
-    pub woven : IsWoven m
-    pub owner : Key
-    pub before : List Key
-    pub keys : List Key
-    pub after : List Key
-    pub list : led_to m owner ≡ before ++ (keys ++ after)
-    pub long : length keys ≡ left
-    pub begins : first ≡ first_or (keys ++ after) None
-    pub ends : last ≡ last_or (before ++ keys) None

@@ -3,9 +3,10 @@
 ghost use Rattle.std.specs.Prelude.{◌≡◌, ◌≤◌, length, Some, IfSome, ⊤};
 ghost use Rattle.std.specs.Iterator.{YieldsFirstBy, YieldsLastBy, item_count, at_most, UpTo};
 ghost use Rattle.slotmap_keylist.specs.Linked.{followed};
-ghost use Rattle.slotmap_scene.specs.LinkedNodes.{IsWalk, link_of};
+ghost use Rattle.slotmap_keylist.specs.Segment.{IsSegment};
+ghost use Rattle.slotmap_scene.specs.LinkedNodes.{link_of};
 
-use crate::links::LinkedNodes;
+use crate::links::{LinkedNodes, link_of};
 use slotmap::{DefaultKey, Key};
 use slotmap_keylist::{Ends, outer};
 use std::alloc::AllocError;
@@ -32,19 +33,20 @@ impl<'a, K, T> Model for ChildKeys<'a, K, T> {
     ghost use Rattle.std.specs.Prelude.{List};
     ghost use Rattle.slotmap.specs.Words.{Key};
     ghost use Rattle.slotmap_keylist.specs.Linked.{follow};
-    ghost use Rattle.slotmap_scene.specs.LinkedNodes.{IsWalk, link_of};
+    ghost use Rattle.slotmap_keylist.specs.Segment.{IsSegment};
+    ghost use Rattle.slotmap_scene.specs.LinkedNodes.{link_of};
 
     ghost Value = { List Key };
 
     ghost view = { λ it. follow (link_of it.nodes.now.live) it.left it.first };
 
-    ghost invariant = { λ it. IsWalk it.nodes.now.live it.left it.first it.last };
+    ghost invariant = { λ it. IsSegment (link_of it.nodes.now.live) it.left it.first it.last };
 }
 
 impl<'a, K, T> ChildKeys<'a, K, T> {
     // The keys of a list with these ends.
     pub(crate) fn between(nodes: &'a LinkedNodes<T>, ends: Ends<DefaultKey>) -> ChildKeys<'a, K, T>
-        requires { IsWalk nodes.now.live ends.len ends.first ends.last }
+        requires { IsSegment (link_of nodes.now.live) ends.len ends.first ends.last }
         ensures { result ≡ followed (link_of nodes.now.live) ends }
     {
         ChildKeys {
@@ -92,9 +94,8 @@ impl<'a, K: Key, T: Drop> Iterator for ChildKeys<'a, K, T> {
             return None;
         }
         let key = self.first?;
-        let node = &self.nodes[key];
         self.left -= 1;
-        self.first = node.siblings.next;
+        self.first = link_of(self.nodes, key).next;
         Some(outer(key))
     }
 
@@ -116,9 +117,8 @@ impl<'a, K: Key, T: Drop> DoubleEndedIterator for ChildKeys<'a, K, T> {
             return None;
         }
         let key = self.last?;
-        let node = &self.nodes[key];
         self.left -= 1;
-        self.last = node.siblings.prev;
+        self.last = link_of(self.nodes, key).prev;
         Some(outer(key))
     }
 }

@@ -4,7 +4,7 @@
 ghost use Rattle.std.specs.Prelude.{◌≡◌, ◌<◌, ◌≤◌, IfErr, IfOk, IfSome, IsOk, OnErr, true, false};
 ghost use Rattle.std.specs.FinMap as map;
 ghost use Rattle.slotmap.specs.Words.{Inserts, IsContent, IsLive, IsSpent, Keeps, KeepsSpent};
-ghost use Rattle.slotmap_scene.specs.LinkedNodes.{AreLive, ends_of, leaf, put_between, taken_between, with_link, with_next, with_prev};
+ghost use Rattle.slotmap_scene.specs.LinkedNodes.{AreLive, ends_of, leaf, link_of, put_between, taken_between, with_link, with_next, with_prev};
 ghost use Rattle.slotmap_scene.specs.Refusals.{RefusesNode};
 
 use slotmap::{DefaultKey, InsertError, SlotMap};
@@ -48,6 +48,16 @@ pub(crate) fn add<T: Drop>(
         Ok(key) => Ok(key),
         Err(InsertError::Full(node)) => Err(InsertError::Full(node.value)),
         Err(InsertError::Memory(node)) => Err(InsertError::Memory(node.value)),
+    }
+}
+
+// The neighbours of a node, or none if it doesn't exist.
+pub(crate) fn link_of<T: Drop>(nodes: &LinkedNodes<T>, node: DefaultKey) -> Link<DefaultKey>
+    ensures { result ≡ link_of nodes.now.live node }
+{
+    match nodes.get(node) {
+        Some(node) => node.siblings,
+        None => Link::none(),
     }
 }
 

@@ -1,22 +1,28 @@
-use Rattle.std.proofs.Common.{◌-◌, [], ◌∷◌, length, length-append, sym, ap, ◌∙◌, arith}
+use Rattle.std.proofs.Common.{[], ◌∷◌, length, length-append, sym, ap, ◌≡◌, ◌-◌, ◌∙◌, arith}
 use Rattle.slotmap_keylist.specs.Linked.{follow}
+use Rattle.slotmap_keylist.proofs.Segments.{segment_back}
 use Rattle.slotmap_scene.specs.LinkedNodes.{link_of}
-use Rattle.slotmap_scene.proofs.Walking.{last_live, last_there, back_is, walk_back}
 use Rattle.slotmap_scene.proofs.children.ChildKeysDoubleEndedIterator.next_back.Goals as goal
 
 pub returns-in_err-key-clause-steps : goal.returns-in_err-key-clause-steps
-returns-in_err-key-clause-steps g c = absurd (last_there c.self.inside.nodes.now.live c.self.inside.left c.self.inside.first c.self.inside.last c.self.invariant c.if-self-eq0.false c.in_err-key.was)
-
-pub index-node-requires : goal.index-node-requires
-index-node-requires g c = last_live c.self.inside.nodes.now.live c.self.inside.left c.self.inside.first c.self.inside.last c.self.invariant c.if-self-eq0.false c.in_ok-key.key c.in_ok-key.was
+returns-in_err-key-clause-steps g c =
+    let step = segment_back (link_of c.self.inside.nodes.now.live) _ _ _ c.self.invariant (omega (arith, c.if-self-eq0.false)) in
+    absurd (let h = sym step.1 ∙ c.in_err-key.was in cc)
 
 pub invariant_of-self : goal.invariant_of-self
-invariant_of-self g c = walk_back c.self.inside.nodes.now.live c.self.inside.left c.self.inside.first c.self.inside.last c.self.invariant c.if-self-eq0.false c.in_ok-key.key c.in_ok-key.was c.index-node.result.now c.index-node.ensures
+invariant_of-self g c =
+    let step = segment_back (link_of c.self.inside.nodes.now.live) _ _ _ c.self.invariant (omega (arith, c.if-self-eq0.false)) in
+    let same : step.0 ≡ c.in_ok-key.key = (let h = sym step.1 ∙ c.in_ok-key.was in cc) in
+    rw (c.link_of.ensures, ← same) step.2
 
 pub returns-clause-steps : goal.returns-clause-steps
-returns-clause-steps g c = rw c.outer.ensures (sym c.self.view_is ∙ back_is c.self.inside.nodes.now.live c.self.inside.left c.self.inside.first c.self.inside.last c.self.invariant c.if-self-eq0.false c.in_ok-key.key c.index-node.result.now c.index-node.ensures c.in_ok-key.was)
+returns-clause-steps g c =
+    let step = segment_back (link_of c.self.inside.nodes.now.live) _ _ _ c.self.invariant (omega (arith, c.if-self-eq0.false)) in
+    let same : step.0 ≡ c.in_ok-key.key = (let h = sym step.1 ∙ c.in_ok-key.was in cc) in
+    rw (← c.self.view_is, c.outer.ensures, ← same) step.3
 
 pub returns-clause-goes : goal.returns-clause-goes
 returns-clause-goes g c =
-    let long = ap length (returns-clause-steps g c) ∙ length-append (follow (link_of c.self.inside.nodes.now.live) (c.self.inside.left - 1) c.self.inside.first) (g.K.Key.data_of c.outer.result ∷ []) in
+    let rest = follow (link_of c.self.inside.nodes.now.live) (c.self.inside.left - 1) c.self.inside.first in
+    let long = ap length (returns-clause-steps g c) ∙ length-append rest (g.K.Key.data_of c.outer.result ∷ []) in
     record { on = λ _. (tt, tt, omega (arith, long)); keeps = tt; rests = λ _. tt }

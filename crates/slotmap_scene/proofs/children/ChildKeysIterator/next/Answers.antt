@@ -1,15 +1,24 @@
-use Rattle.std.proofs.Common.{length, sym, ap, ◌∙◌, arith}
-use Rattle.slotmap_scene.proofs.Walking.{first_live, next_is, walk_next}
+use Rattle.std.proofs.Common.{length, sym, ap, ◌≡◌, ◌∙◌, arith}
+use Rattle.slotmap_keylist.proofs.Segments.{segment_front}
+use Rattle.slotmap_scene.specs.LinkedNodes.{link_of}
 use Rattle.slotmap_scene.proofs.children.ChildKeysIterator.next.Goals as goal
 
-pub index-node-requires : goal.index-node-requires
-index-node-requires g c = first_live c.self.inside.nodes.now.live c.self.inside.left c.self.inside.first c.self.inside.last c.self.invariant c.if-self-eq0.false c.in_ok-key.key c.in_ok-key.was
+pub returns-in_err-key-clause-steps : goal.returns-in_err-key-clause-steps
+returns-in_err-key-clause-steps g c =
+    let step = segment_front (link_of c.self.inside.nodes.now.live) _ _ _ c.self.invariant (omega (arith, c.if-self-eq0.false)) in
+    absurd (let h = sym step.1 ∙ c.in_err-key.was in cc)
 
 pub invariant_of-self : goal.invariant_of-self
-invariant_of-self g c = walk_next c.self.inside.nodes.now.live c.self.inside.left c.self.inside.first c.self.inside.last c.self.invariant c.if-self-eq0.false c.in_ok-key.key c.in_ok-key.was c.index-node.result.now c.index-node.ensures
+invariant_of-self g c =
+    let step = segment_front (link_of c.self.inside.nodes.now.live) _ _ _ c.self.invariant (omega (arith, c.if-self-eq0.false)) in
+    let same : step.0 ≡ c.in_ok-key.key = (let h = sym step.1 ∙ c.in_ok-key.was in cc) in
+    rw (c.link_of.ensures, ← same) step.2
 
 pub returns-clause-steps : goal.returns-clause-steps
-returns-clause-steps g c = rw c.outer.ensures (sym c.self.view_is ∙ next_is c.self.inside.nodes.now.live c.self.inside.left c.self.inside.first c.self.inside.last c.self.invariant c.if-self-eq0.false c.in_ok-key.key c.index-node.result.now c.index-node.ensures c.in_ok-key.was)
+returns-clause-steps g c =
+    let step = segment_front (link_of c.self.inside.nodes.now.live) _ _ _ c.self.invariant (omega (arith, c.if-self-eq0.false)) in
+    let same : step.0 ≡ c.in_ok-key.key = (let h = sym step.1 ∙ c.in_ok-key.was in cc) in
+    rw (← c.self.view_is, c.link_of.ensures, c.outer.ensures, ← same) step.3
 
 pub returns-clause-goes : goal.returns-clause-goes
 returns-clause-goes g c =
