@@ -263,14 +263,6 @@ module _ {N E : Type 0} (nodes : Content (Node N)) (edges : map.FinMap key_cmp (
   pub lacks : (d : Direction) (x : Key) → map.get (map_values seen_edge edges) x ≡ None → (k : Key) → edges_at (by_node d nodes.live edges) k ≡ without x (edges_at (by_node d nodes.live edges) k)
   lacks d x none k = sym (absent_unlisted (end d) (map_values seen_edge edges) x none k _ (is_lists d k))
 
-  -- an edge of a list is there
-  module _ (d : Direction) (k x : Key) (more : 0 < times x (edges_at (by_node d nodes.live edges) k)) where
-    pub walked_edge : (e : SeenEdge E) × (map.get (map_values seen_edge edges) x ≡ Some e) × (end d e ≡ k)
-    walked_edge = listed_edge (end d) (map_values seen_edge edges) k (edges_at (by_node d nodes.live edges) k) (is_lists d k) x more
-
-    pub walked_live : map.contains_key edges x ≡ true
-    walked_live = sym (contains-mapped seen_edge edges x) ∙ ap is_some walked_edge.1
-
 -- every graph is joined
 pub graph_joined : {N E : Type 0} (nodes : Content (Node N)) (edges : Content (Edge E)) → IsGraph nodes edges.live
     → IsJoined (record { nodes = map_content node_value nodes; edges = map_content seen_edge edges; out = by_node Out nodes.live edges.live; into = by_node Into nodes.live edges.live })

@@ -74,9 +74,6 @@ module _ {E : Type 0} where
       links = λ q. ap (λ c. link_in (turned d) c.live q) is ∙ part_kept (edge_link (turned d)) no_link old.live k (with_link d link e) e there (link_kept d link e) q;
     }
 
-  pub keeps_none : (d : Direction) (edges : Content (Edge E)) → KeepsEdges d edges edges
-  keeps_none d edges = record { seen = refl; links = λ k. refl }
-
   pub keeps_on : (d : Direction) (old mid new : Content (Edge E)) → KeepsEdges d old mid → KeepsEdges d mid new → KeepsEdges d old new
   keeps_on d old mid new first then = record { seen = then.seen ∙ first.seen; links = λ k. then.links k ∙ first.links k }
 

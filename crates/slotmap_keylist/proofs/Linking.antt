@@ -106,13 +106,6 @@ module _ {ends : Key → Ends Key} {link : Key → Link Key} {lists : Key → Li
       ap (λ (l : Link Key). k ∷ follow link (length after) l.next) (linked.links_are p before k after is)
       ∙ ap (λ l. k ∷ l) (follow_is p (before ++ k ∷ []) after (is ∙ sym (append_assoc before (k ∷ []) after)))
 
-  -- and so they do to a part of it
-  pub follow_part : (p : Key) (before ks after : List Key) → lists p ≡ before ++ (ks ++ after) → follow link (length ks) (first_or (ks ++ after) None) ≡ ks
-  follow_part p before [] after is = refl
-  follow_part p before (k ∷ ks) after is =
-      ap (λ (l : Link Key). k ∷ follow link (length ks) l.next) (linked.links_are p before k (ks ++ after) is)
-      ∙ ap (λ l. k ∷ l) (follow_part p (before ++ k ∷ []) ks after (is ∙ sym (append_assoc before (k ∷ []) (ks ++ after))))
-
   -- and from the ends of a list, to all of it
   pub followed_is : (p : Key) → followed link (ends p) ≡ lists p
   followed_is p = ap (followed link) (linked.ends_are p) ∙ follow_is p [] (lists p) refl

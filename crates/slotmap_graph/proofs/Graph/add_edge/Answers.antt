@@ -7,6 +7,9 @@ use Rattle.slotmap_graph.specs.declared.links.Direction.TheVariants.{Out, Into}
 use Rattle.slotmap_graph.specs.Parts.{SeenEdge}
 use Rattle.slotmap_graph.specs.Threads.{seen_edge, no_link}
 use Rattle.slotmap_graph.proofs.GraphSteps.{bare_edge, mid_threads, mid_unlisted, turned_threads, turned_listed, still_node, edge_added, put_behind}
+use Rattle.std.proofs.Common.{arith}
+use Rattle.slotmap.proofs.Callers.{keys}
+use Rattle.slotmap_keylist.proofs.Mapped.{mapped}
 use Rattle.slotmap_graph.proofs.Graph.add_edge.Goals as goal
 
 pub link_last-requires-clause-threaded : goal.link_last-requires-clause-threaded
@@ -63,3 +66,24 @@ pub returns-clause-gone : goal.returns-clause-gone
 returns-clause-gone g c =
     let same = c.link_last-2.ensures.seen_edges ∙ c.link_last.ensures.seen_edges in
     rw (← c.self.view_is) (subst (λ (x : Content (SeenEdge g.row.E.Denot)). KeepsSpent (map_content seen_edge c.self.inside.edges) x) (sym same) (spent_insert _ _ true _ c.insert_edge.ensures.valid _ _ c.insert_edge.ensures.adds))
+
+pub returns-then-not-contains_key-clause-err : goal.returns-then-not-contains_key-clause-err
+returns-then-not-contains_key-clause-err g c = grind (arith, keys, mapped)
+
+pub returns-then-not-contains_key-clause-reuses : goal.returns-then-not-contains_key-clause-reuses
+returns-then-not-contains_key-clause-reuses g c = grind (arith, keys, mapped)
+
+pub returns-then-not-contains_key-clause-room : goal.returns-then-not-contains_key-clause-room
+returns-then-not-contains_key-clause-room g c = grind (arith, keys, mapped)
+
+pub returns-in_err-key-clause-err : goal.returns-in_err-key-clause-err
+returns-in_err-key-clause-err g c = grind (arith, keys, mapped)
+
+pub link_last-requires-clause-edge : goal.link_last-requires-clause-edge
+link_last-requires-clause-edge g c = grind (arith, keys, mapped)
+
+pub link_last-requires-2-clause-edge : goal.link_last-requires-2-clause-edge
+link_last-requires-2-clause-edge g c = grind (arith, keys, mapped)
+
+pub returns-clause-live : goal.returns-clause-live
+returns-clause-live g c = grind (arith, keys, mapped)

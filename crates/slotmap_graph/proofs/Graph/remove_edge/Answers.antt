@@ -8,6 +8,8 @@ use Rattle.slotmap_graph.specs.Threads.{listed, seen_edge}
 use Rattle.slotmap_graph.proofs.Adjacent.{edge_listed}
 use Rattle.slotmap_graph.proofs.GraphSteps.{lacks, no_ends_found, ends_found, turned_threads, turned_listed, edge_removed, taken_seen, removed_seen, old_well, all_removed}
 use Rattle.slotmap_graph.proofs.Threaded.{threads}
+use Rattle.slotmap.proofs.Callers.{keys}
+use Rattle.slotmap_keylist.proofs.Mapped.{mapped}
 use Rattle.slotmap_graph.proofs.Graph.remove_edge.Goals as goal
 
 pub returns-in_err-from-clause-out : goal.returns-in_err-from-clause-out
@@ -87,3 +89,27 @@ pub returns-clause-into : goal.returns-clause-into
 returns-clause-into g c =
     let found = ends_found _ (g.K.Key.data_of c.in_ok-from.from) (g.K.Key.data_of c.in_ok-from.to) (rw (← c.self.view_is) at c.in_ok-from.ensures.ends) in
     rw (← c.self.view_is) (taken_seen c.self.inside.nodes c.unlink.new.nodes c.unlink-2.new.nodes c.self.inside.edges c.unlink.new.edges c.unlink-2.new.edges c.remove.new.self c.self.invariant c.args.edge _ found.1 c.unlink.ensures c.unlink-2.ensures c.remove.ensures.live Into)
+
+pub unlink-requires-2-clause-node : goal.unlink-requires-2-clause-node
+unlink-requires-2-clause-node g c = grind (arith, keys, mapped)
+
+pub invariant_of-self : goal.invariant_of-self
+invariant_of-self g c = grind (arith, keys, mapped)
+
+pub returns-in_err-remove-clause-value : goal.returns-in_err-remove-clause-value
+returns-in_err-remove-clause-value g c = grind (arith, keys, mapped)
+
+pub returns-in_err-remove-clause-live : goal.returns-in_err-remove-clause-live
+returns-in_err-remove-clause-live g c = grind (arith, keys, mapped)
+
+pub returns-in_err-remove-clause-leaves : goal.returns-in_err-remove-clause-leaves
+returns-in_err-remove-clause-leaves g c = grind (arith, keys, mapped)
+
+pub returns-in_err-remove-clause-out : goal.returns-in_err-remove-clause-out
+returns-in_err-remove-clause-out g c = grind (arith, keys, mapped)
+
+pub returns-in_err-remove-clause-into : goal.returns-in_err-remove-clause-into
+returns-in_err-remove-clause-into g c = grind (arith, keys, mapped)
+
+pub returns-clause-value : goal.returns-clause-value
+returns-clause-value g c = grind (arith, keys, mapped)
