@@ -3,6 +3,7 @@ use Rattle.slotmap_core.proofs.Common.{Inserts}
 use Rattle.slotmap_dense.proofs.MoveLemmas.{offer_key, new_not_live}
 use Rattle.slotmap_dense.proofs.SettledLemmas.{stays-valid, Appended, appended}
 use Rattle.slotmap_dense.proofs.DenseSlotMap.append.Goals.{After-push_reserved-2}
+use Rattle.std.proofs.lemmas.Grind.{common_steps}
 use Rattle.slotmap_dense.proofs.DenseSlotMap.append.Goals as goal
 
 pub fill-requires : goal.fill-requires
@@ -32,3 +33,12 @@ pub returns-clause-valid : goal.returns-clause-valid
 returns-clause-valid g c =
     stays-valid _ c.self.inside c.self.view_is c.self.invariant c.fill.new.self c.push_reserved.new.self c.push_reserved-2.new.self (invariant_of-self g c)
     c.fill.ensures.valid.capacity c.push_reserved.ensures.capacity c.push_reserved-2.ensures.capacity
+
+pub overflow_cast-position : goal.overflow_cast-position
+overflow_cast-position g c = grind (arith, common_steps)
+
+pub push_reserved-requires : goal.push_reserved-requires
+push_reserved-requires g c = grind (arith, common_steps)
+
+pub returns-clause-order : goal.returns-clause-order
+returns-clause-order g c = grind (arith, common_steps)

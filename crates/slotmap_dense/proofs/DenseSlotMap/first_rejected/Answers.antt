@@ -5,6 +5,8 @@ use Rattle.slotmap_dense.proofs.PassLemmas.{items-whole, passes-lift, may-lift, 
 use Rattle.slotmap_dense.specs.Packed.{dense_of, IsSound}
 use Rattle.slotmap_dense.proofs.WellFormed.{IsSound-other}
 use Rattle.slotmap_dense.proofs.SettledLemmas.{stays-valid}
+use Rattle.std.proofs.Common.{arith}
+use Rattle.std.proofs.lemmas.Grind.{common_steps}
 use Rattle.slotmap_dense.proofs.DenseSlotMap.first_rejected.Goals as goal
 
 pub find_rejected-requires-clause-callable : goal.find_rejected-requires-clause-callable
@@ -39,3 +41,15 @@ returns-clause-valid g c =
 
 pub returns-clause-keys : goal.returns-clause-keys
 returns-clause-keys g c = ap (λ d. d.keys) c.self.view_is
+
+pub find_rejected-requires-clause-from : goal.find_rejected-requires-clause-from
+find_rejected-requires-clause-from g c = grind (arith, common_steps)
+
+pub find_rejected-requires-clause-same_length : goal.find_rejected-requires-clause-same_length
+find_rejected-requires-clause-same_length g c = grind (arith, common_steps)
+
+pub invariant_of-self : goal.invariant_of-self
+invariant_of-self g c = grind (arith, common_steps)
+
+pub returns-clause-within : goal.returns-clause-within
+returns-clause-within g c = grind (arith, common_steps)

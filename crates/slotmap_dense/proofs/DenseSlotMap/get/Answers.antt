@@ -1,5 +1,6 @@
 use Rattle.slotmap_core.proofs.Common.{Some, option_copied, sym, ap, ◌∙◌, arith, same_read}
 use Rattle.slotmap_dense.proofs.SettledLemmas.{absent, present}
+use Rattle.slotmap_dense.proofs.SettledLemmas.{dense_valid}
 use Rattle.slotmap_dense.proofs.DenseSlotMap.get.Goals as goal
 
 pub returns-in_err-position-clause-value : goal.returns-in_err-position-clause-value
@@ -16,3 +17,9 @@ pub returns-clause-value : goal.returns-clause-value
 returns-clause-value g c =
     let found = present _ c.self.inside c.self.view_is c.self.invariant c.data.result _ (sym c.get.ensures.value ∙ ap option_copied c.in_ok-position.was) in
     rw (← c.data.ensures.value) (ap Some (same_read c.self.inside.values.items _ _ _ c.index.ensures found.there) ∙ sym found.gives)
+
+pub returns-in_err-position-clause-valid : goal.returns-in_err-position-clause-valid
+returns-in_err-position-clause-valid g c = grind (arith, dense_valid)
+
+pub returns-clause-valid : goal.returns-clause-valid
+returns-clause-valid g c = grind (arith, dense_valid)

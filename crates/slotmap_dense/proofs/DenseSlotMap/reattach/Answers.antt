@@ -2,6 +2,7 @@ use Rattle.slotmap_core.proofs.Common.{length, refl, ap, arith, rules}
 use Rattle.slotmap_dense.proofs.MoveLemmas.{kept_not_live}
 use Rattle.slotmap_dense.proofs.SettledLemmas.{well_formed, refused-grow, may-grow, Appended, appended}
 use Rattle.slotmap_dense.proofs.DenseSlotMap.reattach.Goals.{After-push_reserved-2}
+use Rattle.std.proofs.lemmas.Grind.{common_steps}
 use Rattle.slotmap_dense.proofs.DenseSlotMap.reattach.Goals as goal
 
 pub returns-then-not-is_detached-clause-valid : goal.returns-then-not-is_detached-clause-valid
@@ -45,3 +46,12 @@ returns-clause-valid g c =
     may-grow _ c.self.inside c.self.view_is c.self.invariant c.reattach.new.self c.push_reserved.new.self c.push_reserved-2.new.self _ (λ is. absurd (cc))
     (invariant_of-self-2 g c) (omega (arith, c.reattach.ensures.valid.capacity)) (omega (arith, c.push_reserved.ensures.capacity, c.make_room_in.ensures.capacity))
     (omega (arith, c.push_reserved-2.ensures.capacity, c.make_room_in-2.ensures.capacity))
+
+pub returns-then-is_err-clause-err : goal.returns-then-is_err-clause-err
+returns-then-is_err-clause-err g c = grind (arith, common_steps)
+
+pub overflow_cast-position : goal.overflow_cast-position
+overflow_cast-position g c = grind (arith, common_steps)
+
+pub returns-clause-order : goal.returns-clause-order
+returns-clause-order g c = grind (arith, common_steps)

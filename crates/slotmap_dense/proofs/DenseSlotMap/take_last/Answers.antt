@@ -2,6 +2,8 @@ use Rattle.slotmap_core.proofs.Common.{append-nil, map as list_map, length, is_s
 use Rattle.slotmap_dense.specs.Packed.{IsSound}
 use Rattle.slotmap_dense.proofs.SettledLemmas.{stays-valid, last_key, Closed, popped}
 use Rattle.slotmap_dense.proofs.DenseSlotMap.take_last.Goals.{After-take_last}
+use Rattle.std.proofs.Common.{arith}
+use Rattle.std.proofs.lemmas.Grind.{common_steps}
 use Rattle.slotmap_dense.proofs.DenseSlotMap.take_last.Goals as goal
 
 pub returns-in_err-key-clause-valid : goal.returns-in_err-key-clause-valid
@@ -31,3 +33,6 @@ returns-clause-takes g c =
 
 pub returns-clause-valid : goal.returns-clause-valid
 returns-clause-valid g c = (closes g (goal.at.returns-clause-valid g c).After-take_last).valid c.take.ensures.valid.capacity
+
+pub take_last-requires : goal.take_last-requires
+take_last-requires g c = grind (arith, common_steps)

@@ -4,3 +4,6 @@ use Rattle.slotmap_dense.proofs.into_iter.DenseSlotMapIntoIterator.into_iter.Goa
 
 pub returns : goal.returns
 returns g c = grind (arith, common_steps, listed)
+
+pub invariant_of-result : goal.invariant_of-result
+invariant_of-result g c = grind (arith, common_steps)
