@@ -94,8 +94,10 @@ module _ {A : Type 0} (is_clone : A → A → Type 0) where
     pub schedule_copied : (heap' : Vec Entry Z) → heap'.items ≡ heap.items → vec_len heap' ≡ vec_len heap → IsContent true copy → copy.capacity ≤ vec_capacity heap' → IsSchedule copy count heap'
     schedule_copied heap' items len well capacity = record {
       order = copied_order (timed jobs).live (timed copy).live count is.order timed_clones.live len_copied;
-      placed = rw items (alike (spot_of jobs.live) _ (entry_at heap.items) _ (λ q. same_spot (map.get jobs.live q) (map.get copy.live q) (clones.live q)) (λ i. refl) is.placed);
-      ordered = rw items is.ordered;
-      len = len ∙ is.len ∙ sym len_copied;
+      indexed = record {
+        placed = rw items (alike (spot_of jobs.live) _ (entry_at heap.items) _ (λ q. same_spot (map.get jobs.live q) (map.get copy.live q) (clones.live q)) (λ i. refl) is.indexed.placed);
+        ordered = rw items is.indexed.ordered;
+        len = len ∙ is.indexed.len ∙ sym len_copied;
+      };
       room = (let fits = well.capacity_fits in let reused = well.reused refl in let same = len-mapped unplaced copy.live in omega arith);
     }

@@ -12,3 +12,4 @@ pub mod Handles
 pub mod Schedules
 pub mod Seen
 pub mod Copied
+pub mod Indexed

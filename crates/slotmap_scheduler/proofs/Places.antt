@@ -7,7 +7,7 @@ use Rattle.std.specs.FinMap as map
 use Rattle.std.proofs.lemmas.Bool.Decides.{nat_tests}
 use Rattle.std.proofs.lemmas.Option.{slice_get_past, slice_get-get_or, slice_get_read}
 use Rattle.slotmap.specs.Words.{Key, Content, with_value}
-use Rattle.slotmap.proofs.Callers.{keys, get-insert_here, get-insert_other, same_or_other, live-insert_still, live-remove_other}
+use Rattle.slotmap.proofs.Callers.{keys, get-insert_here, get-insert_other, same_or_other, live-remove_other}
 use Rattle.slotmap_keylist.proofs.Mapped.{mapped-written}
 use Rattle.slotmap_scheduler.specs.declared.Job.{Job}
 use Rattle.slotmap_scheduler.specs.declared.heap.Entry.{Entry}
@@ -33,6 +33,9 @@ entry_is heap i x within is = ap (option_map (λ (e : Entry). (e.handle, e.turn)
 pub entry_within : (xs : List Entry) (i : ℕ) (y : Key × Turn) → entry_at xs i ≡ Some y → i < length xs
 entry_within xs i y there = elim (same_or_past i (length xs)) [ inl within ↦ within | inr past ↦ absurd (let e = slice_get_past xs i past in cc) ]
 
+pub one_place : (o : Option (ℕ × Turn)) {p q : ℕ} {t u : Turn} → o ≡ Some (p, t) → o ≡ Some (q, u) → p ≡ q
+one_place o x y = grind arith
+
 module _ {T : Type 0} (jobs : Jobs T) (heap : List Entry) (is : IsPlaced jobs heap) where
   -- a job gets a place and a turn, where no other job has the place
   pub placed_put : (new : List Entry) (k : Key) (j : Job T) (at : ℕ) → j.place ≡ at → entry_at new at ≡ Some (k, j.turn) → ((i : ℕ) → i ≢ at → entry_at new i ≡ entry_at heap i)
@@ -52,6 +55,9 @@ module _ {T Z : Type 0} (jobs : Content (Job T)) (heap : Vec Entry Z) (is : IsPl
     where
       some_there : (o : Option (Job T)) → option_map {U = ℕ × Turn} (λ (j : Job T). (j.place, j.turn)) o ≡ Some (i, t) → is_some o ≡ true
       some_there o at = grind arith
+
+  pub read_live : (i : ℕ) (x : Entry) → i < vec_len heap → x ≡ get_or heap.items i x → map.contains_key jobs.live x.handle ≡ true
+  read_live i x within read = placed_live i x.handle x.turn (entry_is heap i x within read)
 
   -- a job leaves, and the last entry takes the place of its own
   module _ (k : Key) (j : Job T) (found : map.get jobs.live k ≡ Some j) where
@@ -104,10 +110,7 @@ module _ {T Z : Type 0} (jobs : Content (Job T)) (heap : Vec Entry Z) (is : IsPl
           spot_m = is.from (vec_len new) m.handle m.turn was_last
 
           another : m.handle ≢ k
-          another same = apart (place_of (spot_of jobs.live k) spot_k (ap (spot_of jobs.live) (sym same) ∙ spot_m))
-            where
-              place_of : (o : Option (ℕ × Turn)) → o ≡ Some (j.place, j.turn) → o ≡ Some (vec_len new, m.turn) → j.place ≡ vec_len new
-              place_of o x y = grind arith
+          another same = apart (one_place (spot_of jobs.live k) spot_k (ap (spot_of jobs.live) (sym same) ∙ spot_m))
 
           pub gap_live : map.contains_key (map.remove jobs.live k) m.handle ≡ true
           gap_live = live-remove_other jobs.live k m.handle another (placed_live (vec_len new) m.handle m.turn was_last)
@@ -122,67 +125,38 @@ module _ {T Z : Type 0} (jobs : Content (Job T)) (heap : Vec Entry Z) (is : IsPl
                 (λ q nk nm. ap (option_map _) (get-insert_other (map.remove jobs.live k) m.handle (record jm { place = j.place }) q nm) ∙ spot_left q nk) here (past_end (vec_len new) (omega arith))
                 (λ i other not_last. kept i other (λ same. not_last (omega arith)))
 
-  -- two entries are exchanged: that at a was at b, and the other way round
-  module _ (new : Vec Entry Z) (a b : ℕ) (in_a : a < vec_len heap) (in_b : b < vec_len heap) (len : vec_len new ≡ vec_len heap) (by : SwappedAt heap.items new.items a b) where
-    first : entry_at new.items a ≡ entry_at heap.items b
-    first = read_alike heap.items new.items b a (λ _. (omega (arith, heap.ok.0), by.0 no_entry)) (λ past. absurd (omega (arith, new.ok.0)))
+  -- two entries are exchanged, whose jobs have noted it
+  module _ (a b : ℕ) (in_a : a < vec_len heap) (in_b : b < vec_len heap) (differ : a ≢ b) (ea eb : Entry) (is_a : ea ≡ get_or heap.items a ea) (is_b : eb ≡ get_or heap.items b eb)
+      (ja jb : Job T) (found_a : map.get jobs.live ea.handle ≡ Some ja) (found_b : map.get (map.insert jobs.live ea.handle (record ja { place = b })) eb.handle ≡ Some jb) where
+    abbrev mid : Content (Job T)
+    mid = with_value jobs ea.handle (record ja { place = b })
 
-    second : entry_at new.items b ≡ entry_at heap.items a
-    second = read_alike heap.items new.items a b (λ _. (omega (arith, heap.ok.0), by.1 no_entry)) (λ past. absurd (omega (arith, new.ok.0)))
+    abbrev noted : Content (Job T)
+    noted = with_value mid eb.handle (record jb { place = a })
 
-    rest : (i : ℕ) → i ≢ a → i ≢ b → entry_at new.items i ≡ entry_at heap.items i
-    rest i na nb = read_alike heap.items new.items i i (λ within. (omega (arith, heap.ok.0, new.ok.0), by.2 i no_entry na nb)) (λ past. omega (arith, heap.ok.0, new.ok.0))
+    spot_a : spot_of jobs.live ea.handle ≡ Some (a, ea.turn)
+    spot_a = is.from a ea.handle ea.turn (entry_is heap a ea in_a is_a)
 
-    module _ (ea : Entry) (is_a : ea ≡ get_or new.items a ea) where
-      was_a : entry_at heap.items b ≡ Some (ea.handle, ea.turn)
-      was_a = sym first ∙ entry_is new a ea (omega arith) is_a
+    spot_b : spot_of jobs.live eb.handle ≡ Some (b, eb.turn)
+    spot_b = is.from b eb.handle eb.turn (entry_is heap b eb in_b is_b)
 
-      pub first_live : map.contains_key jobs.live ea.handle ≡ true
-      first_live = placed_live b ea.handle ea.turn was_a
+    two : ea.handle ≢ eb.handle
+    two same = differ (one_place (spot_of jobs.live ea.handle) spot_a (ap (spot_of jobs.live) same ∙ spot_b))
 
-      module _ (eb : Entry) (is_b : eb ≡ get_or new.items b eb) (ja : Job T) (found_a : map.get jobs.live ea.handle ≡ Some ja) where
-        was_b : entry_at heap.items a ≡ Some (eb.handle, eb.turn)
-        was_b = sym second ∙ entry_is new b eb (omega arith) is_b
+    now_a : spot_of noted.live ea.handle ≡ Some (b, ea.turn)
+    now_a = grind (arith, get-insert_other mid.live eb.handle (record jb { place = a }) ea.handle two, get-insert_here jobs.live ea.handle (record ja { place = b }), spot_a, found_a)
 
-        pub second_live : map.contains_key (map.insert jobs.live ea.handle (record ja { place = a })) eb.handle ≡ true
-        second_live = live-insert_still jobs.live ea.handle (record ja { place = a }) eb.handle (placed_live a eb.handle eb.turn was_b)
+    now_b : spot_of noted.live eb.handle ≡ Some (a, eb.turn)
+    now_b = grind (arith, get-insert_here mid.live eb.handle (record jb { place = a }), get-insert_other jobs.live ea.handle (record ja { place = b }) eb.handle (λ same. two (sym same)), spot_b, found_b)
 
-        module _ (differ : a ≢ b) (jb : Job T) (found_b : map.get (map.insert jobs.live ea.handle (record ja { place = a })) eb.handle ≡ Some jb) where
-          spot_a : spot_of jobs.live ea.handle ≡ Some (b, ea.turn)
-          spot_a = is.from b ea.handle ea.turn was_a
-
-          spot_b : spot_of jobs.live eb.handle ≡ Some (a, eb.turn)
-          spot_b = is.from a eb.handle eb.turn was_b
-
-          two : ea.handle ≢ eb.handle
-          two same = differ (place_of (spot_of jobs.live ea.handle) spot_a (ap (spot_of jobs.live) same ∙ spot_b))
-            where
-              place_of : (o : Option (ℕ × Turn)) → o ≡ Some (b, ea.turn) → o ≡ Some (a, eb.turn) → a ≡ b
-              place_of o x y = grind arith
-
-          now_a : spot_of (map.insert (map.insert jobs.live ea.handle (record ja { place = a })) eb.handle (record jb { place = b })) ea.handle ≡ Some (a, ea.turn)
-          now_a = grind (
-            arith,
-            get-insert_other (map.insert jobs.live ea.handle (record ja { place = a })) eb.handle (record jb { place = b }) ea.handle two,
-            get-insert_here jobs.live ea.handle (record ja { place = a }),
-            spot_a,
-            found_a,
-          )
-
-          now_b : spot_of (map.insert (map.insert jobs.live ea.handle (record ja { place = a })) eb.handle (record jb { place = b })) eb.handle ≡ Some (b, eb.turn)
-          now_b = grind (
-            arith,
-            get-insert_here (map.insert jobs.live ea.handle (record ja { place = a })) eb.handle (record jb { place = b }),
-            get-insert_other jobs.live ea.handle (record ja { place = a }) eb.handle (λ same. two (sym same)),
-            spot_b,
-            found_b,
-          )
-
-          pub resettled_swap : vec_capacity new ≡ vec_capacity heap → Resettled jobs heap (with_value (with_value jobs ea.handle (record ja { place = a })) eb.handle (record jb { place = b })) new
-          resettled_swap capacity = record {
-            placed = exchanged same_or_other same_or_not (spot_of jobs.live) _ (entry_at heap.items) _ is ea.handle eb.handle a b ea.turn eb.turn spot_a spot_b now_a now_b
-                (λ q na nb. ap (option_map _) (get-insert_other _ eb.handle (record jb { place = b }) q nb ∙ get-insert_other jobs.live ea.handle (record ja { place = a }) q na)) first second rest;
-            same = place_written (with_value jobs ea.handle (record ja { place = a })) eb.handle jb b found_b ∙ place_written jobs ea.handle ja a found_a;
-            len = len;
-            capacity = capacity;
-          }
+    pub resettled_swap : (new : Vec Entry Z) → vec_len new ≡ vec_len heap → vec_capacity new ≡ vec_capacity heap → SwappedAt heap.items new.items a b → Resettled jobs heap noted new
+    resettled_swap new len capacity by = record {
+      placed = exchanged same_or_other same_or_not (spot_of jobs.live) _ (entry_at heap.items) _ is ea.handle eb.handle b a ea.turn eb.turn spot_a spot_b now_a now_b
+          (λ q na nb. ap (option_map _) (get-insert_other mid.live eb.handle (record jb { place = a }) q nb ∙ get-insert_other jobs.live ea.handle (record ja { place = b }) q na))
+          (read_alike heap.items new.items a b (λ _. (omega (arith, heap.ok.0), by.1 no_entry)) (λ past. absurd (omega (arith, new.ok.0))))
+          (read_alike heap.items new.items b a (λ _. (omega (arith, heap.ok.0), by.0 no_entry)) (λ past. absurd (omega (arith, new.ok.0))))
+          (λ i nb na. read_alike heap.items new.items i i (λ within. (omega (arith, heap.ok.0, new.ok.0), by.2 i no_entry na nb)) (λ past. omega (arith, heap.ok.0, new.ok.0)));
+      same = place_written mid eb.handle jb a found_b ∙ place_written jobs ea.handle ja b found_a;
+      len = len;
+      capacity = capacity;
+    }

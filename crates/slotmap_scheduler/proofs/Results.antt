@@ -1,5 +1,5 @@
 -- What a clause says of the result that there is.
-use Rattle.std.proofs.Common.{◌≡◌, ℕ, true, false, [], ◌∷◌, Some, None, Result, Ok, Err, IfOk, OnErr, IsOk, is_ok, is_err, if◌then◌else◌, refl, ap, not, cond}
+use Rattle.std.proofs.Common.{◌≡◌, ℕ, true, false, [], ◌∷◌, Option, Some, None, is_some, Result, Ok, Err, IfOk, OnErr, IsOk, is_ok, is_err, if◌then◌else◌, refl, ap, not, cond, arith}
 use Rattle.std.specs.Ordering.{eq_by_cmp}
 use Rattle.std.specs.FinMap.Entries.{find}
 use Rattle.slotmap.specs.Words.{Key, key_cmp, RefusesCapacity}
@@ -35,3 +35,7 @@ refused (Err e) is h = h
 pub if_ok : {A B P : Type 0} (r : Result A B) (P' : B → Type 0) → ((e : B) → r ≡ Err e → ⊥) → (IsOk r → P) → P
 if_ok (Ok x) P' not_err h = h refl
 if_ok (Err e) P' not_err h = absurd (not_err e refl)
+
+-- what is there, and what isn't
+pub some_is : {A : Type 0} (o : Option A) → is_some o ≡ true → (x : A) × (o ≡ Some x)
+some_is o is = grind arith

@@ -83,14 +83,14 @@ module _ {T Z : Type 0} (jobs : Content (Job T)) (count : ℕ) (heap : Vec Entry
     top_entry = ap (option_map _) top
 
     top_job : (job : T) × (map.get (timed jobs).live e.handle ≡ Some (e.turn, job))
-    top_job = let there = job_there (map.get jobs.live e.handle) 0 e.turn (is.placed.from 0 e.handle e.turn top_entry) in (there.0, get-mapped unplaced jobs.live e.handle ∙ there.1)
+    top_job = let there = job_there (map.get jobs.live e.handle) 0 e.turn (is.indexed.placed.from 0 e.handle e.turn top_entry) in (there.0, get-mapped unplaced jobs.live e.handle ∙ there.1)
 
     least : (q : Key) (u : Turn) (x : T) → map.get (timed jobs).live q ≡ Some (u, x) → precedes u e.turn ≡ false
     least q u x there =
         let spot = spot_there (map.get jobs.live q) u x (sym (get-mapped unplaced jobs.live q) ∙ there) in
-        let at = is.placed.to q spot.0 u spot.1 in
+        let at = is.indexed.placed.to q spot.0 u spot.1 in
         let within = entry_within heap.items spot.0 (q, u) at in
-        (λ n. precedes (sym (turn_there spot.0 q u at) n) (sym (turn_there 0 e.handle e.turn top_entry) n)) ∙ top_first heap is.ordered spot.0 (omega (arith, heap.ok.0))
+        (λ n. precedes (sym (turn_there spot.0 q u at) n) (sym (turn_there 0 e.handle e.turn top_entry) n)) ∙ top_first heap is.indexed.ordered spot.0 (omega (arith, heap.ok.0))
 
     pub top_waits : (job : T) × (waiting_of (timed jobs).live ≡ (e.handle, (e.turn.0, job)) ∷ without e.handle (waiting_of (timed jobs).live))
     top_waits = (top_job.0, waits_first (timed jobs).live count is.order e.handle e.turn top_job.0 top_job.1 least)
@@ -99,7 +99,7 @@ module _ {T Z : Type 0} (jobs : Content (Job T)) (count : ℕ) (heap : Vec Entry
     top_later now later = none_due (timed jobs).live count is.order e.handle e.turn top_job.0 top_job.1 least now later
 
   pub empty_waits : slice_get heap.items 0 ≡ None → waiting_of (timed jobs).live ≡ []
-  empty_waits none = none_wait (timed jobs).live count is.order (sym is.len ∙ heap.ok.0 ∙ no_items heap.items none)
+  empty_waits none = none_wait (timed jobs).live count is.order (sym is.indexed.len ∙ heap.ok.0 ∙ no_items heap.items none)
     where
       no_items : (xs : List Entry) → slice_get xs 0 ≡ None → length xs ≡ 0
       no_items [] none = refl

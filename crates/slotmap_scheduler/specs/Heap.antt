@@ -82,11 +82,15 @@ module _ {T : Type 0} where
       capacity = min jobs.capacity (vec_capacity heap);
     }
 
-    -- what holds of every scheduler
-    pub record IsSchedule (jobs : Content (Job T)) (count : ℕ) (heap : Vec Entry Z) : Type 0 where
-      pub order : InOrder (timed jobs).live count
+    -- the heap has the turn of each job, in the place that the job has
+    pub record IsIndexed (jobs : Content (Job T)) (heap : Vec Entry Z) : Type 0 where
       pub placed : IsPlaced jobs.live heap.items
       pub ordered : IsHeap heap.items
       pub len : vec_len heap ≡ map.len (timed jobs).live
+
+    -- what holds of every scheduler
+    pub record IsSchedule (jobs : Content (Job T)) (count : ℕ) (heap : Vec Entry Z) : Type 0 where
+      pub order : InOrder (timed jobs).live count
+      pub indexed : IsIndexed jobs heap
       -- where a slot of the map is vacant, the heap has room too
       pub room : map.len (timed jobs).live + map.len jobs.next ≤ vec_capacity heap

@@ -7,8 +7,8 @@ ghost use Rattle.slotmap.specs.Words.{Key as KeyOf, Inserts, Removes, Keeps, IsS
 ghost use Rattle.slotmap_scheduler.specs.Schedule.{job_of, in_turn, without, last_turn, RefusesJob, RefusesMove};
 ghost use Rattle.slotmap_scheduler.specs.Listed.{TakesDue};
 
-use crate::heap::{Entry, settle, take_out};
-use crate::{Job, RescheduleError, ScheduleError, Scheduler};
+use crate::heap::{put_in, set_turn, take_out};
+use crate::{RescheduleError, ScheduleError, Scheduler};
 use slotmap::{Key, ReserveError};
 use slotmap_keylist::{inner, outer};
 use std::alloc::AllocError;
@@ -62,11 +62,8 @@ impl<K: Key, T: Drop> Scheduler<K, T> {
         ensures stale { KeepsSpent self.old.handles self.new.handles }
     {
         let turn = (time, self.count);
-        let place = self.heap.len();
-        let handle = self.jobs.insert(Job { turn, place, job }).unwrap();
-        let _ = self.heap.push(Entry { turn, handle });
+        let handle = put_in(&mut self.jobs, &mut self.heap, turn, job);
         self.count += 1;
-        settle(&mut self.jobs, &mut self.heap, place);
         outer(handle)
     }
 
@@ -159,18 +156,14 @@ impl<K: Key, T: Drop> Scheduler<K, T> {
         ensures unchanged { OnErr result (self.new ≡ self.old) }
     {
         let key = inner(handle);
-        let Some(job) = self.jobs.get(key) else {
+        if !self.jobs.contains_key(key) {
             return Err(RescheduleError::Gone);
-        };
-        let place = job.place;
+        }
         if self.count == u64::MAX {
             return Err(RescheduleError::Full);
         }
-        let turn = (time, self.count);
-        self.jobs[key].turn = turn;
-        self.heap[place].turn = turn;
+        set_turn(&mut self.jobs, &mut self.heap, key, (time, self.count));
         self.count += 1;
-        settle(&mut self.jobs, &mut self.heap, place);
         Ok(())
     }
 

@@ -1,11 +1,12 @@
 //! The heap of turns, which knows the job that is next.
 
-ghost use Rattle.std.specs.Prelude.{◌≡◌, ◌≢◌, ℕ, ◌+◌, ◌<◌, ◌≤◌, IfSome, IfNone, OnSome, true, length, vec_len, vec_capacity};
+ghost use Rattle.std.specs.Prelude.{◌≡◌, ◌≢◌, ℕ, ◌<◌, ◌≤◌, Some, IfSome, IfNone, OnSome, true, length, vec_len, vec_capacity};
 ghost use Rattle.std.specs.List.{SwappedAt};
 ghost use Rattle.std.specs.FinMap as map;
-ghost use Rattle.slotmap.specs.Words.{Removes, StaysValid};
+ghost use Rattle.slotmap.specs.Words.{IsContent, IsLive, Inserts, Removes, with_value};
+ghost use Rattle.slotmap_scheduler.specs.declared.Job.{Job as JobOf};
 ghost use Rattle.slotmap_scheduler.specs.Ordered.{up};
-ghost use Rattle.slotmap_scheduler.specs.Heap.{precedes, IsPlaced, IsHeap, IsHeapBut, IsAbove, IsFirstBelow, Resettled, timed};
+ghost use Rattle.slotmap_scheduler.specs.Heap.{precedes, IsPlaced, IsHeap, IsHeapBut, IsAbove, IsFirstBelow, Resettled, IsIndexed, timed};
 
 use crate::Job;
 use slotmap::{DefaultKey, SlotMap};
@@ -36,9 +37,9 @@ fn exchange<T: Drop>(jobs: &mut Jobs<T>, heap: &mut Vec<Entry>, a: usize, b: usi
     ensures swapped { SwappedAt heap.old.items heap.new.items a b }
     ensures resettled { Resettled jobs.old heap.old jobs.new heap.new }
 {
+    jobs[heap[a].handle].place = b;
+    jobs[heap[b].handle].place = a;
     heap.swap(a, b);
-    jobs[heap[a].handle].place = a;
-    jobs[heap[b].handle].place = b;
 }
 
 // Moves an entry up until no turn above it is after its own, and returns its place.
@@ -101,7 +102,7 @@ fn sift_down<T: Drop>(jobs: &mut Jobs<T>, heap: &mut Vec<Entry>, place: usize)
 }
 
 // Moves an entry to its place: all others are in theirs.
-pub(crate) fn settle<T: Drop>(jobs: &mut Jobs<T>, heap: &mut Vec<Entry>, place: usize)
+fn settle<T: Drop>(jobs: &mut Jobs<T>, heap: &mut Vec<Entry>, place: usize)
     requires placed { IsPlaced jobs.old.live heap.old.items }
     requires but { IsHeapBut place heap.old.items }
     requires within { place < vec_len heap.old }
@@ -112,19 +113,58 @@ pub(crate) fn settle<T: Drop>(jobs: &mut Jobs<T>, heap: &mut Vec<Entry>, place: 
     sift_down(jobs, heap, at);
 }
 
+// Puts a job in, for which there is room.
+pub(crate) fn put_in<T: Drop>(
+    jobs: &mut Jobs<T>,
+    heap: &mut Vec<Entry>,
+    turn: (u64, u64),
+    job: T,
+) -> DefaultKey
+    requires indexed { IsIndexed jobs.old heap.old }
+    requires room { 0 < jobs.old.room }
+    requires space { vec_len heap.old < vec_capacity heap.old }
+    ensures inserts { Inserts (timed jobs.old) result (turn, job) (timed jobs.new) }
+    ensures valid { IsContent true jobs.old }
+    ensures indexed { IsIndexed jobs.new heap.new }
+    ensures capacity { vec_capacity heap.old ≤ vec_capacity heap.new }
+{
+    let place = heap.len();
+    let handle = jobs.insert(Job { turn, place, job }).unwrap();
+    let _ = heap.push(Entry { turn, handle });
+    settle(jobs, heap, place);
+    handle
+}
+
+// Gives a job another turn.
+pub(crate) fn set_turn<T: Drop>(
+    jobs: &mut Jobs<T>,
+    heap: &mut Vec<Entry>,
+    handle: DefaultKey,
+    turn: (u64, u64),
+)
+    requires indexed { IsIndexed jobs.old heap.old }
+    requires live { IsLive jobs.old handle }
+    ensures written { (j : JobOf T) → map.get jobs.old.live handle ≡ Some j → timed jobs.new ≡ with_value (timed jobs.old) handle (turn, j.job) }
+    ensures indexed { IsIndexed jobs.new heap.new }
+    ensures capacity { vec_capacity heap.new ≡ vec_capacity heap.old }
+{
+    let place = jobs[handle].place;
+    jobs[handle].turn = turn;
+    heap[place].turn = turn;
+    settle(jobs, heap, place);
+}
+
 // Takes a job out, and its entry.
 pub(crate) fn take_out<T: Drop>(
     jobs: &mut Jobs<T>,
     heap: &mut Vec<Entry>,
     handle: DefaultKey,
 ) -> Option<Job<T>>
-    requires placed { IsPlaced jobs.old.live heap.old.items }
-    requires ordered { IsHeap heap.old.items }
+    requires { IsIndexed jobs.old heap.old }
     ensures value { result ≡ map.get jobs.old.live handle }
-    ensures leaves { OnSome result (Removes (timed jobs.old) handle (timed jobs.new) × StaysValid true (timed jobs.old) (timed jobs.new)) }
-    ensures placed { IsPlaced jobs.new.live heap.new.items }
-    ensures heap { IsHeap heap.new.items }
-    ensures len { OnSome result (vec_len heap.new + 1 ≡ vec_len heap.old) }
+    ensures removes { OnSome result (Removes (timed jobs.old) handle (timed jobs.new)) }
+    ensures valid { IsContent true jobs.old }
+    ensures indexed { IsIndexed jobs.new heap.new }
     ensures capacity { vec_capacity heap.new ≡ vec_capacity heap.old }
     ensures unchanged { IfNone result ((jobs.new ≡ jobs.old) × (heap.new ≡ heap.old)) }
 {

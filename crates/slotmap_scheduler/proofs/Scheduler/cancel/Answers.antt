@@ -1,11 +1,11 @@
 use Rattle.std.proofs.Common.{rules, true, is_some, sym, ap, ◌∙◌, arith}
 use Rattle.std.specs.Option.{option_map}
 use Rattle.slotmap.proofs.Callers.{spent_removes, removed_spent}
-use Rattle.slotmap_keylist.proofs.Mapped.{live-mapped}
+use Rattle.slotmap_keylist.proofs.Mapped.{live-mapped, content-mapped}
 use Rattle.slotmap_scheduler.specs.declared.Job.{Job}
 use Rattle.slotmap_scheduler.specs.Timed.{waiting_of}
 use Rattle.slotmap_scheduler.specs.Heap.{unplaced, timed}
-use Rattle.slotmap_scheduler.proofs.Schedules.{left_waits, left_schedule}
+use Rattle.slotmap_scheduler.proofs.Schedules.{left_len, left_waits, left_schedule}
 use Rattle.slotmap_scheduler.proofs.Handles.{handles_removed, handles_stale, handles_spent}
 use Rattle.slotmap_scheduler.proofs.Seen.{job_seen, none_seen}
 use Rattle.slotmap_scheduler.proofs.Results.{without_none}
@@ -13,28 +13,33 @@ use Rattle.slotmap_scheduler.proofs.Scheduler.cancel.Goals as goal
 
 pub invariant_of-self-2 : goal.invariant_of-self-2
 invariant_of-self-2 g c =
-    left_schedule c.self.inside.jobs c.take_out.new.jobs c.self.inside.count c.self.inside.heap c.take_out.new.heap c.self.invariant c.inner.result c.in_ok-removed.removed (sym c.take_out.ensures.value ∙ c.in_ok-removed.was)
-    c.in_ok-removed.ensures.leaves.0 c.take_out.ensures.placed c.take_out.ensures.heap c.in_ok-removed.ensures.len c.take_out.ensures.capacity
+    left_schedule c.self.inside.jobs c.self.inside.count c.self.inside.heap c.self.invariant c.inner.result c.in_ok-removed.removed (sym c.take_out.ensures.value ∙ c.in_ok-removed.was) c.take_out.new.jobs
+    c.in_ok-removed.ensures.removes c.take_out.new.heap c.take_out.ensures.indexed c.take_out.ensures.capacity
 
 pub returns : goal.returns
 returns g c =
     let found = sym c.take_out.ensures.value ∙ c.in_ok-removed.was in
-    let leaves = c.in_ok-removed.ensures.leaves in
-    let len = c.in_ok-removed.ensures.len in
+    let out = c.take_out.ensures in
+    let removes = c.in_ok-removed.ensures.removes in
     let live = live-mapped unplaced c.self.inside.jobs c.inner.result (ap is_some found) in
+    let well = content-mapped unplaced c.self.inside.jobs true out.valid in
+    let fewer = left_len c.self.inside.jobs c.self.inside.count c.self.inside.heap c.self.invariant c.inner.result c.in_ok-removed.removed found c.take_out.new.jobs removes in
+    let len = c.self.invariant.indexed.len in
+    let now = out.indexed.len in
     record {
       job = rw (← c.self.view_is, ← c.inner.ensures) (ap (option_map (λ (j : Job g.row.T.Denot). j.job)) (sym found) ∙ job_seen c.self.inside.jobs c.self.inside.count c.self.invariant.order c.inner.result);
-      removed = rw (← c.self.view_is, ← c.inner.ensures) (left_waits c.self.inside.jobs c.take_out.new.jobs c.self.inside.count c.self.inside.heap c.take_out.new.heap c.self.invariant c.inner.result c.in_ok-removed.removed found leaves.0);
-      handles = rw (← c.self.view_is, ← c.inner.ensures) (handles_removed (timed c.self.inside.jobs) (timed c.take_out.new.jobs) c.self.inside.heap c.take_out.new.heap c.inner.result leaves.0 (omega arith) c.take_out.ensures.capacity);
+      removed = rw (← c.self.view_is, ← c.inner.ensures) (left_waits c.self.inside.jobs c.self.inside.count c.self.inside.heap c.self.invariant c.inner.result c.in_ok-removed.removed found c.take_out.new.jobs removes);
+      handles = rw (← c.self.view_is, ← c.inner.ensures) (handles_removed (timed c.self.inside.jobs) (timed c.take_out.new.jobs) c.self.inside.heap c.take_out.new.heap c.inner.result removes (omega arith) out.capacity);
       turns = search rules;
       unchanged = search rules;
-      for_good = rw (← c.inner.ensures) (handles_spent (timed c.take_out.new.jobs) c.take_out.new.heap c.inner.result (removed_spent _ _ true leaves.1.before c.inner.result live leaves.0));
-      stale = rw (← c.self.view_is) (handles_stale _ _ c.self.inside.heap c.take_out.new.heap (spent_removes _ _ true leaves.1.before c.inner.result live leaves.0));
+      for_good = rw (← c.inner.ensures) (handles_spent (timed c.take_out.new.jobs) c.take_out.new.heap c.inner.result (removed_spent _ _ true well c.inner.result live removes));
+      stale = rw (← c.self.view_is) (handles_stale _ _ c.self.inside.heap c.take_out.new.heap (spent_removes _ _ true well c.inner.result live removes));
     }
 
 pub returns-in_err-removed-clause-job : goal.returns-in_err-removed-clause-job
 returns-in_err-removed-clause-job g c =
-    rw (← c.self.view_is, ← c.inner.ensures) (c.from_residual.ensures ∙ ap (option_map (λ (j : Job g.row.T.Denot). j.job)) (sym c.in_err-removed.was ∙ c.take_out.ensures.value) ∙ job_seen c.self.inside.jobs c.self.inside.count c.self.invariant.order c.inner.result)
+    rw (← c.self.view_is, ← c.inner.ensures) (c.from_residual.ensures ∙ ap (option_map (λ (j : Job g.row.T.Denot). j.job)) (sym c.in_err-removed.was ∙ c.take_out.ensures.value)
+    ∙ job_seen c.self.inside.jobs c.self.inside.count c.self.invariant.order c.inner.result)
 
 pub returns-in_err-removed-clause-removed : goal.returns-in_err-removed-clause-removed
 returns-in_err-removed-clause-removed g c =

@@ -12,7 +12,7 @@ use Rattle.slotmap_scheduler.proofs.Scheduler.clear.Goals as goal
 
 pub invariant_of-self : goal.invariant_of-self
 invariant_of-self g c =
-    schedule_cleared c.self.inside.jobs c.self.inside.count c.self.inside.heap c.self.invariant c.clear.new.self c.clear-2.new.self c.clear.ensures.empty c.clear.ensures.leaves c.clear-2.ensures.len c.clear-2.ensures.capacity
+    schedule_cleared c.self.inside.jobs c.clear.new.self c.self.inside.count c.self.inside.heap c.clear-2.new.self c.self.invariant c.clear.ensures.empty c.clear.ensures.leaves c.clear-2.ensures.len c.clear-2.ensures.capacity
 
 pub returns-clause-empty : goal.returns-clause-empty
 returns-clause-empty g c = none_waits c.clear.new.self c.clear.ensures.empty

@@ -10,7 +10,7 @@ use Rattle.slotmap_scheduler.proofs.Scheduler.clone.Goals as goal
 pub overflow_sub-capacity : goal.overflow_sub-capacity
 overflow_sub-capacity g c =
     let same = c.in_ok-heap.ensures.cases.1 in
-    let all = c.self.invariant.len in
+    let all = c.self.invariant.indexed.len in
     let mapped = len-mapped unplaced c.self.inside.jobs.live in
     let kept = clone_len (clones_job g.T.Clone.is_clone) c.self.inside.jobs c.in_ok-jobs.jobs c.in_ok-jobs.ensures.clones in
     let fits = c.in_ok-jobs.ensures.valid.capacity_fits in

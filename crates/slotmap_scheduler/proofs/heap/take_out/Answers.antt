@@ -1,24 +1,24 @@
-use Rattle.std.proofs.Common.{◌≢◌, vec_len, sym, ◌∙◌}
-use Rattle.slotmap_keylist.proofs.Mapped.{mapped-removes, mapped-stays}
+use Rattle.std.proofs.Common.{◌≢◌, ◌+◌, vec_len, sym, ap, ◌∙◌}
+use Rattle.slotmap_keylist.proofs.Mapped.{mapped-removes}
 use Rattle.slotmap_scheduler.specs.Heap.{unplaced}
 use Rattle.slotmap_scheduler.proofs.Places.{in_heap, last_placed, last_heap, gap_within, gap_but, gap_live, gap_placed, place_written}
+use Rattle.slotmap_scheduler.proofs.Indexed.{left_indexed}
 use Rattle.slotmap_scheduler.proofs.heap.take_out.Goals as goal
 
 pub swap_remove-requires : goal.swap_remove-requires
 swap_remove-requires g c = in_heap c.args.jobs.now c.args.heap.now c.requires.placed c.args.handle c.in_ok-removed.removed (sym c.remove.ensures.value ∙ c.in_ok-removed.was)
 
-pub returns-then-removed-len-clause-leaves : goal.returns-then-removed-len-clause-leaves
-returns-then-removed-len-clause-leaves g c = (mapped-removes unplaced _ _ c.args.handle c.in_ok-removed.ensures.removes, mapped-stays unplaced _ _ c.remove.ensures.valid)
+pub returns-then-removed-len-clause-removes : goal.returns-then-removed-len-clause-removes
+returns-then-removed-len-clause-removes g c = mapped-removes unplaced _ _ c.args.handle c.in_ok-removed.ensures.removes
 
-pub returns-then-removed-len-clause-placed : goal.returns-then-removed-len-clause-placed
-returns-then-removed-len-clause-placed g c =
-    rw c.remove.ensures.live (last_placed c.args.jobs.now c.args.heap.now c.requires.placed c.args.handle c.in_ok-removed.removed (sym c.remove.ensures.value ∙ c.in_ok-removed.was)
-    c.swap_remove.new.self c.swap_remove.ensures.len c.swap_remove.ensures.by_index (c.if-removed-len.true ∙ c.len.ensures))
-
-pub returns-then-removed-len-clause-heap : goal.returns-then-removed-len-clause-heap
-returns-then-removed-len-clause-heap g c =
-    last_heap c.args.jobs.now c.args.heap.now c.requires.placed c.args.handle c.in_ok-removed.removed (sym c.remove.ensures.value ∙ c.in_ok-removed.was)
-    c.swap_remove.new.self c.swap_remove.ensures.len c.swap_remove.ensures.by_index (c.if-removed-len.true ∙ c.len.ensures) c.requires.ordered
+pub returns-then-removed-len-clause-indexed : goal.returns-then-removed-len-clause-indexed
+returns-then-removed-len-clause-indexed g c =
+    let found = sym c.remove.ensures.value ∙ c.in_ok-removed.was in
+    let by = c.swap_remove.ensures in
+    let end = c.if-removed-len.true ∙ c.len.ensures in
+    left_indexed c.args.jobs.now c.args.heap.now c.requires c.args.handle c.in_ok-removed.removed found c.remove.new.self c.swap_remove.new.self (returns-then-removed-len-clause-removes g c)
+    (rw c.remove.ensures.live (last_placed c.args.jobs.now c.args.heap.now c.requires.placed c.args.handle c.in_ok-removed.removed found c.swap_remove.new.self by.len by.by_index end))
+    (last_heap c.args.jobs.now c.args.heap.now c.requires.placed c.args.handle c.in_ok-removed.removed found c.swap_remove.new.self by.len by.by_index end c.requires.ordered) by.len
 
 pub index-requires : goal.index-requires
 index-requires g c =
@@ -32,17 +32,23 @@ index_mut-requires g c =
 
 pub settle-requires : goal.settle-requires
 settle-requires g c =
-    let was = sym c.remove.ensures.value ∙ c.in_ok-removed.was in
+    let found = sym c.remove.ensures.value ∙ c.in_ok-removed.was in
     let by = c.swap_remove.ensures in
     let apart : c.in_ok-removed.removed.place ≢ vec_len c.swap_remove.new.self = λ same. c.if-removed-len.false (same ∙ sym c.len.ensures) in
     record {
-      placed = rw c.remove.ensures.live (gap_placed c.args.jobs.now c.args.heap.now c.requires.placed c.args.handle c.in_ok-removed.removed was c.swap_remove.new.self by.len by.by_index apart
+      placed = rw c.remove.ensures.live (gap_placed c.args.jobs.now c.args.heap.now c.requires.placed c.args.handle c.in_ok-removed.removed found c.swap_remove.new.self by.len by.by_index apart
           c.index.result.now c.index.ensures c.index_mut.result.now (rw c.remove.ensures.live at c.index_mut.ensures.value));
-      but = gap_but c.args.jobs.now c.args.heap.now c.requires.placed c.args.handle c.in_ok-removed.removed was c.swap_remove.new.self by.len by.by_index apart c.requires.ordered;
-      within = gap_within c.args.jobs.now c.args.heap.now c.requires.placed c.args.handle c.in_ok-removed.removed was c.swap_remove.new.self by.len by.by_index apart;
+      but = gap_but c.args.jobs.now c.args.heap.now c.requires.placed c.args.handle c.in_ok-removed.removed found c.swap_remove.new.self by.len by.by_index apart c.requires.ordered;
+      within = gap_within c.args.jobs.now c.args.heap.now c.requires.placed c.args.handle c.in_ok-removed.removed found c.swap_remove.new.self by.len by.by_index apart;
     }
 
-pub returns-clause-leaves : goal.returns-clause-leaves
-returns-clause-leaves g c =
+pub returns-clause-removes : goal.returns-clause-removes
+returns-clause-removes g c =
     rw (c.settle.ensures.resettled.same, place_written c.remove.new.self c.index.result.now.handle c.index_mut.result.now c.in_ok-removed.removed.place c.index_mut.ensures.value)
-    (mapped-removes unplaced _ _ c.args.handle c.in_ok-removed.ensures.removes, mapped-stays unplaced _ _ c.remove.ensures.valid)
+    (mapped-removes unplaced _ _ c.args.handle c.in_ok-removed.ensures.removes)
+
+pub returns-clause-indexed : goal.returns-clause-indexed
+returns-clause-indexed g c =
+    let s = c.settle.ensures.resettled in
+    left_indexed c.args.jobs.now c.args.heap.now c.requires c.args.handle c.in_ok-removed.removed (sym c.remove.ensures.value ∙ c.in_ok-removed.was) c.settle.new.jobs c.settle.new.heap (returns-clause-removes g c)
+    s.placed c.settle.ensures.heap (ap (λ n. n + 1) s.len ∙ c.swap_remove.ensures.len)

@@ -1,0 +1,91 @@
+-- A heap that has the turn of each job: what each call on the map and the heap leaves.
+use Rattle.std.proofs.Common.{◌≡◌, ◌+◌, ◌<◌, true, List, Option, Some, None, set as list_set, get_or, length, refl, sym, ap, ◌∙◌, arith}
+use Rattle.std.specs.Prelude.{vec_len, option_map}
+use Rattle.std.specs.declared.vec.Vec.{Vec}
+use Rattle.std.specs.List.{SameBelow}
+use Rattle.std.specs.FinMap as map
+use Rattle.std.proofs.lemmas.List.{length-set, get_or-set_same, get_or-set_other}
+use Rattle.std.proofs.lemmas.Option.{slice_get-get_or}
+use Rattle.slotmap.specs.Words.{Key, Content, IsContent, Inserts, Removes, with_value}
+use Rattle.slotmap.proofs.Callers.{keys, inserted_fresh, inserted_len, removed_len, none_of}
+use Rattle.slotmap_keylist.proofs.Mapped.{mapped-inserts, content-mapped, get-mapped, mapped-insert}
+use Rattle.slotmap_scheduler.specs.declared.Job.{Job}
+use Rattle.slotmap_scheduler.specs.declared.heap.Entry.{Entry}
+use Rattle.slotmap_scheduler.specs.Timed.{Turn}
+use Rattle.slotmap_scheduler.specs.Heap.{no_entry, unplaced, timed, spot_of, entry_at, IsPlaced, IsHeap, IsHeapBut, Resettled, IsIndexed}
+use Rattle.slotmap_scheduler.proofs.Heaps.{heap_put}
+use Rattle.slotmap_scheduler.proofs.Places.{entry_is, entry_within, read_alike, placed_put, one_place, in_heap}
+
+pub same_job : {T : Type 0} (o : Option (Job T)) (i j : Job T) → o ≡ Some i → o ≡ Some j → i ≡ j
+same_job o i j x y = grind arith
+
+module _ {T Z : Type 0} where
+  -- the heap was set in order
+  pub indexed_settled : {jobs jobs' : Content (Job T)} {heap heap' : Vec Entry Z} → Resettled jobs heap jobs' heap' → IsHeap heap'.items → vec_len heap ≡ map.len (timed jobs).live → IsIndexed jobs' heap'
+  indexed_settled s ordered len = record { placed = s.placed; ordered = ordered; len = s.len ∙ len ∙ sym (ap (λ (c : Content (Turn × T)). map.len c.live) s.same) }
+
+  -- a job was put into the map, and an entry behind the others
+  module _ (jobs mid : Content (Job T)) (heap : Vec Entry Z) (is : IsIndexed jobs heap) (valid : IsContent true jobs) (k : Key) (turn : Turn) (job : T) (inserts : Inserts jobs k (record { turn = turn; place = vec_len heap; job = job }) mid)
+      (pushed : Vec Entry Z) (len : vec_len pushed ≡ vec_len heap + 1) (below : SameBelow heap.items pushed.items (vec_len heap)) (last : (d : Entry) → get_or pushed.items (vec_len heap) d ≡ record { turn = turn; handle = k }) where
+    free : map.get jobs.live k ≡ None
+    free = none_of (map.get jobs.live k) (inserted_fresh true jobs k _ mid valid inserts)
+
+    pub put_placed : IsPlaced mid.live pushed.items
+    put_placed = rw inserts.live (placed_put jobs.live heap.items is.placed pushed.items k (record { turn = turn; place = vec_len heap; job = job }) (vec_len heap) refl
+        (entry_is pushed (vec_len heap) (record { turn = turn; handle = k }) (omega arith) (sym (last _)))
+        (λ i other. read_alike heap.items pushed.items i i (λ within. (omega (arith, heap.ok.0, pushed.ok.0), below i no_entry (omega (arith, pushed.ok.0)))) (λ past. omega (arith, heap.ok.0, pushed.ok.0)))
+        (λ q t there. absurd (let within = entry_within heap.items (vec_len heap) (q, t) (is.placed.to q (vec_len heap) t there) in omega (arith, heap.ok.0)))
+        (λ i t there. absurd (let was = is.placed.from i k t there in let none = free in cc)))
+
+    pub put_but : IsHeapBut (vec_len heap) pushed.items
+    put_but = heap_put heap.items pushed.items is.ordered (vec_len heap) (λ i inside other. (omega (arith, heap.ok.0, pushed.ok.0), below i no_entry (omega (arith, pushed.ok.0))))
+
+    put_inserts : Inserts (timed jobs) k (turn, job) (timed mid)
+    put_inserts = mapped-inserts unplaced jobs mid k _ inserts
+
+    pub put_len : vec_len pushed ≡ map.len (timed mid).live
+    put_len = let had = is.len in let more = inserted_len true (timed jobs) k (turn, job) (timed mid) (content-mapped unplaced jobs true valid) put_inserts in omega arith
+
+  module _ (jobs : Content (Job T)) (heap : Vec Entry Z) (is : IsIndexed jobs heap) (k : Key) (j : Job T) (found : map.get jobs.live k ≡ Some j) where
+    -- it was taken out, and its entry
+    pub left_indexed : (jobs' : Content (Job T)) (heap' : Vec Entry Z) → Removes (timed jobs) k (timed jobs') → IsPlaced jobs'.live heap'.items → IsHeap heap'.items → vec_len heap' + 1 ≡ vec_len heap → IsIndexed jobs' heap'
+    left_indexed jobs' heap' removes placed ordered len = record {
+      placed = placed;
+      ordered = ordered;
+      len = (let had = is.len in let less = removed_len (timed jobs) k (unplaced j) (timed jobs') (get-mapped unplaced jobs.live k ∙ ap (option_map unplaced) found) removes in omega arith);
+    }
+
+    pub turned_len : (turn : Turn) → vec_len heap ≡ map.len (timed (with_value jobs k (record j { turn = turn }))).live
+    turned_len turn = is.len ∙ sym (ap map.len (mapped-insert unplaced jobs.live k (record j { turn = turn })) ∙ grind (arith, keys, get-mapped unplaced jobs.live k, found))
+
+    -- a job and its entry get another turn
+    module _ (turn : Turn) (e : Entry) (read : e ≡ get_or heap.items j.place e) where
+      within : j.place < vec_len heap
+      within = in_heap jobs heap is.placed k j found
+
+      inside : j.place < length heap.items
+      inside = omega (arith, within, heap.ok.0)
+
+      spot : spot_of jobs.live k ≡ Some (j.place, j.turn)
+      spot = ap (option_map _) found
+
+      mine : e.handle ≡ k
+      mine = handle_of (entry_at heap.items j.place) (entry_is heap j.place e within read) (is.placed.to k j.place j.turn spot)
+        where
+          handle_of : (o : Option (Key × Turn)) → o ≡ Some (e.handle, e.turn) → o ≡ Some (k, j.turn) → e.handle ≡ k
+          handle_of o x y = grind arith
+
+      abbrev now : List Entry
+      now = list_set heap.items j.place (record e { turn = turn })
+
+      long : length now ≡ length heap.items
+      long = length-set heap.items j.place (record e { turn = turn })
+
+      pub turned_placed : IsPlaced (map.insert jobs.live k (record j { turn = turn })) now
+      turned_placed = placed_put jobs.live heap.items is.placed now k (record j { turn = turn }) j.place refl
+          (ap (option_map _) (slice_get-get_or now j.place no_entry (omega (arith, long, inside)) ∙ ap Some (get_or-set_same heap.items j.place (record e { turn = turn }) no_entry inside)) ∙ ap (λ h. Some (h, turn)) mine)
+          (λ i other. read_alike heap.items now i i (λ low. (omega (arith, long), get_or-set_other heap.items j.place i (record e { turn = turn }) no_entry other)) (λ past. omega (arith, long)))
+          (λ q t there. grind (arith, is.placed.to q j.place t there, is.placed.to k j.place j.turn spot)) (λ i t there. one_place _ (is.placed.from i k t there) spot)
+
+      pub turned_but : IsHeapBut j.place now
+      turned_but = heap_put heap.items now is.ordered j.place (λ i low other. (omega (arith, long), get_or-set_other heap.items j.place i (record e { turn = turn }) no_entry other))
