@@ -2,9 +2,7 @@ pub mod Callers
 pub mod Climbs
 pub mod Descending
 pub mod Moved
-pub mod Placing
 pub mod Removals
 pub mod Showing
-pub mod Walking
 pub mod Weaving
 pub mod Worlds

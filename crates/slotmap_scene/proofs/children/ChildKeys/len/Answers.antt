@@ -1,5 +1,5 @@
 use Rattle.std.proofs.Common.{length, ap, ◌∙◌}
-use Rattle.slotmap_scene.proofs.Walking.{walk_long}
+use Rattle.slotmap_scene.proofs.Weaving.{walk_long}
 use Rattle.slotmap_scene.proofs.children.ChildKeys.len.Goals as goal
 
 pub returns : goal.returns

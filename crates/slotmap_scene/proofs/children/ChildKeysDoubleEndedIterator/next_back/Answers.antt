@@ -1,7 +1,7 @@
 use Rattle.std.proofs.Common.{◌-◌, [], ◌∷◌, length, length-append, sym, ap, ◌∙◌, arith}
 use Rattle.slotmap_keylist.specs.Linked.{follow}
 use Rattle.slotmap_scene.specs.LinkedNodes.{link_of}
-use Rattle.slotmap_scene.proofs.Walking.{last_live, last_there, back_is, walk_back}
+use Rattle.slotmap_scene.proofs.Weaving.{last_live, last_there, back_is, walk_back}
 use Rattle.slotmap_scene.proofs.children.ChildKeysDoubleEndedIterator.next_back.Goals as goal
 
 pub returns-in_err-key-clause-steps : goal.returns-in_err-key-clause-steps

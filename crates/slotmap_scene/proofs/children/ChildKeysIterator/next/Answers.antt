@@ -1,5 +1,5 @@
 use Rattle.std.proofs.Common.{length, sym, ap, ◌∙◌, arith}
-use Rattle.slotmap_scene.proofs.Walking.{first_live, next_is, walk_next}
+use Rattle.slotmap_scene.proofs.Weaving.{first_live, next_is, walk_next}
 use Rattle.slotmap_scene.proofs.children.ChildKeysIterator.next.Goals as goal
 
 pub index-node-requires : goal.index-node-requires

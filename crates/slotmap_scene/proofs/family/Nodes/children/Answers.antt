@@ -4,7 +4,7 @@ use Rattle.slotmap_keylist.specs.declared.Ends.{Ends}
 use Rattle.slotmap_keylist.specs.Linked.{followed}
 use Rattle.slotmap_scene.specs.LinkedNodes.{IsWalk, link_of}
 use Rattle.slotmap_scene.proofs.Showing.{shown_children, ends_shown}
-use Rattle.slotmap_scene.proofs.Walking.{walk_children}
+use Rattle.slotmap_scene.proofs.Weaving.{walk_children}
 use Rattle.slotmap_scene.proofs.family.Nodes.children.Goals as goal
 
 pub between-requires : goal.between-requires
