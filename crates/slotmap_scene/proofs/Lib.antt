@@ -2,7 +2,6 @@ pub mod Callers
 pub mod Climbs
 pub mod Descending
 pub mod Moved
-pub mod Placing
 pub mod Removals
 pub mod Showing
 pub mod Weaving

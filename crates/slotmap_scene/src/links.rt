@@ -1,9 +1,9 @@
 //! A node with its links, and the changes of links: a node comes, is put between two others, or is taken
 //! out.
 
-ghost use Rattle.std.specs.Prelude.{◌≡◌, ◌<◌, ◌≤◌, IfErr, IfOk, IfSome, IsOk, OnErr, true, false};
+ghost use Rattle.std.specs.Prelude.{◌≡◌, ◌<◌, ◌≤◌, IfErr, IfOk, IfSome, IsErr, IsOk, OnErr, true, false};
 ghost use Rattle.std.specs.FinMap as map;
-ghost use Rattle.slotmap.specs.Words.{Inserts, IsContent, IsLive, IsSpent, Keeps, KeepsSpent};
+ghost use Rattle.slotmap.specs.Words.{Inserts, IsContent, IsLive, IsSpent, Keeps, MayGrow};
 ghost use Rattle.slotmap_scene.specs.LinkedNodes.{AreLive, ends_of, leaf, link_of, put_between, taken_between, with_link, with_next, with_prev};
 ghost use Rattle.slotmap_scene.specs.Refusals.{RefusesNode};
 
@@ -32,7 +32,7 @@ pub(crate) fn add<T: Drop>(
     ensures adds { IfOk result (λ key. Inserts nodes.old key (leaf value parent) nodes.new) }
     ensures fresh { IfOk result (λ key. map.contains_key nodes.old.live key ≡ false) }
     ensures unspent { IfOk result (λ key. IsSpent nodes.old key → ⊥) }
-    ensures stale { KeepsSpent nodes.old nodes.new }
+    ensures valid { MayGrow true nodes.old (IsErr result) nodes.new }
     ensures err { IfErr result (RefusesNode nodes.old value) }
     ensures reuses { 0 < map.len nodes.old.next → IsOk result }
     ensures room { 0 < nodes.old.room → IsOk result }

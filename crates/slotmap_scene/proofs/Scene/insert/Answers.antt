@@ -3,8 +3,7 @@ use Rattle.slotmap.specs.Words.{Inserts}
 use Rattle.slotmap_scene.specs.Climb.{parent_of}
 use Rattle.slotmap_scene.specs.Family.{child, placed, with_children_of}
 use Rattle.slotmap_scene.proofs.Climbs.{parent_there}
-use Rattle.slotmap_scene.proofs.Moved.{came_alone, came_sibling, came_there, child_gained, child_inserts, child_scene, child_spent}
-use Rattle.slotmap_scene.proofs.Placing.{times_placed}
+use Rattle.slotmap_scene.proofs.Moved.{came_alone, came_sibling, came_there, child_gained, child_inserts, child_scene, child_spent, times_placed}
 use Rattle.slotmap_scene.proofs.Scene.insert.Goals as goal
 
 pub attach_beside-requires-clause-parent : goal.attach_beside-requires-clause-parent

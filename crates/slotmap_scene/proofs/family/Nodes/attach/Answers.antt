@@ -1,6 +1,6 @@
 use Rattle.std.proofs.Common.{◌∷◌, ◌++◌, [], refl}
 use Rattle.slotmap_scene.specs.Family.{children_of}
-use Rattle.slotmap_scene.proofs.Placing.{last_place}
+use Rattle.slotmap_scene.proofs.Moved.{last_place}
 use Rattle.slotmap_scene.proofs.family.Nodes.attach.Goals as goal
 
 pub put_between-requires-clause-place : goal.put_between-requires-clause-place

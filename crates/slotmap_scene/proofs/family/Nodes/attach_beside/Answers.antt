@@ -1,7 +1,7 @@
 use Rattle.std.proofs.Common.{arith}
 use Rattle.slotmap_keylist.proofs.Linking.{split_at}
 use Rattle.slotmap_scene.specs.Family.{around, children_of, placed}
-use Rattle.slotmap_scene.proofs.Placing.{side_place, side_put}
+use Rattle.slotmap_scene.proofs.Moved.{side_place, side_put}
 use Rattle.slotmap_scene.proofs.family.Nodes.attach_beside.Goals as goal
 
 pub put_between-requires-clause-place : goal.put_between-requires-clause-place

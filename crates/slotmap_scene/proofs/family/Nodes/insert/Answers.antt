@@ -1,5 +1,6 @@
-use Rattle.std.proofs.Common.{◌∙◌}
+use Rattle.std.proofs.Common.{true, ◌∙◌}
 use Rattle.std.proofs.lemmas.Result.{IfOk-weaker}
+use Rattle.slotmap.proofs.Callers.{spent_insert}
 use Rattle.slotmap_keylist.proofs.Shown.{spent_shown}
 use Rattle.slotmap_scene.specs.LinkedNodes.{shown_nodes}
 use Rattle.slotmap_scene.proofs.Showing.{added, nodes_keep_spent, refuses_shown, shown_keys, shown_len}
@@ -20,7 +21,7 @@ returns-clause-unspent g c =
     rw (← c.self.view_is) (IfOk-weaker c.add.result _ _ (λ k unspent spent. unspent (spent_shown c.self.inside.map (shown_nodes m) (shown_keys m) (shown_len m) k spent)) c.add.ensures.unspent)
 
 pub returns-clause-stale : goal.returns-clause-stale
-returns-clause-stale g c = rw (← c.self.view_is) (nodes_keep_spent c.self.inside.map c.add.new.nodes c.add.ensures.stale)
+returns-clause-stale g c = rw (← c.self.view_is) (nodes_keep_spent c.self.inside.map c.add.new.nodes (spent_insert _ _ true _ c.add.ensures.valid _ _ c.add.ensures.adds))
 
 pub returns-clause-err : goal.returns-clause-err
 returns-clause-err g c = rw (← c.self.view_is) (refuses_shown c.self.inside.map c.add.new.nodes c.args.value c.add.result c.add.ensures.err)
