@@ -85,3 +85,9 @@ returns-clause-inserts g c = let at = goal.at.returns-clause-inserts g c in (fil
 
 pub returns-clause-valid : goal.returns-clause-valid
 returns-clause-valid g c = let at = goal.at.returns-clause-valid g c in (filled_back g at.After-fill_back (back g at.After-back_of-back)).valid
+
+pub overflow_cast-len : goal.overflow_cast-len
+overflow_cast-len g c = grind (arith, common_steps)
+
+pub returns-clause-blocks : goal.returns-clause-blocks
+returns-clause-blocks g c = grind (arith, common_steps)

@@ -3,6 +3,7 @@ use Rattle.slotmap_core.proofs.Common.{into_iter_items, with_items_is, Accepts, 
 use Rattle.slotmap_hop.proofs.SlotLemmas.{valid, same_length}
 use Rattle.slotmap_hop.proofs.FromListLemmas.{AreRead, AreRead-first, AreRead-vacant, AreRead-in_use, read_count, with_slot, can_open, IsSound-read, starts-read, reading_counted, reading_all, reading_on}
 use Rattle.slotmap_hop.proofs.HopSlotMap.from_slots.Goals.{In_ok-check_slots, In-None, After-push_reserved-in-loop-slot}
+use Rattle.std.proofs.lemmas.Grind.{common_steps}
 use Rattle.slotmap_hop.proofs.HopSlotMap.from_slots.Goals as goal
 
 accepted : (g : _) (c : In_ok-check_slots g) → Accepts c.args.list.items 4294967295
@@ -101,3 +102,18 @@ returns-clause-reads g c =
     reads_as c.args.list.items 4294967295 accepts true _
     (starts-read c.args.list.items _ _ _ (all_read g (goal.at.returns-clause-reads g c).In-None) 4294967295 (omega arith) accepts versions_fit _)
     (returns-clause-valid g c).valid
+
+pub push_reserved-requires : goal.push_reserved-requires
+push_reserved-requires g c = grind (arith, common_steps)
+
+pub overflow_cast-index : goal.overflow_cast-index
+overflow_cast-index g c = grind (arith, common_steps)
+
+pub overflow_add-live_count : goal.overflow_add-live_count
+overflow_add-live_count g c = grind (arith, common_steps)
+
+pub overflow_add-vacant_count : goal.overflow_add-vacant_count
+overflow_add-vacant_count g c = grind (arith, common_steps)
+
+pub returns-clause-accepted : goal.returns-clause-accepted
+returns-clause-accepted g c = grind (arith, common_steps)

@@ -45,3 +45,9 @@ returns-clause-steps g c =
     let exact = rw (c.version-version.ensures ∙ ap version_in found.is) at c.exact.ensures in
     let is = ap g.K.Key.data_of (g.met.K.Key.from_gives_key _ _ c.from-key.ensures) ∙ g.met.K.Key.from_data _ (rw exact is_key) ∙ exact in
     sym c.self.view_is ∙ (moved g at.After-retire-value found).1 ∙ rw is refl
+
+pub returns-then-self-eq0-clause-steps : goal.returns-then-self-eq0-clause-steps
+returns-then-self-eq0-clause-steps g c = grind (arith, common_steps)
+
+pub returns-clause-goes : goal.returns-clause-goes
+returns-clause-goes g c = grind (arith, common_steps)
