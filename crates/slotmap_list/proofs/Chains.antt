@@ -1,25 +1,22 @@
 -- A list and its nodes: what a node says of the list, and what a change of the nodes does to it. For the answers of the list's calls.
-use Rattle.std.proofs.Common.{◌≡◌, ◌≢◌, ◌+◌, true, false, cond, List, [], ◌∷◌, ◌++◌, length, Option, Some, None, is_some, IsSome, inl, inr}
+use Rattle.std.proofs.Common.{◌≡◌, ◌≢◌, ◌+◌, true, cond, List, [], ◌∷◌, ◌++◌, length, Option, Some, None, is_some, IsSome}
 use Rattle.std.proofs.Common.{refl, sym, ap, subst, ◌∙◌, arith}
 use Rattle.std.specs.Option.{option_map}
 use Rattle.std.specs.FinMap as map
 use Rattle.slotmap.specs.Words.{Key, key_cmp, Content}
-use Rattle.slotmap.proofs.Callers.{keys, keys_total, exact_keys, same_or_other, len_removed, get-insert_here, get-insert_other, live-insert_still}
+use Rattle.slotmap.proofs.Callers.{keys, keys_total, exact_keys, untied, same_or_other, len_removed, get-insert_here, get-insert_other, live-insert_still}
 use Rattle.slotmap_keylist.proofs.Alone.{len_alike}
 use Rattle.slotmap_keylist.proofs.Mapped.{some-mapped}
 use Rattle.slotmap_list.specs.declared.Node.{Node}
 use Rattle.slotmap_list.specs.Sequence.{Sequence, value_of, first_or, key_after, key_before, without}
 use Rattle.slotmap_list.specs.Chain.{Nodes, follow_node, follow, AreNodes, IsRow, IsChain, with_link, HasNeighbours, BothStand, Relinks, Unlinks, Links}
 use Rattle.slotmap_list.specs.declared.links.Side.TheVariants.{Before, After}
-use Rattle.slotmap_list.proofs.Elements.{one, one_itself, one_other, times, times-append, times-put, length-put, times_none, times_some, some_there, none_there, value_of-split, key_after-split, key_after-absent, key_before-split, key_before-absent, without-split, without-absent, first_in, last_in}
+use Rattle.slotmap_list.proofs.Elements.{one_itself, one_other, times, times-append, times-put, length-put, times_none, times_some, some_there, none_there, value_of-split, key_after-split, key_after-absent, key_before-split, key_before-absent, without-split, without-absent, first_in, last_in}
 use Rattle.slotmap_list.proofs.Rows.{row_stands, linked_other, IsGap, IsSplit, split_at, neighbours_stand, row_without, both_so, gap_stands, row_with}
 
 module _ {T : Type 0} where
   was_there : (nodes : Nodes T) (k q : Key) → map.contains_key (map.remove nodes k) q ≡ true → (q ≢ k) × (map.contains_key nodes q ≡ true)
-  was_there nodes k q there = (
-    (λ e. absurd (let gone : map.contains_key (map.remove nodes k) k ≡ false = grind (arith, keys) in let h = rw e at there in cc)),
-    grind (arith, keys),
-  )
+  was_there nodes k q there = grind (arith, map.get-remove keys_total nodes k q, untied keys_total exact_keys q k)
 
   -- following the links gives the list
   pub follow_is : (nodes : Nodes T) (p n : Option Key) (xs : List (Key × T)) → AreNodes nodes p xs n → follow nodes (length xs) (first_or xs n) ≡ xs
@@ -111,10 +108,8 @@ module _ {T : Type 0} where
         stands = λ q there. some_there q (gap.before ++ (k, v) ∷ gap.after) (
             let sum = ap (times q) gap.list in
             let more = times-put q gap.before (k, v) gap.after in
-            elim (same_or_other q k) [
-              | inl is ↦ (let first = ap (one q) (sym is) ∙ one_itself q in omega arith)
-              | inr other ↦ (let was = times_some q xs (chain.stands q (sym (ap is_some (other_than q other)) ∙ sym (alike q) ∙ there)) in omega arith)
-            ]);
+            let was = λ (other : q ≢ k). times_some q xs (chain.stands q (sym (ap is_some (other_than q other)) ∙ sym (alike q) ∙ there)) in
+            grind (arith, one_itself q, same_or_other q k));
         count = (
             let sum = ap length gap.list in
             let more = length-put gap.before (k, v) gap.after in

@@ -178,9 +178,8 @@ module _ {T : Type 0} where
 
   -- what is found in a list with one more element
   pub value_of_pushed : (q : Key) (xs : List (Key × T)) (k : Key) (v w : T) → value_of q (xs ++ (k, v) ∷ []) ≡ Some w → (value_of q xs ≡ Some w) ⊎ (v ≡ w)
-  value_of_pushed q [] k v w = by_key (λ b. cond b (Some v) None ≡ Some w → (◌≡◌ {A = Option T} None (Some w)) ⊎ (v ≡ w)) q k (λ _ found. inr (cc)) (λ _ _ found. inl found)
-  value_of_pushed q (x ∷ xs) k v w = by_key (λ b. cond b (Some x.1) (value_of q (xs ++ (k, v) ∷ [])) ≡ Some w → (cond b (Some x.1) (value_of q xs) ≡ Some w) ⊎ (v ≡ w)) q x.0
-      (λ _ found. inl found) (λ _ _ found. value_of_pushed q xs k v w found)
+  value_of_pushed q [] k v w found = grind arith
+  value_of_pushed q (x ∷ xs) k v w found = grind (arith, value_of_pushed q xs k v w)
 
   -- and of one that doesn't stand
   pub key_after-absent : (k : Key) (xs : List (Key × T)) → times k xs ≡ 0 → key_after k xs ≡ None

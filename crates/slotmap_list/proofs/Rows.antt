@@ -1,9 +1,9 @@
 -- Elements with their nodes: parts of a row, links that are written, and elements that are put in or taken out.
-use Rattle.std.proofs.Common.{◌≡◌, ◌≢◌, ◌+◌, ◌<◌, ◌≤◌, true, List, [], ◌∷◌, ◌++◌, Option, Some, None, is_some, IsSome, IfSome, inl, inr}
+use Rattle.std.proofs.Common.{◌≡◌, ◌≢◌, ◌+◌, ◌<◌, ◌≤◌, true, List, [], ◌∷◌, ◌++◌, Option, Some, None, IsSome, IfSome}
 use Rattle.std.proofs.Common.{refl, sym, ap, subst, ◌∙◌, arith, append_assoc}
 use Rattle.std.specs.FinMap as map
 use Rattle.slotmap.specs.Words.{Key}
-use Rattle.slotmap.proofs.Callers.{same_or_other, get-insert_here, get-insert_other}
+use Rattle.slotmap.proofs.Callers.{keys, same_or_other, get-insert_here}
 use Rattle.slotmap_list.specs.declared.Node.{Node}
 use Rattle.slotmap_list.specs.declared.links.Side.{Side}
 use Rattle.slotmap_list.specs.declared.links.Side.TheVariants.{Before, After}
@@ -37,10 +37,7 @@ module _ {T : Type 0} where
   -- what stands in a row has a node
   pub row_stands : (nodes : Nodes T) (p n : Option Key) (xs : List (Key × T)) (q : Key) → AreNodes nodes p xs n → 0 < times q xs → map.contains_key nodes q ≡ true
   row_stands nodes p n [] q all more = absurd (omega arith)
-  row_stands nodes p n (x ∷ xs) q all more = elim (same_or_other q x.0) [
-    | inl is ↦ ap (map.contains_key nodes) is ∙ ap is_some all.0
-    | inr other ↦ row_stands nodes (Some x.0) n xs q all.1 (let first = one_other q x.0 other in omega arith)
-  ]
+  row_stands nodes p n (x ∷ xs) q all more = grind (arith, row_stands nodes (Some x.0) n xs q all.1, one_other q x.0, same_or_other q x.0)
 
   -- nodes that differ under one key at most, which isn't in the row
   pub nodes_framed : (a b : Nodes T) (at p n : Option Key) (xs : List (Key × T)) → ((k : Key) → at ≡ Some k → times k xs ≡ 0) → ((q : Key) → at ≢ Some q → map.get b q ≡ map.get a q)
@@ -57,11 +54,7 @@ module _ {T : Type 0} where
   -- a link that is written
   pub linked_other : (side : Side) (nodes : Nodes T) (at to : Option Key) (q : Key) → at ≢ Some q → map.get (with_link side nodes at to) q ≡ map.get nodes q
   linked_other side nodes None to q other = refl
-  linked_other side nodes (Some k) to q other = by (map.get nodes k)
-    where
-      by : (o : Option (Node T)) → map.get (with_link_of side nodes k o to) q ≡ map.get nodes q
-      by None = refl
-      by (Some node) = get-insert_other nodes k (link_to side to node) q (λ e. other (ap Some (sym e)))
+  linked_other side nodes (Some k) to q other = let apart : q ≢ k = λ e. other (ap Some (sym e)) in grind (arith, keys)
 
   linked_here : (side : Side) (nodes : Nodes T) (k : Key) (to : Option Key) (node : Node T) → map.get nodes k ≡ Some node → map.get (with_link side nodes (Some k) to) k ≡ Some (link_to side to node)
   linked_here side nodes k to node found = ap (λ o. map.get (with_link_of side nodes k o to) k) found ∙ get-insert_here nodes k (link_to side to node)
