@@ -16,10 +16,6 @@ by_key P q k here there = elim (same q k) as (λ b. same q k ≡ b → P b) [ tr
 pub other_key : (q k : Key) → q ≢ k → same q k ≡ false
 other_key q k other = by_key (λ b. b ≡ false) q k (λ e. absurd (other e)) (λ _ _. refl)
 
-pub cond_none : {A : Type 0} (b : Bool) (x : A) (o : Option A) → cond b (Some x) o ≡ None → (b ≡ false) × (o ≡ None)
-cond_none true x o h = absurd (cc)
-cond_none false x o h = (refl, h)
-
 -- 1 for one key, 0 for two
 pub one : Key → Key → ℕ
 one q k = cond (same q k) 1 0

@@ -15,10 +15,6 @@ if_some : {A : Type 0} (P : A → Type 0) (o : Option A) → ((x : A) → o ≡ 
 if_some P None f = tt
 if_some P (Some x) f = f x refl
 
-pub if_some_so : {A : Type 0} (P Q : A → Type 0) (o : Option A) → ((x : A) → P x → Q x) → IfSome o P → IfSome o Q
-if_some_so P Q None so h = tt
-if_some_so P Q (Some x) so h = so x h
-
 module _ {T : Type 0} where
   -- parts of a row
   pub nodes_left : (nodes : Nodes T) (p n : Option Key) (xs ys : List (Key × T)) → AreNodes nodes p (xs ++ ys) n → AreNodes nodes p xs (first_or ys n)
@@ -108,13 +104,6 @@ module _ {T : Type 0} where
   outer_last [] ws last o is = refl
   outer_last (z ∷ zs) ws last o is = is ∙ last_or-append ws (z ∷ zs) None
 
-  -- what stands in one map stands in another one
-  pub both_so : (a b : Nodes T) (prev next : Option Key) → ((q : Key) → map.contains_key a q ≡ true → map.contains_key b q ≡ true) → BothStand a prev next → BothStand b prev next
-  both_so a b prev next so both = (
-    if_some_so (λ q. map.contains_key a q ≡ true) (λ q. map.contains_key b q ≡ true) prev so both.0,
-    if_some_so (λ q. map.contains_key a q ≡ true) (λ q. map.contains_key b q ≡ true) next so both.1,
-  )
-
   -- the neighbours of a place have nodes
   place_stands : (nodes : Nodes T) (n p : Option Key) (ys zs : List (Key × T)) → AreNodes nodes None ys n → AreNodes nodes p zs None
       → (prev next : Option Key) → last_or ys None ≡ prev → first_or zs None ≡ next → BothStand nodes prev next
@@ -136,6 +125,7 @@ module _ {T : Type 0} where
     pub before : List (Key × T)
     pub after : List (Key × T)
     pub list : xs ≡ before ++ (k, node.value) ∷ after
+    pub rest : without k xs ≡ before ++ after
     pub absent : (times k before ≡ 0) × (times k after ≡ 0)
     pub prev : node.prev ≡ last_or before None
     pub next : node.next ≡ first_or after None
@@ -146,11 +136,13 @@ module _ {T : Type 0} where
         let s = parts_at xs k (times_some k xs some) in
         let at = nodes_right nodes None None s.0 ((k, s.1) ∷ s.2) (subst (λ l. AreNodes nodes None l None) s.3 row.nodes_are) in
         let same_node : node ≡ record { value = s.1; prev = last_or s.0 None; next = first_or s.2 None } = (let e = sym found ∙ at.0 in cc) in
+        let absent = absent_before s.0 k s.1 s.2 (subst IsOnce s.3 row.once) in
         record {
           before = s.0;
           after = s.2;
+          rest = ap (without k) s.3 ∙ without-split k s.1 s.2 s.0 absent.0;
           list = s.3 ∙ ap (λ v. s.0 ++ (k, v) ∷ s.2) (sym (ap (λ n. n.value) same_node));
-          absent = absent_before s.0 k s.1 s.2 (subst IsOnce s.3 row.once);
+          absent = absent;
           prev = ap (λ n. n.prev) same_node;
           next = ap (λ n. n.next) same_node;
         }
@@ -173,7 +165,7 @@ module _ {T : Type 0} where
       row_without {new} {new_first} {new_last} relinks =
           let r = rw (s.prev, s.next) at relinks in
           let once = once_drop s.before (k, node.value) s.after (subst IsOnce s.list row.once) in
-          subst (IsRow new new_first new_last) (sym (ap (without k) s.list ∙ without-split k node.value s.after s.before s.absent.0)) (record {
+          subst (IsRow new new_first new_last) (sym s.rest) (record {
             nodes_are = rw r.nodes (relinked base (Some k) (Some k) s.before [] s.after once left tt right);
             once = once;
             first_is = r.first_is ∙ outer_first s.before ((k, node.value) ∷ s.after) s.after first (row.first_is ∙ ap (λ l. first_or l None) s.list);

@@ -37,11 +37,9 @@ module _ {T : Type 0} where
         let few = at_most_once all once c in
         let sum = times-put c ys (k, v) zs in
         let here = ap (times c) is ∙ times-put c us (c, u) ws in
-        let itself = one_itself c in
         let own = times-put k ys (k, v) zs in
-        let itself_k = one_itself k in
-        let apart : c ≢ k = λ e. absurd (let first = ap (one c) (sym e) ∙ itself in omega arith) in
-        ap (λ b. if b then put_again (insert_beside side c) k (value_of k all) all else all) (two_are k c all apart (omega arith) (omega arith))
+        let apart : c ≢ k = λ e. absurd (let first = ap (one c) (sym e) in grind (arith, one_itself c)) in
+        ap (λ b. if b then put_again (insert_beside side c) k (value_of k all) all else all) (two_are k c all apart (grind (arith, one_itself k)) (grind (arith, one_itself c)))
         ∙ again-split (insert_beside side c) k v ys zs once ∙ ap (insert_beside side c (k, v)) is
 
     absent_c : times c us ≡ 0
