@@ -45,9 +45,6 @@ module _ {T : Type 0} where
   times-append q [] ys = omega arith
   times-append q (x ∷ xs) ys = omega (arith, times-append q xs ys)
 
-  pub times-parts : (q : Key) (ys mid zs : List (Key × T)) → times q (ys ++ (mid ++ zs)) ≡ times q ys + (times q mid + times q zs)
-  times-parts q ys mid zs = omega (arith, times-append q ys (mid ++ zs), times-append q mid zs)
-
   -- one element more
   pub times-put : (q : Key) (ys : List (Key × T)) (e : Key × T) (zs : List (Key × T)) → times q (ys ++ e ∷ zs) ≡ one q e.0 + times q (ys ++ zs)
   times-put q ys e zs = omega (arith, times-append q ys (e ∷ zs), times-append q ys zs)

@@ -1,15 +1,17 @@
 -- Elements with their nodes: parts of a row, links that are written, and elements that are put in or taken out.
 use Rattle.std.proofs.Common.{◌≡◌, ◌≢◌, ◌+◌, ◌<◌, ◌≤◌, true, List, [], ◌∷◌, ◌++◌, Option, Some, None, IsSome, IfSome}
 use Rattle.std.proofs.Common.{refl, sym, ap, subst, ◌∙◌, arith, append_assoc}
+use Rattle.std.specs.Option.{option_map}
 use Rattle.std.specs.FinMap as map
 use Rattle.slotmap.specs.Words.{Key}
-use Rattle.slotmap.proofs.Callers.{keys, same_or_other, get-insert_here}
+use Rattle.slotmap.proofs.Callers.{same_or_other}
+use Rattle.slotmap_keylist.proofs.Changed.{changed_here, changed_other}
 use Rattle.slotmap_list.specs.declared.Node.{Node}
 use Rattle.slotmap_list.specs.declared.links.Side.{Side}
 use Rattle.slotmap_list.specs.declared.links.Side.TheVariants.{Before, After}
 use Rattle.slotmap_list.specs.Sequence.{value_of, first_or, last_or, without, IsOnce}
-use Rattle.slotmap_list.specs.Chain.{Nodes, AreNodes, IsRow, link_to, with_link, with_link_of, outer, BothStand, Relinks}
-use Rattle.slotmap_list.proofs.Elements.{one_itself, one_other, times, times-append, times-parts, times_none, times_some, at_most_once, once_if, once_drop, once_put, absent_before, first_or-append, last_or-append, first_in, last_in, parts_at, without-split}
+use Rattle.slotmap_list.specs.Chain.{Nodes, AreNodes, IsRow, link_to, with_link, outer, BothStand, Relinks}
+use Rattle.slotmap_list.proofs.Elements.{one_itself, one_other, times, times-append, times_none, times_some, at_most_once, once_if, once_drop, once_put, absent_before, first_or-append, last_or-append, first_in, last_in, parts_at, without-split}
 
 if_some : {A : Type 0} (P : A → Type 0) (o : Option A) → ((x : A) → o ≡ Some x → P x) → IfSome o P
 if_some P None f = tt
@@ -50,10 +52,10 @@ module _ {T : Type 0} where
   -- a link that is written
   pub linked_other : (side : Side) (nodes : Nodes T) (at to : Option Key) (q : Key) → at ≢ Some q → map.get (with_link side nodes at to) q ≡ map.get nodes q
   linked_other side nodes None to q other = refl
-  linked_other side nodes (Some k) to q other = let apart : q ≢ k = λ e. other (ap Some (sym e)) in grind (arith, keys)
+  linked_other side nodes (Some k) to q other = changed_other nodes k (link_to side to) q (λ e. other (ap Some (sym e)))
 
   linked_here : (side : Side) (nodes : Nodes T) (k : Key) (to : Option Key) (node : Node T) → map.get nodes k ≡ Some node → map.get (with_link side nodes (Some k) to) k ≡ Some (link_to side to node)
-  linked_here side nodes k to node found = ap (λ o. map.get (with_link_of side nodes k o to) k) found ∙ get-insert_here nodes k (link_to side to node)
+  linked_here side nodes k to node found = changed_here nodes k (link_to side to) ∙ ap (option_map (link_to side to)) found
 
   -- the last node of a row leads on elsewhere, and the first one back
   led_on : (nodes : Nodes T) (p n on : Option Key) (xs : List (Key × T)) → IsOnce xs → AreNodes nodes p xs n → AreNodes (with_link After nodes (last_or xs None) on) p xs on
@@ -81,7 +83,7 @@ module _ {T : Type 0} where
       let back = last_or mid (last_or ys None) in
       let to = with_link After nodes (last_or ys None) on in
       let new = with_link Before to (first_or zs None) back in
-      let few : (q : Key) → times q ys + (times q mid + times q zs) ≤ 1 = λ q. (let most = at_most_once (ys ++ (mid ++ zs)) once q in let sum = times-parts q ys mid zs in omega arith) in
+      let few : (q : Key) → times q ys + (times q mid + times q zs) ≤ 1 = λ q. (let most = at_most_once (ys ++ (mid ++ zs)) once q in omega (arith, most, times-append q ys (mid ++ zs), times-append q mid zs)) in
       nodes_joined new None None ys (mid ++ zs)
       (nodes_framed to new (first_or zs None) None on ys (λ k is. (let there = first_in zs k is in let most = few k in omega arith)) (linked_other Before to (first_or zs None) back)
       (led_on nodes None n on ys (once_if ys (λ q. (let most = few q in omega arith))) left))
