@@ -3,13 +3,12 @@ use Rattle.std.specs.FinMap as map
 use Rattle.std.specs.FinSet as set
 use Rattle.std.proofs.Common.{◌≡◌, ◌≤◌, ◌⊎◌, cond, List, [], ◌∷◌, ◌++◌, length, map as list_map, Some, None, is_some, ◌+◌, IsSome, Result, Ok, Err, IsOk, IfOk, inl, inr, refl, sym, ap, subst, ◌∙◌, arith, append_assoc, append-nil}
 use Rattle.slotmap.specs.Words.{Key, key_cmp, Content, IsNew, IsSpent, KeepsSpent, Inserts, Keeps, used}
-use Rattle.slotmap.proofs.Callers.{keys_total}
+use Rattle.slotmap.proofs.Callers.{keys_total, exact_keys, tied}
 use Rattle.slotmap_list.specs.Sequence.{Sequence, value_of, TakesFront}
 use Rattle.slotmap_list.specs.declared.PushError.{PushError}
 use Rattle.slotmap_list.specs.declared.PushError.TheVariants.{Full, Memory}
 use Rattle.slotmap_list.specs.Refused.{RefusesPush}
 use Rattle.slotmap_list.specs.Additions.{Adds, FullAtLimit, refused}
-use Rattle.slotmap_list.proofs.Elements.{by_key}
 
 -- what a call ensures of its result, where it succeeds
 pub ok_so : {A E : Type 0} (r : Result A E) (P Q : A → Type 0) → IsOk r → IfOk r P → IfOk r Q → (x : A) × P x × Q x
@@ -81,7 +80,7 @@ module _ {T : Type 0} where
   }
 
   pub stands_or_first : (k : Key) (v : T) (es : List (Key × T)) (q : Key) → IsSome (value_of q ((k, v) ∷ es)) → IsSome (value_of q es) ⊎ (q ≡ k)
-  stands_or_first k v es q = by_key (λ b. IsSome (cond b (Some v) (value_of q es)) → IsSome (value_of q es) ⊎ (q ≡ k)) q k (λ is there. inr is) (λ _ _ there. inl there)
+  stands_or_first k v es q there = grind (arith, tied keys_total exact_keys q k)
 
   pub moving_step : (old old_other now other next next_other : Sequence T) (k q : Key) (v : T) → Moving old old_other now other
       → TakesFront other.elements (Some (k, v)) next_other.elements → IsSpent next_other.cursors k → KeepsSpent other.cursors next_other.cursors

@@ -2,7 +2,7 @@
 use Rattle.std.proofs.Common.{◌≡◌, ◌+◌, suc, cond, List, [], ◌∷◌, length, Option, Some, None, is_some, refl, sym, ap, ◌∙◌, arith}
 use Rattle.std.specs.FinMap as map
 use Rattle.slotmap.specs.Words.{Key, Content, IsCloneOf, IsCloneBy, AreClones, ClonesEqual, without_values, with_value}
-use Rattle.slotmap.proofs.Callers.{keys_total, clone_live, get-insert_here, get-insert_other}
+use Rattle.slotmap.proofs.Callers.{keys_total, exact_keys, tied, clone_live, get-insert_here, get-insert_other}
 use Rattle.slotmap_keylist.proofs.Alone.{alone-written, len_alike}
 use Rattle.slotmap_list.specs.declared.Node.{Node}
 use Rattle.slotmap_list.specs.Sequence.{Sequence, first_or, last_or, with_value_at, IsOnce}
@@ -52,8 +52,7 @@ module _ {T : Type 0} where
       new = map.insert nodes k (record node { value = v })
 
       same_keys_written : (q : Key) → map.contains_key new q ≡ map.contains_key nodes q
-      same_keys_written q = ap is_some (map.get-insert keys_total nodes k (record node { value = v }) q)
-          ∙ by_key (λ b. is_some (cond b (Some (record node { value = v })) (map.get nodes q)) ≡ is_some (map.get nodes q)) q k (λ is. sym (ap is_some (ap (map.get nodes) is ∙ found))) (λ _ _. refl)
+      same_keys_written q = grind (arith, map.get-insert keys_total nodes k (record node { value = v }) q, tied keys_total exact_keys q k)
 
       nodes_written : (p n : Option Key) (xs : List (Key × T)) → IsOnce xs → AreNodes nodes p xs n → AreNodes new p (with_value_at k v xs) n
       nodes_written p n [] once all = tt

@@ -1,19 +1,11 @@
 -- What callers of a list cite: which value each cursor has after a call.
-use Rattle.std.proofs.Common.{◌≡◌, ◌≢◌, false, cond, List, [], ◌∷◌, Some, None, IsSome, refl, sym, ap, subst, ◌∙◌, arith}
+use Rattle.std.proofs.Common.{◌≡◌, ◌≢◌, List, [], ◌∷◌, Some, None, IsSome, refl, arith}
 use Rattle.slotmap.specs.Words.{Key}
-use Rattle.slotmap.proofs.Callers.{keys_total, exact_keys, itself}
+use Rattle.slotmap.proofs.Callers.{keys_total, exact_keys, itself, tied}
 use Rattle.slotmap_list.specs.Sequence.{value_of, put_after, put_before, without}
-use Rattle.slotmap_list.proofs.Elements.{same, by_key, other_key}
+use Rattle.slotmap_list.proofs.Elements.{other_key}
 
 module _ {T : Type 0} where
-  -- a cursor without an element isn't that of an element
-  pub fresh_other : (k q : Key) (es : List (Key × T)) → value_of k es ≡ None → IsSome (value_of q es) → k ≢ q
-  fresh_other k q es none some is = let h = subst IsSome (ap (λ x. value_of x es) (sym is) ∙ none) some in absurd (cc)
-
-  -- behind the others of the list, the first element has been looked at
-  shown_there : (k : Key) (e : Key × T) (es : List (Key × T)) → same k e.0 ≡ false → value_of k (e ∷ es) ≡ value_of k es
-  shown_there k e es apart = ap (λ b. cond b (Some e.1) (value_of k es)) apart
-
   module _ (k : Key) (x : Key × T) where
     pub put_after_here : (es : List (Key × T)) → IsSome (value_of k es) → value_of x.0 es ≡ None → value_of x.0 (put_after k x es) ≡ Some x.1
     put_after_here [] some none = absurd (cc)
@@ -33,10 +25,7 @@ module _ {T : Type 0} where
 
   pub without_other : (k : Key) (es : List (Key × T)) (q : Key) → q ≢ k → value_of q (without k es) ≡ value_of q es
   without_other k [] q other = refl
-  without_other k (e ∷ es) q other =
-      by_key (λ b. value_of q (cond b es (e ∷ without k es)) ≡ value_of q (e ∷ es)) k e.0
-      (λ is. sym (shown_there q e es (other_key q e.0 (λ at. other (at ∙ sym is)))))
-      (λ _ _. ap (cond (same q e.0) (Some e.1)) (without_other k es q other))
+  without_other k (e ∷ es) q other = grind (arith, without_other k es q other, tied keys_total exact_keys k e.0, other_key q e.0)
 
 -- for `using`
 pub ruleset cursors = (put_after_here, put_after_other, put_before_here, put_before_other, without_other)

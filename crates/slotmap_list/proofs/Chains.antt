@@ -1,25 +1,22 @@
 -- A list and its nodes: what a node says of the list, and what a change of the nodes does to it. For the answers of the list's calls.
-use Rattle.std.proofs.Common.{◌≡◌, ◌≢◌, ◌+◌, true, false, cond, List, [], ◌∷◌, ◌++◌, length, Option, Some, None, is_some, IsSome, inl, inr}
+use Rattle.std.proofs.Common.{◌≡◌, ◌≢◌, ◌+◌, true, cond, List, [], ◌∷◌, ◌++◌, length, Option, Some, None, is_some, IsSome}
 use Rattle.std.proofs.Common.{refl, sym, ap, subst, ◌∙◌, arith}
 use Rattle.std.specs.Option.{option_map}
 use Rattle.std.specs.FinMap as map
 use Rattle.slotmap.specs.Words.{Key, key_cmp, Content}
-use Rattle.slotmap.proofs.Callers.{keys, keys_total, exact_keys, same_or_other, len_removed, get-insert_here, get-insert_other, live-insert_still}
+use Rattle.slotmap.proofs.Callers.{keys, keys_total, exact_keys, untied, same_or_other, len_removed, get-insert_here, get-insert_other}
 use Rattle.slotmap_keylist.proofs.Alone.{len_alike}
 use Rattle.slotmap_keylist.proofs.Mapped.{some-mapped}
 use Rattle.slotmap_list.specs.declared.Node.{Node}
 use Rattle.slotmap_list.specs.Sequence.{Sequence, value_of, first_or, key_after, key_before, without}
 use Rattle.slotmap_list.specs.Chain.{Nodes, follow_node, follow, AreNodes, IsRow, IsChain, with_link, HasNeighbours, BothStand, Relinks, Unlinks, Links}
 use Rattle.slotmap_list.specs.declared.links.Side.TheVariants.{Before, After}
-use Rattle.slotmap_list.proofs.Elements.{one, one_itself, one_other, times, times-append, times-put, length-put, times_none, times_some, some_there, none_there, value_of-split, key_after-split, key_after-absent, key_before-split, key_before-absent, without-split, without-absent, first_in, last_in}
-use Rattle.slotmap_list.proofs.Rows.{row_stands, linked_other, IsGap, IsSplit, split_at, neighbours_stand, row_without, both_so, gap_stands, row_with}
+use Rattle.slotmap_list.proofs.Elements.{one_itself, one_other, times, times-append, times-put, length-put, times_none, times_some, some_there, none_there, value_of-split, key_after-split, key_after-absent, key_before-split, key_before-absent, without-absent, first_in, last_in}
+use Rattle.slotmap_list.proofs.Rows.{row_stands, linked_other, IsGap, IsSplit, split_at, neighbours_stand, row_without, gap_stands, row_with}
 
 module _ {T : Type 0} where
   was_there : (nodes : Nodes T) (k q : Key) → map.contains_key (map.remove nodes k) q ≡ true → (q ≢ k) × (map.contains_key nodes q ≡ true)
-  was_there nodes k q there = (
-    (λ e. absurd (let gone : map.contains_key (map.remove nodes k) k ≡ false = grind (arith, keys) in let h = rw e at there in cc)),
-    grind (arith, keys),
-  )
+  was_there nodes k q there = grind (arith, map.get-remove keys_total nodes k q, untied keys_total exact_keys q k)
 
   -- following the links gives the list
   pub follow_is : (nodes : Nodes T) (p n : Option Key) (xs : List (Key × T)) → AreNodes nodes p xs n → follow nodes (length xs) (first_or xs n) ≡ xs
@@ -87,7 +84,7 @@ module _ {T : Type 0} where
     pub absent_removed : (k : Key) {node : Node T} → map.get nodes k ≡ Some node → value_of k (without k xs) ≡ None
     absent_removed k {node} found =
         let s = split_in k node found in
-        none_there k (without k xs) (let sum = ap (times k) (ap (without k) s.list ∙ without-split k node.value s.after s.before s.absent.0) ∙ times-append k s.before s.after in let none = s.absent in omega arith)
+        none_there k (without k xs) (omega (arith, ap (times k) s.rest, times-append k s.before s.after, s.absent))
 
     pub neighbours : (k : Key) → HasNeighbours nodes k
     neighbours k node found = neighbours_stand chain.row k node (split_in k node found) nodes (λ _ _. refl)
@@ -102,7 +99,7 @@ module _ {T : Type 0} where
       own = ap (λ m. map.get m k) added ∙ get-insert_here nodes k _
 
       pub added_stands : BothStand mid prev next
-      added_stands = both_so nodes mid prev next (λ q there. ap (λ m. map.contains_key m q) added ∙ live-insert_still nodes k _ q there) (gap_stands chain.row gap)
+      added_stands = let both = gap_stands chain.row gap in rw added (grind (arith, keys))
 
       pub put_chain : {new : Nodes T} {new_first new_last : Option Key} → Relinks mid first last prev next (Some k) (Some k) new new_first new_last
           → ((q : Key) → map.contains_key new q ≡ map.contains_key mid q) → IsChain new new_first new_last (gap.before ++ (k, v) ∷ gap.after)
@@ -111,10 +108,8 @@ module _ {T : Type 0} where
         stands = λ q there. some_there q (gap.before ++ (k, v) ∷ gap.after) (
             let sum = ap (times q) gap.list in
             let more = times-put q gap.before (k, v) gap.after in
-            elim (same_or_other q k) [
-              | inl is ↦ (let first = ap (one q) (sym is) ∙ one_itself q in omega arith)
-              | inr other ↦ (let was = times_some q xs (chain.stands q (sym (ap is_some (other_than q other)) ∙ sym (alike q) ∙ there)) in omega arith)
-            ]);
+            let was = λ (other : q ≢ k). times_some q xs (chain.stands q (sym (ap is_some (other_than q other)) ∙ sym (alike q) ∙ there)) in
+            grind (arith, one_itself q, same_or_other q k));
         count = (
             let sum = ap length gap.list in
             let more = length-put gap.before (k, v) gap.after in
@@ -135,7 +130,6 @@ module _ {T : Type 0} where
           → ((q : Key) → map.contains_key new q ≡ map.contains_key mid q) → IsChain new new_first new_last (without k xs)
       removed_chain {new} relinks alike =
           let s = split_in k node found in
-          let rest = ap (without k) s.list ∙ without-split k node.value s.after s.before s.absent.0 in
           record {
             row = row_without chain.row k node s mid left_others relinks;
             stands = λ q there. some_there q (without k xs) (
@@ -143,11 +137,11 @@ module _ {T : Type 0} where
                 let more = times_some q xs (chain.stands q was.1) in
                 let first = one_other q k was.0 in
                 let sum = ap (times q) s.list ∙ times-put q s.before (k, node.value) s.after in
-                let less = ap (times q) rest in
+                let less = ap (times q) s.rest in
                 omega arith);
             count = (
                 let sum = ap length s.list ∙ length-put s.before (k, node.value) s.after in
-                let less = ap length rest in
+                let less = ap length s.rest in
                 let was = chain.count in
                 let now = len_alike new mid alike ∙ ap map.len removed in
                 let one_less = len_removed keys_total exact_keys nodes k (ap is_some found) in
@@ -173,7 +167,6 @@ module _ {T : Type 0} where
       moved_chain {prev} {next} gap {new} into alike =
           let v = out.node.value in
           let s = split_in k out.node out.found in
-          let rest = ap (without k) s.list ∙ without-split k v s.after s.before s.absent.0 in
           let node : Node T = record { value = into.node.value; prev = prev; next = next } in
           let same_node : into.node ≡ out.node = (let e = sym into.found ∙ its_node in cc) in
           let none = times_none k (without k xs) (absent_removed k out.found) in
@@ -183,12 +176,12 @@ module _ {T : Type 0} where
             stands = λ q there. some_there q (gap.before ++ (k, v) ∷ gap.after) (
                 let was = times_some q xs (chain.stands q (sym (alike q) ∙ there)) in
                 let sum = ap (times q) s.list ∙ times-put q s.before (k, v) s.after in
-                let less = ap (times q) (sym rest ∙ gap.list) in
+                let less = ap (times q) (sym s.rest ∙ gap.list) in
                 let more = times-put q gap.before (k, v) gap.after in
                 omega arith);
             count = (
                 let sum = ap length s.list ∙ length-put s.before (k, v) s.after in
-                let less = ap length (sym rest ∙ gap.list) in
+                let less = ap length (sym s.rest ∙ gap.list) in
                 let more = length-put gap.before (k, v) gap.after in
                 let was = chain.count in
                 let now = len_alike new nodes alike in

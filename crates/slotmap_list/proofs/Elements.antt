@@ -16,10 +16,6 @@ by_key P q k here there = elim (same q k) as (λ b. same q k ≡ b → P b) [ tr
 pub other_key : (q k : Key) → q ≢ k → same q k ≡ false
 other_key q k other = by_key (λ b. b ≡ false) q k (λ e. absurd (other e)) (λ _ _. refl)
 
-pub cond_none : {A : Type 0} (b : Bool) (x : A) (o : Option A) → cond b (Some x) o ≡ None → (b ≡ false) × (o ≡ None)
-cond_none true x o h = absurd (cc)
-cond_none false x o h = (refl, h)
-
 -- 1 for one key, 0 for two
 pub one : Key → Key → ℕ
 one q k = cond (same q k) 1 0
@@ -48,9 +44,6 @@ module _ {T : Type 0} where
   pub times-append : (q : Key) (xs ys : List (Key × T)) → times q (xs ++ ys) ≡ times q xs + times q ys
   times-append q [] ys = omega arith
   times-append q (x ∷ xs) ys = omega (arith, times-append q xs ys)
-
-  pub times-parts : (q : Key) (ys mid zs : List (Key × T)) → times q (ys ++ (mid ++ zs)) ≡ times q ys + (times q mid + times q zs)
-  times-parts q ys mid zs = omega (arith, times-append q ys (mid ++ zs), times-append q mid zs)
 
   -- one element more
   pub times-put : (q : Key) (ys : List (Key × T)) (e : Key × T) (zs : List (Key × T)) → times q (ys ++ e ∷ zs) ≡ one q e.0 + times q (ys ++ zs)
@@ -178,9 +171,8 @@ module _ {T : Type 0} where
 
   -- what is found in a list with one more element
   pub value_of_pushed : (q : Key) (xs : List (Key × T)) (k : Key) (v w : T) → value_of q (xs ++ (k, v) ∷ []) ≡ Some w → (value_of q xs ≡ Some w) ⊎ (v ≡ w)
-  value_of_pushed q [] k v w = by_key (λ b. cond b (Some v) None ≡ Some w → (◌≡◌ {A = Option T} None (Some w)) ⊎ (v ≡ w)) q k (λ _ found. inr (cc)) (λ _ _ found. inl found)
-  value_of_pushed q (x ∷ xs) k v w = by_key (λ b. cond b (Some x.1) (value_of q (xs ++ (k, v) ∷ [])) ≡ Some w → (cond b (Some x.1) (value_of q xs) ≡ Some w) ⊎ (v ≡ w)) q x.0
-      (λ _ found. inl found) (λ _ _ found. value_of_pushed q xs k v w found)
+  value_of_pushed q [] k v w found = grind arith
+  value_of_pushed q (x ∷ xs) k v w found = grind (arith, value_of_pushed q xs k v w)
 
   -- and of one that doesn't stand
   pub key_after-absent : (k : Key) (xs : List (Key × T)) → times k xs ≡ 0 → key_after k xs ≡ None

@@ -1,7 +1,5 @@
 -- Steps of an iterator over a list, from either end.
 use Rattle.std.proofs.Common.{◌≡◌, ℕ, ◌-◌, ◌<◌, List, [], ◌∷◌, ◌++◌, length, Option, Some, None, refl, sym, ap, subst, ◌∙◌, arith, length-append}
-use Rattle.std.specs.Option.{option_map, MatchOption}
-use Rattle.std.specs.List.{slice_get}
 use Rattle.std.specs.FinMap as map
 use Rattle.slotmap.specs.Words.{Key}
 use Rattle.slotmap_list.specs.declared.Node.{Node}
@@ -82,19 +80,3 @@ module _ {T : Type 0} where
           last_is = ap (λ n. n.prev) is;
         } in
         (rest, walk_left w ∙ back.2 ∙ (λ i. sym (walk_left rest) i ++ (name i, sym (ap (λ n. n.value) is) i) ∷ []))
-
--- what the first step of an iterator yields, from either end
-module _ {A B : Type 0} (view : A → B) where
-  pub first_yielded : (xs rest : List B) (o : Option A) → MatchOption o ((xs ≡ []) × (rest ≡ [])) (λ x. xs ≡ view x ∷ rest) → option_map view o ≡ slice_get xs 0
-  first_yielded xs rest None is = sym (ap (λ l. slice_get l 0) is.0)
-  first_yielded xs rest (Some x) is = sym (ap (λ l. slice_get l 0) is)
-
-  behind : (xs : List B) (x : B) → slice_get (xs ++ x ∷ []) (length xs) ≡ Some x
-  behind [] x = refl
-  behind (y ∷ xs) x = behind xs x
-
-  pub last_yielded : (xs rest : List B) (o : Option A) → MatchOption o ((xs ≡ []) × (rest ≡ [])) (λ x. xs ≡ rest ++ view x ∷ []) → option_map view o ≡ slice_get xs (length xs - 1)
-  last_yielded xs rest None is = sym (ap (λ l. slice_get l (length l - 1)) is.0)
-  last_yielded xs rest (Some x) is =
-      let at : length (rest ++ view x ∷ []) - 1 ≡ length rest = omega (arith, length-append rest (view x ∷ [])) in
-      sym (ap (λ l. slice_get l (length l - 1)) is ∙ ap (slice_get (rest ++ view x ∷ [])) at ∙ behind rest (view x))

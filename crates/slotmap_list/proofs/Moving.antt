@@ -1,9 +1,10 @@
 -- An element that moves: its node is linked out of the list, and then in again.
-use Rattle.std.proofs.Common.{◌≡◌, ◌≢◌, Bool, true, false, not, ◌&&◌, List, [], ◌∷◌, ◌++◌, Option, Some, None, is_some, if◌then◌else◌, refl, sym, ap, subst, ◌∙◌, arith}
+use Rattle.std.proofs.Common.{◌≡◌, ◌≢◌, true, false, List, [], ◌∷◌, ◌++◌, Option, Some, None, is_some, if◌then◌else◌, refl, sym, ap, subst, ◌∙◌, arith}
 use Rattle.std.specs.Option.{option_map}
 use Rattle.std.specs.FinMap as map
-use Rattle.slotmap.specs.Words.{Key, same_keys, Content}
-use Rattle.slotmap_list.specs.Sequence.{Sequence, value_of, put_again, without, is_same, are_two}
+use Rattle.slotmap.specs.Words.{Key, Content}
+use Rattle.slotmap_keylist.proofs.Counts.{is_itself}
+use Rattle.slotmap_list.specs.Sequence.{Sequence, value_of, put_again, without, are_two}
 use Rattle.slotmap_list.specs.Chain.{Nodes, IsChain, BothStand, Unlinks, Links}
 use Rattle.slotmap_list.specs.Neighbours.{gap_at, insert_beside, is_place, put_at, is_move, moved_to}
 use Rattle.slotmap_list.specs.declared.links.Place.{Place}
@@ -12,9 +13,6 @@ use Rattle.slotmap_list.proofs.Rows.{gap_stands}
 use Rattle.slotmap_list.proofs.Chains.{value_found, others, moved_chain}
 use Rattle.slotmap_list.proofs.Places.{place_in, place_there}
 use Rattle.slotmap_list.proofs.Callers.{without_other}
-
-three : (a b c : Bool) → (not a && (b && c)) ≡ true → (a ≡ false) × (b ≡ true) × (c ≡ true)
-three a b c is = grind arith
 
 module _ {T : Type 0} where
   -- what the model of a list is, by its parts
@@ -28,9 +26,7 @@ module _ {T : Type 0} where
   stays put k (Some v) xs none = absurd (cc)
 
   pub two : (k other : Key) (xs : List (Key × T)) → are_two k other xs ≡ true → (other ≢ k) × (is_some (value_of k xs) ≡ true) × (is_some (value_of other xs) ≡ true)
-  two k other xs is =
-      let parts = three (is_same k other) (is_some (value_of k xs)) (is_some (value_of other xs)) is in
-      (λ e. absurd (let same = (same_keys k other).1 (sym e) in let apart = parts.0 in cc), parts.1, parts.2)
+  two k other xs is = grind (arith, is_itself k)
 
   -- an element that can move stands in the list
   pub mover_stands : (place : Place) (k : Key) (xs : List (Key × T)) → is_move k place xs ≡ true → is_some (value_of k xs) ≡ true

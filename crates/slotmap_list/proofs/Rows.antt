@@ -1,23 +1,21 @@
 -- Elements with their nodes: parts of a row, links that are written, and elements that are put in or taken out.
-use Rattle.std.proofs.Common.{◌≡◌, ◌≢◌, ◌+◌, ◌<◌, ◌≤◌, true, List, [], ◌∷◌, ◌++◌, Option, Some, None, is_some, IsSome, IfSome, inl, inr}
+use Rattle.std.proofs.Common.{◌≡◌, ◌≢◌, ◌+◌, ◌<◌, ◌≤◌, true, List, [], ◌∷◌, ◌++◌, Option, Some, None, IsSome, IfSome}
 use Rattle.std.proofs.Common.{refl, sym, ap, subst, ◌∙◌, arith, append_assoc}
+use Rattle.std.specs.Option.{option_map}
 use Rattle.std.specs.FinMap as map
 use Rattle.slotmap.specs.Words.{Key}
-use Rattle.slotmap.proofs.Callers.{same_or_other, get-insert_here, get-insert_other}
+use Rattle.slotmap.proofs.Callers.{same_or_other}
+use Rattle.slotmap_keylist.proofs.Changed.{changed_here, changed_other}
 use Rattle.slotmap_list.specs.declared.Node.{Node}
 use Rattle.slotmap_list.specs.declared.links.Side.{Side}
 use Rattle.slotmap_list.specs.declared.links.Side.TheVariants.{Before, After}
 use Rattle.slotmap_list.specs.Sequence.{value_of, first_or, last_or, without, IsOnce}
-use Rattle.slotmap_list.specs.Chain.{Nodes, AreNodes, IsRow, link_to, with_link, with_link_of, outer, BothStand, Relinks}
-use Rattle.slotmap_list.proofs.Elements.{one_itself, one_other, times, times-append, times-parts, times_none, times_some, at_most_once, once_if, once_drop, once_put, absent_before, first_or-append, last_or-append, first_in, last_in, parts_at, without-split}
+use Rattle.slotmap_list.specs.Chain.{Nodes, AreNodes, IsRow, link_to, with_link, outer, BothStand, Relinks}
+use Rattle.slotmap_list.proofs.Elements.{one_itself, one_other, times, times-append, times_none, times_some, at_most_once, once_if, once_drop, once_put, absent_before, first_or-append, last_or-append, first_in, last_in, parts_at, without-split}
 
 if_some : {A : Type 0} (P : A → Type 0) (o : Option A) → ((x : A) → o ≡ Some x → P x) → IfSome o P
 if_some P None f = tt
 if_some P (Some x) f = f x refl
-
-pub if_some_so : {A : Type 0} (P Q : A → Type 0) (o : Option A) → ((x : A) → P x → Q x) → IfSome o P → IfSome o Q
-if_some_so P Q None so h = tt
-if_some_so P Q (Some x) so h = so x h
 
 module _ {T : Type 0} where
   -- parts of a row
@@ -37,10 +35,7 @@ module _ {T : Type 0} where
   -- what stands in a row has a node
   pub row_stands : (nodes : Nodes T) (p n : Option Key) (xs : List (Key × T)) (q : Key) → AreNodes nodes p xs n → 0 < times q xs → map.contains_key nodes q ≡ true
   row_stands nodes p n [] q all more = absurd (omega arith)
-  row_stands nodes p n (x ∷ xs) q all more = elim (same_or_other q x.0) [
-    | inl is ↦ ap (map.contains_key nodes) is ∙ ap is_some all.0
-    | inr other ↦ row_stands nodes (Some x.0) n xs q all.1 (let first = one_other q x.0 other in omega arith)
-  ]
+  row_stands nodes p n (x ∷ xs) q all more = grind (arith, row_stands nodes (Some x.0) n xs q all.1, one_other q x.0, same_or_other q x.0)
 
   -- nodes that differ under one key at most, which isn't in the row
   pub nodes_framed : (a b : Nodes T) (at p n : Option Key) (xs : List (Key × T)) → ((k : Key) → at ≡ Some k → times k xs ≡ 0) → ((q : Key) → at ≢ Some q → map.get b q ≡ map.get a q)
@@ -57,14 +52,10 @@ module _ {T : Type 0} where
   -- a link that is written
   pub linked_other : (side : Side) (nodes : Nodes T) (at to : Option Key) (q : Key) → at ≢ Some q → map.get (with_link side nodes at to) q ≡ map.get nodes q
   linked_other side nodes None to q other = refl
-  linked_other side nodes (Some k) to q other = by (map.get nodes k)
-    where
-      by : (o : Option (Node T)) → map.get (with_link_of side nodes k o to) q ≡ map.get nodes q
-      by None = refl
-      by (Some node) = get-insert_other nodes k (link_to side to node) q (λ e. other (ap Some (sym e)))
+  linked_other side nodes (Some k) to q other = changed_other nodes k (link_to side to) q (λ e. other (ap Some (sym e)))
 
   linked_here : (side : Side) (nodes : Nodes T) (k : Key) (to : Option Key) (node : Node T) → map.get nodes k ≡ Some node → map.get (with_link side nodes (Some k) to) k ≡ Some (link_to side to node)
-  linked_here side nodes k to node found = ap (λ o. map.get (with_link_of side nodes k o to) k) found ∙ get-insert_here nodes k (link_to side to node)
+  linked_here side nodes k to node found = changed_here nodes k (link_to side to) ∙ ap (option_map (link_to side to)) found
 
   -- the last node of a row leads on elsewhere, and the first one back
   led_on : (nodes : Nodes T) (p n on : Option Key) (xs : List (Key × T)) → IsOnce xs → AreNodes nodes p xs n → AreNodes (with_link After nodes (last_or xs None) on) p xs on
@@ -92,7 +83,7 @@ module _ {T : Type 0} where
       let back = last_or mid (last_or ys None) in
       let to = with_link After nodes (last_or ys None) on in
       let new = with_link Before to (first_or zs None) back in
-      let few : (q : Key) → times q ys + (times q mid + times q zs) ≤ 1 = λ q. (let most = at_most_once (ys ++ (mid ++ zs)) once q in let sum = times-parts q ys mid zs in omega arith) in
+      let few : (q : Key) → times q ys + (times q mid + times q zs) ≤ 1 = λ q. (let most = at_most_once (ys ++ (mid ++ zs)) once q in omega (arith, most, times-append q ys (mid ++ zs), times-append q mid zs)) in
       nodes_joined new None None ys (mid ++ zs)
       (nodes_framed to new (first_or zs None) None on ys (λ k is. (let there = first_in zs k is in let most = few k in omega arith)) (linked_other Before to (first_or zs None) back)
       (led_on nodes None n on ys (once_if ys (λ q. (let most = few q in omega arith))) left))
@@ -115,13 +106,6 @@ module _ {T : Type 0} where
   outer_last [] ws last o is = refl
   outer_last (z ∷ zs) ws last o is = is ∙ last_or-append ws (z ∷ zs) None
 
-  -- what stands in one map stands in another one
-  pub both_so : (a b : Nodes T) (prev next : Option Key) → ((q : Key) → map.contains_key a q ≡ true → map.contains_key b q ≡ true) → BothStand a prev next → BothStand b prev next
-  both_so a b prev next so both = (
-    if_some_so (λ q. map.contains_key a q ≡ true) (λ q. map.contains_key b q ≡ true) prev so both.0,
-    if_some_so (λ q. map.contains_key a q ≡ true) (λ q. map.contains_key b q ≡ true) next so both.1,
-  )
-
   -- the neighbours of a place have nodes
   place_stands : (nodes : Nodes T) (n p : Option Key) (ys zs : List (Key × T)) → AreNodes nodes None ys n → AreNodes nodes p zs None
       → (prev next : Option Key) → last_or ys None ≡ prev → first_or zs None ≡ next → BothStand nodes prev next
@@ -143,6 +127,7 @@ module _ {T : Type 0} where
     pub before : List (Key × T)
     pub after : List (Key × T)
     pub list : xs ≡ before ++ (k, node.value) ∷ after
+    pub rest : without k xs ≡ before ++ after
     pub absent : (times k before ≡ 0) × (times k after ≡ 0)
     pub prev : node.prev ≡ last_or before None
     pub next : node.next ≡ first_or after None
@@ -153,11 +138,13 @@ module _ {T : Type 0} where
         let s = parts_at xs k (times_some k xs some) in
         let at = nodes_right nodes None None s.0 ((k, s.1) ∷ s.2) (subst (λ l. AreNodes nodes None l None) s.3 row.nodes_are) in
         let same_node : node ≡ record { value = s.1; prev = last_or s.0 None; next = first_or s.2 None } = (let e = sym found ∙ at.0 in cc) in
+        let absent = absent_before s.0 k s.1 s.2 (subst IsOnce s.3 row.once) in
         record {
           before = s.0;
           after = s.2;
+          rest = ap (without k) s.3 ∙ without-split k s.1 s.2 s.0 absent.0;
           list = s.3 ∙ ap (λ v. s.0 ++ (k, v) ∷ s.2) (sym (ap (λ n. n.value) same_node));
-          absent = absent_before s.0 k s.1 s.2 (subst IsOnce s.3 row.once);
+          absent = absent;
           prev = ap (λ n. n.prev) same_node;
           next = ap (λ n. n.next) same_node;
         }
@@ -180,7 +167,7 @@ module _ {T : Type 0} where
       row_without {new} {new_first} {new_last} relinks =
           let r = rw (s.prev, s.next) at relinks in
           let once = once_drop s.before (k, node.value) s.after (subst IsOnce s.list row.once) in
-          subst (IsRow new new_first new_last) (sym (ap (without k) s.list ∙ without-split k node.value s.after s.before s.absent.0)) (record {
+          subst (IsRow new new_first new_last) (sym s.rest) (record {
             nodes_are = rw r.nodes (relinked base (Some k) (Some k) s.before [] s.after once left tt right);
             once = once;
             first_is = r.first_is ∙ outer_first s.before ((k, node.value) ∷ s.after) s.after first (row.first_is ∙ ap (λ l. first_or l None) s.list);

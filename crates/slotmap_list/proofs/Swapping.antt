@@ -1,11 +1,12 @@
 -- Two elements that change places by two moves.
-use Rattle.std.proofs.Common.{◌≡◌, ◌≢◌, ◌<◌, Bool, true, false, not, ◌&&◌, List, [], ◌∷◌, ◌++◌, None, is_some, if◌then◌else◌, inl, inr, refl, sym, ap, subst, ◌∙◌, arith, append_assoc, append-nil}
+use Rattle.std.proofs.Common.{◌≡◌, ◌≢◌, ◌<◌, true, not, ◌&&◌, List, [], ◌∷◌, ◌++◌, None, is_some, if◌then◌else◌, inl, inr, refl, sym, ap, subst, ◌∙◌, arith, append_assoc, append-nil}
 use Rattle.std.proofs.Math.Nat.{eq-zero-or-pos}
-use Rattle.slotmap.specs.Words.{Key, same_keys}
+use Rattle.slotmap.specs.Words.{Key}
+use Rattle.slotmap_keylist.proofs.Counts.{is_itself, is_other}
 use Rattle.slotmap_list.specs.declared.links.Side.{Side}
 use Rattle.slotmap_list.specs.declared.links.Side.TheVariants.{Before, After}
 use Rattle.slotmap_list.specs.declared.links.Place.TheVariants.{Back, Beside}
-use Rattle.slotmap_list.specs.Sequence.{Sequence, value_of, first_or, key_after, put_again, is_same, are_two, IsOnce, Swaps}
+use Rattle.slotmap_list.specs.Sequence.{Sequence, value_of, first_or, key_after, put_again, are_two, IsOnce, Swaps}
 use Rattle.slotmap_list.specs.Neighbours.{insert_beside, moved_to, before_or_back}
 use Rattle.slotmap_list.proofs.Elements.{one, one_itself, one_other, times, times-append, times-put, times_some, some_there, at_most_once, once_if, absent_before, once_drop, parts_at}
 use Rattle.slotmap_list.proofs.Elements.{value_of-split, without-split, key_after-split, put_after-split, put_before-split}
@@ -13,16 +14,13 @@ use Rattle.slotmap_list.proofs.Moving.{two}
 
 module _ {T : Type 0} where
   two_are : (k other : Key) (es : List (Key × T)) → other ≢ k → 0 < times k es → 0 < times other es → are_two k other es ≡ true
-  two_are k other es apart here there = by (is_same k other) refl (some_there k es here) (some_there other es there)
-    where
-      by : (b : Bool) → is_same k other ≡ b → is_some (value_of k es) ≡ true → is_some (value_of other es) ≡ true → are_two k other es ≡ true
-      by true is a b = absurd (apart (sym ((same_keys k other).0 is)))
-      by false is a b = cc
+  two_are k other es apart here there =
+      let differ = is_other k other (λ e. apart (sym e)) in let a = some_there k es here in let b = some_there other es there in cc
 
   -- an element stays where it is put beside itself
   stays_beside : (side : Side) (k : Key) (es : List (Key × T)) → moved_to (Beside side k) k es ≡ es
   stays_beside side k es =
-      ap (λ b. if not b && (is_some (value_of k es) && is_some (value_of k es)) then put_again (insert_beside side k) k (value_of k es) es else es) ((same_keys k k).1 refl)
+      ap (λ b. if not b && (is_some (value_of k es) && is_some (value_of k es)) then put_again (insert_beside side k) k (value_of k es) es else es) (is_itself k)
 
   -- an element is taken out of a list and put back in
   again-split : (put : Key × T → List (Key × T) → List (Key × T)) (k : Key) (v : T) (ys zs : List (Key × T)) → IsOnce (ys ++ (k, v) ∷ zs)
@@ -39,11 +37,9 @@ module _ {T : Type 0} where
         let few = at_most_once all once c in
         let sum = times-put c ys (k, v) zs in
         let here = ap (times c) is ∙ times-put c us (c, u) ws in
-        let itself = one_itself c in
         let own = times-put k ys (k, v) zs in
-        let itself_k = one_itself k in
-        let apart : c ≢ k = λ e. absurd (let first = ap (one c) (sym e) ∙ itself in omega arith) in
-        ap (λ b. if b then put_again (insert_beside side c) k (value_of k all) all else all) (two_are k c all apart (omega arith) (omega arith))
+        let apart : c ≢ k = λ e. absurd (let first = ap (one c) (sym e) in grind (arith, one_itself c)) in
+        ap (λ b. if b then put_again (insert_beside side c) k (value_of k all) all else all) (two_are k c all apart (grind (arith, one_itself k)) (grind (arith, one_itself c)))
         ∙ again-split (insert_beside side c) k v ys zs once ∙ ap (insert_beside side c (k, v)) is
 
     absent_c : times c us ≡ 0

@@ -2,6 +2,7 @@
 use Rattle.std.specs.Prelude.{◌≡◌, ℕ, zero, suc, true, List, [], ◌∷◌, length, Option, Some, None, IsSome, IfSome}
 use Rattle.std.specs.FinMap as map
 use Rattle.slotmap.specs.Words.{Key, key_cmp}
+use Rattle.slotmap_keylist.specs.Changed.{changed}
 use Rattle.slotmap_list.specs.Sequence.{value_of, first_or, last_or, IsOnce}
 use Rattle.slotmap_list.specs.declared.Node.{Node}
 use Rattle.slotmap_list.specs.declared.links.Side.{Side}
@@ -53,14 +54,10 @@ module _ {T : Type 0} where
   link_to Before to node = record node { prev = to }
   link_to After to node = record node { next = to }
 
-  abbrev pub with_link_of : Side → Nodes T → Key → Option (Node T) → Option Key → Nodes T
-  with_link_of side nodes k None to = nodes
-  with_link_of side nodes k (Some node) to = map.insert nodes k (link_to side to node)
-
   -- the nodes once the link on this side of `at` leads to `to`
   abbrev pub with_link : Side → Nodes T → Option Key → Option Key → Nodes T
   with_link side nodes None to = nodes
-  with_link side nodes (Some k) to = with_link_of side nodes k (map.get nodes k) to
+  with_link side nodes (Some k) to = changed nodes k (link_to side to)
 
   -- these two, if they are there, have nodes
   abbrev pub BothStand : Nodes T → Option Key → Option Key → Type 0

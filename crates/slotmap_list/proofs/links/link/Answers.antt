@@ -1,11 +1,6 @@
 use Rattle.std.proofs.Common.{is_some, ap, ◌∙◌}
-use Rattle.slotmap.proofs.Callers.{live-insert_still}
-use Rattle.slotmap_list.proofs.Rows.{both_so}
 use Rattle.slotmap_keylist.proofs.Alone.{alone-written}
 use Rattle.slotmap_list.proofs.links.link.Goals as goal
-
-pub relink-requires : goal.relink-requires
-relink-requires g c = both_so c.args.nodes.now.live _ c.args.prev c.args.next (live-insert_still _ _ _) c.requires.linked
 
 pub returns-clause-links : goal.returns-clause-links
 returns-clause-links g c = record {

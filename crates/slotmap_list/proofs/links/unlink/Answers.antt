@@ -1,8 +1,5 @@
 use Rattle.slotmap_list.proofs.links.unlink.Goals as goal
 
-pub relink-requires : goal.relink-requires
-relink-requires g c = rw (c.copied.ensures, c.copied-2.ensures, c.copied-prev.ensures, c.copied-next.ensures) (c.requires.linked _ c.index-node.ensures)
-
 pub returns-clause-unlinks : goal.returns-clause-unlinks
 returns-clause-unlinks g c = record {
   node = c.index-node.result.now;
