@@ -1,7 +1,6 @@
 pub mod Callers
 pub mod Inverse
 pub mod Order
-pub mod Ordered
 pub mod Places
 pub mod Results
 pub mod Sorted

@@ -3,7 +3,7 @@ use Rattle.std.proofs.Common.{◌≡◌, ◌≢◌, ℕ, ◌+◌, ◌<◌, ◌�
 use Rattle.std.specs.Prelude.{map as list_map, nat_lt, option_map}
 use Rattle.std.specs.List.{All, AllByRecursion}
 use Rattle.std.specs.declared.cmp.Ordering.TheVariants.{Less}
-use Rattle.std.specs.Ordering.{is_lt, eq_by_cmp}
+use Rattle.std.specs.Ordering.{eq_by_cmp}
 use Rattle.std.specs.FinMap as map
 use Rattle.std.specs.FinMap.Entries.{put, by_order}
 use Rattle.std.proofs.lemmas.Bool.Decides.{nat_tests}
@@ -12,6 +12,7 @@ use Rattle.std.proofs.lemmas.List.Elements.{All-map, All-from_recursion}
 use Rattle.slotmap.specs.Words.{Key, key_cmp}
 use Rattle.slotmap.proofs.Callers.{keys_total, exact_keys, alike_or_apart, same_or_other, tied, itself, get_after_insert, get_after_remove, len_removed}
 use Rattle.slotmap_scheduler.specs.Timed.{Turn, turn_cmp}
+use Rattle.slotmap_scheduler.specs.Heap.{precedes}
 use Rattle.slotmap_scheduler.specs.Inverse.{IsInverse}
 use Rattle.slotmap_scheduler.specs.Schedule.{job_of, in_turn, without, with_job}
 use Rattle.slotmap_scheduler.specs.Timed.{Timed, by_turn, seen, waiting_of, InOrder}
@@ -23,10 +24,12 @@ use Rattle.slotmap_scheduler.proofs.Timed.{exact_turns, turns_total, in_order}
 last_turn : {A : Type 0} (time count u v : ℕ) → v < count → (a b c : A) → by_order (turn_cmp (time, count) (u, v)) a b c ≡ cond (nat_lt time u) a c
 last_turn time count u v less a b c = grind (arith, nat_tests)
 
-least_turn : (t u : Turn) → t ≢ u → is_lt (turn_cmp u t) ≡ false → turn_cmp t u ≡ Less
+least_turn : (t u : Turn) → t ≢ u → precedes u t ≡ false → turn_cmp t u ≡ Less
+unfolding precedes
 least_turn t u other not_before = grind (arith, nat_tests, exact_turns t u)
 
-pub time_up_to : (t u : Turn) → is_lt (turn_cmp u t) ≡ false → t.0 ≤ u.0
+time_up_to : (t u : Turn) → precedes u t ≡ false → t.0 ≤ u.0
+unfolding precedes
 time_up_to t u not_before = grind (arith, nat_tests)
 
 module _ {T : Type 0} where
@@ -136,7 +139,7 @@ module _ {T : Type 0} where
             (with.0, with.1 ∙ ap (list_map seen) (entries_put turns_total exact_turns (by_turn jobs) t (k, w)) ∙ sym (ap (λ es. with_job k w (list_map seen es)) among ∙ put_with_job k t job w others other_keys))
 
       -- it is the first, if no other turn is before its own
-      module _ (least : (q : Key) (u : Turn) (x : T) → map.get jobs q ≡ Some (u, x) → is_lt (turn_cmp u t) ≡ false) where
+      module _ (least : (q : Key) (u : Turn) (x : T) → map.get jobs q ≡ Some (u, x) → precedes u t ≡ false) where
         put_first : (es : List (Turn × (Key × T))) → AllByRecursion (λ (e : Turn × (Key × T)). turn_cmp t e.0 ≡ Less) es → put turn_cmp t (k, job) es ≡ (t, (k, job)) ∷ es
         put_first [] all = refl
         put_first (e ∷ es) all = ap (λ o. by_order o ((t, (k, job)) ∷ e ∷ es) ((e.0, (k, job)) ∷ es) (e ∷ put turn_cmp t (k, job) es)) all.0

@@ -14,8 +14,7 @@ use Rattle.slotmap_scheduler.specs.declared.heap.Entry.{Entry}
 use Rattle.slotmap_scheduler.specs.Timed.{Turn}
 use Rattle.slotmap_scheduler.specs.Heap.{Jobs, no_entry, entry_at, spot_of, IsPlaced, IsHeap, IsHeapBut, Resettled, unplaced, timed}
 use Rattle.slotmap_scheduler.proofs.Inverse.{exchanged, moved, put, dropped}
-use Rattle.slotmap_scheduler.proofs.Ordered.{same_or_not}
-use Rattle.slotmap_scheduler.proofs.Heaps.{heap_put, heap_left}
+use Rattle.slotmap_scheduler.proofs.Heaps.{same_or_not, heap_put, heap_left}
 
 same_or_past : (i n : ℕ) → (i < n) ⊎ (n ≤ i)
 same_or_past i n = elim (nat_lt i n) as (λ b. nat_lt i n ≡ b → (i < n) ⊎ (n ≤ i)) [ true ↦ λ is. inl (grind (arith, nat_tests)) | false ↦ λ is. inr (grind (arith, nat_tests)) ] refl

@@ -1,5 +1,5 @@
 -- What a clause says of the result that there is.
-use Rattle.std.proofs.Common.{◌≡◌, ℕ, true, false, [], ◌∷◌, Option, Some, None, is_some, Result, Ok, Err, IfOk, OnErr, IsOk, is_ok, is_err, if◌then◌else◌, refl, ap, not, cond, arith}
+use Rattle.std.proofs.Common.{◌≡◌, ℕ, true, false, [], ◌∷◌, Option, Some, None, is_some, Result, Ok, Err, IfOk, IsOk, is_ok, if◌then◌else◌, refl, ap, not, cond, arith}
 use Rattle.std.specs.Ordering.{eq_by_cmp}
 use Rattle.std.specs.FinMap.Entries.{find}
 use Rattle.slotmap.specs.Words.{Key, key_cmp, RefusesCapacity}
@@ -26,10 +26,6 @@ without_none k (e ∷ es) none = elim (eq_by_cmp key_cmp k e.0) as (λ b. cond b
 -- a refusal that a map says, of the same number of keys
 pub same_refusal : (m n : ℕ) → m ≡ n → (e : ReserveError) → RefusesCapacity n e → RefusesCapacity m e
 same_refusal m n is e h = rw is h
-
-pub refused : {A B P : Type 0} (r : Result A B) → is_err r ≡ true → OnErr r P → P
-refused (Ok x) is h = absurd (cc)
-refused (Err e) is h = h
 
 -- what is there where it isn't refused
 pub if_ok : {A B P : Type 0} (r : Result A B) (P' : B → Type 0) → ((e : B) → r ≡ Err e → ⊥) → (IsOk r → P) → P
