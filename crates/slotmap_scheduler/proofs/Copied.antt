@@ -1,19 +1,9 @@
 -- A copy of a scheduler: the same handles, times and places, each with a clone of its job.
-use Rattle.std.proofs.Common.{◌≡◌, ℕ, ◌≤◌, true, List, [], ◌∷◌, Option, Some, None, refl, sym, ap, ◌∙◌, arith}
-use Rattle.std.specs.Prelude.{map as list_map, option_map, vec_len, vec_capacity}
-use Rattle.std.specs.declared.vec.Vec.{Vec}
-use Rattle.std.specs.List.{AllZip}
+use Rattle.std.proofs.Common.{◌≡◌, ◌≤◌, [], ◌∷◌, ◌∙◌}
+use Rattle.slotmap_scheduler.proofs.Common.{ℕ, true, List, Option, Some, None, refl, sym, ap, arith, list_map, option_map, vec_len, vec_capacity, Vec, AllZip, Key, Content}
+use Rattle.slotmap_scheduler.proofs.Common.{IsContent, AreClones, ClonesEqual, IsCloneOf, IsCloneBy, clone_len, mapped-clones, len-mapped, Job, Entry, IsInverse, IsDueClone}
+use Rattle.slotmap_scheduler.proofs.Common.{Waiting, Turn, Timed, by_turn, seen, waiting_of, InOrder, unplaced, timed, spot_of, entry_at, IsSchedule}
 use Rattle.std.specs.FinMap as map
-use Rattle.slotmap.specs.Words.{Key, Content, IsContent, AreClones, ClonesEqual, IsCloneOf, IsCloneBy}
-use Rattle.slotmap.proofs.Callers.{clone_len}
-use Rattle.slotmap_keylist.proofs.Mapped.{mapped-clones, len-mapped}
-use Rattle.slotmap_scheduler.specs.declared.Job.{Job}
-use Rattle.slotmap_scheduler.specs.declared.heap.Entry.{Entry}
-use Rattle.slotmap_scheduler.specs.Inverse.{IsInverse}
-use Rattle.slotmap_scheduler.specs.Listed.{IsDueClone}
-use Rattle.slotmap_scheduler.specs.Schedule.{Waiting}
-use Rattle.slotmap_scheduler.specs.Timed.{Turn, Timed, by_turn, seen, waiting_of, InOrder}
-use Rattle.slotmap_scheduler.specs.Heap.{unplaced, timed, spot_of, entry_at, IsSchedule}
 use Rattle.slotmap_scheduler.proofs.Inverse.{alike}
 use Rattle.slotmap_scheduler.proofs.Sorted.{none_there, entries_alike, len_alike}
 use Rattle.slotmap_scheduler.proofs.Timed.{exact_turns, turns_total, inverse}

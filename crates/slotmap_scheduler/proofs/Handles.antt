@@ -1,15 +1,8 @@
 -- The handles of a scheduler: the keys of its jobs, with the room that the map and the heap have.
-use Rattle.std.proofs.Common.{◌≡◌, ◌+◌, ◌-◌, ◌≤◌, true, refl, ap, ◌∙◌, arith}
-use Rattle.std.specs.Prelude.{vec_len, vec_capacity, min}
-use Rattle.std.specs.declared.vec.Vec.{Vec}
-use Rattle.slotmap.specs.Words.{Key, Content, IsContent, IsLive, IsSpent, KeepsSpent, IsNew, Inserts, Removes, IsCopy, IsCloneBy, without_values, with_value, used}
-use Rattle.slotmap.proofs.Callers.{spent_alone, alone_spent, inserted_not_spent}
-use Rattle.slotmap_keylist.proofs.Alone.{alone-new, alone-inserts, alone-removes, alone-copy, alone-written, used_alone}
-use Rattle.slotmap_keylist.proofs.Mapped.{used-mapped}
-use Rattle.slotmap_scheduler.specs.declared.Job.{Job}
-use Rattle.slotmap_scheduler.specs.declared.heap.Entry.{Entry}
-use Rattle.slotmap_scheduler.specs.Timed.{Turn}
-use Rattle.slotmap_scheduler.specs.Heap.{unplaced, timed, handles_of}
+use Rattle.std.proofs.Common.{◌≡◌, ◌+◌, ◌-◌, ◌≤◌, ◌∙◌}
+use Rattle.slotmap_scheduler.proofs.Common.{true, refl, ap, arith, vec_len, vec_capacity, min, Vec, Key, Content, IsContent, IsLive, IsSpent, KeepsSpent, IsNew, Inserts, Removes}
+use Rattle.slotmap_scheduler.proofs.Common.{IsCopy, IsCloneBy, without_values, with_value, used, spent_alone, alone_spent, inserted_not_spent, alone-new, alone-inserts}
+use Rattle.slotmap_scheduler.proofs.Common.{alone-removes, alone-copy, alone-written, used_alone, used-mapped, Job, Entry, Turn, unplaced, timed, handles_of}
 
 module _ {T Z : Type 0} where
   -- the room matters to no handle

@@ -1,19 +1,8 @@
 -- A heap of turns: what each step leaves that moves an entry up or down, and which entry is first.
-use Rattle.std.proofs.Common.{◌≡◌, ◌≢◌, ℕ, zero, suc, ◌<◌, ◌≤◌, ◌⊎◌, Bool, true, false, List, get_or, length, refl, sym, ap, ◌∙◌, inl, inr, arith}
-use Rattle.std.specs.Prelude.{vec_len}
-use Rattle.std.specs.declared.vec.Vec.{Vec}
-use Rattle.std.specs.List.{SwappedAt}
-use Rattle.std.specs.Cmp.{nat_cmp_total}
-use Rattle.std.proofs.lemmas.Bool.Decides.{nat_tests}
-use Rattle.std.proofs.lemmas.Map.Lookups.{exact_unsigned}
-use Rattle.std.proofs.lemmas.List.{get_or_read_under}
-use Rattle.std.proofs.lemmas.List.Edits.{Swapped}
-use Rattle.slotmap.specs.Words.{Content}
-use Rattle.slotmap.proofs.Callers.{alike_or_apart}
-use Rattle.slotmap_scheduler.specs.declared.Job.{Job}
-use Rattle.slotmap_scheduler.specs.declared.heap.Entry.{Entry}
-use Rattle.slotmap_scheduler.specs.Timed.{Turn}
-use Rattle.slotmap_scheduler.specs.Heap.{precedes, up, no_entry, turn_at, IsHeap, IsHeapBut, IsAbove, IsFirstBelow, IsPlaced, Resettled}
+use Rattle.std.proofs.Common.{◌≡◌, ◌≢◌, ◌<◌, ◌≤◌, ◌⊎◌, ◌∙◌}
+use Rattle.slotmap_scheduler.proofs.Common.{ℕ, zero, suc, Bool, true, false, List, get_or, length, refl, sym, ap, inl, inr, arith, vec_len, Vec, SwappedAt, nat_cmp_total}
+use Rattle.slotmap_scheduler.proofs.Common.{nat_tests, exact_unsigned, get_or_read_under, Swapped, Content, alike_or_apart, Job, Entry, Turn, precedes, up, no_entry, turn_at}
+use Rattle.slotmap_scheduler.proofs.Common.{IsHeap, IsHeapBut, IsAbove, IsFirstBelow, IsPlaced, Resettled}
 
 pub same_or_not : (i j : ℕ) → (i ≡ j) ⊎ (i ≢ j)
 same_or_not = alike_or_apart nat_cmp_total exact_unsigned

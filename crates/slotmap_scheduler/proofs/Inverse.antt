@@ -1,6 +1,6 @@
 -- Two functions that find each other (`IsInverse`), after a change of both.
-use Rattle.std.proofs.Common.{◌≡◌, ◌≢◌, ◌⊎◌, Option, Some, None, sym, ◌∙◌, arith}
-use Rattle.slotmap_scheduler.specs.Inverse.{IsInverse}
+use Rattle.std.proofs.Common.{◌≡◌, ◌≢◌, ◌⊎◌, ◌∙◌}
+use Rattle.slotmap_scheduler.proofs.Common.{Option, Some, None, sym, arith, IsInverse}
 
 module _ {K L X : Type 0} where
   -- k has l and x now, where no other one has l; the others have what they had

@@ -1,21 +1,10 @@
 -- How a change of the jobs changes the order in which they are returned.
-use Rattle.std.proofs.Common.{◌≡◌, ◌≢◌, ℕ, ◌+◌, ◌<◌, ◌≤◌, false, cond, List, [], ◌∷◌, Some, None, is_some, length, refl, sym, ap, ◌∙◌, arith}
-use Rattle.std.specs.Prelude.{map as list_map, nat_lt, option_map}
-use Rattle.std.specs.List.{All, AllByRecursion}
-use Rattle.std.specs.declared.cmp.Ordering.TheVariants.{Less}
-use Rattle.std.specs.Ordering.{eq_by_cmp}
+use Rattle.std.proofs.Common.{◌≡◌, ◌≢◌, ◌+◌, ◌<◌, ◌≤◌, [], ◌∷◌, ◌∙◌}
+use Rattle.slotmap_scheduler.proofs.Common.{ℕ, false, cond, List, Some, None, is_some, length, refl, sym, ap, arith, list_map, nat_lt, option_map, All, AllByRecursion, Less}
+use Rattle.slotmap_scheduler.proofs.Common.{eq_by_cmp, put, by_order, nat_tests, length-map, nil_from_length, All-map, All-from_recursion, Key, key_cmp, keys_total, exact_keys}
+use Rattle.slotmap_scheduler.proofs.Common.{alike_or_apart, same_or_other, tied, itself, get_after_insert, get_after_remove, len_removed, Turn, turn_cmp, precedes, IsInverse}
+use Rattle.slotmap_scheduler.proofs.Common.{job_of, in_turn, without, with_job, Timed, by_turn, seen, waiting_of, InOrder}
 use Rattle.std.specs.FinMap as map
-use Rattle.std.specs.FinMap.Entries.{put, by_order}
-use Rattle.std.proofs.lemmas.Bool.Decides.{nat_tests}
-use Rattle.std.proofs.lemmas.List.{length-map, nil_from_length}
-use Rattle.std.proofs.lemmas.List.Elements.{All-map, All-from_recursion}
-use Rattle.slotmap.specs.Words.{Key, key_cmp}
-use Rattle.slotmap.proofs.Callers.{keys_total, exact_keys, alike_or_apart, same_or_other, tied, itself, get_after_insert, get_after_remove, len_removed}
-use Rattle.slotmap_scheduler.specs.Timed.{Turn, turn_cmp}
-use Rattle.slotmap_scheduler.specs.Heap.{precedes}
-use Rattle.slotmap_scheduler.specs.Inverse.{IsInverse}
-use Rattle.slotmap_scheduler.specs.Schedule.{job_of, in_turn, without, with_job}
-use Rattle.slotmap_scheduler.specs.Timed.{Timed, by_turn, seen, waiting_of, InOrder}
 use Rattle.slotmap_scheduler.proofs.Inverse.{put as inverse_put, dropped}
 use Rattle.slotmap_scheduler.proofs.Sorted.{none_there, all_of, entries_put, insert_same, puts, drops}
 use Rattle.slotmap_scheduler.proofs.Timed.{exact_turns, turns_total, in_order}

@@ -1,18 +1,10 @@
 -- The places of the jobs in the heap, and how a change of both keeps them.
-use Rattle.std.proofs.Common.{◌≡◌, ◌≢◌, ℕ, ◌+◌, ◌-◌, ◌<◌, ◌≤◌, ◌⊎◌, true, false, List, Option, Some, None, is_some, get_or, length, refl, sym, ap, ◌∙◌, inl, inr, arith}
-use Rattle.std.specs.Prelude.{nat_lt, option_map, vec_len, vec_capacity}
-use Rattle.std.specs.declared.vec.Vec.{Vec}
-use Rattle.std.specs.List.{SwappedAt}
+use Rattle.std.proofs.Common.{◌≡◌, ◌≢◌, ◌+◌, ◌-◌, ◌<◌, ◌≤◌, ◌⊎◌, ◌∙◌}
+use Rattle.slotmap_scheduler.proofs.Common.{ℕ, true, false, List, Option, Some, None, is_some, get_or, length, refl, sym, ap, inl, inr, arith, nat_lt, option_map, vec_len}
+use Rattle.slotmap_scheduler.proofs.Common.{vec_capacity, Vec, SwappedAt, nat_tests, slice_get_past, slice_get-get_or, slice_get_read, Key, Content, with_value, keys}
+use Rattle.slotmap_scheduler.proofs.Common.{get-insert_here, get-insert_other, same_or_other, live-remove_other, mapped-written, Job, Entry, Turn, Jobs, no_entry, entry_at}
+use Rattle.slotmap_scheduler.proofs.Common.{spot_of, IsPlaced, IsHeap, IsHeapBut, Resettled, unplaced, timed}
 use Rattle.std.specs.FinMap as map
-use Rattle.std.proofs.lemmas.Bool.Decides.{nat_tests}
-use Rattle.std.proofs.lemmas.Option.{slice_get_past, slice_get-get_or, slice_get_read}
-use Rattle.slotmap.specs.Words.{Key, Content, with_value}
-use Rattle.slotmap.proofs.Callers.{keys, get-insert_here, get-insert_other, same_or_other, live-remove_other}
-use Rattle.slotmap_keylist.proofs.Mapped.{mapped-written}
-use Rattle.slotmap_scheduler.specs.declared.Job.{Job}
-use Rattle.slotmap_scheduler.specs.declared.heap.Entry.{Entry}
-use Rattle.slotmap_scheduler.specs.Timed.{Turn}
-use Rattle.slotmap_scheduler.specs.Heap.{Jobs, no_entry, entry_at, spot_of, IsPlaced, IsHeap, IsHeapBut, Resettled, unplaced, timed}
 use Rattle.slotmap_scheduler.proofs.Inverse.{exchanged, moved, put, dropped}
 use Rattle.slotmap_scheduler.proofs.Heaps.{same_or_not, heap_put, heap_left}
 

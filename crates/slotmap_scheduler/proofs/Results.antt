@@ -1,10 +1,7 @@
 -- What a clause says of the result that there is.
-use Rattle.std.proofs.Common.{◌≡◌, ℕ, true, false, [], ◌∷◌, Option, Some, None, is_some, Result, Ok, Err, IfOk, IsOk, is_ok, if◌then◌else◌, refl, ap, not, cond, arith}
-use Rattle.std.specs.Ordering.{eq_by_cmp}
-use Rattle.std.specs.FinMap.Entries.{find}
-use Rattle.slotmap.specs.Words.{Key, key_cmp, RefusesCapacity}
-use Rattle.slotmap.specs.declared.ReserveError.{ReserveError}
-use Rattle.slotmap_scheduler.specs.Schedule.{Waiting, job_of, without}
+use Rattle.std.proofs.Common.{◌≡◌, [], ◌∷◌, if◌then◌else◌}
+use Rattle.slotmap_scheduler.proofs.Common.{ℕ, true, false, Option, Some, None, is_some, Result, Ok, Err, IfOk, IsOk, is_ok, refl, ap, not, cond, arith, eq_by_cmp, find, Key}
+use Rattle.slotmap_scheduler.proofs.Common.{key_cmp, RefusesCapacity, ReserveError, Waiting, job_of, without}
 
 pub ok_is : {A B : Type 0} (r : Result A B) (x : A) (P : A → Type 0) → r ≡ Ok x → IfOk r P → P x
 ok_is (Ok y) x P is h = let e : y ≡ x = cc in rw e at h

@@ -1,22 +1,10 @@
 -- What a scheduler's user sees, by what its map holds.
-use Rattle.std.proofs.Common.{◌≡◌, ℕ, ◌<◌, false, cond, List, [], ◌∷◌, Bor, Option, Some, None, is_some, option_copied, get_or, length, refl, sym, ap, ◌∙◌, arith}
-use Rattle.std.specs.Prelude.{map as list_map, slice_get}
-use Rattle.std.specs.declared.vec.Vec.{Vec}
-use Rattle.std.specs.List.{All}
-use Rattle.std.specs.Option.{option_map}
+use Rattle.std.proofs.Common.{◌≡◌, ◌<◌, [], ◌∷◌, ◌∙◌}
+use Rattle.slotmap_scheduler.proofs.Common.{ℕ, false, cond, List, Bor, Option, Some, None, is_some, option_copied, get_or, length, refl, sym, ap, arith, list_map, slice_get, Vec}
+use Rattle.slotmap_scheduler.proofs.Common.{All, option_map, find, length-map, slice_get-get_or, Key, key_cmp, Content, keys_total, exact_keys, itself, get-mapped, len-mapped}
+use Rattle.slotmap_scheduler.proofs.Common.{Job, Entry, Waiting, job_of, without, ListsJobs, shown, Turn, waiting_of, InOrder, precedes, no_entry, turn_at, entry_at, unplaced}
+use Rattle.slotmap_scheduler.proofs.Common.{timed, IsSchedule}
 use Rattle.std.specs.FinMap as map
-use Rattle.std.specs.FinMap.Entries.{find}
-use Rattle.std.proofs.lemmas.List.{length-map}
-use Rattle.std.proofs.lemmas.Option.{slice_get-get_or}
-use Rattle.slotmap.specs.Words.{Key, key_cmp, Content}
-use Rattle.slotmap.proofs.Callers.{keys_total, exact_keys, itself}
-use Rattle.slotmap_keylist.proofs.Mapped.{get-mapped, len-mapped}
-use Rattle.slotmap_scheduler.specs.declared.Job.{Job}
-use Rattle.slotmap_scheduler.specs.declared.heap.Entry.{Entry}
-use Rattle.slotmap_scheduler.specs.Schedule.{Waiting, job_of, without}
-use Rattle.slotmap_scheduler.specs.Listed.{ListsJobs, shown}
-use Rattle.slotmap_scheduler.specs.Timed.{Turn, waiting_of, InOrder}
-use Rattle.slotmap_scheduler.specs.Heap.{precedes, no_entry, turn_at, entry_at, unplaced, timed, IsSchedule}
 use Rattle.slotmap_scheduler.proofs.Order.{job_is, len_is, waits_first, none_due, none_wait}
 use Rattle.slotmap_scheduler.proofs.Heaps.{top_first}
 use Rattle.slotmap_scheduler.proofs.Places.{entry_within}

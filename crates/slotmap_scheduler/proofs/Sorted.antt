@@ -1,17 +1,9 @@
 -- The entries of a finite map, in the order of their keys.
-use Rattle.std.proofs.Common.{◌≡◌, ◌≢◌, ◌&&◌, Bool, true, false, cond, T, List, [], ◌∷◌, Option, Some, None, length, refl, sym, ap, subst, ◌∙◌, arith}
-use Rattle.std.specs.Prelude.{map as list_map, option_map, unwrap_or}
-use Rattle.std.specs.declared.cmp.Ordering.{Ordering}
-use Rattle.std.specs.declared.cmp.Ordering.TheVariants.{Less, Equal, Greater}
-use Rattle.std.specs.Ordering.{is_lt, is_eq, eq_by_cmp}
-use Rattle.std.specs.Cmp.{IsTotalOrder}
-use Rattle.std.specs.List.{AllByRecursion, AllZip}
+use Rattle.std.proofs.Common.{◌≡◌, ◌≢◌, ◌&&◌, [], ◌∷◌, ◌∙◌}
+use Rattle.slotmap_scheduler.proofs.Common.{Bool, true, false, cond, T, List, Option, Some, None, length, refl, sym, ap, subst, arith, list_map, option_map, unwrap_or, Ordering}
+use Rattle.slotmap_scheduler.proofs.Common.{Less, Equal, Greater, is_lt, is_eq, eq_by_cmp, IsTotalOrder, AllByRecursion, AllZip, find, put, below_all, is_sorted}
+use Rattle.slotmap_scheduler.proofs.Common.{CmpEqualImpliesEq, length-map, IsCloneOf, tied, itself}
 use Rattle.std.specs.FinMap as map
-use Rattle.std.specs.FinMap.Entries.{find, put, below_all, is_sorted}
-use Rattle.std.proofs.lemmas.Map.Lookups.{CmpEqualImpliesEq}
-use Rattle.std.proofs.lemmas.List.{length-map}
-use Rattle.slotmap.specs.Words.{IsCloneOf}
-use Rattle.slotmap.proofs.Callers.{tied, itself}
 use Rattle.slotmap_scheduler.proofs.Inverse.{Puts, Drops}
 
 first : (a b : Bool) → T (a && b) → T a

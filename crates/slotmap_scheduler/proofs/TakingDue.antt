@@ -1,14 +1,7 @@
 -- A loop that takes out the jobs that are due.
-use Rattle.std.proofs.Common.{◌≡◌, ℕ, ◌+◌, ◌<◌, ◌≤◌, ◌⊎◌, inl, inr, true, List, [], ◌∷◌, ◌++◌, None, is_some, length, refl, sym, ap, subst, ◌∙◌, arith, append_assoc, append-nil}
-use Rattle.std.specs.Prelude.{vec_len, vec_capacity}
-use Rattle.std.specs.declared.vec.Vec.{Vec}
-use Rattle.std.specs.List.{All}
-use Rattle.std.proofs.lemmas.List.{map_push}
-use Rattle.std.proofs.lemmas.List.Elements.{All-nil, All-push}
-use Rattle.slotmap.specs.Words.{Key, IsSpent, KeepsSpent}
-use Rattle.slotmap.proofs.Callers.{keys_total, exact_keys, tied}
-use Rattle.slotmap_scheduler.specs.Schedule.{Schedule, Waiting, job_of}
-use Rattle.slotmap_scheduler.specs.Listed.{Due, TakesDue}
+use Rattle.std.proofs.Common.{◌≡◌, ◌+◌, ◌<◌, ◌≤◌, ◌⊎◌, [], ◌∷◌, ◌++◌, ◌∙◌}
+use Rattle.slotmap_scheduler.proofs.Common.{ℕ, inl, inr, true, List, None, is_some, length, refl, sym, ap, subst, arith, append_assoc, append-nil, vec_len, vec_capacity, Vec}
+use Rattle.slotmap_scheduler.proofs.Common.{All, map_push, All-nil, All-push, Key, IsSpent, KeepsSpent, keys_total, exact_keys, tied, Schedule, Waiting, job_of, Due, TakesDue}
 
 -- a handle is that of the first job, or it was gone before
 gone : {T : Type 0} (k : Key) (e : Key × (ℕ × T)) (es ws : Waiting T) → ws ≡ e ∷ es → job_of k es ≡ None → (k ≡ e.0) ⊎ (job_of k ws ≡ None)

@@ -1,18 +1,9 @@
 -- Jobs by their turns: no two have one turn, so each is found by its turn.
-use Rattle.std.proofs.Common.{◌≡◌, ℕ, ◌<◌, Bool, true, false, cond, List, [], ◌∷◌, Option, Some, refl, sym, ap, ◌∙◌, arith}
-use Rattle.std.specs.Prelude.{map as list_map}
-use Rattle.std.specs.Ordering.{nat_cmp, eq_by_cmp}
-use Rattle.std.specs.Cmp.{IsTotalOrder, nat_cmp_total}
-use Rattle.std.specs.List.{AllByRecursion}
+use Rattle.std.proofs.Common.{◌≡◌, ◌<◌, [], ◌∷◌, ◌∙◌}
+use Rattle.slotmap_scheduler.proofs.Common.{ℕ, Bool, true, false, cond, List, Option, Some, refl, sym, ap, arith, list_map, nat_cmp, eq_by_cmp, IsTotalOrder, nat_cmp_total}
+use Rattle.slotmap_scheduler.proofs.Common.{AllByRecursion, find, on_total, then_total, CmpEqualImpliesEq, exact_pairs, exact_unsigned, Key, key_cmp, keys_total, exact_keys}
+use Rattle.slotmap_scheduler.proofs.Common.{tied, untied, Turn, turn_cmp, IsInverse, Timed, by_turn, seen, waiting_of, InOrder}
 use Rattle.std.specs.FinMap as map
-use Rattle.std.specs.FinMap.Entries.{find}
-use Rattle.std.proofs.lemmas.Cmp.{on_total, then_total}
-use Rattle.std.proofs.lemmas.Map.Lookups.{CmpEqualImpliesEq, exact_pairs, exact_unsigned}
-use Rattle.slotmap.specs.Words.{Key, key_cmp}
-use Rattle.slotmap.proofs.Callers.{keys_total, exact_keys, tied, untied}
-use Rattle.slotmap_scheduler.specs.Timed.{Turn, turn_cmp}
-use Rattle.slotmap_scheduler.specs.Inverse.{IsInverse}
-use Rattle.slotmap_scheduler.specs.Timed.{Timed, by_turn, seen, waiting_of, InOrder}
 use Rattle.slotmap_scheduler.proofs.Sorted.{same_option, all_of}
 
 pub exact_turns : CmpEqualImpliesEq turn_cmp

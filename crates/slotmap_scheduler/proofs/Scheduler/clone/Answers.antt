@@ -1,8 +1,5 @@
-use Rattle.std.proofs.Common.{◌∙◌, arith}
-use Rattle.std.proofs.lemmas.List.Elements.{same_from_all_zip}
-use Rattle.slotmap.proofs.Callers.{clone_len}
-use Rattle.slotmap_keylist.proofs.Mapped.{len-mapped}
-use Rattle.slotmap_scheduler.specs.Heap.{unplaced, timed}
+use Rattle.std.proofs.Common.{◌∙◌}
+use Rattle.slotmap_scheduler.proofs.Common.{arith, same_from_all_zip, clone_len, len-mapped, unplaced, timed}
 use Rattle.slotmap_scheduler.proofs.Copied.{clones_job, Clones, timed_clones, schedule_copied, waiting_copied, same_waiting}
 use Rattle.slotmap_scheduler.proofs.Handles.{handles_copied}
 use Rattle.slotmap_scheduler.proofs.Scheduler.clone.Goals as goal

@@ -1,4 +1,5 @@
-use Rattle.std.proofs.Common.{◌+◌, ap, arith}
+use Rattle.std.proofs.Common.{◌+◌}
+use Rattle.slotmap_scheduler.proofs.Common.{ap, arith}
 use Rattle.slotmap_scheduler.proofs.Handles.{used_handles}
 use Rattle.slotmap_scheduler.proofs.Results.{same_refusal, if_ok}
 use Rattle.slotmap_scheduler.proofs.Scheduler.reserve.Goals as goal

@@ -1,7 +1,4 @@
-use Rattle.std.proofs.Common.{IsOk, vec_len, arith}
-use Rattle.slotmap.specs.Words.{Inserts}
-use Rattle.slotmap_keylist.proofs.Mapped.{mapped-inserts}
-use Rattle.slotmap_scheduler.specs.Heap.{unplaced}
+use Rattle.slotmap_scheduler.proofs.Common.{IsOk, vec_len, arith, Inserts, mapped-inserts, unplaced}
 use Rattle.slotmap_scheduler.proofs.Indexed.{indexed_settled, put_placed, put_but, put_len}
 use Rattle.slotmap_scheduler.proofs.Results.{ok_is, done}
 use Rattle.slotmap_scheduler.proofs.heap.put_in.Goals as goal

@@ -1,4 +1,5 @@
-use Rattle.std.proofs.Common.{◌≡◌, ◌<◌, length, vec_len, true, false, sym, ◌∙◌, arith}
+use Rattle.std.proofs.Common.{◌≡◌, ◌<◌, ◌∙◌}
+use Rattle.slotmap_scheduler.proofs.Common.{length, vec_len, true, false, sym, arith}
 use Rattle.slotmap_scheduler.proofs.Heaps.{resettled_same, resettled_then, sunk, sunk_above, heap_settled, heap_ended, compared}
 use Rattle.slotmap_scheduler.proofs.heap.sift_down.Goals as goal
 

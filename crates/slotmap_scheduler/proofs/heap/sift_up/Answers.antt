@@ -1,4 +1,5 @@
-use Rattle.std.proofs.Common.{false, sym, ◌∙◌, arith}
+use Rattle.std.proofs.Common.{◌∙◌}
+use Rattle.slotmap_scheduler.proofs.Common.{false, sym, arith}
 use Rattle.slotmap_scheduler.proofs.Heaps.{resettled_same, resettled_then, risen, compared}
 use Rattle.slotmap_scheduler.proofs.heap.sift_up.Goals as goal
 
