@@ -16,13 +16,6 @@ module _ {A : Type 0} (is_clone : A → A → Type 0) where
   abbrev pub Clones : {B : Type 0} → B × A → B × A → Type 0
   Clones x y = (y.0 ≡ x.0) × is_clone x.1 y.1
 
-  -- where clones equal their jobs, the copy's jobs are those that wait
-  pub same_waiting : ClonesEqual is_clone → (xs ys : Waiting A) → AreClones (IsDueClone is_clone) xs ys → ys ≡ xs
-  same_waiting same [] [] are = refl
-  same_waiting same [] (y ∷ ys) are = absurd are
-  same_waiting same (x ∷ xs) [] are = absurd are
-  same_waiting same (x ∷ xs) (y ∷ ys) are = λ i. (are.0.0 i, (are.0.1.0 i, same x.1.1 y.1.1 are.0.1.1 i)) ∷ same_waiting same xs ys are.1 i
-
   forth : {B : Type 0} (o p : Option (B × A)) → IsCloneOf Clones o p → (b : B) (x : A) → o ≡ Some (b, x) → (y : A) × (p ≡ Some (b, y)) × is_clone x y
   forth None p is b x at = absurd (cc)
   forth (Some v) None is b x at = absurd is

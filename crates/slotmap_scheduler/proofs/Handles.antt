@@ -1,5 +1,6 @@
 -- The handles of a scheduler: the keys of its jobs, with the room that the map and the heap have.
 use Rattle.std.proofs.Common.{◌≡◌, ◌+◌, ◌-◌, ◌≤◌, ◌∙◌}
+use Rattle.slotmap.specs.Words.{most}
 use Rattle.slotmap_scheduler.proofs.Common.{true, refl, ap, arith, vec_len, vec_capacity, min, Vec, Key, Content, IsContent, IsLive, IsSpent, KeepsSpent, IsNew, Inserts, Removes}
 use Rattle.slotmap_scheduler.proofs.Common.{IsCopy, IsCloneBy, without_values, with_value, used, spent_alone, alone_spent, inserted_not_spent, alone-new, alone-inserts}
 use Rattle.slotmap_scheduler.proofs.Common.{alone-removes, alone-copy, alone-written, used_alone, used-mapped, Job, Entry, Turn, unplaced, timed, handles_of}
@@ -55,3 +56,6 @@ module _ {T Z : Type 0} where
 
   pub used_handles : (jobs : Content (Job T)) (heap : Vec Entry Z) → used (handles_of (timed jobs) heap) ≡ used jobs
   used_handles jobs heap = let alone = used_alone (timed jobs) in let same = used-mapped unplaced jobs in omega arith
+
+  pub handles_limit : (jobs : Content (Job T)) (heap : Vec Entry Z) → IsContent true jobs → used (handles_of (timed jobs) heap) ≤ most
+  handles_limit jobs heap well = let same = used_handles jobs heap in let fits = well.room_fits in omega arith

@@ -16,13 +16,10 @@ second false b p = absurd p
 
 -- options with the same values
 pub same_option : {A : Type 0} (a b : Option A) → ((x : A) → a ≡ Some x → b ≡ Some x) → ((x : A) → b ≡ Some x → a ≡ Some x) → a ≡ b
-same_option None None to from = refl
-same_option None (Some y) to from = from y refl
-same_option (Some x) b to from = sym (to x refl)
+same_option a b to from = grind arith
 
 pub none_there : {A : Type 0} (o : Option A) → ((x : A) → o ≡ Some x → ⊥) → o ≡ None
-none_there None not_some = refl
-none_there (Some x) not_some = absurd (not_some x refl)
+none_there o not_some = grind arith
 
 module _ {K X : Type 0} {R : K → K → Ordering} (total : IsTotalOrder R) (exact : CmpEqualImpliesEq R) where
   below_none : (q : K) (es : List (K × X)) → T (below_all R q es) → find R q es ≡ None
