@@ -69,9 +69,7 @@ module _ {A : Type 0} (is_clone : A → A → Type 0) where
     waiting_copied = copied_waits (timed jobs).live (timed copy).live count is.order timed_clones.live len_copied
 
     same_spot : (o p : Option (Job A)) → IsCloneOf clones_job o p → option_map {U = ℕ × Turn} (λ (j : Job A). (j.place, j.turn)) p ≡ option_map {U = ℕ × Turn} (λ (j : Job A). (j.place, j.turn)) o
-    same_spot None p are = ap (option_map {U = ℕ × Turn} (λ (j : Job A). (j.place, j.turn))) are
-    same_spot (Some j) None are = absurd are
-    same_spot (Some j) (Some i) are = λ n. Some (are.2 n, are.1 n)
+    same_spot o p are = grind arith
 
     -- the copy is a scheduler, if its heap has a place for each slot that has none live or retired
     pub schedule_copied : (heap' : Vec Entry Z) → heap'.items ≡ heap.items → vec_len heap' ≡ vec_len heap → IsContent true copy → copy.capacity ≤ vec_capacity heap' → IsSchedule copy count heap'

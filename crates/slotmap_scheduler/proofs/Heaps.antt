@@ -36,11 +36,8 @@ compared heap i j x y in_i in_j is_x is_y b test =
 
 -- the first entry is before no other one
 pub top_first : (heap : List Entry) → IsHeap heap → (fuel i : ℕ) → i ≤ fuel → i < length heap → precedes (turn_at heap i) (turn_at heap 0) ≡ false
-top_first heap ordered zero i within inside = let e : i ≡ 0 = omega arith in ap (λ j. precedes (turn_at heap j) (turn_at heap 0)) e ∙ itself (turn_at heap 0)
-top_first heap ordered (suc fuel) i within inside = elim (same_or_not i 0) [
-  | inl e ↦ ap (λ j. precedes (turn_at heap j) (turn_at heap 0)) e ∙ itself (turn_at heap 0)
-  | inr other ↦ across (turn_at heap 0) (turn_at heap (up i)) (turn_at heap i) (top_first heap ordered fuel (up i) (omega arith) (omega arith)) (ordered i (omega arith) inside)
-]
+top_first heap ordered zero i within inside = grind (arith, itself (turn_at heap 0))
+top_first heap ordered (suc fuel) i within inside = grind (arith, same_or_not i 0, itself (turn_at heap 0), across (turn_at heap 0) (turn_at heap (up i)) (turn_at heap i), ordered i, top_first heap ordered fuel (up i))
 
 module _ (heap : List Entry) (at : ℕ) (but : IsHeapBut at heap) where
   -- it is in its place: none below it is before it

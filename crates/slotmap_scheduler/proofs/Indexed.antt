@@ -62,10 +62,7 @@ module _ {T Z : Type 0} where
       spot = ap (option_map _) found
 
       mine : e.handle ≡ k
-      mine = handle_of (entry_at heap.items j.place) (entry_is heap j.place e within read) (is.placed.to k j.place j.turn spot)
-        where
-          handle_of : (o : Option (Key × Turn)) → o ≡ Some (e.handle, e.turn) → o ≡ Some (k, j.turn) → e.handle ≡ k
-          handle_of o x y = grind arith
+      mine = grind (arith, entry_is heap j.place e within read, is.placed.to k j.place j.turn spot)
 
       abbrev now : List Entry
       now = list_set heap.items j.place (record e { turn = turn })

@@ -43,13 +43,10 @@ job_there : {T : Type 0} (o : Option (Job T)) (p : ℕ) (t : Turn) → option_ma
 job_there None p t is = absurd (cc)
 job_there (Some j) p t is = (j.job, grind arith)
 
-turn_of : (o : Option Entry) (e : Entry) (k : Key) (t : Turn) → o ≡ Some e → option_map {U = Key × Turn} (λ (e : Entry). (e.handle, e.turn)) o ≡ Some (k, t) → e.turn ≡ t
-turn_of o e k t is there = grind arith
-
 -- the job at the top of the heap
 module _ {T Z : Type 0} (jobs : Content (Job T)) (count : ℕ) (heap : Vec Entry Z) (is : IsSchedule jobs count heap) where
   turn_there : (i : ℕ) (k : Key) (t : Turn) → entry_at heap.items i ≡ Some (k, t) → turn_at heap.items i ≡ t
-  turn_there i k t there = turn_of (slice_get heap.items i) (get_or heap.items i no_entry) k t (slice_get-get_or heap.items i no_entry (entry_within heap.items i (k, t) there)) there
+  turn_there i k t there = grind (arith, slice_get-get_or heap.items i no_entry (entry_within heap.items i (k, t) there))
 
   module _ (e : Entry) (top : slice_get heap.items 0 ≡ Some e) where
     top_entry : entry_at heap.items 0 ≡ Some (e.handle, e.turn)

@@ -92,14 +92,10 @@ module _ {K X : Type 0} {R : K → K → Ordering} (total : IsTotalOrder R) (exa
   find-other q (e ∷ es) = grind (arith, tied total exact q e.0, find-other q es)
 
   value_other : (o p : Option X) → IsCloneOf Q o p → option_map (λ v. unwrap_or p v) o ≡ p
-  value_other None p is = sym is
-  value_other (Some x) None is = absurd is
-  value_other (Some x) (Some y) is = refl
+  value_other o p is = grind arith
 
   clone_other : (o p : Option X) (x : X) → IsCloneOf Q o p → o ≡ Some x → Q x (unwrap_or p x)
-  clone_other None p x is at = absurd (cc)
-  clone_other (Some y) None x is at = absurd is
-  clone_other (Some y) (Some z) x is at = let same : y ≡ x = cc in subst (λ v. Q v z) same is
+  clone_other o p x is at = grind arith
 
   entries_other : map.entries n ≡ list_map other (map.entries m)
   entries_other =
