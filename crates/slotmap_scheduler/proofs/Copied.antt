@@ -1,8 +1,8 @@
 -- A copy of a scheduler: the same handles, times and places, each with a clone of its job.
 use Rattle.std.proofs.Common.{◌≡◌, ◌≤◌, [], ◌∷◌, ◌∙◌}
 use Rattle.slotmap_scheduler.proofs.Common.{ℕ, true, List, Option, Some, None, refl, sym, ap, arith, list_map, option_map, vec_len, vec_capacity, Vec, AllZip, Key, Content}
-use Rattle.slotmap_scheduler.proofs.Common.{IsContent, AreClones, ClonesEqual, IsCloneOf, IsCloneBy, clone_len, mapped-clones, len-mapped, Job, Entry, IsInverse, IsDueClone}
-use Rattle.slotmap_scheduler.proofs.Common.{Waiting, Turn, Timed, by_turn, seen, waiting_of, InOrder, unplaced, timed, spot_of, entry_at, IsSchedule}
+use Rattle.slotmap_scheduler.proofs.Common.{IsContent, AreClones, IsCloneOf, IsCloneBy, clone_len, mapped-clones, len-mapped, Job, Entry, IsInverse, IsDueClone}
+use Rattle.slotmap_scheduler.proofs.Common.{Turn, Timed, by_turn, seen, waiting_of, InOrder, unplaced, timed, spot_of, entry_at, IsSchedule}
 use Rattle.std.specs.FinMap as map
 use Rattle.slotmap_scheduler.proofs.Inverse.{alike}
 use Rattle.slotmap_scheduler.proofs.Sorted.{none_there, entries_alike, len_alike}
@@ -17,14 +17,10 @@ module _ {A : Type 0} (is_clone : A → A → Type 0) where
   Clones x y = (y.0 ≡ x.0) × is_clone x.1 y.1
 
   forth : {B : Type 0} (o p : Option (B × A)) → IsCloneOf Clones o p → (b : B) (x : A) → o ≡ Some (b, x) → (y : A) × (p ≡ Some (b, y)) × is_clone x y
-  forth None p is b x at = absurd (cc)
-  forth (Some v) None is b x at = absurd is
-  forth (Some v) (Some w) is b x at = (w.1, grind arith, grind arith)
+  forth o p is b x at = grind arith
 
   back : {B : Type 0} (o p : Option (B × A)) → IsCloneOf Clones o p → (b : B) (y : A) → p ≡ Some (b, y) → (x : A) × (o ≡ Some (b, x)) × is_clone x y
-  back None p is b y at = absurd (let e = sym is ∙ at in cc)
-  back (Some v) None is b y at = absurd is
-  back (Some v) (Some w) is b y at = (v.1, grind arith, grind arith)
+  back o p is b y at = grind arith
 
   seen_clones : (es fs : List (Turn × (Key × A))) → AllZip (λ (e f : Turn × (Key × A)). (f.0 ≡ e.0) × Clones e.1 f.1) es fs → AreClones (IsDueClone is_clone) (list_map seen es) (list_map seen fs)
   seen_clones [] [] are = tt

@@ -1,6 +1,6 @@
 -- A heap of turns: what each step leaves that moves an entry up or down, and which entry is first.
 use Rattle.std.proofs.Common.{◌≡◌, ◌≢◌, ◌<◌, ◌≤◌, ◌⊎◌, ◌∙◌}
-use Rattle.slotmap_scheduler.proofs.Common.{ℕ, zero, suc, Bool, true, false, List, get_or, length, refl, sym, ap, inl, inr, arith, vec_len, Vec, SwappedAt, nat_cmp_total}
+use Rattle.slotmap_scheduler.proofs.Common.{ℕ, zero, suc, Bool, true, false, List, get_or, length, refl, sym, ap, arith, vec_len, Vec, SwappedAt, nat_cmp_total}
 use Rattle.slotmap_scheduler.proofs.Common.{nat_tests, exact_unsigned, get_or_read_under, Swapped, Content, alike_or_apart, Job, Entry, Turn, precedes, up, no_entry, turn_at}
 use Rattle.slotmap_scheduler.proofs.Common.{IsHeap, IsHeapBut, IsAbove, IsFirstBelow, IsPlaced, Resettled}
 
@@ -56,41 +56,34 @@ module _ (heap : List Entry) (at : ℕ) (but : IsHeapBut at heap) where
     swapped a b by = (ap (λ (e : Entry). e.turn) (by.0 no_entry), ap (λ (e : Entry). e.turn) (by.1 no_entry), λ i na nb. ap (λ (e : Entry). e.turn) (by.2 i no_entry na nb))
 
     -- it is exchanged with that above it
-    module _ (some : 0 < at) (by : Swapped (turn_at heap) (turn_at new) (up at) at) where
-      risen_pairs : (c : ℕ) → 0 < c → c < length new → c ≢ up at → up c ≢ up at → precedes (turn_at new c) (turn_at new (up c)) ≡ false
-      risen_pairs c low inside apart far = grind (arith, same_or_not (up c) at, by.0, by.1, by.2 c, by.2 (up c), but.pairs c, but.bridges c)
-
-      risen_bridges : (c : ℕ) → 0 < c → c < length new → up c ≡ up at → 0 < up at → precedes (turn_at new c) (turn_at new (up (up at))) ≡ false
-      risen_bridges c low inside below high = grind (arith, same_or_not c at, by.0, by.1, by.2 c, by.2 (up (up at)), but.pairs c, but.pairs (up at), across (turn_at heap (up (up at))) (turn_at heap (up at)) (turn_at heap c))
-
     pub risen : 0 < at → SwappedAt heap new (up at) at → IsHeapBut (up at) new
-    risen some by = let turns = swapped (up at) at by in record { pairs = risen_pairs some turns; bridges = risen_bridges some turns }
+    risen some by =
+        let turns = swapped (up at) at by in
+        let high = across (turn_at heap (up (up at))) (turn_at heap (up at)) in
+        record {
+          pairs = λ c low inside apart far. grind (arith, same_or_not (up c) at, turns.0, turns.1, turns.2 c, turns.2 (up c), but.pairs c, but.bridges c);
+          bridges = λ c low inside below top. grind (arith, same_or_not c at, turns.0, turns.1, turns.2 c, turns.2 (up (up at)), but.pairs c, but.pairs (up at), high (turn_at heap c));
+        }
 
     -- it is exchanged with the first of those below it
-    module _ (child : ℕ) (first : IsFirstBelow at child heap) (by : Swapped (turn_at heap) (turn_at new) at child) where
-      sunk_pairs : (c : ℕ) → 0 < c → c < length new → c ≢ child → up c ≢ child → precedes (turn_at new c) (turn_at new (up c)) ≡ false
-      sunk_pairs c low inside apart far = grind (arith, same_or_not (up c) at, same_or_not c at, by.0, by.1, by.2 c, by.2 (up c), but.pairs c, but.bridges child, first.least c, first.low, first.below, first.inside)
-
-      sunk_bridges : (c : ℕ) → 0 < c → c < length new → up c ≡ child → 0 < child → precedes (turn_at new c) (turn_at new (up child)) ≡ false
-      sunk_bridges c low inside under high = grind (arith, by.0, by.2 c, but.pairs c, first.below)
-
     pub sunk : (child : ℕ) → IsFirstBelow at child heap → SwappedAt heap new at child → IsHeapBut child new
-    sunk child first by = let turns = swapped at child by in record { pairs = sunk_pairs child first turns; bridges = sunk_bridges child first turns }
+    sunk child first by =
+        let turns = swapped at child by in
+        record {
+          pairs = λ c low inside apart far. grind (arith, same_or_not (up c) at, same_or_not c at, turns.0, turns.1, turns.2 c, turns.2 (up c), but.pairs c, but.bridges child, first.least c, first.low, first.below, first.inside);
+          bridges = λ c low inside under high. grind (arith, turns.0, turns.2 c, but.pairs c, first.below);
+        }
 
     pub sunk_above : (child : ℕ) → IsFirstBelow at child heap → SwappedAt heap new at child → precedes (turn_at heap child) (turn_at heap at) ≡ true → IsAbove child new
     sunk_above child first by before low = let turns = swapped at child by in rw (first.below, turns.1, turns.0) (once (turn_at heap child) (turn_at heap at) before)
 
 module _ (old new : List Entry) (ordered : IsHeap old) where
   -- an entry has another turn, or is new at the end
-  module _ (at : ℕ) (same : (i : ℕ) → i < length new → i ≢ at → (i < length old) × (get_or new i no_entry ≡ get_or old i no_entry)) where
-    put_pairs : (c : ℕ) → 0 < c → c < length new → c ≢ at → up c ≢ at → precedes (turn_at new c) (turn_at new (up c)) ≡ false
-    put_pairs c low inside apart far = grind (arith, same c, same (up c), ordered c)
-
-    put_bridges : (c : ℕ) → 0 < c → c < length new → up c ≡ at → 0 < at → precedes (turn_at new c) (turn_at new (up at)) ≡ false
-    put_bridges c low inside below high = grind (arith, same c, same (up at), ordered c, ordered at, across (turn_at old (up at)) (turn_at old at) (turn_at old c))
-
-    pub heap_put : IsHeapBut at new
-    heap_put = record { pairs = put_pairs; bridges = put_bridges }
+  pub heap_put : (at : ℕ) → ((i : ℕ) → i < length new → i ≢ at → (i < length old) × (get_or new i no_entry ≡ get_or old i no_entry)) → IsHeapBut at new
+  heap_put at same = record {
+    pairs = λ c low inside apart far. grind (arith, same c, same (up c), ordered c);
+    bridges = λ c low inside below high. grind (arith, same c, same (up at), ordered c, ordered at, across (turn_at old (up at)) (turn_at old at) (turn_at old c));
+  }
 
   -- the last entry has left
   pub heap_left : length new ≤ length old → ((i : ℕ) → i < length new → get_or new i no_entry ≡ get_or old i no_entry) → IsHeap new

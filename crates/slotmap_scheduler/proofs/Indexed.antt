@@ -3,7 +3,7 @@ use Rattle.std.proofs.Common.{◌≡◌, ◌+◌, ◌<◌, ◌∙◌}
 use Rattle.slotmap_scheduler.proofs.Common.{true, List, Option, Some, None, list_set, get_or, length, refl, sym, ap, arith, vec_len, option_map, Vec, SameBelow, length-set}
 use Rattle.slotmap_scheduler.proofs.Common.{get_or-set_same, get_or-set_other, slice_get-get_or, Key, Content, IsContent, Inserts, Removes, with_value, keys, inserted_fresh}
 use Rattle.slotmap_scheduler.proofs.Common.{inserted_len, removed_len, none_of, mapped-inserts, content-mapped, get-mapped, mapped-insert, Job, Entry, Turn, no_entry, unplaced}
-use Rattle.slotmap_scheduler.proofs.Common.{timed, spot_of, entry_at, IsPlaced, IsHeap, IsHeapBut, Resettled, IsIndexed}
+use Rattle.slotmap_scheduler.proofs.Common.{timed, spot_of, IsPlaced, IsHeap, IsHeapBut, Resettled, IsIndexed}
 use Rattle.std.specs.FinMap as map
 use Rattle.slotmap_scheduler.proofs.Heaps.{heap_put}
 use Rattle.slotmap_scheduler.proofs.Places.{entry_is, entry_within, read_alike, placed_put, one_place, in_heap}

@@ -62,12 +62,6 @@ module _ {T : Type 0} where
 
     -- a new job is behind all of its time
     module _ (k : Key) (time : ℕ) (job : T) (new : map.get jobs k ≡ None) where
-      added_numbered : (q : Key) (t : Turn) (x : T) → map.get (map.insert jobs k ((time, count), job)) q ≡ Some (t, x) → t.1 < count + 1
-      added_numbered q t x there = grind (arith, get_after_insert keys_total exact_keys jobs k ((time, count), job) q (t, x) there, is.numbered q t x)
-
-      added_len : map.len (map.insert (by_turn jobs) (time, count) (k, job)) ≡ map.len (map.insert jobs k ((time, count), job))
-      added_len = grind (arith, map.len-insert turns_total (by_turn jobs) (time, count) (k, job), map.len-insert keys_total jobs k ((time, count), job), is.len, free time)
-
       added_inverse : IsInverse (map.get (map.insert jobs k ((time, count), job))) (map.get (map.insert (by_turn jobs) (time, count) (k, job)))
       added_inverse = inverse_put same_or_other (alike_or_apart turns_total exact_turns) _ _ _ _ is.turns k (time, count) job
           (puts keys_total exact_keys jobs k (time, count) job (λ q x there. absurd (let less = is.numbered q (time, count) x there in omega arith)))
@@ -75,7 +69,9 @@ module _ {T : Type 0} where
 
       pub added : InOrder (map.insert jobs k ((time, count), job)) (count + 1) × (waiting_of (map.insert jobs k ((time, count), job)) ≡ in_turn (k, (time, job)) (waiting_of jobs))
       added =
-          let with = in_order _ (count + 1) _ added_inverse added_len added_numbered in
+          let with = in_order (map.insert jobs k ((time, count), job)) (count + 1) (map.insert (by_turn jobs) (time, count) (k, job)) added_inverse
+          (grind (arith, map.len-insert turns_total (by_turn jobs) (time, count) (k, job), map.len-insert keys_total jobs k ((time, count), job), is.len, free time))
+          (λ q t x there. grind (arith, get_after_insert keys_total exact_keys jobs k ((time, count), job) q (t, x) there, is.numbered q t x)) in
           let before = all_of turns_total exact_turns (λ t x. t.1 < count) (by_turn jobs) (λ t x there. is.numbered x.0 t x.1 (is.turns.from t x.0 x.1 there)) in
           (with.0, with.1 ∙ ap (list_map seen) (map.entries-insert turns_total (by_turn jobs) (time, count) (k, job)) ∙ put_last time count k job (map.entries (by_turn jobs)) before)
 
@@ -87,11 +83,9 @@ module _ {T : Type 0} where
       abbrev others : List (Turn × (Key × T))
       others = map.entries (map.remove (by_turn jobs) t)
 
-      other_key : (u : Turn) (x : Key × T) → map.get (map.remove (by_turn jobs) t) u ≡ Some x → k ≢ x.0
-      other_key u x there = grind (arith, get_after_remove turns_total exact_turns (by_turn jobs) t u x there, is.turns.from u x.0 x.1)
-
       other_keys : AllByRecursion (IsOther k) others
-      other_keys = all_of turns_total exact_turns (λ u x. k ≢ x.0) (map.remove (by_turn jobs) t) other_key
+      other_keys = all_of turns_total exact_turns (λ u x. k ≢ x.0) (map.remove (by_turn jobs) t)
+          (λ u x there. grind (arith, get_after_remove turns_total exact_turns (by_turn jobs) t u x there, is.turns.from u x.0 x.1))
 
       other_turn : (u : Turn) (x : Key × T) → map.get (map.remove (by_turn jobs) t) u ≡ Some x → t ≢ u
       other_turn u x there = grind (arith, get_after_remove turns_total exact_turns (by_turn jobs) t u x there)
@@ -114,17 +108,13 @@ module _ {T : Type 0} where
 
       -- a job is written in its place
       module _ (w : T) where
-        written_numbered : (q : Key) (u : Turn) (x : T) → map.get (map.insert jobs k (t, w)) q ≡ Some (u, x) → u.1 < count
-        written_numbered q u x there = grind (arith, get_after_insert keys_total exact_keys jobs k (t, w) q (u, x) there, is.numbered q u x, is.numbered k t job at)
-
-        written_len : map.len (map.insert (by_turn jobs) t (k, w)) ≡ map.len (map.insert jobs k (t, w))
-        written_len = grind (arith, map.len-insert turns_total (by_turn jobs) t (k, w), map.len-insert keys_total jobs k (t, w), is.len, at, turn_at)
-
         pub written : InOrder (map.insert jobs k (t, w)) count × (waiting_of (map.insert jobs k (t, w)) ≡ with_job k w (waiting_of jobs))
         written =
             let with = in_order (map.insert jobs k (t, w)) count (map.insert (by_turn jobs) t (k, w)) (inverse_put same_or_other (alike_or_apart turns_total exact_turns) _ _ _ _ is.turns k t w
             (puts keys_total exact_keys jobs k t w (λ q x there. grind (arith, is.turns.to q t x there, turn_at)))
-            (puts turns_total exact_turns (by_turn jobs) t k w (λ u x there. grind (arith, is.turns.from u k x there, at)))) written_len written_numbered in
+            (puts turns_total exact_turns (by_turn jobs) t k w (λ u x there. grind (arith, is.turns.from u k x there, at))))
+            (grind (arith, map.len-insert turns_total (by_turn jobs) t (k, w), map.len-insert keys_total jobs k (t, w), is.len, at, turn_at))
+            (λ q u x there. grind (arith, get_after_insert keys_total exact_keys jobs k (t, w) q (u, x) there, is.numbered q u x, is.numbered k t job at)) in
             (with.0, with.1 ∙ ap (list_map seen) (entries_put turns_total exact_turns (by_turn jobs) t (k, w)) ∙ sym (ap (λ es. with_job k w (list_map seen es)) among ∙ put_with_job k t job w others other_keys))
 
       -- it is the first, if no other turn is before its own

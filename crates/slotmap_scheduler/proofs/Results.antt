@@ -1,7 +1,7 @@
 -- What a clause says of the result that there is.
 use Rattle.std.proofs.Common.{◌≡◌, [], ◌∷◌, if◌then◌else◌}
-use Rattle.slotmap_scheduler.proofs.Common.{ℕ, true, false, Option, Some, None, is_some, Result, Ok, Err, IfOk, IsOk, is_ok, refl, ap, not, cond, arith, eq_by_cmp, find, Key}
-use Rattle.slotmap_scheduler.proofs.Common.{key_cmp, RefusesCapacity, ReserveError, Waiting, job_of, without}
+use Rattle.slotmap_scheduler.proofs.Common.{ℕ, true, Option, Some, None, is_some, Result, Ok, Err, IsOk, is_ok, refl, arith, Key}
+use Rattle.slotmap_scheduler.proofs.Common.{RefusesCapacity, ReserveError, Waiting, job_of, without}
 
 -- what a call leaves that succeeded
 pub done : {A B X : Type 0} (r : Result A B) (now after before : X) → IsOk r → now ≡ (if is_ok r then after else before) → now ≡ after

@@ -1,7 +1,7 @@
 -- The entries of a finite map, in the order of their keys.
-use Rattle.std.proofs.Common.{◌≡◌, ◌≢◌, ◌&&◌, [], ◌∷◌, ◌∙◌}
+use Rattle.std.proofs.Common.{◌≡◌, ◌&&◌, [], ◌∷◌, ◌∙◌}
 use Rattle.slotmap_scheduler.proofs.Common.{Bool, true, false, cond, T, List, Option, Some, None, length, refl, sym, ap, subst, arith, list_map, option_map, unwrap_or, Ordering}
-use Rattle.slotmap_scheduler.proofs.Common.{Less, Equal, Greater, is_lt, is_eq, eq_by_cmp, IsTotalOrder, AllByRecursion, AllZip, find, put, below_all, is_sorted}
+use Rattle.slotmap_scheduler.proofs.Common.{is_lt, eq_by_cmp, IsTotalOrder, AllByRecursion, AllZip, find, put, below_all, is_sorted}
 use Rattle.slotmap_scheduler.proofs.Common.{CmpEqualImpliesEq, length-map, IsCloneOf, tied, itself}
 use Rattle.std.specs.FinMap as map
 use Rattle.slotmap_scheduler.proofs.Inverse.{Puts, Drops}
@@ -24,11 +24,7 @@ none_there o not_some = grind arith
 module _ {K X : Type 0} {R : K → K → Ordering} (total : IsTotalOrder R) (exact : CmpEqualImpliesEq R) where
   below_none : (q : K) (es : List (K × X)) → T (below_all R q es) → find R q es ≡ None
   below_none q [] below = refl
-  below_none q (e ∷ es) below = elim (R q e.0) as (λ o. T (is_lt o && below_all R q es) → cond (is_eq o) (Some e.1) (find R q es) ≡ None) [
-    | Less ↦ λ rest. below_none q es rest
-    | Equal ↦ λ no. absurd no
-    | Greater ↦ λ no. absurd no
-  ] below
+  below_none q (e ∷ es) below = grind (arith, below_none q es)
 
   -- what is found behind the first entry has another key
   later : (e : K × X) (es : List (K × X)) (q : K) (v : X) → find R e.0 es ≡ None → find R q es ≡ Some v → cond (eq_by_cmp R q e.0) (Some e.1) (find R q es) ≡ Some v
@@ -46,18 +42,6 @@ module _ {K X : Type 0} {R : K → K → Ordering} (total : IsTotalOrder R) (exa
       )
 
   module _ (m : map.FinMap R X) (k : K) where
-    get_here : (v : X) → map.get (map.insert m k v) k ≡ Some v
-    get_here v = grind (arith, map.get-insert total m k v k, itself total exact k)
-
-    get_other : (v : X) (q : K) → q ≢ k → map.get (map.insert m k v) q ≡ map.get m q
-    get_other v q other = grind (arith, map.get-insert total m k v q, tied total exact q k)
-
-    get_gone : map.get (map.remove m k) k ≡ None
-    get_gone = grind (arith, map.get-remove total m k k, itself total exact k)
-
-    get_left : (q : K) → q ≢ k → map.get (map.remove m k) q ≡ map.get m q
-    get_left q other = grind (arith, map.get-remove total m k q, tied total exact q k)
-
     -- an entry is put among the others
     pub entries_put : (v : X) → map.entries (map.insert m k v) ≡ put R k v (map.entries (map.remove m k))
     entries_put v = ap map.entries (map.same_map total exact (map.insert m k v) (map.insert (map.remove m k) k v) (λ q.
@@ -68,10 +52,10 @@ module _ {K X : Type 0} {R : K → K → Ordering} (total : IsTotalOrder R) (exa
 
 module _ {K L X : Type 0} {R : K → K → Ordering} (total : IsTotalOrder R) (exact : CmpEqualImpliesEq R) (m : map.FinMap R (L × X)) (k : K) where
   pub puts : (l : L) (x : X) → ((q : K) (y : X) → map.get m q ≡ Some (l, y) → q ≡ k) → Puts (map.get m) (map.get (map.insert m k (l, x))) k l x
-  puts l x alone = record { here = get_here total exact m k (l, x); others = get_other total exact m k (l, x); alone = alone }
+  puts l x alone = record { here = grind (arith, map.get-insert total m k (l, x) k, itself total exact k); others = λ q other. grind (arith, map.get-insert total m k (l, x) q, tied total exact q k); alone = alone }
 
   pub drops : Drops (map.get m) (map.get (map.remove m k)) k
-  drops = record { gone = get_gone total exact m k; others = get_left total exact m k }
+  drops = record { gone = grind (arith, map.get-remove total m k k, itself total exact k); others = λ q other. grind (arith, map.get-remove total m k q, tied total exact q k) }
 
 -- maps with the same keys, where Q holds of the two values of each
 module _ {K X : Type 0} {R : K → K → Ordering} (total : IsTotalOrder R) (exact : CmpEqualImpliesEq R) (Q : X → X → Type 0) (m n : map.FinMap R X) (alike : (k : K) → IsCloneOf Q (map.get m k) (map.get n k)) where

@@ -1,6 +1,6 @@
 -- Jobs by their turns: no two have one turn, so each is found by its turn.
 use Rattle.std.proofs.Common.{◌≡◌, ◌<◌, [], ◌∷◌, ◌∙◌}
-use Rattle.slotmap_scheduler.proofs.Common.{ℕ, Bool, true, false, cond, List, Option, Some, refl, sym, ap, arith, list_map, nat_cmp, eq_by_cmp, IsTotalOrder, nat_cmp_total}
+use Rattle.slotmap_scheduler.proofs.Common.{ℕ, List, Some, sym, ap, arith, list_map, nat_cmp, IsTotalOrder, nat_cmp_total}
 use Rattle.slotmap_scheduler.proofs.Common.{AllByRecursion, find, on_total, then_total, CmpEqualImpliesEq, exact_pairs, exact_unsigned, Key, key_cmp, keys_total, exact_keys}
 use Rattle.slotmap_scheduler.proofs.Common.{tied, untied, Turn, turn_cmp, IsInverse, Timed, by_turn, seen, waiting_of, InOrder}
 use Rattle.std.specs.FinMap as map
