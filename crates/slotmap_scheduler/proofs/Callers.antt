@@ -1,12 +1,6 @@
 -- What callers of a scheduler cite: which jobs a loop over `pop_due` took out.
-use Rattle.std.proofs.Common.{◌≡◌, ℕ, ◌<◌, ◌≤◌, true, false, cond, [], ◌∷◌, ◌++◌, refl, sym, ap, ◌∙◌, arith}
-use Rattle.std.specs.Prelude.{nat_lt}
-use Rattle.std.specs.List.{All}
-use Rattle.std.proofs.lemmas.Bool.Decides.{nat_tests}
-use Rattle.std.proofs.lemmas.List.Elements.{All-nil, All-cons, All-head}
-use Rattle.slotmap.specs.Words.{Key}
-use Rattle.slotmap_scheduler.specs.Schedule.{Waiting}
-use Rattle.slotmap_scheduler.specs.Listed.{due_at, left_at}
+use Rattle.std.proofs.Common.{◌≡◌, ◌<◌, ◌≤◌, [], ◌∷◌, ◌++◌, ◌∙◌}
+use Rattle.slotmap_scheduler.proofs.Common.{ℕ, true, false, cond, refl, sym, ap, arith, nat_lt, All, nat_tests, All-nil, All-cons, All-head, Key, Waiting, due_at, left_at}
 
 module _ {T : Type 0} (now : ℕ) where
   abbrev IsDue : Key × (ℕ × T) → Type 0

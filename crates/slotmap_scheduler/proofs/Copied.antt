@@ -1,19 +1,9 @@
 -- A copy of a scheduler: the same handles, times and places, each with a clone of its job.
-use Rattle.std.proofs.Common.{◌≡◌, ℕ, ◌≤◌, true, List, [], ◌∷◌, Option, Some, None, refl, sym, ap, ◌∙◌, arith}
-use Rattle.std.specs.Prelude.{map as list_map, option_map, vec_len, vec_capacity}
-use Rattle.std.specs.declared.vec.Vec.{Vec}
-use Rattle.std.specs.List.{AllZip}
+use Rattle.std.proofs.Common.{◌≡◌, ◌≤◌, [], ◌∷◌, ◌∙◌}
+use Rattle.slotmap_scheduler.proofs.Common.{ℕ, true, List, Option, Some, None, refl, sym, ap, arith, list_map, option_map, vec_len, vec_capacity, Vec, AllZip, Key, Content}
+use Rattle.slotmap_scheduler.proofs.Common.{IsContent, AreClones, IsCloneOf, IsCloneBy, clone_len, mapped-clones, len-mapped, Job, Entry, IsInverse, IsDueClone}
+use Rattle.slotmap_scheduler.proofs.Common.{Turn, Timed, by_turn, seen, waiting_of, InOrder, unplaced, timed, spot_of, entry_at, IsSchedule}
 use Rattle.std.specs.FinMap as map
-use Rattle.slotmap.specs.Words.{Key, Content, IsContent, AreClones, ClonesEqual, IsCloneOf, IsCloneBy}
-use Rattle.slotmap.proofs.Callers.{clone_len}
-use Rattle.slotmap_keylist.proofs.Mapped.{mapped-clones, len-mapped}
-use Rattle.slotmap_scheduler.specs.declared.Job.{Job}
-use Rattle.slotmap_scheduler.specs.declared.heap.Entry.{Entry}
-use Rattle.slotmap_scheduler.specs.Inverse.{IsInverse}
-use Rattle.slotmap_scheduler.specs.Listed.{IsDueClone}
-use Rattle.slotmap_scheduler.specs.Schedule.{Waiting}
-use Rattle.slotmap_scheduler.specs.Timed.{Turn, Timed, by_turn, seen, waiting_of, InOrder}
-use Rattle.slotmap_scheduler.specs.Heap.{unplaced, timed, spot_of, entry_at, IsSchedule}
 use Rattle.slotmap_scheduler.proofs.Inverse.{alike}
 use Rattle.slotmap_scheduler.proofs.Sorted.{none_there, entries_alike, len_alike}
 use Rattle.slotmap_scheduler.proofs.Timed.{exact_turns, turns_total, inverse}
@@ -26,22 +16,11 @@ module _ {A : Type 0} (is_clone : A → A → Type 0) where
   abbrev pub Clones : {B : Type 0} → B × A → B × A → Type 0
   Clones x y = (y.0 ≡ x.0) × is_clone x.1 y.1
 
-  -- where clones equal their jobs, the copy's jobs are those that wait
-  pub same_waiting : ClonesEqual is_clone → (xs ys : Waiting A) → AreClones (IsDueClone is_clone) xs ys → ys ≡ xs
-  same_waiting same [] [] are = refl
-  same_waiting same [] (y ∷ ys) are = absurd are
-  same_waiting same (x ∷ xs) [] are = absurd are
-  same_waiting same (x ∷ xs) (y ∷ ys) are = λ i. (are.0.0 i, (are.0.1.0 i, same x.1.1 y.1.1 are.0.1.1 i)) ∷ same_waiting same xs ys are.1 i
-
   forth : {B : Type 0} (o p : Option (B × A)) → IsCloneOf Clones o p → (b : B) (x : A) → o ≡ Some (b, x) → (y : A) × (p ≡ Some (b, y)) × is_clone x y
-  forth None p is b x at = absurd (cc)
-  forth (Some v) None is b x at = absurd is
-  forth (Some v) (Some w) is b x at = (w.1, grind arith, grind arith)
+  forth o p is b x at = grind arith
 
   back : {B : Type 0} (o p : Option (B × A)) → IsCloneOf Clones o p → (b : B) (y : A) → p ≡ Some (b, y) → (x : A) × (o ≡ Some (b, x)) × is_clone x y
-  back None p is b y at = absurd (let e = sym is ∙ at in cc)
-  back (Some v) None is b y at = absurd is
-  back (Some v) (Some w) is b y at = (v.1, grind arith, grind arith)
+  back o p is b y at = grind arith
 
   seen_clones : (es fs : List (Turn × (Key × A))) → AllZip (λ (e f : Turn × (Key × A)). (f.0 ≡ e.0) × Clones e.1 f.1) es fs → AreClones (IsDueClone is_clone) (list_map seen es) (list_map seen fs)
   seen_clones [] [] are = tt
@@ -86,9 +65,7 @@ module _ {A : Type 0} (is_clone : A → A → Type 0) where
     waiting_copied = copied_waits (timed jobs).live (timed copy).live count is.order timed_clones.live len_copied
 
     same_spot : (o p : Option (Job A)) → IsCloneOf clones_job o p → option_map {U = ℕ × Turn} (λ (j : Job A). (j.place, j.turn)) p ≡ option_map {U = ℕ × Turn} (λ (j : Job A). (j.place, j.turn)) o
-    same_spot None p are = ap (option_map {U = ℕ × Turn} (λ (j : Job A). (j.place, j.turn))) are
-    same_spot (Some j) None are = absurd are
-    same_spot (Some j) (Some i) are = λ n. Some (are.2 n, are.1 n)
+    same_spot o p are = grind arith
 
     -- the copy is a scheduler, if its heap has a place for each slot that has none live or retired
     pub schedule_copied : (heap' : Vec Entry Z) → heap'.items ≡ heap.items → vec_len heap' ≡ vec_len heap → IsContent true copy → copy.capacity ≤ vec_capacity heap' → IsSchedule copy count heap'

@@ -1,18 +1,10 @@
 -- A heap that has the turn of each job: what each call on the map and the heap leaves.
-use Rattle.std.proofs.Common.{◌≡◌, ◌+◌, ◌<◌, true, List, Option, Some, None, set as list_set, get_or, length, refl, sym, ap, ◌∙◌, arith}
-use Rattle.std.specs.Prelude.{vec_len, option_map}
-use Rattle.std.specs.declared.vec.Vec.{Vec}
-use Rattle.std.specs.List.{SameBelow}
+use Rattle.std.proofs.Common.{◌≡◌, ◌+◌, ◌<◌, ◌∙◌}
+use Rattle.slotmap_scheduler.proofs.Common.{true, List, Option, Some, None, list_set, get_or, length, refl, sym, ap, arith, vec_len, option_map, Vec, SameBelow, length-set}
+use Rattle.slotmap_scheduler.proofs.Common.{get_or-set_same, get_or-set_other, slice_get-get_or, Key, Content, IsContent, Inserts, Removes, with_value, keys, inserted_fresh}
+use Rattle.slotmap_scheduler.proofs.Common.{inserted_len, removed_len, none_of, mapped-inserts, content-mapped, get-mapped, mapped-insert, Job, Entry, Turn, no_entry, unplaced}
+use Rattle.slotmap_scheduler.proofs.Common.{timed, spot_of, IsPlaced, IsHeap, IsHeapBut, Resettled, IsIndexed}
 use Rattle.std.specs.FinMap as map
-use Rattle.std.proofs.lemmas.List.{length-set, get_or-set_same, get_or-set_other}
-use Rattle.std.proofs.lemmas.Option.{slice_get-get_or}
-use Rattle.slotmap.specs.Words.{Key, Content, IsContent, Inserts, Removes, with_value}
-use Rattle.slotmap.proofs.Callers.{keys, inserted_fresh, inserted_len, removed_len, none_of}
-use Rattle.slotmap_keylist.proofs.Mapped.{mapped-inserts, content-mapped, get-mapped, mapped-insert}
-use Rattle.slotmap_scheduler.specs.declared.Job.{Job}
-use Rattle.slotmap_scheduler.specs.declared.heap.Entry.{Entry}
-use Rattle.slotmap_scheduler.specs.Timed.{Turn}
-use Rattle.slotmap_scheduler.specs.Heap.{no_entry, unplaced, timed, spot_of, entry_at, IsPlaced, IsHeap, IsHeapBut, Resettled, IsIndexed}
 use Rattle.slotmap_scheduler.proofs.Heaps.{heap_put}
 use Rattle.slotmap_scheduler.proofs.Places.{entry_is, entry_within, read_alike, placed_put, one_place, in_heap}
 
@@ -70,10 +62,7 @@ module _ {T Z : Type 0} where
       spot = ap (option_map _) found
 
       mine : e.handle ≡ k
-      mine = handle_of (entry_at heap.items j.place) (entry_is heap j.place e within read) (is.placed.to k j.place j.turn spot)
-        where
-          handle_of : (o : Option (Key × Turn)) → o ≡ Some (e.handle, e.turn) → o ≡ Some (k, j.turn) → e.handle ≡ k
-          handle_of o x y = grind arith
+      mine = grind (arith, entry_is heap j.place e within read, is.placed.to k j.place j.turn spot)
 
       abbrev now : List Entry
       now = list_set heap.items j.place (record e { turn = turn })

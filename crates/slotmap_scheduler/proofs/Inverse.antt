@@ -1,6 +1,6 @@
 -- Two functions that find each other (`IsInverse`), after a change of both.
-use Rattle.std.proofs.Common.{◌≡◌, ◌≢◌, ◌⊎◌, Option, Some, None, sym, ◌∙◌, arith}
-use Rattle.slotmap_scheduler.specs.Inverse.{IsInverse}
+use Rattle.std.proofs.Common.{◌≡◌, ◌≢◌, ◌⊎◌, ◌∙◌}
+use Rattle.slotmap_scheduler.proofs.Common.{Option, Some, None, sym, arith, IsInverse}
 
 module _ {K L X : Type 0} where
   -- k has l and x now, where no other one has l; the others have what they had
@@ -29,26 +29,20 @@ module _ {K L X : Type 0} (dk : (a b : K) → (a ≡ b) ⊎ (a ≢ b)) (dl : (a 
   -- k1 and k2 have each other's place
   module _ (k1 k2 : K) (l1 l2 : L) (x1 x2 : X) (was1 : f k1 ≡ Some (l2, x1)) (was2 : f k2 ≡ Some (l1, x2)) (now1 : f' k1 ≡ Some (l1, x1)) (now2 : f' k2 ≡ Some (l2, x2))
       (others : (q : K) → q ≢ k1 → q ≢ k2 → f' q ≡ f q) (first : g' l1 ≡ g l2) (second : g' l2 ≡ g l1) (rest : (p : L) → p ≢ l1 → p ≢ l2 → g' p ≡ g p) where
-    exchanged_to : (q : K) (p : L) (y : X) → f' q ≡ Some (p, y) → g' p ≡ Some (q, y)
-    exchanged_to q p y at = grind (arith, dk q k1, dk q k2, dl p l1, dl p l2, others q, rest p, is.to q p y, is.to k1 l2 x1, is.to k2 l1 x2)
-
-    exchanged_from : (p : L) (q : K) (y : X) → g' p ≡ Some (q, y) → f' q ≡ Some (p, y)
-    exchanged_from p q y at = grind (arith, dk q k1, dk q k2, dl p l1, dl p l2, others q, rest p, is.from p q y, is.to k1 l2 x1, is.to k2 l1 x2)
-
     pub exchanged : IsInverse f' g'
-    exchanged = record { to = exchanged_to; from = exchanged_from }
+    exchanged = record {
+      to = λ q p y at. grind (arith, dk q k1, dk q k2, dl p l1, dl p l2, others q, rest p, is.to q p y, is.to k1 l2 x1, is.to k2 l1 x2);
+      from = λ p q y at. grind (arith, dk q k1, dk q k2, dl p l1, dl p l2, others q, rest p, is.from p q y, is.to k1 l2 x1, is.to k2 l1 x2);
+    }
 
   -- k1 has nothing any more, and k2 has its place
   module _ (k1 k2 : K) (l1 l2 : L) (x1 x2 : X) (was1 : f k1 ≡ Some (l1, x1)) (was2 : f k2 ≡ Some (l2, x2)) (gone : f' k1 ≡ None) (now2 : f' k2 ≡ Some (l1, x2))
       (others : (q : K) → q ≢ k1 → q ≢ k2 → f' q ≡ f q) (first : g' l1 ≡ g l2) (empty : g' l2 ≡ None) (rest : (p : L) → p ≢ l1 → p ≢ l2 → g' p ≡ g p) where
-    moved_to : (q : K) (p : L) (y : X) → f' q ≡ Some (p, y) → g' p ≡ Some (q, y)
-    moved_to q p y at = grind (arith, dk q k1, dk q k2, dl p l1, dl p l2, others q, rest p, is.to q p y, is.to k1 l1 x1, is.to k2 l2 x2)
-
-    moved_from : (p : L) (q : K) (y : X) → g' p ≡ Some (q, y) → f' q ≡ Some (p, y)
-    moved_from p q y at = grind (arith, dk q k1, dk q k2, dl p l1, dl p l2, others q, rest p, is.from p q y, is.to k1 l1 x1, is.to k2 l2 x2)
-
     pub moved : IsInverse f' g'
-    moved = record { to = moved_to; from = moved_from }
+    moved = record {
+      to = λ q p y at. grind (arith, dk q k1, dk q k2, dl p l1, dl p l2, others q, rest p, is.to q p y, is.to k1 l1 x1, is.to k2 l2 x2);
+      from = λ p q y at. grind (arith, dk q k1, dk q k2, dl p l1, dl p l2, others q, rest p, is.from p q y, is.to k1 l1 x1, is.to k2 l2 x2);
+    }
 
 module _ {K L X : Type 0} (dk : (a b : K) → (a ≡ b) ⊎ (a ≢ b)) (dl : (a b : L) → (a ≡ b) ⊎ (a ≢ b)) (f f' : K → Option (L × X)) (g g' : L → Option (K × X)) (is : IsInverse f g) (k : K) (l : L) (x : X) where
   round : IsInverse g f

@@ -1,20 +1,10 @@
 -- How a change of the jobs changes the order in which they are returned.
-use Rattle.std.proofs.Common.{◌≡◌, ◌≢◌, ℕ, ◌+◌, ◌<◌, ◌≤◌, false, cond, List, [], ◌∷◌, Some, None, is_some, length, refl, sym, ap, ◌∙◌, arith}
-use Rattle.std.specs.Prelude.{map as list_map, nat_lt, option_map}
-use Rattle.std.specs.List.{All, AllByRecursion}
-use Rattle.std.specs.declared.cmp.Ordering.TheVariants.{Less}
-use Rattle.std.specs.Ordering.{is_lt, eq_by_cmp}
+use Rattle.std.proofs.Common.{◌≡◌, ◌≢◌, ◌+◌, ◌<◌, ◌≤◌, [], ◌∷◌, ◌∙◌}
+use Rattle.slotmap_scheduler.proofs.Common.{ℕ, false, cond, List, Some, None, is_some, length, refl, sym, ap, arith, list_map, nat_lt, option_map, All, AllByRecursion, Less}
+use Rattle.slotmap_scheduler.proofs.Common.{eq_by_cmp, put, by_order, nat_tests, length-map, nil_from_length, All-map, All-from_recursion, Key, key_cmp, keys_total, exact_keys}
+use Rattle.slotmap_scheduler.proofs.Common.{alike_or_apart, same_or_other, tied, itself, get_after_insert, get_after_remove, len_removed, Turn, turn_cmp, precedes, IsInverse}
+use Rattle.slotmap_scheduler.proofs.Common.{job_of, in_turn, without, with_job, Timed, by_turn, seen, waiting_of, InOrder}
 use Rattle.std.specs.FinMap as map
-use Rattle.std.specs.FinMap.Entries.{put, by_order}
-use Rattle.std.proofs.lemmas.Bool.Decides.{nat_tests}
-use Rattle.std.proofs.lemmas.List.{length-map, nil_from_length}
-use Rattle.std.proofs.lemmas.List.Elements.{All-map, All-from_recursion}
-use Rattle.slotmap.specs.Words.{Key, key_cmp}
-use Rattle.slotmap.proofs.Callers.{keys_total, exact_keys, alike_or_apart, same_or_other, tied, itself, get_after_insert, get_after_remove, len_removed}
-use Rattle.slotmap_scheduler.specs.Timed.{Turn, turn_cmp}
-use Rattle.slotmap_scheduler.specs.Inverse.{IsInverse}
-use Rattle.slotmap_scheduler.specs.Schedule.{job_of, in_turn, without, with_job}
-use Rattle.slotmap_scheduler.specs.Timed.{Timed, by_turn, seen, waiting_of, InOrder}
 use Rattle.slotmap_scheduler.proofs.Inverse.{put as inverse_put, dropped}
 use Rattle.slotmap_scheduler.proofs.Sorted.{none_there, all_of, entries_put, insert_same, puts, drops}
 use Rattle.slotmap_scheduler.proofs.Timed.{exact_turns, turns_total, in_order}
@@ -23,10 +13,12 @@ use Rattle.slotmap_scheduler.proofs.Timed.{exact_turns, turns_total, in_order}
 last_turn : {A : Type 0} (time count u v : ℕ) → v < count → (a b c : A) → by_order (turn_cmp (time, count) (u, v)) a b c ≡ cond (nat_lt time u) a c
 last_turn time count u v less a b c = grind (arith, nat_tests)
 
-least_turn : (t u : Turn) → t ≢ u → is_lt (turn_cmp u t) ≡ false → turn_cmp t u ≡ Less
+least_turn : (t u : Turn) → t ≢ u → precedes u t ≡ false → turn_cmp t u ≡ Less
+unfolding precedes
 least_turn t u other not_before = grind (arith, nat_tests, exact_turns t u)
 
-pub time_up_to : (t u : Turn) → is_lt (turn_cmp u t) ≡ false → t.0 ≤ u.0
+time_up_to : (t u : Turn) → precedes u t ≡ false → t.0 ≤ u.0
+unfolding precedes
 time_up_to t u not_before = grind (arith, nat_tests)
 
 module _ {T : Type 0} where
@@ -70,12 +62,6 @@ module _ {T : Type 0} where
 
     -- a new job is behind all of its time
     module _ (k : Key) (time : ℕ) (job : T) (new : map.get jobs k ≡ None) where
-      added_numbered : (q : Key) (t : Turn) (x : T) → map.get (map.insert jobs k ((time, count), job)) q ≡ Some (t, x) → t.1 < count + 1
-      added_numbered q t x there = grind (arith, get_after_insert keys_total exact_keys jobs k ((time, count), job) q (t, x) there, is.numbered q t x)
-
-      added_len : map.len (map.insert (by_turn jobs) (time, count) (k, job)) ≡ map.len (map.insert jobs k ((time, count), job))
-      added_len = grind (arith, map.len-insert turns_total (by_turn jobs) (time, count) (k, job), map.len-insert keys_total jobs k ((time, count), job), is.len, free time)
-
       added_inverse : IsInverse (map.get (map.insert jobs k ((time, count), job))) (map.get (map.insert (by_turn jobs) (time, count) (k, job)))
       added_inverse = inverse_put same_or_other (alike_or_apart turns_total exact_turns) _ _ _ _ is.turns k (time, count) job
           (puts keys_total exact_keys jobs k (time, count) job (λ q x there. absurd (let less = is.numbered q (time, count) x there in omega arith)))
@@ -83,7 +69,9 @@ module _ {T : Type 0} where
 
       pub added : InOrder (map.insert jobs k ((time, count), job)) (count + 1) × (waiting_of (map.insert jobs k ((time, count), job)) ≡ in_turn (k, (time, job)) (waiting_of jobs))
       added =
-          let with = in_order _ (count + 1) _ added_inverse added_len added_numbered in
+          let with = in_order (map.insert jobs k ((time, count), job)) (count + 1) (map.insert (by_turn jobs) (time, count) (k, job)) added_inverse
+          (grind (arith, map.len-insert turns_total (by_turn jobs) (time, count) (k, job), map.len-insert keys_total jobs k ((time, count), job), is.len, free time))
+          (λ q t x there. grind (arith, get_after_insert keys_total exact_keys jobs k ((time, count), job) q (t, x) there, is.numbered q t x)) in
           let before = all_of turns_total exact_turns (λ t x. t.1 < count) (by_turn jobs) (λ t x there. is.numbered x.0 t x.1 (is.turns.from t x.0 x.1 there)) in
           (with.0, with.1 ∙ ap (list_map seen) (map.entries-insert turns_total (by_turn jobs) (time, count) (k, job)) ∙ put_last time count k job (map.entries (by_turn jobs)) before)
 
@@ -95,11 +83,9 @@ module _ {T : Type 0} where
       abbrev others : List (Turn × (Key × T))
       others = map.entries (map.remove (by_turn jobs) t)
 
-      other_key : (u : Turn) (x : Key × T) → map.get (map.remove (by_turn jobs) t) u ≡ Some x → k ≢ x.0
-      other_key u x there = grind (arith, get_after_remove turns_total exact_turns (by_turn jobs) t u x there, is.turns.from u x.0 x.1)
-
       other_keys : AllByRecursion (IsOther k) others
-      other_keys = all_of turns_total exact_turns (λ u x. k ≢ x.0) (map.remove (by_turn jobs) t) other_key
+      other_keys = all_of turns_total exact_turns (λ u x. k ≢ x.0) (map.remove (by_turn jobs) t)
+          (λ u x there. grind (arith, get_after_remove turns_total exact_turns (by_turn jobs) t u x there, is.turns.from u x.0 x.1))
 
       other_turn : (u : Turn) (x : Key × T) → map.get (map.remove (by_turn jobs) t) u ≡ Some x → t ≢ u
       other_turn u x there = grind (arith, get_after_remove turns_total exact_turns (by_turn jobs) t u x there)
@@ -122,21 +108,17 @@ module _ {T : Type 0} where
 
       -- a job is written in its place
       module _ (w : T) where
-        written_numbered : (q : Key) (u : Turn) (x : T) → map.get (map.insert jobs k (t, w)) q ≡ Some (u, x) → u.1 < count
-        written_numbered q u x there = grind (arith, get_after_insert keys_total exact_keys jobs k (t, w) q (u, x) there, is.numbered q u x, is.numbered k t job at)
-
-        written_len : map.len (map.insert (by_turn jobs) t (k, w)) ≡ map.len (map.insert jobs k (t, w))
-        written_len = grind (arith, map.len-insert turns_total (by_turn jobs) t (k, w), map.len-insert keys_total jobs k (t, w), is.len, at, turn_at)
-
         pub written : InOrder (map.insert jobs k (t, w)) count × (waiting_of (map.insert jobs k (t, w)) ≡ with_job k w (waiting_of jobs))
         written =
             let with = in_order (map.insert jobs k (t, w)) count (map.insert (by_turn jobs) t (k, w)) (inverse_put same_or_other (alike_or_apart turns_total exact_turns) _ _ _ _ is.turns k t w
             (puts keys_total exact_keys jobs k t w (λ q x there. grind (arith, is.turns.to q t x there, turn_at)))
-            (puts turns_total exact_turns (by_turn jobs) t k w (λ u x there. grind (arith, is.turns.from u k x there, at)))) written_len written_numbered in
+            (puts turns_total exact_turns (by_turn jobs) t k w (λ u x there. grind (arith, is.turns.from u k x there, at))))
+            (grind (arith, map.len-insert turns_total (by_turn jobs) t (k, w), map.len-insert keys_total jobs k (t, w), is.len, at, turn_at))
+            (λ q u x there. grind (arith, get_after_insert keys_total exact_keys jobs k (t, w) q (u, x) there, is.numbered q u x, is.numbered k t job at)) in
             (with.0, with.1 ∙ ap (list_map seen) (entries_put turns_total exact_turns (by_turn jobs) t (k, w)) ∙ sym (ap (λ es. with_job k w (list_map seen es)) among ∙ put_with_job k t job w others other_keys))
 
       -- it is the first, if no other turn is before its own
-      module _ (least : (q : Key) (u : Turn) (x : T) → map.get jobs q ≡ Some (u, x) → is_lt (turn_cmp u t) ≡ false) where
+      module _ (least : (q : Key) (u : Turn) (x : T) → map.get jobs q ≡ Some (u, x) → precedes u t ≡ false) where
         put_first : (es : List (Turn × (Key × T))) → AllByRecursion (λ (e : Turn × (Key × T)). turn_cmp t e.0 ≡ Less) es → put turn_cmp t (k, job) es ≡ (t, (k, job)) ∷ es
         put_first [] all = refl
         put_first (e ∷ es) all = ap (λ o. by_order o ((t, (k, job)) ∷ e ∷ es) ((e.0, (k, job)) ∷ es) (e ∷ put turn_cmp t (k, job) es)) all.0

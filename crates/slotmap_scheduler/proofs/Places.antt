@@ -1,37 +1,22 @@
 -- The places of the jobs in the heap, and how a change of both keeps them.
-use Rattle.std.proofs.Common.{◌≡◌, ◌≢◌, ℕ, ◌+◌, ◌-◌, ◌<◌, ◌≤◌, ◌⊎◌, true, false, List, Option, Some, None, is_some, get_or, length, refl, sym, ap, ◌∙◌, inl, inr, arith}
-use Rattle.std.specs.Prelude.{nat_lt, option_map, vec_len, vec_capacity}
-use Rattle.std.specs.declared.vec.Vec.{Vec}
-use Rattle.std.specs.List.{SwappedAt}
+use Rattle.std.proofs.Common.{◌≡◌, ◌≢◌, ◌+◌, ◌-◌, ◌<◌, ◌≤◌, ◌∙◌}
+use Rattle.slotmap_scheduler.proofs.Common.{ℕ, true, List, Option, Some, None, get_or, length, refl, sym, ap, arith, option_map, vec_len}
+use Rattle.slotmap_scheduler.proofs.Common.{vec_capacity, Vec, SwappedAt, slice_get_past, slice_get-get_or, slice_get_read, Key, Content, with_value, keys}
+use Rattle.slotmap_scheduler.proofs.Common.{get-insert_here, get-insert_other, same_or_other, live-remove_other, mapped-written, Job, Entry, Turn, Jobs, no_entry, entry_at}
+use Rattle.slotmap_scheduler.proofs.Common.{spot_of, IsPlaced, IsHeap, IsHeapBut, Resettled, unplaced, timed}
 use Rattle.std.specs.FinMap as map
-use Rattle.std.proofs.lemmas.Bool.Decides.{nat_tests}
-use Rattle.std.proofs.lemmas.Option.{slice_get_past, slice_get-get_or, slice_get_read}
-use Rattle.slotmap.specs.Words.{Key, Content, with_value}
-use Rattle.slotmap.proofs.Callers.{keys, get-insert_here, get-insert_other, same_or_other, live-remove_other}
-use Rattle.slotmap_keylist.proofs.Mapped.{mapped-written}
-use Rattle.slotmap_scheduler.specs.declared.Job.{Job}
-use Rattle.slotmap_scheduler.specs.declared.heap.Entry.{Entry}
-use Rattle.slotmap_scheduler.specs.Timed.{Turn}
-use Rattle.slotmap_scheduler.specs.Heap.{Jobs, no_entry, entry_at, spot_of, IsPlaced, IsHeap, IsHeapBut, Resettled, unplaced, timed}
 use Rattle.slotmap_scheduler.proofs.Inverse.{exchanged, moved, put, dropped}
-use Rattle.slotmap_scheduler.proofs.Ordered.{same_or_not}
-use Rattle.slotmap_scheduler.proofs.Heaps.{heap_put, heap_left}
-
-same_or_past : (i n : ℕ) → (i < n) ⊎ (n ≤ i)
-same_or_past i n = elim (nat_lt i n) as (λ b. nat_lt i n ≡ b → (i < n) ⊎ (n ≤ i)) [ true ↦ λ is. inl (grind (arith, nat_tests)) | false ↦ λ is. inr (grind (arith, nat_tests)) ] refl
+use Rattle.slotmap_scheduler.proofs.Heaps.{same_or_not, heap_put, heap_left}
 
 -- one list has at j what the other has at i
 pub read_alike : (xs ys : List Entry) (i j : ℕ) → (j < length ys → (i < length xs) × (get_or ys j no_entry ≡ get_or xs i no_entry)) → (length ys ≤ j → length xs ≤ i) → entry_at ys j ≡ entry_at xs i
-read_alike xs ys i j inside past = elim (same_or_past j (length ys)) [
-  | inl within ↦ (let both = inside within in ap (option_map _) (slice_get-get_or ys j no_entry within ∙ ap Some both.1 ∙ sym (slice_get-get_or xs i no_entry both.0)))
-  | inr beyond ↦ ap (option_map _) (slice_get_past ys j beyond ∙ sym (slice_get_past xs i (past beyond)))
-]
+read_alike xs ys i j inside past = grind (arith, slice_get-get_or ys j no_entry, slice_get_past ys j, slice_get-get_or xs i no_entry, slice_get_past xs i)
 
 pub entry_is : {Z : Type 0} (heap : Vec Entry Z) (i : ℕ) (x : Entry) → i < vec_len heap → x ≡ get_or heap.items i x → entry_at heap.items i ≡ Some (x.handle, x.turn)
 entry_is heap i x within is = ap (option_map (λ (e : Entry). (e.handle, e.turn))) (slice_get_read heap.items (vec_len heap) i x heap.ok.0 within is)
 
 pub entry_within : (xs : List Entry) (i : ℕ) (y : Key × Turn) → entry_at xs i ≡ Some y → i < length xs
-entry_within xs i y there = elim (same_or_past i (length xs)) [ inl within ↦ within | inr past ↦ absurd (let e = slice_get_past xs i past in cc) ]
+entry_within xs i y there = grind (arith, slice_get_past xs i)
 
 pub one_place : (o : Option (ℕ × Turn)) {p q : ℕ} {t u : Turn} → o ≡ Some (p, t) → o ≡ Some (q, u) → p ≡ q
 one_place o x y = grind arith
@@ -51,10 +36,7 @@ place_written jobs k j p found = mapped-written unplaced jobs (with_value jobs k
 module _ {T Z : Type 0} (jobs : Content (Job T)) (heap : Vec Entry Z) (is : IsPlaced jobs.live heap.items) where
   -- the handle of an entry is live
   pub placed_live : (i : ℕ) (k : Key) (t : Turn) → entry_at heap.items i ≡ Some (k, t) → map.contains_key jobs.live k ≡ true
-  placed_live i k t there = some_there (map.get jobs.live k) (is.from i k t there)
-    where
-      some_there : (o : Option (Job T)) → option_map {U = ℕ × Turn} (λ (j : Job T). (j.place, j.turn)) o ≡ Some (i, t) → is_some o ≡ true
-      some_there o at = grind arith
+  placed_live i k t there = grind (arith, is.from i k t there)
 
   pub read_live : (i : ℕ) (x : Entry) → i < vec_len heap → x ≡ get_or heap.items i x → map.contains_key jobs.live x.handle ≡ true
   read_live i x within read = placed_live i x.handle x.turn (entry_is heap i x within read)
@@ -68,10 +50,10 @@ module _ {T Z : Type 0} (jobs : Content (Job T)) (heap : Vec Entry Z) (is : IsPl
     in_heap = omega (arith, entry_within heap.items j.place (k, j.turn) (is.to k j.place j.turn spot_k), heap.ok.0)
 
     spot_gone : spot_of (map.remove jobs.live k) k ≡ None
-    spot_gone = let none : map.get (map.remove jobs.live k) k ≡ None = grind (arith, keys) in ap (option_map _) none
+    spot_gone = grind (arith, keys)
 
     spot_left : (q : Key) → q ≢ k → spot_of (map.remove jobs.live k) q ≡ spot_of jobs.live q
-    spot_left q other = let same : map.get (map.remove jobs.live k) q ≡ map.get jobs.live q = grind (arith, keys) in ap (option_map _) same
+    spot_left q other = grind (arith, keys)
 
     module _ (new : Vec Entry Z) (len : vec_len new + 1 ≡ vec_len heap) (by : ((d : Entry) → j.place + 1 < vec_len heap → get_or new.items j.place d ≡ get_or heap.items (vec_len heap - 1) d)
         × ((i : ℕ) (d : Entry) → i ≢ j.place → i + 1 < vec_len heap → get_or new.items i d ≡ get_or heap.items i d)) where

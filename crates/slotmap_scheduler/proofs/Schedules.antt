@@ -1,22 +1,13 @@
 -- What holds of every scheduler, after each call.
-use Rattle.std.proofs.Common.{◌≡◌, ℕ, ◌+◌, ◌≤◌, ◌⊎◌, true, List, [], ◌∷◌, Some, None, zero, suc, is_some, refl, sym, ap, ◌∙◌, inl, inr, arith}
-use Rattle.std.specs.Prelude.{vec_len, vec_capacity, option_map}
-use Rattle.std.specs.declared.vec.Vec.{Vec}
-use Rattle.std.specs.List.{list_any}
-use Rattle.std.specs.Ordering.{eq_by_cmp}
-use Rattle.std.specs.Cmp.{nat_cmp_total}
+use Rattle.std.proofs.Common.{◌≡◌, ◌+◌, ◌≤◌, ◌⊎◌, [], ◌∷◌, ◌∙◌}
+use Rattle.slotmap_scheduler.proofs.Common.{ℕ, true, List, Some, None, zero, suc, is_some, refl, sym, ap, inl, inr, arith, vec_len, vec_capacity, option_map, Vec, list_any}
+use Rattle.slotmap_scheduler.proofs.Common.{eq_by_cmp, nat_cmp_total, exact_unsigned, Key, key_cmp, Content, IsContent, Inserts, Removes, Leaves, with_value, keys, keys_total}
+use Rattle.slotmap_scheduler.proofs.Common.{exact_keys, inserted_fresh, inserted_len, removed_len, none_of, itself, tied, content-mapped, get-mapped, len-mapped}
+use Rattle.slotmap_scheduler.proofs.Common.{mapped-empty, mapped-insert, mapped-with, map_values, Job, Entry, Schedule, job_of, in_turn, without, with_job, Turn, waiting_of}
+use Rattle.slotmap_scheduler.proofs.Common.{InOrder, unplaced, timed, spot_of, entry_at, IsIndexed, handles_of, IsSchedule}
+use Rattle.slotmap.proofs.Callers.{some_entry}
 use Rattle.std.specs.FinMap as map
 use Rattle.std.specs.FinSet as set
-use Rattle.std.proofs.lemmas.Map.Lookups.{exact_unsigned}
-use Rattle.slotmap.specs.Words.{Key, key_cmp, Content, IsContent, Inserts, Removes, Leaves, with_value}
-use Rattle.slotmap.proofs.Callers.{keys, keys_total, exact_keys, inserted_fresh, inserted_len, removed_len, len_removed, none_of, itself, tied}
-use Rattle.slotmap_keylist.proofs.Mapped.{content-mapped, get-mapped, len-mapped, mapped-empty, mapped-insert, mapped-with}
-use Rattle.slotmap_keylist.specs.Mapped.{map_values}
-use Rattle.slotmap_scheduler.specs.declared.Job.{Job}
-use Rattle.slotmap_scheduler.specs.declared.heap.Entry.{Entry}
-use Rattle.slotmap_scheduler.specs.Schedule.{Schedule, job_of, in_turn, without, with_job}
-use Rattle.slotmap_scheduler.specs.Timed.{Turn, waiting_of, InOrder}
-use Rattle.slotmap_scheduler.specs.Heap.{unplaced, timed, spot_of, entry_at, IsIndexed, handles_of, IsSchedule}
 use Rattle.slotmap_scheduler.proofs.Order.{added, removed, written, none_in_order, none_wait, job_is}
 use Rattle.slotmap_scheduler.proofs.Handles.{handles_written}
 use Rattle.slotmap_scheduler.proofs.Inverse.{alike}
@@ -57,11 +48,7 @@ module _ {T Z : Type 0} (jobs : Content (Job T)) (count : ℕ) (heap : Vec Entry
     unused = none_of (map.get (timed jobs).live k) (inserted_fresh true (timed jobs) k ((time, count), job) (timed jobs') well inserts)
 
     put_next : (map.len jobs'.next + 1 ≡ map.len jobs.next) ⊎ (map.len jobs'.next ≡ 0)
-    put_next = elim (well.offers inserts.below_limit) [
-      | inl vacant ↦ inl (ap (λ n. map.len n + 1) inserts.next ∙ len_removed nat_cmp_total exact_unsigned jobs.next k.index
-          (ap (λ (x : Key). map.contains_key jobs.next x.index) inserts.offered ∙ ap is_some vacant))
-      | inr none ↦ inr (let e = ap map.len inserts.next in let f = map.len-remove nat_cmp_total jobs.next k.index in grind arith)
-    ]
+    put_next = grind (arith, well.offers inserts.below_limit, map.len-remove nat_cmp_total jobs.next k.index, ap map.len inserts.next, inserts.offered, some_entry nat_cmp_total exact_unsigned jobs.next k.index)
 
     put_order : InOrder (timed jobs').live (count + 1) × (waiting_of (timed jobs').live ≡ in_turn (k, (time, job)) (waiting_of (timed jobs).live))
     put_order = rw inserts.live (added (timed jobs).live count is.order k time job unused)

@@ -1,22 +1,10 @@
 -- What a scheduler's user sees, by what its map holds.
-use Rattle.std.proofs.Common.{◌≡◌, ℕ, ◌<◌, false, cond, List, [], ◌∷◌, Bor, Option, Some, None, is_some, option_copied, get_or, length, refl, sym, ap, ◌∙◌, arith}
-use Rattle.std.specs.Prelude.{map as list_map, slice_get}
-use Rattle.std.specs.declared.vec.Vec.{Vec}
-use Rattle.std.specs.List.{All}
-use Rattle.std.specs.Option.{option_map}
+use Rattle.std.proofs.Common.{◌≡◌, ◌<◌, [], ◌∷◌, ◌∙◌}
+use Rattle.slotmap_scheduler.proofs.Common.{ℕ, false, cond, List, Bor, Option, Some, None, is_some, option_copied, length, refl, sym, ap, arith, list_map, slice_get, Vec}
+use Rattle.slotmap_scheduler.proofs.Common.{All, option_map, find, length-map, slice_get-get_or, Key, key_cmp, Content, keys_total, exact_keys, itself, get-mapped, len-mapped}
+use Rattle.slotmap_scheduler.proofs.Common.{Job, Entry, Waiting, job_of, without, ListsJobs, shown, Turn, waiting_of, InOrder, precedes, no_entry, turn_at, entry_at, unplaced}
+use Rattle.slotmap_scheduler.proofs.Common.{timed, IsSchedule}
 use Rattle.std.specs.FinMap as map
-use Rattle.std.specs.FinMap.Entries.{find}
-use Rattle.std.proofs.lemmas.List.{length-map}
-use Rattle.std.proofs.lemmas.Option.{slice_get-get_or}
-use Rattle.slotmap.specs.Words.{Key, key_cmp, Content}
-use Rattle.slotmap.proofs.Callers.{keys_total, exact_keys, itself}
-use Rattle.slotmap_keylist.proofs.Mapped.{get-mapped, len-mapped}
-use Rattle.slotmap_scheduler.specs.declared.Job.{Job}
-use Rattle.slotmap_scheduler.specs.declared.heap.Entry.{Entry}
-use Rattle.slotmap_scheduler.specs.Schedule.{Waiting, job_of, without}
-use Rattle.slotmap_scheduler.specs.Listed.{ListsJobs, shown}
-use Rattle.slotmap_scheduler.specs.Timed.{Turn, waiting_of, InOrder}
-use Rattle.slotmap_scheduler.specs.Heap.{precedes, no_entry, turn_at, entry_at, unplaced, timed, IsSchedule}
 use Rattle.slotmap_scheduler.proofs.Order.{job_is, len_is, waits_first, none_due, none_wait}
 use Rattle.slotmap_scheduler.proofs.Heaps.{top_first}
 use Rattle.slotmap_scheduler.proofs.Places.{entry_within}
@@ -28,38 +16,23 @@ none_copied r o is none = grind arith
 module _ {T : Type 0} (jobs : Content (Job T)) (count : ℕ) (is : InOrder (timed jobs).live count) (k : Key) where
   -- the time and the job of a handle
   seen_is : job_of k (waiting_of (timed jobs).live) ≡ option_map (λ (j : Job T). (j.turn.0, j.job)) (map.get jobs.live k)
-  seen_is = job_is (timed jobs).live count is k ∙ ap (option_map (λ (x : Turn × T). (x.0.0, x.1))) (get-mapped unplaced jobs.live k) ∙ twice (map.get jobs.live k)
-    where
-      twice : (o : Option (Job T)) → option_map {U = ℕ × T} (λ (x : Turn × T). (x.0.0, x.1)) (option_map unplaced o) ≡ option_map {U = ℕ × T} (λ (j : Job T). (j.turn.0, j.job)) o
-      twice o = grind arith
+  seen_is = grind (arith, job_is (timed jobs).live count is k, get-mapped unplaced jobs.live k)
 
   pub job_seen : option_map (λ (j : Job T). j.job) (map.get jobs.live k) ≡ option_map (λ (due : ℕ × T). due.1) (job_of k (waiting_of (timed jobs).live))
-  job_seen = sym (ap (option_map (λ (due : ℕ × T). due.1)) seen_is ∙ twice (map.get jobs.live k))
-    where
-      twice : (o : Option (Job T)) → option_map (λ (due : ℕ × T). due.1) (option_map {U = ℕ × T} (λ (j : Job T). (j.turn.0, j.job)) o) ≡ option_map (λ (j : Job T). j.job) o
-      twice o = grind arith
+  job_seen = grind (arith, seen_is)
 
   pub due_seen : option_map (λ (j : Job T). j.turn.0) (map.get jobs.live k) ≡ option_map (λ (due : ℕ × T). due.0) (job_of k (waiting_of (timed jobs).live))
-  due_seen = sym (ap (option_map (λ (due : ℕ × T). due.0)) seen_is ∙ twice (map.get jobs.live k))
-    where
-      twice : (o : Option (Job T)) → option_map (λ (due : ℕ × T). due.0) (option_map {U = ℕ × T} (λ (j : Job T). (j.turn.0, j.job)) o) ≡ option_map (λ (j : Job T). j.turn.0) o
-      twice o = grind arith
+  due_seen = grind (arith, seen_is)
 
   pub contains_seen : map.contains_key jobs.live k ≡ is_some (job_of k (waiting_of (timed jobs).live))
-  contains_seen = sym (ap is_some seen_is ∙ same (map.get jobs.live k))
-    where
-      same : (o : Option (Job T)) → is_some (option_map {U = ℕ × T} (λ (j : Job T). (j.turn.0, j.job)) o) ≡ is_some o
-      same o = grind arith
+  contains_seen = grind (arith, seen_is)
 
   pub none_seen : map.get jobs.live k ≡ None → job_of k (waiting_of (timed jobs).live) ≡ None
-  none_seen none = seen_is ∙ ap (option_map (λ (j : Job T). (j.turn.0, j.job))) none
+  none_seen none = grind (arith, seen_is)
 
   -- the job of a handle that was found
   pub seen_job : (j : Job T) → map.get jobs.live k ≡ Some j → (before : ℕ) (job : T) → job_of k (waiting_of (timed jobs).live) ≡ Some (before, job) → j.job ≡ job
-  seen_job j found before job seen = of_some (map.get jobs.live k) found (sym seen_is ∙ seen)
-    where
-      of_some : (o : Option (Job T)) → o ≡ Some j → option_map {U = ℕ × T} (λ (i : Job T). (i.turn.0, i.job)) o ≡ Some (before, job) → j.job ≡ job
-      of_some o x y = grind arith
+  seen_job j found before job seen = grind (arith, seen_is)
 
 -- a job as it is in the map: with its place, and without
 spot_there : {T : Type 0} (o : Option (Job T)) (t : Turn) (x : T) → option_map unplaced o ≡ Some (t, x) → (p : ℕ) × (option_map {U = ℕ × Turn} (λ (j : Job T). (j.place, j.turn)) o ≡ Some (p, t))
@@ -70,13 +43,10 @@ job_there : {T : Type 0} (o : Option (Job T)) (p : ℕ) (t : Turn) → option_ma
 job_there None p t is = absurd (cc)
 job_there (Some j) p t is = (j.job, grind arith)
 
-turn_of : (o : Option Entry) (e : Entry) (k : Key) (t : Turn) → o ≡ Some e → option_map {U = Key × Turn} (λ (e : Entry). (e.handle, e.turn)) o ≡ Some (k, t) → e.turn ≡ t
-turn_of o e k t is there = grind arith
-
 -- the job at the top of the heap
 module _ {T Z : Type 0} (jobs : Content (Job T)) (count : ℕ) (heap : Vec Entry Z) (is : IsSchedule jobs count heap) where
   turn_there : (i : ℕ) (k : Key) (t : Turn) → entry_at heap.items i ≡ Some (k, t) → turn_at heap.items i ≡ t
-  turn_there i k t there = turn_of (slice_get heap.items i) (get_or heap.items i no_entry) k t (slice_get-get_or heap.items i no_entry (entry_within heap.items i (k, t) there)) there
+  turn_there i k t there = grind (arith, slice_get-get_or heap.items i no_entry (entry_within heap.items i (k, t) there))
 
   module _ (e : Entry) (top : slice_get heap.items 0 ≡ Some e) where
     top_entry : entry_at heap.items 0 ≡ Some (e.handle, e.turn)
@@ -90,7 +60,7 @@ module _ {T Z : Type 0} (jobs : Content (Job T)) (count : ℕ) (heap : Vec Entry
         let spot = spot_there (map.get jobs.live q) u x (sym (get-mapped unplaced jobs.live q) ∙ there) in
         let at = is.indexed.placed.to q spot.0 u spot.1 in
         let within = entry_within heap.items spot.0 (q, u) at in
-        (λ n. precedes (sym (turn_there spot.0 q u at) n) (sym (turn_there 0 e.handle e.turn top_entry) n)) ∙ top_first heap is.indexed.ordered spot.0 (omega (arith, heap.ok.0))
+        (λ n. precedes (sym (turn_there spot.0 q u at) n) (sym (turn_there 0 e.handle e.turn top_entry) n)) ∙ top_first heap.items is.indexed.ordered spot.0 spot.0 (omega arith) within
 
     pub top_waits : (job : T) × (waiting_of (timed jobs).live ≡ (e.handle, (e.turn.0, job)) ∷ without e.handle (waiting_of (timed jobs).live))
     top_waits = (top_job.0, waits_first (timed jobs).live count is.order e.handle e.turn top_job.0 top_job.1 least)

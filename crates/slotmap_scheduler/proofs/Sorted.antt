@@ -1,17 +1,9 @@
 -- The entries of a finite map, in the order of their keys.
-use Rattle.std.proofs.Common.{◌≡◌, ◌≢◌, ◌&&◌, Bool, true, false, cond, T, List, [], ◌∷◌, Option, Some, None, length, refl, sym, ap, subst, ◌∙◌, arith}
-use Rattle.std.specs.Prelude.{map as list_map, option_map, unwrap_or}
-use Rattle.std.specs.declared.cmp.Ordering.{Ordering}
-use Rattle.std.specs.declared.cmp.Ordering.TheVariants.{Less, Equal, Greater}
-use Rattle.std.specs.Ordering.{is_lt, is_eq, eq_by_cmp}
-use Rattle.std.specs.Cmp.{IsTotalOrder}
-use Rattle.std.specs.List.{AllByRecursion, AllZip}
+use Rattle.std.proofs.Common.{◌≡◌, ◌&&◌, [], ◌∷◌, ◌∙◌}
+use Rattle.slotmap_scheduler.proofs.Common.{Bool, true, false, cond, T, List, Option, Some, None, length, refl, sym, ap, subst, arith, list_map, option_map, unwrap_or, Ordering}
+use Rattle.slotmap_scheduler.proofs.Common.{is_lt, eq_by_cmp, IsTotalOrder, AllByRecursion, AllZip, find, put, below_all, is_sorted}
+use Rattle.slotmap_scheduler.proofs.Common.{CmpEqualImpliesEq, length-map, IsCloneOf, tied, itself}
 use Rattle.std.specs.FinMap as map
-use Rattle.std.specs.FinMap.Entries.{find, put, below_all, is_sorted}
-use Rattle.std.proofs.lemmas.Map.Lookups.{CmpEqualImpliesEq}
-use Rattle.std.proofs.lemmas.List.{length-map}
-use Rattle.slotmap.specs.Words.{IsCloneOf}
-use Rattle.slotmap.proofs.Callers.{tied, itself}
 use Rattle.slotmap_scheduler.proofs.Inverse.{Puts, Drops}
 
 first : (a b : Bool) → T (a && b) → T a
@@ -24,22 +16,15 @@ second false b p = absurd p
 
 -- options with the same values
 pub same_option : {A : Type 0} (a b : Option A) → ((x : A) → a ≡ Some x → b ≡ Some x) → ((x : A) → b ≡ Some x → a ≡ Some x) → a ≡ b
-same_option None None to from = refl
-same_option None (Some y) to from = from y refl
-same_option (Some x) b to from = sym (to x refl)
+same_option a b to from = grind arith
 
 pub none_there : {A : Type 0} (o : Option A) → ((x : A) → o ≡ Some x → ⊥) → o ≡ None
-none_there None not_some = refl
-none_there (Some x) not_some = absurd (not_some x refl)
+none_there o not_some = grind arith
 
 module _ {K X : Type 0} {R : K → K → Ordering} (total : IsTotalOrder R) (exact : CmpEqualImpliesEq R) where
   below_none : (q : K) (es : List (K × X)) → T (below_all R q es) → find R q es ≡ None
   below_none q [] below = refl
-  below_none q (e ∷ es) below = elim (R q e.0) as (λ o. T (is_lt o && below_all R q es) → cond (is_eq o) (Some e.1) (find R q es) ≡ None) [
-    | Less ↦ λ rest. below_none q es rest
-    | Equal ↦ λ no. absurd no
-    | Greater ↦ λ no. absurd no
-  ] below
+  below_none q (e ∷ es) below = grind (arith, below_none q es)
 
   -- what is found behind the first entry has another key
   later : (e : K × X) (es : List (K × X)) (q : K) (v : X) → find R e.0 es ≡ None → find R q es ≡ Some v → cond (eq_by_cmp R q e.0) (Some e.1) (find R q es) ≡ Some v
@@ -57,18 +42,6 @@ module _ {K X : Type 0} {R : K → K → Ordering} (total : IsTotalOrder R) (exa
       )
 
   module _ (m : map.FinMap R X) (k : K) where
-    get_here : (v : X) → map.get (map.insert m k v) k ≡ Some v
-    get_here v = grind (arith, map.get-insert total m k v k, itself total exact k)
-
-    get_other : (v : X) (q : K) → q ≢ k → map.get (map.insert m k v) q ≡ map.get m q
-    get_other v q other = grind (arith, map.get-insert total m k v q, tied total exact q k)
-
-    get_gone : map.get (map.remove m k) k ≡ None
-    get_gone = grind (arith, map.get-remove total m k k, itself total exact k)
-
-    get_left : (q : K) → q ≢ k → map.get (map.remove m k) q ≡ map.get m q
-    get_left q other = grind (arith, map.get-remove total m k q, tied total exact q k)
-
     -- an entry is put among the others
     pub entries_put : (v : X) → map.entries (map.insert m k v) ≡ put R k v (map.entries (map.remove m k))
     entries_put v = ap map.entries (map.same_map total exact (map.insert m k v) (map.insert (map.remove m k) k v) (λ q.
@@ -79,10 +52,10 @@ module _ {K X : Type 0} {R : K → K → Ordering} (total : IsTotalOrder R) (exa
 
 module _ {K L X : Type 0} {R : K → K → Ordering} (total : IsTotalOrder R) (exact : CmpEqualImpliesEq R) (m : map.FinMap R (L × X)) (k : K) where
   pub puts : (l : L) (x : X) → ((q : K) (y : X) → map.get m q ≡ Some (l, y) → q ≡ k) → Puts (map.get m) (map.get (map.insert m k (l, x))) k l x
-  puts l x alone = record { here = get_here total exact m k (l, x); others = get_other total exact m k (l, x); alone = alone }
+  puts l x alone = record { here = grind (arith, map.get-insert total m k (l, x) k, itself total exact k); others = λ q other. grind (arith, map.get-insert total m k (l, x) q, tied total exact q k); alone = alone }
 
   pub drops : Drops (map.get m) (map.get (map.remove m k)) k
-  drops = record { gone = get_gone total exact m k; others = get_left total exact m k }
+  drops = record { gone = grind (arith, map.get-remove total m k k, itself total exact k); others = λ q other. grind (arith, map.get-remove total m k q, tied total exact q k) }
 
 -- maps with the same keys, where Q holds of the two values of each
 module _ {K X : Type 0} {R : K → K → Ordering} (total : IsTotalOrder R) (exact : CmpEqualImpliesEq R) (Q : X → X → Type 0) (m n : map.FinMap R X) (alike : (k : K) → IsCloneOf Q (map.get m k) (map.get n k)) where
@@ -103,14 +76,10 @@ module _ {K X : Type 0} {R : K → K → Ordering} (total : IsTotalOrder R) (exa
   find-other q (e ∷ es) = grind (arith, tied total exact q e.0, find-other q es)
 
   value_other : (o p : Option X) → IsCloneOf Q o p → option_map (λ v. unwrap_or p v) o ≡ p
-  value_other None p is = sym is
-  value_other (Some x) None is = absurd is
-  value_other (Some x) (Some y) is = refl
+  value_other o p is = grind arith
 
   clone_other : (o p : Option X) (x : X) → IsCloneOf Q o p → o ≡ Some x → Q x (unwrap_or p x)
-  clone_other None p x is at = absurd (cc)
-  clone_other (Some y) None x is at = absurd is
-  clone_other (Some y) (Some z) x is at = let same : y ≡ x = cc in subst (λ v. Q v z) same is
+  clone_other o p x is at = grind arith
 
   entries_other : map.entries n ≡ list_map other (map.entries m)
   entries_other =

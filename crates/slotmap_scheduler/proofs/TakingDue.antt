@@ -1,25 +1,11 @@
 -- A loop that takes out the jobs that are due.
-use Rattle.std.proofs.Common.{◌≡◌, ℕ, ◌+◌, ◌<◌, ◌≤◌, Bool, true, false, cond, List, [], ◌∷◌, ◌++◌, Some, None, is_some, length, refl, sym, ap, subst, ◌∙◌, arith, append_assoc, append-nil, map as list_map}
-use Rattle.std.specs.Prelude.{vec_len, vec_capacity}
-use Rattle.std.specs.declared.vec.Vec.{Vec}
-use Rattle.std.specs.List.{All}
-use Rattle.std.specs.Ordering.{eq_by_cmp}
-use Rattle.std.proofs.lemmas.List.Elements.{All-nil, All-push}
-use Rattle.slotmap.specs.Words.{Key, key_cmp, IsSpent, KeepsSpent}
-use Rattle.slotmap.proofs.Callers.{keys_total, exact_keys, tied}
-use Rattle.slotmap_scheduler.specs.Schedule.{Schedule, Waiting, job_of}
-use Rattle.slotmap_scheduler.specs.Listed.{Due, TakesDue}
+use Rattle.std.proofs.Common.{◌≡◌, ◌+◌, ◌<◌, ◌≤◌, ◌⊎◌, [], ◌∷◌, ◌++◌, ◌∙◌}
+use Rattle.slotmap_scheduler.proofs.Common.{ℕ, inl, inr, true, List, None, is_some, length, refl, sym, ap, subst, arith, append_assoc, append-nil, vec_len, vec_capacity, Vec}
+use Rattle.slotmap_scheduler.proofs.Common.{All, map_push, All-nil, All-push, Key, IsSpent, KeepsSpent, keys_total, exact_keys, tied, Schedule, Waiting, job_of, Due, TakesDue}
 
-map-push : {A B : Type 0} (f : A → B) (xs : List A) (x : A) → list_map f (xs ++ x ∷ []) ≡ list_map f xs ++ f x ∷ []
-map-push f [] x = refl
-map-push f (y ∷ xs) x = ap (λ l. f y ∷ l) (map-push f xs x)
-
-gone_or_before : {T : Type 0} (k : Key) (e : Key × (ℕ × T)) (es ws : Waiting T) → ws ≡ e ∷ es → job_of k es ≡ None → (P : Type 0) → (k ≡ e.0 → P) → (job_of k ws ≡ None → P) → P
-gone_or_before k e es ws is none P here before = by (eq_by_cmp key_cmp k e.0) refl
-  where
-    by : (b : Bool) → eq_by_cmp key_cmp k e.0 ≡ b → P
-    by true same = here (tied keys_total exact_keys k e.0 same)
-    by false other = before (ap (job_of k) is ∙ ap (λ b. cond b (Some e.1) (job_of k es)) other ∙ none)
+-- a handle is that of the first job, or it was gone before
+gone : {T : Type 0} (k : Key) (e : Key × (ℕ × T)) (es ws : Waiting T) → ws ≡ e ∷ es → job_of k es ≡ None → (k ≡ e.0) ⊎ (job_of k ws ≡ None)
+gone k e es ws is none = grind (arith, tied keys_total exact_keys k e.0)
 
 module _ {K T Z : Type 0} (data_of : K → Key) (now : ℕ) where
   -- some jobs were taken out, and there is room in the vector for the others
@@ -59,12 +45,11 @@ module _ {K T Z : Type 0} (data_of : K → Key) (now : ℕ) where
         taken = t.taken ++ job ∷ [];
         waited = t.waited ∙ ap (λ l. t.first ++ l) waits ∙ sym (append_assoc t.first (e ∷ []) s'.waiting);
         all_due = All-push (λ (x : Key × (ℕ × T)). x.1.0 ≤ now) t.first e t.all_due le;
-        returned = map-push (λ (x : Key × (ℕ × T)). (x.0, x.1.1)) t.first e ∙ ap (λ l. l ++ (data_of job.0, job.1) ∷ []) t.returned ∙ sym (map-push (λ (x : K × T). (data_of x.0, x.1)) t.taken job);
+        returned = map_push (λ (x : Key × (ℕ × T)). (x.0, x.1.1)) t.first e ∙ ap (λ l. l ++ (data_of job.0, job.1) ∷ []) t.returned ∙ sym (map_push (λ (x : K × T). (data_of x.0, x.1)) t.taken job);
         added = items ∙ ap (λ l. l ++ job ∷ []) t.added ∙ append_assoc start.items t.taken (job ∷ []);
         room = (let had = t.room in let long = ap length waits in omega arith);
         turns = turns ∙ t.turns;
-        for_good = λ k there none. gone_or_before k e s'.waiting s.waiting waits none (IsSpent s'.handles k) (λ same. subst (IsSpent s'.handles) (sym same) spent)
-            (λ before. stale k (t.for_good k there before));
+        for_good = λ k there none. elim (gone k e s'.waiting s.waiting waits none) [ inl same ↦ subst (IsSpent s'.handles) (sym same) spent | inr before ↦ stale k (t.for_good k there before) ];
         stale = λ k h. stale k (t.stale k h);
       }
 

@@ -1,18 +1,9 @@
 -- Jobs by their turns: no two have one turn, so each is found by its turn.
-use Rattle.std.proofs.Common.{◌≡◌, ℕ, ◌<◌, Bool, true, false, cond, List, [], ◌∷◌, Option, Some, refl, sym, ap, ◌∙◌, arith}
-use Rattle.std.specs.Prelude.{map as list_map}
-use Rattle.std.specs.Ordering.{nat_cmp, eq_by_cmp}
-use Rattle.std.specs.Cmp.{IsTotalOrder, nat_cmp_total}
-use Rattle.std.specs.List.{AllByRecursion}
+use Rattle.std.proofs.Common.{◌≡◌, ◌<◌, [], ◌∷◌, ◌∙◌}
+use Rattle.slotmap_scheduler.proofs.Common.{ℕ, List, Some, sym, ap, arith, list_map, nat_cmp, IsTotalOrder, nat_cmp_total}
+use Rattle.slotmap_scheduler.proofs.Common.{AllByRecursion, find, on_total, then_total, CmpEqualImpliesEq, exact_pairs, exact_unsigned, Key, key_cmp, keys_total, exact_keys}
+use Rattle.slotmap_scheduler.proofs.Common.{tied, untied, Turn, turn_cmp, IsInverse, Timed, by_turn, seen, waiting_of, InOrder}
 use Rattle.std.specs.FinMap as map
-use Rattle.std.specs.FinMap.Entries.{find}
-use Rattle.std.proofs.lemmas.Cmp.{on_total, then_total}
-use Rattle.std.proofs.lemmas.Map.Lookups.{CmpEqualImpliesEq, exact_pairs, exact_unsigned}
-use Rattle.slotmap.specs.Words.{Key, key_cmp}
-use Rattle.slotmap.proofs.Callers.{keys_total, exact_keys, tied, untied}
-use Rattle.slotmap_scheduler.specs.Timed.{Turn, turn_cmp}
-use Rattle.slotmap_scheduler.specs.Inverse.{IsInverse}
-use Rattle.slotmap_scheduler.specs.Timed.{Timed, by_turn, seen, waiting_of, InOrder}
 use Rattle.slotmap_scheduler.proofs.Sorted.{same_option, all_of}
 
 pub exact_turns : CmpEqualImpliesEq turn_cmp
@@ -25,32 +16,17 @@ module _ {T : Type 0} where
   abbrev turned : Key × (Turn × T) → Turn × (Key × T)
   turned e = (e.1.0, (e.0, e.1.1))
 
-  later : (t : Turn) (e : Turn × T) (job : T) (b : Bool) (o : Option (Turn × T)) → eq_by_cmp turn_cmp t e.0 ≡ false → cond b (Some e) o ≡ Some (t, job) → o ≡ Some (t, job)
-  later t e job b o other found = grind (arith, untied turns_total exact_turns t e.0)
-
   module _ (jobs : Timed T) where
-    same_found : (q k : Key) (u t : Turn) (y x : T) → t ≡ u → map.get jobs q ≡ Some (u, y) → ◌≡◌ {A = Option (Key × T)} (Some (q, y)) (Some (k, x)) → map.get jobs k ≡ Some (t, x)
-    same_found q k u t y x same there at = grind arith
-
     found_turn : (es : List (Key × (Turn × T))) → AllByRecursion (λ (e : Key × (Turn × T)). map.get jobs e.0 ≡ Some e.1) es → (t : Turn) (k : Key) (job : T)
         → find turn_cmp t (list_map turned es) ≡ Some (k, job) → map.get jobs k ≡ Some (t, job)
-    found_turn [] all t k job = λ at. absurd (cc)
-    found_turn (e ∷ es) all t k job = elim (eq_by_cmp turn_cmp t e.1.0) as (λ b. eq_by_cmp turn_cmp t e.1.0 ≡ b → cond b (Some (e.0, e.1.1)) (find turn_cmp t (list_map turned es)) ≡ Some (k, job) → map.get jobs k ≡ Some (t, job)) [
-      | true ↦ λ same at. same_found e.0 k e.1.0 t e.1.1 job (tied turns_total exact_turns t e.1.0 same) all.0 at
-      | false ↦ λ other at. found_turn es all.1 t k job at
-    ] refl
+    found_turn [] all t k job at = absurd (cc)
+    found_turn (e ∷ es) all t k job at = grind (arith, tied turns_total exact_turns t e.1.0, all.0, found_turn es all.1 t k job)
 
     module _ (one : (k q : Key) (t : Turn) (x y : T) → map.get jobs k ≡ Some (t, x) → map.get jobs q ≡ Some (t, y) → k ≡ q) where
-      same_entry : (k q : Key) (t u : Turn) (x y : T) → t ≡ u → map.get jobs k ≡ Some (t, x) → map.get jobs q ≡ Some (u, y) → ◌≡◌ {A = Option (Key × T)} (Some (q, y)) (Some (k, x))
-      same_entry k q t u x y same at there = grind (arith, one k q t x y)
-
       turn_found : (es : List (Key × (Turn × T))) → AllByRecursion (λ (e : Key × (Turn × T)). map.get jobs e.0 ≡ Some e.1) es → (k : Key) (t : Turn) (job : T)
           → map.get jobs k ≡ Some (t, job) → find key_cmp k es ≡ Some (t, job) → find turn_cmp t (list_map turned es) ≡ Some (k, job)
       turn_found [] all k t job at found = absurd (cc)
-      turn_found (e ∷ es) all k t job at found = elim (eq_by_cmp turn_cmp t e.1.0) as (λ b. eq_by_cmp turn_cmp t e.1.0 ≡ b → cond b (Some (e.0, e.1.1)) (find turn_cmp t (list_map turned es)) ≡ Some (k, job)) [
-        | true ↦ λ same. same_entry k e.0 t e.1.0 job e.1.1 (tied turns_total exact_turns t e.1.0 same) at all.0
-        | false ↦ λ other. turn_found es all.1 k t job at (later t e.1 job (eq_by_cmp key_cmp k e.0) (find key_cmp k es) other found)
-      ] refl
+      turn_found (e ∷ es) all k t job at found = grind (arith, tied turns_total exact_turns t e.1.0, untied turns_total exact_turns t e.1.0, all.0, one e.0 k t e.1.1 job, turn_found es all.1 k t job at)
 
       pub inverse : IsInverse (map.get jobs) (map.get (by_turn jobs))
       unfolding by_turn

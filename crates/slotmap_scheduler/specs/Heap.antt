@@ -1,5 +1,5 @@
 -- How a scheduler keeps its jobs: each in the map, with its place in a heap of turns.
-use Rattle.std.specs.Prelude.{◌≡◌, ℕ, ◌+◌, ◌-◌, ◌<◌, ◌≤◌, Bool, false, List, Option, get_or, length, min, vec_len, vec_capacity, slice_get, option_map}
+use Rattle.std.specs.Prelude.{◌≡◌, ◌≢◌, ℕ, ◌+◌, ◌-◌, ◌/◌, ◌<◌, ◌≤◌, Bool, false, List, Option, get_or, length, min, vec_len, vec_capacity, slice_get, option_map}
 use Rattle.std.specs.declared.vec.Vec.{Vec}
 use Rattle.std.specs.Ordering.{is_lt}
 use Rattle.std.specs.FinMap as map
@@ -8,12 +8,15 @@ use Rattle.slotmap_keylist.specs.Mapped.{map_content}
 use Rattle.slotmap_scheduler.specs.declared.Job.{Job}
 use Rattle.slotmap_scheduler.specs.declared.heap.Entry.{Entry}
 use Rattle.slotmap_scheduler.specs.Inverse.{IsInverse}
-use Rattle.slotmap_scheduler.specs.Ordered.{up, IsOrdered, IsOrderedBut}
 use Rattle.slotmap_scheduler.specs.Timed.{Turn, turn_cmp, InOrder}
 
 -- whether turn a is before turn b
-abbrev pub precedes : Turn → Turn → Bool
+unfoldable pub precedes : Turn → Turn → Bool
 precedes a b = is_lt (turn_cmp a b)
+
+-- the place above a place
+abbrev pub up : ℕ → ℕ
+up c = (c - 1) / 2
 
 -- an entry, for where there is none
 pub no_entry : Entry
@@ -25,11 +28,13 @@ turn_at heap i = (get_or heap i no_entry).turn
 
 -- no turn is before the one above it
 abbrev pub IsHeap : List Entry → Type 0
-IsHeap heap = IsOrdered precedes (length heap) (turn_at heap)
+IsHeap heap = (c : ℕ) → 0 < c → c < length heap → precedes (turn_at heap c) (turn_at heap (up c)) ≡ false
 
 -- the same for all entries but one, which may have any turn
-abbrev pub IsHeapBut : ℕ → List Entry → Type 0
-IsHeapBut at heap = IsOrderedBut precedes (length heap) (turn_at heap) at
+pub record IsHeapBut (at : ℕ) (heap : List Entry) : Type 0 where
+  pub pairs : (c : ℕ) → 0 < c → c < length heap → c ≢ at → up c ≢ at → precedes (turn_at heap c) (turn_at heap (up c)) ≡ false
+  -- none below it is before the one above it
+  pub bridges : (c : ℕ) → 0 < c → c < length heap → up c ≡ at → 0 < at → precedes (turn_at heap c) (turn_at heap (up at)) ≡ false
 
 -- its turn isn't before the one above it
 abbrev pub IsAbove : ℕ → List Entry → Type 0

@@ -2,6 +2,5 @@ pub mod Heap
 pub mod Inverse
 pub mod Lends
 pub mod Listed
-pub mod Ordered
 pub mod Schedule
 pub mod Timed

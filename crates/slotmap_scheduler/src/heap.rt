@@ -5,8 +5,7 @@ ghost use Rattle.std.specs.List.{SwappedAt};
 ghost use Rattle.std.specs.FinMap as map;
 ghost use Rattle.slotmap.specs.Words.{IsContent, IsLive, Inserts, Removes, with_value};
 ghost use Rattle.slotmap_scheduler.specs.declared.Job.{Job as JobOf};
-ghost use Rattle.slotmap_scheduler.specs.Ordered.{up};
-ghost use Rattle.slotmap_scheduler.specs.Heap.{precedes, IsPlaced, IsHeap, IsHeapBut, IsAbove, IsFirstBelow, Resettled, IsIndexed, timed};
+ghost use Rattle.slotmap_scheduler.specs.Heap.{precedes, up, IsPlaced, IsHeap, IsHeapBut, IsAbove, IsFirstBelow, Resettled, IsIndexed, timed};
 
 use crate::Job;
 use slotmap::{DefaultKey, SlotMap};
@@ -22,6 +21,7 @@ pub(crate) struct Entry {
 }
 
 // Whether a turn is before another.
+#[tactic(auto, unfolding(crate::specs::Heap::precedes))]
 fn is_before(a: (u64, u64), b: (u64, u64)) -> bool
     ensures { result ≡ precedes a b }
 {
@@ -65,6 +65,7 @@ fn sift_up<T: Drop>(jobs: &mut Jobs<T>, heap: &mut Vec<Entry>, place: usize) -> 
 }
 
 // The child of an entry whose turn is first.
+#[tactic(auto, unfolding(crate::specs::Heap::precedes))]
 fn first_child(heap: &[Entry], at: usize) -> Option<usize>
     ensures some { IfSome result (λ child. IsFirstBelow at child heap.now) }
     ensures none { IfNone result ((c : ℕ) → 0 < c → up c ≡ at → length heap.now ≤ c) }

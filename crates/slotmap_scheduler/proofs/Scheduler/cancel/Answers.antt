@@ -1,10 +1,6 @@
-use Rattle.std.proofs.Common.{rules, true, is_some, sym, ap, ◌∙◌, arith}
-use Rattle.std.specs.Option.{option_map}
-use Rattle.slotmap.proofs.Callers.{spent_removes, removed_spent}
-use Rattle.slotmap_keylist.proofs.Mapped.{live-mapped, content-mapped}
-use Rattle.slotmap_scheduler.specs.declared.Job.{Job}
-use Rattle.slotmap_scheduler.specs.Timed.{waiting_of}
-use Rattle.slotmap_scheduler.specs.Heap.{unplaced, timed}
+use Rattle.std.proofs.Common.{◌∙◌}
+use Rattle.slotmap_scheduler.proofs.Common.{rules, true, is_some, sym, ap, arith, option_map, spent_removes, removed_spent, live-mapped, content-mapped, Job, waiting_of}
+use Rattle.slotmap_scheduler.proofs.Common.{unplaced, timed}
 use Rattle.slotmap_scheduler.proofs.Schedules.{left_len, left_waits, left_schedule}
 use Rattle.slotmap_scheduler.proofs.Handles.{handles_removed, handles_stale, handles_spent}
 use Rattle.slotmap_scheduler.proofs.Seen.{job_seen, none_seen}

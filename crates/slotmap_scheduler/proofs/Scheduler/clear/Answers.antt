@@ -1,10 +1,6 @@
-use Rattle.std.proofs.Common.{true, is_some, ap, ◌∙◌}
+use Rattle.std.proofs.Common.{◌∙◌}
+use Rattle.slotmap_scheduler.proofs.Common.{true, is_some, ap, key_cmp, spent_leaves, left_spent, mapped-leaves, content-mapped, live-mapped, contains-mapped, Job, unplaced, timed}
 use Rattle.std.specs.FinMap as map
-use Rattle.slotmap.specs.Words.{key_cmp}
-use Rattle.slotmap.proofs.Callers.{spent_leaves, left_spent}
-use Rattle.slotmap_keylist.proofs.Mapped.{mapped-leaves, content-mapped, live-mapped, contains-mapped}
-use Rattle.slotmap_scheduler.specs.declared.Job.{Job}
-use Rattle.slotmap_scheduler.specs.Heap.{unplaced, timed}
 use Rattle.slotmap_scheduler.proofs.Schedules.{schedule_cleared, none_waits}
 use Rattle.slotmap_scheduler.proofs.Handles.{handles_stale, handles_spent}
 use Rattle.slotmap_scheduler.proofs.Seen.{contains_seen}

@@ -1,9 +1,6 @@
-use Rattle.std.proofs.Common.{◌∙◌, arith}
-use Rattle.std.proofs.lemmas.List.Elements.{same_from_all_zip}
-use Rattle.slotmap.proofs.Callers.{clone_len}
-use Rattle.slotmap_keylist.proofs.Mapped.{len-mapped}
-use Rattle.slotmap_scheduler.specs.Heap.{unplaced, timed}
-use Rattle.slotmap_scheduler.proofs.Copied.{clones_job, Clones, timed_clones, schedule_copied, waiting_copied, same_waiting}
+use Rattle.std.proofs.Common.{◌∙◌}
+use Rattle.slotmap_scheduler.proofs.Common.{arith, same_from_all_zip, clone_len, len-mapped, unplaced, timed}
+use Rattle.slotmap_scheduler.proofs.Copied.{clones_job, Clones, timed_clones, schedule_copied, waiting_copied}
 use Rattle.slotmap_scheduler.proofs.Handles.{handles_copied}
 use Rattle.slotmap_scheduler.proofs.Scheduler.clone.Goals as goal
 
@@ -28,7 +25,7 @@ pub returns-clause-clones : goal.returns-clause-clones
 returns-clause-clones g c = rw (← c.self.view_is) (waiting_copied g.T.Clone.is_clone c.self.inside.jobs c.in_ok-jobs.jobs c.in_ok-jobs.ensures.clones c.self.inside.count c.self.inside.heap c.self.invariant)
 
 pub returns-clause-same_if_clones_equal : goal.returns-clause-same_if_clones_equal
-returns-clause-same_if_clones_equal g c same = same_waiting g.T.Clone.is_clone same _ _ (returns-clause-clones g c)
+returns-clause-same_if_clones_equal g c same = same_from_all_zip _ _ _ (returns-clause-clones g c) (λ x y are i. (are.0 i, (are.1.0 i, same x.1.1 y.1.1 are.1.1 i)))
 
 pub returns-clause-handles : goal.returns-clause-handles
 returns-clause-handles g c =

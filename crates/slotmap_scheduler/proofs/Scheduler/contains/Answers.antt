@@ -1,7 +1,5 @@
-use Rattle.std.proofs.Common.{sym, ◌∙◌}
-use Rattle.slotmap.proofs.Callers.{contains-keys_of}
-use Rattle.slotmap_keylist.proofs.Mapped.{contains-mapped}
-use Rattle.slotmap_scheduler.specs.Heap.{unplaced, timed}
+use Rattle.std.proofs.Common.{◌∙◌}
+use Rattle.slotmap_scheduler.proofs.Common.{sym, contains-keys_of, contains-mapped, unplaced, timed}
 use Rattle.slotmap_scheduler.proofs.Seen.{contains_seen}
 use Rattle.slotmap_scheduler.proofs.Scheduler.contains.Goals as goal
 

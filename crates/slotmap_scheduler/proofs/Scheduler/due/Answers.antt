@@ -1,6 +1,5 @@
-use Rattle.std.proofs.Common.{sym, ap, ◌∙◌}
-use Rattle.std.specs.Option.{option_map}
-use Rattle.slotmap_scheduler.specs.declared.Job.{Job}
+use Rattle.std.proofs.Common.{◌∙◌}
+use Rattle.slotmap_scheduler.proofs.Common.{sym, ap, option_map, Job}
 use Rattle.slotmap_scheduler.proofs.Seen.{due_seen, none_copied}
 use Rattle.slotmap_scheduler.proofs.Scheduler.due.Goals as goal
 

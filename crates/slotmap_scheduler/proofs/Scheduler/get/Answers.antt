@@ -1,6 +1,5 @@
-use Rattle.std.proofs.Common.{option_copied, sym, ap, ◌∙◌}
-use Rattle.std.specs.Option.{option_map}
-use Rattle.slotmap_scheduler.specs.declared.Job.{Job}
+use Rattle.std.proofs.Common.{◌∙◌}
+use Rattle.slotmap_scheduler.proofs.Common.{option_copied, sym, ap, option_map, Job}
 use Rattle.slotmap_scheduler.proofs.Seen.{job_seen, none_copied}
 use Rattle.slotmap_scheduler.proofs.Scheduler.get.Goals as goal
 

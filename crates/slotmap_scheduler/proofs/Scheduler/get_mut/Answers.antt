@@ -1,8 +1,5 @@
-use Rattle.std.proofs.Common.{sym, ap, ◌∙◌}
-use Rattle.std.specs.Option.{option_map}
-use Rattle.slotmap.proofs.Callers.{same_lent, same_unlent}
-use Rattle.slotmap_scheduler.specs.declared.Job.{Job}
-use Rattle.slotmap_scheduler.specs.Schedule.{Schedule, with_job}
+use Rattle.std.proofs.Common.{◌∙◌}
+use Rattle.slotmap_scheduler.proofs.Common.{sym, ap, option_map, same_lent, same_unlent, Job, Schedule, with_job}
 use Rattle.slotmap_scheduler.proofs.Seen.{job_seen}
 use Rattle.slotmap_scheduler.proofs.Schedules.{written_schedule, written_seen}
 use Rattle.slotmap_scheduler.proofs.Scheduler.get_mut.Goals as goal

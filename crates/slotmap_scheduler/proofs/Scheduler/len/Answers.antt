@@ -1,6 +1,5 @@
-use Rattle.std.proofs.Common.{sym, ◌∙◌}
-use Rattle.slotmap_keylist.proofs.Mapped.{len-mapped}
-use Rattle.slotmap_scheduler.specs.Heap.{unplaced, timed}
+use Rattle.std.proofs.Common.{◌∙◌}
+use Rattle.slotmap_scheduler.proofs.Common.{sym, len-mapped, unplaced, timed}
 use Rattle.slotmap_scheduler.proofs.Order.{len_is}
 use Rattle.slotmap_scheduler.proofs.Scheduler.len.Goals as goal
 

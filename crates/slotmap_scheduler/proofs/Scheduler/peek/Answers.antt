@@ -1,5 +1,5 @@
-use Rattle.std.proofs.Common.{◌≡◌, Some, ap, sym, ◌∙◌}
-use Rattle.std.specs.List.{slice_get}
+use Rattle.std.proofs.Common.{◌≡◌, ◌∙◌}
+use Rattle.slotmap_scheduler.proofs.Common.{Some, ap, sym, slice_get}
 use Rattle.slotmap_scheduler.proofs.Seen.{top_waits, top_later, empty_waits, none_copied}
 use Rattle.slotmap_scheduler.proofs.Scheduler.peek.Goals as goal
 

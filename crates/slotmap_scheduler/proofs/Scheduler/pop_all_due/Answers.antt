@@ -1,5 +1,5 @@
-use Rattle.std.proofs.Common.{◌+◌, ◌++◌, ◌∷◌, [], IsOk, length, ap, arith}
-use Rattle.std.specs.Prelude.{vec_len}
+use Rattle.std.proofs.Common.{◌+◌, ◌++◌, ◌∷◌, []}
+use Rattle.slotmap_scheduler.proofs.Common.{IsOk, length, ap, arith, vec_len}
 use Rattle.slotmap_scheduler.proofs.Results.{done}
 use Rattle.slotmap_scheduler.proofs.TakingDue.{taking_start, taking_step, taking_end}
 use Rattle.slotmap_scheduler.proofs.Scheduler.pop_all_due.Goals as goal

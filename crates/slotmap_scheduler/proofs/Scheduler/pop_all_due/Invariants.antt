@@ -1,4 +1,4 @@
-use Rattle.std.proofs.Common.{length}
+use Rattle.slotmap_scheduler.proofs.Common.{length}
 use Rattle.slotmap_scheduler.proofs.TakingDue.{Taking}
 use Rattle.slotmap_scheduler.proofs.Scheduler.pop_all_due.Given as goal
 

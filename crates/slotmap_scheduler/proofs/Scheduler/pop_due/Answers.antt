@@ -1,4 +1,5 @@
-use Rattle.std.proofs.Common.{◌∷◌, sym, ap, ◌∙◌}
+use Rattle.std.proofs.Common.{◌∷◌, ◌∙◌}
+use Rattle.slotmap_scheduler.proofs.Common.{sym, ap}
 use Rattle.slotmap_scheduler.proofs.Seen.{popped}
 use Rattle.slotmap_scheduler.proofs.Scheduler.pop_due.Goals as goal
 

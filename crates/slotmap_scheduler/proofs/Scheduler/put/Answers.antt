@@ -1,7 +1,4 @@
-use Rattle.std.proofs.Common.{rules, true, arith}
-use Rattle.slotmap.proofs.Callers.{spent_inserts}
-use Rattle.slotmap_keylist.proofs.Mapped.{content-mapped}
-use Rattle.slotmap_scheduler.specs.Heap.{unplaced}
+use Rattle.slotmap_scheduler.proofs.Common.{rules, true, arith, spent_inserts, content-mapped, unplaced}
 use Rattle.slotmap_scheduler.proofs.Schedules.{put_len, put_schedule, put_fresh, put_waits}
 use Rattle.slotmap_scheduler.proofs.Handles.{handles_inserted, handles_stale, handles_unspent}
 use Rattle.slotmap_scheduler.proofs.Scheduler.put.Goals as goal

@@ -1,5 +1,5 @@
-use Rattle.std.proofs.Common.{sym, ◌∙◌}
-use Rattle.slotmap.proofs.Callers.{none_of}
+use Rattle.std.proofs.Common.{◌∙◌}
+use Rattle.slotmap_scheduler.proofs.Common.{sym, none_of}
 use Rattle.slotmap_scheduler.proofs.Schedules.{turned_schedule, turned_waits, turned_handles}
 use Rattle.slotmap_scheduler.proofs.Seen.{seen_job, contains_seen, none_seen}
 use Rattle.slotmap_scheduler.proofs.Results.{some_is}

@@ -1,8 +1,6 @@
-use Rattle.std.proofs.Common.{ℕ, ap, ◌∙◌, arith}
-use Rattle.std.specs.Ordering.{nat_cmp}
+use Rattle.std.proofs.Common.{◌∙◌}
+use Rattle.slotmap_scheduler.proofs.Common.{ℕ, ap, arith, nat_cmp, mapped-new, unplaced, timed}
 use Rattle.std.specs.FinMap as map
-use Rattle.slotmap_keylist.proofs.Mapped.{mapped-new}
-use Rattle.slotmap_scheduler.specs.Heap.{unplaced, timed}
 use Rattle.slotmap_scheduler.proofs.Schedules.{schedule_none, none_waits}
 use Rattle.slotmap_scheduler.proofs.Handles.{handles_new}
 use Rattle.slotmap_scheduler.proofs.Scheduler.with_capacity_and_key.Goals as goal

@@ -1,4 +1,4 @@
-use Rattle.slotmap.proofs.Callers.{live-insert_still}
+use Rattle.slotmap_scheduler.proofs.Common.{live-insert_still}
 use Rattle.slotmap_scheduler.proofs.Places.{read_live, resettled_swap}
 use Rattle.slotmap_scheduler.proofs.heap.exchange.Goals as goal
 

@@ -1,14 +1,12 @@
-use Rattle.std.proofs.Common.{IsOk, vec_len, arith}
-use Rattle.slotmap.specs.Words.{Inserts}
-use Rattle.slotmap_keylist.proofs.Mapped.{mapped-inserts}
-use Rattle.slotmap_scheduler.specs.Heap.{unplaced}
+use Rattle.slotmap_scheduler.proofs.Common.{IsOk, vec_len, arith, Inserts, mapped-inserts, unplaced}
 use Rattle.slotmap_scheduler.proofs.Indexed.{indexed_settled, put_placed, put_but, put_len}
-use Rattle.slotmap_scheduler.proofs.Results.{ok_is, done}
+use Rattle.std.proofs.lemmas.Result.{IfOk-at_ok}
+use Rattle.slotmap_scheduler.proofs.Results.{done}
 use Rattle.slotmap_scheduler.proofs.heap.put_in.Goals as goal
 
 pub settle-requires : goal.settle-requires
 settle-requires g c =
-    let inserts = rw c.len-place.ensures at (ok_is c.insert.result c.unwrap-handle.result (λ key. Inserts c.args.jobs.now key (record { turn = c.args.turn; place = c.len-place.result; job = c.args.job }) c.insert.new.self) c.unwrap-handle.ensures c.insert.ensures.ok) in
+    let inserts = rw c.len-place.ensures at (IfOk-at_ok (λ key. Inserts c.args.jobs.now key (record { turn = c.args.turn; place = c.len-place.result; job = c.args.job }) c.insert.new.self) c.unwrap-handle.ensures c.insert.ensures.ok) in
     let ok : IsOk c.push.result = c.push.ensures.succeeds c.requires.space in
     let len = done c.push.result (vec_len c.push.new.self) _ _ ok c.push.ensures.len in
     let by = c.push.ensures.by_index in
@@ -20,7 +18,7 @@ settle-requires g c =
 
 pub returns : goal.returns
 returns g c =
-    let inserts = rw c.len-place.ensures at (ok_is c.insert.result c.unwrap-handle.result (λ key. Inserts c.args.jobs.now key (record { turn = c.args.turn; place = c.len-place.result; job = c.args.job }) c.insert.new.self) c.unwrap-handle.ensures c.insert.ensures.ok) in
+    let inserts = rw c.len-place.ensures at (IfOk-at_ok (λ key. Inserts c.args.jobs.now key (record { turn = c.args.turn; place = c.len-place.result; job = c.args.job }) c.insert.new.self) c.unwrap-handle.ensures c.insert.ensures.ok) in
     let ok : IsOk c.push.result = c.push.ensures.succeeds c.requires.space in
     let len = done c.push.result (vec_len c.push.new.self) _ _ ok c.push.ensures.len in
     let by = c.push.ensures.by_index in

@@ -1,5 +1,6 @@
-use Rattle.std.proofs.Common.{◌<◌, vec_len, true, false, sym, ◌∙◌, arith}
-use Rattle.slotmap_scheduler.proofs.Heaps.{resettled_same, resettled_then, heap_sunk, sunk_above, heap_settled, heap_ended, compared}
+use Rattle.std.proofs.Common.{◌≡◌, ◌<◌, ◌∙◌}
+use Rattle.slotmap_scheduler.proofs.Common.{length, vec_len, true, false, sym, arith}
+use Rattle.slotmap_scheduler.proofs.Heaps.{resettled_same, resettled_then, sunk, sunk_above, heap_settled, heap_ended, compared}
 use Rattle.slotmap_scheduler.proofs.heap.sift_down.Goals as goal
 
 pub loop-child-init : goal.loop-child-init
@@ -10,12 +11,13 @@ loop-child-preserved g c =
     let first = rw c.deref.ensures.value at c.in-Some.ensures.some in
     let i = c.loop-child.invariant in
     let len = c.exchange.ensures.resettled.len in
+    let long : length c.exchange.new.heap.items ≡ length c.loop-child.heap.items = omega (arith, c.loop-child.heap.ok.0, c.exchange.new.heap.ok.0) in
     let inside : c.in-Some.child < vec_len c.loop-child.heap = omega (arith, first.inside, c.loop-child.heap.ok.0) in
     let before = compared c.loop-child.heap c.in-Some.child c.loop-child.at c.index.result.now c.index-in-Some.result.now inside i.within c.index.ensures c.index-in-Some.ensures true (sym c.is_before.ensures ∙ c.if-not-is_before.false) in
     record {
       within = omega arith;
-      but = heap_sunk c.loop-child.heap c.loop-child.at i.but c.exchange.new.heap len c.in-Some.child c.exchange.ensures.swapped first;
-      above = sunk_above c.loop-child.heap c.loop-child.at i.but c.exchange.new.heap len c.in-Some.child c.exchange.ensures.swapped first before;
+      but = sunk c.loop-child.heap.items c.loop-child.at i.but c.exchange.new.heap.items long c.in-Some.child first c.exchange.ensures.swapped;
+      above = sunk_above c.loop-child.heap.items c.loop-child.at i.but c.exchange.new.heap.items long c.in-Some.child first c.exchange.ensures.swapped before;
       resettled = resettled_then i.resettled c.exchange.ensures.resettled;
     }
 
@@ -23,8 +25,8 @@ pub returns-then-not-is_before-clause-heap : goal.returns-then-not-is_before-cla
 returns-then-not-is_before-clause-heap g c =
     let first = rw c.deref.ensures.value at c.in-Some.ensures.some in
     let i = c.loop-child.invariant in
-    heap_settled c.loop-child.heap c.loop-child.at i.but i.above c.in-Some.child first (compared c.loop-child.heap c.in-Some.child c.loop-child.at c.index.result.now c.index-in-Some.result.now
+    heap_settled c.loop-child.heap.items c.loop-child.at i.but i.above c.in-Some.child first (compared c.loop-child.heap c.in-Some.child c.loop-child.at c.index.result.now c.index-in-Some.result.now
     (omega (arith, first.inside, c.loop-child.heap.ok.0)) i.within c.index.ensures c.index-in-Some.ensures false (sym c.is_before.ensures ∙ c.if-not-is_before.true))
 
 pub returns-clause-heap : goal.returns-clause-heap
-returns-clause-heap g c = heap_ended c.loop-child.heap c.loop-child.at c.loop-child.invariant.but c.loop-child.invariant.above (rw c.deref.ensures.value at c.in_default.ensures.none)
+returns-clause-heap g c = heap_ended c.loop-child.heap.items c.loop-child.at c.loop-child.invariant.but c.loop-child.invariant.above (rw c.deref.ensures.value at c.in_default.ensures.none)

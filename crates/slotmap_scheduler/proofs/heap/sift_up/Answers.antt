@@ -1,5 +1,6 @@
-use Rattle.std.proofs.Common.{false, sym, ◌∙◌, arith}
-use Rattle.slotmap_scheduler.proofs.Heaps.{resettled_same, resettled_then, heap_risen, compared}
+use Rattle.std.proofs.Common.{◌∙◌}
+use Rattle.slotmap_scheduler.proofs.Common.{false, sym, arith}
+use Rattle.slotmap_scheduler.proofs.Heaps.{resettled_same, resettled_then, risen, compared}
 use Rattle.slotmap_scheduler.proofs.heap.sift_up.Goals as goal
 
 pub loop-at-init : goal.loop-at-init
@@ -13,6 +14,6 @@ returns-then-not-is_before-clause-above g c some =
 pub loop-at-preserved : goal.loop-at-preserved
 loop-at-preserved g c = record {
   within = (let now = c.loop-at.invariant.within in let len = c.exchange.ensures.resettled.len in omega arith);
-  but = heap_risen c.loop-at.heap c.loop-at.at c.loop-at.invariant.but c.exchange.new.heap c.exchange.ensures.resettled.len c.loop-at-test.true c.exchange.ensures.swapped;
+  but = risen c.loop-at.heap.items c.loop-at.at c.loop-at.invariant.but c.exchange.new.heap.items (omega (arith, c.exchange.ensures.resettled.len, c.loop-at.heap.ok.0, c.exchange.new.heap.ok.0)) c.loop-at-test.true c.exchange.ensures.swapped;
   resettled = resettled_then c.loop-at.invariant.resettled c.exchange.ensures.resettled;
 }
