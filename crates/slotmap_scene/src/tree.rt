@@ -1,4 +1,4 @@
-//! The trees of the nodes: a root becomes a child, a child a root, and a tree is removed.
+//! The trees of the nodes: a node becomes a child or a root, and a tree is removed.
 
 ghost use Rattle.std.specs.Prelude.{◌≡◌, ◌++◌, ◌∷◌, [], List, Some, None, option_map};
 ghost use Rattle.std.specs.FinMap as map;
