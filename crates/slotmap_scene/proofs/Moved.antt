@@ -15,7 +15,7 @@ use Rattle.slotmap_keylist.specs.Linked.{last_or, link_between}
 use Rattle.slotmap_keylist.proofs.Linking.{in_midst}
 use Rattle.slotmap_scene.specs.Node.{Node, Nodes}
 use Rattle.slotmap_scene.specs.Climb.{has_node, parent_in, parent_of, IsWithin, lacks_node, StepsTo, with_parent}
-use Rattle.slotmap_scene.specs.Family.{is_parent, children_in, children_of, AreListed, IsMoved, IsScene, IsNodeClone, with_value, with_children_in, with_children_of, IsNewChild, as_last_child, as_root, child, forgets, value_of, without_child, around, beside, placed}
+use Rattle.slotmap_scene.specs.Family.{is_parent, children_in, children_of, AreListed, IsMoved, IsScene, IsNodeClone, with_value, with_children_in, with_children_of, IsNewChild, as_last_child, as_root, child, forgets, value_of, without_child, around, beside_first, placed}
 use Rattle.slotmap_scene.proofs.Climbs.{tree_moved, tree_same, parent_there}
 use Rattle.slotmap_scene.specs.declared.tree.Side.{Side}
 use Rattle.slotmap_scene.specs.declared.tree.Side.TheVariants.{Before, After}
@@ -348,21 +348,21 @@ module _ {T : Type 0} (old mid : Content (Node T)) (scene : IsScene old.live) (k
 module _ (side : Side) (s k : Key) where
   pub times_placed : (x : Key) (ks : List Key) → times x (placed side s k ks) ≡ times x ks + same k x
   times_placed x [] = let first = times_first x k [] in omega arith
-  times_placed x (q ∷ qs) = elim (is_key q s) as (λ b. times x (cond b (beside side k q qs) (q ∷ placed side s k qs)) ≡ times x (q ∷ qs) + same k x) [
+  times_placed x (q ∷ qs) = elim (is_key q s) as (λ b. times x (cond b (beside_first side k q qs) (q ∷ placed side s k qs)) ≡ times x (q ∷ qs) + same k x) [
     | true ↦ at_once side
     | false ↦ (let first = times_first x q (placed side s k qs) in let was = times_first x q qs in let rest = times_placed x qs in omega arith)
   ]
     where
-      at_once : (side : Side) → times x (beside side k q qs) ≡ times x (q ∷ qs) + same k x
+      at_once : (side : Side) → times x (beside_first side k q qs) ≡ times x (q ∷ qs) + same k x
       at_once Before = let first = times_first x k (q ∷ qs) in omega arith
       at_once After = let first = times_first x q (k ∷ qs) in let next = times_first x k qs in let was = times_first x q qs in omega arith
 
-  placed_at : (b a : List Key) → times s b ≡ 0 → placed side s k (b ++ s ∷ a) ≡ b ++ beside side k s a
-  placed_at [] a none = ap (λ t. cond t (beside side k s a) (s ∷ placed side s k a)) (is_itself s)
+  placed_at : (b a : List Key) → times s b ≡ 0 → placed side s k (b ++ s ∷ a) ≡ b ++ beside_first side k s a
+  placed_at [] a none = ap (λ t. cond t (beside_first side k s a) (s ∷ placed side s k a)) (is_itself s)
   placed_at (q ∷ b) a none =
       let first = times_first s q b in
       let other = is_other q s (λ is. absurd (let one = ap (λ x. same x s) is ∙ one_itself s in omega arith)) in
-      ap (λ t. cond t (beside side k q (b ++ s ∷ a)) (q ∷ placed side s k (b ++ s ∷ a))) other ∙ ap (λ l. q ∷ l) (placed_at b a (omega arith))
+      ap (λ t. cond t (beside_first side k q (b ++ s ∷ a)) (q ∷ placed side s k (b ++ s ∷ a))) other ∙ ap (λ l. q ∷ l) (placed_at b a (omega arith))
 
 pub placed_is : (side : Side) (s k : Key) (b a : List Key) → times s b ≡ 0 → (around side b s a).0 ++ k ∷ (around side b s a).1 ≡ placed side s k (b ++ s ∷ a)
 placed_is Before s k b a none = sym (placed_at Before s k b a none)

@@ -20,11 +20,11 @@ use Rattle.slotmap_keylist.proofs.Changed.{changed_gives, changed_keeps, changed
 use Rattle.slotmap_keylist.specs.declared.Ends.{Ends}
 use Rattle.slotmap_keylist.specs.declared.Link.{Link}
 use Rattle.slotmap_scene.specs.declared.links.LinkedNode.{LinkedNode}
-use Rattle.slotmap_scene.specs.Node.{Node, Nodes, node_value}
+use Rattle.slotmap_scene.specs.Node.{Node, Nodes, key_and_value}
 use Rattle.slotmap_scene.specs.Above.{roots_in}
 use Rattle.slotmap_scene.specs.Climb.{parent_in, parent_of, has_node, with_parent}
 use Rattle.slotmap_scene.specs.Family.{child, children_in, children_of, value_of, IsNodeClone, with_children_in}
-use Rattle.slotmap_scene.specs.LinkedNodes.{LinkedNodes, above_in, value_in, ends_in, leaf, led_to, link_in, link_of, linked_roots, linked_value, shown_under, shown_scene, shown_node, shown_nodes, IsWoven, ends_of, put_between, taken_between, IsLinkedClone, AreLive, IsPlace}
+use Rattle.slotmap_scene.specs.LinkedNodes.{LinkedNodes, above_in, own_value, ends_in, leaf, led_to, link_in, link_of, linked_roots, linked_value, shown_under, shown_scene, shown_node, shown_nodes, IsWoven, ends_of, put_between, taken_between, IsLinkedClone, AreLive, IsPlace}
 use Rattle.slotmap_scene.specs.Refusals.{RefusesNode}
 use Rattle.slotmap_scene.proofs.Weaving.{woven_same, Relisted, led_is, woven_by, next_live, prev_live, put_relists, taken_relists}
 
@@ -64,8 +64,8 @@ module _ {T : Type 0} where
     pub shown_children : (q : Key) → children_of (shown_nodes m) q ≡ led_to m q
     shown_children q = shown_part children_in (λ o. followed (link_of m) (ends_in o)) refl (λ n. refl) q
 
-    pub shown_value : (q : Key) → value_of (shown_nodes m) q ≡ value_in (map.get m q)
-    shown_value q = shown_part (option_map (λ (n : Node T). n.value)) value_in refl (λ n. refl) q
+    pub shown_value : (q : Key) → value_of (shown_nodes m) q ≡ own_value (map.get m q)
+    shown_value q = shown_part (option_map (λ (n : Node T). n.value)) own_value refl (λ n. refl) q
 
     pub shown_parent : (q : Key) → parent_of (shown_nodes m) q ≡ above_in (map.get m q)
     shown_parent q = shown_part parent_in above_in refl (λ n. refl) q
@@ -88,8 +88,8 @@ module _ {T : Type 0} where
         by [] = refl
         by (e ∷ es) = ap (λ l. cond (is_some e.1.parent) l (e.0 ∷ l)) (by es)
 
-    pub shown_values : list_map linked_value (map.entries m) ≡ list_map node_value (map.entries (shown_nodes m))
-    shown_values = sym (ap (list_map node_value) (entries-mapped (shown_node m) m) ∙ map-map node_value _ (map.entries m))
+    pub shown_values : list_map linked_value (map.entries m) ≡ list_map key_and_value (map.entries (shown_nodes m))
+    shown_values = sym (ap (list_map key_and_value) (entries-mapped (shown_node m) m) ∙ map-map key_and_value _ (map.entries m))
 
   -- a node with the same children is shown as it was
   pub shown_still : (m new : LinkedNodes T) (q : Key) → led_to new q ≡ led_to m q → map.get new q ≡ map.get m q → map.get (shown_nodes new) q ≡ map.get (shown_nodes m) q

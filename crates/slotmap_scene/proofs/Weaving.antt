@@ -16,7 +16,7 @@ use Rattle.slotmap_keylist.specs.Linked.{first_or, last_or, link_between, ends_o
 use Rattle.slotmap_keylist.proofs.Linking.{first_or-append, last_or-append, first_in, last_in, in_midst, followed_is, linked_put, linked_taken}
 use Rattle.slotmap_keylist.proofs.Splicing.{spliced, spliced_own, two_neighbours}
 use Rattle.slotmap_scene.specs.declared.links.LinkedNode.{LinkedNode}
-use Rattle.slotmap_scene.specs.LinkedNodes.{LinkedNodes, ends_in, ends_of, link_in, link_of, with_next, with_prev, relinked, above_in, value_in, led_to, put_between, taken_between, IsWoven}
+use Rattle.slotmap_scene.specs.LinkedNodes.{LinkedNodes, ends_in, ends_of, link_in, link_of, with_next, with_prev, relinked, above_in, own_value, led_to, put_between, taken_between, IsWoven}
 
 module _ {T : Type 0} (m : LinkedNodes T) where
   -- the link of one node is written
@@ -151,7 +151,7 @@ pub record Relisted {T : Type 0} (m new : LinkedNodes T) (p : Key) (ks : List Ke
   pub woven : IsWoven new
   pub list : led_to new p ≡ ks
   pub others : (q : Key) → q ≢ p → led_to new q ≡ led_to m q
-  pub values : (q : Key) → value_in (map.get new q) ≡ value_in (map.get m q)
+  pub values : (q : Key) → own_value (map.get new q) ≡ own_value (map.get m q)
   pub parents : (q : Key) → above_in (map.get new q) ≡ above_in (map.get m q)
 
 module _ {T : Type 0} (m : LinkedNodes T) (woven : IsWoven m) (p : Key) where
@@ -247,7 +247,7 @@ module _ {T : Type 0} (m : LinkedNodes T) (woven : IsWoven m) (p : Key) where
           other_ends = λ q other. relinked_others then p (link_between before after) (first_or now (first_or after None)) (last_or now (last_or before None)) f q other ∙ ends q;
         }
 
-        relisted : AreLinked (ends_of new) (link_of new) (with_list ks) → ((q : Key) → value_in (map.get then q) ≡ value_in (map.get m q)) → ((q : Key) → above_in (map.get then q) ≡ above_in (map.get m q)) → Relisted m new p ks
+        relisted : AreLinked (ends_of new) (link_of new) (with_list ks) → ((q : Key) → own_value (map.get then q) ≡ own_value (map.get m q)) → ((q : Key) → above_in (map.get then q) ≡ above_in (map.get m q)) → Relisted m new p ks
         relisted linked values parents =
             let keeps = relinked_keeps then p (link_between before after) (first_or now (first_or after None)) (last_or now (last_or before None)) f is_some (λ n e s. refl) in
             record {
@@ -255,7 +255,7 @@ module _ {T : Type 0} (m : LinkedNodes T) (woven : IsWoven m) (p : Key) where
                   (λ q x more. keeps x ∙ keys x ∙ elim (now_in x q more) [ inl was ↦ woven.live q x was | inr new ↦ (come x new.0).2 ]);
               list = led_is new (with_list ks) linked p ∙ list_here ks;
               others = λ q other. led_is new (with_list ks) linked q ∙ list_other ks q other;
-              values = λ q. relinked_keeps then p (link_between before after) (first_or now (first_or after None)) (last_or now (last_or before None)) f value_in (λ n e s. refl) q ∙ values q;
+              values = λ q. relinked_keeps then p (link_between before after) (first_or now (first_or after None)) (last_or now (last_or before None)) f own_value (λ n e s. refl) q ∙ values q;
               parents = λ q. relinked_keeps then p (link_between before after) (first_or now (first_or after None)) (last_or now (last_or before None)) f above_in (λ n e s. refl) q ∙ parents q;
             }
 
@@ -297,7 +297,7 @@ module _ {T : Type 0} (m : LinkedNodes T) (woven : IsWoven m) (p : Key) where
 
     pub put_relists : Relisted m (put_between m p k (link_between before after)) p (before ++ k ∷ after)
     put_relists = relisted before [] after list (k ∷ []) comes k absent own_written own_keys own_ends own_links there (λ len. len + 1) longer put_linked
-        (changed_keeps m k (λ n. record n { siblings = link_between before after }) value_in (λ n. refl)) (changed_keeps m k (λ n. record n { siblings = link_between before after }) above_in (λ n. refl))
+        (changed_keeps m k (λ n. record n { siblings = link_between before after }) own_value (λ n. refl)) (changed_keeps m k (λ n. record n { siblings = link_between before after }) above_in (λ n. refl))
 
   -- a node is taken out of the list of p
   module _ (k : Key) (there : map.contains_key m p ≡ true) (before after : List Key) (list : led_to m p ≡ before ++ k ∷ after) where

@@ -15,14 +15,14 @@ is_parent None p = 0
 is_parent (Some q) p = same q p
 
 -- k on this side of q, which is in front of the others
-abbrev pub beside : Side → Key → Key → List Key → List Key
-beside Before k q qs = k ∷ q ∷ qs
-beside After k q qs = q ∷ k ∷ qs
+abbrev pub beside_first : Side → Key → Key → List Key → List Key
+beside_first Before k q qs = k ∷ q ∷ qs
+beside_first After k q qs = q ∷ k ∷ qs
 
 -- k is placed right before its sibling s, or right behind it; where s isn't there, at the end
 abbrev pub placed : Side → Key → Key → List Key → List Key
 placed side s k [] = k ∷ []
-placed side s k (q ∷ qs) = cond (is_key q s) (beside side k q qs) (q ∷ placed side s k qs)
+placed side s k (q ∷ qs) = cond (is_key q s) (beside_first side k q qs) (q ∷ placed side s k qs)
 
 -- the two parts of a list that a place on this side of s is between, where these keys are before s and behind it
 abbrev pub around : Side → List Key → Key → List Key → List Key × List Key

@@ -26,8 +26,8 @@ module _ {T : Type 0} where
   link_in None = record { prev = None; next = None }
   link_in (Some node) = node.siblings
 
-  abbrev pub value_in : Option (LinkedNode T) → Option T
-  value_in o = option_map (λ n. n.value) o
+  abbrev pub own_value : Option (LinkedNode T) → Option T
+  own_value o = option_map (λ n. n.value) o
 
   abbrev pub above_in : Option (LinkedNode T) → Option Key
   above_in None = None

@@ -21,5 +21,5 @@ abbrev pub Nodes : Type 0 → Type 0
 Nodes T = map.FinMap key_cmp (Node T)
 
 -- a key with the value of its node
-abbrev pub node_value : {T : Type 0} → Key × Node T → Key × T
-node_value e = (e.0, e.1.value)
+abbrev pub key_and_value : {T : Type 0} → Key × Node T → Key × T
+key_and_value e = (e.0, e.1.value)

@@ -11,7 +11,7 @@ ghost use Rattle.slotmap_scene.specs.Above.{roots_in};
 ghost use Rattle.slotmap_scene.specs.Climb.{has_node, lacks_node, parent_of, with_parent};
 ghost use Rattle.slotmap_scene.specs.Family.{child, children_of, value_of, with_children_in};
 ghost use Rattle.slotmap_scene.specs.LinkedNodes.{IsPlace, linked_roots, linked_value, shown_under};
-ghost use Rattle.slotmap_scene.specs.Node.{node_value};
+ghost use Rattle.slotmap_scene.specs.Node.{key_and_value};
 ghost use Rattle.slotmap_scene.specs.Refusals.{RefusesNode};
 
 use crate::children::ChildKeys;
@@ -108,7 +108,7 @@ impl<T: Drop> Nodes<T> {
     // The nodes, by ascending index of their keys.
     pub fn iter(&self) -> basic::Iter<'_, DefaultKey, LinkedNode<T>>
         ensures roots { linked_roots result ≡ roots_in (map.entries self.now.live) }
-        ensures values { list_map linked_value result ≡ list_map node_value (map.entries self.now.live) }
+        ensures values { list_map linked_value result ≡ list_map key_and_value (map.entries self.now.live) }
     {
         self.map.iter()
     }

@@ -3,7 +3,7 @@
 ghost use Rattle.std.specs.Prelude.{◌≡◌, ◌≤◌, length, Some, IfSome, map as list_map};
 ghost use Rattle.std.specs.Iterator.{YieldsFirstBy, item_count, at_most, UpTo};
 ghost use Rattle.std.specs.FinMap as map;
-ghost use Rattle.slotmap_scene.specs.Node.{node_value};
+ghost use Rattle.slotmap_scene.specs.Node.{key_and_value};
 
 use crate::Scene;
 use crate::links::LinkedNode;
@@ -83,7 +83,7 @@ impl<'a, K: Key, T: Drop> IntoIterator for &'a Scene<K, T> {
 
     type IntoIter = Iter<'a, K, T>;
 
-    ghost into_iter_gives = { λ scene it. it ≡ list_map node_value (map.entries scene.now.live) };
+    ghost into_iter_gives = { λ scene it. it ≡ list_map key_and_value (map.entries scene.now.live) };
 
     fn into_iter(self) -> Iter<'a, K, T> {
         self.iter()
@@ -203,7 +203,7 @@ impl<K: Key, T: Drop> Scene<K, T> {
     /// assert!(rt; nodes.next().is_none());
     /// ```
     pub fn iter(&self) -> Iter<'_, K, T>
-        ensures { result ≡ list_map node_value (map.entries self.now.live) }
+        ensures { result ≡ list_map key_and_value (map.entries self.now.live) }
     {
         Iter {
             nodes: self.nodes.iter(),

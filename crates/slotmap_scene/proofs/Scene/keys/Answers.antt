@@ -1,8 +1,8 @@
 use Rattle.std.specs.FinMap as map
 use Rattle.std.proofs.Common.{ap, ◌∙◌, map as list_map}
 use Rattle.std.proofs.lemmas.Simd.{map-map}
-use Rattle.slotmap_scene.specs.Node.{node_value}
+use Rattle.slotmap_scene.specs.Node.{key_and_value}
 use Rattle.slotmap_scene.proofs.Scene.keys.Goals as goal
 
 pub returns : goal.returns
-returns g c = ap (list_map (λ e. e.0)) c.iter.ensures ∙ map-map (λ e. e.0) node_value (map.entries c.args.self.now.live)
+returns g c = ap (list_map (λ e. e.0)) c.iter.ensures ∙ map-map (λ e. e.0) key_and_value (map.entries c.args.self.now.live)
