@@ -1,9 +1,9 @@
 -- What a scheduler's user sees, by what its map holds.
 use Rattle.std.proofs.Common.{◌≡◌, ◌<◌, [], ◌∷◌, ◌∙◌}
-use Rattle.slotmap_scheduler.proofs.Common.{ℕ, false, cond, List, Bor, Option, Some, None, is_some, option_copied, length, refl, sym, ap, arith, list_map, slice_get, Vec}
-use Rattle.slotmap_scheduler.proofs.Common.{All, option_map, find, length-map, slice_get-get_or, Key, key_cmp, Content, keys_total, exact_keys, itself, get-mapped, len-mapped}
-use Rattle.slotmap_scheduler.proofs.Common.{Job, Entry, Waiting, job_of, without, ListsJobs, shown, Turn, waiting_of, InOrder, precedes, no_entry, turn_at, entry_at, unplaced}
-use Rattle.slotmap_scheduler.proofs.Common.{timed, IsSchedule}
+use Rattle.slotmap_scheduler.proofs.Common.{ℕ, false, cond, List, Bor, Option, Some, None, is_some, option_copied, length, refl, sym, ap, arith, list_map, slice_get, Vec, All}
+use Rattle.slotmap_scheduler.proofs.Common.{option_map, find, length-map, slice_get-get_or, Key, key_cmp, Content, keys_total, exact_keys, itself, get-mapped, len-mapped, Job}
+use Rattle.slotmap_scheduler.proofs.Common.{Entry, Waiting, job_of, without, ListsJobs, shown, Turn, waiting_of, InOrder, precedes, no_entry, turn_at, entry_at, unplaced, timed}
+use Rattle.slotmap_scheduler.proofs.Common.{IsSchedule}
 use Rattle.std.specs.FinMap as map
 use Rattle.slotmap_scheduler.proofs.Order.{job_is, len_is, waits_first, none_due, none_wait}
 use Rattle.slotmap_scheduler.proofs.Heaps.{top_first}
