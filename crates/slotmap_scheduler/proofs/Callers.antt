@@ -11,7 +11,7 @@ module _ {T : Type 0} (now : ℕ) where
 
   due_and_left : (ws : Waiting T) → ws ≡ due_at now ws ++ left_at now ws
   due_and_left [] = refl
-  due_and_left (e ∷ ws) = elim (nat_lt now e.1.0) as (λ b. e ∷ ws ≡ cond b [] (e ∷ due_at now ws) ++ cond b (e ∷ ws) (left_at now ws)) [ true ↦ refl | false ↦ ap (λ es. e ∷ es) (due_and_left ws) ]
+  due_and_left (e ∷ ws) = grind (arith, due_and_left ws)
 
   all_due : (ws : Waiting T) → All IsDue (due_at now ws)
   all_due [] = All-nil IsDue

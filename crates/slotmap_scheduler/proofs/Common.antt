@@ -1,6 +1,6 @@
 -- What the proofs of this crate cite of std, of the crates below and of its own definitions, from one place. Declares nothing.
-pub use Rattle.std.proofs.Common.{ap, append-nil, append_assoc, arith, Bool, Bor, cond, Err, false, get_or, IfOk, inl, inr, is_ok, is_some, IsOk, length, List, None}
-pub use Rattle.std.proofs.Common.{not, Ok, Option, option_copied, refl, Result, rules, set as list_set, Some, subst, suc, sym, T, true, vec_len, zero, ℕ}
+pub use Rattle.std.proofs.Common.{ap, append-nil, append_assoc, arith, Bool, Bor, cond, Err, false, get_or, inl, inr, is_ok, is_some, IsOk, length, List, None, Option}
+pub use Rattle.std.proofs.Common.{option_copied, refl, Result, rules, set as list_set, Some, subst, suc, sym, T, true, vec_len, zero, ℕ}
 pub use Rattle.std.proofs.lemmas.Bool.Decides.{nat_tests}
 pub use Rattle.std.proofs.lemmas.Cmp.{on_total, then_total}
 pub use Rattle.std.proofs.lemmas.List.{get_or-set_other, get_or-set_same, get_or_read_under, length-map, length-set, map_push, nil_from_length}
@@ -11,24 +11,23 @@ pub use Rattle.std.proofs.lemmas.Option.{slice_get-get_or, slice_get_past, slice
 pub use Rattle.std.specs.Cmp.{IsTotalOrder, nat_cmp_total}
 pub use Rattle.std.specs.FinMap.Entries.{below_all, by_order, find, is_sorted, put}
 pub use Rattle.std.specs.List.{All, AllByRecursion, AllZip, list_any, SameBelow, slice_get, SwappedAt}
-pub use Rattle.std.specs.Ordering.{eq_by_cmp, is_eq, is_lt, nat_cmp}
+pub use Rattle.std.specs.Ordering.{eq_by_cmp, is_lt, nat_cmp}
 pub use Rattle.std.specs.Prelude.{map as list_map, min, nat_lt, option_map, unwrap_or, vec_capacity}
 pub use Rattle.std.specs.declared.cmp.Ordering.{Ordering}
-pub use Rattle.std.specs.declared.cmp.Ordering.TheVariants.{Equal, Greater, Less}
+pub use Rattle.std.specs.declared.cmp.Ordering.TheVariants.{Less}
 pub use Rattle.std.specs.declared.vec.Vec.{Vec}
 pub use Rattle.slotmap.proofs.Callers.{alike_or_apart, alone_spent, clone_len, contains-keys_of, exact_keys, get-insert_here, get-insert_other, get_after_insert}
-pub use Rattle.slotmap.proofs.Callers.{get_after_remove, inserted_fresh, inserted_len, inserted_not_spent, itself, keys, keys_total, left_spent, len_removed}
-pub use Rattle.slotmap.proofs.Callers.{live-insert_still, live-remove_other, none_of, removed_len, removed_spent, same_lent, same_or_other, same_unlent, spent_alone}
-pub use Rattle.slotmap.proofs.Callers.{spent_inserts, spent_leaves, spent_removes, tied, untied}
-pub use Rattle.slotmap.specs.Words.{AreClones, ClonesEqual, Content, Inserts, IsCloneBy, IsCloneOf, IsContent, IsCopy, IsLive, IsNew, IsSpent, KeepsSpent, Key, key_cmp}
-pub use Rattle.slotmap.specs.Words.{Leaves, RefusesCapacity, Removes, used, with_value, without_values}
-pub use Rattle.slotmap.specs.declared.ReserveError.{ReserveError}
+pub use Rattle.slotmap.proofs.Callers.{get_after_remove, inserted_fresh, inserted_len, inserted_not_spent, itself, keys, keys_total, left_spent, len_removed, live-insert_still}
+pub use Rattle.slotmap.proofs.Callers.{live-remove_other, none_of, removed_len, removed_spent, same_lent, same_or_other, same_unlent, spent_alone, spent_inserts, spent_leaves}
+pub use Rattle.slotmap.proofs.Callers.{spent_removes, tied, untied}
+pub use Rattle.slotmap.specs.Words.{AreClones, Content, Inserts, IsCloneBy, IsCloneOf, IsContent, IsCopy, IsLive, IsNew, IsSpent, KeepsSpent, Key, key_cmp, Leaves, Removes, used}
+pub use Rattle.slotmap.specs.Words.{with_value, without_values}
 pub use Rattle.slotmap_keylist.proofs.Alone.{alone-copy, alone-inserts, alone-new, alone-removes, alone-written, used_alone}
-pub use Rattle.slotmap_keylist.proofs.Mapped.{contains-mapped, content-mapped, get-mapped, len-mapped, live-mapped, mapped-clones, mapped-empty, mapped-insert}
-pub use Rattle.slotmap_keylist.proofs.Mapped.{mapped-inserts, mapped-leaves, mapped-new, mapped-removes, mapped-with, mapped-written, used-mapped}
+pub use Rattle.slotmap_keylist.proofs.Mapped.{contains-mapped, content-mapped, get-mapped, len-mapped, live-mapped, mapped-clones, mapped-empty, mapped-insert, mapped-inserts}
+pub use Rattle.slotmap_keylist.proofs.Mapped.{mapped-leaves, mapped-new, mapped-removes, mapped-with, mapped-written, used-mapped}
 pub use Rattle.slotmap_keylist.specs.Mapped.{map_values}
-pub use Rattle.slotmap_scheduler.specs.Heap.{entry_at, handles_of, IsAbove, IsFirstBelow, IsHeap, IsHeapBut, IsIndexed, IsPlaced, IsSchedule, Jobs, no_entry, Resettled}
-pub use Rattle.slotmap_scheduler.specs.Heap.{spot_of, timed, turn_at, unplaced, up}
+pub use Rattle.slotmap_scheduler.specs.Heap.{entry_at, handles_of, IsAbove, IsFirstBelow, IsHeap, IsHeapBut, IsIndexed, IsPlaced, IsSchedule, Jobs, no_entry, Resettled, spot_of}
+pub use Rattle.slotmap_scheduler.specs.Heap.{timed, turn_at, unplaced, up}
 unfoldable pub use Rattle.slotmap_scheduler.specs.Heap.{precedes}
 pub use Rattle.slotmap_scheduler.specs.Inverse.{IsInverse}
 pub use Rattle.slotmap_scheduler.specs.Listed.{Due, due_at, IsDueClone, left_at, ListsJobs, shown, TakesDue}

@@ -1,8 +1,8 @@
 -- A copy of a scheduler: the same handles, times and places, each with a clone of its job.
 use Rattle.std.proofs.Common.{◌≡◌, ◌≤◌, [], ◌∷◌, ◌∙◌}
 use Rattle.slotmap_scheduler.proofs.Common.{ℕ, true, List, Option, Some, None, refl, sym, ap, arith, list_map, option_map, vec_len, vec_capacity, Vec, AllZip, Key, Content}
-use Rattle.slotmap_scheduler.proofs.Common.{IsContent, AreClones, IsCloneOf, IsCloneBy, clone_len, mapped-clones, len-mapped, Job, Entry, IsInverse, IsDueClone}
-use Rattle.slotmap_scheduler.proofs.Common.{Turn, Timed, by_turn, seen, waiting_of, InOrder, unplaced, timed, spot_of, entry_at, IsSchedule}
+use Rattle.slotmap_scheduler.proofs.Common.{IsContent, AreClones, IsCloneOf, IsCloneBy, clone_len, mapped-clones, len-mapped, Job, Entry, IsInverse, IsDueClone, Turn, Timed}
+use Rattle.slotmap_scheduler.proofs.Common.{by_turn, seen, waiting_of, InOrder, unplaced, timed, spot_of, entry_at, IsSchedule}
 use Rattle.std.specs.FinMap as map
 use Rattle.slotmap_scheduler.proofs.Inverse.{alike}
 use Rattle.slotmap_scheduler.proofs.Sorted.{none_there, entries_alike, len_alike}

@@ -1,9 +1,9 @@
 -- The places of the jobs in the heap, and how a change of both keeps them.
 use Rattle.std.proofs.Common.{◌≡◌, ◌≢◌, ◌+◌, ◌-◌, ◌<◌, ◌≤◌, ◌∙◌}
-use Rattle.slotmap_scheduler.proofs.Common.{ℕ, true, List, Option, Some, None, get_or, length, refl, sym, ap, arith, option_map, vec_len}
-use Rattle.slotmap_scheduler.proofs.Common.{vec_capacity, Vec, SwappedAt, slice_get_past, slice_get-get_or, slice_get_read, Key, Content, with_value, keys}
-use Rattle.slotmap_scheduler.proofs.Common.{get-insert_here, get-insert_other, same_or_other, live-remove_other, mapped-written, Job, Entry, Turn, Jobs, no_entry, entry_at}
-use Rattle.slotmap_scheduler.proofs.Common.{spot_of, IsPlaced, IsHeap, IsHeapBut, Resettled, unplaced, timed}
+use Rattle.slotmap_scheduler.proofs.Common.{ℕ, true, List, Option, Some, None, get_or, length, refl, sym, ap, arith, option_map, vec_len, vec_capacity, Vec, SwappedAt}
+use Rattle.slotmap_scheduler.proofs.Common.{slice_get_past, slice_get-get_or, slice_get_read, Key, Content, with_value, keys, get-insert_here, get-insert_other, same_or_other}
+use Rattle.slotmap_scheduler.proofs.Common.{live-remove_other, mapped-written, Job, Entry, Turn, Jobs, no_entry, entry_at, spot_of, IsPlaced, IsHeap, IsHeapBut, Resettled}
+use Rattle.slotmap_scheduler.proofs.Common.{unplaced, timed}
 use Rattle.std.specs.FinMap as map
 use Rattle.slotmap_scheduler.proofs.Inverse.{exchanged, moved, put, dropped}
 use Rattle.slotmap_scheduler.proofs.Heaps.{same_or_not, heap_put, heap_left}

@@ -2,9 +2,9 @@
 use Rattle.std.proofs.Common.{◌≡◌, ◌+◌, ◌≤◌, ◌⊎◌, [], ◌∷◌, ◌∙◌}
 use Rattle.slotmap_scheduler.proofs.Common.{ℕ, true, List, Some, None, zero, suc, is_some, refl, sym, ap, inl, inr, arith, vec_len, vec_capacity, option_map, Vec, list_any}
 use Rattle.slotmap_scheduler.proofs.Common.{eq_by_cmp, nat_cmp_total, exact_unsigned, Key, key_cmp, Content, IsContent, Inserts, Removes, Leaves, with_value, keys, keys_total}
-use Rattle.slotmap_scheduler.proofs.Common.{exact_keys, inserted_fresh, inserted_len, removed_len, none_of, itself, tied, content-mapped, get-mapped, len-mapped}
-use Rattle.slotmap_scheduler.proofs.Common.{mapped-empty, mapped-insert, mapped-with, map_values, Job, Entry, Schedule, job_of, in_turn, without, with_job, Turn, waiting_of}
-use Rattle.slotmap_scheduler.proofs.Common.{InOrder, unplaced, timed, spot_of, entry_at, IsIndexed, handles_of, IsSchedule}
+use Rattle.slotmap_scheduler.proofs.Common.{exact_keys, inserted_fresh, inserted_len, removed_len, none_of, itself, tied, content-mapped, get-mapped, len-mapped, mapped-empty}
+use Rattle.slotmap_scheduler.proofs.Common.{mapped-insert, mapped-with, map_values, Job, Entry, Schedule, job_of, in_turn, without, with_job, Turn, waiting_of, InOrder, unplaced}
+use Rattle.slotmap_scheduler.proofs.Common.{timed, spot_of, entry_at, IsIndexed, handles_of, IsSchedule}
 use Rattle.slotmap.proofs.Callers.{some_entry}
 use Rattle.std.specs.FinMap as map
 use Rattle.std.specs.FinSet as set

@@ -1,9 +1,9 @@
 -- What a scheduler's user sees, by what its map holds.
 use Rattle.std.proofs.Common.{◌≡◌, ◌<◌, [], ◌∷◌, ◌∙◌}
-use Rattle.slotmap_scheduler.proofs.Common.{ℕ, false, cond, List, Bor, Option, Some, None, is_some, option_copied, length, refl, sym, ap, arith, list_map, slice_get, Vec}
-use Rattle.slotmap_scheduler.proofs.Common.{All, option_map, find, length-map, slice_get-get_or, Key, key_cmp, Content, keys_total, exact_keys, itself, get-mapped, len-mapped}
-use Rattle.slotmap_scheduler.proofs.Common.{Job, Entry, Waiting, job_of, without, ListsJobs, shown, Turn, waiting_of, InOrder, precedes, no_entry, turn_at, entry_at, unplaced}
-use Rattle.slotmap_scheduler.proofs.Common.{timed, IsSchedule}
+use Rattle.slotmap_scheduler.proofs.Common.{ℕ, false, List, Bor, Option, Some, None, is_some, option_copied, length, refl, sym, ap, arith, list_map, slice_get, Vec, All}
+use Rattle.slotmap_scheduler.proofs.Common.{option_map, find, length-map, slice_get-get_or, Key, key_cmp, Content, keys_total, exact_keys, itself, get-mapped, len-mapped, Job}
+use Rattle.slotmap_scheduler.proofs.Common.{Entry, Waiting, job_of, without, ListsJobs, shown, Turn, waiting_of, InOrder, precedes, no_entry, turn_at, entry_at, unplaced, timed}
+use Rattle.slotmap_scheduler.proofs.Common.{IsSchedule}
 use Rattle.std.specs.FinMap as map
 use Rattle.slotmap_scheduler.proofs.Order.{job_is, len_is, waits_first, none_due, none_wait}
 use Rattle.slotmap_scheduler.proofs.Heaps.{top_first}
@@ -90,8 +90,4 @@ module _ {T : Type 0} (jobs : Content (Job T)) (count : ℕ) (is : InOrder (time
 -- the first job that waits, as it was returned
 pub popped : {T : Type 0} (k : Key) (time : ℕ) (first : T) (ws : Waiting T) → ws ≡ (k, (time, first)) ∷ without k ws → (job : T) → Some job ≡ option_map (λ (due : ℕ × T). due.1) (job_of k ws)
     → ws ≡ (k, (time, job)) ∷ without k ws
-popped {T} k time first ws is job returned =
-    let found : job_of k ws ≡ Some (time, first) = ap (job_of k) is ∙ ap (λ b. cond b (Some (time, first)) (job_of k (without k ws))) (itself keys_total exact_keys k) in
-    let same : Some job ≡ Some first = returned ∙ ap (option_map (λ (due : ℕ × T). due.1)) found in
-    let one : first ≡ job = cc in
-    is ∙ ap (λ (x : T). (k, (time, x)) ∷ without k ws) one
+popped k time first ws is job returned = grind (arith, itself keys_total exact_keys k)

@@ -1,8 +1,8 @@
 -- The entries of a finite map, in the order of their keys.
 use Rattle.std.proofs.Common.{◌≡◌, ◌&&◌, [], ◌∷◌, ◌∙◌}
 use Rattle.slotmap_scheduler.proofs.Common.{Bool, true, false, cond, T, List, Option, Some, None, length, refl, sym, ap, subst, arith, list_map, option_map, unwrap_or, Ordering}
-use Rattle.slotmap_scheduler.proofs.Common.{is_lt, eq_by_cmp, IsTotalOrder, AllByRecursion, AllZip, find, put, below_all, is_sorted}
-use Rattle.slotmap_scheduler.proofs.Common.{CmpEqualImpliesEq, length-map, IsCloneOf, tied, itself}
+use Rattle.slotmap_scheduler.proofs.Common.{is_lt, eq_by_cmp, IsTotalOrder, AllByRecursion, AllZip, find, put, below_all, is_sorted, CmpEqualImpliesEq, length-map, IsCloneOf}
+use Rattle.slotmap_scheduler.proofs.Common.{tied, itself}
 use Rattle.std.specs.FinMap as map
 use Rattle.slotmap_scheduler.proofs.Inverse.{Puts, Drops}
 

@@ -1,8 +1,8 @@
 -- Jobs by their turns: no two have one turn, so each is found by its turn.
 use Rattle.std.proofs.Common.{◌≡◌, ◌<◌, [], ◌∷◌, ◌∙◌}
-use Rattle.slotmap_scheduler.proofs.Common.{ℕ, List, Some, sym, ap, arith, list_map, nat_cmp, IsTotalOrder, nat_cmp_total}
-use Rattle.slotmap_scheduler.proofs.Common.{AllByRecursion, find, on_total, then_total, CmpEqualImpliesEq, exact_pairs, exact_unsigned, Key, key_cmp, keys_total, exact_keys}
-use Rattle.slotmap_scheduler.proofs.Common.{tied, untied, Turn, turn_cmp, IsInverse, Timed, by_turn, seen, waiting_of, InOrder}
+use Rattle.slotmap_scheduler.proofs.Common.{ℕ, List, Some, sym, ap, arith, list_map, nat_cmp, IsTotalOrder, nat_cmp_total, AllByRecursion, find, on_total, then_total}
+use Rattle.slotmap_scheduler.proofs.Common.{CmpEqualImpliesEq, exact_pairs, exact_unsigned, Key, key_cmp, keys_total, exact_keys, tied, untied, Turn, turn_cmp, IsInverse, Timed}
+use Rattle.slotmap_scheduler.proofs.Common.{by_turn, seen, waiting_of, InOrder}
 use Rattle.std.specs.FinMap as map
 use Rattle.slotmap_scheduler.proofs.Sorted.{same_option, all_of}
 

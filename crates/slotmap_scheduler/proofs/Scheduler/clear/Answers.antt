@@ -1,5 +1,6 @@
 use Rattle.std.proofs.Common.{◌∙◌}
-use Rattle.slotmap_scheduler.proofs.Common.{true, is_some, ap, key_cmp, spent_leaves, left_spent, mapped-leaves, content-mapped, live-mapped, contains-mapped, Job, unplaced, timed}
+use Rattle.slotmap_scheduler.proofs.Common.{true, is_some, ap, key_cmp, spent_leaves, left_spent, mapped-leaves, content-mapped, live-mapped, contains-mapped, Job, unplaced}
+use Rattle.slotmap_scheduler.proofs.Common.{timed}
 use Rattle.std.specs.FinMap as map
 use Rattle.slotmap_scheduler.proofs.Schedules.{schedule_cleared, none_waits}
 use Rattle.slotmap_scheduler.proofs.Handles.{handles_stale, handles_spent}

@@ -1,12 +1,10 @@
-use Rattle.std.proofs.Common.{◌+◌}
-use Rattle.slotmap_scheduler.proofs.Common.{ap, arith}
+use Rattle.slotmap_scheduler.proofs.Common.{arith}
 use Rattle.slotmap_scheduler.proofs.Handles.{used_handles, handles_limit}
-use Rattle.slotmap_scheduler.proofs.Results.{same_refusal, if_ok}
+use Rattle.slotmap_scheduler.proofs.Results.{if_ok}
 use Rattle.slotmap_scheduler.proofs.Scheduler.reserve.Goals as goal
 
 pub returns-in-Err-clause-err : goal.returns-in-Err-clause-err
-returns-in-Err-clause-err g c =
-    rw (← c.self.view_is) (same_refusal _ _ (ap (λ n. n + c.args.additional) (used_handles c.self.inside.jobs c.self.inside.heap)) c.in-Err.error c.in-Err.ensures.err)
+returns-in-Err-clause-err g c = rw (← c.self.view_is, used_handles c.self.inside.jobs c.self.inside.heap) c.in-Err.ensures.err
 
 pub returns-in-Err-clause-limit : goal.returns-in-Err-clause-limit
 returns-in-Err-clause-limit g c = rw (← c.self.view_is) (handles_limit c.self.inside.jobs c.self.inside.heap c.reserve.ensures.makes_room.before)
@@ -20,5 +18,5 @@ returns-clause-limit g c = rw (← c.self.view_is) (handles_limit c.self.inside.
 pub returns-then-is_err-clause-err : goal.returns-then-is_err-clause-err
 returns-then-is_err-clause-err g c =
     let same = used_handles c.self.inside.jobs c.self.inside.heap in
-    let fits = if_ok c.reserve.result c.in_default.not-Err c.reserve.ensures.makes_room.fits in
+    let fits = c.reserve.ensures.makes_room.fits (if_ok c.reserve.result c.in_default.not-Err) in
     rw (← c.self.view_is) (omega arith)
