@@ -25,6 +25,7 @@ SOURCES = {
 LEMMAS = {
     'Callers': 'what callers cite: of the core, of a structure, and by the facade',
     'CloneLemmas': 'clones of values',
+    'Common': 'what the proofs of a crate cite, passed on by one file',
     'ContentLemmas': 'what a map holds',
     'DrainLemmas': 'drains',
     'FromListLemmas': 'a map that is read from a list of slots',

@@ -26,13 +26,13 @@ pub use Rattle.slotmap_keylist.proofs.Alone.{alone-copy, alone-inserts, alone-ne
 pub use Rattle.slotmap_keylist.proofs.Mapped.{contains-mapped, content-mapped, get-mapped, len-mapped, live-mapped, mapped-clones, mapped-empty, mapped-insert, mapped-inserts}
 pub use Rattle.slotmap_keylist.proofs.Mapped.{mapped-leaves, mapped-new, mapped-removes, mapped-with, mapped-written, used-mapped}
 pub use Rattle.slotmap_keylist.specs.Mapped.{map_values}
-pub use Rattle.slotmap_scheduler.specs.Heap.{entry_at, handles_of, IsAbove, IsFirstBelow, IsHeap, IsHeapBut, IsIndexed, IsPlaced, IsSchedule, Jobs, no_entry, Resettled, spot_of}
+pub use Rattle.slotmap_scheduler.specs.Heap.{heap_entry, handles_of, IsAbove, IsFirstBelow, IsHeap, IsHeapBut, IsIndexed, IsPlaced, IsSchedule, Jobs, no_entry, Resettled, spot_of}
 pub use Rattle.slotmap_scheduler.specs.Heap.{timed, turn_at, unplaced, up}
 unfoldable pub use Rattle.slotmap_scheduler.specs.Heap.{precedes}
 pub use Rattle.slotmap_scheduler.specs.Inverse.{IsInverse}
 pub use Rattle.slotmap_scheduler.specs.Listed.{Due, due_at, IsDueClone, left_at, ListsJobs, shown, TakesDue}
 pub use Rattle.slotmap_scheduler.specs.Schedule.{in_turn, job_of, Schedule, Waiting, with_job, without}
-pub use Rattle.slotmap_scheduler.specs.Timed.{InOrder, seen, Timed, Turn, turn_cmp, waiting_of}
+pub use Rattle.slotmap_scheduler.specs.Timed.{InOrder, as_seen, Timed, Turn, turn_cmp, waiting_of}
 unfoldable pub use Rattle.slotmap_scheduler.specs.Timed.{by_turn}
 pub use Rattle.slotmap_scheduler.specs.declared.Job.{Job}
 pub use Rattle.slotmap_scheduler.specs.declared.heap.Entry.{Entry}

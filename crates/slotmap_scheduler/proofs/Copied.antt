@@ -2,7 +2,7 @@
 use Rattle.std.proofs.Common.{◌≡◌, ◌≤◌, [], ◌∷◌, ◌∙◌}
 use Rattle.slotmap_scheduler.proofs.Common.{ℕ, true, List, Option, Some, None, refl, sym, ap, arith, list_map, option_map, vec_len, vec_capacity, Vec, AllZip, Key, Content}
 use Rattle.slotmap_scheduler.proofs.Common.{IsContent, AreClones, IsCloneOf, IsCloneBy, clone_len, mapped-clones, len-mapped, Job, Entry, IsInverse, IsDueClone, Turn, Timed}
-use Rattle.slotmap_scheduler.proofs.Common.{by_turn, seen, waiting_of, InOrder, unplaced, timed, spot_of, entry_at, IsSchedule}
+use Rattle.slotmap_scheduler.proofs.Common.{by_turn, as_seen, waiting_of, InOrder, unplaced, timed, spot_of, heap_entry, IsSchedule}
 use Rattle.std.specs.FinMap as map
 use Rattle.slotmap_scheduler.proofs.Inverse.{alike}
 use Rattle.slotmap_scheduler.proofs.Sorted.{none_there, entries_alike, len_alike}
@@ -22,7 +22,7 @@ module _ {A : Type 0} (is_clone : A → A → Type 0) where
   back : {B : Type 0} (o p : Option (B × A)) → IsCloneOf Clones o p → (b : B) (y : A) → p ≡ Some (b, y) → (x : A) × (o ≡ Some (b, x)) × is_clone x y
   back o p is b y at = grind arith
 
-  seen_clones : (es fs : List (Turn × (Key × A))) → AllZip (λ (e f : Turn × (Key × A)). (f.0 ≡ e.0) × Clones e.1 f.1) es fs → AreClones (IsDueClone is_clone) (list_map seen es) (list_map seen fs)
+  seen_clones : (es fs : List (Turn × (Key × A))) → AllZip (λ (e f : Turn × (Key × A)). (f.0 ≡ e.0) × Clones e.1 f.1) es fs → AreClones (IsDueClone is_clone) (list_map as_seen es) (list_map as_seen fs)
   seen_clones [] [] are = tt
   seen_clones [] (f ∷ fs) are = absurd are
   seen_clones (e ∷ es) [] are = absurd are
@@ -72,7 +72,7 @@ module _ {A : Type 0} (is_clone : A → A → Type 0) where
     schedule_copied heap' items len well capacity = record {
       order = copied_order (timed jobs).live (timed copy).live count is.order timed_clones.live len_copied;
       indexed = record {
-        placed = rw items (alike (spot_of jobs.live) _ (entry_at heap.items) _ (λ q. same_spot (map.get jobs.live q) (map.get copy.live q) (clones.live q)) (λ i. refl) is.indexed.placed);
+        placed = rw items (alike (spot_of jobs.live) _ (heap_entry heap.items) _ (λ q. same_spot (map.get jobs.live q) (map.get copy.live q) (clones.live q)) (λ i. refl) is.indexed.placed);
         ordered = rw items is.indexed.ordered;
         len = len ∙ is.indexed.len ∙ sym len_copied;
       };

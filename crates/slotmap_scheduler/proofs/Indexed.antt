@@ -6,7 +6,7 @@ use Rattle.slotmap_scheduler.proofs.Common.{inserted_len, removed_len, none_of, 
 use Rattle.slotmap_scheduler.proofs.Common.{timed, spot_of, IsPlaced, IsHeap, IsHeapBut, Resettled, IsIndexed}
 use Rattle.std.specs.FinMap as map
 use Rattle.slotmap_scheduler.proofs.Heaps.{heap_put}
-use Rattle.slotmap_scheduler.proofs.Places.{entry_is, entry_within, read_alike, placed_put, one_place, in_heap}
+use Rattle.slotmap_scheduler.proofs.HeapPlaces.{entry_is, entry_within, read_alike, placed_put, one_place, in_heap}
 
 pub same_job : {T : Type 0} (o : Option (Job T)) (i j : Job T) → o ≡ Some i → o ≡ Some j → i ≡ j
 same_job o i j x y = grind arith

@@ -2,11 +2,11 @@ pub mod Callers
 pub mod Common
 pub mod Copied
 pub mod Handles
+pub mod HeapPlaces
 pub mod Heaps
 pub mod Indexed
 pub mod Inverse
 pub mod Order
-pub mod Places
 pub mod Results
 pub mod Schedules
 pub mod Seen

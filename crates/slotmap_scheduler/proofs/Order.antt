@@ -3,7 +3,7 @@ use Rattle.std.proofs.Common.{◌≡◌, ◌≢◌, ◌+◌, ◌<◌, ◌≤◌,
 use Rattle.slotmap_scheduler.proofs.Common.{ℕ, false, cond, List, Some, None, is_some, length, refl, sym, ap, arith, list_map, nat_lt, option_map, All, AllByRecursion, Less}
 use Rattle.slotmap_scheduler.proofs.Common.{eq_by_cmp, put, by_order, nat_tests, length-map, nil_from_length, All-map, All-from_recursion, Key, key_cmp, keys_total, exact_keys}
 use Rattle.slotmap_scheduler.proofs.Common.{alike_or_apart, same_or_other, tied, itself, get_after_insert, get_after_remove, len_removed, Turn, turn_cmp, precedes, IsInverse}
-use Rattle.slotmap_scheduler.proofs.Common.{job_of, in_turn, without, with_job, Timed, by_turn, seen, waiting_of, InOrder}
+use Rattle.slotmap_scheduler.proofs.Common.{job_of, in_turn, without, with_job, Timed, by_turn, as_seen, waiting_of, InOrder}
 use Rattle.std.specs.FinMap as map
 use Rattle.slotmap_scheduler.proofs.Inverse.{put as inverse_put, dropped}
 use Rattle.slotmap_scheduler.proofs.Sorted.{none_there, all_of, entries_put, insert_same, puts, drops}
@@ -30,29 +30,29 @@ module _ {T : Type 0} where
     apart : (e : Turn × (Key × T)) → IsOther e → eq_by_cmp key_cmp k e.1.0 ≡ false
     apart e other = grind (arith, tied keys_total exact_keys k e.1.0)
 
-    none_found : (es : List (Turn × (Key × T))) → AllByRecursion IsOther es → job_of k (list_map seen es) ≡ None
+    none_found : (es : List (Turn × (Key × T))) → AllByRecursion IsOther es → job_of k (list_map as_seen es) ≡ None
     none_found [] all = refl
     none_found (e ∷ es) all = rw (apart e all.0) (none_found es all.1)
 
-    all_kept : (es : List (Turn × (Key × T))) → AllByRecursion IsOther es → without k (list_map seen es) ≡ list_map seen es
+    all_kept : (es : List (Turn × (Key × T))) → AllByRecursion IsOther es → without k (list_map as_seen es) ≡ list_map as_seen es
     all_kept [] all = refl
-    all_kept (e ∷ es) all = rw (apart e all.0) (ap (λ l. seen e ∷ l) (all_kept es all.1))
+    all_kept (e ∷ es) all = rw (apart e all.0) (ap (λ l. as_seen e ∷ l) (all_kept es all.1))
 
     module _ (t : Turn) (job : T) where
-      put_found : (es : List (Turn × (Key × T))) → AllByRecursion IsOther es → job_of k (list_map seen (put turn_cmp t (k, job) es)) ≡ Some (t.0, job)
+      put_found : (es : List (Turn × (Key × T))) → AllByRecursion IsOther es → job_of k (list_map as_seen (put turn_cmp t (k, job) es)) ≡ Some (t.0, job)
       put_found [] all = grind (arith, itself keys_total exact_keys k)
       put_found (e ∷ es) all = grind (arith, itself keys_total exact_keys k, apart e all.0, put_found es all.1)
 
-      put_with_job : (w : T) (es : List (Turn × (Key × T))) → AllByRecursion IsOther es → with_job k w (list_map seen (put turn_cmp t (k, job) es)) ≡ list_map seen (put turn_cmp t (k, w) es)
+      put_with_job : (w : T) (es : List (Turn × (Key × T))) → AllByRecursion IsOther es → with_job k w (list_map as_seen (put turn_cmp t (k, job) es)) ≡ list_map as_seen (put turn_cmp t (k, w) es)
       put_with_job w [] all = grind (arith, itself keys_total exact_keys k)
       put_with_job w (e ∷ es) all = grind (arith, itself keys_total exact_keys k, apart e all.0, put_with_job w es all.1)
 
-      put_without : (es : List (Turn × (Key × T))) → AllByRecursion IsOther es → AllByRecursion (λ (e : Turn × (Key × T)). t ≢ e.0) es → without k (list_map seen (put turn_cmp t (k, job) es)) ≡ list_map seen es
+      put_without : (es : List (Turn × (Key × T))) → AllByRecursion IsOther es → AllByRecursion (λ (e : Turn × (Key × T)). t ≢ e.0) es → without k (list_map as_seen (put turn_cmp t (k, job) es)) ≡ list_map as_seen es
       put_without [] all turns = grind (arith, itself keys_total exact_keys k)
       put_without (e ∷ es) all turns = grind (arith, itself keys_total exact_keys k, apart e all.0, all_kept es all.1, put_without es all.1 turns.1, exact_turns t e.0, turns.0)
 
   put_last : (time count : ℕ) (k : Key) (job : T) (es : List (Turn × (Key × T))) → AllByRecursion (λ (e : Turn × (Key × T)). e.0.1 < count) es
-      → list_map seen (put turn_cmp (time, count) (k, job) es) ≡ in_turn (k, (time, job)) (list_map seen es)
+      → list_map as_seen (put turn_cmp (time, count) (k, job) es) ≡ in_turn (k, (time, job)) (list_map as_seen es)
   put_last time count k job [] all = refl
   put_last time count k job (e ∷ es) all = grind (arith, last_turn {A = List (Turn × (Key × T))} time count e.0.0 e.0.1 all.0, put_last time count k job es all.1)
 
@@ -73,7 +73,7 @@ module _ {T : Type 0} where
           (grind (arith, map.len-insert turns_total (by_turn jobs) (time, count) (k, job), map.len-insert keys_total jobs k ((time, count), job), is.len, free time))
           (λ q t x there. grind (arith, get_after_insert keys_total exact_keys jobs k ((time, count), job) q (t, x) there, is.numbered q t x)) in
           let before = all_of turns_total exact_turns (λ t x. t.1 < count) (by_turn jobs) (λ t x there. is.numbered x.0 t x.1 (is.turns.from t x.0 x.1 there)) in
-          (with.0, with.1 ∙ ap (list_map seen) (map.entries-insert turns_total (by_turn jobs) (time, count) (k, job)) ∙ put_last time count k job (map.entries (by_turn jobs)) before)
+          (with.0, with.1 ∙ ap (list_map as_seen) (map.entries-insert turns_total (by_turn jobs) (time, count) (k, job)) ∙ put_last time count k job (map.entries (by_turn jobs)) before)
 
     module _ (k : Key) (t : Turn) (job : T) (at : map.get jobs k ≡ Some (t, job)) where
       turn_at : map.get (by_turn jobs) t ≡ Some (k, job)
@@ -93,8 +93,8 @@ module _ {T : Type 0} where
       among : map.entries (by_turn jobs) ≡ put turn_cmp t (k, job) others
       among = ap map.entries (sym (insert_same turns_total exact_turns (by_turn jobs) t (k, job) turn_at)) ∙ entries_put turns_total exact_turns (by_turn jobs) t (k, job)
 
-      others_wait : list_map seen others ≡ without k (waiting_of jobs)
-      others_wait = sym (ap (λ es. without k (list_map seen es)) among
+      others_wait : list_map as_seen others ≡ without k (waiting_of jobs)
+      others_wait = sym (ap (λ es. without k (list_map as_seen es)) among
           ∙ put_without k t job others other_keys (all_of turns_total exact_turns (λ u x. t ≢ u) (map.remove (by_turn jobs) t) other_turn))
 
       -- without a job the others keep their order
@@ -115,7 +115,7 @@ module _ {T : Type 0} where
             (puts turns_total exact_turns (by_turn jobs) t k w (λ u x there. grind (arith, is.turns.from u k x there, at))))
             (grind (arith, map.len-insert turns_total (by_turn jobs) t (k, w), map.len-insert keys_total jobs k (t, w), is.len, at, turn_at))
             (λ q u x there. grind (arith, get_after_insert keys_total exact_keys jobs k (t, w) q (u, x) there, is.numbered q u x, is.numbered k t job at)) in
-            (with.0, with.1 ∙ ap (list_map seen) (entries_put turns_total exact_turns (by_turn jobs) t (k, w)) ∙ sym (ap (λ es. with_job k w (list_map seen es)) among ∙ put_with_job k t job w others other_keys))
+            (with.0, with.1 ∙ ap (list_map as_seen) (entries_put turns_total exact_turns (by_turn jobs) t (k, w)) ∙ sym (ap (λ es. with_job k w (list_map as_seen es)) among ∙ put_with_job k t job w others other_keys))
 
       -- it is the first, if no other turn is before its own
       module _ (least : (q : Key) (u : Turn) (x : T) → map.get jobs q ≡ Some (u, x) → precedes u t ≡ false) where
@@ -127,23 +127,23 @@ module _ {T : Type 0} where
         waits_first =
             let before = all_of turns_total exact_turns (λ u x. turn_cmp t u ≡ Less) (map.remove (by_turn jobs) t) (λ u x there. least_turn t u (other_turn u x there)
             (least x.0 u x.1 (is.turns.from u x.0 x.1 (get_after_remove turns_total exact_turns (by_turn jobs) t u x there).1))) in
-            ap (list_map seen) (among ∙ put_first others before) ∙ ap (λ l. (k, (t.0, job)) ∷ l) others_wait
+            ap (list_map as_seen) (among ∙ put_first others before) ∙ ap (λ l. (k, (t.0, job)) ∷ l) others_wait
 
         -- where it isn't due, none is
         pub none_due : (now : ℕ) → now < t.0 → All (λ e. now < e.1.0) (waiting_of jobs)
-        none_due now later = All-map (λ (e : Key × (ℕ × T)). now < e.1.0) seen (map.entries (by_turn jobs)) (All-from_recursion (λ (e : Turn × (Key × T)). now < e.0.0) (map.entries (by_turn jobs))
+        none_due now later = All-map (λ (e : Key × (ℕ × T)). now < e.1.0) as_seen (map.entries (by_turn jobs)) (All-from_recursion (λ (e : Turn × (Key × T)). now < e.0.0) (map.entries (by_turn jobs))
             (all_of turns_total exact_turns (λ u x. now < u.0) (by_turn jobs) (λ u x there. let up = time_up_to t u (least x.0 u x.1 (is.turns.from u x.0 x.1 there)) in omega arith)))
 
     -- which time and which job a handle has
     pub job_is : (k : Key) → job_of k (waiting_of jobs) ≡ option_map (λ (x : Turn × T). (x.0.0, x.1)) (map.get jobs k)
     job_is k = elim (map.get jobs k) as (λ o. map.get jobs k ≡ o → job_of k (waiting_of jobs) ≡ option_map (λ (x : Turn × T). (x.0.0, x.1)) o) [
       | None ↦ λ none. none_found k (map.entries (by_turn jobs)) (all_of turns_total exact_turns (λ u x. k ≢ x.0) (by_turn jobs) (λ u x there same. let was = is.turns.from u x.0 x.1 there in let gone = ap (map.get jobs) (sym same) ∙ none in cc))
-      | Some x ↦ λ at. ap (λ es. job_of k (list_map seen es)) (among k x.0 x.1 at) ∙ put_found k x.0 x.1 (others k x.0 x.1 at) (other_keys k x.0 x.1 at)
+      | Some x ↦ λ at. ap (λ es. job_of k (list_map as_seen es)) (among k x.0 x.1 at) ∙ put_found k x.0 x.1 (others k x.0 x.1 at) (other_keys k x.0 x.1 at)
     ] refl
 
     -- how many wait
     pub len_is : length (waiting_of jobs) ≡ map.len jobs
-    len_is = length-map (map.entries (by_turn jobs)) seen ∙ sym (map.len-entries (by_turn jobs)) ∙ is.len
+    len_is = length-map (map.entries (by_turn jobs)) as_seen ∙ sym (map.len-entries (by_turn jobs)) ∙ is.len
 
     pub none_wait : map.len jobs ≡ 0 → waiting_of jobs ≡ []
     none_wait none = nil_from_length (waiting_of jobs) (len_is ∙ none)

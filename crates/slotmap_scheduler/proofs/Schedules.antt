@@ -4,14 +4,14 @@ use Rattle.slotmap_scheduler.proofs.Common.{ℕ, true, List, Some, None, zero, s
 use Rattle.slotmap_scheduler.proofs.Common.{eq_by_cmp, nat_cmp_total, exact_unsigned, Key, key_cmp, Content, IsContent, Inserts, Removes, Leaves, with_value, keys, keys_total}
 use Rattle.slotmap_scheduler.proofs.Common.{exact_keys, inserted_fresh, inserted_len, removed_len, none_of, itself, tied, content-mapped, get-mapped, len-mapped, mapped-empty}
 use Rattle.slotmap_scheduler.proofs.Common.{mapped-insert, mapped-with, map_values, Job, Entry, Schedule, job_of, in_turn, without, with_job, Turn, waiting_of, InOrder, unplaced}
-use Rattle.slotmap_scheduler.proofs.Common.{timed, spot_of, entry_at, IsIndexed, handles_of, IsSchedule}
+use Rattle.slotmap_scheduler.proofs.Common.{timed, spot_of, heap_entry, IsIndexed, handles_of, IsSchedule}
 use Rattle.slotmap.proofs.Callers.{some_entry}
 use Rattle.std.specs.FinMap as map
 use Rattle.std.specs.FinSet as set
 use Rattle.slotmap_scheduler.proofs.Order.{added, removed, written, none_in_order, none_wait, job_is}
 use Rattle.slotmap_scheduler.proofs.Handles.{handles_written}
 use Rattle.slotmap_scheduler.proofs.Inverse.{alike}
-use Rattle.slotmap_scheduler.proofs.Places.{entry_within}
+use Rattle.slotmap_scheduler.proofs.HeapPlaces.{entry_within}
 
 module _ {T : Type 0} (jobs : Content (Job T)) (empty : jobs.live ≡ map.empty) where
   none_live : (timed jobs).live ≡ map.empty
@@ -138,7 +138,7 @@ module _ {T Z : Type 0} (jobs : Content (Job T)) (count : ℕ) (heap : Vec Entry
       pub written_schedule : IsSchedule now count heap
       written_schedule = record {
         order = rw live_written now_written.0;
-        indexed = record { placed = alike (spot_of jobs.live) _ (entry_at heap.items) _ same_spot (λ i. refl) is.indexed.placed; ordered = is.indexed.ordered; len = is.indexed.len ∙ sym len_written };
+        indexed = record { placed = alike (spot_of jobs.live) _ (heap_entry heap.items) _ same_spot (λ i. refl) is.indexed.placed; ordered = is.indexed.ordered; len = is.indexed.len ∙ sym len_written };
         room = (let same = len_written in let room = is.room in omega arith);
       }
 

@@ -2,12 +2,12 @@
 use Rattle.std.proofs.Common.{◌≡◌, ◌<◌, [], ◌∷◌, ◌∙◌}
 use Rattle.slotmap_scheduler.proofs.Common.{ℕ, false, List, Bor, Option, Some, None, is_some, option_copied, length, refl, sym, ap, arith, list_map, slice_get, Vec, All}
 use Rattle.slotmap_scheduler.proofs.Common.{option_map, find, length-map, slice_get-get_or, Key, key_cmp, Content, keys_total, exact_keys, itself, get-mapped, len-mapped, Job}
-use Rattle.slotmap_scheduler.proofs.Common.{Entry, Waiting, job_of, without, ListsJobs, shown, Turn, waiting_of, InOrder, precedes, no_entry, turn_at, entry_at, unplaced, timed}
+use Rattle.slotmap_scheduler.proofs.Common.{Entry, Waiting, job_of, without, ListsJobs, shown, Turn, waiting_of, InOrder, precedes, no_entry, turn_at, heap_entry, unplaced, timed}
 use Rattle.slotmap_scheduler.proofs.Common.{IsSchedule}
 use Rattle.std.specs.FinMap as map
 use Rattle.slotmap_scheduler.proofs.Order.{job_is, len_is, waits_first, none_due, none_wait}
 use Rattle.slotmap_scheduler.proofs.Heaps.{top_first}
-use Rattle.slotmap_scheduler.proofs.Places.{entry_within}
+use Rattle.slotmap_scheduler.proofs.HeapPlaces.{entry_within}
 
 -- a reference that is not there
 pub none_copied : {A : Type 0} (r : Option (Bor A)) (o : Option A) → option_copied r ≡ o → r ≡ None → o ≡ None
@@ -45,11 +45,11 @@ job_there (Some j) p t is = (j.job, grind arith)
 
 -- the job at the top of the heap
 module _ {T Z : Type 0} (jobs : Content (Job T)) (count : ℕ) (heap : Vec Entry Z) (is : IsSchedule jobs count heap) where
-  turn_there : (i : ℕ) (k : Key) (t : Turn) → entry_at heap.items i ≡ Some (k, t) → turn_at heap.items i ≡ t
+  turn_there : (i : ℕ) (k : Key) (t : Turn) → heap_entry heap.items i ≡ Some (k, t) → turn_at heap.items i ≡ t
   turn_there i k t there = grind (arith, slice_get-get_or heap.items i no_entry (entry_within heap.items i (k, t) there))
 
   module _ (e : Entry) (top : slice_get heap.items 0 ≡ Some e) where
-    top_entry : entry_at heap.items 0 ≡ Some (e.handle, e.turn)
+    top_entry : heap_entry heap.items 0 ≡ Some (e.handle, e.turn)
     top_entry = ap (option_map _) top
 
     top_job : (job : T) × (map.get (timed jobs).live e.handle ≡ Some (e.turn, job))

@@ -2,7 +2,7 @@
 use Rattle.std.proofs.Common.{◌≡◌, ◌<◌, [], ◌∷◌, ◌∙◌}
 use Rattle.slotmap_scheduler.proofs.Common.{ℕ, List, Some, sym, ap, arith, list_map, nat_cmp, IsTotalOrder, nat_cmp_total, AllByRecursion, find, on_total, then_total}
 use Rattle.slotmap_scheduler.proofs.Common.{CmpEqualImpliesEq, exact_pairs, exact_unsigned, Key, key_cmp, keys_total, exact_keys, tied, untied, Turn, turn_cmp, IsInverse, Timed}
-use Rattle.slotmap_scheduler.proofs.Common.{by_turn, seen, waiting_of, InOrder}
+use Rattle.slotmap_scheduler.proofs.Common.{by_turn, as_seen, waiting_of, InOrder}
 use Rattle.std.specs.FinMap as map
 use Rattle.slotmap_scheduler.proofs.Sorted.{same_option, all_of}
 
@@ -48,7 +48,7 @@ module _ {T : Type 0} where
 
   -- jobs that are in order, and how they wait, by what finds each by its turn
   pub in_order : (jobs : Timed T) (count : ℕ) (turns : map.FinMap turn_cmp (Key × T)) → IsInverse (map.get jobs) (map.get turns) → map.len turns ≡ map.len jobs
-      → ((k : Key) (t : Turn) (job : T) → map.get jobs k ≡ Some (t, job) → t.1 < count) → InOrder jobs count × (waiting_of jobs ≡ list_map seen (map.entries turns))
+      → ((k : Key) (t : Turn) (job : T) → map.get jobs k ≡ Some (t, job) → t.1 < count) → InOrder jobs count × (waiting_of jobs ≡ list_map as_seen (map.entries turns))
   in_order jobs count turns is len numbered =
       let same = by_turn_is jobs turns is in
-      (record { turns = rw same is; len = rw same len; numbered = numbered }, ap (λ (m : map.FinMap turn_cmp (Key × T)). list_map seen (map.entries m)) same)
+      (record { turns = rw same is; len = rw same len; numbered = numbered }, ap (λ (m : map.FinMap turn_cmp (Key × T)). list_map as_seen (map.entries m)) same)

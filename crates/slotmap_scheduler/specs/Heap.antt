@@ -48,8 +48,8 @@ pub record IsFirstBelow (at child : ℕ) (heap : List Entry) : Type 0 where
   pub least : (c : ℕ) → 0 < c → up c ≡ at → c < length heap → precedes (turn_at heap c) (turn_at heap child) ≡ false
 
 -- the handle and the turn at a place
-abbrev pub entry_at : List Entry → ℕ → Option (Key × Turn)
-entry_at heap i = option_map (λ e. (e.handle, e.turn)) (slice_get heap i)
+abbrev pub heap_entry : List Entry → ℕ → Option (Key × Turn)
+heap_entry heap i = option_map (λ e. (e.handle, e.turn)) (slice_get heap i)
 
 -- under each handle the job that waits
 abbrev pub Jobs : Type 0 → Type 0
@@ -62,7 +62,7 @@ module _ {T : Type 0} where
 
   -- the jobs are those of the entries, and each has the place of its entry
   abbrev pub IsPlaced : Jobs T → List Entry → Type 0
-  IsPlaced jobs heap = IsInverse (spot_of jobs) (entry_at heap)
+  IsPlaced jobs heap = IsInverse (spot_of jobs) (heap_entry heap)
 
   -- a job without its place
   abbrev pub unplaced : Job T → Turn × T

@@ -26,12 +26,12 @@ module _ {T : Type 0} where
   by_turn jobs = map.from_entries (list_map (λ e. (e.1.0, (e.0, e.1.1))) (map.entries jobs))
 
   -- a job as its user sees it
-  abbrev pub seen : Turn × (Key × T) → Key × (ℕ × T)
-  seen e = (e.1.0, (e.0.0, e.1.1))
+  abbrev pub as_seen : Turn × (Key × T) → Key × (ℕ × T)
+  as_seen e = (e.1.0, (e.0.0, e.1.1))
 
   -- the jobs in the order of their turns
   abbrev pub waiting_of : Timed T → Waiting T
-  waiting_of jobs = list_map seen (map.entries (by_turn jobs))
+  waiting_of jobs = list_map as_seen (map.entries (by_turn jobs))
 
   -- no two jobs have one turn, and the number of each is below a count
   pub record InOrder (jobs : Timed T) (count : ℕ) : Type 0 where

@@ -1,6 +1,6 @@
 use Rattle.std.proofs.Common.{◌∙◌}
 use Rattle.slotmap_scheduler.proofs.Common.{mapped-with, unplaced}
-use Rattle.slotmap_scheduler.proofs.Places.{in_heap}
+use Rattle.slotmap_scheduler.proofs.HeapPlaces.{in_heap}
 use Rattle.slotmap_scheduler.proofs.Indexed.{indexed_settled, turned_placed, turned_but, turned_len, same_job}
 use Rattle.slotmap_scheduler.proofs.heap.set_turn.Goals as goal
 

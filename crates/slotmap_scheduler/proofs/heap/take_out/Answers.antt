@@ -1,6 +1,6 @@
 use Rattle.std.proofs.Common.{◌≢◌, ◌+◌, ◌∙◌}
 use Rattle.slotmap_scheduler.proofs.Common.{vec_len, sym, ap, mapped-removes, unplaced}
-use Rattle.slotmap_scheduler.proofs.Places.{in_heap, last_placed, last_heap, gap_within, gap_but, gap_live, gap_placed, place_written}
+use Rattle.slotmap_scheduler.proofs.HeapPlaces.{in_heap, last_placed, last_heap, gap_within, gap_but, gap_live, gap_placed, place_written}
 use Rattle.slotmap_scheduler.proofs.Indexed.{left_indexed}
 use Rattle.slotmap_scheduler.proofs.heap.take_out.Goals as goal
 

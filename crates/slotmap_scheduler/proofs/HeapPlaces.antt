@@ -2,20 +2,20 @@
 use Rattle.std.proofs.Common.{◌≡◌, ◌≢◌, ◌+◌, ◌-◌, ◌<◌, ◌≤◌, ◌∙◌}
 use Rattle.slotmap_scheduler.proofs.Common.{ℕ, true, List, Option, Some, None, get_or, length, refl, sym, ap, arith, option_map, vec_len, vec_capacity, Vec, SwappedAt}
 use Rattle.slotmap_scheduler.proofs.Common.{slice_get_past, slice_get-get_or, slice_get_read, Key, Content, with_value, keys, get-insert_here, get-insert_other, same_or_other}
-use Rattle.slotmap_scheduler.proofs.Common.{live-remove_other, mapped-written, Job, Entry, Turn, Jobs, no_entry, entry_at, spot_of, IsPlaced, IsHeap, IsHeapBut, Resettled}
+use Rattle.slotmap_scheduler.proofs.Common.{live-remove_other, mapped-written, Job, Entry, Turn, Jobs, no_entry, heap_entry, spot_of, IsPlaced, IsHeap, IsHeapBut, Resettled}
 use Rattle.slotmap_scheduler.proofs.Common.{unplaced, timed}
 use Rattle.std.specs.FinMap as map
 use Rattle.slotmap_scheduler.proofs.Inverse.{exchanged, moved, put, dropped}
 use Rattle.slotmap_scheduler.proofs.Heaps.{same_or_not, heap_put, heap_left}
 
 -- one list has at j what the other has at i
-pub read_alike : (xs ys : List Entry) (i j : ℕ) → (j < length ys → (i < length xs) × (get_or ys j no_entry ≡ get_or xs i no_entry)) → (length ys ≤ j → length xs ≤ i) → entry_at ys j ≡ entry_at xs i
+pub read_alike : (xs ys : List Entry) (i j : ℕ) → (j < length ys → (i < length xs) × (get_or ys j no_entry ≡ get_or xs i no_entry)) → (length ys ≤ j → length xs ≤ i) → heap_entry ys j ≡ heap_entry xs i
 read_alike xs ys i j inside past = grind (arith, slice_get-get_or ys j no_entry, slice_get_past ys j, slice_get-get_or xs i no_entry, slice_get_past xs i)
 
-pub entry_is : {Z : Type 0} (heap : Vec Entry Z) (i : ℕ) (x : Entry) → i < vec_len heap → x ≡ get_or heap.items i x → entry_at heap.items i ≡ Some (x.handle, x.turn)
+pub entry_is : {Z : Type 0} (heap : Vec Entry Z) (i : ℕ) (x : Entry) → i < vec_len heap → x ≡ get_or heap.items i x → heap_entry heap.items i ≡ Some (x.handle, x.turn)
 entry_is heap i x within is = ap (option_map (λ (e : Entry). (e.handle, e.turn))) (slice_get_read heap.items (vec_len heap) i x heap.ok.0 within is)
 
-pub entry_within : (xs : List Entry) (i : ℕ) (y : Key × Turn) → entry_at xs i ≡ Some y → i < length xs
+pub entry_within : (xs : List Entry) (i : ℕ) (y : Key × Turn) → heap_entry xs i ≡ Some y → i < length xs
 entry_within xs i y there = grind (arith, slice_get_past xs i)
 
 pub one_place : (o : Option (ℕ × Turn)) {p q : ℕ} {t u : Turn} → o ≡ Some (p, t) → o ≡ Some (q, u) → p ≡ q
@@ -23,9 +23,9 @@ one_place o x y = grind arith
 
 module _ {T : Type 0} (jobs : Jobs T) (heap : List Entry) (is : IsPlaced jobs heap) where
   -- a job gets a place and a turn, where no other job has the place
-  pub placed_put : (new : List Entry) (k : Key) (j : Job T) (at : ℕ) → j.place ≡ at → entry_at new at ≡ Some (k, j.turn) → ((i : ℕ) → i ≢ at → entry_at new i ≡ entry_at heap i)
-      → ((q : Key) (t : Turn) → spot_of jobs q ≡ Some (at, t) → q ≡ k) → ((i : ℕ) (t : Turn) → entry_at heap i ≡ Some (k, t) → i ≡ at) → IsPlaced (map.insert jobs k j) new
-  placed_put new k j at place here others only_place only_key = put same_or_other same_or_not (spot_of jobs) _ (entry_at heap) _ is k at j.turn
+  pub placed_put : (new : List Entry) (k : Key) (j : Job T) (at : ℕ) → j.place ≡ at → heap_entry new at ≡ Some (k, j.turn) → ((i : ℕ) → i ≢ at → heap_entry new i ≡ heap_entry heap i)
+      → ((q : Key) (t : Turn) → spot_of jobs q ≡ Some (at, t) → q ≡ k) → ((i : ℕ) (t : Turn) → heap_entry heap i ≡ Some (k, t) → i ≡ at) → IsPlaced (map.insert jobs k j) new
+  placed_put new k j at place here others only_place only_key = put same_or_other same_or_not (spot_of jobs) _ (heap_entry heap) _ is k at j.turn
       (record { here = ap (option_map _) (get-insert_here jobs k j) ∙ ap (λ p. Some (p, j.turn)) place; others = λ q other. ap (option_map _) (get-insert_other jobs k j q other); alone = only_place })
       (record { here = here; others = others; alone = only_key })
 
@@ -35,7 +35,7 @@ place_written jobs k j p found = mapped-written unplaced jobs (with_value jobs k
 
 module _ {T Z : Type 0} (jobs : Content (Job T)) (heap : Vec Entry Z) (is : IsPlaced jobs.live heap.items) where
   -- the handle of an entry is live
-  pub placed_live : (i : ℕ) (k : Key) (t : Turn) → entry_at heap.items i ≡ Some (k, t) → map.contains_key jobs.live k ≡ true
+  pub placed_live : (i : ℕ) (k : Key) (t : Turn) → heap_entry heap.items i ≡ Some (k, t) → map.contains_key jobs.live k ≡ true
   placed_live i k t there = grind (arith, is.from i k t there)
 
   pub read_live : (i : ℕ) (x : Entry) → i < vec_len heap → x ≡ get_or heap.items i x → map.contains_key jobs.live x.handle ≡ true
@@ -57,16 +57,16 @@ module _ {T Z : Type 0} (jobs : Content (Job T)) (heap : Vec Entry Z) (is : IsPl
 
     module _ (new : Vec Entry Z) (len : vec_len new + 1 ≡ vec_len heap) (by : ((d : Entry) → j.place + 1 < vec_len heap → get_or new.items j.place d ≡ get_or heap.items (vec_len heap - 1) d)
         × ((i : ℕ) (d : Entry) → i ≢ j.place → i + 1 < vec_len heap → get_or new.items i d ≡ get_or heap.items i d)) where
-      kept : (i : ℕ) → i ≢ j.place → i + 1 ≢ vec_len heap → entry_at new.items i ≡ entry_at heap.items i
+      kept : (i : ℕ) → i ≢ j.place → i + 1 ≢ vec_len heap → heap_entry new.items i ≡ heap_entry heap.items i
       kept i other not_last = read_alike heap.items new.items i i (λ within. (omega (arith, heap.ok.0, new.ok.0), by.1 i no_entry other (omega (arith, new.ok.0)))) (λ past. omega (arith, heap.ok.0, new.ok.0))
 
-      past_end : (i : ℕ) → vec_len new ≤ i → entry_at new.items i ≡ None
+      past_end : (i : ℕ) → vec_len new ≤ i → heap_entry new.items i ≡ None
       past_end i past = ap (option_map _) (slice_get_past new.items i (omega (arith, new.ok.0)))
 
       -- it was the last itself
       module _ (end : j.place ≡ vec_len new) where
         pub last_placed : IsPlaced (map.remove jobs.live k) new.items
-        last_placed = dropped same_or_other same_or_not (spot_of jobs.live) _ (entry_at heap.items) _ is k j.place j.turn spot_k (record { gone = spot_gone; others = spot_left })
+        last_placed = dropped same_or_other same_or_not (spot_of jobs.live) _ (heap_entry heap.items) _ is k j.place j.turn spot_k (record { gone = spot_gone; others = spot_left })
             (record { gone = past_end j.place (omega arith); others = λ i other. kept i other (λ same. other (omega arith)) })
 
         pub last_heap : IsHeap heap.items → IsHeap new.items
@@ -79,13 +79,13 @@ module _ {T Z : Type 0} (jobs : Content (Job T)) (heap : Vec Entry Z) (is : IsPl
         pub gap_but : IsHeap heap.items → IsHeapBut j.place new.items
         gap_but ordered = heap_put heap.items new.items ordered j.place (λ i inside other. (omega (arith, heap.ok.0, new.ok.0), by.1 i no_entry other (omega (arith, new.ok.0))))
 
-        here : entry_at new.items j.place ≡ entry_at heap.items (vec_len new)
+        here : heap_entry new.items j.place ≡ heap_entry heap.items (vec_len new)
         here = let inside = in_heap in
             let last : vec_len heap - 1 ≡ vec_len new = omega arith in
             read_alike heap.items new.items (vec_len new) j.place (λ _. (omega (arith, heap.ok.0), by.0 no_entry (omega arith) ∙ ap (λ n. get_or heap.items n no_entry) last)) (λ past. absurd (omega (arith, new.ok.0)))
 
         module _ (m : Entry) (read : m ≡ get_or new.items j.place m) where
-          was_last : entry_at heap.items (vec_len new) ≡ Some (m.handle, m.turn)
+          was_last : heap_entry heap.items (vec_len new) ≡ Some (m.handle, m.turn)
           was_last = sym here ∙ entry_is new j.place m gap_within read
 
           spot_m : spot_of jobs.live m.handle ≡ Some (vec_len new, m.turn)
@@ -102,7 +102,7 @@ module _ {T Z : Type 0} (jobs : Content (Job T)) (heap : Vec Entry Z) (is : IsPl
             spot_now = grind (arith, get-insert_here (map.remove jobs.live k) m.handle (record jm { place = j.place }), spot_left m.handle another, spot_m, found_m)
 
             pub gap_placed : IsPlaced (map.insert (map.remove jobs.live k) m.handle (record jm { place = j.place })) new.items
-            gap_placed = moved same_or_other same_or_not (spot_of jobs.live) _ (entry_at heap.items) _ is k m.handle j.place (vec_len new) j.turn m.turn spot_k spot_m
+            gap_placed = moved same_or_other same_or_not (spot_of jobs.live) _ (heap_entry heap.items) _ is k m.handle j.place (vec_len new) j.turn m.turn spot_k spot_m
                 (ap (option_map _) (get-insert_other (map.remove jobs.live k) m.handle (record jm { place = j.place }) k (λ same. another (sym same))) ∙ spot_gone) spot_now
                 (λ q nk nm. ap (option_map _) (get-insert_other (map.remove jobs.live k) m.handle (record jm { place = j.place }) q nm) ∙ spot_left q nk) here (past_end (vec_len new) (omega arith))
                 (λ i other not_last. kept i other (λ same. not_last (omega arith)))
@@ -133,7 +133,7 @@ module _ {T Z : Type 0} (jobs : Content (Job T)) (heap : Vec Entry Z) (is : IsPl
 
     pub resettled_swap : (new : Vec Entry Z) → vec_len new ≡ vec_len heap → vec_capacity new ≡ vec_capacity heap → SwappedAt heap.items new.items a b → Resettled jobs heap noted new
     resettled_swap new len capacity by = record {
-      placed = exchanged same_or_other same_or_not (spot_of jobs.live) _ (entry_at heap.items) _ is ea.handle eb.handle b a ea.turn eb.turn spot_a spot_b now_a now_b
+      placed = exchanged same_or_other same_or_not (spot_of jobs.live) _ (heap_entry heap.items) _ is ea.handle eb.handle b a ea.turn eb.turn spot_a spot_b now_a now_b
           (λ q na nb. ap (option_map _) (get-insert_other mid.live eb.handle (record jb { place = a }) q nb ∙ get-insert_other jobs.live ea.handle (record ja { place = b }) q na))
           (read_alike heap.items new.items a b (λ _. (omega (arith, heap.ok.0), by.1 no_entry)) (λ past. absurd (omega (arith, new.ok.0))))
           (read_alike heap.items new.items b a (λ _. (omega (arith, heap.ok.0), by.0 no_entry)) (λ past. absurd (omega (arith, new.ok.0))))
