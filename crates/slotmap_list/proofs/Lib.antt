@@ -7,8 +7,8 @@ pub mod Elements
 pub mod Iterated
 pub mod Looks
 pub mod Moving
-pub mod Places
 pub mod Pops
+pub mod Putting
 pub mod Rows
 pub mod Swapping
 pub mod Visiting

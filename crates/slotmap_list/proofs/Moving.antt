@@ -6,12 +6,12 @@ use Rattle.slotmap.specs.Words.{Key, Content}
 use Rattle.slotmap_keylist.proofs.Counts.{is_itself}
 use Rattle.slotmap_list.specs.Sequence.{Sequence, value_of, put_again, without, are_two}
 use Rattle.slotmap_list.specs.Chain.{Nodes, IsChain, BothStand, Unlinks, Links}
-use Rattle.slotmap_list.specs.Neighbours.{gap_at, insert_beside, is_place, put_at, is_move, moved_to}
+use Rattle.slotmap_list.specs.Neighbours.{gap_at, insert_beside, is_place, put_by_place, is_move, moved_to}
 use Rattle.slotmap_list.specs.declared.links.Place.{Place}
 use Rattle.slotmap_list.specs.declared.links.Place.TheVariants.{Front, Back, Beside}
 use Rattle.slotmap_list.proofs.Rows.{gap_stands}
 use Rattle.slotmap_list.proofs.Chains.{value_found, others, moved_chain}
-use Rattle.slotmap_list.proofs.Places.{place_in, place_there}
+use Rattle.slotmap_list.proofs.Putting.{place_in, place_there}
 use Rattle.slotmap_list.proofs.Callers.{without_other}
 
 module _ {T : Type 0} where
@@ -46,7 +46,7 @@ module _ {T : Type 0} where
   place_left Back k xs can = refl
   place_left (Beside side other) k xs can = let they = two k other xs can in ap is_some (without_other k xs other they.0) ∙ they.2
 
-  put_there : (place : Place) (k : Key) (v : T) (xs : List (Key × T)) → is_move k place xs ≡ true → value_of k xs ≡ Some v → put_at place (k, v) (without k xs) ≡ moved_to place k xs
+  put_there : (place : Place) (k : Key) (v : T) (xs : List (Key × T)) → is_move k place xs ≡ true → value_of k xs ≡ Some v → put_by_place place (k, v) (without k xs) ≡ moved_to place k xs
   put_there Front k v xs can is = ap (λ o. put_again (λ x rest. x ∷ rest) k o xs) (sym is)
   put_there Back k v xs can is = ap (λ o. put_again (λ x rest. rest ++ x ∷ []) k o xs) (sym is)
   put_there (Beside side other) k v xs can is =

@@ -40,10 +40,10 @@ module _ {T : Type 0} where
   is_place (Beside side k) es = is_some (value_of k es)
 
   -- the list with an element there
-  abbrev pub put_at : Place → Key × T → List (Key × T) → List (Key × T)
-  put_at Front x es = x ∷ es
-  put_at Back x es = es ++ x ∷ []
-  put_at (Beside side k) x es = insert_beside side k x es
+  abbrev pub put_by_place : Place → Key × T → List (Key × T) → List (Key × T)
+  put_by_place Front x es = x ∷ es
+  put_by_place Back x es = es ++ x ∷ []
+  put_by_place (Beside side k) x es = insert_beside side k x es
 
   -- the element of k can move there: both are in the list, and they are two
   abbrev pub is_move : Key → Place → List (Key × T) → Bool

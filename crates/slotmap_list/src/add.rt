@@ -4,7 +4,7 @@ ghost use Rattle.std.specs.Prelude.{◌≡◌, ◌+◌, ◌<◌, ◌++◌, ◌�
 ghost use Rattle.std.specs.FinMap as map;
 ghost use Rattle.slotmap.specs.Words.{Inserts, IsSpent, Keeps, KeepsSpent, used};
 ghost use Rattle.slotmap_list.specs.Sequence.{value_of, put_after, put_before};
-ghost use Rattle.slotmap_list.specs.Neighbours.{insert_beside, is_place, put_at};
+ghost use Rattle.slotmap_list.specs.Neighbours.{insert_beside, is_place, put_by_place};
 ghost use Rattle.slotmap_list.specs.Refused.{RefusesPlace, RefusesPush};
 
 use crate::links::{Place, Side, add, gap, relink};
@@ -16,7 +16,7 @@ impl<K: Key, T: Drop> StableList<K, T> {
     // Puts an element into a place.
     fn put(&mut self, place: Place, value: T) -> Result<DefaultKey, PushError<T>>
         requires { is_place place self.old.elements ≡ true }
-        ensures ok { IfOk result (λ key. self.new.elements ≡ put_at place (key, value) self.old.elements) }
+        ensures ok { IfOk result (λ key. self.new.elements ≡ put_by_place place (key, value) self.old.elements) }
         ensures fresh { IfOk result (λ key. value_of key self.old.elements ≡ None) }
         ensures unspent { IfOk result (λ key. IsSpent self.old.cursors key → ⊥) }
         ensures cursors { IfOk result (λ key. Inserts self.old.cursors key tt self.new.cursors) }

@@ -7,7 +7,7 @@ use Rattle.slotmap_keylist.proofs.NotNull.{live_not_null-reuses}
 use Rattle.slotmap_list.specs.Sequence.{Sequence}
 use Rattle.slotmap_list.proofs.Adding.{used_inserted}
 use Rattle.slotmap_list.proofs.Chains.{value_found, self_chain, chain_is, shown}
-use Rattle.slotmap_list.proofs.Places.{place_there, neighbours_put, chain_put}
+use Rattle.slotmap_list.proofs.Putting.{place_there, neighbours_put, chain_put}
 use Rattle.slotmap_list.proofs.StableList.put.Goals as goal
 
 pub unreachable-requires : goal.unreachable-requires

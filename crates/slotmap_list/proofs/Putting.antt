@@ -10,7 +10,7 @@ use Rattle.slotmap_list.specs.declared.links.Place.{Place}
 use Rattle.slotmap_list.specs.declared.links.Place.TheVariants.{Front, Back, Beside}
 use Rattle.slotmap_list.specs.Sequence.{put_after, put_before}
 use Rattle.slotmap_list.specs.Chain.{Nodes, IsRow, IsChain, BothStand, Relinks}
-use Rattle.slotmap_list.specs.Neighbours.{gap_beside, gap_at, is_place, put_at}
+use Rattle.slotmap_list.specs.Neighbours.{gap_beside, gap_at, is_place, put_by_place}
 use Rattle.slotmap_list.proofs.Elements.{times_some, last_or-append, put_after-split, put_before-split}
 use Rattle.slotmap_list.proofs.Rows.{IsGap, IsSplit, row_stands, split_at}
 use Rattle.slotmap_list.proofs.Chains.{added_stands, put_chain}
@@ -19,7 +19,7 @@ module _ {T : Type 0} where
   -- the place is between these two neighbours
   pub record IsPlace (xs : List (Key × T)) (place : Place) (prev next : Option Key) : Type 0 where
     pub gap : IsGap xs prev next
-    pub put : (x : Key × T) → gap.before ++ x ∷ gap.after ≡ put_at place x xs
+    pub put : (x : Key × T) → gap.before ++ x ∷ gap.after ≡ put_by_place place x xs
 
   place_beside : (xs : List (Key × T)) (side : Side) (k : Key) (node : Node T) → IsSplit xs k node → IsPlace xs (Beside side k) (gap_beside side k node).0 (gap_beside side k node).1
   place_beside xs Before k node s = record {
@@ -71,7 +71,7 @@ module _ {T : Type 0} where
     neighbours_put = added_stands chain (place_in chain.row place prev next there is).gap k v fresh added
 
     pub chain_put : {new : Nodes T} {new_first new_last : Option Key} → Relinks mid first last prev next (Some k) (Some k) new new_first new_last
-        → ((q : Key) → map.contains_key new q ≡ map.contains_key mid q) → IsChain new new_first new_last (put_at place (k, v) xs)
+        → ((q : Key) → map.contains_key new q ≡ map.contains_key mid q) → IsChain new new_first new_last (put_by_place place (k, v) xs)
     chain_put {new} {new_first} {new_last} relinks alike =
         let at = place_in chain.row place prev next there is in
         subst (IsChain new new_first new_last) (at.put (k, v)) (put_chain chain at.gap k v fresh added relinks alike)
