@@ -46,9 +46,9 @@ fn all_values(rt: HostRuntime) -> Result<(), Fail> {
     values.next();
     assert_eq!(rt; values.len(), 2);
     assert_eq!(rt; values.next(), Some(&2));
-    let mut sum = 0;
+    let mut sum: u64 = 0;
     for (_, value) in &scene {
-        sum += *value;
+        sum = sum.wrapping_add(*value);
     }
     assert_eq!(rt; sum, 6);
     assert!(rt; scene.capacity() >= 3);
